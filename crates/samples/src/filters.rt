@@ -54,8 +54,8 @@ pub fn echo() -> [RawInsn; 2] {
     [op(0x20, 0), op(0x16, 0)]
 }
 
-/// Allows inputs whose first word has one of these bits, and kills on others:
-/// `ld [0]; jset bits 0 1; ret 0x7fff0000; ret 0x80000000`. With two bits or more it isn't plain.
+/// Allows inputs whose first word has one of these bits, and kills the process on others:
+/// `ld [0]; jset bits 0 1; ret 0x7fff0000; ret 0x80000000`. It is plain only where `bits` has exactly one bit.
 pub fn any_bit(bits: u32) -> [RawInsn; 4] {
     [
         op(0x20, 0),
@@ -65,8 +65,8 @@ pub fn any_bit(bits: u32) -> [RawInsn; 4] {
     ]
 }
 
-/// After the first test only one result of the second is possible: `ld [0]; jge 100 0 3; jge 50 1 0; ret 0; ret
-/// 0x7fff0000; ret 0x00050001`.
+/// Where the first test is true, only one result of the second is possible: `ld [0]; jge 100 0 3; jge 50 1 0; ret 0;
+/// ret 0x7fff0000; ret 0x00050001`.
 pub fn nested_tests() -> [RawInsn; 6] {
     [
         op(0x20, 0),
@@ -78,8 +78,8 @@ pub fn nested_tests() -> [RawInsn; 6] {
     ]
 }
 
-/// After three of four tests only one result of the last is possible, since a word below 3 is 0, 1 or 2: `ld [0]; jgt 2
-/// 4 0; jeq 0 3 0; jeq 1 2 0; jeq 2 1 0; ret 0x80000000; ret 0x7fff0000`.
+/// Where the first three tests fail, only one result of the fourth is possible, since a word that is at most 2 is 0, 1
+/// or 2: `ld [0]; jgt 2 4 0; jeq 0 3 0; jeq 1 2 0; jeq 2 1 0; ret 0x80000000; ret 0x7fff0000`.
 pub fn four_tests() -> [RawInsn; 7] {
     [
         op(0x20, 0),
@@ -105,7 +105,7 @@ pub fn late_contradiction() -> [RawInsn; 6] {
     ]
 }
 
-/// Is refused, since one path doesn't store what it loads: `ld [0]; jeq 1 0 1; st M[0]; ld M[0]; ret a`.
+/// `check` refuses it, since one path doesn't store what it loads: `ld [0]; jeq 1 0 1; st M[0]; ld M[0]; ret a`.
 pub fn unset_scratch() -> [RawInsn; 5] {
     [
         op(0x20, 0),

@@ -3,6 +3,7 @@ use std::alloc::{AllocError, Global};
 use std::fmt::Display;
 
 /// The text of the first value that is displayed otherwise than the text beside it says; `None` where there is none.
+/// `AllocError` where an allocation is refused.
 pub fn other_text<T: Display>(
     alloc: Global,
     cases: &[(T, &str)],

@@ -14,8 +14,10 @@ use std::alloc::{AllocError, Global};
 /// one by one: that costs less than a look-up.
 const SHORT: usize = 8;
 
-/// The tests of a program that ask whether A equals a number, in chains: each test of a chain leads to the next one
-/// where A is another number. Where several tests lead to one place, it is in the chain of the first of them.
+/// The tests of a program that ask whether A equals a number, and the chains that they make. A chain is a list of
+/// places: at each of them but the last one stands such a test, which leads to the next place of the chain where A is
+/// another number. Each place of the program is in exactly one chain. A place to which several tests lead is in the
+/// chain of the first of these tests.
 #[derive(Debug, Drop)]
 pub(crate) struct EqualTests {
     // The tests, each as one number (`key_of`), ascending. So the tests of one chain that ask for one number stand
@@ -25,7 +27,7 @@ pub(crate) struct EqualTests {
     pub(crate) chains: Vec<u16>,
     // How many tests of its chain stand before each place.
     pub(crate) steps: Vec<u16>,
-    // The last place of each chain, under the chain's number.
+    // The last place of each chain, at the index of the chain's first place. The other entries aren't used.
     pub(crate) lasts: Vec<u16>,
 }
 
@@ -38,8 +40,8 @@ pub struct Skipped {
     pub behind: usize,
 }
 
-/// A test as one number. These numbers are ordered by the chain, then by the number that the test asks for, then by its
-/// place.
+/// A test as one number, its key. Keys are ordered by the chain, then by the number that the test asks for, then by its
+/// place. The factors leave room for these: a place is below 4096 (the caller's condition), and a number below 2^32.
 fn key_of(chain: u16, number: u32, place: usize) -> u64
     requires { place < 4096 }
     ensures { result ≡ test_key chain number place }
@@ -47,9 +49,10 @@ fn key_of(chain: u16, number: u32, place: usize) -> u64
     4096 * (0x1_0000_0000 * chain as u64 + number as u64) + place as u64
 }
 
-/// If the instruction at a place tests whether A equals a number other than `number`: the place to which it leads where
-/// A is `number`. `None` where it is another instruction, or asks for `number`.
-fn next_of_other(insns: &[Insn], place: usize, number: u32) -> Option<usize>
+/// If the instruction at `place` tests whether A equals a number other than `number`: the place to which it leads where
+/// A is `number`, since the test fails then. `None` where it is another kind of instruction, or asks for `number`. The
+/// caller's condition: `place` is a place of the program, which has at most 4096 instructions.
+fn next_where_it_fails(insns: &[Insn], place: usize, number: u32) -> Option<usize>
     requires inside { place < length insns.now }
     requires short { length insns.now ≤ 4096 }
     ensures some { IfSome result (λ next. (k : ℕ) × (k ≢ number)
@@ -67,7 +70,8 @@ fn next_of_other(insns: &[Insn], place: usize, number: u32) -> Option<usize>
     }
 }
 
-/// All places of a program of this size, in order. `AllocError` where an allocation is refused.
+/// The places from 0 to `size` - 1, in order. As a table this makes each place a chain of its own. The caller's
+/// condition: `size` is at most 4096, so that a place fits a `u16`. `AllocError` where an allocation is refused.
 fn own_places(alloc: Global, size: usize) -> Result<Vec<u16>, AllocError>
     requires { size ≤ 4096 }
     ensures { IfOk result (λ places. AreOwn places.items size) }
@@ -79,8 +83,9 @@ fn own_places(alloc: Global, size: usize) -> Result<Vec<u16>, AllocError>
     Ok(places)
 }
 
-/// Puts `next`, the place to which the test at `place` leads where it fails, into the chain of that test, unless an
-/// earlier test has put it into another chain.
+/// Puts `next` into the chain of the test at `place`, which leads there where it fails. Where an earlier test has put
+/// `next` into its chain, nothing changes. The caller's condition: `next` is in the program, and of all tests exactly
+/// those before `place` were joined so far.
 fn join(
     insns: &[Insn],
     chains: &mut [u16],
@@ -97,6 +102,7 @@ fn join(
 {
     // For the prover: only clauses speak of them.
     let _insns = insns;
+    // No test has put `next` into a chain: it is still the first place of its own one.
     if chains[next] as usize == next {
         let chain = chains[place];
         chains[next] = chain;
@@ -105,7 +111,9 @@ fn join(
     }
 }
 
-/// Makes the chains, from tables in which each place is a chain of its own.
+/// Makes the chains: joins the tests one by one, in order of their places. The caller's condition: there are at most
+/// 4096 instructions, each test leads to one of them, and in the tables that are handed in each place is a chain of its
+/// own.
 fn join_all(insns: &[Insn], chains: &mut [u16], steps: &mut [u16], lasts: &mut [u16])
     requires short { length insns.now ≤ 4096 }
     requires inside { LeadInside insns.now }
@@ -126,7 +134,8 @@ fn join_all(insns: &[Insn], chains: &mut [u16], steps: &mut [u16], lasts: &mut [
     }
 }
 
-/// The keys of all tests, ascending. `AllocError` where an allocation is refused.
+/// The keys (`key_of`) of all tests that ask whether A equals a number, ascending. The caller's condition: there are at
+/// most 4096 instructions, and `chains` has a chain for each place. `AllocError` where an allocation is refused.
 fn keys_of(alloc: Global, insns: &[Insn], chains: &[u16]) -> Result<Vec<u64>, AllocError>
     requires short { length insns.now ≤ 4096 }
     requires each { length chains.now ≡ length insns.now }
@@ -142,7 +151,7 @@ fn keys_of(alloc: Global, insns: &[Insn], chains: &[u16]) -> Result<Vec<u64>, Al
     Ok(keys)
 }
 
-/// How many keys are less than this one.
+/// How many of the keys are less than `key`. The caller's condition: the keys ascend.
 fn count_below(keys: &[u64], key: u64) -> usize
     requires { IsNonDecreasing keys.now }
     ensures { IsPartitionPoint (λ k. k < key) (λ k. key ≤ k) keys.now result }
@@ -150,9 +159,10 @@ fn count_below(keys: &[u64], key: u64) -> usize
     keys.partition_point(|k| *k < key)
 }
 
-/// The first place in the chain of `place`, from there on, whose test asks for `number`. Where no test before `last`
-/// asks for it, that is `last`, the last place of the chain. It is found by its key, without going through the tests
-/// before it. The contract doesn't promise that a test for `number` stands there.
+/// The first place of the chain of `place`, from there on, whose test asks for `number`; or `last`, where no test
+/// before `last` asks for it. The place is found by its key, without going through the tests before it. The contract
+/// says only that no test of the chain from `place` on and before the result asks for `number`. The caller's condition:
+/// `keys` and `chains` are the tables of the program, and `last` is the last place of the chain of `place`.
 fn find_test_or_last(
     insns: &[Insn],
     keys: &[u64],
@@ -174,6 +184,7 @@ fn find_test_or_last(
     let chain = chains[place];
     let from = key_of(chain, number, place);
     let found = count_below(keys, from);
+    // All keys are less than `from`: no test of the chain from `place` on asks for `number`.
     if found >= keys.len() {
         return last;
     }
@@ -187,7 +198,8 @@ fn find_test_or_last(
 }
 
 impl EqualTests {
-    /// The tables of a program. `Memory` where an allocation is refused.
+    /// Makes the tables of a program. The caller's condition: there are at most 4096 instructions, and each test leads
+    /// to one of them. `Memory` where an allocation is refused.
     pub(crate) fn of(alloc: Global, insns: &[Insn]) -> Result<EqualTests, Fault>
         requires short { length insns.now ≤ 4096 }
         requires inside { LeadInside insns.now }
@@ -208,7 +220,8 @@ impl EqualTests {
         })
     }
 
-    /// How many tests of a chain lead from one of its places to another.
+    /// How many tests of a chain lead from its place `from` to its place `to`. The caller's condition: both places are
+    /// in the program, and `to` doesn't stand before `from` in the chain.
     fn steps_between(&self, from: usize, to: usize) -> usize
         requires from { from < length self.now.steps.items }
         requires to { to < length self.now.steps.items }
@@ -220,8 +233,10 @@ impl EqualTests {
         (self.steps[to] - self.steps[from]) as usize
     }
 
-    /// Skips the tests for other numbers in the chain of a place, from there on, by a look-up. Where the chain ends
-    /// soon (`SHORT`), it skips none: the caller then looks at each test.
+    /// Skips tests in the chain of `place`, from there on, that ask for other numbers than `number`: up to the first
+    /// one that asks for `number`, or up to the last place of the chain. A look-up finds that place. Where the last
+    /// place is near (`SHORT`), none is skipped: the caller then looks at each test. The caller's condition: the tables
+    /// are those of `insns`, and `place` is a place of this program.
     fn skip_in_chain(&self, insns: &[Insn], place: usize, number: u32) -> Skipped
         requires tables { AreEqualTests insns.now self.now.keys.items self.now.chains.items
             self.now.steps.items self.now.lasts.items }
@@ -244,8 +259,10 @@ impl EqualTests {
         }
     }
 
-    /// Skips the tests for other numbers from a place on, each of which stands where the one before it leads when it
-    /// fails. They may be in several chains. No test for another number stands at the place behind them.
+    /// Skips the tests from `place` on that ask whether A equals another number than `number`. Each of them stands
+    /// where the one before it leads when it fails. They may be in several chains. No test for another number stands at
+    /// the place behind them. The caller's condition: the tables are those of `insns`, and `place` is a place of this
+    /// program.
     pub(crate) fn skip_others(&self, insns: &[Insn], place: usize, number: u32) -> Skipped
         requires tables { AreEqualTests insns.now self.now.keys.items self.now.chains.items
             self.now.steps.items self.now.lasts.items }
@@ -256,7 +273,9 @@ impl EqualTests {
             mut count,
             mut behind,
         } = self.skip_in_chain(insns, place, number);
-        while let Some(next) = next_of_other(insns, behind, number) {
+        // A test for another number still stands there: it is skipped by itself, then those of the chain to which it
+        // leads.
+        while let Some(next) = next_where_it_fails(insns, behind, number) {
             let more = self.skip_in_chain(insns, next, number);
             count += 1 + more.count;
             behind = more.behind;

@@ -20,11 +20,12 @@ pub fn one_program_of_a_file()
     ensures { (bytes : List ℕ) (a b : List Insn) → SpellsProgram bytes a
         → SpellsProgram bytes b → a ≡ b }
 {
+    // For the prover: bytes spell at most one list of instructions.
     one_spelling();
 }
 
-/// Instructions with a first fault spell no lawful program. So, where no memory is refused, `check` accepts exactly
-/// those that spell one.
+/// Instructions with a first fault spell no lawful program. So, where no memory is refused, `check` accepts exactly the
+/// instructions that spell a lawful program.
 pub fn a_fault_spells_no_lawful_program()
     ensures { (raws : List RawInsn) (e : Fault) (code : List Insn) →
         IsFirstFault raws e → Spells raws code → IsLawfulProgram code → ⊥ }

@@ -16,7 +16,7 @@ pub enum Fault {
 }
 
 impl Fault {
-    /// The number under which the program reports the fault.
+    /// The number under which `seccomp_audit` reports the fault.
     pub fn number(&self) -> u16
         ensures { result ≡ fault_number self.now }
     {
@@ -29,6 +29,7 @@ impl Fault {
 impl From<AllocError> for Fault {
     ghost from_gives = { λ _ e. e ≡ Memory };
 
+    /// A refused allocation is the fault `Memory`.
     fn from(_e: AllocError) -> Fault {
         Fault::Memory
     }
@@ -37,6 +38,7 @@ impl From<AllocError> for Fault {
 impl<T: Drop> From<AllocFailed<T>> for Fault {
     ghost from_gives = { λ _ e. e ≡ Memory };
 
+    /// A refused allocation is the fault `Memory`. The value that should have been stored is dropped.
     fn from(_e: AllocFailed<T>) -> Fault {
         Fault::Memory
     }

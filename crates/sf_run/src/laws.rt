@@ -25,20 +25,22 @@ pub fn one_answer()
         → IsAnswer values b → a ≡ b }
 {}
 
-/// Each trace is a whole route.
+/// Each trace of a lawful stack is a whole route: it leads through each program to a return, if only control is looked
+/// at.
 pub fn traces_are_whole_routes()
     ensures { (programs : List (List Insn)) (d : Input) →
         IsLawfulStack programs → IsWholeRoute programs (trace_of programs d) }
 {}
 
-/// No whole route begins another.
+/// No whole route of a stack is the beginning of another one.
 pub fn no_whole_route_begins_another()
     ensures { (programs : List (List Insn)) (a b more : List Bool) →
         IsWholeRoute programs a → IsWholeRoute programs b → a ++ more ≡ b → a ≡ b }
 {}
 
-/// A replay along the trace of an input gives the values that the programs return on it, newest first, and no truth
-/// value is left. The law is of values below 2^32: in a definition a value may be any number, in code all are below it.
+/// In a lawful stack, a replay along the trace of an input gives the values that the programs return on it, newest
+/// first, and no truth value is left. The law is of values below 2^32: in a definition a value may be any number, in
+/// code all are below it.
 pub fn traces_replay_the_returns()
     ensures { (programs : List (List Insn)) (d : Input) → IsLawfulStack programs
         → All (λ v. v < 2 ^ 32) (returns_of programs d)
@@ -57,8 +59,8 @@ pub fn all_inputs_are_listed()
     ensures { (d : Input) → Contains all_inputs d ↔ IsInput d }
 {}
 
-/// `feasible_traces` is a list of the feasible traces of a stack: it has, in name order, each trace that some input
-/// has, once, and nothing else. So each stack, lawful or not, has such a list.
+/// `feasible_traces` is a list of the feasible traces of a stack: it has each trace that some input has, once, and
+/// nothing else. They are in the order of names, with false before true. So each stack, lawful or not, has such a list.
 pub fn each_stack_has_its_feasible_traces()
     ensures { (programs : List (List Insn)) → AreFeasibleTraces programs
         (feasible_traces programs) }

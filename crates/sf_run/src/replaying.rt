@@ -42,8 +42,10 @@ fn next_number(met: &[bool]) -> Option<(u32, &[bool])>
     Some((number, left))
 }
 
-/// Where control leads from the instruction at the place by the next of these truth values, and those that are left.
-/// `None` where there are too few.
+/// Where control leads from the instruction at `place`, and the truth values that are left. A test takes the next truth
+/// value as its result, and a division by X takes it as whether X is 0. A return of A takes the next 32 as the bits of
+/// A, the highest first. Any other instruction takes none. `None` where there are too few. The caller's condition:
+/// `place` is below 4096.
 fn follow<'a>(place: usize, insn: &Insn, met: &'a [bool]) -> Option<(Next, &'a [bool])>
     requires small { place < 4096 }
     ensures { option_map (λ r. (r.0, r.1.now)) result ≡ lead_of place insn.now met.now }
@@ -103,8 +105,8 @@ fn replay_program<'a>(program: &Program, met: &'a [bool]) -> Option<(u32, &'a [b
     }
 }
 
-/// The answer that programs, in order of installation, give along these truth values, and those of them that are left.
-/// `None` where there are too few.
+/// The answer that programs give along these truth values, and those of them that are left. The programs stand in order
+/// of installation, and the newest one takes its truth values first. `None` where there are too few.
 fn replay_part<'a>(programs: &[Program], met: &'a [bool]) -> Option<(Answer, &'a [bool])>
     ensures { option_map (λ r. (r.0, r.1.now)) result ≡ answer_along programs.now met.now }
 {
@@ -121,9 +123,10 @@ fn replay_part<'a>(programs: &[Program], met: &'a [bool]) -> Option<(Answer, &'a
     Some((so_far, left))
 }
 
-/// The answers of the two parts of a stack, its older programs and its newer ones, along a whole route of the stack.
-/// Each part is taken as a stack of its own, with its programs in order of installation. These are the answers to each
-/// input whose trace is the route. `None` where the truth values are not a whole route. Takes no memory.
+/// The answers of the two parts of a stack, its older programs and its newer ones, along a whole route of the stack. A
+/// whole route leads through each program to a return, the newest program first. Each part is taken as a stack of its
+/// own, with its programs in order of installation. These are the answers to each input whose trace is the route.
+/// `None` where the truth values are not a whole route: there are too few, or some are left. Takes no memory.
 pub fn replay(older: &[Program], newer: &[Program], route: &[bool]) -> Option<PartAnswers>
     // These are the answers of the definition.
     ensures same { result ≡ answers_along older.now newer.now route.now }

@@ -11,7 +11,8 @@ use sf_check::{Insn, Program, Stack};
 use sf_insn::Input;
 use std::alloc::Global;
 
-/// Adds the bits of a word, the highest first.
+/// Adds the 32 bits of a word to `met`, the highest first. `Memory` where an allocation is refused; some of them may
+/// have been added by then.
 fn push_bits(met: &mut Vec<bool>, word: u32) -> Result<(), Fault>
     ensures pushed { OnOk result (met.new.items ≡ met.old.items ++ bits 32 word) }
 {
@@ -21,7 +22,9 @@ fn push_bits(met: &mut Vec<bool>, word: u32) -> Result<(), Fault>
     Ok(())
 }
 
-/// Adds the truth values that the instruction meets.
+/// Adds to `met` the truth values that the instruction meets where the machine is in this state: the result of a test,
+/// whether X is 0 at a division by X, the 32 bits of A at a return of A, and none at any other instruction. `Memory`
+/// where an allocation is refused; some of them may have been added by then.
 fn push_met(met: &mut Vec<bool>, machine: &Machine, insn: &Insn) -> Result<(), Fault>
     ensures pushed { OnOk result (met.new.items ≡ met.old.items
         ++ met_at (state_of 0 machine.now) insn.now) }
@@ -35,7 +38,8 @@ fn push_met(met: &mut Vec<bool>, machine: &Machine, insn: &Insn) -> Result<(), F
     Ok(())
 }
 
-/// Adds the truth values that the program meets.
+/// Adds to `met` the truth values that the program meets on the input, in order. `Memory` where an allocation is
+/// refused; some of them may have been added by then.
 fn push_program(met: &mut Vec<bool>, program: &Program, input: &Input) -> Result<(), Fault>
     ensures pushed { OnOk result (met.new.items ≡ met.old.items ++ met_by program.now input.now) }
 {
@@ -54,7 +58,8 @@ fn push_program(met: &mut Vec<bool>, program: &Program, input: &Input) -> Result
 
 /// The truth values that the stack meets on the input, newest program first: the result of each conditional test; at
 /// each division by X whether X is 0; at each return of A the 32 bits of A, the highest first. At most 32768 + 32 * 64
-/// of them. `Memory` where an allocation is refused.
+/// of them: one for each instruction of the longest path, and 32 for each program's return. `Memory` where an
+/// allocation is refused.
 pub fn trace(alloc: Global, stack: &Stack, input: &Input) -> Result<Vec<bool>, Fault>
     ensures met { IfOk result (λ v. v.items ≡ trace_of stack.now input.now) }
 {

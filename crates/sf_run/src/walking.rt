@@ -35,7 +35,7 @@ pub struct Meeting {
     pub met: Met,
 }
 
-/// A run of a program.
+/// A run of a program on an input.
 #[derive(Debug, Drop)]
 pub struct Course {
     /// What was met, in order.
@@ -46,7 +46,8 @@ pub struct Course {
     pub value: u32,
 }
 
-/// What the instruction meets, if anything.
+/// What the instruction meets where the machine is in this state, before the instruction runs. `None` where it meets
+/// nothing: it is no test, no division by X and no return of A.
 pub(crate) fn what_is_met(machine: &Machine, insn: &Insn) -> Option<Met>
     ensures { (place : ℕ) (word : Option ℕ) → MatchOption result
         (meeting_at (state_of place machine.now) word insn.now ≡ [])
@@ -78,8 +79,9 @@ pub(crate) fn what_is_met(machine: &Machine, insn: &Insn) -> Option<Met>
     }
 }
 
-/// The word of the input that A is known to hold after an instruction. `word` is the one before it. `None` once A was
-/// set in another way than by a load of such a word, even if it still has the same value.
+/// The word of the input that A is known to hold after an instruction, where `word` is what A was known to hold before
+/// it. `None` where A isn't known to hold one: none was loaded yet, or A was last set in another way than by a load of
+/// a word of the input, even if it still has the same value.
 fn word_after(word: Option<u8>, insn: &Insn) -> Option<u8>
     ensures { result ≡ word_after word insn.now }
 {
@@ -104,7 +106,8 @@ fn word_after(word: Option<u8>, insn: &Insn) -> Option<u8>
     }
 }
 
-/// Adds what the instruction meets, where A holds this word of the input.
+/// Adds what the instruction at `place` meets, if it meets anything. `word` is the word of the input that A holds
+/// there, if it is known to hold one. `Memory` where an allocation is refused; nothing is added then.
 fn push_meeting(
     met: &mut Vec<Meeting>,
     machine: &Machine,
@@ -125,8 +128,8 @@ fn push_meeting(
     Ok(())
 }
 
-/// The run of the program on the input: what it meets, with the numbers that it compares, and where it returns which
-/// value. `Memory` where an allocation is refused.
+/// The run of the program on the input: what it meets, with the numbers that it compares, the place at which it
+/// returns, and the value. `Memory` where an allocation is refused.
 pub fn walk(alloc: Global, program: &Program, input: &Input) -> Result<Course, Fault>
     // It is the run of the definition.
     ensures course { IfOk result (λ w. walk_of program.now input.now

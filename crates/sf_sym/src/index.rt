@@ -24,6 +24,7 @@ pub struct Interned {
 }
 
 impl Default for Interned {
+    /// `SharedList` asks for a default of its elements.
     fn default() -> Self {
         Interned {
             node: Node::Const(0),
@@ -35,7 +36,8 @@ impl Default for Interned {
 /// The nodes of a pool with their links, oldest first.
 pub type InternedNodes = SharedList<Interned, 1>;
 
-/// The hash of a node: equal nodes have the same one.
+/// The hash of a node, which is the number of its bucket: equal nodes have the same one. The numbers 31, 7 and 5 only
+/// spread the nodes over the buckets.
 fn hash(node: Node) -> usize
     ensures value { result ≡ hash_of node }
     ensures within { result < 509 }
@@ -67,8 +69,10 @@ fn place_behind_operands(node: Node) -> usize
     }
 }
 
-/// The place of a node that is equal to this one, if there is one. The nodes of its bucket are compared with it, the
-/// newest first. The search ends at the node's newest operand, if it has operands: an equal node stands behind them.
+/// The place of a node that is equal to this one; `None` where there is none. The nodes of its bucket are compared with
+/// it, the newest first. The search ends at the node's newest operand, if it has operands: an equal node stands behind
+/// them. The caller's condition: `heads` and the links are right for the nodes, as `Indexed` keeps them, and each
+/// node's operands are older than it.
 fn place_of(interned_nodes: &InternedNodes, heads: &[u32], node: Node) -> Option<usize>
     requires indexed { IsIndexed interned_nodes.now heads.now }
     requires ordered { AreOrdered 0 (nodes_of interned_nodes.now) }
@@ -79,6 +83,7 @@ fn place_of(interned_nodes: &InternedNodes, heads: &[u32], node: Node) -> Option
 {
     let first = place_behind_operands(node);
     let mut next = heads[hash(node)] as usize;
+    // `next` is one more than the place to look at, as heads and links are.
     while next > first {
         let interned = interned_nodes.get(next - 1);
         if is_same(interned.node, node) {
@@ -89,8 +94,8 @@ fn place_of(interned_nodes: &InternedNodes, heads: &[u32], node: Node) -> Option
     None
 }
 
-/// Adds a node, and makes it the newest of its bucket. `AllocError` where an allocation is refused; no node is added
-/// then.
+/// Adds a node at the end, and makes it the newest of its bucket. `AllocError` where an allocation is refused; nothing
+/// changes then. The caller's condition: `heads` and the links are right for the nodes so far, as `Indexed` keeps them.
 fn add(interned_nodes: &mut InternedNodes, heads: &mut [u32], node: Node) -> Result<(), AllocError>
     requires indexed { IsIndexed interned_nodes.old heads.old }
     ensures indexed { IsIndexed interned_nodes.new heads.new }
@@ -101,15 +106,17 @@ fn add(interned_nodes: &mut InternedNodes, heads: &mut [u32], node: Node) -> Res
     let hash = hash(node);
     let link = heads[hash];
     interned_nodes.push(Interned { node, link })?;
+    // This is one more than the place of the new node.
     heads[hash] = interned_nodes.len() as u32;
     Ok(())
 }
 
-/// Nodes, oldest first, and where the newest one of each bucket is. Pools share them until one of them gets another
-/// node.
+/// Nodes, oldest first, and where the newest one of each bucket is. Pools share them until one of the pools gets
+/// another node.
 #[derive(Drop)]
 pub struct Indexed {
     interned_nodes: InternedNodes,
+    // For each bucket, one more than the place of its newest node, or 0 where it has none.
     heads: Vec<u32>,
 }
 
@@ -145,7 +152,7 @@ impl Indexed {
         self.interned_nodes.len()
     }
 
-    /// The node at a place.
+    /// The node at place `i`. The caller's condition: there is one.
     pub fn node(&self, i: usize) -> Node
         requires { i < length self.now }
         ensures { result ≡ node_at self.now i }
@@ -153,8 +160,8 @@ impl Indexed {
         self.interned_nodes.get(i).node
     }
 
-    /// The place of a node that is equal to this one, if there is one. The caller's condition: each node's operands are
-    /// older than it.
+    /// The place of a node that is equal to this one; `None` where there is none. The caller's condition: each node's
+    /// operands are older than it.
     pub fn find(&self, node: Node) -> Option<usize>
         requires { AreOrdered 0 self.now }
         ensures found { (i : ℕ) → result ≡ Some i → (i < length self.now)
@@ -165,7 +172,8 @@ impl Indexed {
         place_of(&self.interned_nodes, self.heads.as_slice(), node)
     }
 
-    /// Adds a node, and gives its place. `AllocError` where an allocation is refused; nothing is added then.
+    /// Adds a node at the end, even if an equal one is there, and gives its place. `AllocError` where an allocation is
+    /// refused; nothing is added then.
     pub fn add(&mut self, node: Node) -> Result<usize, AllocError>
         ensures place { IfOk result (λ at. at ≡ length self.old) }
         ensures ok { OnOk result (self.new ≡ self.old ++ node ∷ []) }
@@ -191,8 +199,8 @@ impl Indexed {
     }
 }
 
-/// Adds a node, and gives its place. Where other pools share the nodes, it is added to a copy, and theirs stay as they
-/// are. `AllocError` where an allocation is refused; nothing is added then.
+/// Adds a node at the end, even if an equal one is there, and gives its place. Where other pools share the nodes, it is
+/// added to a copy, and theirs stay as they are. `AllocError` where an allocation is refused; nothing is added then.
 pub fn add_to(nodes: &mut Arc<Indexed>, node: Node) -> Result<usize, AllocError>
     ensures place { IfOk result (λ at. at ≡ length (arc_value nodes.old)) }
     ensures ok { OnOk result (arc_value nodes.new ≡ arc_value nodes.old ++ node ∷ []) }

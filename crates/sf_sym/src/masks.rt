@@ -21,7 +21,8 @@ pub struct MaskedWord {
 }
 
 /// A node as a word of the input under a mask, where it is such a word, or comes of one by ANDs with constants. On each
-/// input the node's value is the word's number under the mask. `None` for any other node.
+/// input the node's value is the word's number under the mask. `None` for any other node. The caller's condition: the
+/// node is in the pool.
 pub fn masked_word(pool: &Pool, id: NodeId) -> Option<MaskedWord>
     requires { id.0 < length pool.now }
     ensures inside { IfSome result (λ m. m.word < 16) }

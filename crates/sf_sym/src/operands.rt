@@ -10,9 +10,10 @@ ghost use Rattle.sf_sym.specs.Operands.{IsSwappable, constant_operand_of};
 use crate::pool::{Node, Pool, constant_of};
 use sf_insn::BinOp;
 
-/// The operation of a node, the place of one operand, and the other operand's number, where exactly that one is a
-/// constant. `None` for any other node. It isn't said which operand comes first: callers only rely on the result for
-/// AND, OR and XOR, where that doesn't matter.
+/// Where the node at `at` is an operation on a constant and a node that isn't one: the operation, the place of the node
+/// that isn't one, and the constant. `None` where the node at `at` is any other node. It isn't said which operand comes
+/// first: callers only rely on the result for AND, OR and XOR, where that doesn't matter. The caller's condition: `at`
+/// is a place of the pool.
 pub fn constant_operand(pool: &Pool, at: usize) -> Option<(BinOp, usize, u32)>
     requires { at < length pool.now }
     ensures operand { result ≡ constant_operand_of pool.now (node_at pool.now at) }

@@ -13,8 +13,8 @@ loads_unset-requires c = search (arith, slice_get-get_or)
 pub set_after-after-requires : goal.set_after-after-requires
 set_after-after-requires c = search (arith, slice_get-get_or)
 
-pub propagate-requires-clause-inside : goal.propagate-requires-clause-inside
-propagate-requires-clause-inside c = grind (arith, common_steps, slice_get-get_or)
+pub narrow_successors-requires-clause-inside : goal.narrow_successors-requires-clause-inside
+narrow_successors-requires-clause-inside c = grind (arith, common_steps, slice_get-get_or)
 
 pub returns-then-loads_unset-clause-some : goal.returns-then-loads_unset-clause-some
 returns-then-loads_unset-clause-some c =
