@@ -10,13 +10,14 @@ ghost use Rattle.sf_calls.specs.Numbers.{are_arguments, are_digits, argument_at,
 /// Why a text isn't read as numbers.
 #[derive(Clone, Copy, Debug, PartialEq, Eq)]
 pub enum Misread {
-    /// It hasn't the form of the numbers that are wanted.
+    /// The text hasn't the form that is wanted: that of one number, or of one to six numbers with commas between them.
     Form,
     /// A number has more bits than are wanted.
     Width,
 }
 
-/// The digits of a number and their radix.
+/// The radix of a number and its digits: 16 and what follows `0x`, or 10 and the whole text. Whether these are digits
+/// isn't looked at.
 fn parted(text: &str) -> (u32, &str)
     ensures radix { result.0 ≡ radix_of text.now }
     ensures digits { result.1.now ≡ digits_of text.now }
@@ -27,7 +28,7 @@ fn parted(text: &str) -> (u32, &str)
     }
 }
 
-/// Whether a byte is a digit of the radix.
+/// Whether a byte is a digit of the radix. The caller's condition: the radix is 2 to 36.
 fn is_digit(byte: u8, radix: u32) -> bool
     requires least { 2 ≤ radix }
     requires most { radix ≤ 36 }
@@ -36,7 +37,7 @@ fn is_digit(byte: u8, radix: u32) -> bool
     char::from(byte).is_digit(radix)
 }
 
-/// Whether each byte is a digit of the radix.
+/// Whether each byte is a digit of the radix. The caller's condition: the radix is 2 to 36.
 fn are_each_digits(bytes: &[u8], radix: u32) -> bool
     requires least { 2 ≤ radix }
     requires most { radix ≤ 36 }
@@ -45,7 +46,7 @@ fn are_each_digits(bytes: &[u8], radix: u32) -> bool
     bytes.iter().all(|byte| is_digit(*byte, radix))
 }
 
-/// Whether a text is one digit or more, and nothing else.
+/// Whether a text is one digit of the radix or more, and nothing else. The caller's condition: the radix is 2 to 36.
 fn are_digits(digits: &str, radix: u32) -> bool
     requires least { 2 ≤ radix }
     requires most { radix ≤ 36 }
@@ -62,7 +63,8 @@ pub fn is_number(text: &str) -> bool
     are_digits(digits, radix)
 }
 
-/// The number that digits write. `Width` where it has more than 64 bits.
+/// The number that digits of the radix write. `Width` where it has more than 64 bits, which is the only way to fail.
+/// The caller's condition: the text has passed `are_digits` with this radix, which is 2 to 36.
 fn number_from(digits: &str, radix: u32) -> Result<u64, Misread>
     requires least { 2 ≤ radix }
     requires most { radix ≤ 36 }
@@ -91,7 +93,7 @@ pub fn read_word(text: &str) -> Result<u32, Misread>
     u32::try_from(number).map_err(|_| Misread::Width)
 }
 
-/// How many parts a text has between its commas.
+/// How many parts a text has between its commas. A text without a comma is one part, also where it is empty.
 fn count_parts(text: &str) -> usize
     ensures { result ≡ length (parts_of text.now) }
 {
@@ -112,14 +114,15 @@ pub fn are_arguments(text: &str) -> bool
     count_parts(text) <= 6 && are_numbers(text)
 }
 
-/// The part of a text at a place between its commas, counted from 0.
+/// The part of a text between its commas at a place, counted from 0; `None` where the text has too few parts.
 fn part_at(text: &str, place: usize) -> Option<&str>
     ensures { option_map (λ part. part.now) result ≡ slice_get (parts_of text.now) place }
 {
     text.split(',').nth(place)
 }
 
-/// The argument at a place, counted from 0; it is 0 where it isn't given. The refusals are those of `read_number`.
+/// The argument at a place of a text, counted from 0; it is 0 where the text has too few parts. `Width` where it has
+/// more than 64 bits. The caller has seen by `are_arguments` that each part is a number; else `Form` could come too.
 fn argument_at(text: &str, place: usize) -> Result<u64, Misread>
     ensures { are_arguments text.now ≡ true
         → result ≡ in_bits 64 (argument_at text.now place) }

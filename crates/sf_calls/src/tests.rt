@@ -39,7 +39,7 @@ fn arguments_are_read(rt: HostRuntime) -> Result<(), Fail> {
     Ok(())
 }
 
-/// The sets of a file; none where it is refused.
+/// The sets of a file of names; an empty list where it is refused.
 fn sets_of(alloc: Global, text: &str) -> Vec<Names> {
     match read_names(alloc, text) {
         Ok(sets) => sets,
@@ -47,7 +47,7 @@ fn sets_of(alloc: Global, text: &str) -> Vec<Names> {
     }
 }
 
-/// Whether a call is written so.
+/// Whether a call is written as `words`, with the names of `SETS`.
 fn is_written(
     alloc: Global,
     arch: u32,

@@ -9,7 +9,7 @@ use sf_insn::Input;
 use sf_names::{Call, Names};
 use std::alloc::AllocError;
 
-/// The first call of this number.
+/// The first call of this number; `None` where there is none.
 fn call_numbered(calls: &[Call], nr: u32) -> Option<&Call>
     ensures { option_map (λ c. c.now) result ≡ find (has_number nr) calls.now }
 {
@@ -28,7 +28,7 @@ fn has_call(names: &Names, arch: u32, nr: u32) -> bool
     names.arch() == arch && call_numbered(names.calls(), nr).is_some()
 }
 
-/// The first set of the architecture that has a call of this number.
+/// The first set of the architecture that has a call of this number; `None` where there is no such set.
 fn find_call(sets: &[Names], arch: u32, nr: u32) -> Option<&Names>
     ensures { option_map (λ n. n.now) result ≡ find (has_call arch nr) sets.now }
 {
@@ -57,7 +57,9 @@ fn name_of(calls: &[Call], nr: u32) -> &str
     }
 }
 
-/// Adds the names of a set and of its first call with this number, or the two numbers where there is no set.
+/// Adds the name of a set and, after a blank, that of its first call with this number. Where there is no set, the
+/// numbers of the architecture and of the call stand there instead, as `push_call_words` says. The caller has seen that
+/// the set has such a call; else no name follows. An error where an allocation is refused.
 fn push_name(text: &mut String, set: Option<&Names>, arch: u32, nr: u32) -> Result<(), AllocError>
     ensures { OnOk result (string_bytes text.new ≡ string_bytes text.old
         ++ name_words arch nr (option_map (λ n. n.now) set.entry)) }
@@ -71,14 +73,15 @@ fn push_name(text: &mut String, set: Option<&Names>, arch: u32, nr: u32) -> Resu
     }
 }
 
-/// What stands before the argument at a place.
+/// What stands before the argument at a place: nothing before the first one, at place 0.
 fn separator(place: usize) -> &'static str
     ensures { result.now ≡ separator place }
 {
     if place == 0 { "" } else { ", " }
 }
 
-/// Adds the argument at a place.
+/// Adds the argument at a place, counted from 0, as `arg1 = 0x5412`, with a comma and a blank before it unless it is
+/// the first one. An error where an allocation is refused.
 fn push_argument(text: &mut String, place: usize, argument: u64) -> Result<(), AllocError>
     ensures { OnOk result (string_bytes text.new ≡ string_bytes text.old
         ++ argument_words place argument) }
@@ -87,7 +90,7 @@ fn push_argument(text: &mut String, place: usize, argument: u64) -> Result<(), A
     write!(text, "{before}arg{place} = 0x{argument:X}")
 }
 
-/// Adds arguments, the first of them at place 0.
+/// Adds all of these arguments, the first of them at place 0. An error where an allocation is refused.
 fn push_arguments(text: &mut String, arguments: &[u64]) -> Result<(), AllocError>
     ensures { OnOk result (string_bytes text.new ≡ string_bytes text.old
         ++ arguments_words 0 arguments.now) }
@@ -98,7 +101,7 @@ fn push_arguments(text: &mut String, arguments: &[u64]) -> Result<(), AllocError
     Ok(())
 }
 
-/// Adds the arguments up to the last one that isn't 0, in parentheses.
+/// Adds the arguments up to the last one that isn't 0, in parentheses. An error where an allocation is refused.
 fn push_shown(text: &mut String, arguments: &[u64]) -> Result<(), AllocError>
     ensures { OnOk result (string_bytes text.new ≡ string_bytes text.old
         ++ shown_words arguments.now) }
@@ -113,7 +116,7 @@ fn push_shown(text: &mut String, arguments: &[u64]) -> Result<(), AllocError>
 /// Adds an input as a call, as `x86_64 ioctl(arg0 = 0x0, arg1 = 0x5412)`: the name of the first set that has its
 /// architecture and a call of its number, and the call's name; where no set has it, `0x` with eight hexadecimal digits
 /// of the architecture, and the call's number. In parentheses stand the arguments up to the last one that isn't 0. An
-/// error where an allocation is refused.
+/// error where an allocation is refused; some of the words may stand in the text then.
 pub fn push_call_words(text: &mut String, names: &[Names], input: &Input) -> Result<(), AllocError>
     ensures { OnOk result (string_bytes text.new ≡ string_bytes text.old
         ++ call_words names.now input.now) }

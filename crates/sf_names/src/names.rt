@@ -9,7 +9,9 @@ use std::marker::Model;
 /// A call: its number and its name.
 #[derive(Debug, Drop)]
 pub struct Call {
+    /// The number, by which programs of the set's architecture call the kernel.
     pub(crate) number: u32,
+    /// The name: 1 to 64 letters, digits and `_`.
     pub(crate) name: String,
 }
 
@@ -41,8 +43,11 @@ impl Call {
 /// A named set of calls of an architecture.
 #[derive(Debug, Drop)]
 pub struct Names {
+    /// The name of the set.
     pub(crate) set: String,
+    /// The number of the architecture, as in the word `arch` of an input.
     pub(crate) arch: u32,
+    /// The calls. `read_names` hands them out in the order of their numbers.
     pub(crate) calls: Vec<Call>,
 }
 
@@ -74,14 +79,14 @@ impl Names {
         self.arch
     }
 
-    /// The calls.
+    /// The calls. `read_names` has put them in the order of their numbers.
     pub fn calls(&self) -> &[Call]
         ensures { result.now ≡ self.now.calls }
     {
         self.calls.as_slice()
     }
 
-    /// The number of the first call with this name; none where the set has no such call.
+    /// The number of the first call with this name; `None` where the set has no such call.
     pub fn number_of(&self, name: &str) -> Option<u32>
         ensures { result ≡ number_of_call self.now name.now }
     {
@@ -89,7 +94,7 @@ impl Names {
     }
 }
 
-/// The first call with this name.
+/// The first call with this name; `None` where there is no such call.
 fn call_named<'a>(calls: &'a [Call], name: &str) -> Option<&'a Call>
     ensures { option_map (λ c. c.now) result ≡ find (has_name name.now) calls.now }
 {
@@ -101,7 +106,7 @@ fn call_named<'a>(calls: &'a [Call], name: &str) -> Option<&'a Call>
     None
 }
 
-/// The first set with this name; none where there is no such set.
+/// The first set with this name; `None` where there is no such set.
 pub fn find_set<'a>(sets: &'a [Names], set: &str) -> Option<&'a Names>
     ensures { option_map (λ n. n.now) result ≡ find (has_set set.now) sets.now }
 {

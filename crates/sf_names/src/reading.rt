@@ -14,21 +14,21 @@ use crate::names::{Call, Names, is_call_name};
 use std::alloc::{AllocError, Global};
 use toml::{Table, Value};
 
-/// A number as a word; none where it isn't of 32 bits.
+/// A number as a word of 32 bits; `None` where it is negative or has more bits.
 fn word_from(number: i64) -> Option<u32>
     ensures { result ≡ word_in number }
 {
     u32::try_from(number).ok()
 }
 
-/// The value at a key; none where the key is missing.
+/// The value at a key; `None` where the key is missing.
 fn value_at<'a>(table: &'a Table, key: &str) -> Option<&'a Value>
     ensures { option_map (λ v. view v.now) result ≡ get_member key.now (table_view table.now) }
 {
     table.get(key)
 }
 
-/// Whether each key of a table is one that a set has.
+/// Whether a table has no other keys than `arch` and `calls`, which are those of a set.
 fn has_only_names_keys(table: &Table) -> bool
     ensures { result ≡ list_all (λ key. is_names_key (string_bytes key)) (keys table.now) }
 {
@@ -70,7 +70,8 @@ fn call_in(alloc: Global, name: &str, value: &Value) -> Result<Call, Fault>
     }
 }
 
-/// The calls of a table, in the order of its keys. The refusal is that of the first call that is refused.
+/// The calls of a table, in the order of its keys. The refusal is that of the first call that is refused, or `Memory`
+/// where an allocation is refused.
 fn calls_of(alloc: Global, table: &Table) -> Result<Vec<Call>, Fault>
     ensures { Gives (λ v. v.items) result (calls_of (table_view table.now)) }
 {
@@ -92,7 +93,7 @@ fn calls_of_value(alloc: Global, value: &Value) -> Result<Vec<Call>, Fault>
     }
 }
 
-/// The calls of a set's table. `Key` where they are missing; then what `calls_of_value` refuses.
+/// The calls at the key `calls` of a set's table. `Key` where the key is missing; then what `calls_of_value` refuses.
 fn calls_in(alloc: Global, table: &Table) -> Result<Vec<Call>, Fault>
     ensures { Gives (λ v. v.items) result
         (calls_at (get_member (codes "calls") (table_view table.now))) }
@@ -103,7 +104,7 @@ fn calls_in(alloc: Global, table: &Table) -> Result<Vec<Call>, Fault>
     }
 }
 
-/// The architecture with a number. `Range` where this hasn't 32 bits.
+/// The number of an architecture, as a word. `Range` where it hasn't 32 bits.
 fn arch_from(number: i64) -> Result<u32, Fault>
     ensures { Gives (λ n. n) result (arch_where_word (word_in number)) }
 {
@@ -113,7 +114,7 @@ fn arch_from(number: i64) -> Result<u32, Fault>
     Ok(arch)
 }
 
-/// The architecture of a value. `Key` where it is no whole number; then what `arch_from` refuses.
+/// The number of an architecture that a value has. `Key` where it is no whole number; then what `arch_from` refuses.
 fn arch_of_value(value: &Value) -> Result<u32, Fault>
     ensures { Gives (λ n. n) result (arch_of_value (view value.now)) }
 {
@@ -123,7 +124,7 @@ fn arch_of_value(value: &Value) -> Result<u32, Fault>
     }
 }
 
-/// The architecture of a set's table. `Key` where it is missing; then what `arch_of_value` refuses.
+/// The number at the key `arch` of a set's table. `Key` where the key is missing; then what `arch_of_value` refuses.
 fn arch_in(table: &Table) -> Result<u32, Fault>
     ensures { Gives (λ n. n) result (arch_at (get_member (codes "arch") (table_view table.now))) }
 {
@@ -133,8 +134,9 @@ fn arch_in(table: &Table) -> Result<u32, Fault>
     }
 }
 
-/// The set with this name that a table describes. The caller has seen that the table has no unknown key. The refusals
-/// are those of its architecture, and then of its calls.
+/// The set with this name that a table describes, with the calls in the order of the table's keys. The caller has seen
+/// that the table has no unknown key. The refusals are those of `arch_in`, and then those of `calls_in`; `Memory` where
+/// an allocation is refused.
 fn set_from(alloc: Global, set: &str, table: &Table) -> Result<Names, Fault>
     ensures { Gives (λ n. n) result (set_from set.now (table_view table.now)) }
 {
@@ -175,21 +177,22 @@ fn set_of(alloc: Global, set: &str, value: &Value) -> Result<Names, Fault>
     set_of_value(alloc, set, value)
 }
 
-/// Whether a call's number is below those of x32, which have bit 30 set.
+/// Whether a call's number is below those of x32, the calls of x86-64 with 32-bit pointers: these have bit 30 set.
 fn is_low_call(call: &Call) -> bool
     ensures { result ≡ is_low_call call.now }
 {
     call.number < 0x4000_0000
 }
 
-/// Whether a call's number is below those of x32.
+/// Whether at least one of the calls has a number below those of x32.
 fn has_low_call(calls: &[Call]) -> bool
     ensures { result ≡ list_any is_low_call calls.now }
 {
     calls.iter().any(|call| is_low_call(call))
 }
 
-/// The name of the set of these calls, where the architecture is one of those that have a name.
+/// The usual name of a set with this architecture and these calls; `None` where the architecture has no name here.
+/// 0xC000003E, x86-64, has two sets: `x86_64` where at least one call has a number below those of x32, and else `x32`.
 fn known_set(arch: u32, calls: &[Call]) -> Option<&'static str>
     ensures { option_map (λ s. s.now) result ≡ known_set arch calls.now }
 {
@@ -213,7 +216,9 @@ fn usual_set(alloc: Global, arch: u32, calls: &[Call]) -> Result<String, AllocEr
     }
 }
 
-/// The set of a file that is one set. The refusals are those of `set_from`.
+/// The set of a file that is one set, with its usual name. `table` is the top of the file; the caller has seen that it
+/// has no other keys than `arch` and `calls`. The refusals are those of `set_from`; `Memory` also where an allocation
+/// for the name is refused.
 fn only_set(alloc: Global, table: &Table) -> Result<Names, Fault>
     ensures { Gives (λ n. n) result (only_set (table_view table.now)) }
 {
@@ -226,15 +231,15 @@ fn only_set(alloc: Global, table: &Table) -> Result<Names, Fault>
     })
 }
 
-/// Puts calls in the order of their numbers, in place; those with one number keep their order. An error where an
-/// allocation is refused.
+/// Puts calls in the order of their numbers, in place; calls with the same number keep their order. An error where an
+/// allocation is refused; nothing is promised of the list then.
 fn put_by_number(calls: &mut Vec<Call>) -> Result<(), AllocError>
     ensures { OnOk result (AreByNumber calls.old.items calls.new.items) }
 {
     calls.sort_by_key(|call| call.number)
 }
 
-/// The set, with the calls by their numbers. `Memory` where an allocation is refused.
+/// The same set, with the calls in the order of their numbers. `Memory` where an allocation is refused.
 fn put_in_order(names: Names) -> Result<Names, Fault>
     ensures ok { IfOk result (IsOrdered names) }
     ensures err { IfErr result (λ e. e ≡ MemoryFault) }
@@ -244,7 +249,7 @@ fn put_in_order(names: Names) -> Result<Names, Fault>
     Ok(ordered)
 }
 
-/// The set of a key and its value, with the calls by their numbers. The refusals are those of `set_of`.
+/// The set of a key and its value, with the calls in the order of their numbers. The refusals are those of `set_of`.
 fn ordered_set(alloc: Global, set: &str, value: &Value) -> Result<Names, Fault>
     ensures { GivesSet result (set_of set.now (view value.now)) }
 {
@@ -252,7 +257,8 @@ fn ordered_set(alloc: Global, set: &str, value: &Value) -> Result<Names, Fault>
     put_in_order(names)
 }
 
-/// The set of a file that is one set, with the calls by their numbers. The refusals are those of `only_set`.
+/// The set of a file that is one set, with the calls in the order of their numbers. What the caller has seen, and the
+/// refusals, are those of `only_set`.
 fn ordered_only_set(alloc: Global, table: &Table) -> Result<Names, Fault>
     ensures { GivesSet result (only_set (table_view table.now)) }
 {
@@ -260,8 +266,8 @@ fn ordered_only_set(alloc: Global, table: &Table) -> Result<Names, Fault>
     put_in_order(names)
 }
 
-/// The sets of a table, in the order of its keys, with the calls by their numbers. The refusal is that of the first set
-/// that is refused.
+/// The sets of a table, in the order of its keys, the calls of each in the order of their numbers. The refusal is that
+/// of the first set that is refused, or `Memory` where an allocation is refused.
 fn sets_of(alloc: Global, table: &Table) -> Result<Vec<Names>, Fault>
     ensures { GivesNames (λ v. v.items) result (sets_of (table_view table.now)) }
 {
@@ -273,7 +279,8 @@ fn sets_of(alloc: Global, table: &Table) -> Result<Vec<Names>, Fault>
     Ok(sets)
 }
 
-/// The set of a file that is one set, alone. The refusals are those of `only_set`.
+/// A list that has only the set of a file that is one set. What the caller has seen, and the refusals, are those of
+/// `only_set`.
 fn one_set(alloc: Global, table: &Table) -> Result<Vec<Names>, Fault>
     ensures { GivesNames (λ v. v.items) result (one_set (only_set (table_view table.now))) }
 {
@@ -284,7 +291,8 @@ fn one_set(alloc: Global, table: &Table) -> Result<Vec<Names>, Fault>
 }
 
 /// The sets of a file's table, the calls of each in the order of their numbers. A table without other keys than `arch`
-/// and `calls` is itself one set; any other table has a set at each key.
+/// and `calls` is itself one set; any other table has a set at each key. The refusals are those of `one_set` or of
+/// `sets_of`.
 fn names_of(alloc: Global, table: &Table) -> Result<Vec<Names>, Fault>
     ensures { GivesNames (λ v. v.items) result (names_of (table_view table.now)) }
 {

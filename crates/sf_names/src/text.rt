@@ -7,11 +7,13 @@ ghost use Rattle.sf_names.specs.Names.{count_after, count_more, name_between, na
 use crate::names::{Call, Names};
 use std::alloc::AllocError;
 
-/// The most names that are written of one row.
+/// The most names that are written in one row.
 const MOST_NAMES: usize = 8;
 
-/// Adds a name to a row's text, in which `count` names stand before it. In place of the ninth name `..` is written, and
-/// nothing for a further one. Returns how many names stand there then, where `..` counts as one.
+/// Adds a name to a row's text, in which `count` names stand already. ` # ` stands before the first name, and a comma
+/// before each further one. In place of the ninth name `..` is written, and nothing for a further one. Returns how many
+/// names stand there then, where `..` counts as one. An error where an allocation is refused; part of the name may
+/// stand in the text then.
 fn push_name(text: &mut String, count: usize, name: &str) -> Result<usize, AllocError>
     ensures text { OnOk result (string_bytes text.new ≡ string_bytes text.old
         ++ name_words count name.now) }
@@ -30,8 +32,9 @@ fn push_name(text: &mut String, count: usize, name: &str) -> Result<usize, Alloc
     Ok(count + 1)
 }
 
-/// Adds the name of a call, if its number is one of these, where `count` names were written before. Returns how many
-/// are written then.
+/// Adds the name of a call to a row's text, if its number is from `first` to `last`. `count` is how many names stand in
+/// the row already. Returns how many stand there then, as `push_name` counts them. An error where an allocation is
+/// refused.
 fn push_call(
     text: &mut String,
     count: usize,
@@ -49,8 +52,9 @@ fn push_call(
     Ok(count)
 }
 
-/// Adds the names of the calls whose numbers are among these, where `count` names were written before. Returns how many
-/// are written then.
+/// Adds the names of the calls whose numbers are from `first` to `last` to a row's text. `count` is how many names
+/// stand in the row already. Returns how many stand there then, as `push_name` counts them. An error where an
+/// allocation is refused.
 fn push_calls(
     text: &mut String,
     count: usize,
@@ -70,8 +74,9 @@ fn push_calls(
     Ok(told)
 }
 
-/// Adds the names of the calls of one set whose numbers are among these, if it is a set of the architecture, where
-/// `count` names were written before. Returns how many are written then.
+/// Adds the names of the calls of one set whose numbers are from `first` to `last` to a row's text, if it is a set of
+/// the architecture. `count` is how many names stand in the row already. Returns how many stand there then, as
+/// `push_name` counts them. An error where an allocation is refused.
 fn push_names_in(
     text: &mut String,
     count: usize,
@@ -94,7 +99,7 @@ fn push_names_in(
 /// Adds to a row's text, set after set, the names of the calls of an architecture whose numbers are from `first` to
 /// `last`: ` # ` and then at most eight names with commas between them, and `..` where there are more. `count` is how
 /// many names stand in the row before, 0 in a new one. Returns how many stand there then, at most nine, where `..`
-/// counts as one.
+/// counts as one. An error where an allocation is refused; some of the names may stand in the text then.
 pub fn push_names_between(
     text: &mut String,
     count: usize,

@@ -20,6 +20,7 @@ use sf_sym::{Cond, Node};
 use std::alloc::Global;
 
 /// Whether the operation has to ask first whether X is 0: it divides by X, and that truth value isn't in the name yet.
+/// `taken` is how many truth values of the operation are in the name.
 fn asks_zero(op: BinOp, other: Operand, taken: usize) -> bool
     ensures { result ≡ divides_at op other taken }
 {
@@ -29,8 +30,9 @@ fn asks_zero(op: BinOp, other: Operand, taken: usize) -> bool
     }
 }
 
-/// The number that A is tested against: a constant, or the number of X, where X has only one and no known bits would go
-/// back from it. `None` otherwise.
+/// The number that A is tested against, if there is one: a constant, or the only number that X may have. `None` where X
+/// may have several numbers, or where known bits could still go back from X to the nodes that it is computed from: a
+/// test with X can teach something then.
 fn number_against(run: &Run, other: Operand) -> Option<u32>
     requires { IsLawfulPiece run.now }
     ensures value { IfSome result (IsOperandNumber run.now other) }
@@ -43,6 +45,7 @@ fn number_against(run: &Run, other: Operand) -> Option<u32>
         Operand::Constant(number) => Some(number),
         Operand::X => {
             let number = run.facts.decided(&run.pool, run.machine.x)?;
+            // Only its `None` matters: known bits could go back from X then.
             run.facts
                 .tell(&run.pool, run.machine.x, Test::Equal, number)?;
             Some(number)
@@ -50,8 +53,9 @@ fn number_against(run: &Run, other: Operand) -> Option<u32>
     }
 }
 
-/// The result of a test of A, where it is told: every member has it, and nothing can be learnt from it. `None` where it
-/// isn't told; the facts may then still imply a result.
+/// The result of a test of A against `other`, where it is told: every member has this result, and nothing can be learnt
+/// from it. `None` where it isn't told, as where `number_against` finds no number. The facts may then still imply a
+/// result.
 fn foresee(run: &Run, test: Test, other: Operand) -> Option<bool>
     requires { IsLawfulPiece run.now }
     ensures value { IfSome result (λ b. PassesAlways run.now test other b) }
@@ -64,8 +68,11 @@ fn foresee(run: &Run, test: Test, other: Operand) -> Option<bool>
     run.facts.tell(&run.pool, run.machine.a, test, number)
 }
 
-/// An operation on A, whose result is put in A as a node. A division by X first asks whether X is 0, unless the name
-/// says already that it isn't.
+/// Runs an operation on A: its result is put in A as a node. A division by X first asks whether X is 0, unless the name
+/// says already that it isn't. Then the call only takes this truth value, as `branch` takes that of a test: where X is
+/// 0 the program returns 0, and otherwise the machine stays at the division. `Empty` where the facts contradict.
+/// `Memory` where an allocation is refused. The caller's condition: `insn` is this operation, and stands at the
+/// machine's place.
 pub(crate) fn alu(
     alloc: Global,
     run: &mut Run,
@@ -103,8 +110,10 @@ pub(crate) fn alu(
     }
 }
 
-/// A test of A. Where it is told, its truth value is added to the name, with the falses of the tests behind it that are
-/// known to fail. Else it is learnt as false and as true.
+/// Runs a test of A against `other`. Where it is told, its truth value is added to the name, with the falses of the
+/// tests behind it that are known to fail. Else it is learnt as false and as true: `Split` where the facts leave both,
+/// `On` where they leave one, and `Empty` where they leave neither or can't take in the node of `other`. `Memory` where
+/// an allocation is refused. The caller's condition: `insn` is this test, and stands at the machine's place.
 pub(crate) fn branch(
     alloc: Global,
     run: &mut Run,
@@ -124,6 +133,7 @@ pub(crate) fn branch(
         take_failing(run)?;
         return Ok(SmallStep::On);
     }
+    // `other` gets its node in a copy: if only one truth value is left, the run goes on without this node.
     let mut asked = run.fork(alloc)?;
     let Some(right) = operand(alloc, &mut asked, other)? else {
         return Ok(SmallStep::Empty);
@@ -138,8 +148,10 @@ pub(crate) fn branch(
     carry_out(run, insn, decision)
 }
 
-/// A return of A, which meets the 32 bits of A, the highest first. Each call goes on by the next bit. Where it is told,
-/// it is added to the name; else it is learnt as false and as true. When all are in the name, the program is left.
+/// Runs a return of A, which meets the 32 bits of A, the highest first. Each call takes the next bit, and the machine
+/// stays at the return. Where the bit is told, it is added to the name; else it is learnt as false and as true, as a
+/// test is. When all 32 are in the name, the call leaves the program, which returns the number that they spell.
+/// `Memory` where an allocation is refused. The caller's condition: a return of A stands at the machine's place.
 pub(crate) fn return_a(alloc: Global, run: &mut Run) -> Result<SmallStep, Fault>
     requires lawful { IsLawfulPiece run.old }
     requires standing { HasAtHand run.old Insn.ReturnA }
@@ -153,11 +165,13 @@ pub(crate) fn return_a(alloc: Global, run: &mut Run) -> Result<SmallStep, Fault>
         leave_program(run, Insn::ReturnA, value);
         return Ok(SmallStep::On);
     }
+    // Only the next bit of this number is 1.
     let number = 1 << (31 - taken as u32);
     if let Some(sense) = foresee(run, Test::AnyBit, Operand::Constant(number)) {
         take(run, Insn::ReturnA, sense)?;
         return Ok(SmallStep::On);
     }
+    // In a copy, as in `branch`.
     let mut asked = run.fork(alloc)?;
     let Some(bit) = push(alloc, &mut asked, Node::Const(number))? else {
         return Ok(SmallStep::Empty);

@@ -15,8 +15,8 @@ use sf_check::{Insn, Operand, Program, Skipped};
 use sf_dom::Known;
 use sf_insn::Test;
 
-/// How many instructions a test skips when it fails, if it asks whether A equals a number, and what is known of A says
-/// that A is another one. `None` otherwise.
+/// How many instructions `insn` skips, if it is a test that is known to fail: it asks whether A equals a number, and
+/// `known`, what is known of A, says that A is another one. `None` for any other instruction.
 fn failing_skips(insn: Insn, known: Known) -> Option<u8>
     ensures { IfSome result (λ n. IsFailing insn known n) }
 {
@@ -27,9 +27,10 @@ fn failing_skips(insn: Insn, known: Known) -> Option<u8>
     }
 }
 
-/// Skips tests that are known to fail, from `place` on. Each asks whether A equals a number, and stands where the one
-/// before it leads when it fails. If A has only one number, the program looks them up. If A may have several, none is
-/// skipped, and the caller looks at each instruction.
+/// Counts the tests in a row, from `place` on, that the program's tables show to fail, and gives the place behind them.
+/// Each asks whether A equals a number, and stands where the one before it leads when it fails. The tables are asked
+/// only if A has one number by `known`, what is known of A. If A may have several, the count is 0 and the place is
+/// `place`: the caller looks at each instruction. The caller's condition: `place` is a place of the program.
 fn skip_failing(program: &Program, place: usize, known: Known) -> Skipped
     requires { place < length program.now }
     ensures { AreFailing program.now known result.count place result.behind }
@@ -44,7 +45,9 @@ fn skip_failing(program: &Program, place: usize, known: Known) -> Skipped
 }
 
 /// All tests in a row, from the machine's place on, that are known to fail: each asks whether A equals a number, and
-/// stands where the one before it leads when it fails. `known` is what is known of A.
+/// stands where the one before it leads when it fails. The result says how many there are, and which place comes behind
+/// them. It says 0 and the machine's own place where there is none, also where the last program has returned. `known`
+/// is what is known of A.
 fn failing_chain(run: &Run, known: Known) -> Skipped
     requires lawful { IsLawfulPiece run.now }
     requires known { known ≡ known_at run.now.facts.known run.now.machine.a.0 }
@@ -60,6 +63,7 @@ fn failing_chain(run: &Run, known: Known) -> Skipped
         };
     };
     let code = program.insns();
+    // Without a first one there are no others, and the tables needn't be asked.
     if failing_skips(code[first], known).is_none() {
         return Skipped {
             count: 0,
@@ -70,6 +74,7 @@ fn failing_chain(run: &Run, known: Known) -> Skipped
         mut count,
         mut behind,
     } = skip_failing(program, first, known);
+    // Where A may have several numbers, the tests are gone through one by one.
     while let Some(skips) = failing_skips(code[behind], known) {
         count += 1;
         behind += 1 + skips as usize;
@@ -78,8 +83,8 @@ fn failing_chain(run: &Run, known: Known) -> Skipped
 }
 
 /// Goes on over the tests of A that come now and are known to fail, as most tests of a chain are. A false for each of
-/// them is added to the name, all at once, and what is known stays as it is. `Memory` where the name can't take so
-/// many.
+/// them is added to the name, all at once, and what is known stays as it is. `Memory` where the name would get 2^32
+/// falses in a row: the run is as it was then.
 pub(crate) fn take_failing(run: &mut Run) -> Result<(), Fault>
     requires { IsLawfulPiece run.old }
     ensures gone { IfOk result (λ _. HasGoneOn run.old run.new) }

@@ -19,7 +19,7 @@ use sf_sym::Cond;
 use std::alloc::Global;
 use std::sync::Arc;
 
-/// What became of a piece by one instruction or one truth value.
+/// What became of a run by one instruction, or by one truth value of it.
 #[derive(Drop)]
 pub(crate) enum SmallStep {
     /// The run goes on.
@@ -33,7 +33,7 @@ pub(crate) enum SmallStep {
     Empty,
 }
 
-/// What the facts leave of a truth value.
+/// Which of the two truth values of a condition the facts leave.
 #[derive(Drop)]
 pub(crate) enum Decision {
     /// Both: these are the run of the members on which it is false, and that of the members on which it is true.
@@ -51,8 +51,10 @@ fn skip_count(on_true: u8, on_false: u8, sense: bool) -> u8
     if sense { on_true } else { on_false }
 }
 
-/// The machine after this truth value of an instruction. A test skips instructions, and a return of A has one more bit.
-/// At a division by X the program returns 0 where X is 0; else the machine stays there, and can now divide.
+/// The machine after the truth value `sense` of an instruction. A test skips instructions, and a return of A has one
+/// more bit. At a division by X the truth value says whether X is 0: then the program returns 0; else the machine stays
+/// there, and can now divide. The caller's condition: `insn` stands at the machine's place, and the name hasn't all
+/// truth values that it meets.
 fn machine_after(run: &Run, insn: Insn, sense: bool) -> SymbolicMachine
     requires standing { HasAtHand run.now insn }
     requires asks { Asks run.now insn }
@@ -72,6 +74,7 @@ fn machine_after(run: &Run, insn: Insn, sense: bool) -> SymbolicMachine
             value: 2 * m.value + u32::from(sense),
             ..m
         },
+        // A division by X: no other instruction meets a truth value.
         _ => {
             if sense {
                 m.start_next(0)
@@ -82,7 +85,10 @@ fn machine_after(run: &Run, insn: Insn, sense: bool) -> SymbolicMachine
     }
 }
 
-/// Takes a truth value that is the same on every member: it is added to the name, and nothing is learnt from it.
+/// Takes a truth value that is the same on every member: it is added to the name, the machine goes on, and nothing is
+/// learnt from it. `Memory` where an allocation is refused, or where the name would get 2^32 falses in a row: the run
+/// is as it was then. The caller's condition: `insn` stands at the machine's place, and on every member the next truth
+/// value that it meets is `sense`.
 pub(crate) fn take(run: &mut Run, insn: Insn, sense: bool) -> Result<(), Fault>
     requires lawful { IsLawfulPiece run.old }
     requires standing { HasAtHand run.old insn }
@@ -91,6 +97,7 @@ pub(crate) fn take(run: &mut Run, insn: Insn, sense: bool) -> Result<(), Fault>
     ensures lawful { IfOk result (λ _. IsLawfulPiece run.new) }
     ensures rule { IfOk result (λ _. IsNamedOn run.old insn sense run.new) }
 {
+    // As `machine_after` does for a test, but only the place is written.
     if let Insn::Branch(_, _, on_true, on_false) = insn {
         let next = skip_count(on_true, on_false, sense);
         run.name.push(sense)?;
@@ -103,7 +110,9 @@ pub(crate) fn take(run: &mut Run, insn: Insn, sense: bool) -> Result<(), Fault>
     Ok(())
 }
 
-/// The run of the members on which the condition has this truth value.
+/// The run of the members on which the condition has the truth value `sense`. The name gets this truth value, the
+/// conditions get `cond` with it, and the machine goes on. `facts` are those that `child_facts` gives for it. `Memory`
+/// where an allocation is refused, or where the name would get 2^32 falses in a row.
 fn child(run: &Run, insn: Insn, cond: Cond, sense: bool, facts: Facts) -> Result<Run, Fault>
     requires lawful { IsLawfulPiece run.now }
     requires standing { HasAtHand run.now insn }
@@ -126,7 +135,8 @@ fn child(run: &Run, insn: Insn, cond: Cond, sense: bool, facts: Facts) -> Result
     })
 }
 
-/// The piece's facts, with what follows from this truth value of the condition; `None` where it contradicts them.
+/// The run's facts, with what follows from the truth value `sense` of the condition. `None` where it contradicts them:
+/// no member has it. `Memory` where an allocation is refused.
 fn child_facts(alloc: Global, run: &Run, cond: Cond, sense: bool) -> Result<Option<Facts>, Fault>
     requires lawful { IsLawfulPiece run.now }
     requires below { IsCondBelow (length run.now.pool) cond }
@@ -143,8 +153,9 @@ fn child_facts(alloc: Global, run: &Run, cond: Cond, sense: bool) -> Result<Opti
     Ok(learnt)
 }
 
-/// Learns the next truth value as false and as true, each from the same facts, and says which of them the facts leave.
-/// `asked` is the run that has nodes for both words of the condition.
+/// Learns the next truth value of `insn` as false and as true, each from the same facts, and says which of them the
+/// facts leave. `cond` is the condition that it is true, and `asked` is the run that has nodes for both words of
+/// `cond`; it stays as it is. `Memory` where an allocation is refused.
 pub(crate) fn decide(alloc: Global, asked: &Run, insn: Insn, cond: Cond) -> Result<Decision, Fault>
     requires lawful { IsLawfulPiece asked.now }
     requires standing { HasAtHand asked.now insn }
@@ -153,6 +164,7 @@ pub(crate) fn decide(alloc: Global, asked: &Run, insn: Insn, cond: Cond) -> Resu
     ensures rule { IfOk result (IsDecision (asked.now, cond) insn) }
 {
     let Some(on_false) = child_facts(alloc, asked, cond, false)? else {
+        // What was learnt isn't kept: by the rules an implied truth value adds nothing to the facts.
         let Some(_on_true) = child_facts(alloc, asked, cond, true)? else {
             return Ok(Decision::Neither);
         };
@@ -167,7 +179,9 @@ pub(crate) fn decide(alloc: Global, asked: &Run, insn: Insn, cond: Cond) -> Resu
 }
 
 /// Goes on as was decided. An implied truth value is added to the name and moves the machine; the pool, the conditions
-/// and the facts stay as they are.
+/// and the facts stay as they are. At a split the two runs are handed on. `run` itself stays as it is then, and also
+/// where there is no member. `Memory` as `take` has it: the run is as it was then. The caller's condition: `insn`
+/// stands at the machine's place of `run`, and the decision is right for it.
 pub(crate) fn carry_out(run: &mut Run, insn: Insn, decision: Decision) -> Result<SmallStep, Fault>
     requires lawful { IsLawfulPiece run.old }
     requires standing { HasAtHand run.old insn }

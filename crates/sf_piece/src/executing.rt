@@ -23,7 +23,8 @@ use sf_sym::{Node, NodeId};
 use std::alloc::Global;
 
 /// Runs one instruction, or takes one truth value of it. A test that is told also takes the tests behind it that are
-/// known to fail.
+/// known to fail. `Settled` where the last program has returned: no instruction is left. `Memory` where an allocation
+/// is refused; the caller then drops the run.
 pub(crate) fn execute(alloc: Global, run: &mut Run) -> Result<SmallStep, Fault>
     requires { IsLawfulPiece run.old }
     ensures step { IfOk result (IsSmallStep run.old run.new) }
@@ -35,6 +36,7 @@ pub(crate) fn execute(alloc: Global, run: &mut Run) -> Result<SmallStep, Fault>
     match insn {
         Insn::LoadWord(i) => set_a(alloc, run, insn, Node::Word(i)),
         Insn::LoadConstant(k) => set_a(alloc, run, insn, Node::Const(k)),
+        // An input is 64 bytes long.
         Insn::LoadLength => set_a(alloc, run, insn, Node::Const(64)),
         Insn::LoadXConstant(k) => set_x(alloc, run, insn, k),
         Insn::LoadXLength => set_x(alloc, run, insn, 64),
@@ -62,7 +64,10 @@ pub(crate) fn execute(alloc: Global, run: &mut Run) -> Result<SmallStep, Fault>
     }
 }
 
-/// Goes on by an instruction that puts a node in A.
+/// Puts a node in A, which is what `insn` does, and goes on to the next instruction. `Empty` where the facts can't take
+/// in the node. `Memory` where an allocation is refused. The caller's conditions: `insn` stands at the machine's place;
+/// where it divides by X, the name says already that X isn't 0; the node has the value that `insn` puts in A, and its
+/// operands are in the pool.
 pub(crate) fn set_a(
     alloc: Global,
     run: &mut Run,
@@ -93,7 +98,9 @@ pub(crate) fn set_a(
     }
 }
 
-/// Goes on by an instruction that puts a constant in X.
+/// Puts the constant `k` in X, which is what `insn` does, and goes on to the next instruction. `Empty` where the facts
+/// can't take in its node. `Memory` where an allocation is refused. The caller's condition: `insn` stands at the
+/// machine's place.
 fn set_x(alloc: Global, run: &mut Run, insn: Insn, k: u32) -> Result<SmallStep, Fault>
     requires lawful { IsLawfulPiece run.old }
     requires standing { HasAtHand run.old insn }
@@ -117,7 +124,8 @@ fn set_x(alloc: Global, run: &mut Run, insn: Insn, k: u32) -> Result<SmallStep, 
     }
 }
 
-/// Goes on by an instruction that moves words about, or jumps.
+/// Goes on by an instruction that moves words about, or jumps. The caller's condition: `insn` is one of these, and
+/// stands at the machine's place. A scratch word that it loads is set, since the program is lawful.
 fn move_on(run: &mut Run, insn: Insn)
     requires lawful { IsLawfulPiece run.old }
     requires standing { HasAtHand run.old insn }
@@ -158,7 +166,7 @@ fn move_on(run: &mut Run, insn: Insn)
     }
 }
 
-/// The machine with a scratch word set.
+/// The machine with scratch word `k`, 0 to 15, set to the node `w`.
 fn with_scratch(m: &SymbolicMachine, k: u8, w: NodeId) -> SymbolicMachine
     requires { k < length m.now.scratch }
     ensures { result ≡ record m.now { scratch = slice_set m.now.scratch k (Some w) } }
@@ -168,7 +176,7 @@ fn with_scratch(m: &SymbolicMachine, k: u8, w: NodeId) -> SymbolicMachine
     SymbolicMachine { scratch, ..*m }
 }
 
-/// The node of a scratch word that is set.
+/// The node of scratch word `k`. The caller's condition: this word is set.
 fn scratch(m: &SymbolicMachine, k: u8) -> NodeId
     requires { (w : ANodeId) × (slice_get m.now.scratch k ≡ Some (Some w)) }
     ensures { slice_get m.now.scratch k ≡ Some (Some result) }
@@ -179,7 +187,8 @@ fn scratch(m: &SymbolicMachine, k: u8) -> NodeId
     }
 }
 
-/// Goes on by an instruction that meets no truth value.
+/// Goes on by an instruction: its machine becomes `to`. The caller's condition: the name has all truth values that
+/// `insn` meets, if it meets any, and `to` is where it leads.
 fn go(run: &mut Run, insn: Insn, to: SymbolicMachine)
     requires lawful { IsLawfulPiece run.old }
     requires standing { HasAtHand run.old insn }
@@ -193,7 +202,8 @@ fn go(run: &mut Run, insn: Insn, to: SymbolicMachine)
     run.machine = to;
 }
 
-/// Goes on to the next program, after a return of this value.
+/// Goes on to the next program, after a return of this value, which is taken into the answer so far. The caller's
+/// condition: `insn` returns it, and stands at the machine's place; of a return of A all 32 bits are in the name.
 pub(crate) fn leave_program(run: &mut Run, insn: Insn, value: u32)
     requires lawful { IsLawfulPiece run.old }
     requires standing { HasAtHand run.old insn }

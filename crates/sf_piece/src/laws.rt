@@ -4,7 +4,8 @@ ghost use Rattle.sf_piece.specs.OneExecution.{IsExecutionOne};
 
 use sf_dom::rules_have_one_result;
 
-/// A stack has one execution tree: by the rules a piece has at most one step, and no two pieces have the same name.
+/// For the prover: a stack has one execution tree. By the rules a piece has at most one step, and no two pieces have
+/// the same name.
 pub fn execution_has_one_result()
     ensures { IsExecutionOne }
 {

@@ -119,7 +119,7 @@ impl Name {
     }
 }
 
-/// Adds this many falses.
+/// Adds this many falses at the end. `AllocError` where an allocation is refused.
 fn add_falses(values: &mut Vec<bool>, count: u32) -> Result<(), AllocError>
     ensures { OnOk result (values.new.items ≡ values.old.items ++ replicate count false) }
 {
@@ -128,7 +128,8 @@ fn add_falses(values: &mut Vec<bool>, count: u32) -> Result<(), AllocError>
     Ok(())
 }
 
-/// Adds the falses of each run, and the true that ends it.
+/// Adds, for each run in order, its falses and the true that ends it. `AllocError` where an allocation is refused: some
+/// runs may have been added then.
 fn add_runs(values: &mut Vec<bool>, runs: &Runs) -> Result<(), AllocError>
     ensures { OnOk result (values.new.items ≡ values.old.items ++ spelled runs.now 0) }
 {

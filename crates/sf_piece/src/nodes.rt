@@ -15,8 +15,9 @@ use sf_check::Operand;
 use sf_sym::{Node, NodeId};
 use std::alloc::Global;
 
-/// Puts a node in the pool, and takes it into the facts. `None` where what is known of it contradicts: the piece has no
-/// member then.
+/// Puts a node in the pool, unless an equal one is there, takes it into the facts, and gives its place. `None` where
+/// what is known of it contradicts: the piece has no member then. `Memory` where an allocation is refused. The caller's
+/// conditions: the node's operands are in the pool; on a plain stack it is a word of the input or a constant.
 pub(crate) fn push(alloc: Global, run: &mut Run, node: Node) -> Result<Option<NodeId>, Fault>
     requires lawful { IsLawfulPiece run.old }
     requires below { OperandsBelow (length run.old.pool) node }
@@ -32,7 +33,8 @@ pub(crate) fn push(alloc: Global, run: &mut Run, node: Node) -> Result<Option<No
     Ok(Some(id))
 }
 
-/// The node of the second word of an operation or a test. None where its facts contradict: there is no member then.
+/// The node of the second word of an operation or a test: a constant is put in the pool, and X has a node already.
+/// `None` where the facts of a constant contradict: there is no member then. `Memory` where an allocation is refused.
 pub(crate) fn operand(alloc: Global, run: &mut Run, other: Operand) -> Result<Option<NodeId>, Fault>
     requires { IsLawfulPiece run.old }
     ensures made { IfOk result (λ o. MatchOption o (HasNoMember run.old)

@@ -18,15 +18,17 @@ use std::sync::Arc;
 pub(crate) type Conditions = SharedList<Cond, 1>;
 
 /// The run behind a piece: what is in its name and its conditions so far, where the machine stands, and what is known
-/// of its words. It is changed in place. Its type doesn't say that it is lawful: functions that need this ask for it,
-/// and a piece keeps a lawful one.
+/// of its words. It is changed in place. It is lawful where these parts are right together. Its type doesn't say so:
+/// functions that need this ask for it, and a piece keeps a lawful one.
 #[derive(Drop)]
 pub struct Run {
     pub(crate) stack: Arc<Stack>,
     pub(crate) name: Name,
+    // The symbolic words, among them those of the machine and of the conditions.
     pub(crate) pool: Pool,
     pub(crate) conditions: Conditions,
     pub(crate) machine: SymbolicMachine,
+    // What is known of the pool's nodes on every member.
     pub(crate) facts: Facts,
 }
 
@@ -73,6 +75,7 @@ impl Run {
     {
         let programs = self.stack.programs();
         if self.machine.program < programs.len() {
+            // The newest program is the last one, and runs first.
             let program = &programs[programs.len() - 1 - self.machine.program];
             Some(program)
         } else {
