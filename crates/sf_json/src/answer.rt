@@ -10,7 +10,7 @@ use sf_policy::push_action;
 use sf_run::{Action, Answer};
 use std::alloc::{AllocError, Global};
 
-/// The name of an action.
+/// The name of an action, as `push_action` writes it. An error where an allocation is refused.
 fn name_of(alloc: Global, action: Action) -> Result<String, AllocError>
     ensures { IfOk result (λ text. string_bytes text ≡ action_text action) }
 {
@@ -19,7 +19,8 @@ fn name_of(alloc: Global, action: Action) -> Result<String, AllocError>
     Ok(text)
 }
 
-/// An action's name, and the data that goes with it. An error where an allocation is refused.
+/// The object with an action's name at `action`, and with `info`, the number that goes with the action, at `data`. An
+/// error where an allocation is refused.
 pub fn action_document(alloc: Global, action: Action, info: u32) -> Result<Document, AllocError>
     ensures { IfOk result (λ d. view d ≡ action_document action info) }
 {
@@ -30,7 +31,8 @@ pub fn action_document(alloc: Global, action: Action, info: u32) -> Result<Docum
     Ok(Document::object(fields))
 }
 
-/// An answer: the action's name, and the data. An error where an allocation is refused.
+/// An answer as the object that `action_document` makes of its action and its number. An error where an allocation is
+/// refused.
 pub fn answer_document(alloc: Global, answer: Answer) -> Result<Document, AllocError>
     ensures { IfOk result (λ d. view d ≡ answer_document answer) }
 {

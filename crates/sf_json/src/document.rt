@@ -10,7 +10,7 @@ use serde_json::{Map, Value, put};
 use std::alloc::{AllocError, Global};
 use std::marker::Model;
 
-/// A JSON value that has no float, so that its text is known.
+/// A JSON value that has no float, so that contracts can say what its text is.
 #[derive(Drop)]
 pub struct Document {
     value: Value,
@@ -34,7 +34,7 @@ impl Model for Document {
 }
 
 impl Document {
-    /// The value.
+    /// The value. For the prover: it has no float.
     pub(crate) fn value(&self) -> &Value
         ensures same { view result.now ≡ view self.now }
         ensures no_float { has_float (view self.now) ≡ false }
@@ -67,7 +67,7 @@ impl Document {
         }
     }
 
-    /// How many of something there are.
+    /// A number that says how many of something there are.
     pub fn count(many: usize) -> Document
         ensures { view result ≡ number (unsigned many) }
     {
@@ -92,7 +92,7 @@ impl Document {
         Ok(Document::text(String::from_str(alloc, text)?))
     }
 
-    /// A copy. An error where an allocation is refused.
+    /// A copy of this document. An error where an allocation is refused.
     pub fn try_clone(&self) -> Result<Document, AllocError>
         ensures { IfOk result (λ d. view d ≡ view self.now) }
     {
@@ -120,7 +120,7 @@ impl Document {
     }
 }
 
-/// The values of documents. An error where an allocation is refused.
+/// The values of documents, in the same order. An error where an allocation is refused.
 #[tactic(auto, using(crate::proofs::DocumentLemmas::no_float_behind))]
 fn values_of(alloc: Global, documents: Vec<Document>) -> Result<Vec<Value>, AllocError>
     ensures same { IfOk result (λ vs. vs.items ≡ documents.items) }
@@ -136,7 +136,9 @@ fn values_of(alloc: Global, documents: Vec<Document>) -> Result<Vec<Value>, Allo
 /// The fields of an object, to which more may be added.
 #[derive(Drop)]
 pub struct Fields {
+    /// Where further fields are allocated.
     alloc: Global,
+    /// The values by their keys. They are written in the order of the keys.
     map: Map<String, Value>,
 }
 

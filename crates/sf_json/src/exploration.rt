@@ -10,8 +10,8 @@ use sf_book::{Counts, Settled};
 use sf_check::{Program, path_length};
 use std::alloc::{AllocError, Global};
 
-/// How many programs there are, and the length of the path through them. The caller's condition: at most 64 programs.
-/// An error where an allocation is refused.
+/// The object with how many programs there are (`filters`), and the length of the path through them (`path`). The
+/// caller's condition: at most 64 programs. An error where an allocation is refused.
 pub fn sizes_document(alloc: Global, programs: &[Program]) -> Result<Document, AllocError>
     requires { length programs.now ≤ 64 }
     ensures { IfOk result (λ d. view d ≡ sizes_document programs.now) }
@@ -24,15 +24,16 @@ pub fn sizes_document(alloc: Global, programs: &[Program]) -> Result<Document, A
     Ok(Document::object(fields))
 }
 
-/// How many programs the stack of an exploration has, and the length of the path through them. An error where an
-/// allocation is refused.
+/// The same for the programs of the stack of an exploration, as `sizes_document` makes it. An error where an allocation
+/// is refused.
 pub fn stack_document(alloc: Global, exploration: &Settled) -> Result<Document, AllocError>
     ensures { IfOk result (λ d. view d ≡ sizes_document exploration.now.stack) }
 {
     sizes_document(alloc, exploration.stack().programs())
 }
 
-/// Counts as JSON.
+/// The object with these counts: of regions, outstanding pieces (`open`), emptied names, splits and commits. An error
+/// where an allocation is refused.
 fn document_of_counts(alloc: Global, counts: Counts) -> Result<Document, AllocError>
     ensures { IfOk result (λ d. view d ≡ counts_document counts) }
 {
@@ -45,7 +46,7 @@ fn document_of_counts(alloc: Global, counts: Counts) -> Result<Document, AllocEr
     Ok(Document::object(fields))
 }
 
-/// The counts of an exploration. An error where an allocation is refused.
+/// The object with the counts of an exploration. An error where an allocation is refused.
 pub fn counts_document(alloc: Global, exploration: &Settled) -> Result<Document, AllocError>
     ensures { IfOk result (λ d. view d ≡ counts_document (counts_of exploration.now)) }
 {

@@ -20,7 +20,8 @@ pub fn word_document(alloc: Global, number: u32) -> Result<Document, AllocError>
     Ok(Document::text(text))
 }
 
-/// A number of 64 bits from its halves, as `0x` and sixteen hexadecimal digits.
+/// A number of 64 bits from its halves, as a text: `0x` and sixteen hexadecimal digits. An error where an allocation is
+/// refused.
 fn long_word(alloc: Global, low: u32, high: u32) -> Result<Document, AllocError>
     ensures { IfOk result (λ d. view d ≡ long_word (whole_of low high)) }
 {
@@ -29,7 +30,8 @@ fn long_word(alloc: Global, low: u32, high: u32) -> Result<Document, AllocError>
     Ok(Document::text(text))
 }
 
-/// The input as a call in words; `null` where no set of names has it.
+/// An input as a call in words, as `push_call_words` writes it; the document `null` where no set of names has the call.
+/// An error where an allocation is refused.
 fn call_document(alloc: Global, names: &[Names], input: &Input) -> Result<Document, AllocError>
     ensures { IfOk result (λ d. view d ≡ call_document names.now input.now) }
 {
@@ -41,7 +43,7 @@ fn call_document(alloc: Global, names: &[Names], input: &Input) -> Result<Docume
     Ok(Document::text(text))
 }
 
-/// The six arguments of an input.
+/// The array of the six arguments of an input, each as `long_word` writes it. An error where an allocation is refused.
 fn arguments(alloc: Global, input: &Input) -> Result<Document, AllocError>
     ensures { IfOk result (λ d. view d ≡ list_of (map long_word (arguments_in input.now))) }
 {
@@ -57,8 +59,9 @@ fn arguments(alloc: Global, input: &Input) -> Result<Document, AllocError>
     Document::array(alloc, arguments)
 }
 
-/// An input: its call in words where one of the sets of names has it, its words by their meaning, and its 64 bytes. An
-/// error where an allocation is refused.
+/// An input as an object: its 64 bytes in hexadecimal digits, the number of its call, its architecture, its instruction
+/// pointer and its arguments, and its call in words, or `null` where none of the sets of names has the call. An error
+/// where an allocation is refused.
 pub fn input_document(alloc: Global, names: &[Names], input: &Input) -> Result<Document, AllocError>
     ensures { IfOk result (λ d. view d ≡ input_document names.now input.now) }
 {

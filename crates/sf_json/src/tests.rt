@@ -21,7 +21,7 @@ const NAMED: &str =
     \"call\":\"x86_64 kill(arg0 = 0x1, arg1 = 0x1000000FF)\",\
     \"instruction_pointer\":\"0x0000000000000000\",\"nr\":62}\n";
 
-/// The sets of a file; none where it is refused.
+/// The sets of a file of names; an empty list where it is refused.
 fn sets_of(alloc: Global, text: &str) -> Vec<Names> {
     match read_names(alloc, text) {
         Ok(sets) => sets,
@@ -29,7 +29,7 @@ fn sets_of(alloc: Global, text: &str) -> Vec<Names> {
     }
 }
 
-/// Whether a document is written so.
+/// Whether a document is written as this text.
 fn is_written(alloc: Global, document: &Document, text: &str) -> Result<bool, Fail> {
     let mut out: Vec<u8> = Vec::new(alloc);
     write_document(alloc, document, &mut out)?;

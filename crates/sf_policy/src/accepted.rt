@@ -9,7 +9,7 @@ use crate::fault::Fault;
 use sf_ask::Question;
 use std::alloc::{AllocError, Global};
 
-/// Whether a part of a line begins a comment.
+/// Whether a part of a line begins a comment: its first byte is `#`.
 fn is_comment(part: &str) -> bool
     ensures { result ≡ is_comment part.now }
 {
@@ -23,7 +23,8 @@ fn lines_of<'a>(alloc: Global, text: &'a str) -> Result<Vec<&'a str>, AllocError
     text.lines().collect(alloc)
 }
 
-/// The words of a line before its comment. An error where an allocation is refused.
+/// The words of a line before its comment: what stands between spaces, without empty parts. An error where an
+/// allocation is refused.
 fn words_of_line<'a>(alloc: Global, line: &'a str) -> Result<Vec<&'a str>, AllocError>
     ensures { IfOk result (λ v. map (λ t. t.now) v.items ≡ words_of_line line.now) }
 {
@@ -33,7 +34,7 @@ fn words_of_line<'a>(alloc: Global, line: &'a str) -> Result<Vec<&'a str>, Alloc
         .collect(alloc)
 }
 
-/// Whether just one of the questions has this name.
+/// Whether exactly one of the questions has this name.
 fn is_name_once(questions: &[Question], name: &str) -> bool
     ensures { result ≡ is_name_once questions.now name.now }
 {
@@ -44,8 +45,8 @@ fn is_name_once(questions: &[Question], name: &str) -> bool
 /// The names of the questions that may be allowed, by the text of their file: each line has one name or none, and a `#`
 /// at its beginning or after a space begins a comment.
 ///
-/// `Accepted` at the first line that has more than one word, or a word that isn't the name of just one of the
-/// questions; `Memory` where an allocation is refused.
+/// `Accepted`, with the number of the line from 1, at the first line that has more than one word, or a word that isn't
+/// the name of exactly one of the questions; `Memory` where an allocation is refused.
 pub fn read_accepted(
     alloc: Global,
     text: &str,

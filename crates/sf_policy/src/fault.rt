@@ -85,7 +85,8 @@ pub enum Fault {
     /// A name of a call or of a set of calls that no file of names has.
     #[error("44 Name")]
     UnknownName,
-    /// A line of the file of questions that may be allowed names no question, or several. Lines are numbered from 1.
+    /// A line of the file of questions that may be allowed has a word that isn't the name of exactly one question, or
+    /// more than one word. Lines are numbered from 1.
     #[error("44 Name line {line}")]
     Accepted { line: usize },
     /// A profile is refused.
@@ -155,6 +156,7 @@ impl<T: Drop> From<AllocFailed<T>> for Fault {
 impl From<sf_run::Fault> for Fault {
     ghost from_gives = { λ _ e. e ≡ Memory };
 
+    /// `Memory`: the only fault of a run is refused memory.
     fn from(_e: sf_run::Fault) -> Fault {
         Fault::Memory
     }
@@ -165,6 +167,8 @@ impl From<sf_names::Fault> for Fault {
 
     ghost from_gives = { λ e f. f ≡ of_names e };
 
+    /// The same fault. `NamesKey` and `NamesRange` have other names, since `Key` and `Range` have the number of a
+    /// question.
     fn from(e: sf_names::Fault) -> Fault {
         match e {
             sf_names::Fault::Syntax => Fault::Syntax,
@@ -180,6 +184,7 @@ impl From<sf_profile::Fault> for Fault {
 
     ghost from_gives = { λ e f. f ≡ of_profile e };
 
+    /// `Memory` for refused memory; any other fault is kept whole as `Profile`.
     fn from(e: sf_profile::Fault) -> Fault {
         match e {
             sf_profile::Fault::Memory => Fault::Memory,

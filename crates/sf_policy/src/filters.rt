@@ -10,7 +10,7 @@ use sf_check::{MOST_PROGRAMS, Program, Stack, check};
 use sf_insn::decode;
 use std::alloc::Global;
 
-/// A fault of the bytes of a filter, with the filter's number, from 1.
+/// A fault of the bytes of a filter, with the filter's number, from 1. `Memory` has no number.
 fn fault_of_decoding(filter: usize, fault: sf_insn::Fault) -> Fault
     ensures { result ≡ decode_fault filter fault }
 {
@@ -23,7 +23,7 @@ fn fault_of_decoding(filter: usize, fault: sf_insn::Fault) -> Fault
 }
 
 /// The fault of a filter's program, with the filter's number, from 1. A fault of the whole stack (`NoFilter`,
-/// `TooMany`, `PathLength`) has no number.
+/// `TooMany`, `PathLength`) and `Memory` have no number: for them `filter` plays no part.
 fn fault_of_checking(filter: usize, fault: sf_check::Fault) -> Fault
     ensures { result ≡ check_fault filter fault }
 {
@@ -54,7 +54,8 @@ fn fault_of_checking(filter: usize, fault: sf_check::Fault) -> Fault
     }
 }
 
-/// The program that the bytes of a filter spell. `filter` is the filter's number, from 1, in the fault.
+/// The program that the bytes of a filter spell. `filter` is the filter's number, from 1, for the fault. The refusals
+/// are those of the bytes, and then those of the instructions; `Memory` can come anywhere.
 fn program_of(alloc: Global, filter: usize, bytes: &[u8]) -> Result<Program, Fault>
     ensures accepted { IfOk result (SpellsProgram bytes.now) }
     ensures refused { IfErr result (λ e. (e ≡ Fault.Memory) ⊎ IsRefusalOf filter bytes.now e) }
@@ -63,7 +64,8 @@ fn program_of(alloc: Global, filter: usize, bytes: &[u8]) -> Result<Program, Fau
     check(alloc, &raws).map_err(|fault| fault_of_checking(filter, fault))
 }
 
-/// The programs that the filter files spell, in the same order.
+/// The programs that the filter files spell, in the same order. The refusal is that of the first file that is refused,
+/// or `Memory` where an allocation is refused. The caller's condition: at most 64 files.
 fn programs_of(alloc: Global, filters: &[Vec<u8>]) -> Result<Vec<Program>, Fault>
     requires { length filters.now ≤ 64 }
     ensures accepted { IfOk result (λ v. SpellPrograms (map (λ f. f.items) filters.now) v.items) }
@@ -95,5 +97,6 @@ pub fn stack_of(alloc: Global, filters: &[Vec<u8>]) -> Result<Stack, Fault>
         return Err(Fault::TooMany);
     }
     let programs = programs_of(alloc, filters)?;
+    // Only a fault of the whole stack is left, which has no number of a filter.
     Stack::of(programs).map_err(|fault| fault_of_checking(filters.len(), fault))
 }

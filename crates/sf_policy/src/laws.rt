@@ -8,7 +8,7 @@ ghost use Rattle.sf_policy.specs.Filters.{SpellPrograms, SpellStack, IsFirstRefu
 use sf_check::laws::{a_fault_spells_no_lawful_program, one_first_fault, one_program_of_a_file};
 use sf_insn::laws::one_spelling;
 
-/// Filter files spell at most one list of lawful programs.
+/// A law for the prover: filter files spell at most one list of lawful programs.
 #[tactic(auto, using(crate::proofs::RefusalLemmas::same_programs))]
 pub fn one_stack()
     ensures { (files : List (List ℕ)) (a b : List (List Insn)) →
@@ -17,7 +17,8 @@ pub fn one_stack()
     one_program_of_a_file();
 }
 
-/// Filter files with a first refusal spell no lawful stack, so `stack_of` accepts exactly those that spell one.
+/// A law for the prover: filter files with a first refusal spell no lawful stack, so `stack_of` accepts exactly those
+/// files that spell one.
 #[tactic(auto, using(crate::proofs::RefusalLemmas::refused_no_stack))]
 pub fn a_refusal_spells_no_stack()
     ensures { (files : List (List ℕ)) (e : Fault) (programs : List (List Insn)) →
@@ -28,7 +29,7 @@ pub fn a_refusal_spells_no_stack()
     a_fault_spells_no_lawful_program();
 }
 
-/// Filter files have at most one first refusal, so `stack_of` answers the only one.
+/// A law for the prover: filter files have at most one first refusal, so `stack_of` answers the only one.
 #[tactic(auto, using(crate::proofs::OneRefusal::same_refusal))]
 pub fn one_refusal()
     ensures { (files : List (List ℕ)) (e f : Fault) → IsFirstRefusal files e

@@ -33,7 +33,8 @@ enum Version {
     Two,
 }
 
-/// The version that a policy names; none where it names no known one.
+/// The version that a policy names at its key `version`; `None` where the key is missing or has another value than 1 or
+/// 2.
 fn version_in(table: &Table) -> Option<Version>
     ensures { result ≡ version_of (number_at (codes "version") (table_view table.now)) }
 {
@@ -51,7 +52,8 @@ fn are_tables(items: &[Value]) -> bool
     items.iter().all(|value| value.is_table())
 }
 
-/// The values of an array of tables; none where the value is no array, or one of these is no table.
+/// The items of a value that is an array of tables; `None` where the value is no array, or one of the items is no
+/// table.
 #[tactic(auto, using(crate::proofs::TreeLemmas::tables_view, crate::proofs::TreeLemmas::no_tables_view))]
 fn tables_in(value: &Value) -> Option<&[Value]>
     ensures { option_map (λ vs. map (λ v. table_or_empty (view v)) vs.now) result

@@ -19,7 +19,8 @@ pub fn hex_of(alloc: Global, input: &Input) -> Result<String, AllocError>
     hex::encode(alloc, &bytes)
 }
 
-/// Adds the line of an exploration's counts. `AllocError` where an allocation is refused.
+/// Adds the line of an exploration's counts: how many regions, outstanding pieces (`open`), emptied names, splits and
+/// commits there are. `AllocError` where an allocation is refused.
 pub fn push_counts(text: &mut String, counts: Counts) -> Result<(), AllocError>
     ensures { OnOk result (string_bytes text.new ≡ string_bytes text.old ++ counts_line counts) }
 {

@@ -13,7 +13,7 @@ use crate::settings::Settings;
 use crate::tree::{at, items_at, text_of};
 use serde_json::Value;
 
-/// Whether one of the values is this text.
+/// Whether at least one of the values is this text. A value that is no text counts as the empty one.
 fn is_text_among(items: &[Value], text: &str) -> bool
     ensures { result ≡ list_any (λ v. bytes_eq text.now (text_of (view v))) items.now }
 {
@@ -27,7 +27,7 @@ fn has_text(items: &[Value], text: &str) -> bool
     is_text_among(items, text)
 }
 
-/// Whether the machine is one of those that a condition names.
+/// Whether a condition, which is the value of a rule's `includes` or `excludes`, names the machine among its `arches`.
 fn names_machine(settings: &Settings, value: &Value) -> bool
     ensures { result ≡ names_machine settings.now (view value.now) }
 {
@@ -37,14 +37,14 @@ fn names_machine(settings: &Settings, value: &Value) -> bool
     )
 }
 
-/// Whether a condition names no machine.
+/// Whether a condition names no machine: its `arches` are absent or empty.
 fn names_none(value: &Value) -> bool
     ensures { result ≡ is_none (texts_at (codes "arches") (view value.now)) }
 {
     items_at(value, "arches").is_empty()
 }
 
-/// Whether the container has all capabilities that values name.
+/// Whether the container has all capabilities that values name. True where there are no values.
 fn has_each_cap(settings: &Settings, items: &[Value]) -> bool
     ensures { result ≡ list_all (λ v. has_cap settings.now (text_of (view v))) items.now }
 {
@@ -58,15 +58,14 @@ fn has_caps(settings: &Settings, items: &[Value]) -> bool
     has_each_cap(settings, items)
 }
 
-/// Whether the container has one of the capabilities that values name.
+/// Whether the container has at least one of the capabilities that values name.
 fn has_some_cap(settings: &Settings, items: &[Value]) -> bool
     ensures { result ≡ list_any (λ v. has_cap settings.now (text_of (view v))) items.now }
 {
     items.iter().any(|value| settings.has_cap(text_of(value)))
 }
 
-/// Whether the container has one of the capabilities that values name. For the prover: its clause speaks of their
-/// texts.
+/// The same as `has_some_cap`. For the prover: its clause speaks of the texts of the values, as the definitions do.
 fn has_a_cap(settings: &Settings, items: &[Value]) -> bool
     ensures { result ≡ list_any (has_cap settings.now) (map text_of (map view items.now)) }
 {
@@ -83,7 +82,8 @@ fn is_new_enough(kernel: Option<Version>, least: Option<Version>) -> bool
     }
 }
 
-/// Whether the kernel is new enough for a condition; `absent` where that asks for none.
+/// Whether the kernel's version is the `minKernel` of a condition, or newer; `absent` where the condition has no
+/// `minKernel`. False where the kernel's version isn't known.
 fn fits_kernel(absent: bool, settings: &Settings, value: &Value) -> bool
     ensures { result ≡ fits_kernel absent settings.now
         (at (codes "minKernel") (view value.now)) }
@@ -94,8 +94,8 @@ fn fits_kernel(absent: bool, settings: &Settings, value: &Value) -> bool
     }
 }
 
-/// Whether a rule's `includes` holds: the machine is among those that it names, if it names some; the container has all
-/// its capabilities; and the kernel is new enough. It holds where it is absent.
+/// Whether the `includes` of the rule `value` holds: the machine is among those that `includes` names, if it names
+/// some; the container has all its capabilities; and the kernel is new enough. An absent `includes` holds.
 fn is_included(settings: &Settings, value: &Value) -> bool
     ensures { result ≡ is_included settings.now (at (codes "includes") (view value.now)) }
 {
@@ -107,8 +107,8 @@ fn is_included(settings: &Settings, value: &Value) -> bool
         && fits_kernel(true, settings, condition)
 }
 
-/// Whether a rule's `excludes` holds: it names the machine, or the container has one of its capabilities, or the kernel
-/// is as new as its `minKernel`. It doesn't hold where it is absent.
+/// Whether the `excludes` of the rule `value` holds: it names the machine, or the container has one of its
+/// capabilities, or the kernel's version is its `minKernel` or newer. An absent `excludes` doesn't hold.
 fn is_excluded(settings: &Settings, value: &Value) -> bool
     ensures { result ≡ is_excluded settings.now (at (codes "excludes") (view value.now)) }
 {
@@ -120,7 +120,8 @@ fn is_excluded(settings: &Settings, value: &Value) -> bool
         || fits_kernel(false, settings, condition)
 }
 
-/// Whether a rule applies to the machine, the container and the kernel.
+/// Whether the rule `value` applies to the machine, the container and the kernel: its `includes` holds, and its
+/// `excludes` doesn't.
 pub(crate) fn applies(settings: &Settings, value: &Value) -> bool
     ensures { result ≡ applies settings.now (view value.now) }
 {

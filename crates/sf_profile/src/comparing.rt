@@ -16,9 +16,9 @@ struct Asked {
     word: u8,
     /// The value that the argument is compared with; in a test under a mask, the mask.
     value: u64,
-    /// How many instructions are skipped where the test holds.
+    /// How many instructions behind the test's code are skipped where the test holds.
     on_true: usize,
-    /// How many are skipped where it doesn't.
+    /// How many of them are skipped where it doesn't.
     on_false: usize,
     ghost near: { (word < 15) × (on_true < 2 ^ 63) × (on_false < 2 ^ 63) },
 }
@@ -52,7 +52,8 @@ pub(crate) fn word_of(argument: Argument) -> u8
     }
 }
 
-/// Adds a test of 64 bits for equality.
+/// Adds a test of 64 bits for equality: of the high halves, and then of the low ones. What a branch adds to a skip
+/// (`+ 2`) are the instructions of this code that are left behind it. An error where an allocation is refused.
 fn push_equal(code: &mut Vec<Instruction>, asked: Asked) -> Result<(), AllocError>
     ensures { OnOk result (code.new.items ≡ code.old.items
         ++ equal_code asked.word asked.value asked.on_true asked.on_false) }
@@ -65,7 +66,9 @@ fn push_equal(code: &mut Vec<Instruction>, asked: Asked) -> Result<(), AllocErro
     ])
 }
 
-/// Adds a test of 64 bits for an order.
+/// Adds a test of 64 bits for an order: greater high halves decide it, and so do smaller ones; where they are equal,
+/// the low halves are tested. `test` is `Greater` or `GreaterOrEqual`. What a branch adds to a skip (`+ 3`, `+ 2`) are
+/// the instructions of this code that are left behind it. An error where an allocation is refused.
 fn push_order(code: &mut Vec<Instruction>, test: Test, asked: Asked) -> Result<(), AllocError>
     ensures { OnOk result (code.new.items ≡ code.old.items
         ++ order_code test asked.word asked.value asked.on_true asked.on_false) }
@@ -79,7 +82,7 @@ fn push_order(code: &mut Vec<Instruction>, test: Test, asked: Asked) -> Result<(
     ])
 }
 
-/// Adds a test of 32 bits.
+/// Adds a test of 32 bits: of the low halves. An error where an allocation is refused.
 fn push_narrow(code: &mut Vec<Instruction>, test: Test, asked: Asked) -> Result<(), AllocError>
     ensures { OnOk result (code.new.items ≡ code.old.items
         ++ test_code false test asked.word asked.value asked.on_true asked.on_false) }
@@ -90,7 +93,8 @@ fn push_narrow(code: &mut Vec<Instruction>, test: Test, asked: Asked) -> Result<
     ])
 }
 
-/// Adds a test of 64 bits.
+/// Adds a test of 64 bits. `test` is never `AnyBit`: no comparison asks for a common bit. An error where an allocation
+/// is refused.
 fn push_wide(code: &mut Vec<Instruction>, test: Test, asked: Asked) -> Result<(), AllocError>
     ensures { OnOk result (code.new.items ≡ code.old.items
         ++ wide_code test asked.word asked.value asked.on_true asked.on_false) }
@@ -101,7 +105,7 @@ fn push_wide(code: &mut Vec<Instruction>, test: Test, asked: Asked) -> Result<()
     }
 }
 
-/// Adds a test of 64 bits, or of 32.
+/// Adds a test of 64 bits if `wide`, and else of the low 32. An error where an allocation is refused.
 fn push_test(
     code: &mut Vec<Instruction>,
     wide: bool,
@@ -118,8 +122,9 @@ fn push_test(
     }
 }
 
-/// Adds a test whether an argument of 64 bits has the bits of `value_two` under the mask `asked.value`. Where it holds,
-/// nothing is skipped: `asked.on_true` isn't used.
+/// Adds a test whether an argument of 64 bits has the bits of `value_two` under the mask `asked.value`. Where the test
+/// holds, nothing is skipped: `asked.on_true` isn't used. What the first branch adds to its skip (`+ 3`) are the
+/// instructions of this code that are left behind it. An error where an allocation is refused.
 fn push_wide_mask(
     code: &mut Vec<Instruction>,
     asked: Asked,
@@ -144,8 +149,8 @@ fn push_wide_mask(
     ])
 }
 
-/// Adds a test whether an argument of 32 bits has the bits of `value_two` under the mask `asked.value`. Where it holds,
-/// nothing is skipped: `asked.on_true` isn't used.
+/// Adds a test whether an argument of 32 bits has the bits of `value_two` under the mask `asked.value`. Where the test
+/// holds, nothing is skipped: `asked.on_true` isn't used. An error where an allocation is refused.
 fn push_narrow_mask(
     code: &mut Vec<Instruction>,
     asked: Asked,
@@ -162,7 +167,7 @@ fn push_narrow_mask(
     ])
 }
 
-/// Adds a test under a mask of 64 bits, or of 32.
+/// Adds a test under a mask: of 64 bits if `wide`, and else of the low 32. An error where an allocation is refused.
 fn push_mask(
     code: &mut Vec<Instruction>,
     wide: bool,
@@ -179,7 +184,10 @@ fn push_mask(
     }
 }
 
-/// Adds a comparison. Where it holds, what follows comes next; where it doesn't, `after` instructions are skipped.
+/// Adds the code of a comparison. Where the comparison holds, the run goes on behind this code; where it doesn't,
+/// `after` instructions behind this code are skipped. There is no instruction that tests for `NotEqual`, `Less` or
+/// `LessOrEqual`: for these the contrary is tested, and the two skips change places. An error where an allocation is
+/// refused. The caller's condition: `after` is below 2^63.
 fn push_comparison(
     code: &mut Vec<Instruction>,
     wide: bool,
@@ -215,7 +223,9 @@ fn push_comparison(
     }
 }
 
-/// The code of a rule's comparisons. Where one doesn't hold, the others and one instruction more are skipped.
+/// The code of a rule's comparisons. Where one doesn't hold, those behind it are skipped, and one instruction more: the
+/// return that the caller puts behind the comparisons. It calls itself for the comparisons behind the first, since
+/// their length says how far the first one skips. An error where an allocation is refused.
 pub(crate) fn comparisons_code(
     alloc: Global,
     wide: bool,

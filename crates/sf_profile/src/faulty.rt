@@ -11,7 +11,7 @@ use crate::tree::{at, has_text, is_among, items_at};
 use serde_json::{Map, Value};
 use std::alloc::{AllocError, Global};
 
-/// The first key of an object that isn't among these.
+/// The first key of an object that isn't among the known ones; `None` where all are.
 fn first_unknown<'a>(object: &'a Map<String, Value>, known: &[&str]) -> Option<&'a str> {
     for key in object.keys() {
         if !is_among(key.as_str(), known) {
@@ -21,7 +21,7 @@ fn first_unknown<'a>(object: &'a Map<String, Value>, known: &[&str]) -> Option<&
     None
 }
 
-/// The first key of a value that isn't among these.
+/// The first key of a value that isn't among the known ones; `None` where all are, or the value is no object.
 fn unknown_key<'a>(value: &'a Value, known: &[&str]) -> Option<&'a str> {
     match value {
         Value::Object(object) => first_unknown(object, known),
@@ -29,7 +29,9 @@ fn unknown_key<'a>(value: &'a Value, known: &[&str]) -> Option<&'a str> {
     }
 }
 
-/// Which key of an action is missing or wrongly given: its own, that of its number, or that of the number's name.
+/// Which key of an action is missing or wrongly given, where `is_action` has said that one is. `action`, `number` and
+/// `name` are the three keys: that of the action, of its error number, and of the number's name. The last one is at
+/// fault where it stands without a number.
 fn action_key<'a>(value: &Value, action: &'a str, number: &'a str, name: &'a str) -> &'a str {
     if !has_text(value, action) {
         return action;
@@ -42,6 +44,8 @@ fn action_key<'a>(value: &Value, action: &'a str, number: &'a str, name: &'a str
 }
 
 /// The key for which a profile is refused with `Key`: the first one found that is unknown, missing or wrongly given.
+/// Where `archMap` and `architectures` are both there, it is `architectures`. The caller has seen that `is_profile`
+/// fails.
 fn key_of_head(value: &Value) -> &str {
     if let Some(key) = unknown_key(value, PROFILE_KEYS.as_slice()) {
         return key;
@@ -60,6 +64,7 @@ fn key_of_head(value: &Value) -> &str {
 }
 
 /// The key for which a rule is refused with `RuleKey`: the first one found that is unknown, missing or wrongly given.
+/// The caller has seen that `is_rule` fails.
 fn key_of_rule<'a>(settings: &Settings, value: &'a Value) -> &'a str {
     if let Some(key) = unknown_key(value, RULE_KEYS.as_slice()) {
         return key;
@@ -84,8 +89,8 @@ fn key_of_rule<'a>(settings: &Settings, value: &'a Value) -> &'a str {
     }
 }
 
-/// The key for which a profile is refused with `Set`: the one at which its sets stand. None where the calls of the
-/// machine's own set aren't given once: then no key of the profile is at fault.
+/// The key for which a profile is refused with `Set`: the one at which its sets stand. `None` where the calls of the
+/// machine's own set aren't given exactly once: then no key of the profile is at fault.
 fn key_of_sets(settings: &Settings, value: &Value) -> Option<&'static str> {
     if !settings.has_calls(settings.machine) {
         return None;
@@ -97,7 +102,7 @@ fn key_of_sets(settings: &Settings, value: &Value) -> Option<&'static str> {
     })
 }
 
-/// The key of a rule for which it is refused, for this reason.
+/// The key of a rule for which the rule is refused with this fault; `None` where the fault is that of no rule.
 fn key_in_rule<'a>(settings: &Settings, value: &'a Value, fault: Fault) -> Option<&'a str> {
     match fault {
         Fault::RuleKey { .. } => Some(key_of_rule(settings, value)),
@@ -124,7 +129,8 @@ fn key_in_rule<'a>(settings: &Settings, value: &'a Value, fault: Fault) -> Optio
     }
 }
 
-/// The key of a profile's head for which it is refused, for this reason.
+/// The key of a profile's head for which the profile is refused with this fault; `None` where no key of the head is at
+/// fault.
 fn key_in_head<'a>(settings: &Settings, value: &'a Value, fault: Fault) -> Option<&'a str> {
     match fault {
         Fault::Key => Some(key_of_head(value)),
@@ -135,7 +141,7 @@ fn key_in_head<'a>(settings: &Settings, value: &'a Value, fault: Fault) -> Optio
     }
 }
 
-/// The number of the rule that is refused, from 1.
+/// The number of the rule that is refused, from 1; `None` where the fault is that of no rule.
 fn number_of_rule(fault: Fault) -> Option<usize> {
     match fault {
         Fault::RuleKey { rule }
@@ -146,7 +152,7 @@ fn number_of_rule(fault: Fault) -> Option<usize> {
     }
 }
 
-/// The key for which a profile is refused, for this reason.
+/// The key of a rule or of the head for which a profile is refused with this fault; `None` where no key is at fault.
 fn key_of<'a>(settings: &Settings, value: &'a Value, fault: Fault) -> Option<&'a str> {
     match number_of_rule(fault) {
         Some(rule) => {
@@ -157,13 +163,15 @@ fn key_of<'a>(settings: &Settings, value: &'a Value, fault: Fault) -> Option<&'a
     }
 }
 
-/// The key for which the profile of a file's tree is refused.
+/// The key for which the profile in a file's tree is refused with this fault; `None` where there is no profile, or no
+/// key is at fault.
 fn key_in_file<'a>(settings: &Settings, value: &'a Value, fault: Fault) -> Option<&'a str> {
     key_of(settings, profile_in(value)?, fault)
 }
 
-/// The key for which the profile in a file is refused, where one is known. `fault` is the reason that `profile` gave
-/// for these bytes. An error where an allocation is refused.
+/// The key for which the profile in a file is refused. `None` where no key is at fault, or where the bytes are no JSON
+/// or have no profile. `fault` is the one with which `profile` refused these bytes. An error where an allocation is
+/// refused.
 pub fn wrong_key(
     alloc: Global,
     settings: &Settings,

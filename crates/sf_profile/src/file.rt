@@ -18,8 +18,8 @@ use crate::telling::{notes_text, unknown_words};
 use serde_json::Value;
 use std::alloc::Global;
 
-/// The filter of a profile's tree. The first refusal; then `TooLong` where the filter would be too long; `Memory` where
-/// an allocation is refused.
+/// The filter of a profile's tree. The refusals are that of `profile_refusal`; then `TooLong` where the filter would be
+/// too long; `Memory` where an allocation is refused.
 #[tactic(auto, using(crate::proofs::ShortLemmas::profile_long))]
 fn filter_of_profile(alloc: Global, settings: &Settings, value: &Value) -> Result<Vec<u8>, Fault>
     ensures accepted { IfOk result (λ v. profile_refusal settings.now (view value.now) ≡ None) }
@@ -36,7 +36,7 @@ fn filter_of_profile(alloc: Global, settings: &Settings, value: &Value) -> Resul
     filter_of(alloc, &plan)
 }
 
-/// The filter of the profile in a file's tree.
+/// The filter of the profile in a file's tree. `Key` where there is no profile; then what `filter_of_profile` refuses.
 fn filter_of_file(alloc: Global, settings: &Settings, value: &Value) -> Result<Vec<u8>, Fault>
     ensures made { IfOk result (λ v. MakesFilter settings.now (view value.now) v.items) }
     ensures refused { IfErr result (λ e. IsRefused settings.now (view value.now) e) }
@@ -81,11 +81,12 @@ fn notes_of_profile(alloc: Global, settings: &Settings, value: &Value) -> Result
         × (4096 < length (form (plan_of settings.now (view value.now))))))) }
 {
     let filter = filter_of_profile(alloc, settings, value)?;
+    // An instruction has eight bytes.
     let text = notes_text(alloc, settings, value, filter.len() / 8)?;
     Ok(text)
 }
 
-/// The notes of the profile in a file's tree.
+/// The notes of the profile in a file's tree. `Key` where there is no profile; then what `notes_of_profile` refuses.
 fn notes_of_file(alloc: Global, settings: &Settings, value: &Value) -> Result<String, Fault>
     ensures notes { IfOk result (λ t. AreNotesOfFile settings.now (view value.now)
         (string_bytes t)) }
@@ -98,8 +99,8 @@ fn notes_of_file(alloc: Global, settings: &Settings, value: &Value) -> Result<St
 }
 
 /// The notes on the profile in a file: its default and its sets of calls; how many rules it has, and how many of them
-/// apply; how many different names these have, how many of the names no file of names has, and which; and how many
-/// instructions its filter has. The refusals are those of `profile`.
+/// apply; how many different names the rules that apply have, how many of these names no file of names has, and which;
+/// and how many instructions its filter has. The refusals are those of `profile`.
 pub fn notes(alloc: Global, settings: &Settings, bytes: &[u8]) -> Result<String, Fault>
     ensures notes { IfOk result (λ t. AreNotesOfText settings.now bytes.now (string_bytes t)) }
     ensures refused { IfErr result (λ e. IsRefusedText settings.now bytes.now e) }
@@ -116,7 +117,8 @@ pub fn notes(alloc: Global, settings: &Settings, bytes: &[u8]) -> Result<String,
     }
 }
 
-/// The names of a profile's tree that no file of names has. `Memory` where an allocation is refused.
+/// The names of a profile's tree that no file of names has, each once, with a blank before each. Only rules that apply
+/// count. `Memory` where an allocation is refused.
 fn unknown_in_profile(alloc: Global, settings: &Settings, value: &Value) -> Result<String, Fault>
     ensures words { IfOk result (λ t. string_bytes t
         ≡ flat_map name_word (names_without_number settings.now (view value.now))) }
@@ -126,7 +128,8 @@ fn unknown_in_profile(alloc: Global, settings: &Settings, value: &Value) -> Resu
     Ok(words)
 }
 
-/// The names of the profile in a file's tree that no file of names has. `Key` where there is no profile.
+/// The same for the profile in a file's tree, as `unknown_in_profile` gives the names. `Key` where there is no profile;
+/// `Memory` where an allocation is refused.
 fn unknown_in_file(alloc: Global, settings: &Settings, value: &Value) -> Result<String, Fault>
     ensures words { IfOk result (λ t. AreUnknownIn settings.now (view value.now)
         (string_bytes t)) }

@@ -21,6 +21,7 @@ pub(crate) fn filter_of(alloc: Global, plan: &Plan) -> Result<Vec<u8>, Fault>
 {
     let code = form(alloc, plan)?;
     let raws = raws_of(alloc, &code)?;
+    // `encode` fails only where an allocation is refused.
     match sf_insn::encode(alloc, &raws) {
         Ok(bytes) => Ok(bytes),
         Err(_) => Err(Fault::Memory),

@@ -21,11 +21,12 @@ pub(crate) const LEAST_OF_X32: u32 = 0x4000_0000;
 /// The error number of a call that the kernel doesn't have.
 const ENOSYS: u16 = 38;
 
-/// The places that a rule can have.
+/// The places that `Reading::order` gives to rules, the least first.
 const PLACES: [u8; 8] = [0, 1, 2, 3, 4, 5, 6, 7];
 
-/// Adds comparisons, and a return of `value` where all of them hold. Where one fails, the filter goes on behind the
-/// return: there the call's number is loaded again, for the next call's test.
+/// Adds the code of comparisons, and a return of `value` where all of them hold. Where one fails, the filter goes on
+/// behind the return: there the call's number is loaded into A again, for the next call's test. An error where an
+/// allocation is refused.
 fn push_return(
     code: &mut Vec<Instruction>,
     comparisons: &[Instruction],
@@ -38,7 +39,9 @@ fn push_return(
     code.extend_from_slice(&[Instruction::Return(value), Instruction::Load(0)])
 }
 
-/// Adds what is done at a call by its number only.
+/// Adds the code for a call that is known by its number alone: it returns `value` if the call has this number and all
+/// comparisons hold. `comparisons` is their code. A has the call's number before this code, and behind it again. An
+/// error where an allocation is refused.
 fn push_direct(
     code: &mut Vec<Instruction>,
     comparisons: &[Instruction],
@@ -59,7 +62,10 @@ fn push_direct(
 }
 
 /// Adds the code for a call that is made through another one, as `socket` through `socketcall`: it returns `value` if
-/// the call has this number, the low half of its first argument is `operation`, and all comparisons hold.
+/// the call has this number, the low half of its first argument is `operation`, and all comparisons hold. `comparisons`
+/// is their code. A has the call's number before this code, and behind it again. What a branch adds to `size` are the
+/// other instructions that it skips, up to the one that loads the number again. An error where an allocation is
+/// refused.
 fn push_through(
     code: &mut Vec<Instruction>,
     comparisons: &[Instruction],
@@ -79,7 +85,8 @@ fn push_through(
     push_return(code, comparisons, value)
 }
 
-/// Adds what is done at a call.
+/// Adds the code for one call of a rule, known by its number alone or made through another call. It returns `value` if
+/// this is the call and all comparisons hold. `comparisons` is their code. An error where an allocation is refused.
 fn push_call(
     code: &mut Vec<Instruction>,
     comparisons: &[Instruction],
@@ -95,7 +102,8 @@ fn push_call(
     }
 }
 
-/// Adds what is done at calls.
+/// Adds the code for all calls of a rule, one after the other, as `push_call` adds it for each. An error where an
+/// allocation is refused.
 fn push_calls(
     code: &mut Vec<Instruction>,
     comparisons: &[Instruction],
@@ -111,7 +119,8 @@ fn push_calls(
     Ok(())
 }
 
-/// Adds what is done by a rule.
+/// Adds the code of a rule: it returns the rule's response at each of the rule's calls where all its comparisons hold.
+/// With `wide` arguments have 64 bits, and else 32. An error where an allocation is refused.
 fn push_rule(
     alloc: Global,
     code: &mut Vec<Instruction>,
@@ -124,7 +133,8 @@ fn push_rule(
     push_calls(code, &comparisons, rule.response.value(), &rule.calls)
 }
 
-/// Adds what is done by a rule, if this is its place.
+/// Adds the code of a rule, if `place` is the place that `Reading::order` gives to the rule; else nothing. An error
+/// where an allocation is refused.
 fn push_rule_at(
     alloc: Global,
     code: &mut Vec<Instruction>,
@@ -142,7 +152,7 @@ fn push_rule_at(
     Ok(())
 }
 
-/// Adds a pass over the rules: those with this place.
+/// Adds the code of the rules that have this place, in their order. An error where an allocation is refused.
 fn push_round(
     alloc: Global,
     code: &mut Vec<Instruction>,
@@ -160,7 +170,8 @@ fn push_round(
     Ok(())
 }
 
-/// Adds all passes over the rules.
+/// Adds the code of all rules, place after place: the first code that returns is that of the rule that counts. An error
+/// where an allocation is refused.
 fn push_rounds(
     alloc: Global,
     code: &mut Vec<Instruction>,
@@ -188,7 +199,7 @@ fn above_calls(least: u64, calls: &[Call]) -> u64
     above
 }
 
-/// The least number that is above those of all calls of the rules.
+/// The least number that is above those of all calls of the rules; 0 where they have no call.
 fn above_rules(rules: &[Rule]) -> u64
     ensures { result ≡ above_rules rules.now }
 {
@@ -210,8 +221,9 @@ fn refuses_newer(default: Response) -> bool
     )
 }
 
-/// Adds the code by which calls whose number is at least `least` fail with ENOSYS. Adds nothing where `least` has more
-/// than 32 bits, since no call has such a number.
+/// Adds the code by which calls whose number is at least `least` fail with ENOSYS. A has the call's number before this
+/// code, and behind it. Adds nothing where `least` has more than 32 bits, since no call has such a number. An error
+/// where an allocation is refused.
 fn push_newer(code: &mut Vec<Instruction>, least: u64) -> Result<(), AllocError>
     ensures { OnOk result (code.new.items ≡ code.old.items ++ newer_code least) }
 {
@@ -224,7 +236,8 @@ fn push_newer(code: &mut Vec<Instruction>, least: u64) -> Result<(), AllocError>
     ])
 }
 
-/// Adds what is done at newer calls, where that is asked for.
+/// Adds the code for newer calls if `asked`, and else nothing. Newer calls are those whose number is above the numbers
+/// of all calls of the rules. An error where an allocation is refused.
 fn push_newer_where(
     code: &mut Vec<Instruction>,
     asked: bool,
@@ -238,7 +251,8 @@ fn push_newer_where(
     Ok(())
 }
 
-/// The code for the inputs of a set: first newer calls, then the rules, pass after pass, and at the end the default.
+/// The code for the inputs of a set: first newer calls, then the rules, place after place, and at the end the default.
+/// It returns at every input. An error where an allocation is refused.
 fn body_code(alloc: Global, plan: &Plan, part: &Part) -> Result<Vec<Instruction>, AllocError>
     ensures { IfOk result (λ v. v.items ≡ body_code plan.now part.now) }
 {
@@ -260,7 +274,9 @@ fn body_code(alloc: Global, plan: &Plan, part: &Part) -> Result<Vec<Instruction>
     Ok(code)
 }
 
-/// Adds a skip of `size` instructions where the input isn't of the set.
+/// Adds a skip of `size` instructions, the code of a set, where the input isn't of the set: it has another
+/// architecture, or on x86-64 a number of the other set. The skip is an instruction of its own, since a branch can't
+/// skip more than 255. An error where an allocation is refused.
 fn push_skip_unless_of_set(
     code: &mut Vec<Instruction>,
     set: CallSet,
@@ -293,7 +309,8 @@ fn push_skip_unless_of_set(
     }
 }
 
-/// Adds what is done for a set.
+/// Adds the code for a set: it returns at each input of the set, and at others the filter goes on behind it. An error
+/// where an allocation is refused.
 fn push_part(
     alloc: Global,
     code: &mut Vec<Instruction>,
@@ -307,7 +324,8 @@ fn push_part(
     code.extend_from_slice(&body)
 }
 
-/// The whole filter: at an input of no set the thread is killed.
+/// The whole filter: set after set, and at an input of no set a return of 0, which kills the thread. An error where an
+/// allocation is refused.
 pub(crate) fn form(alloc: Global, plan: &Plan) -> Result<Vec<Instruction>, AllocError>
     ensures { IfOk result (λ v. v.items ≡ form plan.now) }
 {

@@ -11,7 +11,7 @@ use std::alloc::Global;
 /// An instruction of a filter that is written.
 #[derive(Clone, Copy, Debug, PartialEq, Eq)]
 pub(crate) enum Instruction {
-    /// A becomes this word of the input.
+    /// A, the register that tests look at, becomes this word of the input, 0 to 15.
     Load(u8),
     /// A keeps only these bits.
     Mask(u32),
@@ -24,7 +24,7 @@ pub(crate) enum Instruction {
     Return(u32),
 }
 
-/// The number of a test's code.
+/// The code of a test of A against a number, as it stands in a file.
 fn code_of(test: Test) -> u16
     ensures { result ≡ code_of test }
 {
@@ -36,7 +36,7 @@ fn code_of(test: Test) -> u16
     }
 }
 
-/// A test as it stands in a file; none where a jump is too far.
+/// A test as it stands in a file; `None` where a jump is too far: it skips more than 255 instructions.
 fn raw_branch(test: Test, k: u32, on_true: usize, on_false: usize) -> Option<RawInsn>
     ensures { result ≡ (if nat_lt on_true (2 ^ 8) && nat_lt on_false (2 ^ 8)
         then Some (raw_of (Branch test k on_true on_false)) else None) }
@@ -61,7 +61,9 @@ fn plain(code: u16, k: u32) -> RawInsn
     }
 }
 
-/// An instruction as it stands in a file; none where a jump is too far.
+/// An instruction as it stands in a file; `None` where a jump is too far: a branch skips more than 255 instructions, or
+/// a skip more than 32 bits can say. The codes are those of a load (0x20), an AND (0x54), a jump (0x05) and a return
+/// (0x06); a word is loaded from its place in bytes.
 fn raw_of(instruction: Instruction) -> Option<RawInsn>
     ensures { result ≡ (if is_short instruction then Some (raw_of instruction) else None) }
 {
@@ -74,7 +76,8 @@ fn raw_of(instruction: Instruction) -> Option<RawInsn>
     }
 }
 
-/// Instructions as they stand in a file. `TooLong` where there are more than 4096, or a jump is too far.
+/// Instructions as they stand in a file. `TooLong` where there are more than 4096, or a jump is too far; `Memory` where
+/// an allocation is refused.
 pub(crate) fn raws_of(alloc: Global, code: &[Instruction]) -> Result<Vec<RawInsn>, Fault>
     ensures ok { IfOk result (λ v. (v.items ≡ map raw_of code.now) × (fits code.now ≡ true)) }
     ensures err { IfErr result (λ e. (e ≡ Fault.Memory)

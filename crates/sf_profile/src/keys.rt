@@ -79,21 +79,23 @@ fn has_condition_keys(value: &Value) -> bool
     has_only(value, CONDITION_KEYS.as_slice())
 }
 
-/// Whether a key has no value.
+/// Whether a key is absent, or has the value null.
 pub(crate) fn is_absent(value: &Value, key: &str) -> bool
     ensures { result ≡ is_absent key.now (view value.now) }
 {
     at(value, key).is_none()
 }
 
-/// Whether the key of an error number is there if that of the number's name is: a name alone isn't enough.
+/// Whether the key `number` of an error number is there if the key `name` of the number's name is: a name alone isn't
+/// enough.
 pub(crate) fn names_number(value: &Value, name: &str, number: &str) -> bool
     ensures { result ≡ names_number name.now number.now (view value.now) }
 {
     is_absent(value, name) || !is_absent(value, number)
 }
 
-/// Whether a number may stand beside a response; beside an unknown one too, which is refused elsewhere.
+/// Whether a number may stand beside a response: ERRNO and TRACE take one. `None` is an unknown action: that is refused
+/// elsewhere, so a number may stand beside it here.
 fn takes_number(response: Option<Response>) -> bool
     ensures { result ≡ takes_number response }
 {
@@ -103,14 +105,15 @@ fn takes_number(response: Option<Response>) -> bool
     }
 }
 
-/// Whether a number may stand beside the action.
+/// Whether the key `number` is absent, or the action at the key `action` takes a number, as `takes_number` says.
 fn fits_action(value: &Value, action: &str, number: &str) -> bool
     ensures { result ≡ fits_action action.now number.now (view value.now) }
 {
     is_absent(value, number) || takes_number(response_named(text_at(value, action), 0))
 }
 
-/// Whether a value is a kernel's version, and the kernel's own one is given.
+/// Whether a value is a kernel's version, and the version of the kernel that the profile is read for is given, so that
+/// the two can be compared.
 fn is_kernel(settings: &Settings, value: &Value) -> bool
     ensures { result ≡ is_kernel settings.now (view value.now) }
 {
@@ -128,7 +131,7 @@ fn has_kernel_or_none(settings: &Settings, value: &Value) -> bool
     }
 }
 
-/// Whether a value is what a rule includes or excludes.
+/// Whether a value has the form of a condition, which is the value of a rule's `includes` or `excludes`.
 fn is_condition(settings: &Settings, value: &Value) -> bool
     ensures { result ≡ is_condition settings.now (view value.now) }
 {
@@ -138,7 +141,7 @@ fn is_condition(settings: &Settings, value: &Value) -> bool
         && has_kernel_or_none(settings, value)
 }
 
-/// Whether a key is absent, or has what a rule includes or excludes.
+/// Whether a key is absent, or has a condition: the value of a rule's `includes` or `excludes`.
 pub(crate) fn has_condition_or_none(settings: &Settings, value: &Value, key: &str) -> bool
     ensures { result ≡ absent_or (is_condition settings.now) (at key.now (view value.now)) }
 {
@@ -148,7 +151,8 @@ pub(crate) fn has_condition_or_none(settings: &Settings, value: &Value, key: &st
     }
 }
 
-/// Whether a value is a comparison.
+/// Whether a value has the form of a comparison. Whether its numbers are in their ranges, and its `op` is known, is
+/// looked at elsewhere.
 fn is_argument(value: &Value) -> bool
     ensures { result ≡ is_argument (view value.now) }
 {
@@ -183,7 +187,7 @@ fn is_argument_list(value: &Value) -> bool
     }
 }
 
-/// Whether a rule's comparisons are absent, or an array of comparisons.
+/// Whether the comparisons of a rule, at its key `args`, are absent or an array of comparisons.
 pub(crate) fn has_arguments(value: &Value) -> bool
     ensures { result ≡ absent_or (is_list_of is_argument) (at (codes "args") (view value.now)) }
 {
@@ -193,7 +197,7 @@ pub(crate) fn has_arguments(value: &Value) -> bool
     }
 }
 
-/// Whether a rule has either names, or one name.
+/// Whether a rule has either an array of texts at `names`, or a text at `name`, and not both keys.
 pub(crate) fn is_named(value: &Value) -> bool
     ensures { result ≡ is_named (view value.now) }
 {
@@ -201,8 +205,9 @@ pub(crate) fn is_named(value: &Value) -> bool
         || (has_text(value, "name") && is_absent(value, "names"))
 }
 
-/// Whether there is a text at the key `action`, and its error number is well given: it is a whole number or absent, it
-/// is there if its name is, and the action takes one if it is there. An action that isn't known is refused elsewhere.
+/// Whether there is a text at the key `action`, and its error number is well given: at the key `number` is a whole
+/// number or nothing; there is one if the key `name`, of the number's name, is there; and if there is one, the action
+/// takes it. An action that isn't known is refused elsewhere.
 pub(crate) fn is_action(value: &Value, action: &str, number: &str, name: &str) -> bool
     ensures { result ≡ is_action action.now number.now name.now (view value.now) }
 {
@@ -224,7 +229,7 @@ pub(crate) fn is_rule(settings: &Settings, value: &Value) -> bool
         && has_condition_or_none(settings, value, "excludes")
 }
 
-/// Whether a value is an entry of `archMap`.
+/// Whether a value has the form of an entry of `archMap`: an `architecture`, and perhaps `subArchitectures`.
 fn is_map_item(value: &Value) -> bool
     ensures { result ≡ is_map_item (view value.now) }
 {
@@ -278,7 +283,7 @@ fn has_sets(value: &Value) -> bool
         && has_map(value)
 }
 
-/// Whether the rules are absent, or an array.
+/// Whether the rules of a profile, at its key `syscalls`, are absent or an array.
 pub(crate) fn has_rules(value: &Value) -> bool
     ensures { result ≡ absent_or is_array (at (codes "syscalls") (view value.now)) }
 {

@@ -15,22 +15,23 @@ ghost use Rattle.sf_profile.specs.Meaning.{answer_of, is_newer, number_in, pick,
 ghost use Rattle.sf_profile.specs.Plans.{applies, calls_named, through_calls};
 ghost use Rattle.sf_profile.specs.Settings.{is_same_set, number_of};
 
-/// A name that has no number in a set, and is behind no other call there, has no call: a rule says nothing by it.
+/// A law for the prover: a name that has no number in a set, and is behind no other call there, has no call: a rule
+/// says nothing by it.
 pub fn unknown_names_say_nothing()
     ensures { (s : ASettings) (set : CallSet) (alone : Bool) (name : List ℕ) →
         number_of s set name ≡ None → through_calls (is_same_set set I386 && alone) name ≡ []
         → calls_named s set alone name ≡ [] }
 {}
 
-/// Asking for ENOSYS at newer calls changes nothing at calls that aren't newer than the profile.
+/// A law for the prover: asking for ENOSYS at newer calls changes nothing at calls that aren't newer than the profile.
 pub fn newer_changes_only_newer()
     ensures { (plan : PlanData) (d : Input) (part : PartData) →
         is_newer (number_in d) part.rules ≡ false
         → response_in plan d part ≡ response_in (record plan { newer = false }) d part }
 {}
 
-/// Of rules that say something, the reading `strictest` picks one whose action has the highest precedence, and
-/// `mildest` one whose action has the lowest: what any reading picks lies between them.
+/// A law for the prover: of rules that say something, the reading `strictest` picks one whose action has the highest
+/// precedence, and `mildest` one whose action has the lowest: what any reading picks lies between them.
 pub fn readings_are_bounds()
     ensures { (reading : Reading) (rules : List RuleData) (a b c : RuleData) →
         pick Strictest rules ≡ Some a → pick reading rules ≡ Some b
@@ -39,20 +40,22 @@ pub fn readings_are_bounds()
         × (strictness b.response ≤ strictness c.response) }
 {}
 
-/// Where all rules that say something have one response, each reading picks a rule with it.
+/// A law for the prover: where all rules that say something have one response, each reading picks a rule with this
+/// response.
 pub fn readings_agree_without_conflict()
     ensures { (reading : Reading) (rules : List RuleData) (response : Response) (a : RuleData) →
         All (λ (r : RuleData). r.response ≡ response) rules → pick reading rules ≡ Some a
         → a.response ≡ response }
 {}
 
-/// Whether a rule applies depends on its own words, the machine, the capabilities and the kernel, and on nothing else.
+/// A law for the prover: whether a rule applies depends on its own text, the machine, the capabilities and the kernel,
+/// and on nothing else.
 pub fn rules_apply_by_words()
     ensures { (s t : ASettings) (rule : Data) → s.machine ≡ t.machine → s.caps ≡ t.caps
         → s.kernel ≡ t.kernel → applies s rule ≡ applies t rule }
 {}
 
-/// The order of the actions is that in which the kernel prefers them.
+/// A law for the prover: the order of the actions by `strictness` is that in which the kernel prefers them.
 pub fn strictness_is_precedence()
     ensures { (a b : Response) → strictness a < strictness b
         → rank (action_number (answer_of a).action) < rank (action_number (answer_of b).action) }

@@ -5,7 +5,7 @@ ghost use Rattle.sf_profile.specs.Profiles.{after_point, arch_name_of_set, argum
 
 use crate::rules::{Argument, CallSet, Comparing, Response};
 
-/// The set of calls that a profile has this name for.
+/// The set of calls that has this name in profiles; `None` where none of the five sets has.
 pub(crate) fn set_named(text: &str) -> Option<CallSet>
     ensures { result ≡ set_named text.now }
 {
@@ -53,7 +53,8 @@ pub(crate) fn arch_name_of_set(set: CallSet) -> &'static str
     }
 }
 
-/// The response of an action's name, with a number where it has one.
+/// The response of an action's name; `None` where no action has this name. `number` is the number of ERRNO and TRACE;
+/// other actions have none.
 pub(crate) fn response_named(text: &str, number: u16) -> Option<Response>
     ensures { result ≡ response_named text.now number }
 {
@@ -87,7 +88,7 @@ pub(crate) fn response_named(text: &str, number: u16) -> Option<Response>
     None
 }
 
-/// The comparison of a name.
+/// The comparison that has this name; `None` where none has.
 pub(crate) fn comparing_named(text: &str) -> Option<Comparing>
     ensures { result ≡ comparing_named text.now }
 {
@@ -122,7 +123,7 @@ pub(crate) fn has_data(response: Response) -> bool
     matches!(response, Response::Errno(_) | Response::Tracer(_))
 }
 
-/// A number from 0 to a greatest one; none where it is another one.
+/// The number, if it is from 0 to `most`; `None` where it is less or greater.
 pub(crate) fn up_to(most: u64, number: i128) -> Option<u64>
     ensures { result ≡ up_to most number }
 {
@@ -130,7 +131,7 @@ pub(crate) fn up_to(most: u64, number: i128) -> Option<u64>
     if number <= most { Some(number) } else { None }
 }
 
-/// The number, or `absent` where no number is given; none where a number is given that isn't from 0 to `most`.
+/// The number, or `absent` where no number is given; `None` where a number is given that isn't from 0 to `most`.
 pub(crate) fn up_to_or(absent: u64, most: u64, number: Option<i128>) -> Option<u64>
     ensures { result ≡ up_to_or absent most number }
 {
@@ -174,7 +175,8 @@ pub(crate) struct VersionRead {
     pub(crate) wrong: bool,
 }
 
-/// What was read, with one digit more. It can't be a version if the number would be greater than 9999.
+/// What was read, with one digit more, 0 to 9. If the number would be greater than 9999, the digits stay as they were,
+/// and the text can't be a version.
 fn more_digits(read: VersionRead, digit: u8) -> VersionRead
     requires { digit ≤ 9 }
     ensures { result ≡ more_digits read digit }
@@ -195,7 +197,7 @@ fn more_digits(read: VersionRead, digit: u8) -> VersionRead
     }
 }
 
-/// What was read, and can't be a version.
+/// What was read, of a text that can't be a version.
 fn wrong(read: VersionRead) -> VersionRead
     ensures { result ≡ record { major = read.major; digits = read.digits; wrong = true } }
 {
@@ -206,8 +208,8 @@ fn wrong(read: VersionRead) -> VersionRead
     }
 }
 
-/// What was read, with a point behind it. It can't be a version if no digit stands before the point, or if this is the
-/// second point.
+/// What was read, with a point behind it. The text can't be a version if no digit stands before the point, or if this
+/// is the second point.
 fn after_point(read: VersionRead) -> VersionRead
     ensures { result ≡ after_point read read.major read.digits }
 {
@@ -221,7 +223,7 @@ fn after_point(read: VersionRead) -> VersionRead
     }
 }
 
-/// One byte more.
+/// What was read, with one byte more: a digit, a point, or another byte, which no version has.
 fn version_step(read: VersionRead, byte: u8) -> VersionRead
     ensures { result ≡ version_step read byte }
 {
@@ -234,8 +236,8 @@ fn version_step(read: VersionRead, byte: u8) -> VersionRead
     wrong(read)
 }
 
-/// The version that a text is: two decimal numbers of at most 9999, with a point between them. None where it isn't one.
-/// Zeros may stand before a number.
+/// The version that a text is: two decimal numbers of at most 9999, with a point between them. `None` where the text is
+/// something else. Zeros may stand before a number.
 pub fn version_of(text: &str) -> Option<Version>
     ensures { result ≡ version_of text.now }
 {

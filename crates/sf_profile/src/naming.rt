@@ -52,7 +52,7 @@ const IPC_CALLS: [&str; 12] = [
     "shmctl",
 ];
 
-/// The place of a name among some; none where it isn't among them.
+/// The place of a name among some, counted from 0; `None` where it isn't among them.
 fn place_of(name: &str, names: &[&str]) -> Option<usize>
     ensures value { result ≡ place_from 0 name.now (map (λ n. n.now) names.now) }
     ensures small { IfSome result (λ n. n < length names.now) }
@@ -65,7 +65,7 @@ fn place_of(name: &str, names: &[&str]) -> Option<usize>
     None
 }
 
-/// The place of a name among the calls behind `socketcall`.
+/// The place of a name among the calls behind `socketcall`, counted from 0; `None` where it isn't among them.
 fn place_of_socket_call(name: &str) -> Option<usize>
     ensures value { result ≡ place_from 0 name.now socket_calls }
     ensures small { IfSome result (λ n. n < 20) }
@@ -73,7 +73,7 @@ fn place_of_socket_call(name: &str) -> Option<usize>
     place_of(name, SOCKET_CALLS.as_slice())
 }
 
-/// The place of a name among the calls behind `ipc`.
+/// The place of a name among the calls behind `ipc`, counted from 0; `None` where it isn't among them.
 fn place_of_ipc_call(name: &str) -> Option<usize>
     ensures value { result ≡ place_from 0 name.now ipc_calls }
     ensures small { IfSome result (λ n. n < 12) }
@@ -81,7 +81,8 @@ fn place_of_ipc_call(name: &str) -> Option<usize>
     place_of(name, IPC_CALLS.as_slice())
 }
 
-/// Adds the call of a number, where there is one.
+/// Adds the call that has this number itself and doesn't go through another one; nothing where there is no number. An
+/// error where an allocation is refused.
 fn push_direct(calls: &mut Vec<Call>, number: Option<u32>) -> Result<(), AllocError>
     ensures { OnOk result (calls.new.items ≡ calls.old.items ++ direct_call number) }
 {
@@ -94,7 +95,8 @@ fn push_direct(calls: &mut Vec<Call>, number: Option<u32>) -> Result<(), AllocEr
     Ok(())
 }
 
-/// Adds the call through `socketcall`, which is number 102 of i386, if the name is that of a call behind it.
+/// Adds the call through `socketcall`, which is number 102 of i386, if the name is that of a call behind it; else
+/// nothing. The calls behind it are numbered from 1. An error where an allocation is refused.
 fn push_socket_call(calls: &mut Vec<Call>, name: &str) -> Result<(), AllocError>
     ensures { OnOk result (calls.new.items ≡ calls.old.items
         ++ socket_call (place_from 0 name.now socket_calls)) }
@@ -108,7 +110,8 @@ fn push_socket_call(calls: &mut Vec<Call>, name: &str) -> Result<(), AllocError>
     Ok(())
 }
 
-/// Adds the call through `ipc`, which is number 117 of i386, if the name is that of a call behind it.
+/// Adds the call through `ipc`, which is number 117 of i386, if the name is that of a call behind it; else nothing. The
+/// twelve calls behind it are numbered 1 to 4, 11 to 14 and 21 to 24. An error where an allocation is refused.
 fn push_ipc_call(calls: &mut Vec<Call>, name: &str) -> Result<(), AllocError>
     ensures { OnOk result (calls.new.items ≡ calls.old.items
         ++ ipc_call (place_from 0 name.now ipc_calls)) }
@@ -124,7 +127,8 @@ fn push_ipc_call(calls: &mut Vec<Call>, name: &str) -> Result<(), AllocError>
 }
 
 /// Adds the calls with this name through `socketcall` and `ipc`, if `has_them`: that is if the set is that of i386, and
-/// the rule compares nothing.
+/// the rule compares nothing. (What a rule with comparisons asks about lies behind a pointer there.) An error where an
+/// allocation is refused.
 fn push_through(calls: &mut Vec<Call>, has_them: bool, name: &str) -> Result<(), AllocError>
     ensures { OnOk result (calls.new.items ≡ calls.old.items ++ through_calls has_them name.now) }
 {
@@ -135,7 +139,7 @@ fn push_through(calls: &mut Vec<Call>, has_them: bool, name: &str) -> Result<(),
     Ok(())
 }
 
-/// The set of a rule, and whether the rule compares nothing.
+/// The set in which the names of a rule are looked up, and whether the rule compares nothing.
 #[derive(Clone, Copy, Debug)]
 pub(crate) struct Place {
     /// The set.
@@ -144,7 +148,8 @@ pub(crate) struct Place {
     pub(crate) alone: bool,
 }
 
-/// Adds the calls of a name in a set.
+/// Adds the calls that a name stands for in a set: the one that has its number there, if the set has the name, and
+/// those that `push_through` adds. An error where an allocation is refused.
 fn push_named(
     calls: &mut Vec<Call>,
     settings: &Settings,
@@ -158,7 +163,7 @@ fn push_named(
     push_through(calls, place.set.is_same(CallSet::I386) && place.alone, name)
 }
 
-/// Adds the calls of names in a set.
+/// Adds the calls that names stand for in a set, name after name. An error where an allocation is refused.
 fn push_all_named(
     calls: &mut Vec<Call>,
     settings: &Settings,
@@ -175,7 +180,8 @@ fn push_all_named(
     Ok(())
 }
 
-/// Adds the calls of the one name of a rule, where it has one.
+/// Adds the calls of the one name of a rule, at its key `name`; nothing where the key is absent. An error where an
+/// allocation is refused.
 fn push_one_name(
     calls: &mut Vec<Call>,
     settings: &Settings,
@@ -192,7 +198,7 @@ fn push_one_name(
     }
 }
 
-/// The calls of a rule in a set.
+/// The calls that the names of the rule `value` stand for in a set. An error where an allocation is refused.
 pub(crate) fn calls_of(
     alloc: Global,
     settings: &Settings,

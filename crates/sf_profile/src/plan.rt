@@ -19,7 +19,8 @@ use crate::tree::{items_at, text_at, text_of, whole_at};
 use serde_json::Value;
 use std::alloc::{AllocError, Global};
 
-/// The number at a key, 1 where none is given, or where it hasn't 16 bits.
+/// The error number at a key; 1, which is EPERM, where none is given, or where it hasn't 16 bits. A profile with such a
+/// number is refused.
 fn error_number(value: &Value, key: &str) -> u16
     ensures { result ≡ unwrap_or (up_to_or 1 65535
         (whole_where (at key.now (view value.now)))) 1 }
@@ -53,7 +54,7 @@ fn comparison_of(value: &Value) -> Comparison
     }
 }
 
-/// The comparisons of values.
+/// The comparisons that values describe, in their order. An error where an allocation is refused.
 fn comparisons_of(alloc: Global, items: &[Value]) -> Result<Vec<Comparison>, AllocError>
     ensures { IfOk result (λ v. v.items ≡ map comparison_of (map view items.now)) }
 {
@@ -71,7 +72,7 @@ fn compares_same_argument(comparisons: &[Comparison], comparison: Comparison) ->
     comparisons.iter().any(|other| word_of(comparison.argument) == word_of(other.argument))
 }
 
-/// Whether some argument is compared twice.
+/// Whether some argument is compared more than once.
 fn compares_twice(comparisons: &[Comparison]) -> bool
     ensures { result ≡ compares_twice comparisons.now }
 {
@@ -83,7 +84,8 @@ fn compares_twice(comparisons: &[Comparison]) -> bool
     false
 }
 
-/// The rule that a profile's rule makes in a set, with these of its comparisons.
+/// The rule that the profile's rule `value` makes in a set, with these of its comparisons. An error where an allocation
+/// is refused.
 fn rule_of(
     alloc: Global,
     settings: &Settings,
@@ -114,7 +116,7 @@ fn only(alloc: Global, comparison: Comparison) -> Result<Vec<Comparison>, AllocE
     Ok(comparisons)
 }
 
-/// Adds a rule of its own for each comparison.
+/// Adds a rule of its own for each comparison of the profile's rule `value`. An error where an allocation is refused.
 fn push_each(
     alloc: Global,
     rules: &mut Vec<Rule>,
@@ -133,9 +135,10 @@ fn push_each(
     Ok(())
 }
 
-/// Adds the rules of a profile's rule with these comparisons: one rule with all of them; or where one argument is
-/// compared twice, a rule for each comparison, so it is enough that one holds. Where there are more than six, one of
-/// the six arguments is compared twice.
+/// Adds the rules of the profile's rule `value`, which has these comparisons: one rule with all of them; or where one
+/// argument is compared twice, a rule for each comparison, so it is enough that one holds. Where there are more than
+/// six, one of the six arguments is compared twice, so `compares_twice` isn't asked. An error where an allocation is
+/// refused.
 fn push_alternatives(
     alloc: Global,
     rules: &mut Vec<Rule>,
@@ -155,7 +158,8 @@ fn push_alternatives(
     Ok(())
 }
 
-/// Adds the rules that a profile's rule makes in a set: none where it doesn't apply.
+/// Adds the rules that the profile's rule `value` makes in a set: none where it doesn't apply. An error where an
+/// allocation is refused.
 fn push_rules_of(
     alloc: Global,
     rules: &mut Vec<Rule>,
@@ -173,7 +177,7 @@ fn push_rules_of(
     push_alternatives(alloc, rules, settings, set, value, comparisons)
 }
 
-/// The rules that a profile's rules make in a set.
+/// The rules that a profile's rules make in a set, in their order. An error where an allocation is refused.
 fn rules_in(
     alloc: Global,
     settings: &Settings,
@@ -190,7 +194,8 @@ fn rules_in(
     Ok(rules)
 }
 
-/// The part of the plan that is about one set: the set, with the rules that the profile's rules make in it.
+/// The part of the plan that is about one set: the set, with the rules that the rules of the profile `value` make in
+/// it. An error where an allocation is refused.
 fn part_of(
     alloc: Global,
     settings: &Settings,
@@ -205,14 +210,15 @@ fn part_of(
     })
 }
 
-/// Whether a set is among some.
+/// Whether a set is among these sets.
 fn has_set(sets: &[CallSet], set: CallSet) -> bool
     ensures { result ≡ list_any (is_same_set set) sets.now }
 {
     sets.iter().any(|other| set.is_same(*other))
 }
 
-/// Adds the set of a name, if it isn't there yet.
+/// Adds the set that a profile has this name for, if it isn't there yet. A name that no set has adds nothing; a profile
+/// with one is refused. An error where an allocation is refused.
 fn push_set(sets: &mut Vec<CallSet>, name: &str) -> Result<(), AllocError>
     ensures { OnOk result (sets.new.items ≡ with_set sets.old.items (set_named name.now)) }
 {
@@ -228,7 +234,7 @@ fn push_set(sets: &mut Vec<CallSet>, name: &str) -> Result<(), AllocError>
     }
 }
 
-/// Adds the sets of names, each once.
+/// Adds the sets that have these names in profiles, each once. An error where an allocation is refused.
 fn push_sets(sets: &mut Vec<CallSet>, items: &[Value]) -> Result<(), AllocError>
     ensures { OnOk result (sets.new.items
         ≡ fold (λ sets name. with_set sets (set_named name)) sets.old.items
@@ -240,7 +246,8 @@ fn push_sets(sets: &mut Vec<CallSet>, items: &[Value]) -> Result<(), AllocError>
     Ok(())
 }
 
-/// Adds the sets of an entry of `archMap`, if it is the machine's.
+/// Adds the sets at `subArchitectures` of an entry of `archMap`, if it is the machine's entry; else nothing. An error
+/// where an allocation is refused.
 fn push_map_item(
     sets: &mut Vec<CallSet>,
     settings: &Settings,
@@ -256,7 +263,8 @@ fn push_map_item(
     Ok(())
 }
 
-/// Adds the sets of the entries of `archMap` that are the machine's.
+/// Adds the sets at `subArchitectures` of those entries of `archMap` that are the machine's. An error where an
+/// allocation is refused.
 fn push_map_items(
     sets: &mut Vec<CallSet>,
     settings: &Settings,
@@ -273,7 +281,7 @@ fn push_map_items(
 }
 
 /// The sets that a profile is for, each once: the machine's own, then those at `architectures`, then those that the
-/// machine's entries of `archMap` list.
+/// machine's entries of `archMap` list. An error where an allocation is refused.
 #[tactic(auto, using(crate::proofs::PlanLemmas::fold_both))]
 pub(crate) fn sets_of(
     alloc: Global,
@@ -289,7 +297,7 @@ pub(crate) fn sets_of(
     Ok(sets)
 }
 
-/// The parts of the plan, one for each set.
+/// The parts of the plan, one for each of these sets. An error where an allocation is refused.
 fn parts_of(
     alloc: Global,
     settings: &Settings,
@@ -306,7 +314,8 @@ fn parts_of(
     Ok(parts)
 }
 
-/// What a profile says.
+/// The plan of the profile `value`: what the profile says, set by set. The caller has seen by `profile_refusal` that
+/// the profile isn't refused. An error where an allocation is refused.
 pub(crate) fn plan_of(alloc: Global, settings: &Settings, value: &Value) -> Result<Plan, AllocError>
     ensures { IfOk result (λ p. p ≡ plan_of settings.now (view value.now)) }
 {

@@ -15,7 +15,7 @@ use crate::tree::{at, items_at, text_at, text_of, whole_at};
 use serde_json::Value;
 use sf_names::is_call_name;
 
-/// Whether a value can be the name of a call.
+/// Whether a value is a text that can be the name of a call: 1 to 64 letters, digits and `_`.
 fn has_name(value: &Value) -> bool
     ensures { result ≡ has_name (view value.now) }
 {
@@ -36,7 +36,7 @@ fn are_names(items: &[Value]) -> bool
     are_each_names(items)
 }
 
-/// Whether the one name of a rule is absent, or can be the name of a call.
+/// Whether the key `name` of a rule is absent, or has a text that can be the name of a call.
 pub(crate) fn has_one_name_or_none(value: &Value) -> bool
     ensures { result ≡ absent_or has_name (at (codes "name") (view value.now)) }
 {
@@ -46,7 +46,7 @@ pub(crate) fn has_one_name_or_none(value: &Value) -> bool
     }
 }
 
-/// Whether all names of a rule can be names of calls.
+/// Whether all names of a rule, at its keys `names` and `name`, can be names of calls.
 fn has_names(value: &Value) -> bool
     ensures { result ≡ has_names (view value.now) }
 {
@@ -60,14 +60,14 @@ pub(crate) fn knows_action(value: &Value, action: &str) -> bool
     response_named(text_at(value, action), 0).is_some()
 }
 
-/// Whether the comparison of a value is known.
+/// Whether the `op` of a comparison is known.
 fn knows_comparison(value: &Value) -> bool
     ensures { result ≡ knows_comparison (view value.now) }
 {
     comparing_named(text_at(value, "op")).is_some()
 }
 
-/// Whether the comparisons of all values are known.
+/// Whether the `op` of each of these comparisons is known.
 fn know_each_comparison(items: &[Value]) -> bool
     ensures { result ≡ list_all (λ v. knows_comparison (view v)) items.now }
 {
@@ -81,21 +81,22 @@ fn know_comparisons(items: &[Value]) -> bool
     know_each_comparison(items)
 }
 
-/// Whether the action and the comparisons of a rule are known.
+/// Whether the action of a rule and the `op` of each of its comparisons are known.
 fn has_actions(value: &Value) -> bool
     ensures { result ≡ has_actions (view value.now) }
 {
     knows_action(value, "action") && know_comparisons(items_at(value, "args"))
 }
 
-/// Whether the error number at a key is absent, or has 16 bits.
+/// Whether there is no error number at a key, or it has 16 bits: it is 0 to 65535.
 pub(crate) fn has_error_number_or_none(value: &Value, key: &str) -> bool
     ensures { result ≡ has_error_number_or_none key.now (view value.now) }
 {
     up_to_or(1, 65535, whole_at(value, key)).is_some()
 }
 
-/// Whether the numbers of a comparison are in their ranges.
+/// Whether the numbers of a comparison are in their ranges: `index` is 0 to 5, and `value` and `valueTwo` have 64 bits
+/// without a sign. An absent number is in its range.
 fn has_argument_range(value: &Value) -> bool
     ensures { result ≡ has_argument_range (view value.now) }
 {
@@ -118,14 +119,14 @@ fn have_argument_ranges(items: &[Value]) -> bool
     have_each_argument_range(items)
 }
 
-/// Whether the numbers of a rule are in their ranges.
+/// Whether the error number of a rule and the numbers of its comparisons are in their ranges.
 fn has_ranges(value: &Value) -> bool
     ensures { result ≡ has_ranges (view value.now) }
 {
     has_error_number_or_none(value, "errnoRet") && have_argument_ranges(items_at(value, "args"))
 }
 
-/// Why the rule with a number is refused, if it is.
+/// Why the rule `value` is refused; `None` where it isn't. `rule` is its number, from 1, for the fault.
 fn rule_refusal(settings: &Settings, rule: usize, value: &Value) -> Option<Fault>
     ensures { result ≡ rule_refusal settings.now rule (view value.now) }
 {
@@ -144,7 +145,7 @@ fn rule_refusal(settings: &Settings, rule: usize, value: &Value) -> Option<Fault
     None
 }
 
-/// The first refusal of rules.
+/// Why the first of these rules that is refused is refused; `None` where none is. Rules are numbered from 1.
 #[tactic(auto, using(crate::proofs::RuleTurns::next_rule))]
 fn rules_refusal(settings: &Settings, items: &[Value]) -> Option<Fault>
     ensures { result ≡ rules_refusal settings.now 1 (map view items.now) }
@@ -158,7 +159,7 @@ fn rules_refusal(settings: &Settings, items: &[Value]) -> Option<Fault>
     None
 }
 
-/// Whether a set is known, and its calls are given.
+/// Whether a set is known, which `None` isn't, and its calls are given exactly once.
 fn knows_set(settings: &Settings, set: Option<CallSet>) -> bool
     ensures { result ≡ knows_set settings.now set }
 {
@@ -168,14 +169,14 @@ fn knows_set(settings: &Settings, set: Option<CallSet>) -> bool
     }
 }
 
-/// Whether a value names a set whose calls are given.
+/// Whether a value names a set whose calls are given exactly once.
 fn is_set(settings: &Settings, value: &Value) -> bool
     ensures { result ≡ is_set settings.now (view value.now) }
 {
     knows_set(settings, set_named(text_of(value)))
 }
 
-/// Whether each value names a set whose calls are given.
+/// Whether each value names a set whose calls are given exactly once.
 fn are_each_sets(settings: &Settings, items: &[Value]) -> bool
     ensures { result ≡ list_all (λ v. is_set settings.now (view v)) items.now }
 {
@@ -189,22 +190,22 @@ fn are_sets(settings: &Settings, items: &[Value]) -> bool
     are_each_sets(settings, items)
 }
 
-/// Whether an entry of `archMap` is the machine's.
+/// Whether an entry of `archMap` is the machine's: its `architecture` is the name of the machine's own set.
 pub(crate) fn is_own_item(settings: &Settings, value: &Value) -> bool
     ensures { result ≡ is_own_item settings.now (view value.now) }
 {
     text_at(value, "architecture") == name_of_set(settings.machine)
 }
 
-/// Whether an entry of `archMap` is another machine's, or all its `subArchitectures` are known and have their calls
-/// given.
+/// Whether an entry of `archMap` is another machine's, or all its `subArchitectures` are known sets whose calls are
+/// given exactly once.
 fn knows_sets_of_item(settings: &Settings, value: &Value) -> bool
     ensures { result ≡ knows_sets_of_item settings.now (view value.now) }
 {
     !is_own_item(settings, value) || are_sets(settings, items_at(value, "subArchitectures"))
 }
 
-/// Whether the sets of all entries of `archMap` are known, if they are the machine's.
+/// Whether `knows_sets_of_item` is true of each of these entries of `archMap`.
 fn know_sets_of_each_item(settings: &Settings, items: &[Value]) -> bool
     ensures { result ≡ list_all (λ v. knows_sets_of_item settings.now (view v)) items.now }
 {
@@ -220,8 +221,8 @@ fn know_sets_of_items(settings: &Settings, items: &[Value]) -> bool
     know_sets_of_each_item(settings, items)
 }
 
-/// Whether all sets that the profile is for are known and have their calls given: the machine's own, those at
-/// `architectures`, and those in the machine's entries of `archMap`. Entries of other machines aren't looked at.
+/// Whether all sets that the profile is for are known and have their calls given exactly once: the machine's own, those
+/// at `architectures`, and those in the machine's entries of `archMap`. Entries of other machines aren't looked at.
 fn knows_sets(settings: &Settings, value: &Value) -> bool
     ensures { result ≡ knows_sets settings.now (view value.now) }
 {
@@ -230,7 +231,8 @@ fn knows_sets(settings: &Settings, value: &Value) -> bool
         && know_sets_of_items(settings, items_at(value, "archMap"))
 }
 
-/// Why a profile is refused, if it is.
+/// Why the profile `value` is refused: the head first, then the sets of calls, then rule after rule; `None` where it
+/// isn't. Whether its filter is too long is seen later.
 pub(crate) fn profile_refusal(settings: &Settings, value: &Value) -> Option<Fault>
     ensures { result ≡ profile_refusal settings.now (view value.now) }
 {
@@ -249,8 +251,8 @@ pub(crate) fn profile_refusal(settings: &Settings, value: &Value) -> Option<Faul
     rules_refusal(settings, items_at(value, "syscalls"))
 }
 
-/// The profile in a file's tree. Where there is a key `linux`, the file is a whole config.json, whose profile is at
-/// `seccomp` there; none where it has no `seccomp`. Else the tree itself is the profile.
+/// The profile in a file's tree. Where there is a key `linux`, the file is a whole config.json, whose profile is at the
+/// key `seccomp` below `linux`; `None` where that key is absent. Else the tree itself is the profile.
 pub(crate) fn profile_in(value: &Value) -> Option<&Value>
     ensures { option_map (λ v. view v.now) result ≡ profile_in (view value.now) }
 {

@@ -191,7 +191,8 @@ impl CallSet {
 }
 
 impl Response {
-    /// The value that a filter returns.
+    /// The value that a filter returns: the action in the high 16 bits, and in the low ones the number that goes with
+    /// it.
     pub(crate) fn value(self) -> u32
         ensures { result ≡ value_of self }
     {
@@ -207,7 +208,8 @@ impl Response {
         }
     }
 
-    /// The place of the action in the order of precedence, the highest first.
+    /// The place of the action in the order of precedence, the highest first: 0 for the one that the kernel prefers to
+    /// all others, up to 7.
     pub(crate) fn strictness(self) -> u8
         ensures { result ≡ strictness self }
     {
@@ -225,7 +227,8 @@ impl Response {
 }
 
 impl Reading {
-    /// The place of a rule among those that say something of a call: the least counts, of equal ones the first.
+    /// The place of a rule among those that say something of a call, 0 to 7: the rule with the least place counts, of
+    /// equal ones the first.
     pub(crate) fn order(self, rule: &Rule) -> u8
         ensures { result ≡ order self rule.now }
     {

@@ -15,7 +15,9 @@ use sf_names::{Call, Names};
 /// The calls of a set, with their numbers.
 #[derive(Debug, Drop)]
 pub struct Calls {
+    /// The set that `set_of_names` gives for the names.
     set: CallSet,
+    /// The calls as a file of names gives them.
     names: Names,
 }
 
@@ -32,7 +34,7 @@ pub struct Settings {
     pub conflicts: Reading,
     /// Whether calls that are newer than all that the profile names fail with ENOSYS.
     pub newer: bool,
-    /// The calls of sets, those of each once.
+    /// The calls of sets. A profile is refused where those of a set that it needs aren't among them exactly once.
     pub calls: Vec<Calls>,
 }
 
@@ -58,7 +60,7 @@ impl CallSet {
     }
 }
 
-/// How many of these are the calls of a set.
+/// How many of these are the calls of this set.
 fn count_of(calls: &[Calls], set: CallSet) -> usize
     ensures { result ≡ count_by (λ (c : ACalls). is_same_set c.set set) calls.now }
 {
@@ -72,8 +74,9 @@ fn has_low_call(calls: &[Call]) -> bool
     calls.iter().any(|call| call.number() < LEAST_OF_X32)
 }
 
-/// The set of the architecture with this number; none where it has none of the five sets. x86-64 has two: it is the set
-/// of 64-bit calls where `low` says that some call has a number below those of x32, and else that of x32.
+/// The set of the architecture with this number; `None` where it is the architecture of none of the five sets. x86-64
+/// has two: it is the set of 64-bit calls if `low`, which says that at least one call has a number below those of x32,
+/// and else that of x32.
 fn set_of_arch(low: bool, arch: u32) -> Option<CallSet>
     ensures { result ≡ set_of_arch low arch }
 {
@@ -86,7 +89,7 @@ fn set_of_arch(low: bool, arch: u32) -> Option<CallSet>
     }
 }
 
-/// The set whose calls these are; none where the architecture is none of those of the five sets. Of the two sets of
+/// The set whose calls these are; `None` where the architecture is none of those of the five sets. Of the two sets of
 /// x86-64 it is that of x32 where no number is below 2^30.
 pub fn set_of_names(names: &Names) -> Option<CallSet>
     ensures { result ≡ set_of_names names.now }
@@ -95,7 +98,7 @@ pub fn set_of_names(names: &Names) -> Option<CallSet>
 }
 
 impl Calls {
-    /// The calls of the set that `set_of_names` gives; none where it gives none.
+    /// These names as the calls of the set that `set_of_names` gives for them; `None` where it gives none.
     pub fn of(names: Names) -> Option<Calls>
         ensures { result ≡ calls_of_names names }
     {
@@ -103,7 +106,7 @@ impl Calls {
         Some(Calls { set, names })
     }
 
-    /// The number of a call.
+    /// The number of the first call with this name; `None` where there is no such call.
     pub(crate) fn number_of(&self, name: &str) -> Option<u32>
         ensures { result ≡ number_where (Some self.now) name.now }
     {
@@ -111,7 +114,7 @@ impl Calls {
     }
 }
 
-/// The calls of a set.
+/// The first of these that are the calls of this set; `None` where none are.
 fn calls_of(calls: &[Calls], set: CallSet) -> Option<&Calls>
     ensures { option_map (λ c. c.now) result
         ≡ find (λ (c : ACalls). is_same_set c.set set) calls.now }
@@ -124,7 +127,7 @@ fn calls_of(calls: &[Calls], set: CallSet) -> Option<&Calls>
     None
 }
 
-/// Whether one of the texts is this one.
+/// Whether at least one of the texts is this one.
 fn has_text(texts: &[String], text: &str) -> bool
     ensures { result ≡ list_any (λ t. bytes_eq text.now (string_bytes t)) texts.now }
 {
@@ -132,14 +135,15 @@ fn has_text(texts: &[String], text: &str) -> bool
 }
 
 impl Settings {
-    /// Whether the calls of a set are given once.
+    /// Whether the calls of a set are given exactly once.
     pub(crate) fn has_calls(&self, set: CallSet) -> bool
         ensures { result ≡ has_calls self.now set }
     {
         count_of(&self.calls, set) == 1
     }
 
-    /// The number of a call of a set.
+    /// The number of the call of a set that has this name; `None` where the set has no such call, or its calls aren't
+    /// given.
     pub(crate) fn number_of(&self, set: CallSet, name: &str) -> Option<u32>
         ensures { result ≡ number_of self.now set name.now }
     {

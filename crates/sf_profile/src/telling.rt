@@ -33,7 +33,7 @@ fn response_name(response: Response) -> &'static str
     }
 }
 
-/// The data of a response.
+/// The number that goes with a response: that of ERRNO or TRACE, and 0 for others, which have none.
 fn response_data(response: Response) -> u16
     ensures { result ≡ response_data response }
 {
@@ -56,7 +56,7 @@ fn set_name_in_notes(set: CallSet) -> &'static str
     }
 }
 
-/// Adds a name, if it isn't there yet.
+/// Adds a name, if it isn't there yet. An error where an allocation is refused.
 fn push_name<'a>(names: &mut Vec<&'a str>, name: &'a str) -> Result<(), AllocError>
     ensures { OnOk result (map (λ n. n.now) names.new.items
         ≡ with_name (map (λ n. n.now) names.old.items) name.now) }
@@ -68,7 +68,7 @@ fn push_name<'a>(names: &mut Vec<&'a str>, name: &'a str) -> Result<(), AllocErr
     Ok(())
 }
 
-/// Adds names, each once.
+/// Adds those of the names that aren't there yet, each once. An error where an allocation is refused.
 fn push_names<'a>(names: &mut Vec<&'a str>, items: &'a [Value]) -> Result<(), AllocError>
     ensures { OnOk result (map (λ n. n.now) names.new.items
         ≡ fold with_name (map (λ n. n.now) names.old.items) (map text_of (map view items.now))) }
@@ -79,7 +79,8 @@ fn push_names<'a>(names: &mut Vec<&'a str>, items: &'a [Value]) -> Result<(), Al
     Ok(())
 }
 
-/// Adds the one name of a rule, where it has one.
+/// Adds the one name of a rule, at its key `name`, if it isn't there yet; nothing where the key is absent. An error
+/// where an allocation is refused.
 fn push_one_name<'a>(names: &mut Vec<&'a str>, value: &'a Value) -> Result<(), AllocError>
     ensures { OnOk result (map (λ n. n.now) names.new.items
         ≡ fold with_name (map (λ n. n.now) names.old.items)
@@ -91,7 +92,7 @@ fn push_one_name<'a>(names: &mut Vec<&'a str>, value: &'a Value) -> Result<(), A
     }
 }
 
-/// Adds the names of a rule, each once.
+/// Adds the names of a rule that aren't there yet, each once. An error where an allocation is refused.
 #[tactic(auto, using(crate::proofs::PlanLemmas::fold_both))]
 fn push_names_of<'a>(names: &mut Vec<&'a str>, value: &'a Value) -> Result<(), AllocError>
     ensures { OnOk result (map (λ n. n.now) names.new.items
@@ -101,7 +102,8 @@ fn push_names_of<'a>(names: &mut Vec<&'a str>, value: &'a Value) -> Result<(), A
     push_one_name(names, value)
 }
 
-/// Adds the names of a rule, each once, if it applies.
+/// Adds the names of a rule that aren't there yet, each once, if the rule applies; else nothing. An error where an
+/// allocation is refused.
 fn push_names_where<'a>(
     names: &mut Vec<&'a str>,
     settings: &Settings,
@@ -117,7 +119,8 @@ fn push_names_where<'a>(
     Ok(())
 }
 
-/// The names of the rules that apply, each once, in the order of first mention.
+/// The names of those rules of the profile `value` that apply, each once, in the order of first mention. An error where
+/// an allocation is refused.
 #[tactic(auto, using(crate::proofs::PlanLemmas::fold_both))]
 pub(crate) fn applied_names<'a>(
     alloc: Global,
@@ -134,7 +137,7 @@ pub(crate) fn applied_names<'a>(
     Ok(names)
 }
 
-/// Whether one of the files of names has a number for the name.
+/// Whether at least one of these sets has a call with this name. Which sets the profile is for plays no part.
 fn is_known(calls: &[Calls], name: &str) -> bool
     ensures { result ≡ list_any (λ (c : ACalls). is_some
         (number_where (Some c) name.now)) calls.now }
@@ -142,14 +145,15 @@ fn is_known(calls: &[Calls], name: &str) -> bool
     calls.iter().any(|one| one.number_of(name).is_some())
 }
 
-/// Whether no file of names has the name.
+/// Whether no set that is given has a call with this name.
 fn is_unknown(settings: &Settings, name: &str) -> bool
     ensures { result ≡ is_unknown settings.now name.now }
 {
     !is_known(&settings.calls, name)
 }
 
-/// The names that no file of names has.
+/// Those of the names that no set that is given has a call for, in their order. An error where an allocation is
+/// refused.
 fn unknown_names<'a>(
     alloc: Global,
     settings: &Settings,
@@ -167,7 +171,7 @@ fn unknown_names<'a>(
     Ok(unknown)
 }
 
-/// How many rules apply.
+/// How many of these rules apply.
 fn applied_count(settings: &Settings, items: &[Value]) -> usize
     ensures { result ≡ applied_count settings.now (map view items.now) }
 {
@@ -180,7 +184,8 @@ fn applied_count(settings: &Settings, items: &[Value]) -> usize
     count
 }
 
-/// Adds the line of the default.
+/// Adds the line of the default response: its action's name, and the number that goes with it. An error where an
+/// allocation is refused.
 fn push_default(text: &mut String, response: Response) -> Result<(), AllocError>
     ensures { OnOk result (string_bytes text.new ≡ string_bytes text.old
         ++ default_line response) }
@@ -209,7 +214,7 @@ fn push_sets_words(text: &mut String, sets: &[CallSet]) -> Result<(), AllocError
     Ok(())
 }
 
-/// Adds the line of the sets.
+/// Adds the line of the sets: their names. An error where an allocation is refused.
 fn push_sets(text: &mut String, sets: &[CallSet]) -> Result<(), AllocError>
     ensures { OnOk result (string_bytes text.new ≡ string_bytes text.old ++ sets_line sets.now) }
 {
@@ -218,7 +223,8 @@ fn push_sets(text: &mut String, sets: &[CallSet]) -> Result<(), AllocError>
     text.push_str("\n")
 }
 
-/// Adds the line of the counts.
+/// Adds the line of the counts: how many rules there are, how many of them apply, how many different names these have,
+/// and how many of the names no file of names has. An error where an allocation is refused.
 fn push_counts(
     text: &mut String,
     rules: usize,
@@ -235,7 +241,7 @@ fn push_counts(
     )
 }
 
-/// Adds a line for a name that no file has.
+/// Adds a line for a name that no file of names has. An error where an allocation is refused.
 fn push_unknown(text: &mut String, name: &str) -> Result<(), AllocError>
     ensures { OnOk result (string_bytes text.new ≡ string_bytes text.old
         ++ unknown_line name.now) }
@@ -243,7 +249,7 @@ fn push_unknown(text: &mut String, name: &str) -> Result<(), AllocError>
     write!(text, "unknown {name}\n")
 }
 
-/// Adds a line for each name that no file has.
+/// Adds a line for each of these names, which no file of names has. An error where an allocation is refused.
 fn push_all_unknown(text: &mut String, names: &[&str]) -> Result<(), AllocError>
     ensures { OnOk result (string_bytes text.new ≡ string_bytes text.old
         ++ flat_map unknown_line (map (λ n. n.now) names.now)) }
@@ -274,7 +280,8 @@ fn words_of(alloc: Global, names: &[&str]) -> Result<String, AllocError>
     Ok(text)
 }
 
-/// The names of a profile's applied rules that no file of names has, with a blank before each.
+/// The names that no file of names has, with a blank before each, of those rules of the profile `value` that apply. An
+/// error where an allocation is refused.
 pub(crate) fn unknown_words(
     alloc: Global,
     settings: &Settings,
@@ -288,7 +295,9 @@ pub(crate) fn unknown_words(
     words_of(alloc, &unknown)
 }
 
-/// The notes on a profile whose filter has `size` instructions.
+/// The notes on the profile `value`, line by line: the form of the notes, the default, the sets, the counts, the names
+/// that no file of names has, and `size`, which is how many instructions the filter has. An error where an allocation
+/// is refused.
 pub(crate) fn notes_text(
     alloc: Global,
     settings: &Settings,

@@ -9,7 +9,8 @@ ghost use Rattle.sf_profile.specs.Trees.{absent_or, at, has_only, is_list_of, is
 
 use serde_json::{Map, Value};
 
-/// The value at a key; none where the key is absent, or its value is null.
+/// The value at a key of an object; `None` where the key is absent, its value is null, or `value` is no object. So null
+/// counts as absent everywhere.
 pub(crate) fn at<'a>(value: &'a Value, key: &str) -> Option<&'a Value>
     ensures { option_map (λ v. view v.now) result ≡ at key.now (view value.now) }
 {
@@ -24,7 +25,7 @@ fn array_items(items: &[Value]) -> &[Value]
     items
 }
 
-/// The items of a value, none where it is no array.
+/// The items of a value that is an array; an empty slice where it is no array.
 fn items_of(value: &Value) -> &[Value]
     ensures { map view result.now ≡ listed (Some (view value.now)) }
 {
@@ -34,7 +35,7 @@ fn items_of(value: &Value) -> &[Value]
     }
 }
 
-/// The items at a key, none where there is no array.
+/// The items of the array at a key; an empty slice where there is no array.
 pub(crate) fn items_at<'a>(value: &'a Value, key: &str) -> &'a [Value]
     ensures { map view result.now ≡ listed (at key.now (view value.now)) }
 {
@@ -44,14 +45,14 @@ pub(crate) fn items_at<'a>(value: &'a Value, key: &str) -> &'a [Value]
     }
 }
 
-/// The text of a value, empty where it is none.
+/// The text that a value is; the empty text where it is no text.
 pub(crate) fn text_of(value: &Value) -> &str
     ensures { result.now ≡ text_of (view value.now) }
 {
     value.as_str().unwrap_or("")
 }
 
-/// The text at a key, empty where there is none.
+/// The text at a key; the empty text where there is no text.
 pub(crate) fn text_at<'a>(value: &'a Value, key: &str) -> &'a str
     ensures { result.now ≡ text_where (at key.now (view value.now)) }
 {
@@ -61,14 +62,14 @@ pub(crate) fn text_at<'a>(value: &'a Value, key: &str) -> &'a str
     }
 }
 
-/// The whole number that a value is; none where it isn't one, or has more than 64 bits.
+/// The whole number that a value is; `None` where it isn't one, or fits 64 bits neither with nor without a sign.
 fn whole_of(value: &Value) -> Option<i128>
     ensures { result ≡ whole_of (view value.now) }
 {
     value.as_number()?.as_i128()
 }
 
-/// The whole number at a key, where there is one.
+/// The whole number at a key; `None` where there is none, as `whole_of` says.
 pub(crate) fn whole_at(value: &Value, key: &str) -> Option<i128>
     ensures { result ≡ whole_where (at key.now (view value.now)) }
 {
@@ -90,7 +91,7 @@ fn has_only_keys(map: &Map<String, Value>, known: &[&str]) -> bool
     map.keys().all(|key| is_among(key.as_str(), known))
 }
 
-/// Whether an object's members have only these keys.
+/// The same as `has_only_keys`. For the prover: its clause speaks of the members of the object's tree.
 fn keys_are_among(object: &Map<String, Value>, known: &[&str]) -> bool
     ensures { result ≡ keys_are_among (map (λ k. k.now) known.now)
         (members_view object.now.entries) }

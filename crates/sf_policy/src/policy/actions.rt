@@ -32,7 +32,7 @@ fn text_of(value: &Value) -> &str
     value.as_str().unwrap_or("")
 }
 
-/// Whether a value names an action.
+/// Whether a value is the name of an action.
 fn is_action(value: &Value) -> bool
     ensures { result ≡ is_action (text_or_empty (view value.now)) }
 {
@@ -89,7 +89,7 @@ fn set_from(items: &[Value]) -> ActionSet
     }
 }
 
-/// The set of the actions that a value names, as `set_from` makes it; none where it is no array of texts.
+/// The set of the actions that a value names, as `set_from` makes it; `None` where the value is no array of texts.
 #[tactic(auto, using(crate::proofs::TreeLemmas::texts_view, crate::proofs::TreeLemmas::no_texts_view))]
 fn set_in(value: &Value) -> Option<ActionSet>
     ensures { result ≡ option_map encoded_set (texts_of_value (view value.now)) }
@@ -102,8 +102,9 @@ fn set_in(value: &Value) -> Option<ActionSet>
     }
 }
 
-/// The set of the actions that a question names: ALLOW and LOG where it has no key `actions`. Empty where there is no
-/// name, or one of them isn't that of an action; none where the value isn't an array of texts.
+/// The set of the actions that a question names: ALLOW and LOG where it has no key `actions`. Empty where the array has
+/// no name, or one of its names isn't that of an action: a question with an empty set is refused with `Actions`. `None`
+/// where the value isn't an array of texts.
 pub(super) fn actions_in(table: &Table) -> Option<ActionSet>
     ensures { result ≡ option_map encoded_set
         (names_at (get_member (codes "actions") (table_view table.now))) }

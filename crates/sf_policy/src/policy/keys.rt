@@ -44,7 +44,7 @@ pub(crate) fn number_in(table: &Table, key: &str) -> Option<i64>
     value_at(table, key)?.as_integer()
 }
 
-/// The whole number at a key, and `absent` where the key is missing; none where it has another value.
+/// The whole number at a key, and `absent` where the key is missing; `None` where the key has another value.
 pub(crate) fn number_in_or(table: &Table, key: &str, absent: i64) -> Option<i64>
     ensures { result ≡ number_or absent (get_member key.now (table_view table.now)) }
 {

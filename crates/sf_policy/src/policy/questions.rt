@@ -28,7 +28,8 @@ fn fault_of_question(question: usize, fault: sf_ask::Fault) -> Fault
     }
 }
 
-/// The fault of a question that has a number outside 32 bits: `Name` where its name is wrong too, and else `Range`.
+/// The fault of a question that has a number outside 32 bits: `Name` where its name is wrong too, since names are
+/// looked at first, and else `Range`. `number` is the question's, from 1.
 fn fault_outside(number: usize, name: &str) -> Fault
     ensures { result ≡ fault_outside number name.now }
 {
@@ -82,7 +83,8 @@ pub(super) fn question_of_table(
 }
 
 /// The questions of an array's tables, in order. The refusal is that of the first question that is refused: `Key` where
-/// it is no table, or what `question_of_table` refuses.
+/// it is no table, or what `question_of_table` refuses; `Memory` where an allocation is refused. The caller's
+/// condition: at most 256 items.
 pub(super) fn questions_in(
     alloc: Global,
     version: Version,

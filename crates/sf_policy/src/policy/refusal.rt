@@ -17,7 +17,9 @@ pub struct Refusal {
     pub read: Result<Table, Error>,
 }
 
-/// Whether a question that has a name and only this key is refused for this fault.
+/// Whether a question that has only a right name and this key, with this value, is refused for this fault. The last
+/// argument is the number of the question that was refused, from 1, and its fault. An error where an allocation is
+/// refused.
 fn is_refused_alone(
     alloc: Global,
     version: Version,
@@ -37,7 +39,7 @@ fn is_refused_alone(
 }
 
 impl Refusal {
-    /// The number of the question that is refused, from 1.
+    /// The number of the question that is refused, from 1; `None` where the fault is that of no question.
     pub fn question(&self) -> Option<usize> {
         match self.fault {
             Fault::Key { question }
@@ -60,7 +62,8 @@ impl Refusal {
         }
     }
 
-    /// The table of the question that is refused; or the whole tree, where no question is. None where there is no tree.
+    /// The table of the question that is refused; or the whole tree, where the fault is that of no question. `None`
+    /// where the text is no TOML, so that there is no tree, or where the question is no table.
     pub fn table(&self) -> Option<&Table> {
         match self.question() {
             Some(number) => self.items().get(number.checked_sub(1)?)?.as_table(),
@@ -68,7 +71,8 @@ impl Refusal {
         }
     }
 
-    /// The name of the question that is refused, where it has one.
+    /// The name of the question that is refused; `None` where the fault is that of no question, or the question has no
+    /// name.
     pub fn name(&self) -> Option<&str> {
         self.question()?;
         text_in(self.table()?, "name")
@@ -76,7 +80,8 @@ impl Refusal {
 
     /// The key that is refused. In a question it is the first key, in alphabetical order, for which a question of only
     /// a name and this key is refused for the same fault; where there is none, `name`, which must be there. Otherwise
-    /// it is a key at the top. Empty where there is no tree. An error where an allocation is refused.
+    /// it is a key at the top, as `top_key` finds it. Empty where `table` gives none. An error where an allocation is
+    /// refused.
     pub fn key(&self, alloc: Global) -> Result<&str, AllocError> {
         let (Some(table), Ok(tree)) = (self.table(), &self.read) else {
             return Ok("");
@@ -92,7 +97,8 @@ impl Refusal {
         Ok("name")
     }
 
-    /// The key at the top that is refused: `version` for its fault, else the first unknown key, and else `question`.
+    /// The key at the top of the policy that is refused: `version` where the fault is `Version`, else the first unknown
+    /// key, and else `question`.
     fn top_key<'a>(&self, tree: &'a Table) -> &'a str {
         if self.fault == Fault::Version {
             return "version";

@@ -48,7 +48,7 @@ fn range_entry(low: i64, high: i64) -> WordEntry
     }
 }
 
-/// The entry of an array, which has the two ends of a range; none where it is another array.
+/// The entry of an array of two whole numbers, which are the ends of a range; `None` where it is another array.
 #[tactic(auto, using(crate::proofs::TreeLemmas::short_array, crate::proofs::TreeLemmas::long_array))]
 fn array_entry(items: &[Value]) -> Option<WordEntry>
     ensures { result ≡ entry_of_array (items_view items.now) }
@@ -59,8 +59,9 @@ fn array_entry(items: &[Value]) -> Option<WordEntry>
     }
 }
 
-/// The entry of a table: a mask and its value, and the ends of a range where they are named; none where a key is
-/// unknown, or a number is missing or of a wrong kind.
+/// The entry of a table: a mask and its value, and the ends of a range, which may be missing: then they are 0 and the
+/// greatest number of 32 bits. `None` where a key is unknown, the mask or its value is missing, or one of the four is
+/// no whole number.
 fn table_entry(table: &Table) -> Option<WordEntry>
     ensures { result ≡ entry_of_table (table_view table.now) }
 {
@@ -90,7 +91,8 @@ fn value_entry(version: Version, value: &Value) -> Option<WordEntry>
     }
 }
 
-/// The entry of the word with this key in a question's table; none where its value is of a wrong kind.
+/// The entry of the word with this key in a question's table: it may be any number where the key is missing. `None`
+/// where its value is of a wrong kind.
 fn entry_in(version: Version, table: &Table, key: &str) -> Option<WordEntry>
     ensures { result ≡ entry_at version (get_member key.now (table_view table.now)) }
 {
@@ -122,7 +124,8 @@ pub(super) fn entries_in(version: Version, table: &Table) -> Option<[WordEntry; 
     entries_at(version, table, &WORD_KEYS)
 }
 
-/// The ends of an entry's range, and then its mask and value; none where one of the four isn't of 32 bits.
+/// The ends of an entry's range, and then its mask and value; `None` where one of the four is negative or has more than
+/// 32 bits.
 fn numbers_of(entry: WordEntry) -> Option<((u32, u32), (u32, u32))>
     ensures { result ≡ numbers_in entry }
 {
@@ -132,7 +135,8 @@ fn numbers_of(entry: WordEntry) -> Option<((u32, u32), (u32, u32))>
     ))
 }
 
-/// The ranges of the entries, and then their masks, each with its value; none where a number isn't of 32 bits.
+/// The ranges of the entries, and then their masks, each with its value; `None` where a number is negative or has more
+/// than 32 bits.
 pub(super) fn words_of(entries: &[WordEntry; 16]) -> Option<([(u32, u32); 16], [(u32, u32); 16])>
     ensures { result ≡ ranges_and_masks entries.now }
 {
