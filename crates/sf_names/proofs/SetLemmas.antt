@@ -5,7 +5,7 @@ use Rattle.std.specs.Map.{keys_of}
 use Rattle.toml.specs.View.{members_view}
 use Rattle.toml.specs.declared.value.Value.{Value}
 use Rattle.sf_names.specs.declared.fault.Fault.{Fault}
-use Rattle.sf_names.specs.Names.{AreOrdered, CallData, GivesSet, IsOrdered, NamesData, has_names_keys, is_names_key, one_set, set_cons}
+use Rattle.sf_names.specs.Names.{AreOrdered, CallData, GivesSet, IsOrdered, NamesData, has_names_keys, is_names_key, list_of_one_set, set_cons}
 
 -- the keys of a set, at the list that the code goes through
 pub keys_view : (es : List (String Global × Value))
@@ -55,6 +55,6 @@ one_set_more whole sets more due rest names so_far gives pushed = record {
 
 -- a set alone
 pub alone : (due : Result NamesData Fault) (names : NamesData) (sets : List NamesData) → GivesSet (Ok names) due
-    → sets ≡ names ∷ [] → (files : List NamesData) × (one_set due ≡ Ok files) × AreOrdered files sets
+    → sets ≡ names ∷ [] → (files : List NamesData) × (list_of_one_set due ≡ Ok files) × AreOrdered files sets
 alone due names sets gives same =
-    (gives.0 ∷ [], ap one_set gives.1, rw same (gives.2, tt))
+    (gives.0 ∷ [], ap list_of_one_set gives.1, rw same (gives.2, tt))

@@ -188,13 +188,13 @@ abbrev pub only_set : Members → Result NamesData Fault
 only_set ms = with_usual_set (set_from [] ms)
 
 -- a set alone
-abbrev pub one_set : Result NamesData Fault → Result (List NamesData) Fault
-one_set n = set_cons n (Ok [])
+abbrev pub list_of_one_set : Result NamesData Fault → Result (List NamesData) Fault
+list_of_one_set n = set_cons n (Ok [])
 
 -- The sets of a file, or its first refusal. A file whose top has only keys of a set is one set; another one has a set
 -- at each key.
 abbrev pub names_of : Members → Result (List NamesData) Fault
-names_of ms = if has_names_keys ms then one_set (only_set ms) else sets_of ms
+names_of ms = if has_names_keys ms then list_of_one_set (only_set ms) else sets_of ms
 
 -- these calls, by their numbers: those with one number keep their order
 pub record AreByNumber (file calls : List CallData) : Type 0 where

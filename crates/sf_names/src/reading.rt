@@ -7,7 +7,7 @@ ghost use Rattle.toml.specs.Data.{Members, get_member};
 ghost use Rattle.toml.specs.Parse.{parse_document};
 ghost use Rattle.toml.specs.View.{table_view, view};
 ghost use Rattle.sf_names.specs.declared.fault.Fault.TheVariants.{Memory as MemoryFault};
-ghost use Rattle.sf_names.specs.Names.{AreByNumber, Gives, GivesNames, GivesSet, IsOrdered, arch_at, arch_of_value, arch_where_word, call_of, call_where_word, calls_at, calls_of, calls_of_value, has_names_keys, is_low_call, is_names_key, known_set, names_of, one_set, only_set, set_from, set_of, set_of_table, set_of_value, sets_of, usual_set, word_in};
+ghost use Rattle.sf_names.specs.Names.{AreByNumber, Gives, GivesNames, GivesSet, IsOrdered, arch_at, arch_of_value, arch_where_word, call_of, call_where_word, calls_at, calls_of, calls_of_value, has_names_keys, is_low_call, is_names_key, known_set, names_of, list_of_one_set, only_set, set_from, set_of, set_of_table, set_of_value, sets_of, usual_set, word_in};
 
 use crate::fault::Fault;
 use crate::names::{Call, Names, is_call_name};
@@ -281,8 +281,9 @@ fn sets_of(alloc: Global, table: &Table) -> Result<Vec<Names>, Fault>
 
 /// A list that has only the set of a file that is one set. What the caller has seen, and the refusals, are those of
 /// `only_set`.
-fn one_set(alloc: Global, table: &Table) -> Result<Vec<Names>, Fault>
-    ensures { GivesNames (λ v. v.items) result (one_set (only_set (table_view table.now))) }
+fn list_of_one_set(alloc: Global, table: &Table) -> Result<Vec<Names>, Fault>
+    ensures { GivesNames (λ v. v.items) result
+        (list_of_one_set (only_set (table_view table.now))) }
 {
     let names = ordered_only_set(alloc, table)?;
     let mut sets = Vec::new(alloc);
@@ -291,13 +292,13 @@ fn one_set(alloc: Global, table: &Table) -> Result<Vec<Names>, Fault>
 }
 
 /// The sets of a file's table, the calls of each in the order of their numbers. A table without other keys than `arch`
-/// and `calls` is itself one set; any other table has a set at each key. The refusals are those of `one_set` or of
-/// `sets_of`.
+/// and `calls` is itself one set; any other table has a set at each key. The refusals are those of `list_of_one_set` or
+/// of `sets_of`.
 fn names_of(alloc: Global, table: &Table) -> Result<Vec<Names>, Fault>
     ensures { GivesNames (λ v. v.items) result (names_of (table_view table.now)) }
 {
     if has_names_keys(table) {
-        one_set(alloc, table)
+        list_of_one_set(alloc, table)
     } else {
         sets_of(alloc, table)
     }

@@ -62,11 +62,11 @@ with_number number (Ok x) = Ok x
 with_number number (Err fault) = Err (numbered_fault number fault)
 
 -- what is wrong with a question that has a number outside 32 bits: its name, or else a range
-abbrev pub fault_outside : ℕ → List ℕ → Fault
-fault_outside number name = if is_name name then faults.Range number else faults.Name number
+abbrev pub fault_of_wide_number : ℕ → List ℕ → Fault
+fault_of_wide_number number name = if is_name name then faults.Range number else faults.Name number
 
 -- the question of a name, of ranges and masks, where they are there, and of actions, or what is wrong with it
 abbrev pub question_of_parts : ℕ → List ℕ → Option (List (ℕ × ℕ) × List (ℕ × ℕ)) → ActionSet
     → Result QuestionData Fault
 question_of_parts number name (Some ws) set = with_number number (question_of name ws.0 ws.1 set)
-question_of_parts number name None set = Err (fault_outside number name)
+question_of_parts number name None set = Err (fault_of_wide_number number name)

@@ -43,8 +43,8 @@ is_condition s d =
     && absent_or (is_list_of is_text) (at (codes "caps") d) && absent_or (is_kernel s) (at (codes "minKernel") d)
 
 -- a comparison
-abbrev pub is_argument : Data → Bool
-is_argument d =
+abbrev pub is_comparison : Data → Bool
+is_comparison d =
     has_only argument_keys d && present is_whole (at (codes "index") d) && present is_whole (at (codes "value") d)
     && absent_or is_whole (at (codes "valueTwo") d) && present is_text (at (codes "op") d)
 
@@ -64,7 +64,8 @@ is_action action number name d =
 abbrev pub is_rule : Settings → Data → Bool
 is_rule s d =
     has_only rule_keys d && is_named d && is_action (codes "action") (codes "errnoRet") (codes "errno") d
-    && absent_or (is_list_of is_argument) (at (codes "args") d) && absent_or (is_condition s) (at (codes "includes") d)
+    && absent_or (is_list_of is_comparison) (at (codes "args") d)
+    && absent_or (is_condition s) (at (codes "includes") d)
     && absent_or (is_condition s) (at (codes "excludes") d)
 
 -- a value that can be the name of a call
@@ -83,8 +84,8 @@ abbrev pub knows_comparison : Data → Bool
 knows_comparison d = is_some (comparing_named (text_where (at (codes "op") d)))
 
 -- the action and the comparisons of a rule are known
-abbrev pub has_actions : Data → Bool
-has_actions d = knows_action (codes "action") d && list_all knows_comparison (listed (at (codes "args") d))
+abbrev pub knows_actions : Data → Bool
+knows_actions d = knows_action (codes "action") d && list_all knows_comparison (listed (at (codes "args") d))
 
 -- an error number has 16 bits
 abbrev pub has_error_number_or_none : List ℕ → Data → Bool
@@ -108,7 +109,7 @@ abbrev pub rule_refusal : Settings → ℕ → Data → Option Fault
 rule_refusal s n d =
     if not (is_rule s d) then Some (faults.RuleKey n)
     else if not (has_names d) then Some (faults.RuleName n)
-    else if not (has_actions d) then Some (faults.RuleActions n)
+    else if not (knows_actions d) then Some (faults.RuleActions n)
     else if not (has_ranges d) then Some (faults.RuleRange n)
     else None
 

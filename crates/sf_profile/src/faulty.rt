@@ -2,7 +2,7 @@
 
 use crate::fault::Fault;
 use crate::keys::{
-    PROFILE_KEYS, RULE_KEYS, has_arguments, has_condition_or_none, has_map, has_rules, is_absent,
+    PROFILE_KEYS, RULE_KEYS, has_comparisons, has_condition_or_none, has_map, has_rules, is_absent,
     is_action, is_named, names_number,
 };
 use crate::refusal::{has_error_number_or_none, has_one_name_or_none, knows_action, profile_in};
@@ -79,7 +79,7 @@ fn key_of_rule<'a>(settings: &Settings, value: &'a Value) -> &'a str {
     if !is_action(value, "action", "errnoRet", "errno") {
         return action_key(value, "action", "errnoRet", "errno");
     }
-    if !has_arguments(value) {
+    if !has_comparisons(value) {
         return "args";
     }
     if has_condition_or_none(settings, value, "includes") {

@@ -5,7 +5,7 @@ ghost use Rattle.sf_profile.specs.Filters.{IsFilterOf};
 ghost use Rattle.sf_profile.specs.Form.{fits, form};
 
 use crate::fault::Fault;
-use crate::form::form;
+use crate::form::filter_code;
 use crate::instruction::raws_of;
 use crate::rules::Plan;
 use std::alloc::Global;
@@ -19,7 +19,7 @@ pub(crate) fn filter_of(alloc: Global, plan: &Plan) -> Result<Vec<u8>, Fault>
     ensures refused { IfErr result (λ e. (e ≡ Fault.Memory)
         ⊎ ((e ≡ Fault.TooLong) × (fits (form plan.now) ≡ false))) }
 {
-    let code = form(alloc, plan)?;
+    let code = filter_code(alloc, plan)?;
     let raws = raws_of(alloc, &code)?;
     // `encode` fails only where an allocation is refused.
     match sf_insn::encode(alloc, &raws) {

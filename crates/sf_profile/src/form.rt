@@ -326,7 +326,7 @@ fn push_part(
 
 /// The whole filter: set after set, and at an input of no set a return of 0, which kills the thread. An error where an
 /// allocation is refused.
-pub(crate) fn form(alloc: Global, plan: &Plan) -> Result<Vec<Instruction>, AllocError>
+pub(crate) fn filter_code(alloc: Global, plan: &Plan) -> Result<Vec<Instruction>, AllocError>
     ensures { IfOk result (λ v. v.items ≡ form plan.now) }
 {
     let mut code = Vec::new(alloc);

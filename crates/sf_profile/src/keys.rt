@@ -3,7 +3,7 @@
 ghost use Rattle.std.specs.Prelude.{◌≡◌, codes};
 ghost use Rattle.std.specs.List.{list_all};
 ghost use Rattle.serde_json.specs.View.{items_view, view};
-ghost use Rattle.sf_profile.specs.Refusals.{fits_action, has_sets, is_absent, is_action, is_argument, is_array, is_condition, is_kernel, is_map_item, is_named, is_profile, is_rule, names_number, takes_number};
+ghost use Rattle.sf_profile.specs.Refusals.{fits_action, has_sets, is_absent, is_action, is_comparison, is_array, is_condition, is_kernel, is_map_item, is_named, is_profile, is_rule, names_number, takes_number};
 ghost use Rattle.sf_profile.specs.Trees.{absent_or, at, has_only, is_list_of, item_list};
 ghost use Rattle.sf_profile.specs.Profiles.{argument_keys, condition_keys, map_keys, profile_keys, rule_keys};
 
@@ -153,8 +153,8 @@ pub(crate) fn has_condition_or_none(settings: &Settings, value: &Value, key: &st
 
 /// Whether a value has the form of a comparison. Whether its numbers are in their ranges, and its `op` is known, is
 /// looked at elsewhere.
-fn is_argument(value: &Value) -> bool
-    ensures { result ≡ is_argument (view value.now) }
+fn is_comparison(value: &Value) -> bool
+    ensures { result ≡ is_comparison (view value.now) }
 {
     has_argument_keys(value)
         && has_whole(value, "index")
@@ -164,35 +164,35 @@ fn is_argument(value: &Value) -> bool
 }
 
 /// Whether each value is a comparison.
-fn are_each_arguments(items: &[Value]) -> bool
-    ensures { result ≡ list_all (λ v. is_argument (view v)) items.now }
+fn are_each_comparisons(items: &[Value]) -> bool
+    ensures { result ≡ list_all (λ v. is_comparison (view v)) items.now }
 {
-    items.iter().all(|value| is_argument(value))
+    items.iter().all(|value| is_comparison(value))
 }
 
-/// The same as `are_each_arguments`. For the prover: its clause speaks of the list of the values' JSON trees.
-fn are_arguments(items: &[Value]) -> bool
-    ensures { result ≡ list_all is_argument (item_list (items_view items.now)) }
+/// The same as `are_each_comparisons`. For the prover: its clause speaks of the list of the values' JSON trees.
+fn are_comparisons(items: &[Value]) -> bool
+    ensures { result ≡ list_all is_comparison (item_list (items_view items.now)) }
 {
-    are_each_arguments(items)
+    are_each_comparisons(items)
 }
 
 /// Whether a value is an array of comparisons.
-fn is_argument_list(value: &Value) -> bool
-    ensures { result ≡ is_list_of is_argument (view value.now) }
+fn is_comparison_list(value: &Value) -> bool
+    ensures { result ≡ is_list_of is_comparison (view value.now) }
 {
     match value {
-        Value::Array(items) => are_arguments(items),
+        Value::Array(items) => are_comparisons(items),
         _ => false,
     }
 }
 
 /// Whether the comparisons of a rule, at its key `args`, are absent or an array of comparisons.
-pub(crate) fn has_arguments(value: &Value) -> bool
-    ensures { result ≡ absent_or (is_list_of is_argument) (at (codes "args") (view value.now)) }
+pub(crate) fn has_comparisons(value: &Value) -> bool
+    ensures { result ≡ absent_or (is_list_of is_comparison) (at (codes "args") (view value.now)) }
 {
     match at(value, "args") {
-        Some(list) => is_argument_list(list),
+        Some(list) => is_comparison_list(list),
         None => true,
     }
 }
@@ -224,7 +224,7 @@ pub(crate) fn is_rule(settings: &Settings, value: &Value) -> bool
     has_rule_keys(value)
         && is_named(value)
         && is_action(value, "action", "errnoRet", "errno")
-        && has_arguments(value)
+        && has_comparisons(value)
         && has_condition_or_none(settings, value, "includes")
         && has_condition_or_none(settings, value, "excludes")
 }

@@ -3,7 +3,7 @@
 ghost use Rattle.std.specs.Prelude.{◌≡◌, codes, map, option_map};
 ghost use Rattle.std.specs.List.{list_all};
 ghost use Rattle.serde_json.specs.View.{view};
-ghost use Rattle.sf_profile.specs.Refusals.{has_actions, has_argument_range, has_error_number_or_none, has_name, has_names, has_ranges, is_own_item, is_set, knows_sets_of_item, knows_action, knows_comparison, knows_set, knows_sets, profile_in, profile_refusal, rule_refusal, rules_refusal};
+ghost use Rattle.sf_profile.specs.Refusals.{knows_actions, has_argument_range, has_error_number_or_none, has_name, has_names, has_ranges, is_own_item, is_set, knows_sets_of_item, knows_action, knows_comparison, knows_set, knows_sets, profile_in, profile_refusal, rule_refusal, rules_refusal};
 ghost use Rattle.sf_profile.specs.Trees.{absent_or, at};
 
 use crate::fault::Fault;
@@ -82,8 +82,8 @@ fn know_comparisons(items: &[Value]) -> bool
 }
 
 /// Whether the action of a rule and the `op` of each of its comparisons are known.
-fn has_actions(value: &Value) -> bool
-    ensures { result ≡ has_actions (view value.now) }
+fn knows_actions(value: &Value) -> bool
+    ensures { result ≡ knows_actions (view value.now) }
 {
     knows_action(value, "action") && know_comparisons(items_at(value, "args"))
 }
@@ -136,7 +136,7 @@ fn rule_refusal(settings: &Settings, rule: usize, value: &Value) -> Option<Fault
     if !has_names(value) {
         return Some(Fault::RuleName { rule });
     }
-    if !has_actions(value) {
+    if !knows_actions(value) {
         return Some(Fault::RuleActions { rule });
     }
     if !has_ranges(value) {

@@ -3,7 +3,7 @@
 ghost use Rattle.std.specs.Prelude.{◌≡◌, ◌≤◌, length, map};
 ghost use Rattle.toml.specs.View.{view, table_view};
 ghost use Rattle.sf_policy.specs.Faults.{Gives};
-ghost use Rattle.sf_policy.specs.Encoding.{ranges_and_masks, table_or_empty, numbered_fault, fault_outside, question_of_parts};
+ghost use Rattle.sf_policy.specs.Encoding.{ranges_and_masks, table_or_empty, numbered_fault, fault_of_wide_number, question_of_parts};
 ghost use Rattle.sf_policy.specs.Policies.{question_of_table, questions_from};
 
 use super::Version;
@@ -30,8 +30,8 @@ fn fault_of_question(question: usize, fault: sf_ask::Fault) -> Fault
 
 /// The fault of a question that has a number outside 32 bits: `Name` where its name is wrong too, since names are
 /// looked at first, and else `Range`. `number` is the question's, from 1.
-fn fault_outside(number: usize, name: &str) -> Fault
-    ensures { result ≡ fault_outside number name.now }
+fn fault_of_wide_number(number: usize, name: &str) -> Fault
+    ensures { result ≡ fault_of_wide_number number name.now }
 {
     if Question::is_name(name) {
         Fault::Range { question: number }
@@ -53,7 +53,7 @@ fn question_of_parts(
         (ranges_and_masks entries.now) actions) }
 {
     let Some(words) = words_of(entries) else {
-        return Err(fault_outside(number, name));
+        return Err(fault_of_wide_number(number, name));
     };
     let ranges = words.0;
     let masks = words.1;

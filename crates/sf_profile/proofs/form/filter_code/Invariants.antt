@@ -1,7 +1,7 @@
 use Rattle.std.proofs.Common.{◌≡◌, take}
 use Rattle.std.specs.List.{flat_map}
 use Rattle.sf_profile.specs.Form.{part_code}
-use Rattle.sf_profile.proofs.form.form.Given as goal
+use Rattle.sf_profile.proofs.form.filter_code.Given as goal
 
 abbrev pub invariant-loop-part : goal.invariant-loop-part
 invariant-loop-part l = l.code.items ≡ flat_map (part_code l.plan) (take l.part-index l.plan.parts)

@@ -1,7 +1,7 @@
 use Rattle.std.proofs.Common.{arith}
 use Rattle.std.proofs.lemmas.Grind.{common_steps}
 use Rattle.sf_names.proofs.SetLemmas.{alone}
-use Rattle.sf_names.proofs.reading.one_set.Goals as goal
+use Rattle.sf_names.proofs.reading.list_of_one_set.Goals as goal
 
 pub returns : goal.returns
 returns c = alone _ _ _ c.in_ok-names.ensures (grind (arith, common_steps))
