@@ -64,7 +64,7 @@ pub fn constant(number: u64) -> Knowledge {
 
 /// A word that has the bits of a value where a mask has ones.
 pub fn masked(mask: u64, value: u64) -> Knowledge {
-    known_of(0, LAST, mask & LAST.saturating_sub(value), value)
+    known_of(0, LAST, mask & LAST.saturating_sub(value), value & mask)
 }
 
 /// The only number between the ends, where there is only one.

@@ -5,7 +5,7 @@ use Rattle.std.proofs.lemmas.List.{get_or-set_same, get_or-set_other, length-set
 use Rattle.std.specs.Prelude.{slice_index, Contains, IfOk, MatchBool, Some, None}
 use Rattle.sf_insn.specs.declared.input.Input.{Input}
 use Rattle.sf_sym.specs.Pool.{IsCondBelow, node_at, value_of}
-use Rattle.sf_sym.specs.ValueLaws.{met-passes, passes-met, value-constant}
+use Rattle.sf_sym.specs.ValueLaws.{passes-met, value-constant}
 use Rattle.sf_sym.specs.declared.pool.Cond.{Cond}
 use Rattle.sf_sym.specs.declared.pool.Node.{Node}
 use Rattle.sf_sym.specs.declared.pool.Node.TheVariants.{Const, Word, Bin, Neg}
@@ -14,7 +14,7 @@ use Rattle.sf_dom.specs.Known.{Admits, IsNarrower, IsDecided, known_of}
 use Rattle.sf_dom.specs.Facts.{known_at, excluded_of, FactsView, AgreesWith, Agrees, Covers, KeepsOnly, NoInput, HasIn, ConfinesWord, IsPlainCondition, IsWordOrConst, DecidesTest}
 use Rattle.sf_dom.specs.FactsLaws.{narrower-admits, some-such, value-word, decided-admits}
 use Rattle.sf_dom.specs.Learning.{assumed_of, with_pair, AreExcludedBy, ConditionGives, MoreGives, CantLearn}
-use Rattle.sf_dom.specs.Propagation.{TestGives, Holds, Meets, Learns}
+use Rattle.sf_dom.specs.Propagation.{TestGives, Meets, Learns}
 use Rattle.sf_dom.specs.Rules.{met}
 use Rattle.sf_dom.proofs.ClosedLemmas.{closed-consistent}
 use Rattle.sf_dom.proofs.ConditionSteps.{ComesFrom, condition-lawful, condition-rest, condition-from, more-lawful, more-rest, more-known}
@@ -85,7 +85,7 @@ module _ (f : FactsView) (ns : List Node) (cond : Cond) (h : Covers f ns) (below
   -- a plain condition is met by each input that agrees afterwards
   plain-holds : (new : List Known) (ex : List (List ℕ)) → ConditionGives f.known ex ns cond (Some new)
       → AreExcludedBy f.known f.excluded ex ns cond → IsPlainCondition ns cond → length new ≡ length ns → (d : Input)
-      → AgreesWith f.known f.excluded ns d → AgreesWith new ex ns d → Holds ns cond d
+      → AgreesWith f.known f.excluded ns d → AgreesWith new ex ns d → Meets ns cond d
   plain-holds new ex g out plain count d before after =
       let closed = covers-closed f ns h in
       let all = h.count in
@@ -107,7 +107,7 @@ module _ (f : FactsView) (ns : List Node) (cond : Cond) (h : Covers f ns) (below
       let own = (before cond.node.0 lv).admitted in
       let exact : (n : Node) → node_at ns cond.node.0 ≡ n → IsWordOrConst n → ¬ Contains (excluded_of ex n) x
       → TestGives cond.test x w.low cond.sense = λ n e k kept. by_node n e k kept left own dw number.0 in
-      rw (value, ← number.0) (exact (node_at ns cond.node.0) refl plain.node now.kept)
+      passes-met ns d cond (rw (value, ← number.0) (exact (node_at ns cond.node.0) refl plain.node now.kept))
     where
       word-small : (i : ℕ) → node_at ns cond.node.0 ≡ Word i → i < 16
       word-small i e = word-below cond.node.0 (node_at ns cond.node.0)
@@ -157,15 +157,13 @@ module _ (f : FactsView) (ns : List Node) (cond : Cond) (h : Covers f ns) (below
       = λ d a. agrees-with-fewer f.known f.excluded ex ns d h.pool count out.kept
       (agrees-back f.known new ex ns d (omega arith) n.narrower a) in
       let only : IsPlainCondition ns cond → KeepsOnly f facts ns (Meets ns cond)
-      = λ plain d i a. (before d a, passes-met ns d cond (plain-holds new ex g out plain after d (before d a) a)) in
+      = λ plain d i a. (before d a, plain-holds new ex g out plain after d (before d a) a) in
       record {
         covers = covers;
         narrower = record { known = n.narrower; excluded = out.kept };
         keeps = λ d i a m.
-            let holds = met-passes ns d cond m in
-            lawful.sound d i holds (excluding-keeps f.known f.excluded ex ns cond d h.pool count below out holds a)
-            (Some new)
-            g;
+            lawful.sound d i m (excluding-keeps f.known f.excluded ex ns cond d h.pool count below out m a)
+            (Some new) g;
         only = only;
         some = λ plain. some-such f facts ns (Meets ns cond) covers (only plain);
         decided = decides new ex g;
@@ -176,9 +174,8 @@ module _ (f : FactsView) (ns : List Node) (cond : Cond) (h : Covers f ns) (below
   unfolding Agrees
   cant-learn c d i a m =
       let closed = covers-closed f ns h in
-      let holds = met-passes ns d cond m in
-      (condition-lawful f.known c.lists ns cond h.pool closed below).sound d i holds
-      (excluding-keeps f.known f.excluded c.lists ns cond d h.pool h.count below c.excluded holds a) None c.none
+      (condition-lawful f.known c.lists ns cond h.pool closed below).sound d i m
+      (excluding-keeps f.known f.excluded c.lists ns cond d h.pool h.count below c.excluded m a) None c.none
 
 -- Facts of a pool take in more of a word.
 module _ (f : FactsView) (ns : List Node) (w : ℕ) (more : Known) (h : Covers f ns) (l : w < 16)

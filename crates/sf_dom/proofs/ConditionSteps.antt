@@ -6,13 +6,14 @@ use Rattle.std.specs.Prelude.{Option, Some, None, MatchOption, IfSome, Bool, tru
 use Rattle.sf_insn.specs.Inputs.{IsInput}
 use Rattle.sf_insn.specs.declared.input.Input.{Input}
 use Rattle.sf_sym.specs.Pool.{IsPool, IsCondBelow, value_of}
+use Rattle.sf_sym.specs.ValueLaws.{met-passes}
 use Rattle.sf_sym.specs.declared.pool.Cond.{Cond}
 use Rattle.sf_sym.specs.declared.pool.Node.{Node}
 use Rattle.sf_dom.specs.declared.known.Known.{Known}
 use Rattle.sf_dom.specs.declared.guards.Pair.{Pair}
 use Rattle.sf_dom.specs.Known.{Admits, IsNarrower, known_of}
 use Rattle.sf_dom.specs.Facts.{known_at, AgreesWith}
-use Rattle.sf_dom.specs.Propagation.{IsNarrowed, AllNarrower, Holds}
+use Rattle.sf_dom.specs.Propagation.{IsNarrowed, AllNarrower, Meets}
 use Rattle.sf_dom.specs.Backward.{IsPropagatedBack}
 use Rattle.sf_dom.specs.Rules.{met, IsClosedAt, IsReduction, ReductionGives, Then}
 use Rattle.sf_dom.specs.Passes.{PassGives, IsAtRest, AreClosed}
@@ -62,9 +63,9 @@ pair-narrowed-if ks ex ns cond h below pair g =
 
 -- an input that agrees and meets the condition agrees once both are written
 pair-sound : (ks : List Known) (ex : List (List ℕ)) (ns : List Node) (cond : Cond) → IsPool ns → AreClosed ks ns
-    → IsCondBelow (length ns) cond → (d : Input) → IsInput d → Holds ns cond d → AgreesWith ks ex ns d
+    → IsCondBelow (length ns) cond → (d : Input) → IsInput d → Meets ns cond d → AgreesWith ks ex ns d
     → (r : Option Pair) → PairGives ks ex cond r → MatchOption r ⊥ (λ pair. AgreesWith (with_pair ks cond pair) ex ns d)
-pair-sound ks ex ns cond p h below d i holds a =
+pair-sound ks ex ns cond p h below d i m a =
     let count = h.count in
     let iv = below.0 in let iw = below.1 in
     let v : Known = known_at ks cond.node.0 in
@@ -76,7 +77,7 @@ pair-sound ks ex ns cond p h below d i holds a =
     let y : ℕ = value_of ns d cond.other.0 in
     let hx = (a cond.node.0 lv).admitted in
     let hy = (a cond.other.0 (omega arith)).admitted in
-    let t = test-admits cond.test cond.sense v w x y cv cw hx hy holds in
+    let t = test-admits cond.test cond.sense v w x y cv cw hx hy (met-passes ns d cond m) in
     let z = test-zeros cond.test cond.sense v w cv cw in
     let first : Known = met v (assumed_of ks cond).node in
     then-some (ReductionGives ex cond.node.0 first) _ (λ node. Admits node x)
@@ -116,7 +117,7 @@ after-pair ks ex ns cond p h below =
 -- to take in a condition is a lawful step for the inputs that meet it
 pub condition-lawful : (ks : List Known) (ex : List (List ℕ)) (ns : List Node) (cond : Cond) → IsPool ns
     → AreClosed ks ns → IsCondBelow (length ns) cond
-    → IsLawful (Holds ns cond) ks ex ns (ConditionGives ks ex ns cond)
+    → IsLawful (Meets ns cond) ks ex ns (ConditionGives ks ex ns cond)
 condition-lawful ks ex ns cond p h below =
     let rest : Pair → Option (List Known) → Type 0
     = λ pair. Then (GoingBackGives (with_pair ks cond pair) ex ns cond.node.0) (λ one.
@@ -127,8 +128,8 @@ condition-lawful ks ex ns cond p h below =
     record {
       narrowed = then-if (PairGives ks ex cond) rest (λ next. IsNarrowed ks next ex ns) (λ pair g r f.
           narrowed-more r ks (with_pair ks cond pair) ex ns h (narrowed pair g) ((lawful pair g).narrowed r f));
-      sound = λ d i holds a. then-some (PairGives ks ex cond) rest (λ pair. AgreesWith (with_pair ks cond pair) ex ns d)
-          (λ next. AgreesWith next ex ns d) (pair-sound ks ex ns cond p h below d i holds a)
+      sound = λ d i m a. then-some (PairGives ks ex cond) rest (λ pair. AgreesWith (with_pair ks cond pair) ex ns d)
+          (λ next. AgreesWith next ex ns d) (pair-sound ks ex ns cond p h below d i m a)
           (λ pair g b r f. (lawful pair g).sound d i tt b r f);
     }
 

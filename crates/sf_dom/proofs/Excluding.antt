@@ -6,7 +6,7 @@ use Rattle.std.specs.Prelude.{Contains, slice_index}
 use Rattle.sf_insn.specs.declared.input.Input.{Input}
 use Rattle.sf_insn.specs.declared.ops.Test.TheVariants.{Equal}
 use Rattle.sf_sym.specs.Pool.{IsPool, IsCondBelow, node_at, value_of}
-use Rattle.sf_sym.specs.ValueLaws.{value-node}
+use Rattle.sf_sym.specs.ValueLaws.{value-node, met-passes}
 use Rattle.sf_sym.specs.declared.pool.Cond.{Cond}
 use Rattle.sf_sym.specs.declared.pool.Node.{Node}
 use Rattle.sf_sym.specs.declared.pool.Node.TheVariants.{Const, Word, Bin, Neg}
@@ -14,7 +14,7 @@ use Rattle.sf_dom.specs.declared.known.Known.{Known}
 use Rattle.sf_dom.specs.Known.{Admits, IsDecided}
 use Rattle.sf_dom.specs.Facts.{known_at, numbers_at, excluded_of, AgreesWith}
 use Rattle.sf_dom.specs.Learning.{Excludes, AreExcludedBy}
-use Rattle.sf_dom.specs.Propagation.{AddsNumber, AreExcluded, Holds}
+use Rattle.sf_dom.specs.Propagation.{AddsNumber, AreExcluded, Meets}
 use Rattle.sf_dom.proofs.GuardLemmas.{gives-differs}
 use Rattle.sf_dom.proofs.Passes.{operands-below}
 use Rattle.sf_dom.proofs.Propagations.{word-below}
@@ -78,9 +78,9 @@ decided-value k v h d = let a = h.above in let b = h.below in omega arith
 
 -- an input on which a condition is met agrees still where its numbers are excluded
 pub excluding-keeps : (ks : List Known) (ex ex' : List (List ℕ)) (ns : List Node) (cond : Cond) (d : Input) → IsPool ns
-    → length ks ≡ length ns → IsCondBelow (length ns) cond → AreExcludedBy ks ex ex' ns cond → Holds ns cond d
+    → length ks ≡ length ns → IsCondBelow (length ns) cond → AreExcludedBy ks ex ex' ns cond → Meets ns cond d
     → AgreesWith ks ex ns d → AgreesWith ks ex' ns d
-excluding-keeps ks ex ex' ns cond d p len below h holds a i li = record {
+excluding-keeps ks ex ex' ns cond d p len below h m a i li = record {
   admitted = (a i li).admitted;
   kept = still (node_at ns i) refl (a i li).kept;
 }
@@ -94,7 +94,7 @@ excluding-keeps ks ex ex' ns cond d p len below h holds a i li = record {
     -- the numbers that it excludes are none that the input has
     apart : (w : ℕ) → node_at ns i ≡ Word w → ¬ Excludes ks ns cond w (value_of ns d i)
     apart w e z =
-        let differ : x ≢ y = gives-differs x y (rw (z.0, z.1) at holds) in
+        let differ : x ≢ y = gives-differs x y (rw (z.0, z.1) at (met-passes ns d cond m)) in
         elim z.2 [
           | inl v ↦ differ (at-word ns d cond.node.0 i w p below.0 (omega arith) v.0 e ∙ v.2
               ∙ sym (decided-value (known_at ks cond.other.0) y (a cond.other.0 (omega (arith, below.1))).admitted v.1))

@@ -1,6 +1,5 @@
 -- What the rules give is one thing, and it depends only on which numbers are excluded.
 use Rattle.std.proofs.Common.{◌≡◌, ℕ, zero, suc, ◌<◌, List, [], length, set, arith, refl, sym, ap, ◌∙◌, inl, inr}
-use Rattle.std.proofs.lemmas.Bool.{cases_lt}
 use Rattle.std.proofs.lemmas.List.{ext_get_or}
 use Rattle.std.specs.Prelude.{Contains, Option, Some, None}
 use Rattle.sf_sym.specs.Pool.{IsPool, node_at}
@@ -14,7 +13,7 @@ use Rattle.sf_dom.specs.GoingBack.{gained, WritingGives, GoingBackGivesIn, Going
 use Rattle.sf_dom.specs.Learning.{AreExcludedBy, assumed_of, PairGives, with_pair, ConditionGives, MoreGives, LearnsBy, CantLearn, StartsBy, GrowsBy, CantGrow, TakesInBy, CantTakeInBy}
 use Rattle.sf_dom.specs.Passes.{IsPass, PassFails, PassGives, AreTakenIn, TakingInFails}
 use Rattle.sf_dom.specs.Rules.{met, forward_node, IsClosedAt, ReductionGives}
-use Rattle.sf_dom.proofs.Passes.{reduction-as, forward-same, operands-below, one-pass, pass-none}
+use Rattle.sf_dom.proofs.Passes.{reduction-as, forward-same, operands-below, one-pass, pass-none, word-or-other}
 use Rattle.sf_dom.proofs.Propagations.{same-taken}
 use Rattle.sf_dom.proofs.RuleLaws.{one-reduction}
 use Rattle.sf_dom.proofs.Then.{then-map, then-same, then-one}
@@ -138,10 +137,10 @@ reduction-one ex i old (Some a) (Some b) h k = ap Some (one-reduction (IsClosedA
 -- a pass that fails gives nothing
 fails-none : (old new : List Known) (ex : List (List ℕ)) (ns : List Node) → IsPool ns → PassFails old ex ns
     → ¬ IsPass old new ex ns
-fails-none old new ex ns p w pass = elim (cases_lt w.place 16) [
+fails-none old new ex ns p w pass = elim (word-or-other (node_at ns w.place)) [
   | inl b ↦
-      let r = rw (p.word w.place b) at (pass.each w.place w.within) in
-      (rw (p.word w.place b) at w.none) (known_at new w.place) r.is r.narrower
+      let r = rw b.1 at (pass.each w.place w.within) in
+      (rw b.1 at w.none) (known_at new w.place) r.is r.narrower
   | inr g ↦ pass-none old w.new ex ns w.place p w.within (w.before g) w.none new pass
 ]
 

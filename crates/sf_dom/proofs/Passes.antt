@@ -1,5 +1,5 @@
 -- What stays as it is in a forward pass, and what a pass leaves.
-use Rattle.std.proofs.Common.{◌≡◌, ℕ, ◌+◌, ◌-◌, ◌<◌, ◌≤◌, List, length, set, arith, refl, sym, ap, ◌∙◌, inl, inr, zero, suc}
+use Rattle.std.proofs.Common.{◌≡◌, ◌≢◌, ◌⊎◌, ℕ, ◌+◌, ◌-◌, ◌<◌, ◌≤◌, List, length, set, arith, refl, sym, ap, ◌∙◌, inl, inr, zero, suc}
 use Rattle.std.specs.Prelude.{Option, Some, None, MatchOption}
 use Rattle.std.proofs.lemmas.Bool.{cases_lt, cases_eq}
 use Rattle.std.proofs.lemmas.List.{get_or-set_same, get_or-set_other, ext_get_or}
@@ -258,14 +258,21 @@ same-pass ks ex ns i next l h None pass = record {
   none = none-parts ks pass.new ex ns i next l h pass.place pass.none;
 }
 
+-- a node is a word, or it is none
+pub word-or-other : (n : Node) → ((w : ℕ) × (n ≡ Word w)) ⊎ ((w : ℕ) → n ≢ Word w)
+word-or-other (Word i) = inl (i, refl)
+word-or-other (Const c) = inr (λ w e. let clash : Const c ≡ Word w = e in absurd cc)
+word-or-other (Bin op a b) = inr (λ w e. let clash : Bin op a b ≡ Word w = e in absurd cc)
+word-or-other (Neg a) = inr (λ w e. let clash : Neg a ≡ Word w = e in absurd cc)
+
 -- where a word is left nothing by itself, a pass fails
-pub word-fails : (ks : List Known) (ex : List (List ℕ)) (ns : List Node) (i : ℕ) → i < length ns → i < 16
-    → HasNoReduction ex i (known_at ks i) → PassFails ks ex ns
-word-fails ks ex ns i l b none = record {
+pub word-fails : (ks : List Known) (ex : List (List ℕ)) (ns : List Node) (i w : ℕ) → i < length ns
+    → node_at ns i ≡ Word w → HasNoReduction ex i (known_at ks i) → PassFails ks ex ns
+word-fails ks ex ns i w l word none = record {
   new = ks;
   place = i;
   within = l;
-  before = λ g. absurd (omega arith);
+  before = λ other. absurd (other w word);
   none = λ s is n.
       let f : Known = forward_node ks (node_at ns i) in
       let own : Known = known_at ks i in

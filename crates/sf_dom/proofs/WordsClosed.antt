@@ -1,20 +1,17 @@
 -- Nothing more follows for the words, but for those that a condition names; and the pass after it.
-use Rattle.std.proofs.Common.{◌≡◌, ◌≢◌, ℕ, ◌<◌, List, length, Bool, true, false, arith, ap, ◌⊎◌, inl, inr}
+use Rattle.std.proofs.Common.{◌≡◌, ◌≢◌, ℕ, List, Bool, true, false, ap, ◌⊎◌, inl, inr}
 use Rattle.std.proofs.lemmas.Bool.{cases_eq}
 use Rattle.std.specs.Prelude.{Some, None, MatchBool, Contains}
-use Rattle.sf_sym.specs.Pool.{IsPool, IsCondBelow, node_at}
+use Rattle.sf_sym.specs.Pool.{node_at}
 use Rattle.sf_sym.specs.declared.pool.Cond.{Cond}
 use Rattle.sf_sym.specs.declared.pool.Node.{Node}
 use Rattle.sf_sym.specs.declared.pool.Node.TheVariants.{Const, Word, Bin, Neg}
 use Rattle.sf_dom.specs.declared.known.Known.{Known}
-use Rattle.sf_dom.specs.Known.{IsTight}
 use Rattle.sf_dom.specs.Facts.{known_at, numbers_at}
 use Rattle.sf_dom.specs.Learning.{AreExcludedBy}
 use Rattle.sf_dom.specs.Propagation.{AreClosedWords, AreOthersClosed, KeepsClosed}
 use Rattle.sf_dom.specs.Rules.{IsClosedAt}
-use Rattle.sf_dom.specs.Passes.{PassGives, HasPassOf, IsStill, IsAtRest, AreClosed}
-use Rattle.sf_dom.proofs.Passes.{operands-below}
-use Rattle.sf_dom.proofs.Propagations.{word-below}
+use Rattle.sf_dom.specs.Passes.{PassGives, HasPassOf}
 
 -- a node is a word, or it isn't
 pub is-word : (n : Node) (w : ℕ) → (n ≡ Word w) ⊎ (n ≢ Word w)
@@ -45,27 +42,6 @@ pub pass-of : (r : Bool) (a b n : List Known) (ex : List (List ℕ)) (ns : List 
     → MatchBool r (PassGives a ex ns (Some n)) (PassGives a ex ns None)
 pass-of true a b n ex ns h w = h (Some n) w
 pass-of false a b n ex ns h w = h None w
-
--- nodes are at rest where nothing follows for any, and the words that a condition names are tight
-pub at-rest : (ks : List Known) (ex : List (List ℕ)) (ns : List Node) (cond : Cond) → IsPool ns → AreClosed ks ns
-    → IsCondBelow (length ns) cond → AreOthersClosed ks ex ns cond
-    → ((i : ℕ) → i < length ns → IsStill ks ns i)
-    → ((i : ℕ) → node_at ns cond.node.0 ≡ Word i → IsTight (known_at ks i) (numbers_at ex i))
-    → ((i : ℕ) → node_at ns cond.other.0 ≡ Word i → IsTight (known_at ks i) (numbers_at ex i))
-    → (i : ℕ) → i < length ns → IsAtRest ks ex ns i
-at-rest ks ex ns cond p h below others still node other i l =
-    let words = p.words in
-    let closed : (i : ℕ) → i < 16 → IsTight (known_at ks i) (numbers_at ex i) → IsClosedAt ex i (known_at ks i)
-    = λ i b tight. record { known = h.each i (omega arith); tight = λ l. tight } in
-    let all = closed-all ks ks ks ex ns cond others (λ w l c. c) (λ w l c. c)
-    (λ i e. closed i (word-below cond.node.0 (node_at ns cond.node.0)
-    (operands-below ns cond.node.0 p below.0) i e) (node i e))
-    (λ i e. closed i (word-below cond.other.0 (node_at ns cond.other.0) (operands-below ns cond.other.0 p below.1) i e)
-    (other i e)) in
-    record {
-      closed = record { known = h.each i l; tight = λ b. (all i b).tight b };
-      still = still i l;
-    }
 
 -- nothing more follows for the words that are no nodes of a condition, since it excludes no number for them
 pub others-closed : (ks : List Known) (ex ex' : List (List ℕ)) (ns : List Node) (cond : Cond) → AreClosedWords ks ex

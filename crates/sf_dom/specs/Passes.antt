@@ -1,5 +1,5 @@
 -- Forward passes, when one changes nothing, and how newer nodes are taken in.
-use Rattle.std.specs.Prelude.{◌≡◌, ℕ, ◌<◌, ◌≤◌, ◌⊎◌, List, length, take, slice_index, Option, MatchOption}
+use Rattle.std.specs.Prelude.{◌≡◌, ◌≢◌, ℕ, ◌<◌, ◌≤◌, ◌⊎◌, List, length, take, slice_index, Option, MatchOption}
 use Rattle.sf_sym.specs.Pool.{node_at}
 use Rattle.sf_sym.specs.declared.pool.Node.{Node}
 use Rattle.sf_sym.specs.declared.pool.Node.TheVariants.{Const, Word, Bin, Neg}
@@ -20,13 +20,13 @@ pub record IsPass (old new : List Known) (ex : List (List ℕ)) (ns : List Node)
   pub each : (i : ℕ) → i < length ns → IsPassedAt old new ex ns i
 
 -- A forward pass fails at a node: what was known of it contradicts what follows from its operands as the pass left
--- them. If the node is past the words of the input, all nodes before it have been passed; a word may fail whatever
--- became of other words.
+-- them. If the node is no word of the input, all nodes before it have been passed; a word, which has no operands, may
+-- fail whatever became of other nodes.
 pub record PassFails (old : List Known) (ex : List (List ℕ)) (ns : List Node) : Type 0 where
   pub new : List Known
   pub place : ℕ
   pub within : place < length ns
-  pub before : 16 ≤ place → (k : ℕ) → k < place → IsPassedAt old new ex ns k
+  pub before : ((w : ℕ) → node_at ns place ≢ Word w) → (k : ℕ) → k < place → IsPassedAt old new ex ns k
   pub none : HasNoReduction ex place (met (known_at old place) (forward_node new (node_at ns place)))
 
 -- what a forward pass gives: what is known of all nodes after it, or nothing where it fails

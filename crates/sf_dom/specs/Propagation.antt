@@ -5,7 +5,7 @@ use Rattle.sf_insn.specs.Inputs.{IsInput}
 use Rattle.sf_insn.specs.Words.{passes}
 use Rattle.sf_insn.specs.declared.input.Input.{Input}
 use Rattle.sf_insn.specs.declared.ops.Test.{Test}
-use Rattle.sf_sym.specs.Pool.{node_at, value_of, is_met, ArePlainNodes}
+use Rattle.sf_sym.specs.Pool.{node_at, is_met, ArePlainNodes}
 use Rattle.sf_sym.specs.declared.pool.Node.{Node}
 use Rattle.sf_sym.specs.declared.pool.Node.TheVariants.{Word, Bin, Neg}
 use Rattle.sf_sym.specs.declared.pool.Cond.{Cond}
@@ -68,10 +68,6 @@ KeepsFixed old new ns = AreConsistent old.known
 -- the test of two numbers has this result
 abbrev pub TestGives : Test → ℕ → ℕ → Bool → Type 0
 TestGives test a b sense = passes test a b ≡ sense
-
--- the test of a condition's nodes has the result that the condition asks for
-abbrev pub Holds : List Node → Cond → Input → Type 0
-Holds ns c d = TestGives c.test (value_of ns d c.node.0) (value_of ns d c.other.0) c.sense
 
 -- one more number is excluded for a word, and the other words keep their numbers
 pub record AddsNumber (old new : List (List ℕ)) (w number : ℕ) : Type 0 where

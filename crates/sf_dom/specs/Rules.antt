@@ -22,10 +22,9 @@ between low high = known_of low high 0 0
 abbrev pub full : Known
 full = between 0 4294967295
 
--- What is known of a word that has, where a mask has ones, the bits of a value. It is meant for values without bits
--- outside the mask; those would count as known too.
+-- what is known of a word that has, where a mask has ones, the bits of a value
 abbrev pub masked : ℕ → ℕ → Known
-masked mask value = known_of 0 4294967295 (bit_and mask (4294967295 - value)) value
+masked mask value = known_of 0 4294967295 (bit_and mask (4294967295 - value)) (bit_and value mask)
 
 -- what is known of a word, moved left by s bits: its known bits move, zeros come in from the right, and the interval
 -- moves too where its upper end stays a word

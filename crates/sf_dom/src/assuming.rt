@@ -1,28 +1,25 @@
 //! Takes a condition into what is known of the nodes of a pool.
 
-ghost use Rattle.std.specs.Prelude.{◌≡◌, ◌≢◌, ℕ, ◌+◌, ◌-◌, ◌*◌, ◌/◌, ◌%◌, ◌<◌, ◌≤◌, ◌^◌, ◌⊎◌, List, length, MatchOption, MatchBool, IfOk, IsTrue, false, Some, None};
-ghost use Rattle.sf_sym.specs.Pool.{node_at, IsCondBelow};
+ghost use Rattle.std.specs.Prelude.{◌≡◌, ◌≢◌, ℕ, ◌+◌, ◌-◌, ◌*◌, ◌/◌, ◌%◌, ◌<◌, ◌≤◌, ◌^◌, ◌⊎◌, List, length, MatchOption, MatchBool, IfOk, false, Some, None};
+ghost use Rattle.sf_sym.specs.Pool.{IsCondBelow};
 ghost use Rattle.sf_sym.specs.Operands.{IsSwappable};
-ghost use Rattle.sf_dom.specs.Known.{IsTight};
 ghost use Rattle.sf_dom.specs.Propagation.{AreExcluded, AreOthersClosed};
 ghost use Rattle.sf_dom.specs.Rules.{assumed, met, ReductionGives};
-ghost use Rattle.sf_dom.specs.Passes.{AreClosed, PassGives, AreFixed, IsStill};
+ghost use Rattle.sf_dom.specs.Passes.{AreClosed, PassGives, AreFixed};
 ghost use Rattle.sf_dom.specs.Learning.{AreExcludedBy, PairGives, ConditionGives};
 ghost use Rattle.sf_dom.specs.GoingBack.{with_bits as with_bits_of, gained, GoingBackGives};
-ghost use Rattle.sf_dom.specs.Backward.{IsPropagatedBack};
-ghost use Rattle.sf_dom.specs.Facts.{known_at, numbers_at};
+ghost use Rattle.sf_dom.specs.Facts.{known_at};
 
 use crate::exclusions::Excluded;
 use crate::fault::Fault;
 use crate::guards::{
-    Pair, at_least, at_most, common_bit, differs, less_than, more_than, no_common_bit,
+    Pair, at_least, at_most, common_bit, less_than, more_than, no_common_bit, other_than,
 };
-use crate::known::{Known, is_same};
+use crate::known::Known;
 use crate::nodes::Nodes;
-use crate::propagation::{is_tight_at, propagate, reduce_at, tighten};
-use crate::telling::are_propagated_back;
+use crate::propagation::{propagate, reduce_at, tighten};
 use sf_insn::{BinOp, Test};
-use sf_sym::{Cond, Node, NodeId, Pool, constant_operand};
+use sf_sym::{Cond, Node, Pool, constant_operand};
 use std::alloc::Global;
 
 /// What is known, with more known bits.
@@ -36,8 +33,8 @@ fn with_bits(known: Known, zeros: u32, ones: u32) -> Known
     }
 }
 
-/// What is known of the operand x of a node `x op c`, with the bits that follow from those of the node. `None` where
-/// the operation is not AND, OR or XOR.
+/// What is known of the operand x of a node `x op c`: `operand`, with the bits that follow from those of `node`, which
+/// is what is known of the node. `None` where the operation is not AND, OR or XOR: no bits go back from others.
 pub(crate) fn backward(op: BinOp, node: Known, c: u32, operand: Known) -> Option<Known>
     ensures { MatchOption result (¬ IsSwappable op)
         (λ g. IsSwappable op × (g ≡ gained op c node operand)) }
@@ -54,8 +51,10 @@ pub(crate) fn backward(op: BinOp, node: Known, c: u32, operand: Known) -> Option
     }
 }
 
-/// Takes the known bits of a node back to its operand beside a constant, and so on from operand to operand. `false`: no
-/// input agrees.
+/// Takes the known bits of a node back to its operand beside a constant, and so on from operand to operand, up to one
+/// without a constant operand or with an operation from which no bits go back. `false`: an operand is left no number,
+/// so no input agrees; some operands may be changed. The caller's condition: `nodes` are those of the pool, and `from`
+/// is the place of one.
 fn propagate_back(nodes: &mut Nodes, excluded: &Excluded, pool: &Pool, from: usize) -> bool
     requires closed { AreClosed nodes.old.known pool.now }
     requires start { from < length pool.now }
@@ -80,7 +79,8 @@ fn propagate_back(nodes: &mut Nodes, excluded: &Excluded, pool: &Pool, from: usi
     true
 }
 
-/// What is known of two words once their test has this result. Before it, `v` and `w` are known of them.
+/// What is known of two words once the test of the first against the second has this result. Before that, `v` is known
+/// of the first and `w` of the second. By `AnyBit` only the first one gains, and only where the second is decided.
 #[tactic(auto, using(std::proofs::lemmas::Bool::Decides::nat_tests), unfolding(crate::specs::Rules::assumed))]
 fn assume_test(v: Known, w: Known, test: Test, sense: bool) -> Pair
     ensures { result ≡ assumed test sense v w }
@@ -95,11 +95,11 @@ fn assume_test(v: Known, w: Known, test: Test, sense: bool) -> Pair
         }
         (Test::Equal, false) => Pair {
             node: match w.decided() {
-                Some(number) => differs(v, number),
+                Some(number) => other_than(v, number),
                 None => v,
             },
             other: match v.decided() {
-                Some(number) => differs(w, number),
+                Some(number) => other_than(w, number),
                 None => w,
             },
         },
@@ -136,7 +136,8 @@ fn assume_test(v: Known, w: Known, test: Test, sense: bool) -> Pair
     }
 }
 
-/// What is known of a node, reduced, where `more` is known of it too; `None` where this leaves it no number.
+/// What is known of the node at a place, reduced, where `more` is known of it too; `None` where this leaves it no
+/// number. The nodes themselves stay as they are. The caller's condition: there is a node at the place.
 pub(crate) fn known_left(
     nodes: &Nodes,
     excluded: &Excluded,
@@ -162,8 +163,8 @@ fn told_of_other(cond: &Cond, told: Known, node: Known) -> Known
     }
 }
 
-/// What a condition leaves of its two nodes; `None` where it leaves one of them no number. It changes nothing, and is
-/// asked before facts are copied.
+/// What a condition leaves of its two nodes, looked at by themselves; `None` where it leaves one of them no number.
+/// This changes nothing, so it is asked before facts are copied. The caller's condition: both nodes are among `nodes`.
 pub(crate) fn pair_left(nodes: &Nodes, excluded: &Excluded, cond: &Cond) -> Option<Pair>
     requires { IsCondBelow (length nodes.now.known) cond.now }
     ensures { PairGives nodes.now.known excluded.now cond.now result }
@@ -177,8 +178,9 @@ pub(crate) fn pair_left(nodes: &Nodes, excluded: &Excluded, cond: &Cond) -> Opti
     Some(Pair { node, other })
 }
 
-/// Forward propagation after a condition. All words are tight already, except perhaps the condition's two nodes, which
-/// are tightened first. `false`: some node is left no number.
+/// Forward propagation after a condition. `false`: some node is left no number, and what is known may be changed in
+/// part. The caller's condition: all words are reduced already, except perhaps the condition's two nodes; these are
+/// reduced first.
 fn propagate_on(nodes: &mut Nodes, excluded: &Excluded, pool: &Pool, cond: &Cond) -> bool
     requires closed { AreClosed nodes.old.known pool.now }
     requires below { IsCondBelow (length pool.now) cond.now }
@@ -201,47 +203,11 @@ fn propagate_on(nodes: &mut Nodes, excluded: &Excluded, pool: &Pool, cond: &Cond
     propagate(nodes, excluded, pool)
 }
 
-/// Whether a node stays as it is: what is left of it is what is known of it, no bit would go back from it, and if it is
-/// a word, it is tight.
-fn stays(nodes: &Nodes, excluded: &Excluded, pool: &Pool, at: NodeId, left: Known) -> bool
-    requires closed { AreClosed nodes.now.known pool.now }
-    requires place { at.0 < length pool.now }
-    ensures same { IsTrue result → left ≡ known_at nodes.now.known at.0 }
-    ensures back { IsTrue result → (n : ℕ) → IsPropagatedBack n
-        nodes.now.known pool.now at.0 }
-    ensures tight { IsTrue result → (i : ℕ) → node_at pool.now at.0 ≡ Node.Word i
-        → IsTight (known_at nodes.now.known i) (numbers_at excluded.now i) }
-{
-    is_same(left, nodes.get(at.0 as usize))
-        && are_propagated_back(nodes, pool, at.0 as usize)
-        && is_tight_at(nodes, excluded, pool, at)
-}
-
-/// Whether a condition changes nothing that is known of any node. `alone` is what it leaves of its two nodes.
-pub(crate) fn changes_nothing(
-    nodes: &Nodes,
-    excluded: &Excluded,
-    pool: &Pool,
-    cond: &Cond,
-    alone: Pair,
-) -> bool
-    requires closed { AreClosed nodes.now.known pool.now }
-    requires below { IsCondBelow (length pool.now) cond.now }
-    requires left { PairGives nodes.now.known excluded.now cond.now (Some alone) }
-    requires others { AreOthersClosed nodes.now.known excluded.now pool.now cond.now }
-    requires still { (i : ℕ) → i < length pool.now → IsStill nodes.now.known pool.now i }
-    ensures { IsTrue result → ConditionGives nodes.now.known excluded.now pool.now cond.now
-        (Some nodes.now.known) }
-{
-    // For the prover: the pool is lawful.
-    let _count = pool.len();
-    stays(nodes, excluded, pool, cond.node, alone.node)
-        && stays(nodes, excluded, pool, cond.other, alone.other)
-}
-
-/// Takes a condition into what is known. `alone` is what it leaves of its two nodes. Where both are one node, the
-/// second part has all that is known of it, and is written last. `false`: some node is left no number, and what is
-/// known may be changed in part.
+/// Takes a condition into what is known: what it leaves of its two nodes is written, known bits go back from both, and
+/// a forward pass follows. `alone` is what `pair_left` gave for the condition. Where both nodes are one, the second
+/// part of `alone` has all that is known of it, and is written last. `false`: some node is left no number, and what is
+/// known may be changed in part. The caller's condition: all words are reduced already, except perhaps the condition's
+/// nodes.
 pub(crate) fn assume_cond(
     nodes: &mut Nodes,
     excluded: &Excluded,
@@ -288,9 +254,10 @@ fn exclude(alloc: Global, excluded: &mut Excluded, node: Node, other: Known) -> 
     Ok(())
 }
 
-/// Takes in that the two nodes of a condition differ: where one is decided and the other is a word, its number is
-/// excluded for the word. `Memory` where an allocation is refused.
-pub(crate) fn exclude_both(
+/// Takes in that the two nodes of a condition differ: where one is decided and the other is a word, the number of the
+/// first is excluded for the word. `Memory` where an allocation is refused; one number may be excluded then. The
+/// caller's condition: the condition says that the two nodes differ.
+pub(crate) fn exclude_each_other(
     alloc: Global,
     excluded: &mut Excluded,
     nodes: &Nodes,

@@ -141,7 +141,7 @@ fn no_exclusions() -> Lists
 }
 
 /// Writes copies of the lists over `copies`, in place, since it takes long to move the array. `Memory` only where no
-/// more copies can share a list.
+/// more copies can share a list; some of `copies` may be written then.
 fn copy_all(lists: &Lists, copies: &mut Lists) -> Result<(), Fault>
     requires { length copies.old ≡ 16 }
     ensures { IfOk result (λ _. copies.new ≡ lists.now) }
@@ -186,7 +186,7 @@ impl Excluded {
         Excluded::of(alloc, no_exclusions())
     }
 
-    /// The lists, that of the first word first.
+    /// The lists, that of the first word first. For the prover: there are sixteen.
     fn lists(&self) -> &Lists
         ensures value { result.now ≡ self.now }
         ensures words { length result.now ≡ 16 }

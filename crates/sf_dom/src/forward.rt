@@ -60,7 +60,8 @@ fn div(a: Known, b: Known) -> Known
     }
 }
 
-/// An OR is at least each operand. A bit of it is 0 where it is 0 in both, and 1 where it is 1 in one of them.
+/// What is known of an OR. It is at least each operand. A bit of it is 0 where it is 0 in both operands, and 1 where it
+/// is 1 in at least one of them.
 fn or(a: Known, b: Known) -> Known
     ensures { result ≡ forward_known BinOp.Or a b }
 {
@@ -72,7 +73,8 @@ fn or(a: Known, b: Known) -> Known
     }
 }
 
-/// An AND is at most each operand. A bit of it is 0 where it is 0 in one of them, and 1 where it is 1 in both.
+/// What is known of an AND. It is at most each operand. A bit of it is 0 where it is 0 in at least one operand, and 1
+/// where it is 1 in both.
 fn and(a: Known, b: Known) -> Known
     ensures { result ≡ forward_known BinOp.And a b }
 {
@@ -84,7 +86,7 @@ fn and(a: Known, b: Known) -> Known
     }
 }
 
-/// A bit of an XOR is known where it is known in both operands. Its interval isn't narrowed.
+/// What is known of an XOR. A bit of it is known where it is known in both operands. Nothing is known of its interval.
 fn xor(a: Known, b: Known) -> Known
     ensures { result ≡ forward_known BinOp.Xor a b }
 {
@@ -97,7 +99,8 @@ fn xor(a: Known, b: Known) -> Known
 }
 
 /// What is known of a word that is shifted to the left by `s` bits. Its known bits are shifted, and the `s` low bits
-/// are 0. The ends are shifted too, if the high one loses no bit; else nothing is known of the interval.
+/// are 0. The ends are shifted too, if the high one loses no bit; else nothing is known of the interval. The caller's
+/// condition: `s` is below 32.
 fn shift_left_by(a: Known, s: u32) -> Known
     requires { s < 32 }
     ensures { a.low ≤ a.high → result ≡ moved_left a s }
@@ -122,7 +125,7 @@ fn shift_left_by(a: Known, s: u32) -> Known
 }
 
 /// What is known of a word that is shifted to the right by `s` bits. Its known bits and both ends are shifted, and the
-/// `s` high bits are 0.
+/// `s` high bits are 0. The caller's condition: `s` is below 32.
 fn shift_right_by(a: Known, s: u32) -> Known
     requires { s < 32 }
     ensures { result ≡ moved_right a s }
@@ -135,7 +138,8 @@ fn shift_right_by(a: Known, s: u32) -> Known
     }
 }
 
-/// A shift to the left goes by the second operand modulo 32; where that is not decided, nothing is known.
+/// What is known of a shift to the left, which goes by the second operand modulo 32. Where the second operand isn't
+/// decided, nothing is known.
 fn shift_left(a: Known, b: Known) -> Known
     ensures { a.low ≤ a.high → result ≡ forward_known BinOp.Lsh a b }
 {
@@ -145,8 +149,8 @@ fn shift_left(a: Known, b: Known) -> Known
     }
 }
 
-/// A shift to the right goes by the second operand modulo 32; where that is not decided, the result is at most the
-/// first operand.
+/// What is known of a shift to the right, which goes by the second operand modulo 32. Where the second operand isn't
+/// decided, the result is at most the first one.
 fn shift_right(a: Known, b: Known) -> Known
     ensures { result ≡ forward_known BinOp.Rsh a b }
 {
@@ -156,7 +160,8 @@ fn shift_right(a: Known, b: Known) -> Known
     }
 }
 
-/// What is known of the result of an operation, by what is known of its operands.
+/// What is known of the result of an operation, by what is known of its operands. It is promised where the ends of
+/// neither operand's interval are crossed.
 pub(crate) fn forward(op: BinOp, a: Known, b: Known) -> Known
     ensures { a.low ≤ a.high → b.low ≤ b.high → result ≡ forward_known op a b }
 {

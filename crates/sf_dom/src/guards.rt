@@ -1,4 +1,4 @@
-//! The guards: what is known of a word once it is compared with a number. `v` is what was known of it before.
+//! The guards: what is known of a word once it is compared with a number. `v` is what was known of the word before.
 
 ghost use Rattle.std.specs.Prelude.{◌≡◌, ◌≢◌, ℕ, ◌+◌, ◌-◌, ◌*◌, ◌/◌, ◌%◌, ◌<◌, ◌≤◌, ◌^◌};
 ghost use Rattle.sf_dom.specs.Rules.{nothing, at_least, at_most, more_than, less_than, past, some_of, none_of};
@@ -14,14 +14,14 @@ pub(crate) struct Pair {
     pub(crate) other: Known,
 }
 
-/// What is known where no number is left: the ends of the interval are crossed.
+/// What is known where no number is left: the ends of the interval are crossed, 1 and 0.
 fn nothing() -> Known
     ensures { result ≡ nothing }
 {
     Known::interval(1, 0)
 }
 
-/// What is known of a word that is at least a number.
+/// What is known of a word that is at least a number. Before that `v` was known of it.
 pub(crate) fn at_least(v: Known, number: u32) -> Known
     ensures { result ≡ at_least number v }
 {
@@ -31,7 +31,7 @@ pub(crate) fn at_least(v: Known, number: u32) -> Known
     }
 }
 
-/// What is known of a word that is at most a number.
+/// What is known of a word that is at most a number. Before that `v` was known of it.
 pub(crate) fn at_most(v: Known, number: u32) -> Known
     ensures { result ≡ at_most number v }
 {
@@ -41,7 +41,8 @@ pub(crate) fn at_most(v: Known, number: u32) -> Known
     }
 }
 
-/// What is known of a word that is more than a number.
+/// What is known of a word that is more than a number. Before that `v` was known of it. No number is more than the
+/// greatest one.
 #[tactic(auto, using(std::proofs::lemmas::Bool::Decides::nat_tests))]
 pub(crate) fn more_than(v: Known, number: u32) -> Known
     ensures { result ≡ more_than number v }
@@ -52,7 +53,7 @@ pub(crate) fn more_than(v: Known, number: u32) -> Known
     at_least(v, number + 1)
 }
 
-/// What is known of a word that is less than a number.
+/// What is known of a word that is less than a number. Before that `v` was known of it. No number is less than 0.
 #[tactic(auto, using(std::proofs::lemmas::Bool::Decides::nat_tests))]
 pub(crate) fn less_than(v: Known, number: u32) -> Known
     ensures { result ≡ less_than number v }
@@ -63,9 +64,10 @@ pub(crate) fn less_than(v: Known, number: u32) -> Known
     at_most(v, number - 1)
 }
 
-/// What is known of a word that isn't this number: an end that is the number moves past it.
+/// What is known of a word that isn't this number: an end of the interval that is the number moves past it. Before that
+/// `v` was known of the word.
 #[tactic(auto, using(std::proofs::lemmas::Bool::Decides::nat_tests))]
-pub(crate) fn differs(v: Known, number: u32) -> Known
+pub(crate) fn other_than(v: Known, number: u32) -> Known
     ensures { result ≡ past number v }
 {
     let mut at = v;
@@ -78,7 +80,7 @@ pub(crate) fn differs(v: Known, number: u32) -> Known
     at
 }
 
-/// What is known of a word that has none of these bits: all of them are 0.
+/// What is known of a word that has none of these bits: all of them are 0. Before that `v` was known of it.
 pub(crate) fn no_common_bit(v: Known, bits: u32) -> Known
     ensures { result ≡ none_of bits v }
 {
@@ -88,7 +90,8 @@ pub(crate) fn no_common_bit(v: Known, bits: u32) -> Known
     }
 }
 
-/// What is known of a word that has at least one of these bits: where only one of them isn't known to be 0, it is 1.
+/// What is known of a word that has at least one of these bits. Before that `v` was known of it. Where all of the bits
+/// are known to be 0, no number is left. Where only one isn't, this bit is 1. Otherwise nothing more is known.
 #[tactic(auto, using(std::proofs::lemmas::Bool::Decides::nat_tests))]
 pub(crate) fn common_bit(v: Known, bits: u32) -> Known
     ensures { result ≡ some_of bits v }
@@ -97,6 +100,7 @@ pub(crate) fn common_bit(v: Known, bits: u32) -> Known
     if open == 0 {
         return nothing();
     }
+    // The lowest of the bits that aren't known to be 0: is it the only one?
     let place = open.trailing_zeros();
     if place < 32 && open == 1u32 << place {
         return Known {

@@ -1,30 +1,32 @@
-//! Laws of the rules of facts.
+//! Laws of the rules of facts, each the contract of a function that does nothing.
 
 ghost use Rattle.sf_dom.specs.SoundRules.{IsForwardSound, IsReductionSound, HaveOneResult, PassKeepsOlder, CarriedAreBuilt, ForcedIsLearnt};
 
-/// Forward propagation and reduction lose no number that a node may have.
+/// A law for the prover: forward propagation and reduction lose no number that a node may have.
 pub fn rules_are_sound()
     ensures forward { IsForwardSound }
     ensures reduction { IsReductionSound }
 {}
 
-/// The rules have one result: equal facts learn and take in the same, or none of them can.
+/// A law for the prover: the rules have one result. Equal facts stay equal where both learn one condition, take in the
+/// same new nodes, or keep the same numbers of a word; and where one of them can do so, the other can too.
 pub fn rules_have_one_result()
     ensures { HaveOneResult }
 {}
 
-/// A forward pass changes no node that is older than the first one for which more follows.
+/// A law for the prover: a forward pass changes no node that is older than the first one of which more follows.
 pub fn passes_keep_older_nodes()
     ensures { PassKeepsOlder }
 {}
 
-/// Facts that are carried along, while conditions are learnt and nodes come, are those that are built anew from all
-/// conditions.
+/// A law for the prover: facts that are carried along, while conditions are learnt and nodes come, are those that are
+/// built anew over the whole pool from all conditions.
 pub fn carried_facts_are_built()
     ensures { CarriedAreBuilt }
 {}
 
-/// A result of a test that is forced can be learnt, and the other result can't.
+/// A law for the prover: where a test is told, a condition with the result that is told can be learnt, and the same
+/// condition with the other result can't.
 pub fn forced_results_are_learnt()
     ensures { ForcedIsLearnt }
 {}

@@ -68,7 +68,7 @@ impl Nodes {
         self.slots.len()
     }
 
-    /// What is known of a node.
+    /// What is known of the node at a place, the oldest at 0. The caller's condition: there is one.
     pub(crate) fn get(&self, i: usize) -> Known
         requires { i < length self.now.known }
         ensures { result ≡ known_at self.now.known i }
@@ -87,7 +87,8 @@ impl Nodes {
         self.variables.len()
     }
 
-    /// A variable, the oldest at 0: its place, and what is known of it, which is what `get` gives for the place.
+    /// The variable with this rank, counted from the oldest, which has 0: its place in the pool, and what is known of
+    /// it, which is what `get` gives for the place. The caller's condition: the rank is below `variable_count`.
     pub(crate) fn variable(&self, rank: usize) -> Variable
         requires { rank < length self.now.variables }
         ensures place { result.place ≡ slice_index self.now.variables rank }
@@ -97,7 +98,8 @@ impl Nodes {
         self.variables[rank]
     }
 
-    /// Writes what is known of a variable, the oldest at 0.
+    /// Writes what is known of the variable with this rank, counted from the oldest, which has 0. The caller's
+    /// condition: the rank is below `variable_count`.
     pub(crate) fn set_variable(&mut self, rank: usize, known: Known)
         requires { rank < length self.old.variables }
         ensures known { self.new.known
@@ -108,7 +110,8 @@ impl Nodes {
         self.variables[rank].known = known;
     }
 
-    /// Writes what is known of a node. The caller's condition: a node that has only one number keeps it.
+    /// Writes what is known of the node at a place, the oldest at 0. The caller's condition: there is one, and where
+    /// only one number was left for it, the same stays known of it.
     pub(crate) fn set(&mut self, i: usize, known: Known)
         requires within { i < length self.old.known }
         requires decided { IsDecided (known_at self.old.known i)
@@ -117,6 +120,7 @@ impl Nodes {
         ensures variables { self.new.variables ≡ self.old.variables }
     {
         match slot_of(&self.slots, i) {
+            // By the caller's condition the slot says it already.
             Slot::Number(_) => {}
             Slot::Variable(rank) => self.set_variable(rank as usize, known),
         }
@@ -152,7 +156,7 @@ impl Nodes {
         Ok(())
     }
 
-    /// A copy, which shares the slots. `Memory` where an allocation is refused.
+    /// A copy, which shares the slots and has its own list of variables. `Memory` where an allocation is refused.
     pub(crate) fn fork(&self, alloc: Global) -> Result<Nodes, Fault>
         ensures { IfOk result (λ n. n ≡ self.now) }
     {

@@ -21,7 +21,9 @@ type Newer = SmallVec<u32, 2>;
 /// shares the older ones, and copies only the newer ones, which are few.
 #[derive(Drop)]
 pub(crate) struct Numbers {
+    /// The older numbers, which copies share; `None` where there are none.
     older: Option<ArcSlice<u32>>,
+    /// The newer numbers, of which each copy has its own list. A number may stand in both lists.
     newer: Newer,
 }
 
@@ -37,14 +39,15 @@ impl Model for Numbers {
 }
 
 /// Looks up numbers one after the other, in two ascending lists. The numbers that are asked for often stand equally far
-/// apart in the older list. So each is first looked for as far behind the last one as that was behind the one before.
+/// apart in the older list. So each number is first looked for at one place: if the last two that were found stand
+/// `step` places apart, it is the place that is `step` places behind the last one.
 #[derive(Drop)]
 pub(crate) struct Lookup<'a> {
     older: &'a [u32],
     newer: &'a [u32],
-    // The place in the older list of the last number that was found there, and how far that is behind the one found
-    // before it.
+    /// The place in the older list of the last number that was found there; 0 before the first.
     place: usize,
+    /// How far this place is behind that of the number found before it. The difference wraps, so it may lead back.
     step: usize,
 }
 
@@ -69,7 +72,7 @@ enum Found {
     Nowhere,
 }
 
-/// The items of a list that is shared; none where there is no list.
+/// The items of a list that is shared; an empty slice where there is no list.
 fn items_of(list: &Option<ArcSlice<u32>>) -> &[u32]
     ensures { result.now ≡ shared_items list.now }
 {
@@ -79,7 +82,7 @@ fn items_of(list: &Option<ArcSlice<u32>>) -> &[u32]
     }
 }
 
-/// The place of a number in an ascending list; `None` where it isn't there.
+/// The place of a number in a list; `None` where it isn't there. The caller's condition: the list is ascending.
 fn place_in(list: &[u32], number: u32) -> Option<usize>
     requires { AreAscending list.now }
     ensures { MatchOption result (¬ Contains list.now number) (λ at. (at < length list.now)
@@ -88,7 +91,7 @@ fn place_in(list: &[u32], number: u32) -> Option<usize>
     list.binary_search(&number).ok()
 }
 
-/// Whether a number stands in an ascending list.
+/// Whether a number stands in a list. The caller's condition: the list is ascending.
 fn stands_in(list: &[u32], number: u32) -> bool
     requires { AreAscending list.now }
     ensures { IsTrue result ↔ Contains list.now number }
@@ -96,7 +99,8 @@ fn stands_in(list: &[u32], number: u32) -> bool
     place_in(list, number).is_some()
 }
 
-/// In which of two ascending lists a number stands. Not inlined, so that `Lookup::has` can be.
+/// In which of two lists a number stands; the older one where it stands in both. The caller's condition: both lists are
+/// ascending. Not inlined, so that `Lookup::has` can be.
 #[inline(never)]
 fn find(older: &[u32], newer: &[u32], number: u32) -> Found
     requires older { AreAscending older.now }
@@ -115,7 +119,8 @@ fn find(older: &[u32], newer: &[u32], number: u32) -> Found
     }
 }
 
-/// A list with one more number at a place. `Memory` where an allocation is refused.
+/// A copy of a list, with one more number before the one at a place, or at its end. `Memory` where an allocation is
+/// refused. The caller's condition: the place isn't behind the list's end.
 fn insert_number(alloc: Global, list: &[u32], at: usize, number: u32) -> Result<Newer, Fault>
     requires { at ≤ length list.now }
     ensures { IfOk result (λ v. v.items ≡ insert list.now at number) }
@@ -127,7 +132,8 @@ fn insert_number(alloc: Global, list: &[u32], at: usize, number: u32) -> Result<
     Ok(more)
 }
 
-/// An ascending list with one more number, unless it is there already. `Memory` where an allocation is refused.
+/// A copy of a list with one more number, unless the number is there already; the copy is ascending too. `Memory` where
+/// an allocation is refused. The caller's condition: the list is ascending.
 fn with_number(alloc: Global, list: &[u32], number: u32) -> Result<Newer, Fault>
     requires { AreAscending list.now }
     ensures rising { IfOk result (λ v. AreAscending v.items) }
@@ -140,7 +146,8 @@ fn with_number(alloc: Global, list: &[u32], number: u32) -> Result<Newer, Fault>
     }
 }
 
-/// The numbers of two lists as one ascending list. `Memory` where an allocation is refused.
+/// The numbers of two lists as one ascending list; a number that stands in both stands there twice. `Memory` where an
+/// allocation is refused.
 fn merge(alloc: Global, older: &[u32], newer: &[u32]) -> Result<ArcSlice<u32>, Fault>
     ensures rising { IfOk result (λ m. AreAscending (arc_slice_items m)) }
     ensures numbers { IfOk result (λ m. (n : ℕ) → Contains (arc_slice_items m) n
@@ -163,7 +170,7 @@ fn share(list: &Option<ArcSlice<u32>>) -> Result<Option<ArcSlice<u32>>, Fault>
 }
 
 impl<'a> Lookup<'a> {
-    /// A lookup in these lists.
+    /// A lookup in these lists. The caller's condition: both are ascending.
     pub(crate) fn new(older: &'a [u32], newer: &'a [u32]) -> Lookup<'a>
         requires older { AreAscending older.now }
         requires newer { AreAscending newer.now }
@@ -177,12 +184,14 @@ impl<'a> Lookup<'a> {
         }
     }
 
-    /// Whether a number is one of them.
+    /// Whether a number is one of them. It takes note of where the number was found, for the next call; the lists stay
+    /// as they are.
     #[inline]
     pub(crate) fn has(&mut self, number: u32) -> bool
         ensures has { IsTrue result ↔ Contains self.old number }
         ensures same { self.new ≡ self.old }
     {
+        // The sum and the difference below wrap, since a step may lead back.
         let guess = self.place.wrapping_add(self.step);
         if guess < self.older.len() && self.older[guess] == number {
             self.place = guess;
@@ -224,7 +233,8 @@ impl Numbers {
         Lookup::new(items_of(&self.older), self.newer.as_slice())
     }
 
-    /// These numbers and one more, which may be among them already. `Memory` where an allocation is refused.
+    /// These numbers and one more, which may be among them already. Once there are `MERGED` newer numbers, all numbers
+    /// become older ones. `Memory` where an allocation is refused.
     pub(crate) fn with_number(&self, alloc: Global, number: u32) -> Result<Numbers, Fault>
         ensures { IfOk result (λ v. (n : ℕ) → Contains v n
             ↔ (Contains self.now n ⊎ (n ≡ number))) }
@@ -248,7 +258,8 @@ impl Numbers {
         items_of(&self.older).len() + self.newer.as_slice().len()
     }
 
-    /// The number at a place. The older list comes first, then the newer one.
+    /// The number at a place. The older list comes first, then the newer one. The caller's condition: the place is
+    /// below `len`.
     pub(crate) fn at(&self, place: usize) -> u32
         requires { place < length self.now }
         ensures { result ≡ slice_index self.now place }

@@ -1,23 +1,19 @@
 //! Forward propagation: what is known of each node, met with what follows from its operands.
 
-ghost use Rattle.std.specs.Prelude.{◌≡◌, ℕ, ◌+◌, ◌-◌, ◌*◌, ◌/◌, ◌%◌, ◌<◌, ◌≤◌, ◌↔◌, ◌⊎◌, ◌^◌, List, [], ◌∷◌, ◌++◌, length, slice_index, MatchBool, MatchOption, true, false, IfOk, OnErr, IsTrue, Ok, Some, None};
-ghost use Rattle.std.specs.Arc.{arc_value};
+ghost use Rattle.std.specs.Prelude.{◌≡◌, ℕ, ◌+◌, ◌-◌, ◌*◌, ◌/◌, ◌%◌, ◌<◌, ◌≤◌, ◌↔◌, ◌⊎◌, ◌^◌, List, [], ◌∷◌, ◌++◌, length, slice_index, MatchBool, MatchOption, true, false, IfOk, IsTrue, Some, None};
 ghost use Rattle.sf_sym.specs.Pool.{OperandsBelow, node_at};
-ghost use Rattle.sf_dom.specs.Known.{IsDecided, IsTight};
+ghost use Rattle.sf_dom.specs.Known.{IsDecided};
 ghost use Rattle.sf_dom.specs.Propagation.{AreConsistentOperands, AreClosedWords, IsTightened, KeepsFixed, AreConsistent};
 ghost use Rattle.sf_dom.specs.Passes.{AreClosed, PassFails, PassGives, AreAllDecided, AreFixed, AreTakenIn, TakingInFails};
-ghost use Rattle.sf_dom.specs.Facts.{known_at, numbers_at};
+ghost use Rattle.sf_dom.specs.Facts.{known_at};
 ghost use Rattle.sf_dom.specs.Rules.{forward_node, ReductionGives};
 
 use crate::exclusions::Excluded;
 use crate::fault::Fault;
-use crate::fitting::is_tight;
 use crate::forward::{forward, negate};
 use crate::known::{Known, reduce_known, reduce_word};
 use crate::nodes::{Nodes, WORDS};
 use sf_sym::{Node, NodeId, Pool};
-use std::alloc::Global;
-use std::sync::Arc;
 
 /// What is known of the node at a place, reduced; `None` where that shows that no number is left. The first sixteen
 /// nodes are the words of the input, for which numbers are excluded.
@@ -31,7 +27,8 @@ pub(crate) fn reduce_at(known: Known, place: usize, excluded: &Excluded) -> Opti
     }
 }
 
-/// What is known of a node by its operation, from what is known of its operands.
+/// What is known of a node by its operation, from what is known of its operands: of a constant its number, and of a
+/// word of the input nothing. The caller's condition: the operands are among `nodes`.
 fn transfer(nodes: &Nodes, node: Node) -> Known
     requires { OperandsBelow (length nodes.now.known) node }
     ensures { AreConsistentOperands nodes.now.known node
@@ -45,7 +42,7 @@ fn transfer(nodes: &Nodes, node: Node) -> Known
     }
 }
 
-/// Whether the interval of a node has only one number.
+/// Whether the interval of a node has only one number. The caller's condition: the node is among `nodes`.
 fn is_decided(nodes: &Nodes, at: NodeId) -> bool
     requires { at.0 < length nodes.now.known }
     ensures { IsTrue result → IsDecided (known_at nodes.now.known at.0) }
@@ -55,7 +52,7 @@ fn is_decided(nodes: &Nodes, at: NodeId) -> bool
 }
 
 /// Whether a node is a constant, or an operation on operands that have only one number each: once it is taken in, no
-/// forward pass makes more known of it.
+/// forward pass makes more known of it. The caller's condition: the operands are among `nodes`.
 fn is_fixed(nodes: &Nodes, node: Node) -> bool
     requires { OperandsBelow (length nodes.now.known) node }
     ensures { IsTrue result → AreAllDecided nodes.now.known node }
@@ -68,22 +65,9 @@ fn is_fixed(nodes: &Nodes, node: Node) -> bool
     }
 }
 
-/// Whether a node that is a word is tight: both ends of its interval are numbers that are left for it. True of any
-/// other node.
-pub(crate) fn is_tight_at(nodes: &Nodes, excluded: &Excluded, pool: &Pool, at: NodeId) -> bool
-    requires closed { AreClosed nodes.now.known pool.now }
-    requires place { at.0 < length pool.now }
-    ensures { IsTrue result → (i : ℕ) → node_at pool.now at.0 ≡ Node.Word i
-        → IsTight (known_at nodes.now.known i) (numbers_at excluded.now i) }
-{
-    match pool.node(at) {
-        Node::Word(i) => is_tight(nodes.get(i as usize), excluded.of_word(i as usize)),
-        Node::Const(_) | Node::Bin(..) | Node::Neg(_) => true,
-    }
-}
-
-/// Reduces a node that is a word, so that both ends of its interval are numbers that are left for it. `false`: no input
-/// agrees.
+/// Reduces a node that is a word, so that both ends of its interval are numbers that are left for it. Any other node
+/// stays as it is. `false`: no number is left for the word, so no input agrees; nothing is changed then. The caller's
+/// condition: `nodes` are those of the pool, and the node is in it.
 pub(crate) fn tighten(nodes: &mut Nodes, excluded: &Excluded, pool: &Pool, at: NodeId) -> bool
     requires closed { AreClosed nodes.old.known pool.now }
     requires place { at.0 < length pool.now }
@@ -105,7 +89,7 @@ pub(crate) fn tighten(nodes: &mut Nodes, excluded: &Excluded, pool: &Pool, at: N
 
 /// Adds to what is known of each variable what follows from its operands, the oldest variable first. The first sixteen
 /// are the words, which have no operands, so nothing follows for them. `false`: no input agrees, and some nodes may be
-/// changed.
+/// changed. The caller's condition: `nodes` are those of the pool, and the words are reduced already.
 pub(crate) fn propagate(nodes: &mut Nodes, excluded: &Excluded, pool: &Pool) -> bool
     requires closed { AreClosed nodes.old.known pool.now }
     requires words { AreClosedWords nodes.old.known excluded.now }
@@ -131,7 +115,7 @@ pub(crate) fn propagate(nodes: &mut Nodes, excluded: &Excluded, pool: &Pool) -> 
 }
 
 /// Takes in the new nodes of a pool. `false`: no input agrees. `Memory` where an allocation is refused. In both cases
-/// what is known is as it was if only one node was new; of several, the oldest may have been taken in.
+/// some of them may have been taken in.
 pub(crate) fn append(nodes: &mut Nodes, excluded: &Excluded, pool: &Pool) -> Result<bool, Fault>
     requires covers { length nodes.old.known ≤ length pool.now }
     ensures fixed { IfOk result (λ b. MatchBool b
@@ -139,10 +123,6 @@ pub(crate) fn append(nodes: &mut Nodes, excluded: &Excluded, pool: &Pool) -> Res
     ensures rule { IfOk result (λ b. AreConsistent nodes.old.known → MatchBool b
         (AreTakenIn nodes.old.known nodes.new.known excluded.now pool.now)
         (TakingInFails nodes.old.known excluded.now pool.now)) }
-    ensures false_unchanged { length pool.now ≤ length nodes.old.known + 1 → result ≡ Ok false
-        → nodes.new ≡ nodes.old }
-    ensures err { length pool.now ≤ length nodes.old.known + 1
-        → OnErr result (nodes.new ≡ nodes.old) }
 {
     for i in nodes.len()..pool.len() {
         let node = pool.node_at(i);
@@ -154,55 +134,4 @@ pub(crate) fn append(nodes: &mut Nodes, excluded: &Excluded, pool: &Pool) -> Res
         }
     }
     Ok(true)
-}
-
-/// Takes in the new nodes of a pool, in a copy that is then put in place. `false`: no input agrees. `Memory` where an
-/// allocation is refused. In both cases what is known stays as it was.
-fn extend_copy(
-    alloc: Global,
-    nodes: &mut Arc<Nodes>,
-    excluded: &Excluded,
-    pool: &Pool,
-) -> Result<bool, Fault>
-    requires covers { length (arc_value nodes.old).known ≤ length pool.now }
-    ensures fixed { IfOk result (λ b. MatchBool b
-        (KeepsFixed (arc_value nodes.old) (arc_value nodes.new) pool.now) (Unit {0})) }
-    ensures rule { IfOk result (λ b. AreConsistent (arc_value nodes.old).known → MatchBool b
-        (AreTakenIn (arc_value nodes.old).known (arc_value nodes.new).known excluded.now pool.now)
-        (TakingInFails (arc_value nodes.old).known excluded.now pool.now)) }
-    ensures false_unchanged { result ≡ Ok false → arc_value nodes.new ≡ arc_value nodes.old }
-    ensures err { OnErr result (arc_value nodes.new ≡ arc_value nodes.old) }
-{
-    let mut next = nodes.fork(alloc)?;
-    if !append(&mut next, excluded, pool)? {
-        return Ok(false);
-    }
-    *nodes = Arc::new(alloc, next)?;
-    Ok(true)
-}
-
-/// Takes in the new nodes of a pool. `false`: no input agrees. `Memory` where an allocation is refused. In both cases
-/// what is known stays as it was. A copy is made only where several nodes are new, or where forks share what is known.
-pub(crate) fn extend(
-    alloc: Global,
-    nodes: &mut Arc<Nodes>,
-    excluded: &Excluded,
-    pool: &Pool,
-) -> Result<bool, Fault>
-    requires covers { length (arc_value nodes.old).known ≤ length pool.now }
-    ensures fixed { IfOk result (λ b. MatchBool b
-        (KeepsFixed (arc_value nodes.old) (arc_value nodes.new) pool.now) (Unit {0})) }
-    ensures rule { IfOk result (λ b. AreConsistent (arc_value nodes.old).known → MatchBool b
-        (AreTakenIn (arc_value nodes.old).known (arc_value nodes.new).known excluded.now pool.now)
-        (TakingInFails (arc_value nodes.old).known excluded.now pool.now)) }
-    ensures false_unchanged { result ≡ Ok false → arc_value nodes.new ≡ arc_value nodes.old }
-    ensures err { OnErr result (arc_value nodes.new ≡ arc_value nodes.old) }
-{
-    if pool.len() - nodes.len() > 1 {
-        return extend_copy(alloc, nodes, excluded, pool);
-    }
-    match Arc::get_mut(nodes) {
-        Some(alone) => append(alone, excluded, pool),
-        None => extend_copy(alloc, nodes, excluded, pool),
-    }
 }

@@ -18,15 +18,17 @@ pub(crate) enum Slot {
 }
 
 impl Default for Slot {
+    /// A slot with the number 0. It only fills places of a list's memory that hold no slot yet.
     fn default() -> Self {
         Slot::Number(0)
     }
 }
 
-/// The slots of the nodes, oldest first.
+/// The slots of the nodes, oldest first. A last block of one slot lies in the list itself; a longer one takes an
+/// allocation.
 pub(crate) type Slots = SharedList<Slot, 1>;
 
-/// The slot at a place.
+/// The slot at a place. The caller's condition: there is one.
 pub(crate) fn slot_of(slots: &Slots, i: usize) -> Slot
     requires { i < length slots.now }
     ensures { result ≡ slot_at slots.now i }
@@ -34,7 +36,7 @@ pub(crate) fn slot_of(slots: &Slots, i: usize) -> Slot
     slots.get(i)
 }
 
-/// A copy with one more slot. `AllocError` where an allocation is refused.
+/// A copy of the slots with one more at its end. `AllocError` where an allocation is refused.
 fn with_slot(alloc: Global, slots: &Slots, slot: Slot) -> Result<Arc<Slots>, AllocError>
     ensures { IfOk result (λ r. arc_value r ≡ slots.now ++ slot ∷ []) }
 {
@@ -43,8 +45,8 @@ fn with_slot(alloc: Global, slots: &Slots, slot: Slot) -> Result<Arc<Slots>, All
     Ok(Arc::new(alloc, copy)?)
 }
 
-/// Adds a slot. Where forks share the slots, it is added to a copy, and theirs stay as they are. `AllocError` where an
-/// allocation is refused; nothing is added then.
+/// Adds a slot at the end. Where forks share the slots, it is added to a copy, and the forks' slots stay as they are.
+/// `AllocError` where an allocation is refused; nothing is added then.
 pub(crate) fn add_slot(alloc: Global, slots: &mut Arc<Slots>, slot: Slot) -> Result<(), AllocError>
     ensures ok { OnOk result (arc_value slots.new ≡ arc_value slots.old ++ slot ∷ []) }
     ensures err { OnErr result (arc_value slots.new ≡ arc_value slots.old) }

@@ -20,7 +20,8 @@ use crate::nodes::Nodes;
 use sf_insn::Test;
 use sf_sym::{Node, Pool, constant_operand};
 
-/// Whether a word equals a number, where its interval gives the result; `None` where it leaves the result open.
+/// Whether a word equals a number, where the word's interval gives the result; `None` where the interval leaves the
+/// result open.
 fn tell_equal(known: Known, number: u32) -> Option<bool>
     ensures told { MatchOption result (IsOpen Test.Equal known number)
         (λ b. (x : ℕ) → Admits known x → TestGives Test.Equal x number b) }
@@ -36,8 +37,8 @@ fn tell_equal(known: Known, number: u32) -> Option<bool>
     None
 }
 
-/// Whether a word is greater than a number, where its interval gives the result; `None` where it leaves the result
-/// open.
+/// Whether a word is greater than a number, where the word's interval gives the result; `None` where the interval
+/// leaves the result open.
 fn tell_greater(known: Known, number: u32) -> Option<bool>
     ensures told { MatchOption result (IsOpen Test.Greater known number)
         (λ b. (x : ℕ) → Admits known x → TestGives Test.Greater x number b) }
@@ -53,7 +54,8 @@ fn tell_greater(known: Known, number: u32) -> Option<bool>
     None
 }
 
-/// Whether a word is at least a number, where its interval gives the result; `None` where it leaves the result open.
+/// Whether a word is at least a number, where the word's interval gives the result; `None` where the interval leaves
+/// the result open.
 fn tell_at_least(known: Known, number: u32) -> Option<bool>
     ensures told { MatchOption result (IsOpen Test.GreaterOrEqual known number)
         (λ b. (x : ℕ) → Admits known x → TestGives Test.GreaterOrEqual x number b) }
@@ -69,8 +71,8 @@ fn tell_at_least(known: Known, number: u32) -> Option<bool>
     None
 }
 
-/// Whether a word has a common bit with a number, where its known bits give the result; `None` where they leave the
-/// result open.
+/// Whether a word has a common bit with a number, where the word's known bits give the result; `None` where they leave
+/// the result open.
 fn tell_common(known: Known, number: u32) -> Option<bool>
     ensures told { MatchOption result (IsOpen Test.AnyBit known number)
         (λ b. (x : ℕ) → Admits known x → TestGives Test.AnyBit x number b) }
@@ -118,8 +120,9 @@ fn is_excluded(excluded: &Excluded, node: Node, number: u32) -> bool
     }
 }
 
-/// Whether no known bits would go back from a node: what they say of its operand beside a constant is known already,
-/// and so on from operand to operand.
+/// Whether `propagate_back` would change nothing from this node on: what the known bits of the node say of its operand
+/// beside a constant is known of the operand already, and so on from operand to operand. The caller's condition:
+/// `nodes` are those of the pool, and `from` is the place of one.
 pub(crate) fn are_propagated_back(nodes: &Nodes, pool: &Pool, from: usize) -> bool
     requires count { length nodes.now.known ≡ length pool.now }
     requires start { from < length pool.now }
@@ -141,8 +144,9 @@ pub(crate) fn are_propagated_back(nodes: &Nodes, pool: &Pool, from: usize) -> bo
     true
 }
 
-/// Whether a node passes a test against a number on every input that agrees, where its own interval, known bits and
-/// excluded numbers give the result; `None` where they leave it open.
+/// Whether the node at a place passes a test against a number on every input that agrees, where the node's own
+/// interval, known bits and excluded numbers give the result; `None` where they leave the result open. The caller's
+/// condition: `nodes` are those of the pool, and there is a node at the place.
 fn tell_at(
     nodes: &Nodes,
     excluded: &Excluded,
@@ -174,9 +178,11 @@ fn tell_at(
     }
 }
 
-/// The result of a test of a node against a number, where it is told: every input that agrees has it, the other result
-/// leaves the node no number, and this one changes nothing that is known, except that the number, if the node can't
-/// have it, may become an excluded one.
+/// The result of a test of the node at a place against a number, where the test is told: every input that agrees has
+/// this result, the other result leaves the node no number, and this one changes nothing that is known, except that the
+/// number, if the node can't have it, may become an excluded one. `None` where the test isn't told: what is known of
+/// the node leaves the result open, or known bits could still go back from the node. The caller's condition: `nodes`
+/// are those of the pool, and there is a node at the place.
 pub(crate) fn tell_node(
     nodes: &Nodes,
     excluded: &Excluded,

@@ -17,8 +17,8 @@ pub(crate) struct Variable {
     pub(crate) known: Known,
 }
 
-/// Adds a variable, and its slot behind the slots. `AllocError` where an allocation is refused; both lists are then as
-/// they were.
+/// Adds a variable at the end of the variables, and the slot of its node at the end of the slots. `AllocError` where an
+/// allocation is refused; both lists are then as they were.
 pub(crate) fn add_variable(
     variables: &mut Vec<Variable>,
     variable: Variable,

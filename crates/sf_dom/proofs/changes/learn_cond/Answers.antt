@@ -3,19 +3,6 @@ use Rattle.std.specs.Prelude.{None}
 use Rattle.sf_dom.proofs.WordsClosed.{others-closed}
 use Rattle.sf_dom.proofs.changes.learn_cond.Goals as goal
 
-pub changes_nothing-requires-clause-closed : goal.changes_nothing-requires-clause-closed
-changes_nothing-requires-clause-closed c =
-    record { count = c.requires.count; each = λ i l. (c.requires.rest i l).closed.known }
-
-pub changes_nothing-requires-clause-others : goal.changes_nothing-requires-clause-others
-changes_nothing-requires-clause-others c =
-    let words = c.len-count.ensures.lawful.words in
-    others-closed c.args.nodes.now.known c.args.excluded.now c.in_ok-lists.lists c.args.pool.now c.args.cond.now
-    (λ w l. (c.requires.rest w (omega arith)).closed) c.in_ok-lists.ensures.rule
-
-pub changes_nothing-requires-clause-still : goal.changes_nothing-requires-clause-still
-changes_nothing-requires-clause-still c = λ i l. (c.requires.rest i l).still
-
 pub assume_cond-requires-clause-closed : goal.assume_cond-requires-clause-closed
 assume_cond-requires-clause-closed c =
     rw c.in_ok-left.ensures (record { count = c.requires.count; each = λ i l. (c.requires.rest i l).closed.known })
@@ -35,9 +22,6 @@ pub returns-then-not-assume_cond-clause-rule : goal.returns-then-not-assume_cond
 returns-then-not-assume_cond-clause-rule c =
     let none = rw (c.in_ok-left.ensures, c.if-not-assume_cond.true) at c.assume_cond.ensures.rule in
     (c.in_ok-lists.lists, c.in_ok-lists.ensures.rule, none)
-
-pub returns-then-changes_nothing-clause-rule : goal.returns-then-changes_nothing-clause-rule
-returns-then-changes_nothing-clause-rule c = (c.in_ok-lists.ensures.rule, c.if-changes_nothing.ensures refl)
 
 pub returns-clause-rule : goal.returns-clause-rule
 returns-clause-rule c =

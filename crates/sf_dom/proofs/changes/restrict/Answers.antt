@@ -1,13 +1,11 @@
-use Rattle.std.proofs.Common.{◌<◌, length, set, arith, refl, ◌∙◌}
-use Rattle.std.proofs.lemmas.List.{set-get_or}
+use Rattle.std.proofs.Common.{◌<◌, length, set, arith, refl}
 use Rattle.std.specs.Prelude.{Some, None}
-use Rattle.sf_dom.specs.Known.{known_of}
 use Rattle.sf_dom.specs.Facts.{known_at}
 use Rattle.sf_dom.specs.Passes.{AreClosed}
 use Rattle.sf_dom.specs.Rules.{met}
 use Rattle.sf_dom.proofs.ClosedLemmas.{closed-consistent}
 use Rattle.sf_dom.proofs.Lawful.{narrowed-set}
-use Rattle.sf_dom.proofs.Passes.{met-left, number-stays, rest-pass}
+use Rattle.sf_dom.proofs.Passes.{met-left, number-stays}
 use Rattle.sf_dom.proofs.Reductions.{IsNarrower-trans}
 use Rattle.sf_dom.proofs.Steps.{still-fixed}
 use Rattle.sf_dom.proofs.changes.restrict.Goals as goal
@@ -87,16 +85,6 @@ propagate-requires-clause-fixed c =
 
 pub returns-in_default-clause-rule : goal.returns-in_default-clause-rule
 returns-in_default-clause-rule c = (None, (None, c.in_default.ensures, refl), refl)
-
-pub returns-then-is_same-clause-rule : goal.returns-then-is_same-clause-rule
-returns-then-is_same-clause-rule c =
-    let n = c.args.nodes.now in
-    let same = c.if-is_same.ensures.0 refl ∙ c.get.ensures in (
-      Some (set n.known c.args.word c.in-Some.left),
-      (Some c.in-Some.left, c.in-Some.ensures, refl),
-      rw (same, set-get_or n.known c.args.word (known_of 0 0 0 0))
-          (rest-pass n.known c.args.excluded.now c.args.pool.now c.requires.count c.requires.rest),
-    )
 
 pub returns-then-not-propagate-clause-rule : goal.returns-then-not-propagate-clause-rule
 returns-then-not-propagate-clause-rule c =

@@ -28,7 +28,6 @@ loop-i-preserved c =
       count = omega (arith, length_push ks next);
       kept = take-append-le (length old) ks (next ∷ []) longer ∙ inv.kept;
       longer = omega (arith, length_push ks next);
-      untouched = λ same. absurd (omega arith);
       fixed = λ consistent first.
           fixed-push c.loop-i.nodes.variables c.push.new.self.variables ks ns i c.is_fixed-fixed.result
           c.transfer-known.result next lawful count (omega arith) (inv.fixed consistent first) (is consistent)

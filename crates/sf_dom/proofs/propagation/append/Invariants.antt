@@ -11,7 +11,6 @@ invariant-loop-i l = record {
   count : length l.nodes.known ≡ l.i;
   kept : take (length l.fn.nodes.known) l.nodes.known ≡ l.fn.nodes.known;
   longer : length l.fn.nodes.known ≤ length l.nodes.known;
-  untouched : l.i ≡ length l.fn.nodes.known → l.nodes ≡ l.fn.nodes;
   fixed : AreConsistent l.fn.nodes.known
       → ((k : ℕ) → k < length l.fn.nodes.known → IsVariableAt l.fn.nodes.variables k
       ⊎ IsFixedAt l.fn.nodes.known l.pool k)

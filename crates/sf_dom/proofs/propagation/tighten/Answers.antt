@@ -45,7 +45,7 @@ returns-in_default-reduce_at-clause-tightened c =
     let small : i < 16 = rw c.in-Word.is at c.node.ensures.operands in
     let here : i < length ks = omega arith in
     let there : i < length ns = omega arith in
-    word-fails ks ex ns i there small (rw c.get-known.ensures at c.in_default-reduce_at.ensures)
+    word-fails ks ex ns i i there (p.word i small) (rw c.get-known.ensures at c.in_default-reduce_at.ensures)
 
 pub set-requires-clause-decided : goal.set-requires-clause-decided
 set-requires-clause-decided c = λ d.

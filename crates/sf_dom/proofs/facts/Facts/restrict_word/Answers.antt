@@ -12,22 +12,22 @@ returns-in-None-clause-confined c =
     rw (← c.self.view_is) (cant-confine _ c.args.pool.now c.args.word c.args.more
     (rw (← c.self.view_is) at c.requires.covers) c.requires.word (omega arith) none)
 
-pub returns-in_ok-excluded-in-Some-clause-rule : goal.returns-in_ok-excluded-in-Some-clause-rule
-returns-in_ok-excluded-in-Some-clause-rule c =
+pub returns-in_ok-self-inside-in-Some-clause-rule : goal.returns-in_ok-self-inside-in-Some-clause-rule
+returns-in_ok-self-inside-in-Some-clause-rule c =
     let told = rw (c.in-Some.is, c.deref.ensures) at c.in_ok-restrict.ensures.rule in
-    rw (← c.self.view_is, c.in_ok-excluded-in-Some.ensures.same, c.in_ok-nodes-in-Some.ensures)
+    rw (← c.self.view_is, c.in_ok-self-inside-in-Some.ensures.ok)
     (record { known = told; excluded = refl })
 
-pub returns-in_ok-excluded-in-Some-clause-confined : goal.returns-in_ok-excluded-in-Some-clause-confined
-returns-in_ok-excluded-in-Some-clause-confined c =
+pub returns-in_ok-self-inside-in-Some-clause-confined : goal.returns-in_ok-self-inside-in-Some-clause-confined
+returns-in_ok-self-inside-in-Some-clause-confined c =
     let told = rw (c.in-Some.is, c.deref.ensures) at c.in_ok-restrict.ensures.rule in
     let places = rw (c.in-Some.is, c.deref.ensures) at c.in_ok-restrict.ensures.variables in
-    rw (← c.self.view_is, c.in_ok-excluded-in-Some.ensures.same, c.in_ok-nodes-in-Some.ensures, places)
+    rw (← c.self.view_is, c.in_ok-self-inside-in-Some.ensures.ok, places)
     (confines _ c.args.pool.now c.args.word c.args.more (rw (← c.self.view_is) at c.requires.covers) c.requires.word
     (omega arith) _ told)
 
-pub returns-in_ok-excluded-in-Some-clause-covers : goal.returns-in_ok-excluded-in-Some-clause-covers
-returns-in_ok-excluded-in-Some-clause-covers c = (returns-in_ok-excluded-in-Some-clause-confined c).covers
+pub returns-in_ok-self-inside-in-Some-clause-covers : goal.returns-in_ok-self-inside-in-Some-clause-covers
+returns-in_ok-self-inside-in-Some-clause-covers c = (returns-in_ok-self-inside-in-Some-clause-confined c).covers
 
 pub invariant_of-self : goal.invariant_of-self
 invariant_of-self c =
@@ -35,4 +35,4 @@ invariant_of-self c =
     let places = rw (c.in-Some.is, c.deref.ensures) at c.in_ok-restrict.ensures.variables in
     let all = confines _ c.args.pool.now c.args.word c.args.more (rw (← c.self.view_is) at c.requires.covers)
     c.requires.word (omega arith) _ told in
-    rw (c.in_ok-excluded-in-Some.ensures.same, c.in_ok-nodes-in-Some.ensures, places) all.covers.lawful
+    rw (c.in_ok-self-inside-in-Some.ensures.ok, places) all.covers.lawful

@@ -1,5 +1,5 @@
 use Rattle.sf_dom.proofs.Excluding.{both-excluded}
-use Rattle.sf_dom.proofs.assuming.exclude_both.Goals as goal
+use Rattle.sf_dom.proofs.assuming.exclude_each_other.Goals as goal
 
 pub returns-clause-rule : goal.returns-clause-rule
 returns-clause-rule c =
