@@ -46,6 +46,7 @@ one-call-more questions n by_call others p at is one h = record {
   right_calls = All-push (IsProbeIn questions) by_call p h.right_calls is;
   one_call = All-push (λ x. has_one_call x ≡ true) by_call p h.one_call one;
   right_others = h.right_others;
+  many_calls = h.many_calls;
   each = λ q l. dite (ℕ_discrete q n)
       (λ e. inl (has-pushed by_call p q (at ∙ sym e)))
       (λ ne. elim (h.each q (omega arith)) [
@@ -56,12 +57,13 @@ one-call-more questions n by_call others p at is one h = record {
 
 -- with one probe more, of another question
 pub other-more : (questions : List QuestionData) (n : ℕ) (by_call others : List Probe) (p : Probe)
-    → p.question ≡ n → IsProbeIn questions p
+    → p.question ≡ n → IsProbeIn questions p → has_one_call p ≡ false
     → AreProbes questions n by_call others → AreProbes questions (n + 1) by_call (others ++ p ∷ [])
-other-more questions n by_call others p at is h = record {
+other-more questions n by_call others p at is many h = record {
   right_calls = h.right_calls;
   one_call = h.one_call;
   right_others = All-push (IsProbeIn questions) others p h.right_others is;
+  many_calls = All-push (λ x. has_one_call x ≡ false) others p h.many_calls many;
   each = λ q l. dite (ℕ_discrete q n)
       (λ e. inr (has-pushed others p q (at ∙ sym e)))
       (λ ne. elim (h.each q (omega arith)) [
@@ -77,6 +79,7 @@ probes-ordered questions n before after others same h = record {
   right_calls = All-permutation (IsProbeIn questions) before after same h.right_calls;
   one_call = All-permutation (λ x. has_one_call x ≡ true) before after same h.one_call;
   right_others = h.right_others;
+  many_calls = h.many_calls;
   each = λ q l. elim (h.each q l) [
     | inl has ↦ inl (has-ordered before after q same has)
     | inr has ↦ inr has

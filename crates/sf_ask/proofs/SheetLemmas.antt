@@ -1,6 +1,6 @@
 -- The verdicts on questions that are clear at once.
 use Rattle.std.proofs.lemmas.Grind.{common_steps}
-use Rattle.std.proofs.Common.{◌≡◌, ℕ, zero, suc, ◌<◌, ◌≤◌, not, Bool, true, false, List, [], ◌∷◌, length, Some, None, refl, ap, subst, ◌∙◌, inl, inr, ◌⊎◌, arith, length-append}
+use Rattle.std.proofs.Common.{◌≡◌, ℕ, zero, suc, ◌<◌, ◌≤◌, not, Bool, true, false, List, [], ◌∷◌, length, Some, None, refl, ap, subst, ◌∙◌, inl, inr, ◌⊎◌, arith, length-append, Result, Ok, Err, IfOk}
 use Rattle.std.specs.Prelude.{slice_get, if◌then◌else◌}
 use Rattle.std.specs.List.{list_all}
 use Rattle.std.proofs.lemmas.List.{get_or_append_left, get_or_push}
@@ -21,7 +21,10 @@ use Rattle.sf_ask.proofs.OneVerdict.{unasked-verdict, asked-verdict}
 use Rattle.sf_ask.specs.declared.verdict.Verdict.TheVariants.{Clear}
 use Rattle.sf_ask.specs.QuestionData.{QuestionData}
 use Rattle.sf_ask.specs.QuestionBits.{has_bit}
-use Rattle.sf_ask.specs.Verdicts.{IsRightVerdict}
+use Rattle.sf_ask.specs.Verdicts.{IsRightVerdict, TellsTriedAt, IsDecisive}
+use Rattle.sf_ask.specs.declared.fault.Fault.{Fault}
+use Rattle.sf_ask.specs.declared.verdict.Verdict.{Verdict}
+use Rattle.sf_check.specs.Stacks.{IsPlain}
 use Rattle.sf_ask.specs.Sheets.{verdict_at, is_skipped, is_clear_or_skipped, clear_if_wanted, first_verdicts, IsRightOn, IsRightWhereGiven}
 
 pub first-length : (wanted : List ℕ) (n : ℕ) → length (first_verdicts wanted n) ≡ n
@@ -65,6 +68,15 @@ pub clear-is-right : (s : BookData) (questions : List QuestionData) (job q : ℕ
     → IsRightOn s questions job q Clear
 clear-is-right s questions job q question asked right rule =
     record { question = question; asked = asked; right = right; tried = tt; rule = rule; decisive = λ plain. tt }
+
+-- what was judged tells all that a sheet's verdicts tell
+pub judged-right : (s : BookData) (questions : List QuestionData) (job q : ℕ) (question : QuestionData)
+    (r : Result Verdict Fault) → slice_get questions q ≡ Some question → IfOk r (IsRightVerdict s job question)
+    → IfOk r (TellsTriedAt s job question) → IfOk r (HasVerdictAt s job question)
+    → (IsPlain s.stack → IfOk r IsDecisive) → IfOk r (IsRightOn s questions job q)
+judged-right s questions job q question (Ok v) asked right tried rule decisive =
+    record { question = question; asked = asked; right = right; tried = tried; rule = rule; decisive = decisive }
+judged-right s questions job q question (Err e) asked right tried rule decisive = right
 
 pub right-if-wanted : (s : BookData) (questions : List QuestionData) (job q : ℕ) (wanted : List ℕ)
     → (has_bit wanted q ≡ true → IsRightOn s questions job q Clear)

@@ -5,15 +5,16 @@ use Rattle.sf_insn.specs.declared.input.Input.{Input}
 use Rattle.sf_insn.specs.Inputs.{IsInput}
 use Rattle.sf_dom.specs.Facts.{FactsView, Agrees, Covers}
 use Rattle.sf_piece.specs.Pieces.{PieceData, is_member, HasNoMember}
+use Rattle.sf_ask.specs.Trying.{IsLeastInput}
 use Rattle.sf_ask.specs.declared.members.Membership.{Membership}
 use Rattle.sf_ask.specs.declared.members.Membership.TheVariants.{Empty, Member, Doubt}
 
--- What is found is right: a piece that is found empty has no member, and an input that is found is a member. A doubt
--- says only that some input is no member.
+-- What is found is right: a piece that is found empty has no member, and an input that is found is a member. In doubt,
+-- the least input that the piece's facts leave is no member; whether another one is stays open.
 abbrev pub IsRightMembership : PieceData → Membership → Type 0
 IsRightMembership p Empty = HasNoMember p
 IsRightMembership p (Member d) = IsInput d × (is_member p d ≡ true)
-IsRightMembership p Doubt = (d : Input) × IsInput d × (is_member p d ≡ false)
+IsRightMembership p Doubt = (d : Input) × IsLeastInput p.facts d × (is_member p d ≡ false)
 
 -- the least member of a piece: no member has a smaller number in any word
 pub record IsLeastMember (p : PieceData) (d : Input) : Type 0 where

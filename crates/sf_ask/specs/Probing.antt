@@ -26,12 +26,13 @@ has_one_call p = p.low == p.high
 abbrev pub HasProbe : List Probe → ℕ → Type 0
 HasProbe probes q = (p : Probe) × Contains probes p × (p.question ≡ q)
 
--- Each of the first n questions has a probe in one of two lists, and all probes are of questions that there are. Those
--- in `by_call` have one number of the call each; those in `others` may have any range.
+-- Each of the first n questions has a probe in one of two lists, and all probes are of questions that there are: in
+-- `by_call` those with one number of the call, in `others` the others.
 pub record AreProbes (questions : List QuestionData) (n : ℕ) (by_call others : List Probe) : Type 0 where
   pub right_calls : All (IsProbeIn questions) by_call
   pub one_call : All (λ p. has_one_call p ≡ true) by_call
   pub right_others : All (IsProbeIn questions) others
+  pub many_calls : All (λ p. has_one_call p ≡ false) others
   pub each : (q : ℕ) → q < n → HasProbe by_call q ⊎ HasProbe others q
 
 -- each of these questions has a probe, and the probes with one number of the call stand in the order of this number

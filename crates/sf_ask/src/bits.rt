@@ -19,7 +19,7 @@ pub fn set_bit(bits: &mut [u64; 4], q: usize)
     bits[q / 64] |= 1 << (q % 64);
 }
 
-/// Whether no question has its bit in both.
+/// Whether no question has its bit set in both.
 pub(crate) fn share_none(first: &[u64; 4], second: &[u64; 4]) -> bool
     ensures { IsTrue result → (q : ℕ) → q < 256 → has_bit second.now q ≡ true
         → has_bit first.now q ≡ false }

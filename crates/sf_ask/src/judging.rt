@@ -39,9 +39,9 @@ pub(crate) fn least_input(facts: &Facts) -> Option<Input>
     Some(Input { words })
 }
 
-/// Whether the input meets every condition. They are looked at in order, up to the first that the input doesn't meet;
-/// none where one of these is on a computed word. Most conditions are only on words of the input and constants: no
-/// other node is computed for them.
+/// Whether the input is a member of the piece, found without computing a node. Its conditions are looked at in order,
+/// up to the first that the input doesn't meet. `None` where one of these is on a computed node. Most conditions are
+/// only on words of the input and constants.
 fn meets_without_computing(piece: &Piece, input: &Input) -> Option<bool>
     ensures { IfSome result (λ b. b ≡ is_member piece.now input.now) }
 {
@@ -53,7 +53,8 @@ fn meets_without_computing(piece: &Piece, input: &Input) -> Option<bool>
     Some(true)
 }
 
-/// The first condition of the piece that the input doesn't meet, or none where it is a member.
+/// The first condition of the piece that the input doesn't meet; `None` where it is a member. `Memory` where an
+/// allocation is refused.
 pub(crate) fn first_unmet(
     alloc: Global,
     piece: &Piece,
@@ -76,7 +77,8 @@ pub(crate) fn first_unmet(
     Ok(None)
 }
 
-/// Whether the input is a member of the piece: it meets every condition.
+/// Whether the input is a member of the piece: it meets every condition. Nodes are computed only where that is needed.
+/// `Memory` where an allocation is refused.
 pub(crate) fn is_member_of(alloc: Global, piece: &Piece, input: &Input) -> Result<bool, Fault>
     ensures tells { IfOk result (λ b. b ≡ is_member piece.now input.now) }
     ensures err { IfErr result (λ f. f ≡ Memory) }
@@ -88,9 +90,9 @@ pub(crate) fn is_member_of(alloc: Global, piece: &Piece, input: &Input) -> Resul
     Ok(unmet.is_none())
 }
 
-/// Looks for a member of the piece that is in the question. One input is tried: the one that has in each word the least
-/// number that the piece's facts, confined to the question, leave for it. Where it isn't a member, the verdict is a
-/// doubt.
+/// Looks for a member of the piece that is in the question. `Clear` where the piece's facts, confined to the question,
+/// contradict. Else one input is tried: the one that has in each word the least number that these facts leave for it.
+/// `Hit` where it is a member, and `Doubt` where it isn't. `Memory` where an allocation is refused.
 fn search(alloc: Global, piece: &Piece, question: &Question) -> Result<Verdict, Fault>
     ensures right { IfOk result (IsRightSearch piece.now question.now) }
     ensures tried { IfOk result (TellsTried piece.now question.now) }

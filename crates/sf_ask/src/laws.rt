@@ -6,15 +6,16 @@ use sf_book::laws::explorations_have_one_result;
 use sf_dom::rules_have_one_result;
 use sf_piece::laws::execution_has_one_result;
 
-/// By the rules a question has one verdict on a region: the same on each region of the same piece and answer.
+/// For the prover: by the rules a question has one verdict on a region, the same on each region of the same piece and
+/// answer.
 pub fn verdicts_have_one_result()
     ensures { HaveOneVerdict }
 {
     rules_have_one_result();
 }
 
-/// By the rules a question has one reply on a stack whose exploration ended with nothing outstanding, whatever its
-/// budget was, and in whatever order the works came.
+/// For the prover: by the rules a question has one reply on a stack whose exploration ended with nothing outstanding,
+/// whatever the budget was, and in whatever order the works came.
 pub fn replies_have_one_result()
     ensures { HaveOneReply }
 {
@@ -23,7 +24,7 @@ pub fn replies_have_one_result()
     verdicts_have_one_result();
 }
 
-/// By the rules the search for a member has one result: the same for any two pieces that are the same.
+/// For the prover: by the rules the search for a member has one result, the same for any two pieces that are the same.
 pub fn members_have_one_result()
     ensures { FindOneThing }
 {

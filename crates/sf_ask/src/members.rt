@@ -30,10 +30,12 @@ pub enum Membership {
     Doubt,
 }
 
-/// How many times an input is mended at most.
+/// How many times an input is mended at most. Without a bound two mendings could undo each other for ever.
 const MOST_MENDINGS: usize = 64;
 
-/// The piece's facts, with each of its conditions learnt once more; none where one of them contradicts.
+/// The piece's facts, with each of its conditions learnt once more, in order: an older condition may teach more now,
+/// since newer ones have narrowed its words. `None` where one of them contradicts: the piece has no member. `Memory`
+/// where an allocation is refused.
 fn facts_learnt_again(alloc: Global, piece: &Piece) -> Result<Option<Facts>, Fault>
     ensures facts { IfOk result (λ o. MatchOption o (HasNoMember piece.now)
         (CoverMembers piece.now)) }
@@ -53,7 +55,7 @@ fn facts_learnt_again(alloc: Global, piece: &Piece) -> Result<Option<Facts>, Fau
     Ok(Some(facts))
 }
 
-/// The number that has only the lowest of these bits; none where there is no bit.
+/// The number that has only the lowest of these bits; `None` where there is no bit.
 fn lowest_bit(bits: u32) -> Option<u32>
     ensures { result ≡ lowest_bit bits }
 {
@@ -63,11 +65,13 @@ fn lowest_bit(bits: u32) -> Option<u32>
     Some(bits & bits.wrapping_neg())
 }
 
-/// A number in place of `number`, with which the word under `mask` may meet the condition against `wanted`. Where that
-/// word has to differ from `wanted`, the lowest of its bits that isn't known is turned. Where it has to share a bit
-/// with `wanted`, the lowest one that may be 1 is set. It is only a guess: the caller looks at the input again. None
-/// where there is no such bit, and for other conditions. That the word equals `wanted`, or shares no bit with it, is
-/// known bit by bit, so each input that is tried meets it already; a condition on order isn't mended.
+/// A number to put in a word in place of `number`, so that the word may meet the condition, which tests the word under
+/// `mask` against the number `wanted`. `known` is what is known of the word. If the word under the mask has to differ
+/// from `wanted`, its lowest bit that isn't known is turned. If it has to share a bit with `wanted`, the lowest such
+/// bit that may be 1 is set. This is only a guess: the caller looks at the whole input again. `None` where there is no
+/// such bit, and for other conditions. Two of these need no mending: if the word has to equal `wanted`, or to share no
+/// bit with it, the facts know that bit by bit, and each input that is tried meets the condition. A condition on order
+/// isn't mended.
 fn mended_number(number: u32, mask: u32, known: Known, cond: &Cond, wanted: u32) -> Option<u32>
     ensures { result ≡ mended_number cond.now.test cond.now.sense wanted mask known number }
 {
@@ -84,8 +88,9 @@ fn mended_number(number: u32, mask: u32, known: Known, cond: &Cond, wanted: u32)
     }
 }
 
-/// The input with one word mended, so that it may meet the condition. None where the condition doesn't compare a word
-/// under a mask with a constant, or where `mended_number` has no number for it.
+/// The input with one word mended, so that it may meet the condition. `None` where the condition doesn't test a word
+/// under a mask against a constant, or where `mended_number` has no number for it. The caller's conditions: the facts
+/// are of this pool, and the condition's nodes are in it.
 fn mended_input(pool: &Pool, facts: &Facts, cond: &Cond, input: &Input) -> Option<Input>
     requires covers { Covers facts.now pool.now }
     requires node { cond.now.node.0 < length pool.now }
@@ -105,8 +110,9 @@ fn mended_input(pool: &Pool, facts: &Facts, cond: &Cond, input: &Input) -> Optio
 }
 
 /// Looks for a member near an input, by mending the input. As long as the input misses a condition, one word is mended
-/// for the first condition that it misses, and the input is looked at again. None where a condition is still missed
-/// after `mendings` mendings, or can't be mended.
+/// for the first condition that it misses, and the input is looked at again. `None` where a condition is still missed
+/// after `mendings` mendings, or can't be mended. `Memory` where an allocation is refused. The caller's condition: all
+/// members of the piece agree with the facts.
 fn member_near(
     alloc: Global,
     piece: &Piece,
@@ -138,9 +144,10 @@ fn member_near(
 
 /// Looks for a member of the piece. First an input is tried that has in each word the least number that the piece's
 /// facts leave: where it is a member, no member has a smaller number in any word, and on a plain stack it always is
-/// one. Then the piece's conditions are learnt once more, which may show that it has no member. Then one word after the
-/// other is mended, where a condition on a word under a mask isn't met. `Doubt` where that doesn't come to a member.
-/// `Memory` where an allocation is refused.
+/// one. Otherwise the piece's conditions are learnt once more, which may show that it has no member. If it may have
+/// one, the least input that is left now is mended, one word after the other, for conditions on a word under a mask
+/// that it doesn't meet. `Doubt` where 64 such mendings don't come to a member. `Memory` where an allocation is
+/// refused.
 pub fn find_member(alloc: Global, piece: &Piece) -> Result<Membership, Fault>
     ensures right { IfOk result (IsRightMembership piece.now) }
     ensures rule { IfOk result (FindsMember piece.now) }

@@ -19,7 +19,7 @@ pub(crate) struct Probe {
 }
 
 impl Probe {
-    /// The probe of the question at a place.
+    /// The probe of the question at a place. The caller's condition: there is a question at the place.
     fn of(questions: &[Question], place: usize) -> Probe
         requires { place < length questions.now }
         ensures place { result.question ≡ place }
@@ -41,7 +41,8 @@ impl Probe {
     }
 }
 
-/// The probes of the questions about one call, and those of the other questions, each in the order of the questions.
+/// Two lists: the probes of the questions about one call, and those of the other questions. Both are in the order of
+/// the questions. `Memory` where an allocation is refused.
 fn probes_of(alloc: Global, questions: &[Question]) -> Result<(Vec<Probe>, Vec<Probe>), Fault>
     ensures each { IfOk result (λ r. AreProbes questions.now (length questions.now)
         r.0.items r.1.items) }
@@ -72,7 +73,9 @@ fn put_in_order(probes: &mut Vec<Probe>)
 /// order of the calls' numbers, so that for a region only the probes of calls that its members may make are looked at.
 #[derive(Drop)]
 pub struct Probes {
+    // Those of the questions about one call, in ascending order of the call's number.
     pub(crate) by_call: Vec<Probe>,
+    // Those of the other questions, in the order of the questions.
     pub(crate) others: Vec<Probe>,
 }
 

@@ -15,7 +15,8 @@ use sf_dom::Facts;
 use sf_run::Action;
 use sf_sym::NodeId;
 
-/// Whether the probe's question asks about the action, and the facts don't rule it out at once.
+/// Whether the probe's question asks about the action, and `rules_out` doesn't rule the question out by the facts. The
+/// caller's conditions: the facts have all sixteen words, and the probe is of one of these questions.
 #[tactic(auto, unfolding(crate::specs::Probing::IsRuledOutIfAsked))]
 fn is_left_to_judge(facts: &Facts, questions: &[Question], action: Action, probe: &Probe) -> bool
     requires known { 16 ≤ length facts.now.known }
@@ -27,7 +28,9 @@ fn is_left_to_judge(facts: &Facts, questions: &[Question], action: Action, probe
     question.actions().has(action) && !rules_out(facts, question)
 }
 
-/// Sets in `left` the bits of the probes' questions that are left.
+/// Sets in `left` the bits of those of the probes' questions that are left to judge, as `is_left_to_judge` says. Other
+/// bits stay as they were. The caller's conditions: the facts have all sixteen words, there are at most 256 questions,
+/// and the probes are of these.
 fn add_questions_left(
     facts: &Facts,
     questions: &[Question],
@@ -49,7 +52,9 @@ fn add_questions_left(
     }
 }
 
-/// The questions that ask about the action, without those that the facts rule out at once.
+/// The questions that ask about the action, as bits, without those that the facts rule out at once: their range for
+/// some word has no number of the interval that is known for this word. The caller's conditions: the facts have all
+/// sixteen words, there are at most 256 questions, and the probes are theirs.
 fn questions_left(
     facts: &Facts,
     questions: &[Question],
@@ -61,6 +66,7 @@ fn questions_left(
     requires probes { AreProbesOf questions.now probes.now }
     ensures { AreRuledOutBut facts.now questions.now action result }
 {
+    // The first word of an input is the call's number.
     let call = facts.known(NodeId(0));
     let mut left = [0u64; 4];
     let others = probes.others.as_slice();
@@ -70,9 +76,10 @@ fn questions_left(
     left
 }
 
-/// The questions on which a region is to be judged, as bits. Its verdict on each other question is clear: the region's
-/// action isn't asked about, or what is known of some word leaves no number of the question's range. The caller's
-/// conditions: there is a region at the place, there are at most 256 questions, and the probes are theirs.
+/// The questions on which the region at the place `job` is to be judged, as bits that `has_bit` reads. The region's
+/// verdict on each other question is clear: its action isn't asked about, or what is known of some word leaves no
+/// number of the question's range. The caller's conditions: there is a region at the place, there are at most 256
+/// questions, and the probes are theirs.
 pub fn questions_to_judge(
     settled: &Settled,
     job: usize,

@@ -2,7 +2,7 @@
 
 ghost use Rattle.std.specs.Prelude.{◌≡◌, ◌<◌, ◌≤◌, ℕ, not, length, map, IfOk, IfErr, Some, None, slice_get};
 ghost use Rattle.sf_ask.specs.QuestionBits.{has_bit};
-ghost use Rattle.sf_ask.specs.Sheets.{SheetData, verdict_at, clear_if_wanted, is_skipped, is_hit, is_doubt, is_clear_or_skipped, AreClearBut, IsRightWhereGiven, IsRightSheet, HasWanted};
+ghost use Rattle.sf_ask.specs.Sheets.{SheetData, verdict_at, clear_if_wanted, is_skipped, is_hit, is_doubt, is_clear_or_skipped, AreClearBut, IsRightOn, IsRightWhereGiven, IsRightSheet, HasWanted};
 ghost use Rattle.std.specs.List.{list_all};
 ghost use Rattle.sf_ask.specs.declared.fault.Fault.TheVariants.{Memory};
 
@@ -20,12 +20,16 @@ use std::snapshot::Snapshot;
 /// none where the question was skipped. Contracts also see which regions and questions the sheet is about.
 #[derive(Drop)]
 pub struct Sheet {
+    // For the prover: the regions and the questions that the sheet is about.
     settled: Snapshot<Settled>,
     questions: Vec<Snapshot<Question>>,
+    // The place of the region.
     job: usize,
+    // The questions that are asked for, as bits; the others are skipped.
     wanted: [u64; 4],
-    // None where it was known before judging that each verdict that is asked for is clear, as on most sheets.
+    // `None` where it was known before judging that each verdict that is asked for is clear, as on most sheets.
     verdicts: Option<Vec<Option<Verdict>>>,
+    // Whether no verdict is a hit or a doubt.
     finds_nothing: bool,
 }
 
@@ -78,36 +82,31 @@ fn is_clear(verdict: Option<Verdict>) -> bool
     }
 }
 
-/// The verdict on the question q: none where its bit in `wanted` isn't set, and clear, without judging, where only its
-/// bit in `to_judge` isn't set.
-fn verdict_if_wanted(
+/// The verdict of the region at the place `job` on the question q: clear, without judging, where the question's bit in
+/// `to_judge` isn't set. `Memory` where an allocation is refused. The caller's conditions: there is such a region and
+/// such a question, q is below 256, and the verdict is clear on each question that is not to be judged.
+fn verdict_on(
     alloc: Global,
     settled: &Settled,
     job: usize,
     questions: &[Question],
     q: usize,
     to_judge: &[u64; 4],
-    wanted: &[u64; 4],
-) -> Result<Option<Verdict>, Fault>
+) -> Result<Verdict, Fault>
     requires job { job < length settled.now.regions }
     requires question { (q < length questions.now) × (q < 256) }
     requires clear { AreClearBut settled.now questions.now job to_judge.now }
-    ensures right { IfOk result (IsRightWhereGiven settled.now questions.now job q) }
-    ensures wanted { IfOk result (λ e. is_skipped e ≡ not (has_bit wanted.now q)) }
+    ensures right { IfOk result (IsRightOn settled.now questions.now job q) }
     ensures err { IfErr result (λ f. f ≡ Memory) }
 {
-    if !has_bit(wanted, q) {
-        return Ok(None);
-    }
     if !has_bit(to_judge, q) {
-        return Ok(Some(Verdict::Clear));
+        return Ok(Verdict::Clear);
     }
-    let verdict = judge(alloc, settled, job, &questions[q])?;
-    Ok(Some(verdict))
+    judge(alloc, settled, job, &questions[q])
 }
 
-/// The verdict on the question q of a sheet on which each verdict that is asked for is clear; none where this one isn't
-/// asked for.
+/// The verdict on the question q, below 256, of a sheet on which each verdict that is asked for is clear; `None` where
+/// this one isn't asked for.
 fn clear_verdict(wanted: &[u64; 4], q: usize) -> Option<Verdict>
     requires { q < 256 }
     ensures { result ≡ clear_if_wanted wanted.now q }
@@ -119,8 +118,10 @@ fn clear_verdict(wanted: &[u64; 4], q: usize) -> Option<Verdict>
     }
 }
 
-/// The verdict of the region at the place `job` on each question: none where the question's bit in `wanted` isn't set,
-/// and clear, without judging, where only its bit in `to_judge` isn't set.
+/// The verdict of the region at the place `job` on each question: `None` where the question's bit in `wanted` isn't
+/// set, and clear, without judging, where only its bit in `to_judge` isn't set. `Memory` where an allocation is
+/// refused. The caller's conditions: there is such a region, there are at most 256 questions, and the verdict is clear
+/// on each question that is not to be judged.
 fn verdicts_on(
     alloc: Global,
     settled: &Settled,
@@ -141,7 +142,11 @@ fn verdicts_on(
 {
     let mut verdicts = Vec::with_capacity(alloc, questions.len())?;
     for q in 0..questions.len() {
-        let verdict = verdict_if_wanted(alloc, settled, job, questions, q, to_judge, wanted)?;
+        let verdict = if has_bit(wanted, q) {
+            Some(verdict_on(alloc, settled, job, questions, q, to_judge)?)
+        } else {
+            None
+        };
         verdicts.push(verdict)?;
     }
     Ok(verdicts)
@@ -176,9 +181,9 @@ impl Sheet {
         Sheet::judge(alloc, settled, job, questions, &[u64::MAX; 4], wanted)
     }
 
-    /// The sheet that `of` makes, for a caller who has looked before which questions are to be judged. The caller's
-    /// conditions: those of `of`, and the verdict is clear on each question that is not to be judged. `Memory` where an
-    /// allocation is refused.
+    /// The sheet that `of` makes, for a caller who has looked before which questions are to be judged: those whose bits
+    /// are set in `to_judge`. The caller's conditions: those of `of`, and the verdict is clear on each question that is
+    /// not to be judged. `Memory` where an allocation is refused.
     pub fn judge(
         alloc: Global,
         settled: &Settled,
@@ -196,6 +201,7 @@ impl Sheet {
         ensures wanted { IfOk result (HasWanted wanted) }
         ensures err { IfErr result (λ f. f ≡ Memory) }
     {
+        // Each verdict that is asked for is known to be clear: no list is made.
         if share_none(to_judge, &wanted) {
             return Ok(Sheet {
                 settled: Snapshot::of(settled),
@@ -234,7 +240,7 @@ impl Sheet {
         self.questions.len()
     }
 
-    /// The verdict on the question q, or none where it was skipped.
+    /// The verdict on the question q; `None` where it was skipped. The caller's condition: q is below `question_count`.
     pub fn verdict(&self, q: usize) -> Option<Verdict>
         requires { q < length self.now.questions }
         ensures value { result ≡ verdict_at self.now.verdicts q }
@@ -254,7 +260,7 @@ impl Sheet {
         self.finds_nothing
     }
 
-    /// Whether there is a hit on the question q.
+    /// Whether there is a hit on the question q. The caller's condition: q is below `question_count`.
     pub fn is_hit(&self, q: usize) -> bool
         requires { q < length self.now.questions }
         ensures { result ≡ is_hit (verdict_at self.now.verdicts q) }
@@ -262,7 +268,7 @@ impl Sheet {
         matches!(self.verdict(q), Some(Verdict::Hit(_)))
     }
 
-    /// Whether the region is in doubt for the question q.
+    /// Whether the region is in doubt for the question q. The caller's condition: q is below `question_count`.
     pub fn is_doubt(&self, q: usize) -> bool
         requires { q < length self.now.questions }
         ensures { result ≡ is_doubt (verdict_at self.now.verdicts q) }
@@ -270,7 +276,7 @@ impl Sheet {
         matches!(self.verdict(q), Some(Verdict::Doubt))
     }
 
-    /// Whether the question q was skipped.
+    /// Whether the question q was skipped. The caller's condition: q is below `question_count`.
     pub fn is_skipped(&self, q: usize) -> bool
         requires { q < length self.now.questions }
         ensures { result ≡ is_skipped (verdict_at self.now.verdicts q) }

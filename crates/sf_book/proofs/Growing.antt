@@ -1,22 +1,22 @@
 -- An unfolding grows where the step of an outstanding piece takes its place, and the book stays its fringe.
-use Rattle.std.proofs.Common.{◌≡◌, ℕ, zero, suc, ◌+◌, ◌<◌, ◌≤◌, Bool, true, false, List, [], ◌∷◌, ◌++◌, map, length, sum_by, refl, sym, ap, ◌∙◌, subst, arith, Some, inl, inr, get_or}
-use Rattle.std.proofs.lemmas.List.Elements.{Contains-append_cases, All-push, All-filter, All-nil}
+use Rattle.std.proofs.Common.{◌≡◌, ℕ, zero, suc, ◌+◌, Bool, false, List, [], ◌∷◌, ◌++◌, map, sum_by, refl, sym, ap, ◌∙◌, subst, arith, inl, inr, get_or}
+use Rattle.std.proofs.lemmas.List.Elements.{Contains-append_cases, All-push, All-filter, All-map, All-nil, All-cons}
 use Rattle.std.proofs.lemmas.List.Sums.{sum_by-cons, sum_by-append, sum_by_push, sum_by-remove}
 use Rattle.std.proofs.lemmas.List.Sorted.{sum_by-IsPermutation, All-permutation}
 use Rattle.std.proofs.lemmas.Option.{get_or_from_slice_get, slice_get_within}
-use Rattle.std.specs.List.{All, Contains, remove, slice_get}
+use Rattle.std.specs.List.{All, Contains}
 use Rattle.std.specs.List.Sorted.{IsPermutation}
 use Rattle.sf_check.specs.declared.insn.Insn.{Insn}
 use Rattle.sf_run.specs.declared.action.Answer.{Answer}
 use Rattle.sf_piece.specs.Pieces.{PieceData, WorkData, Split, Settled, Empty, IsRightSplit}
-use Rattle.sf_piece.specs.Execution.{HasStep, IsReached, AreSamePieces}
+use Rattle.sf_piece.specs.Execution.{HasStep}
 use Rattle.sf_piece.specs.OneExecution.{IsExecutionOne}
 use Rattle.sf_book.specs.Books.{OutstandingData, RegionData, BookData, IsLawfulBook, fresh}
 use Rattle.sf_book.specs.Changes.{MayCommit, without}
 use Rattle.sf_book.specs.PartitionLaws.{some_there}
 use Rattle.sf_book.specs.PrefixCounts.{bit}
-use Rattle.sf_book.specs.Unfoldings.{Unfolding, Outstanding, Region, Emptied, Fork, top_of, IsPieceOf, HasSides, IsUnfolding, outstanding_in, emptied_in, regions_in, forks_in, HaveSameElements, IsRegionOf, IsFringe}
-use Rattle.sf_book.proofs.Kept.{IsPlace, may_place, left_over}
+use Rattle.sf_book.specs.Unfoldings.{Unfolding, Outstanding, Region, Emptied, Fork, top_of, IsPieceOf, HasSides, IsUnfolding, outstanding_in, emptied_in, regions_in, forks_in, IsRegionOf, IsFringe}
+use Rattle.sf_book.proofs.Kept.{may_place, left_over}
 use Rattle.sf_book.proofs.Lists.{sum_by-map_same}
 use Rattle.sf_book.proofs.Lawful.{leased_piece, after_split, after_answer, after_empty}
 use Rattle.sf_book.proofs.Trees.{sum-map, is-name, own-name, the-name, same-names}
@@ -155,8 +155,15 @@ is-outstanding b id w l m h =
       get_or_from_slice_get (outstanding_in h.tree) found.0 found.1 n found.2 ∙ the-name n found.1 found.3,
     )
 
+-- an outstanding piece that the rules reach
+abbrev IsReachedIn : List (List Insn) → OutstandingData → Type 0
+IsReachedIn stack e = IsPieceOf stack e.piece
+
 module _ (one : IsExecutionOne) (b : BookData) (id : ℕ) (w : WorkData) (l : IsLawfulBook b) (m : MayCommit b id w)
     (h : IsFringe b) (p : IsPieceOf b.stack w.piece) where
+  left-reached : All (IsReachedIn b.stack) (without id b.outstanding)
+  left-reached = All-filter _ (IsReachedIn b.stack) b.outstanding h.reached
+
   -- the tree in which this took the work's place
   grown-by : (u : Unfolding) → IsUnfolding b.stack u → top_of u ≡ w.piece → HasGrown b.stack h.tree u w.piece.name
   grown-by u k e =
@@ -203,6 +210,8 @@ module _ (one : IsExecutionOne) (b : BookData) (id : ℕ) (w : WorkData) (l : Is
         regions = λ z. let a = h.regions z in let c = g.regions z in omega arith;
         emptied = λ z. let a = h.emptied z in let c = g.emptied z in omega arith;
         splits = let a = h.splits in let c = g.forks in omega arith;
+        reached = All-push (IsReachedIn b.stack) (es ++ leased_piece i f ∷ []) (leased_piece j t)
+            (All-push (IsReachedIn b.stack) es (leased_piece i f) left-reached pf) pt;
         settled = h.settled;
       }
 
@@ -235,6 +244,7 @@ module _ (one : IsExecutionOne) (b : BookData) (id : ℕ) (w : WorkData) (l : Is
             omega arith;
         emptied = λ z. let x = h.emptied z in let c = g.emptied z in omega arith;
         splits = let x = h.splits in let c = g.forks in omega arith;
+        reached = left-reached;
         settled = All-push (IsRegionOf b.stack) b.regions r h.settled (p, step);
       }
 
@@ -262,6 +272,7 @@ module _ (one : IsExecutionOne) (b : BookData) (id : ℕ) (w : WorkData) (l : Is
             let last = sum_by-cons z w.piece.name [] in
             omega arith;
         splits = let x = h.splits in let c = g.forks in omega arith;
+        reached = left-reached;
         settled = h.settled;
       }
 
@@ -275,6 +286,8 @@ fringe-fresh stack r budget p e = record {
   regions = λ f. refl;
   emptied = λ f. refl;
   splits = refl;
+  reached = All-cons (IsReachedIn stack) (record { id = 0; piece = r; leased = false }) [] p
+      (All-nil (IsReachedIn stack));
   settled = All-nil (IsRegionOf stack);
 }
 
@@ -293,6 +306,8 @@ fringe-marks b g pieces h = record {
   regions = h.regions;
   emptied = h.emptied;
   splits = h.splits;
+  reached = All-map (IsReachedIn b.stack) g b.outstanding
+      (λ k d less. subst (IsPieceOf b.stack) (sym (pieces (get_or b.outstanding k d))) (h.reached k d less));
   settled = h.settled;
 }
 
@@ -309,5 +324,6 @@ fringe-permuted b rs p h = record {
       ∙ sym (sum-map f name b.regions) ∙ h.regions f;
   emptied = h.emptied;
   splits = h.splits;
+  reached = h.reached;
   settled = All-permutation (IsRegionOf b.stack) b.regions rs p h.settled;
 }

@@ -1,5 +1,6 @@
 -- What the type of books keeps, through its calls.
-use Rattle.std.proofs.Common.{arith, refl, sym, ◌≡◌, ℕ, ◌+◌, ◌<◌, List, ◌∷◌, ◌++◌, [], map}
+use Rattle.std.proofs.Common.{arith, refl, sym, ap, ◌∙◌, ◌≡◌, ℕ, ◌+◌, ◌<◌, List, ◌∷◌, ◌++◌, [], map, Some}
+use Rattle.std.proofs.lemmas.List.{append_assoc}
 use Rattle.sf_check.specs.declared.insn.Insn.{Insn}
 use Rattle.sf_check.specs.Stacks.{IsLawfulStack}
 use Rattle.sf_check.specs.Stacks.{IsPlain}
@@ -8,7 +9,7 @@ use Rattle.sf_piece.specs.Pieces.{PieceData, WorkData, StepData, Split, Settled,
 use Rattle.sf_piece.specs.PlainPieces.{IsPlainPiece, IsPlainWork}
 use Rattle.std.proofs.Common.{subst}
 use Rattle.sf_book.specs.Books.{OutstandingData, BookData, fresh}
-use Rattle.sf_book.specs.Changes.{without, MayCommit}
+use Rattle.sf_book.specs.Changes.{without, MayCommit, CommitsAs}
 use Rattle.sf_book.specs.PlainBooks.{IsBook}
 use Rattle.sf_book.specs.PlainLaws.{plain_fresh, plain_marks, split_plain, answer_plain, empty_plain}
 use Rattle.sf_book.proofs.Lawful.{leased_piece, after_split, after_answer, after_empty}
@@ -74,6 +75,17 @@ split_book b next id w f t h m room work = record {
       (piece_of b id w (Split f t) m work) f t next (next + 1)
       (rw (right_step w (Split f t) work).1 at (rule_step w (Split f t) work)) (right_step w (Split f t) work).0;
 }
+
+-- the book in which both children stand in the place of their piece is the one that the commit of a split leaves
+pub split_commits : (b : BookData) (next id : ℕ) (w : WorkData) (f t : PieceData) (es : List OutstandingData)
+    → IsBook b next → w.step ≡ Split f t
+    → es ≡ (without id b.outstanding ++ leased_piece next f ∷ []) ++ leased_piece (next + 1) t ∷ []
+    → CommitsAs b id w.piece w.name w.step (Some (next, next + 1)) (after_split b es)
+split_commits b next id w f t es h is put = rw is (
+  (h.kept.below, omega arith),
+  ap (after_split b) (put ∙ append_assoc (without id b.outstanding) (leased_piece next f ∷ [])
+      (leased_piece (next + 1) t ∷ [])),
+)
 
 pub answer_book : (b : BookData) (next id : ℕ) (w : WorkData) (a : Answer) → IsBook b next → MayCommit b id w
     → b.commits < b.budget → IsLawfulWork w (Settled a)

@@ -1,5 +1,5 @@
 -- An execution tree that is explored to the end is one.
-use Rattle.std.proofs.Common.{◌≡◌, ℕ, ◌+◌, Bool, true, false, ◌&&◌, List, [], ◌∷◌, ◌++◌, refl, sym, ap, ◌∙◌, subst, arith, sum_by, map, zero, suc, ◌<◌, ◌≤◌, Some, None, inl, inr, ◌⊎◌, length}
+use Rattle.std.proofs.Common.{◌≡◌, ℕ, ◌+◌, Bool, true, false, ◌&&◌, List, [], ◌∷◌, ◌++◌, refl, sym, ap, ◌∙◌, subst, arith, sum_by, map, zero, suc, ◌≤◌, Some, None, length}
 use Rattle.std.proofs.lemmas.List.Sums.{sum_by-cons}
 use Rattle.std.proofs.lemmas.Option.{same_Some, get_or_from_slice_get, slice_get_within}
 use Rattle.std.specs.List.{All, AllByRecursion, slice_get}
@@ -10,9 +10,8 @@ use Rattle.std.specs.Ordering.{bool_cmp}
 use Rattle.std.specs.Cmp.Lexicographic.{slice_cmp}
 use Rattle.std.specs.declared.cmp.Ordering.TheVariants.{Less}
 use Rattle.sf_run.specs.Feasible.{AreInNameOrder}
-use Rattle.sf_run.specs.FeasibleLaws.{before_one_way, names_total}
+use Rattle.sf_run.specs.FeasibleLaws.{before_one_way}
 use Rattle.sf_check.specs.declared.insn.Insn.{Insn}
-use Rattle.sf_run.specs.declared.action.Answer.{Answer}
 use Rattle.sf_piece.specs.Pieces.{PieceData, StepData, Split, Settled, Empty}
 use Rattle.sf_piece.specs.Execution.{HasStep, AreSamePieces, AreSameSteps}
 use Rattle.sf_piece.specs.OneExecution.{IsExecutionOne}
@@ -21,7 +20,7 @@ use Rattle.sf_book.specs.Books.{RegionData, OutstandingData, BookData, IsSettled
 use Rattle.sf_book.specs.NameOrderLaws.{strictly_in_order}
 use Rattle.sf_book.specs.PartitionLaws.{some_there, prefix-refl}
 use Rattle.sf_book.specs.PrefixCounts.{bit, prefix_bit}
-use Rattle.sf_book.specs.Unfoldings.{Unfolding, Outstanding, Region, Emptied, Fork, HaveSameElements, IsFringe, IsRegionOf, IsSameRegion, AreSameRegions, HaveOneResult, top_of, IsPieceOf, HasSides, IsUnfolding, outstanding_in, emptied_in, regions_in, forks_in}
+use Rattle.sf_book.specs.Unfoldings.{Unfolding, Outstanding, Region, Emptied, Fork, HaveSameElements, IsFringe, IsRegionOf, IsSameRegion, AreSameRegions, HaveOneResult, top_of, IsPieceOf, IsUnfolding, outstanding_in, emptied_in, regions_in, forks_in}
 
 -- the same ends and forks
 pub record AreAlikeTrees (u v : Unfolding) : Type 0 where

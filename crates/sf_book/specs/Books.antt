@@ -46,8 +46,8 @@ members_of es rs d = count_by (λ e. is_member e.piece d) es + count_by (λ r. i
 
 -- how many of the names, of outstanding pieces, of regions and of emptied pieces, are beginnings of this list of truth
 -- values
-abbrev pub names_before : List OutstandingData → List RegionData → List (List Bool) → List Bool → ℕ
-names_before es rs ns t = count_by (λ e. is_prefix e.piece.name t) es + count_by (λ r. is_prefix r.name t) rs
+abbrev pub count_beginnings : List OutstandingData → List RegionData → List (List Bool) → List Bool → ℕ
+count_beginnings es rs ns t = count_by (λ e. is_prefix e.piece.name t) es + count_by (λ r. is_prefix r.name t) rs
     + count_by (λ n. is_prefix n t) ns
 
 -- each id is below all later ones
@@ -81,7 +81,7 @@ pub record IsLawfulBook (b : BookData) : Type 0 where
   pub one : (d : Input) → IsInput d → members_of b.outstanding b.regions d ≡ 1
   pub emptied : All (IsNoBeginning b.stack) b.emptied
   -- no two names have a common continuation, so none is a beginning of another
-  pub apart : (t : List Bool) → names_before b.outstanding b.regions b.emptied t ≤ 1
+  pub apart : (t : List Bool) → count_beginnings b.outstanding b.regions b.emptied t ≤ 1
   -- a split puts two pieces in the place of one, and each other work one region or one emptied name
   pub pieces : length b.outstanding + length b.regions + length b.emptied ≡ 1 + b.splits
   pub committed : b.commits ≡ b.splits + length b.regions + length b.emptied

@@ -16,10 +16,10 @@ pub record HasMembers (b : BookData) : Type 0 where
   pub regions : All (λ (r : RegionData). HasMember r.piece) b.regions
   pub emptied : b.emptied ≡ []
 
--- The regions have exactly these names, in this order. There was one split fewer than there are regions, each commit
--- was a split or settled a region, and no piece was emptied. In a lawful book nothing is outstanding then.
+-- The regions have exactly these names, in this order. Nothing is outstanding, and no piece was emptied. For n names
+-- there were 2 * n - 1 commits.
 pub record IsWorkedOff (b : BookData) (traces : List (List Bool)) : Type 0 where
   pub names : map (λ (r : RegionData). r.name) b.regions ≡ traces
-  pub splits : b.splits + 1 ≡ length traces
-  pub commits : b.commits + 1 ≡ 2 * length traces
+  pub outstanding : b.outstanding ≡ []
   pub emptied : b.emptied ≡ []
+  pub commits : b.commits + 1 ≡ 2 * length traces

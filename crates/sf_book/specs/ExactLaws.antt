@@ -198,7 +198,7 @@ worked_off b s m none =
     let committed = h.committed in
     let left : length b.outstanding ≡ 0 = ap length none in
     let emptied : length b.emptied ≡ 0 = ap length m.emptied in
-    record { names = same; splits = omega arith; commits = omega arith; emptied = m.emptied }
+    record { names = same; outstanding = none; emptied = m.emptied; commits = omega arith }
 
 -- while something is outstanding the commits are too few
 pub left_unworked : (b : BookData) → IsLawfulBook b → HasMembers b → 0 < length b.outstanding

@@ -79,8 +79,8 @@ abbrev pub IsRegionOf : List (List Insn) → RegionData → Type 0
 IsRegionOf stack r = IsPieceOf stack r.piece × HasStep r.piece (Settled r.answer) r.name
 
 -- A book is the fringe of an unfolding of its stack, which begins with a piece of empty name. By their names, what is
--- outstanding, settled and emptied are the ends of its branches; each region is by the rules one of the stack; and
--- there are as many splits as forks.
+-- outstanding, settled and emptied are the ends of its branches; each outstanding piece is one that the rules reach;
+-- each region is by the rules one of the stack; and there are as many splits as forks.
 pub record IsFringe (b : BookData) : Type 0 where
   pub tree : Unfolding
   pub unfolds : IsUnfolding b.stack tree
@@ -89,6 +89,7 @@ pub record IsFringe (b : BookData) : Type 0 where
   pub regions : HaveSameElements (map (λ (r : RegionData). r.piece.name) b.regions) (regions_in tree)
   pub emptied : HaveSameElements b.emptied (emptied_in tree)
   pub splits : b.splits ≡ forks_in tree
+  pub reached : All (λ (e : OutstandingData). IsPieceOf b.stack e.piece) b.outstanding
   pub settled : All (IsRegionOf b.stack) b.regions
 
 -- the same piece settled, with the same whole name and answer

@@ -53,11 +53,17 @@ pub struct Lease {
 pub struct Book {
     stack: Arc<Stack>,
     outstanding: OutstandingPieces,
+    // In the order in which they settled.
     regions: Vec<Region>,
+    // In the order in which their works were committed.
     emptied: Vec<Emptied>,
+    // How many committed works split their piece.
     splits: u32,
+    // How many works are committed.
     commits: u32,
+    // How many works may be committed.
     budget: u32,
+    // The id of the next new piece. It is above all ids that were given: none is given twice.
     next_id: u64,
 }
 
@@ -141,8 +147,9 @@ impl Book {
         }
     }
 
-    /// Leases out the piece with the first name among those that aren't on lease; `None` where all are on lease.
-    /// `Memory` where an allocation is refused: the book is unchanged then.
+    /// Leases out the piece with the first name among those that aren't on lease; `None` where all are on lease, or
+    /// none is outstanding. Takes no memory. `Memory` only where too many owners would share the piece: the book is
+    /// unchanged then.
     pub fn lease(&mut self) -> Result<Option<Lease>, Fault>
         ensures ok { IfOk result (λ l. MatchOption l ((self.new ≡ self.old)
             × All (λ e. e.leased ≡ true) self.old.outstanding)
@@ -204,13 +211,13 @@ impl Book {
         ensures err { IfErr result (λ f. Refuses self.old id work f × (self.new ≡ self.old)) }
     {
         self.admit(id, &work)?;
-        self.commit_own(id, work)
+        self.replace(id, work)
     }
 
-    /// Commits as `commit` does, for a caller who can show that the work may be committed. Nothing is compared. The
-    /// caller's conditions: the work is of the book's stack and of the piece outstanding under the id, and the budget
-    /// isn't spent. `Memory` where an allocation is refused: the book is unchanged then.
-    pub fn commit_own(&mut self, id: u64, work: Work) -> Result<Option<(u64, u64)>, Fault>
+    /// Puts what became of the piece under the id in its place, and returns what `commit` returns. Nothing is compared.
+    /// The caller's conditions: `admit` has admitted the work under this id, and the book hasn't changed since.
+    /// `Memory` where an allocation is refused: the book is unchanged then.
+    fn replace(&mut self, id: u64, work: Work) -> Result<Option<(u64, u64)>, Fault>
         requires may { MayCommit self.old id work }
         requires room { self.old.commits < self.old.budget }
         ensures ok { IfOk result (λ ids. CommitsAs self.old id work.piece work.name
@@ -221,6 +228,7 @@ impl Book {
         execution_has_one_result();
         let next = self.next_id;
         let (piece, step) = work.into_parts();
+        // What may be refused comes first: the book is unchanged then.
         match step {
             Step::Split(f, t) => {
                 self.outstanding.split(id, next, next + 1, f, t)?;
@@ -231,21 +239,22 @@ impl Book {
             }
             Step::Settled(name, answer) => {
                 add(&mut self.regions, Region::of(piece, name, answer))?;
-                self.outstanding.take(id);
+                self.outstanding.remove(id);
                 self.commits += 1;
                 Ok(None)
             }
             Step::Empty => {
                 add(&mut self.emptied, Emptied { piece })?;
-                self.outstanding.take(id);
+                self.outstanding.remove(id);
                 self.commits += 1;
                 Ok(None)
             }
         }
     }
 
-    /// Whether a work of the book's stack may be committed: `Stale` where it isn't of the piece under the id, `Spent`
-    /// where the budget is spent.
+    /// Fails where a work of the book's stack can't be committed: `Stale` where no piece is outstanding under the id,
+    /// or one with another name than the work's piece; `Spent` where the budget is spent. The caller's condition: the
+    /// work is of the book's stack.
     fn admit(&self, id: u64, work: &Work) -> Result<(), Fault>
         requires { work.now.piece.stack ≡ self.now.stack }
         ensures ok { OnOk result (MayCommit self.now id work.now

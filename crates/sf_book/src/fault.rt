@@ -13,7 +13,7 @@ pub enum Fault {
     /// What was handed in is of another stack than the book's.
     #[error("another stack than the book's")]
     Foreign,
-    /// No piece is outstanding under the id, or one with another name.
+    /// No piece is outstanding under the id, or one with another name than the work's piece.
     #[error("no such piece is outstanding")]
     Stale,
     /// The budget is spent: as many works are committed as it allows.

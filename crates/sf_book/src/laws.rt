@@ -12,49 +12,53 @@ ghost use Rattle.sf_book.specs.Partition.{parts_of, names_of, LiesInOne, NoneBeg
 
 use sf_piece::laws::execution_has_one_result;
 
-/// Each input lies in exactly one outstanding piece or settled region of a lawful book.
+/// For the prover: each input lies in exactly one outstanding piece or settled region of a lawful book.
 #[tactic(auto, using(crate::specs::PartitionLaws::lies_in_one))]
 pub fn each_input_lies_in_one()
     ensures { (b : BookData) → IsLawfulBook b → (d : Input) → IsInput d
         → LiesInOne (parts_of b) d }
 {}
 
-/// No name of a lawful book begins another: not of an outstanding piece, a region or an emptied piece.
+/// For the prover: in a lawful book no name is the beginning of another one. Outstanding pieces, regions and emptied
+/// pieces have these names.
 #[tactic(auto, using(crate::specs::PartitionLaws::none_begins_another))]
 pub fn no_name_begins_another()
     ensures { (b : BookData) → IsLawfulBook b → NoneBeginsAnother (names_of b) }
 {}
 
-/// A lawful book of a plain stack has at most one piece or region for each feasible trace of the stack.
+/// For the prover: a lawful book of a plain stack has at most as many outstanding pieces and regions as the stack has
+/// feasible traces. A trace is feasible where some input has it.
 pub fn at_most_one_for_each_trace()
     ensures { (b : BookData) → IsLawfulBook b → IsPlainBook b →
         length b.outstanding + length b.regions ≤ length (feasible_traces b.stack) }
 {}
 
-/// Where an exploration of a plain stack ended with nothing outstanding, the names of its regions are exactly the
-/// feasible traces, in order.
+/// For the prover: where an exploration of a plain stack ended with nothing outstanding, the names of its regions are
+/// exactly the feasible traces, in name order. Then no piece was emptied, and for n traces there were n - 1 splits and
+/// 2 n - 1 commits.
 pub fn what_is_worked_off_names_each_trace()
     ensures { (b : BookData) → IsSettled b → IsPlainBook b → b.outstanding ≡ [] →
         IsWorkedOff b (feasible_traces b.stack) }
 {}
 
-/// While something is outstanding of a plain stack with n feasible traces, fewer than 2 n - 1 works are committed: it
-/// takes that many to settle all regions.
+/// For the prover: while a book of a plain stack with n feasible traces has something outstanding, fewer than 2 n - 1
+/// works are committed. It takes 2 n - 1 works to settle all regions: n - 1 split a piece, and n settle one.
 pub fn what_is_left_took_fewer_works()
     ensures { (b : BookData) → IsLawfulBook b → IsPlainBook b → 0 < length b.outstanding →
         b.commits + 1 < 2 * length (feasible_traces b.stack) }
 {}
 
-/// An exploration of a plain stack, which ended since nothing was outstanding or the budget was spent, has nothing
-/// outstanding exactly where its budget is at least 2 n - 1, for n feasible traces.
+/// For the prover: an exploration of a plain stack with n feasible traces, which ended since nothing was outstanding or
+/// the budget was spent, has nothing outstanding exactly where its budget is at least 2 n - 1.
 pub fn a_budget_is_enough_or_not()
     ensures { (b : BookData) → IsSettled b → IsPlainBook b → (b.outstanding ≡ [])
         ⊎ (b.commits ≡ b.budget) →
         (b.outstanding ≡ []) ↔ (2 * length (feasible_traces b.stack) ≤ b.budget + 1) }
 {}
 
-/// Explorations of one stack that both ended with nothing outstanding have one result, whatever their budgets were, and
-/// in whatever order the works came.
+/// For the prover: two explorations of one stack that both ended with nothing outstanding have one result, whatever
+/// their budgets were, and in whatever order the works came. They have the same regions, the same emptied names, and as
+/// many splits and commits.
 pub fn explorations_have_one_result()
     ensures { ExplorationsHaveOneResult }
 {

@@ -38,8 +38,9 @@ impl NameKey {
         NameKey { piece }
     }
 
-    /// Another key of the same piece. `Memory` where the piece can't be shared once more.
-    pub(crate) fn twin(&self) -> Result<NameKey, Fault>
+    /// Another key of the same piece, which both keys share. Takes no memory. `Memory` only where too many owners would
+    /// share the piece.
+    pub(crate) fn share(&self) -> Result<NameKey, Fault>
         ensures ok { IfOk result (λ k. k ≡ self.now) }
         ensures err { IfErr result (λ f. f ≡ Memory) }
     {

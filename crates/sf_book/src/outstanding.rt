@@ -20,7 +20,7 @@ use std::collections::BTreeMap;
 use std::marker::Model;
 use std::sync::Arc;
 
-/// What stands under a name: the id of its piece, and whether that is on lease.
+/// What stands under a name: the id of the piece with this name, and whether the piece is on lease.
 #[derive(Clone, Copy, Debug, PartialEq, Eq)]
 pub(crate) struct LeaseState {
     pub(crate) id: u64,
@@ -49,7 +49,7 @@ impl Model for OutstandingPieces {
 }
 
 impl OutstandingPieces {
-    /// One piece, which is not on lease.
+    /// Only this piece, outstanding under this id, and not on lease. `Memory` where an allocation is refused.
     pub(crate) fn open(
         alloc: Global,
         id: u64,
@@ -77,7 +77,7 @@ impl OutstandingPieces {
         self.by_id.len()
     }
 
-    /// The piece under the id.
+    /// The piece under the id; `None` where none is outstanding under it.
     pub(crate) fn piece(&self, id: u64) -> Option<&Arc<Piece>>
         ensures { MatchOption result (outstanding_at id self.now ≡ None) (λ p. (on : Bool)
             × (outstanding_at id self.now ≡ Some (record {
@@ -92,7 +92,7 @@ impl OutstandingPieces {
         }
     }
 
-    /// The piece at this place in the order of ids.
+    /// The piece at this place in the order of ids, from 0. The caller's condition: there are more pieces than that.
     pub(crate) fn at(&self, i: usize) -> &Arc<Piece>
         requires { i < length self.now }
         ensures { slice_get (map (λ (e : OutstandingData). e.piece) self.now) i
@@ -101,8 +101,9 @@ impl OutstandingPieces {
         key_at(&self.by_id, i).piece()
     }
 
-    /// Leases out the piece with the first name among those that aren't on lease; `None` where all are on lease.
-    /// `Memory` where the piece can't be shared once more: all is as it was then.
+    /// Leases out the piece with the first name among those that aren't on lease, and gives its id and the piece.
+    /// `None` where all are on lease, or none is outstanding. Takes no memory. `Memory` only where too many owners
+    /// would share the piece: all is as it was then.
     pub(crate) fn lease(&mut self) -> Result<Option<(u64, Arc<Piece>)>, Fault>
         ensures ok { IfOk result (λ l. MatchOption l ((self.new ≡ self.old)
             × All (λ e. e.leased ≡ true) self.old) (λ l.
@@ -112,6 +113,7 @@ impl OutstandingPieces {
         let Some(id) = first_free(&self.by_name) else {
             return Ok(None);
         };
+        // Both maps have the same ids.
         let Some(named) = self.by_id.get(&id) else {
             unreachable!()
         };
@@ -136,7 +138,8 @@ impl OutstandingPieces {
         clear_leased(&mut self.by_name);
     }
 
-    /// Adds a piece under an id, on lease or not, or leaves all as it was.
+    /// Adds a piece under an id, on lease or not. `Memory` where an allocation is refused: all is as it was then. The
+    /// caller's conditions: the id is above all others, and no other outstanding piece has the piece's name.
     fn add(&mut self, id: u64, piece: Arc<Piece>, leased: bool) -> Result<(), Fault>
         requires above { All (λ e. e.id < id) self.old }
         requires apart { All (λ e. e.piece.name ≢ (arc_value piece).name) self.old }
@@ -148,9 +151,9 @@ impl OutstandingPieces {
         ensures err { IfErr result (λ f. (f ≡ Memory) × (self.new ≡ self.old)) }
     {
         let named = NameKey::of(piece);
-        let twin = named.twin()?;
+        let shared = named.share()?;
         put_id(&mut self.by_id, id, named)?;
-        match put_name(&mut self.by_name, twin, LeaseState { id, leased }) {
+        match put_name(&mut self.by_name, shared, LeaseState { id, leased }) {
             Ok(()) => Ok(()),
             Err(fault) => {
                 drop_id(&mut self.by_id, id);
@@ -160,7 +163,7 @@ impl OutstandingPieces {
     }
 
     /// Takes the piece under the id out of both maps. Where no piece is outstanding under the id, nothing changes.
-    pub(crate) fn take(&mut self, id: u64)
+    pub(crate) fn remove(&mut self, id: u64)
         ensures { self.new ≡ without id self.old }
     {
         if let Some(named) = self.by_id.remove(&id) {
@@ -170,7 +173,8 @@ impl OutstandingPieces {
 
     /// Takes the piece under `id` out, and adds the two into which it is split, both on lease: `f`, the false one,
     /// under `first`, and `t`, the true one, under `second`. `Memory` where an allocation is refused: all is as it was
-    /// then.
+    /// then. The caller's conditions: `first` is above all ids, and `second` above `first`; `f` and `t` have different
+    /// names, which no outstanding piece has.
     pub(crate) fn split(
         &mut self,
         id: u64,
@@ -189,21 +193,22 @@ impl OutstandingPieces {
             ++ record { id = second; piece = arc_value t; leased = true } ∷ []) }
         ensures err { IfErr result (λ f. (f ≡ Memory) × (self.new ≡ self.old)) }
     {
+        // The split piece is taken out last, so it needn't be put back where memory is refused.
         self.add(first, f, true)?;
         match self.add(second, t, true) {
             Ok(()) => {
-                self.take(id);
+                self.remove(id);
                 Ok(())
             }
             Err(fault) => {
-                self.take(first);
+                self.remove(first);
                 Err(fault)
             }
         }
     }
 }
 
-/// The piece at this place in the order of ids.
+/// The piece at this place in the order of ids, as a key. The caller's condition: the map has more entries than that.
 fn key_at(by_id: &BTreeMap<u64, NameKey>, i: usize) -> &NameKey
     requires { i < length (values by_id.now) }
     ensures { slice_get (values by_id.now) i ≡ Some result.now }
@@ -214,7 +219,7 @@ fn key_at(by_id: &BTreeMap<u64, NameKey>, i: usize) -> &NameKey
     named
 }
 
-/// Puts a piece under an id, or leaves all as it was.
+/// Puts a piece under an id. `Memory` where an allocation is refused: all is as it was then.
 fn put_id(by_id: &mut BTreeMap<u64, NameKey>, id: u64, piece: NameKey) -> Result<(), Fault>
     ensures updates { OnOk result (Updates nat_cmp by_id.old by_id.new id (Some piece)) }
     ensures inserted { OnOk result (by_id.new.entries
@@ -226,7 +231,8 @@ fn put_id(by_id: &mut BTreeMap<u64, NameKey>, id: u64, piece: NameKey) -> Result
     Ok(())
 }
 
-/// Puts the id of a piece, and whether it is on lease, under the piece's name, or leaves all as it was.
+/// Puts the id of a piece, and whether it is on lease, under the piece's name. `Memory` where an allocation is refused:
+/// all is as it was then.
 fn put_name(
     by_name: &mut BTreeMap<NameKey, LeaseState>,
     piece: NameKey,
@@ -241,7 +247,7 @@ fn put_name(
     Ok(())
 }
 
-/// Takes the piece under an id out of the map of ids.
+/// Takes the piece under an id out of the map of ids. Where none stands under it, nothing changes.
 fn drop_id(by_id: &mut BTreeMap<u64, NameKey>, id: u64)
     ensures { by_id.new.entries ≡ remove_entry (is_at (nat_cmp id)) by_id.old.entries }
 {
@@ -259,7 +265,7 @@ fn first_free(by_name: &BTreeMap<NameKey, LeaseState>) -> Option<u64>
         .map(|state| state.id)
 }
 
-/// Puts a name on lease or takes it off.
+/// Puts the piece of a name on lease, or takes it off. Where the map hasn't the name, nothing changes.
 fn set_leased(by_name: &mut BTreeMap<NameKey, LeaseState>, named: &NameKey, leased: bool)
     ensures { MatchOption (lease_state_of by_name.old.entries named.now)
         (by_name.new.entries ≡ by_name.old.entries) (λ m. by_name.new.entries
@@ -271,11 +277,12 @@ fn set_leased(by_name: &mut BTreeMap<NameKey, LeaseState>, named: &NameKey, leas
     }
 }
 
-/// Takes all names off lease.
+/// Takes all pieces off lease.
 fn clear_leased(by_name: &mut BTreeMap<NameKey, LeaseState>)
     ensures { by_name.new.entries ≡ map (λ e. (e.0, record { id = e.1.id; leased = false }))
         by_name.old.entries }
 {
+    // No entry is taken out: this only goes over all of them.
     by_name.retain(|_, state| {
         state.leased = false;
         true

@@ -24,9 +24,12 @@ use std::sync::Arc;
 #[derive(Drop)]
 pub struct Settled {
     pub(crate) stack: Arc<Stack>,
+    // The pieces that are left.
     pub(crate) outstanding: OutstandingPieces,
     pub(crate) regions: Vec<Region>,
+    // In the order in which their works were committed.
     pub(crate) emptied: Vec<Emptied>,
+    // The numbers of the book when it was closed.
     pub(crate) splits: u32,
     pub(crate) commits: u32,
     pub(crate) budget: u32,
@@ -77,7 +80,8 @@ impl Settled {
         self.regions.len()
     }
 
-    /// The region at this place in the order of names.
+    /// The region at this place in the order of names, from 0. The caller's condition: the place is below
+    /// `region_count`.
     pub fn region(&self, i: usize) -> &Region
         requires { i < length self.now.regions }
         ensures value { slice_get self.now.regions i ≡ Some result.now }
@@ -96,7 +100,8 @@ impl Settled {
         self.outstanding.len()
     }
 
-    /// The piece at this place among those that are left, in the order of ids.
+    /// The piece at this place, from 0, among those that are left, in the order of ids. The caller's condition: the
+    /// place is below `outstanding_count`.
     pub fn outstanding(&self, i: usize) -> &Arc<Piece>
         requires { i < length self.now.outstanding }
         ensures value { slice_get (map (λ (e : OutstandingData). e.piece) self.now.outstanding) i
@@ -114,8 +119,8 @@ impl Settled {
         self.emptied.len()
     }
 
-    /// The name of the piece at this place among those that turned out to have no member, in the order in which their
-    /// works were committed.
+    /// The name of the piece at this place, from 0, among those that turned out to have no member, in the order in
+    /// which their works were committed. The caller's condition: the place is below `emptied_count`.
     pub fn emptied(&self, i: usize) -> &Name
         requires { i < length self.now.emptied }
         ensures value { slice_get self.now.emptied i ≡ Some result.now }

@@ -1,13 +1,15 @@
 -- Pieces on lease through a turn.
 use Rattle.std.proofs.lemmas.Grind.{common_steps}
-use Rattle.std.proofs.Common.{◌≡◌, ℕ, ◌<◌, ◌==◌, Bool, true, false, not, cond, List, [], ◌∷◌, ◌++◌, map, Option, Some, None, MatchOption, refl, ◌∙◌, ap, arith, inl}
+use Rattle.std.proofs.Common.{◌≡◌, ◌≢◌, ℕ, ◌<◌, ◌==◌, Bool, true, false, not, cond, List, [], ◌∷◌, ◌++◌, map, Option, Some, None, MatchOption, refl, sym, ◌∙◌, ap, arith, inl}
 use Rattle.std.specs.List.{All}
 use Rattle.std.proofs.lemmas.Bool.Decides.{nat_tests}
 use Rattle.std.specs.Arc.{arc_value}
 use Rattle.std.proofs.lemmas.List.Elements.{All-head, All-tail, All-cons, All-nil, All-map}
 use Rattle.sf_piece.specs.Pieces.{PieceData, StepData, WorkData, Split, Settled, Empty}
 use Rattle.sf_book.specs.Books.{OutstandingData, BookData, IsLawfulBook, IsOutstanding}
-use Rattle.sf_book.specs.Changes.{outstanding_at, with_lease_at, with_lease, without, CommitsAs, Leases, MayCommit}
+use Rattle.sf_book.specs.Changes.{outstanding_at, with_lease_at, with_lease, without, CommitsAs, Leases, MayCommit, Refuses}
+use Rattle.sf_book.specs.declared.fault.Fault.{Fault}
+use Rattle.sf_book.specs.declared.fault.Fault.TheVariants.{Foreign, Stale, Spent, Memory}
 use Rattle.sf_book.specs.ChangesLaws.{all_at, leased_at}
 use Rattle.sf_book.specs.declared.book.Lease.{Lease}
 use Rattle.sf_crew.specs.Explorations.{IsExhausted, IsFree, MayWork, TakesTurn}
@@ -81,6 +83,16 @@ may_commit b x w h m is =
       there = m.there;
       same_name = ap (λ (q : PieceData). q.name) is;
     }
+
+-- a commit that may be made within the budget is refused nothing but memory
+pub only_memory : (b : BookData) (id : ℕ) (w : WorkData) (f : Fault) → MayCommit b id w → b.commits < b.budget
+    → Refuses b id w f → f ≡ Memory
+only_memory b id w Foreign m room h = absurd (h m.same_stack)
+only_memory b id w Stale m room h =
+    let stale : MatchOption (outstanding_at id b.outstanding) (Unit {0}) (λ e. e.piece.name ≢ w.piece.name) = h.1 in
+    absurd ((rw m.there at stale) (sym m.same_name))
+only_memory b id w Spent m room h = absurd (let spent = h.1 in omega arith)
+only_memory b id w Memory m room h = refl
 
 -- ---- a turn, at whose end the children of a split are given back
 

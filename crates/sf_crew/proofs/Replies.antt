@@ -1,5 +1,5 @@
 -- Why replies are right.
-use Rattle.std.proofs.Common.{◌≡◌, ℕ, zero, suc, ◌+◌, ◌<◌, Bool, true, false, true≢false, List, [], ◌∷◌, ◌++◌, length, ◌≤◌, Option, Some, None, slice_get, get_or, unwrap_or, ◌==◌, ◌⊎◌, sym, refl, ap, ◌∙◌, subst, inl, inr, ⊎_elim, arith}
+use Rattle.std.proofs.Common.{◌≡◌, ℕ, zero, suc, ◌<◌, Bool, true, false, true≢false, List, [], ◌∷◌, ◌++◌, length, Option, Some, None, slice_get, get_or, ◌==◌, ◌⊎◌, sym, refl, ap, ◌∙◌, subst, inl, inr, ⊎_elim, arith}
 use Rattle.std.proofs.lemmas.Bool.Decides.{nat_tests}
 use Rattle.std.proofs.lemmas.Option.{slice_get-get_or, same_Some, get_or_from_slice_get}
 use Rattle.sf_ask.specs.declared.verdict.Reply.{Reply}
@@ -17,11 +17,11 @@ use Rattle.sf_ask.specs.Verdicts.{IsBreakAt, IsRightVerdict, IsRightReply, Tells
 use Rattle.sf_check.specs.Stacks.{IsPlain}
 use Rattle.sf_ask.specs.MemberLaws.{in_some_region}
 use Rattle.sf_ask.specs.Sheets.{IsRightOn, IsRightWhereGiven}
-use Rattle.sf_ask.specs.Judging.{HasVerdictAt, HasNoHitAt}
+use Rattle.sf_ask.specs.Judging.{HasVerdictAt}
 use Rattle.sf_crew.specs.declared.board.Tally.{Tally}
 use Rattle.sf_ask.specs.QuestionBits.{bit_of}
 use Rattle.sf_crew.specs.Tallies.{IsBelow}
-use Rattle.sf_crew.specs.Sweeps.{IsWithoutHit, HasDoubt, IsUnbroken, IsReplyTo, IsFullTally}
+use Rattle.sf_crew.specs.Sweeps.{HasDoubt, IsUnbroken, IsReplyTo, IsFullTally}
 
 none_left : {X : Type 0} (xs : List X) → length xs ≡ 0 → xs ≡ []
 none_left [] e = refl

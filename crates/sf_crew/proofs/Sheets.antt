@@ -1,6 +1,6 @@
 -- What entering one verdict more, and a whole sheet, does to a seat.
 use Rattle.std.proofs.lemmas.Grind.{common_steps}
-use Rattle.std.proofs.Common.{◌≡◌, ℕ, ◌+◌, ◌<◌, ◌⊎◌, List, [], ◌∷◌, length, zero, suc, true, Option, Some, None, refl, ap, subst, inl, inr, ⊎_elim, arith}
+use Rattle.std.proofs.Common.{◌≡◌, ℕ, ◌+◌, ◌<◌, ◌⊎◌, List, ◌∷◌, length, true, Option, Some, None, refl, ap, subst, inl, inr, ⊎_elim, arith}
 use Rattle.sf_ask.specs.declared.verdict.Verdict.{Verdict}
 use Rattle.sf_ask.specs.declared.verdict.Verdict.TheVariants.{Clear, Hit, Doubt}
 use Rattle.sf_book.specs.Books.{BookData}
@@ -38,12 +38,6 @@ doubt_right s qs r q (Some Clear) h is = absurd (cc)
 doubt_right s qs r q (Some (Hit d)) h is = absurd (cc)
 doubt_right s qs r q (Some Doubt) h is = h
 
--- past the last verdict there is no doubt
-doubt_below : (vs : List (Option Verdict)) (q : ℕ) → IsDoubt vs q → q < length vs
-doubt_below [] q is = absurd (cc)
-doubt_below (v ∷ vs) zero is = omega arith
-doubt_below (v ∷ vs) (suc q) is = let rest = doubt_below vs q is in omega arith
-
 abbrev Subject : Type 0
 Subject = BookData × List QuestionData
 
@@ -64,7 +58,7 @@ covers k v s ds ns f right notes marks =
           inr (inl (subst (λ (y : Subject). IsRightOn y.0 y.1 s.job q Clear) (λ i. (f.regions i, f.questions i)) z)))
           y) x)
           (verdict_cases s.settled s.questions s.job q (verdict_at s.verdicts q) (right.right q there)));
-      doubts = search (arith, doubt_below, doubt_right);
+      doubts = search (arith, doubt_right);
     }
 
 -- a seat's view before the last step of entering: its notes and its marks are new

@@ -20,21 +20,21 @@ IsDoubt vs q = is_doubt (verdict_at vs q) ≡ true
 abbrev pub IsSkipped : List (Option Verdict) → ℕ → Type 0
 IsSkipped vs q = is_skipped (verdict_at vs q) ≡ true
 
--- no mark is lost, the questions in doubt among the first n are marked, and only questions in doubt are newly marked
+-- no mark is lost, the questions in doubt among the first n are marked, and only these are newly marked
 pub record MarksDoubts (vs : List (Option Verdict)) (n : ℕ) (old new : List ℕ) : Type 0 where
   pub more : (q : ℕ) → has q old ≤ has q new
   pub doubts : (q : ℕ) → q < n → IsDoubt vs q → has q new ≡ 1
-  pub only : (q : ℕ) → has q new ≡ 1 → (has q old ≡ 1) ⊎ IsDoubt vs q
+  pub only : (q : ℕ) → has q new ≡ 1 → (has q old ≡ 1) ⊎ ((q < n) × IsDoubt vs q)
 
 -- exactly the questions that a sheet has a doubt for, in any order
 abbrev pub AreDoubts : SheetData → List ℕ → Type 0
 AreDoubts s qs = MarksDoubts s.verdicts (length s.questions) [] qs
 
--- no note is lost, the hits among the first n verdicts are noted at the job, and only hits are newly noted, at the job
+-- no note is lost, the hits among the first n verdicts are noted at the job, and only these are newly noted
 pub record NotesHits (vs : List (Option Verdict)) (job n : ℕ) (old new : List Note) : Type 0 where
   pub more : (q r : ℕ) → Noted old q r → Noted new q r
   pub hits : (q : ℕ) → q < n → IsHit vs q → Noted new q job
-  pub only : (q r : ℕ) → Noted new q r → Noted old q r ⊎ ((r ≡ job) × IsHit vs q)
+  pub only : (q r : ℕ) → Noted new q r → Noted old q r ⊎ ((r ≡ job) × (q < n) × IsHit vs q)
 
 -- the sheet is of the board's regions and questions, for the job that the seat owes, and skips only questions for which
 -- the seat has seen a lower place

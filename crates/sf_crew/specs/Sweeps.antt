@@ -36,16 +36,17 @@ pub record IsSharedSweep (w : SharedSweepData) : Type 0 where
   pub questions : questions_of (about w.board) ≡ w.questions
   pub probes : AreProbesOf w.questions w.probes
 
--- looking changes nothing but the notes, and each question that isn't wanted has a noted place below the job
+-- looking only adds notes, and each question that isn't wanted has a noted place below the job
 pub record SkipsOnly (questions : List QuestionData) (job : ℕ) (v w : View) (wanted : List ℕ) : Type 0 where
   pub same : w ≡ with_notes v w.notes
+  pub more : (q r : ℕ) → Noted v.notes q r → Noted w.notes q r
   pub skips : (q : ℕ) → q < length questions → bit_of wanted q ≡ 0 → (r : ℕ) × Noted w.notes q r × (r < job)
 
 -- looking at the 64 questions of one word of bits only adds notes, and each of them that isn't wanted has a noted place
 -- below the job
 pub record SkipsOnlyIn (word job : ℕ) (v w : View) (wanted : ℕ) : Type 0 where
   pub same : w ≡ with_notes v w.notes
-  pub more : (p r : ℕ) → Noted v.notes p r → Noted w.notes p r
+  pub more : (q r : ℕ) → Noted v.notes q r → Noted w.notes q r
   pub skips : (bit : ℕ) → bit < 64 → bit_at wanted bit ≡ 0 → (r : ℕ) × Noted w.notes (word * 64 + bit) r × (r < job)
 
 -- a worker's seat, which is one seat of the board; if the truth value beside it is true, it owes no sheet, and found

@@ -1,5 +1,5 @@
 -- What the tally says with which a seat closes a board.
-use Rattle.std.specs.Prelude.{◌≡◌, ℕ, ◌<◌, ◌≤◌, ◌⊎◌, ◌==◌, List, All, count_by, length, Some, slice_get}
+use Rattle.std.specs.Prelude.{◌≡◌, ℕ, ◌<◌, ◌≤◌, ◌⊎◌, ◌==◌, All, count_by, length, Some, slice_get}
 use Rattle.sf_ask.specs.declared.verdict.Verdict.TheVariants.{Clear}
 use Rattle.sf_ask.specs.Sheets.{HasHit, IsRightOn}
 use Rattle.sf_crew.specs.declared.board.view.BoardKey.{BoardKey}

@@ -33,7 +33,7 @@ pub fn bench<T: Drop>(alloc: Global, thieves: usize) -> Result<(Owner<T>, Vec<Th
     Ok((owner, new_thieves))
 }
 
-/// The owner of a new bench without thieves.
+/// The owner of a new bench without thieves. `Memory` where an allocation is refused.
 fn open_bench<T: Drop>(alloc: Global) -> Result<Owner<T>, Fault>
     ensures ok { IfOk result (λ owner. owner_view owner ≡ handle_view 0 1 []) }
     ensures err { IfErr result (λ f. f ≡ Memory) }
@@ -43,7 +43,8 @@ fn open_bench<T: Drop>(alloc: Global) -> Result<Owner<T>, Fault>
     })
 }
 
-/// The first thieves of a bench on which nothing was put.
+/// Makes the thieves of a bench, this many. `Memory` where an allocation is refused. The caller's conditions: the bench
+/// has no thief yet, nothing was put on it, and fewer than 64 thieves are asked for.
 fn make_thieves<T: Drop>(
     alloc: Global,
     owner: &mut Owner<T>,
@@ -64,7 +65,8 @@ fn make_thieves<T: Drop>(
 }
 
 impl<T> Owner<T> {
-    /// Makes one more thief, as long as nothing was put.
+    /// Makes one more thief. `AllocError` where an allocation is refused. The caller's condition: nothing was put on
+    /// the bench yet.
     fn add_thief(&mut self) -> Result<Thief<T>, AllocError>
         requires { (owner_view self.old).events ≡ [] }
         ensures owner { IfOk result (λ _. owner_view self.new ≡ handle_view
@@ -79,7 +81,8 @@ impl<T> Owner<T> {
         Ok(Thief { stealer, pass })
     }
 
-    /// Adds the item at the end of the list, or hands it back and changes nothing, where the bench cannot grow.
+    /// Puts the item on the bench, behind all others. Where the bench can't grow, it hands the item back and changes
+    /// nothing.
     pub fn put(&mut self, item: T) -> Result<(), T>
         ensures put { MatchResult result
             (λ _. Puts (owner_view self.old) item (owner_view self.new))

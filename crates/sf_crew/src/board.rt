@@ -24,8 +24,11 @@ pub(crate) type Words = Table<u8, View, BoardKey, WholeBoard, Global>;
 /// place of a region.
 #[derive(Drop)]
 pub struct Board {
+    // The next job, how many sheets were entered, four words of doubts, and a least place for each question.
     pub(crate) table: Words,
+    // How many regions there are.
     pub(crate) regions: usize,
+    // How many questions there are.
     pub(crate) questions: usize,
     ghost counted: { (table.shared.table_id.words ≡ length (questions_of table.shared.key) + 6)
         × (table.shared.table_id.slots ≡ 0) },
@@ -39,7 +42,9 @@ pub struct Board {
 #[derive(Drop)]
 pub struct Seat {
     pub(crate) seat: atomic_table::Seat<u8, View>,
+    // The job that was drawn, and whose sheet isn't entered yet.
     pub(crate) owes: Option<usize>,
+    // Whether a draw has found that no job is left.
     pub(crate) done: bool,
     ghost owing: { owes ≡ seat.me.0.owes } by { Prim.hlevel props },
     ghost ended: { done ≡ nat_lt 0 seat.me.0.exhausted_seats },
@@ -51,7 +56,8 @@ pub struct Seat {
 /// What the words of a board say at its end.
 #[derive(Drop)]
 pub struct Tally {
-    /// For each question the least place of a region with a member that breaks it, as far as sheets say.
+    /// For each question the least place of a region with a member that breaks it, as far as sheets say; `None` where
+    /// no sheet has a hit on it, and past the last question.
     pub least: [Option<usize>; 256],
     /// Question q has bit q % 64 of word q / 64: some sheet has a doubt for it.
     pub doubts: [u64; 4],

@@ -49,7 +49,8 @@ impl From<sf_piece::Fault> for Fault {
     }
 }
 
-/// A worker that has a book to itself and works off its own pieces is refused nothing but memory.
+/// Every fault becomes `Memory`: a worker that has a book to itself and works off its own pieces is refused nothing
+/// else.
 impl From<sf_book::Fault> for Fault {
     ghost from_gives = { λ _ e. e ≡ Memory };
 
@@ -58,7 +59,7 @@ impl From<sf_book::Fault> for Fault {
     }
 }
 
-/// Making a verdict or a sheet is refused nothing but memory.
+/// Every fault becomes `Memory`: nothing else is refused when a verdict or a sheet is made.
 impl From<sf_ask::Fault> for Fault {
     ghost from_gives = { λ _ e. e ≡ Memory };
 

@@ -20,8 +20,9 @@ use std::marker::Model;
 use std::thread;
 use std::thread::Threads;
 
-/// Whether the board has a hit for the question at a place below the job. The region of the job then needn't be judged
-/// on the question, since the reply takes the least place. False where there is no such question.
+/// Whether the board has a hit on the question q at a place below the job. The region of the job then needn't be judged
+/// on the question, since the reply takes the least place. `false` where there is no such question. The caller's
+/// condition: the seat is of this board.
 fn has_lower_hit(board: &Board, seat: &mut Seat, job: usize, q: usize) -> bool
     requires seat { IsSeatOf board.now seat.old }
     ensures same { IsSeatOf board.now seat.new }
@@ -41,8 +42,9 @@ fn has_lower_hit(board: &Board, seat: &mut Seat, job: usize, q: usize) -> bool
     }
 }
 
-/// Looks on the board for hits on the questions whose bits are set in `to_judge`. That is the word at the place `word`
-/// of four. Returns a word with all bits set, but those of the questions with a hit at a place below the job.
+/// Looks on the board for hits on the questions whose bits are set in `to_judge`, which is word `word`, 0 to 3, of the
+/// four words of bits: its bit b is that of question 64 * `word` + b. Returns a word with all bits set, but those of
+/// the questions with a hit at a place below the job. The caller's condition: the seat is of this board.
 fn look_at_word(board: &Board, seat: &mut Seat, job: usize, word: usize, to_judge: u64) -> u64
     requires seat { IsSeatOf board.now seat.old }
     requires word { word < 4 }
@@ -56,13 +58,15 @@ fn look_at_word(board: &Board, seat: &mut Seat, job: usize, word: usize, to_judg
         if has_lower_hit(board, seat, job, word * 64 + bit as usize) {
             wanted &= !(1 << bit);
         }
+        // Clears the lowest bit that is set: the one that was looked at.
         left &= left - 1;
     }
     wanted
 }
 
 /// Looks on the board for hits on the questions that are to be judged. Returns all bits set, but those of the questions
-/// with a hit at a place below the job. On most regions few questions are to be judged, so few are looked at.
+/// with a hit at a place below the job. On most regions few questions are to be judged, so few are looked at. The
+/// caller's condition: the seat is of this board.
 fn look_at(board: &Board, seat: &mut Seat, job: usize, to_judge: &[u64; 4]) -> [u64; 4]
     requires seat { IsSeatOf board.now seat.old }
     ensures same { IsSeatOf board.now seat.new }
@@ -108,7 +112,9 @@ impl<'a> Model for SharedSweep<'a> {
 }
 
 /// Judges the region of the job that the seat owes, and enters the sheet. A question is skipped where the board has a
-/// hit for it at a place below the job. The gate sees the sheet before it is entered.
+/// hit on it at a place below the job. The gate sees the sheet before it is entered; `pass` has the numbers of the
+/// worker and of its call, for the gate. `Memory` where an allocation is refused: the seat still owes the sheet then.
+/// The caller's conditions: the seat is of this board, and `job` is what it owes.
 fn enter_job<G: Gate>(
     alloc: Global,
     sweep: &SharedSweep<'_>,
@@ -142,8 +148,9 @@ fn enter_job<G: Gate>(
     Ok(())
 }
 
-/// Draws jobs and enters their sheets until all jobs are drawn. Returns the seat, with false where memory ran out
-/// before that.
+/// Draws jobs and enters their sheets until all jobs are drawn. Returns the seat, with true then, and with false where
+/// memory ran out before that: the seat owes a sheet then. The caller's conditions: the seat is of the sweep's board
+/// and owes no sheet.
 fn work<G: Gate>(
     alloc: Global,
     sweep: &SharedSweep<'_>,
@@ -168,7 +175,9 @@ fn work<G: Gate>(
     (seat, true)
 }
 
-/// Joins every seat of the list into the first one. None where the worker of some seat ran out of memory.
+/// Joins every seat of the list into the first one. `None` where false stands beside a seat: its worker ran out of
+/// memory. The caller's conditions: all are seats of this board; the first one, and each one beside which true stands,
+/// owes no sheet.
 fn join_all(board: &Board, first: Seat, mut others: Vec<(Seat, bool)>) -> Option<Seat>
     requires first { IsSeatOf board.now first × ((seat_view first).owes ≡ None) }
     requires others { All (λ s. IsWorked board.now s) others.items }
@@ -193,7 +202,8 @@ pub(crate) struct NumberedSeat {
     seat: Seat,
 }
 
-/// The seats, numbered from 0.
+/// The seats with their places in the list, from 0, as numbers; the last one comes first. `Memory` where an allocation
+/// is refused.
 fn number_seats(
     alloc: Global,
     board: &Board,
@@ -216,7 +226,8 @@ fn number_seats(
 
 /// The tally of all regions, by this many workers, each of which has a seat. They share the probes of the questions,
 /// which are made before. When the workers have ended, the calling thread draws the jobs that are left, if there are
-/// any, with a seat of its own, under the next number. `Memory` where an allocation is refused.
+/// any, with a seat of its own, under the next number. `Memory` where an allocation is refused, also to a worker. The
+/// caller's conditions: 1 to 64 workers, and at most 256 questions.
 pub(crate) fn tally<R: Threads + Sync, G: Gate>(
     rt: &R,
     alloc: Global,

@@ -28,9 +28,8 @@ use sf_book::{Book, Settled};
 use sf_check::Stack;
 use sf_piece::{Piece, advance};
 use std::alloc::Global;
-use std::hint::spin_loop;
 use std::marker::Brand;
-use std::sync::{Arc, Mutex, MutexGuard, Wait};
+use std::sync::{Arc, Mutex, Wait};
 use std::thread;
 use std::thread::{Threads, yield_now};
 
@@ -42,30 +41,13 @@ pub(crate) struct NewWorker<N: Naming> {
     pub(crate) others: Thieves<N>,
 }
 
-/// What a worker works with: its number, its bench, and a thief on the bench of each other worker, the next one first.
-/// It can't be dropped, since its bench can't.
+/// What a worker works with: its number, how many calls it has made, its bench, and a thief on the bench of each other
+/// worker, the next one first. It can't be dropped, since its bench can't.
 pub(crate) struct Worker<N: Naming> {
     number: usize,
+    calls: usize,
     own: Bench<N>,
     others: Thieves<N>,
-}
-
-/// How many times a worker looks whether the lock is free before it sleeps.
-const LOOKS: usize = 400;
-
-/// The book, once its lock is got. The worker that has the book needs it for a moment only, while a thread that sleeps
-/// is woken late. So this one looks a while whether the lock is free, and only then waits.
-fn lock_book<'a, N: Naming, R: Wait>(
-    rt: &R,
-    book: &'a Mutex<SharedBook<N>>,
-) -> MutexGuard<'a, SharedBook<N>> {
-    for _ in 0..LOOKS {
-        if let Some(guard) = book.try_lock() {
-            return guard;
-        }
-        spin_loop();
-    }
-    book.lock(rt)
 }
 
 impl<N: Naming> NewWorker<N> {
@@ -73,6 +55,7 @@ impl<N: Naming> NewWorker<N> {
     fn begin(self) -> Worker<N> {
         Worker {
             number: self.number,
+            calls: 0,
             own: self.own.open(),
             others: self.others,
         }
@@ -80,8 +63,9 @@ impl<N: Naming> NewWorker<N> {
 }
 
 impl<N: Naming> Worker<N> {
-    /// A lease from the worker's own bench; or else a stolen one, from the next worker's bench first; or else one from
-    /// the book; or none where the book has none either.
+    /// A lease from the worker's own bench. Where nothing is left there, a stolen one, from the next worker's bench
+    /// first. Where none is got, one from the book. `None` where the book hasn't one either: all its pieces are on
+    /// lease, or none is outstanding. Fails where the book's `lease` does.
     fn next_lease<R: Wait>(
         &mut self,
         rt: &R,
@@ -97,16 +81,16 @@ impl<N: Naming> Worker<N> {
         if let Some(held) = self.others.steal() {
             return Ok(Some(held));
         }
-        lock_book(rt, book).lease()
+        book.lock(rt).lease()
     }
 
-    /// Makes the work of a piece, with its children, and lets the gate see it.
+    /// Makes the work of a piece, with the children of a split, and lets the gate see it. `Memory` where an allocation
+    /// is refused: the gate sees nothing then.
     fn make<G: Gate>(
         &self,
         alloc: Global,
         gate: &G,
         piece: &Arc<Piece>,
-        call: usize,
     ) -> Result<Made, sf_book::Fault>
         ensures ok { IfOk result (λ made. IsMadeOf (arc_value piece.now) made) }
         ensures err { IfErr result (λ f. f ≡ BookMemory) }
@@ -115,12 +99,13 @@ impl<N: Naming> Worker<N> {
         // For the prover: the work is right for its piece.
         let _piece = work.piece();
         let made = Made::of(work)?;
-        gate.pass(self.number, call);
+        gate.pass(self.number, self.calls);
         Ok(made)
     }
 
-    /// Works the piece, lets the gate see the work, and hands it in. The children are put on the worker's own bench,
-    /// the false one first. With a fault the lease is given back.
+    /// Works the piece of the lease, lets the gate see the work, and hands it in. The children of a split are put on
+    /// the worker's own bench, the false one first. Fails where memory is refused, or the book refuses the work: the
+    /// lease is given back then, and nothing is put on the bench.
     fn work<R: Wait, G: Gate>(
         &mut self,
         rt: &R,
@@ -128,22 +113,20 @@ impl<N: Naming> Worker<N> {
         book: &Mutex<SharedBook<N>>,
         gate: &G,
         held: Held<N>,
-        call: usize,
     ) -> Result<(), sf_book::Fault>
         ensures number { self.new.number ≡ self.old.number }
         ensures ok { OnOk result (WorksOn held self.old self.new) }
         ensures err { OnErr result (own_view self.new ≡ own_view self.old) }
     {
-        // Dropped after the commit, so that the piece's memory is given back when the lock has been left.
-        let _piece = Arc::try_clone(held.piece());
-        let made = match self.make(alloc, gate, held.piece(), call) {
+        self.calls = self.calls.wrapping_add(1);
+        let made = match self.make(alloc, gate, held.piece()) {
             Ok(made) => made,
             Err(fault) => {
-                lock_book(rt, book).give_back(held);
+                book.lock(rt).give_back(held);
                 return Err(fault);
             }
         };
-        let Some((f, t)) = lock_book(rt, book).hand_in(held, made)? else {
+        let Some((f, t)) = book.lock(rt).hand_in(held, made)? else {
             return Ok(());
         };
         self.put(rt, book, f);
@@ -157,11 +140,11 @@ impl<N: Naming> Worker<N> {
         ensures put { PutsOrNot (own_view self.old) held (own_view self.new) }
     {
         if let Err(held) = self.own.put(held) {
-            lock_book(rt, book).give_back(held);
+            book.lock(rt).give_back(held);
         }
     }
 
-    /// Takes all leases off its bench, and gives each back to the book.
+    /// Takes all leases off the worker's own bench, and gives each back to the book.
     fn empty<R: Wait>(&mut self, rt: &R, book: &Mutex<SharedBook<N>>)
         ensures { AllGot (own_view self.new) }
     {
@@ -169,14 +152,14 @@ impl<N: Naming> Worker<N> {
             let Some(held) = self.own.take() else {
                 return;
             };
-            lock_book(rt, book).give_back(held);
+            book.lock(rt).give_back(held);
         }
         unreachable!()
     }
 }
 
-/// The turns of one worker, until nothing is left to do. Where memory is refused or the budget is spent, it gives its
-/// pieces back and ends. It returns the handle of its bench, which it has emptied.
+/// The turns of one worker, until nothing is left to do. Where memory is refused or the budget is spent, the worker
+/// gives its leases back and ends. Returns the owner of the worker's bench, which is empty then.
 fn run<N: Naming, R: Wait, G: Gate>(
     rt: &R,
     alloc: Global,
@@ -187,7 +170,6 @@ fn run<N: Naming, R: Wait, G: Gate>(
     ensures { AllGot (owner_view result) }
 {
     let mut worker = new_worker.begin();
-    let mut call: usize = 0;
     for _ in rt.forever() {
         let Ok(leased) = worker.next_lease(rt, book) else {
             break;
@@ -196,11 +178,11 @@ fn run<N: Naming, R: Wait, G: Gate>(
             if book.lock(rt).is_exhausted() {
                 break;
             }
+            // Other workers have all pieces that are left. There will be more where one of these is split.
             yield_now();
             continue;
         };
-        call = call.wrapping_add(1);
-        if worker.work(rt, alloc, book, gate, held, call).is_err() {
+        if worker.work(rt, alloc, book, gate, held).is_err() {
             break;
         }
     }
@@ -208,6 +190,7 @@ fn run<N: Naming, R: Wait, G: Gate>(
     let Worker {
         own,
         number: _,
+        calls: _,
         others: _others,
     } = worker;
     own.close()
@@ -234,7 +217,8 @@ fn run_each<'a, N: Naming, R: Threads + Wait + Sync, G: Gate>(
     });
 }
 
-/// Lets this many workers work on a book, and returns it when they have ended.
+/// Lets this many workers, 1 to 64, work on a book, and returns the book when they have ended. `Memory` where an
+/// allocation is refused as the workers are made. The caller's condition: the type N names the book's stack and budget.
 fn run_all<N: Naming, R: Threads + Wait + Sync, G: Gate>(
     rt: &R,
     alloc: Global,

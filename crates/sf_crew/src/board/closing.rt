@@ -10,7 +10,9 @@ use crate::board::{Board, Seat, Tally};
 use atomic_table::Closed;
 use std::alloc::Global;
 
-/// The least place of each question, as the words of a closed board have it; none where it has none.
+/// The least place of each question, as the words of a closed board have it. `None` where the word has the number of
+/// regions, which stands for no place, and past the last question. The caller's condition: the board has this many
+/// regions, and this many questions, which are at most 256.
 fn least_places(
     closed: &Closed<u8, Global>,
     regions: usize,

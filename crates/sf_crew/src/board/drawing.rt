@@ -9,7 +9,7 @@ use crate::board::steps::{Draw, Glance, LEAST, Look, Merge, NEXT};
 use crate::board::{Board, Seat};
 
 impl Seat {
-    /// The job that the seat has drawn and not yet entered a sheet for.
+    /// The job that the seat has drawn and not yet entered a sheet for; `None` where it owes no sheet.
     pub fn owes(&self) -> Option<usize>
         ensures { result ≡ (seat_view self.now).owes }
     {
@@ -33,6 +33,7 @@ impl Board {
         ensures none { IfNone result (GotNone (about self.now) (seat_view seat.old)
             (seat_view seat.new)) }
     {
+        // Each seat goes past the last job once at most, so the word of the next job can't overflow.
         if seat.done {
             return None;
         }
@@ -47,8 +48,8 @@ impl Board {
         }
     }
 
-    /// The least place so far of a region with a hit for the question, or `None`. The caller's conditions: the seat is
-    /// of this board, and there is such a question.
+    /// The least place so far of a region with a hit on the question q; `None` where no sheet with a hit on it was
+    /// entered. The caller's conditions: the seat is of this board, and there is such a question.
     pub fn look(&self, seat: &mut Seat, q: usize) -> Option<usize>
         requires seat { IsSeatOf self.now seat.old }
         requires there { q < length (questions_of (about self.now)) }
@@ -89,6 +90,7 @@ impl Board {
             done: other_done,
         } = second;
         self.table.shared.join_seat::<Merge>(&mut seat, other);
+        // For the prover: what the seat knows of its jobs, by the board's rule.
         self.table.shared.load::<Glance>(&mut seat, NEXT);
         Seat {
             seat,

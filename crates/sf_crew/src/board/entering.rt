@@ -11,8 +11,9 @@ use crate::board::{Board, Seat};
 use sf_ask::Sheet;
 
 impl Board {
-    /// Enters the hits of a sheet, one step for each: the least place of its question becomes the job where that is
-    /// lower.
+    /// Enters the hits of a sheet, one step for each: the least place of the question becomes the sheet's job where
+    /// that is lower. The caller's conditions: the seat is of this board, and the sheet is about the board's regions
+    /// and questions.
     fn enter_hits(&self, seat: &mut atomic_table::Seat<u8, View>, sheet: &Sheet)
         requires table { seat.old.table_id ≡ board_id self.now }
         requires same { (sheet.now.settled ≡ regions_of (about self.now))
@@ -34,7 +35,8 @@ impl Board {
         }
     }
 
-    /// Enters the doubts of a sheet, one step for each: it sets the bit of its question.
+    /// Enters the doubts of a sheet, one step for each, which sets the bit of the question. The caller's conditions:
+    /// the seat is of this board and owes this sheet, and the sheet is about the board's questions.
     fn enter_doubts(&self, seat: &mut atomic_table::Seat<u8, View>, sheet: &Sheet)
         requires table { seat.old.table_id ≡ board_id self.now }
         requires questions { sheet.now.questions ≡ questions_of (about self.now) }
@@ -69,6 +71,7 @@ impl Board {
     {
         // For the prover: the sheet is right.
         let _count = sheet.question_count();
+        // The sheet is counted last: so the board has all hits and doubts of each sheet that it counts.
         self.enter_hits(&mut seat.seat, &sheet);
         self.enter_doubts(&mut seat.seat, &sheet);
         self.table

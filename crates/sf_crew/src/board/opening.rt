@@ -14,7 +14,8 @@ use sf_book::Settled;
 use std::alloc::Global;
 use std::snapshot::Snapshot;
 
-/// The words of a new board: no job drawn, no sheet entered, no doubt, and no least place.
+/// The words of a new board: no job drawn, no sheet entered, no doubt, and no least place, for which the number of
+/// regions stands. `Memory` where an allocation is refused.
 fn first_words(alloc: Global, regions: usize, questions: usize) -> Result<Vec<u64>, Fault>
     ensures ok { IfOk result (λ v. v.items ≡ (0 ∷ 0 ∷ 0 ∷ 0 ∷ 0 ∷ 0 ∷ [])
         ++ replicate questions regions) }
@@ -65,7 +66,8 @@ impl Board {
         Ok((board, dealt))
     }
 
-    /// Splits the first seat into this many seats.
+    /// Splits the first seat into this many seats, 1 to 65. `Memory` where an allocation is refused. The caller's
+    /// condition: it is the first seat of this board, and has done nothing.
     fn deal(
         &self,
         alloc: Global,

@@ -17,8 +17,8 @@ use std::alloc::Global;
 use std::sync::Wait;
 use std::thread::Threads;
 
-/// The reply where no region is known to break the question: unsettled where a region is in doubt or a piece is
-/// outstanding, and else never. `_question` is there for the contract only.
+/// The reply where no region has a hit on the question: unsettled where a region is in doubt, which `doubt` says, or a
+/// piece is outstanding, and else never. `_question` is there for the contract only.
 fn reply_without_hit(settled: &Settled, _question: &Question, doubt: bool) -> Reply
     requires unbroken { (r : ℕ) → r < length settled.now.regions
         → IsUnbroken settled.now _question.now doubt r }
@@ -37,8 +37,10 @@ fn reply_without_hit(settled: &Settled, _question: &Question, doubt: bool) -> Re
     }
 }
 
-/// The reply to one question. Where the question has a least place, the region there is judged once more for its
-/// example: this verdict is a hit again. Else no region is judged.
+/// The reply to the question q. Where it has a least place in the tally, the region there is judged once more for its
+/// example: by the rules this verdict is a hit again. Else no region is judged. `Memory` where an allocation is
+/// refused. The caller's conditions: there is such a question, q is below 256, and the tally is that of all regions and
+/// these questions.
 fn reply_of(
     alloc: Global,
     settled: &Settled,

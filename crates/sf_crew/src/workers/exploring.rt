@@ -5,6 +5,7 @@ ghost use Rattle.std.specs.Prelude.{◌≡◌, IfOk, IfErr, OnOk, MatchOption};
 ghost use Rattle.std.specs.Arc.{arc_value};
 ghost use Rattle.sf_crew.specs.Explorations.{IsExhausted, IsFree, MayWork, IsSameExploration, TakesTurn, IsExplorationOf, IsExactExploration};
 ghost use Rattle.sf_crew.specs.declared.fault.Fault.TheVariants.{Memory};
+ghost use Rattle.sf_book.specs.declared.fault.Fault.TheVariants.{Memory as BookMemory};
 ghost use Rattle.sf_check.specs.Stacks.{IsPlain};
 
 use crate::fault::Fault;
@@ -15,7 +16,8 @@ use sf_piece::advance;
 use std::alloc::Global;
 use std::sync::Arc;
 
-/// A lease of the first piece. `None` where no piece is left, or the budget is spent.
+/// A lease of the first piece in name order. `None` where no piece is left, or the budget is spent. `Memory` where the
+/// book's `lease` has it. The caller's condition: no piece is on lease.
 fn next_lease(book: &mut Book) -> Result<Option<Lease>, Fault>
     requires { IsFree book.old.outstanding }
     ensures same { IsSameExploration book.old book.new }
@@ -31,8 +33,10 @@ fn next_lease(book: &mut Book) -> Result<Option<Lease>, Fault>
 }
 
 /// One turn: the piece of the lease is worked and committed, and the children of a split are given back to the book.
-/// The worker has the book to itself from lease to commit, so the work is known to be of the book's stack, and the two
-/// stacks aren't compared.
+/// The gate sees the work before it is committed; `worker` and `call` are the numbers of the worker and of its call,
+/// for the gate. The worker has the book to itself from lease to commit, so `Memory` is the only fault. The work is
+/// known to be of the book's stack, so its stack isn't compared with the book's. The caller's conditions: the lease is
+/// of this book, no other piece is on lease, and the budget isn't spent.
 fn turn<G: Gate>(
     alloc: Global,
     book: &mut Book,
@@ -40,25 +44,26 @@ fn turn<G: Gate>(
     worker: usize,
     call: usize,
     lease: Lease,
-) -> Result<(), Fault>
+) -> Result<(), sf_book::Fault>
     requires { MayWork book.old lease }
     ensures same { IsSameExploration book.old book.new }
     ensures ok { OnOk result (TakesTurn book.old book.new) }
-    ensures err { IfErr result (λ f. f ≡ Memory) }
+    ensures err { IfErr result (λ f. f ≡ BookMemory) }
 {
     let work = advance(alloc, &lease.piece)?;
     gate.pass(worker, call);
     // For the prover: the book is lawful.
     let _counts = book.counts();
-    if let Some((f, t)) = book.commit_own(lease.id, work)? {
+    if let Some((f, t)) = book.commit_of_stack(lease.id, work)? {
         book.give_back(f);
         book.give_back(t);
     }
     Ok(())
 }
 
-/// Works pieces one after another until none is outstanding or the budget is spent. The calls of the worker are
-/// numbered from 1.
+/// Works pieces one after another until none is outstanding or the budget is spent. `worker` is the worker's number for
+/// the gate, and its calls are numbered from 1. `Memory` where an allocation is refused: a piece may be on lease then.
+/// The caller's condition: no piece is on lease.
 pub(crate) fn work_off<G: Gate>(
     alloc: Global,
     book: &mut Book,
@@ -71,6 +76,7 @@ pub(crate) fn work_off<G: Gate>(
     ensures err { IfErr result (λ f. f ≡ Memory) }
 {
     let budget = book.budget();
+    // Each turn commits one work, so after as many turns the budget is spent.
     for call in 0..budget {
         let Some(lease) = next_lease(book)? else {
             return Ok(());
@@ -82,8 +88,8 @@ pub(crate) fn work_off<G: Gate>(
     Ok(())
 }
 
-/// The end of an exploration: closes a book of this stack and budget that was worked off. `_budget` is there for the
-/// contract only.
+/// The end of an exploration: closes a book of this stack and budget, of which nothing is outstanding or whose budget
+/// is spent. `_budget` is there for the contract only.
 pub(crate) fn finish_book(book: Book, stack: &Arc<Stack>, _budget: u32) -> Settled
     requires end { IsExhausted book }
     requires stack { book.stack ≡ arc_value stack.now }
@@ -100,7 +106,7 @@ pub(crate) fn finish_book(book: Book, stack: &Arc<Stack>, _budget: u32) -> Settl
     settled
 }
 
-/// Explores a stack by the calling thread only, as worker 0.
+/// Explores a stack by the calling thread only, as worker 0. `Memory` where an allocation is refused.
 pub(crate) fn explore_alone<G: Gate>(
     alloc: Global,
     stack: Arc<Stack>,

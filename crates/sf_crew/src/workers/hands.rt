@@ -47,7 +47,8 @@ pub(crate) struct Made {
 }
 
 impl Made {
-    /// A work with its children, which are still at hand when the book has taken the work.
+    /// A work with its children, which are still at hand when the book has taken the work. Takes no memory. `Memory`
+    /// only where too many owners would share a child.
     pub(crate) fn of(work: Work) -> Result<Made, Fault>
         ensures ok { IfOk result (λ made. (made.work ≡ work) × HasItsChildren made) }
         ensures err { IfErr result (λ f. f ≡ Memory) }
@@ -80,7 +81,7 @@ impl<N: Naming> Model for SharedBook<N> {
 }
 
 impl<N: Naming> SharedBook<N> {
-    /// A book that workers are to share.
+    /// A book that workers are to share. The caller's condition: the type N names the book's stack and budget.
     pub(crate) fn of(book: Book) -> SharedBook<N>
         requires { (book.stack ≡ N.stack) × (book.budget ≡ N.budget) }
         ensures { result ≡ book }
@@ -107,7 +108,8 @@ impl<N: Naming> SharedBook<N> {
         counts.left == 0 || counts.commits == self.book.budget()
     }
 
-    /// A lease of the first piece that isn't on lease; none where all are.
+    /// A lease of the first piece, in name order, that isn't on lease; `None` where all are, or none is outstanding.
+    /// `Memory` where the book's `lease` has it: the book is unchanged then.
     pub(crate) fn lease(&mut self) -> Result<Option<Held<N>>, Fault>
         ensures ok { IfOk result (λ found. MatchOption found ((self.new ≡ self.old)
             × All (λ e. e.leased ≡ true) self.old.outstanding)
@@ -132,8 +134,10 @@ impl<N: Naming> SharedBook<N> {
         self.book.give_back(lease.lease().id);
     }
 
-    /// Commits the work of a lease, and returns the leases of its children, the false one's first. Where it is refused
-    /// the lease is given back. The work is of the book's stack, as the lease's type says, so the two aren't compared.
+    /// Commits the work of a lease, and returns the leases of the children of a split, the false one's first; `None`
+    /// for another step. Where the book refuses the work, with `Stale`, `Spent` or `Memory`, the lease is given back.
+    /// The work is of the book's stack, as the lease's type says, so its stack isn't compared with the book's. The
+    /// caller's conditions: the work is of the lease's piece, and the children are the work's.
     pub(crate) fn hand_in(
         &mut self,
         held: Held<N>,
@@ -156,6 +160,7 @@ impl<N: Naming> SharedBook<N> {
                 return Err(fault);
             }
         };
+        // The work is committed, so the lease has ended: taken out of the hand, it can be dropped.
         let Held { lease: _lease } = held;
         let Some((f_id, t_id)) = ids else {
             return Ok(None);

@@ -43,7 +43,8 @@ impl<N: Naming> NamedLease<N> {
     ghost use Rattle.std.specs.Prelude.{◌≡◌};
     ghost use Rattle.std.specs.Arc.{arc_value};
 
-    /// The lease, whose piece is known to be of the stack that is named.
+    /// The same lease. For the prover: from now on its type says that its piece is of the stack that N names. The
+    /// caller's condition: it is.
     pub(crate) fn of(lease: Lease) -> NamedLease<N>
         requires { (arc_value lease.piece).stack ≡ N.stack }
         ensures { result ≡ lease }

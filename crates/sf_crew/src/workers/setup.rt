@@ -10,7 +10,8 @@ use crate::workers::hands::{NewBench, Thieves};
 use crate::workers::naming::{NamedLease, Naming};
 use std::alloc::Global;
 
-/// Workers with the numbers from 0, and a bench each.
+/// This many workers, 1 to 64, with the numbers from 0. Each has a bench, and a thief on the bench of each other one.
+/// `Memory` where an allocation is refused.
 pub(crate) fn workers_of<N: Naming>(alloc: Global, count: usize) -> Result<Vec<NewWorker<N>>, Fault>
     requires { (0 < count) × (count ≤ 64) }
     ensures count { IfOk result (λ v. vec_len v ≡ count) }
@@ -31,7 +32,9 @@ pub(crate) fn workers_of<N: Naming>(alloc: Global, count: usize) -> Result<Vec<N
     Ok(workers)
 }
 
-/// Gives each worker a thief on the bench of each other one, the next one's first.
+/// Gives each worker a thief on the bench of each other one, the next one's first. `thieves` has, for each worker's
+/// bench, the thieves on it; they are taken out. `Memory` where an allocation is refused. The caller's condition: there
+/// are as many lists as workers, at most 64.
 fn hand_out_all<N: Naming>(
     workers: &mut [NewWorker<N>],
     thieves: &mut [Vec<Thief<NamedLease<N>>>],
@@ -45,7 +48,9 @@ fn hand_out_all<N: Naming>(
     Ok(())
 }
 
-/// Gives each worker a thief on the bench that is this many steps after its own.
+/// Gives each worker a thief on the bench that is this many steps after its own; behind the last bench comes the first.
+/// Where no thief is left on that bench, the worker gets none. `Memory` where an allocation is refused. The caller's
+/// conditions: there are as many lists of thieves as workers, at most 64, and `step` is below 64.
 fn hand_out<N: Naming>(
     workers: &mut [NewWorker<N>],
     thieves: &mut [Vec<Thief<NamedLease<N>>>],

@@ -13,5 +13,5 @@ loop-place-preserved c =
           c.of-probe.result e.place e.probe (sym c.has_one_call.ensures ∙ w.if-has_one_call.true) i)
       | else-has_one_call+in_ok-push-2 w ↦ rw (w.by_call-is, w.others-is, w.in_ok-push-2.ensures.items)
           (other-more c.args.questions.now c.loop-place.place c.loop-place.by_call.items c.loop-place.others.items
-          c.of-probe.result e.place e.probe i)
+          c.of-probe.result e.place e.probe (sym c.has_one_call.ensures ∙ w.if-has_one_call.false) i)
     ]

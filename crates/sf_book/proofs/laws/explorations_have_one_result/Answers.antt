@@ -1,5 +1,4 @@
 use Rattle.sf_book.proofs.Trees.{results-one}
-use Rattle.sf_book.proofs.Growing.{grow}
 use Rattle.sf_book.proofs.laws.explorations_have_one_result.Goals as goal
 
 pub returns : goal.returns

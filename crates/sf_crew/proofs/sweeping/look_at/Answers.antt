@@ -24,6 +24,7 @@ loop-word-preserved c =
             seat = e.same;
             long = length-set c.loop-word.wanted n w.look_at_word.result ∙ i.long;
             same = e.wanted.same ∙ ap (λ (v : View). with_notes v new.notes) i.same;
+            more = λ q r x. e.wanted.more q r (i.more q r x);
             skips = words_more c.loop-word.wanted n c.args.job w.look_at_word.result old.notes new.notes i.long
                 (omega arith) e.wanted.more i.skips e.wanted.skips;
           })
@@ -31,6 +32,7 @@ loop-word-preserved c =
         seat = i.seat;
         long = i.long;
         same = i.same;
+        more = i.more;
         skips = i.skips;
       })
     ]

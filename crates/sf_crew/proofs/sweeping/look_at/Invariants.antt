@@ -1,6 +1,7 @@
 use Rattle.std.proofs.Common.{◌≡◌, ℕ, ◌<◌, length}
 use Rattle.sf_ask.specs.QuestionBits.{bit_of}
 use Rattle.sf_crew.specs.BoardSteps.{with_notes}
+use Rattle.sf_crew.specs.Views.{Noted}
 use Rattle.sf_crew.specs.Boards.{seat_view, IsSeatOf}
 use Rattle.sf_crew.proofs.Skips.{HasLowerHit}
 use Rattle.sf_crew.proofs.sweeping.look_at.Given as goal
@@ -10,5 +11,6 @@ invariant-loop-word l = record {
   seat : IsSeatOf l.board l.seat;
   long : length l.wanted ≡ 4;
   same : seat_view l.seat ≡ with_notes (seat_view l.initial.seat) (seat_view l.seat).notes;
+  more : (q r : ℕ) → Noted (seat_view l.initial.seat).notes q r → Noted (seat_view l.seat).notes q r;
   skips : (q : ℕ) → q < 256 → bit_of l.wanted q ≡ 0 → HasLowerHit l.job (seat_view l.seat).notes q;
 }

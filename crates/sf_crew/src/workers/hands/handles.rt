@@ -27,7 +27,7 @@ pub(crate) struct Thieves<N: Naming> {
 }
 
 impl<N: Naming> NewBench<N> {
-    /// The bench of an owner that put nothing.
+    /// The bench of this owner. The caller's condition: nothing was put on it.
     pub(crate) fn of(owner: Owner<NamedLease<N>>) -> NewBench<N>
         requires { length (owner_view owner).events ≡ 0 }
     {
@@ -59,8 +59,8 @@ impl<N: Naming> Bench<N> {
         }
     }
 
-    /// The first lease that no handle has got. `None` where each that was put had been got, by the owner or, as far as
-    /// it knows, by thieves.
+    /// Takes the first lease that no handle has got. `None` where each one that was put had been got, by the owner or,
+    /// as far as the owner knows, by thieves.
     pub(crate) fn take(&mut self) -> Option<Held<N>>
         ensures { MatchOption result ((owner_view self.new.owner ≡ owner_view self.old.owner)
             × AllGot (owner_view self.old.owner))
@@ -70,7 +70,8 @@ impl<N: Naming> Bench<N> {
         Some(Held { lease })
     }
 
-    /// The handle of a bench on which nothing was found. With thieves the clause doesn't say what they got.
+    /// The owner of a bench, which can be dropped again. The caller's condition: `take` has found nothing on the bench.
+    /// With thieves the clause doesn't say what they got.
     pub(crate) fn close(self) -> Owner<NamedLease<N>>
         requires { AllGot (owner_view self.owner) }
         ensures { result ≡ self.owner }
@@ -90,13 +91,13 @@ impl<N: Naming> Thieves<N> {
         }
     }
 
-    /// One thief more, which is tried last.
+    /// Adds a thief, which is tried last. `AllocError` where an allocation is refused.
     pub(crate) fn add(&mut self, thief: Thief<NamedLease<N>>) -> Result<(), AllocError> {
         self.thieves.push(thief)?;
         Ok(())
     }
 
-    /// Tries each bench once, in order, and returns the first lease that it gets.
+    /// Tries each bench once, in order, and returns the first lease that it gets; `None` where it gets none.
     pub(crate) fn steal(&mut self) -> Option<Held<N>>
         ensures { Steals (thief_views self.old.thieves.items) result
             (thief_views self.new.thieves.items) }

@@ -7,7 +7,8 @@ use crate::workers::hands::Held;
 use crate::workers::naming::{NamedLease, Naming};
 use crossbeam_deque::Steal;
 
-/// Tries to steal a lease from one bench. None where nothing is on it, or another handle came first.
+/// Tries to steal a lease from the bench of the thief at this place. `None` where nothing is on it, or another handle
+/// came first.
 fn steal_at<N: Naming>(others: &mut [Thief<NamedLease<N>>], place: usize) -> Option<Held<N>>
     requires { place < length others.old }
     ensures { Steals (thief_views others.old) result (thief_views others.new) }
@@ -18,7 +19,7 @@ fn steal_at<N: Naming>(others: &mut [Thief<NamedLease<N>>], place: usize) -> Opt
     }
 }
 
-/// Tries each bench once, in order, and returns the first lease that it gets.
+/// Tries each bench once, in order, and returns the first lease that it gets; `None` where it gets none.
 pub(crate) fn steal_from<N: Naming>(others: &mut [Thief<NamedLease<N>>]) -> Option<Held<N>>
     ensures { Steals (thief_views others.old) result (thief_views others.new) }
 {

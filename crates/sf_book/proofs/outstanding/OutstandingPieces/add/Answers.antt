@@ -10,7 +10,7 @@ invariant_of-self-in-Ok c =
     let above = rw (← c.self.view_is) at c.requires.above in
     let apart = rw (← c.self.view_is) at c.requires.apart in
     let put = rw c.of-named.ensures at c.in_ok-put_id.ensures.updates in
-    let named = rw (c.in_ok-twin.ensures.ok, c.of-named.ensures) at c.in-Ok.ensures.updates in
+    let named = rw (c.in_ok-shared.ensures.ok, c.of-named.ensures) at c.in-Ok.ensures.updates in
     added_maps ids names c.args.id p c.args.leased _ _ c.self.invariant
     (is_added ids names c.args.id p c.args.leased c.put_id.new.by_id.entries c.put_name.new.by_name.entries
     c.self.invariant above apart put.0 named.0 c.put_id.ensures.ordered c.put_name.ensures.ordered)
@@ -23,7 +23,7 @@ returns-in-Ok-clause-ok c =
     let above = rw (← c.self.view_is) at c.requires.above in
     let apart = rw (← c.self.view_is) at c.requires.apart in
     let put = rw c.of-named.ensures at c.in_ok-put_id.ensures.updates in
-    let named = rw (c.in_ok-twin.ensures.ok, c.of-named.ensures) at c.in-Ok.ensures.updates in
+    let named = rw (c.in_ok-shared.ensures.ok, c.of-named.ensures) at c.in-Ok.ensures.updates in
     let is = rw c.of-named.ensures at c.in_ok-put_id.ensures.inserted in
     rw (← c.self.view_is) (added_view ids names c.args.id p c.args.leased c.put_id.new.by_id.entries
     c.put_name.new.by_name.entries c.self.invariant

@@ -10,7 +10,7 @@ returns-clause-ok g c =
     let handed = rw c.in-Some.is at c.in_ok-f.ensures.ok in
     record {
       work = made.work;
-      piece = h.piece ∙ ap (λ p. arc_value p) c.piece-2.ensures;
+      piece = h.piece ∙ ap (λ p. arc_value p) c.piece.ensures;
       right = h.right;
       children = search (arith, both_put);
     }

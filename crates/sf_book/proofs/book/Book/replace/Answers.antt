@@ -3,8 +3,8 @@ use Rattle.sf_piece.specs.Pieces.{Split, Settled, Empty}
 use Rattle.sf_piece.specs.declared.work.Step.{Step}
 use Rattle.sf_piece.specs.Steps.{step_data, name_after}
 use Rattle.sf_book.proofs.Kept.{low_id, child_names}
-use Rattle.sf_book.proofs.Plain.{split_book, answer_book, empty_book}
-use Rattle.sf_book.proofs.book.Book.commit_own.Goals as goal
+use Rattle.sf_book.proofs.Plain.{split_book, split_commits, answer_book, empty_book}
+use Rattle.sf_book.proofs.book.Book.replace.Goals as goal
 
 pub split-requires-clause-ids : goal.split-requires-clause-ids
 split-requires-clause-ids c = (
@@ -37,13 +37,21 @@ invariant_of-self-in-Split-1 c =
       is = is;
     }))
 
+pub returns-in_ok-split-in-Split-clause-ok : goal.returns-in_ok-split-in-Split-clause-ok
+returns-in_ok-split-in-Split-clause-ok c =
+    let parts = c.into_parts-piece.ensures in
+    let is : c.args.work.step ≡ Split c.in-Split.f.value c.in-Split.t.value =
+    sym parts.step ∙ ap step_data c.in-Split.is in
+    rw (← c.self.view_is) (split_commits _ c.self.inside.next_id c.args.id c.args.work _ _ _ c.self.invariant is
+    c.in_ok-split-in-Split.ensures.ok)
+
 pub invariant_of-self-in-Settled : goal.invariant_of-self-in-Settled
 invariant_of-self-in-Settled c =
     let parts = c.into_parts-piece.ensures in
     let is : c.args.work.step ≡ Settled c.in-Settled.answer = sym parts.step ∙ ap step_data c.in-Settled.is in
     let name : c.in-Settled.name ≡ c.args.work.name =
     sym (ap (λ (s : Step). name_after s c.args.work.piece.name) c.in-Settled.is) ∙ parts.name in
-    rw (c.take.ensures, c.in_ok-add-in-Settled.ensures.ok, c.of.ensures, parts.piece, name)
+    rw (c.remove.ensures, c.in_ok-add-in-Settled.ensures.ok, c.of.ensures, parts.piece, name)
     (answer_book _ c.self.inside.next_id c.args.id c.args.work c.in-Settled.answer c.self.invariant
     (rw (← c.self.view_is) at c.requires.may) (rw (← c.self.view_is) at c.requires.room)
     (record {
@@ -59,7 +67,7 @@ pub invariant_of-self-in-Empty : goal.invariant_of-self-in-Empty
 invariant_of-self-in-Empty c =
     let parts = c.into_parts-piece.ensures in
     let is : c.args.work.step ≡ Empty = sym parts.step ∙ ap step_data c.in-Empty.is in
-    rw (c.take-in-Empty.ensures, c.in_ok-add-in-Empty.ensures.ok, parts.piece)
+    rw (c.remove-in-Empty.ensures, c.in_ok-add-in-Empty.ensures.ok, parts.piece)
     (empty_book _ c.self.inside.next_id c.args.id c.args.work c.self.invariant
     (rw (← c.self.view_is) at c.requires.may) (rw (← c.self.view_is) at c.requires.room)
     (record {
