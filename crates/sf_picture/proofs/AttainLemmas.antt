@@ -8,16 +8,16 @@ use Rattle.std.proofs.lemmas.List.Elements.{All-contains, All-push, Contains-get
 use Rattle.sf_insn.specs.declared.input.Input.{Input}
 use Rattle.sf_book.specs.Books.{BookData}
 use Rattle.sf_picture.specs.declared.axis.Axis.{Axis}
-use Rattle.sf_picture.specs.declared.drawing.Span.{Span}
 use Rattle.sf_picture.specs.declared.picture.Branch.{Branch}
 use Rattle.sf_picture.specs.declared.picture.Run.{Run}
 use Rattle.sf_picture.specs.PictureData.{PictureData}
 use Rattle.sf_picture.specs.Pictures.{number_on, next_of, IsBelow, AreRightForks, IsAttained}
-use Rattle.sf_picture.specs.Spans.{IsExactSpan}
+use Rattle.sf_picture.specs.Spans.{Span, IsExactSpan}
 use Rattle.sf_picture.specs.Holding.{HeldData, IsHeldBy, IsFromSome}
 use Rattle.sf_picture.specs.PlainHolding.{IsPlainHeld}
-use Rattle.sf_picture.specs.Drawing.{SketchData, Grows, AddsLeaf, IsShort, KeepsShort, shown_at, NoneIsHeld, AddsRun, LeadsAs, IsAttainedAt, AreAttainedAt, IsAttainedBelow, AreAttainedBelow}
+use Rattle.sf_picture.specs.Drawing.{SketchData, Grows, AddsLeaf, IsShort, KeepsShort, shown_at, NoneIsHeld, IsShownAt, AreRuns, AddsRun, AreRunsTo, LeadsAs, IsAttainedAt, AreAttainedAt, IsAttainedBelow, AreAttainedBelow}
 use Rattle.sf_picture.proofs.SketchLemmas.{grows-below, grows-shown}
+use Rattle.sf_picture.proofs.DrawLemmas.{runs-grow}
 use Rattle.sf_picture.proofs.PlainLemmas.{some-held}
 
 -- ---- leaves with at most one label
@@ -160,6 +160,23 @@ attained-added from s t axis runs more first last next held inside grows right l
             shown = a.shown;
           })
     ]
+
+-- a span was drawn, to a branch or to none
+pub attained-span : (o : Option Branch) (from : ℕ) (s t : SketchData) (axis : Axis) (runs more : List Run)
+    (first last : ℕ) (held inside : List HeldData) → Grows s t → AreRightForks (length s.leaves) s.forks
+    → first ≤ last → AreRuns (length s.leaves) (length s.forks) first runs
+    → MatchOption o (NoneIsHeld inside) (λ b. IsShownAt t b inside)
+    → MatchOption o (more ≡ runs) (AreRunsTo runs more last) → All (IsFromSome held axis first last) inside
+    → IsExactSpan axis first last → AreAttainedAt (length s.leaves) t inside o
+    → AreAttainedBelow from s axis runs first held → AreAttainedBelow from t axis more (last + 1) held
+attained-span None from s t axis runs more first last held inside grows right le h none same all exact child before =
+    subst (λ (rs : List Run). AreAttainedBelow from t axis rs (last + 1) held) (sym same)
+    (attained-missed from s t axis runs first (last + 1) held inside grows right (omega arith) child before)
+attained-span (Some b) from s t axis runs more first last held inside grows right le h shown added all exact child
+    before =
+    attained-added from s t axis runs more first last b held inside grows right le
+    (added (length t.leaves) (length t.forks) first le (runs-grow s t first runs grows h) shown.below).1 shown.below
+    all exact child before
 
 -- all spans of an axis were drawn
 pub attained-fork : (o : Option Branch) (from : ℕ) (s t : SketchData) (axis : Axis) (runs : List Run) (first : ℕ)

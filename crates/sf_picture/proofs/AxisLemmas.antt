@@ -11,9 +11,9 @@ use Rattle.std.proofs.lemmas.Map.Keys.{IsDistinct-IsPermutation, IsDistinct-from
 use Rattle.sf_picture.specs.declared.axis.Axis.{Axis}
 use Rattle.sf_picture.specs.declared.cuts.Cut.{Cut}
 use Rattle.sf_picture.specs.Axes.{axis_order}
-use Rattle.sf_picture.specs.Drawing.{IsLastOfCut, AreLasts}
+use Rattle.sf_picture.specs.Drawing.{IsLastOfCut, EndSpans}
 use Rattle.sf_picture.specs.Holding.{HeldData}
-use Rattle.sf_picture.specs.Narrowing.{IsCutAxis, AreAxes, AreLastsBy}
+use Rattle.sf_picture.specs.Narrowing.{IsCutAxis, AreAxes, AreLastNumbers}
 use Rattle.sf_picture.specs.Pictures.{AreEachOnce}
 use Rattle.sf_picture.proofs.LastLemmas.{HasAxes, axes-sorted}
 
@@ -96,8 +96,8 @@ axes-exact held axes sorted n le moved has once only order = record {
 -- ---- lasts
 
 -- the lasts of an axis, each once
-pub lasts-exact : (held : List HeldData) (axis : Axis) (once : List ℕ) → AreLasts held axis (once ++ axis.mask ∷ [])
-    → IsStrictlyIncreasing once → AreLastsBy held axis (once ++ axis.mask ∷ [])
+pub lasts-exact : (held : List HeldData) (axis : Axis) (once : List ℕ) → EndSpans held axis (once ++ axis.mask ∷ [])
+    → IsStrictlyIncreasing once → AreLastNumbers held axis (once ++ axis.mask ∷ [])
 lasts-exact held axis once l rising = record {
   each = λ n. (
     λ there. elim (Contains-push_cases once axis.mask n there) [

@@ -17,7 +17,7 @@ use Rattle.sf_dom.specs.Facts.{Agrees, Covers, IsPlainCondition}
 use Rattle.sf_piece.specs.Pieces.{PieceData, is_member}
 use Rattle.sf_piece.specs.PlainPieces.{IsPlainPiece}
 use Rattle.sf_picture.specs.declared.cuts.Cut.{Cut}
-use Rattle.sf_picture.specs.Cuts.{IsPlainCut, LieBetweenResults, SaysNumber, LieAtCondition, IsSingle, NeedNoCut, IsMovedTo, AreCutsOf}
+use Rattle.sf_picture.specs.Cuts.{IsPlainCut, LieBetweenResults, SaysNumber, LieAtCondition, IsSingle, AreAboutSingle, IsMovedTo, AreCutsOf}
 use Rattle.sf_picture.proofs.HoldingLemmas.{meets}
 use Rattle.sf_picture.proofs.CutLemmas.{between-more}
 
@@ -91,7 +91,7 @@ lies-by-single p cuts n cond pool there other plain s d e di ei member unmet =
 
 -- cuts lie at all conditions from a place on, where those before an end are about a single node
 pub lie-all : (p : PieceData) (cuts : List Cut) (from end : ℕ) (single : Option NodeId) → IsPool p.pool
-    → IsPlainPiece p → NeedNoCut p single from end → IfSome single (λ (n : NodeId). IsSingle p cuts n.0)
+    → IsPlainPiece p → AreAboutSingle p single from end → IfSome single (λ (n : NodeId). IsSingle p cuts n.0)
     → LieAtConditionsFrom p cuts end → LieAtConditionsFrom p cuts from
 lie-all p cuts from end single pool plain told known after j c le at =
     elim (cases_lt j end) [
@@ -105,7 +105,7 @@ lie-all p cuts from end single pool plain told known after j c le at =
 pub lie-from : (p : PieceData) (cuts more : List Cut) (place end : ℕ) (cond : Cond) (single : Option NodeId)
     → IsPool p.pool → IsPlainPiece p → slice_get p.conditions place ≡ Some cond
     → ((c : Cut) → Contains cuts c → Contains more c) → LieBetweenResults p.pool cond more
-    → NeedNoCut p single (place + 1) end → IfSome single (λ (n : NodeId). IsSingle p cuts n.0)
+    → AreAboutSingle p single (place + 1) end → IfSome single (λ (n : NodeId). IsSingle p cuts n.0)
     → LieAtConditionsFrom p cuts end → LieAtConditionsFrom p more place
 lie-from p cuts more place end cond single pool plain there keeps here told known after =
     conditions-more p cuts more place cond there keeps (lies-at p more place cond there here)

@@ -1,6 +1,6 @@
 -- How a picture is drawn, span after span.
 use Rattle.std.proofs.lemmas.Grind.{common_steps}
-use Rattle.std.proofs.Common.{◌≡◌, ℕ, ◌<◌, ◌≤◌, ◌+◌, ◌⊎◌, suc, List, [], ◌∷◌, ◌++◌, length, length-append, get_or, Option, Some, None, sym, subst, ◌∙◌, inl, inr, arith}
+use Rattle.std.proofs.Common.{◌≡◌, ℕ, ◌<◌, ◌≤◌, ◌+◌, suc, List, [], ◌∷◌, ◌++◌, length, length-append, get_or, Option, Some, None, sym, subst, ◌∙◌, inl, inr, arith}
 use Rattle.std.specs.Prelude.{MatchOption, Contains, All, true, slice_get, slice_index}
 use Rattle.std.proofs.lemmas.Bool.{cases_eq, cases_lt}
 use Rattle.std.proofs.lemmas.Nat.{and_le_r}
@@ -13,10 +13,10 @@ use Rattle.sf_picture.specs.declared.axis.Axis.{Axis}
 use Rattle.sf_picture.specs.declared.picture.Branch.{Branch}
 use Rattle.sf_picture.specs.declared.picture.Branch.TheVariants.{Leaf, Fork}
 use Rattle.sf_picture.specs.declared.picture.Run.{Run}
-use Rattle.sf_picture.specs.Pictures.{number_on, IsBelow, AreRightForks}
+use Rattle.sf_picture.specs.Pictures.{number_on, AreRightForks}
 use Rattle.sf_picture.specs.Holding.{HeldData, IsHeldBy, IsKeptIn, IsHeldAt}
-use Rattle.sf_picture.specs.Drawing.{SketchData, Grows, shown_at, IsShownAt, NoneIsHeld, AreRuns, AddsRun, IsLeafOf, LeadsAs, IsFoundBelow, IsRightSketch, EndBelow, DrawsTo}
-use Rattle.sf_picture.proofs.SketchLemmas.{grows-none, grows-below, grows-shown, grows-lead}
+use Rattle.sf_picture.specs.Drawing.{SketchData, Grows, shown_at, IsShownAt, NoneIsHeld, AreRuns, AddsRun, AreRunsTo, IsLeafOf, LeadsAs, IsFoundBelow, IsRightSketch, EndBelow}
+use Rattle.sf_picture.proofs.SketchLemmas.{grows-below, grows-shown, grows-lead}
 
 -- what was found is found while the sketch grows
 found-grows : (s t : SketchData) (axis : Axis) (runs : List Run) (first : ℕ) (h : HeldData) → Grows s t
@@ -172,47 +172,33 @@ runs-later : (leaves forks first next : ℕ) (rs : List Run) → first ≤ next 
     → AreRuns leaves forks next rs
 runs-later leaves forks first next rs le h = grind (arith, common_steps, ends-more)
 
--- nothing of a span was left
-pub draws-none : (s : SketchData) (runs : List Run) (held : List HeldData) (axis : Axis) (first last : ℕ)
-    → IsRightSketch s → AreRuns (length s.leaves) (length s.forks) first runs → first ≤ axis.mask + 1
-    → (last < first) ⊎ (axis.mask < last) → DrawsTo s s runs runs held axis first last first
-draws-none s runs held axis first last right h short past = grind (arith, common_steps, grows-none)
+-- the runs once a span was drawn, whether to a branch or to none
+pub span-runs : (o : Option Branch) (s t : SketchData) (runs more : List Run) (inside : List HeldData)
+    (first last : ℕ) → Grows s t → first ≤ last → AreRuns (length s.leaves) (length s.forks) first runs
+    → MatchOption o (NoneIsHeld inside) (λ b. IsShownAt t b inside)
+    → MatchOption o (more ≡ runs) (AreRunsTo runs more last)
+    → AreRuns (length t.leaves) (length t.forks) (last + 1) more
+span-runs None s t runs more inside first last grows le h none same =
+    subst (AreRuns (length t.leaves) (length t.forks) (last + 1)) (sym same)
+    (runs-later (length t.leaves) (length t.forks) first (last + 1) runs (omega arith)
+    (runs-grow s t first runs grows h))
+span-runs (Some b) s t runs more inside first last grows le h shown added =
+    (added (length t.leaves) (length t.forks) first le (runs-grow s t first runs grows h) shown.below).0
 
--- nothing that is held had a member in the span
-pub draws-missed : (s t : SketchData) (runs : List Run) (inside held : List HeldData) (axis : Axis) (first last : ℕ)
-    → Grows s t → IsRightSketch s → IsRightSketch t → AreRuns (length s.leaves) (length s.forks) first runs
-    → first ≤ last → last ≤ axis.mask → All (IsKeptIn inside axis first last) held → NoneIsHeld inside
-    → DrawsTo s t runs runs held axis first last (last + 1)
-draws-missed s t runs inside held axis first last grows right right' h le within kept none = record {
-  grows = grows;
-  right = right';
-  runs = runs-later (length t.leaves) (length t.forks) first (last + 1) runs (omega arith)
-      (runs-grow s t first runs grows h);
-  found = λ found. all-missed s t axis runs first last inside held grows right found kept none;
-  short = omega arith;
-  onward = omega arith;
-  passed = λ e. omega arith;
-}
-
--- a run was added
-pub draws-added : (s t : SketchData) (runs more : List Run) (inside held : List HeldData) (axis : Axis)
-    (first last : ℕ) (next : Branch) → Grows s t → IsRightSketch s → IsRightSketch t
-    → AreRuns (length s.leaves) (length s.forks) first runs → first ≤ last → last ≤ axis.mask
-    → All (IsKeptIn inside axis first last) held → IsShownAt t next inside
-    → ((leaves forks first : ℕ) → first ≤ last → AreRuns leaves forks first runs → IsBelow leaves forks next
-    → AreRuns leaves forks (last + 1) more × AddsRun runs more first last next)
-    → DrawsTo s t runs more held axis first last (last + 1)
-draws-added s t runs more inside held axis first last next grows right right' h le within kept shown added =
-    let both = added (length t.leaves) (length t.forks) first le (runs-grow s t first runs grows h) shown.below in
-    record {
-      grows = grows;
-      right = right';
-      runs = both.0;
-      found = λ found. all-added s t axis runs more first last next inside held grows right found kept shown both.1;
-      short = omega arith;
-      onward = omega arith;
-      passed = λ e. omega arith;
-    }
+-- what is held is found once a span was drawn
+pub span-found : (o : Option Branch) (s t : SketchData) (axis : Axis) (runs more : List Run)
+    (inside held : List HeldData)
+    (first last : ℕ) → Grows s t → IsRightSketch s → first ≤ last
+    → AreRuns (length s.leaves) (length s.forks) first runs → All (IsKeptIn inside axis first last) held
+    → MatchOption o (NoneIsHeld inside) (λ b. IsShownAt t b inside)
+    → MatchOption o (more ≡ runs) (AreRunsTo runs more last) → All (IsFoundBelow s axis runs first) held
+    → All (IsFoundBelow t axis more (last + 1)) held
+span-found None s t axis runs more inside held first last grows right le h kept none same found =
+    subst (λ (rs : List Run). All (IsFoundBelow t axis rs (last + 1)) held) (sym same)
+    (all-missed s t axis runs first last inside held grows right found kept none)
+span-found (Some b) s t axis runs more inside held first last grows right le h kept shown added found =
+    all-added s t axis runs more first last b inside held grows right found kept shown
+    (added (length t.leaves) (length t.forks) first le (runs-grow s t first runs grows h) shown.below).1
 
 -- runs for all numbers of an axis
 pub runs-whole : (leaves forks first mask : ℕ) (rs : List Run) → mask < first → first ≤ mask + 1

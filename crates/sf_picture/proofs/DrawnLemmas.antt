@@ -12,7 +12,7 @@ use Rattle.sf_picture.specs.declared.picture.Run.{Run}
 use Rattle.sf_picture.specs.Holding.{HeldData, AreOneLabel}
 use Rattle.sf_picture.specs.Drawing.{SketchData, IsOneHeldMore}
 use Rattle.sf_picture.specs.Narrowing.{AreNarrowedTo}
-use Rattle.sf_picture.specs.DrawnBy.{Drawing, Draws, DrawsSpans, DrawsOn, DrawsEarly, DrawsLeafOf, AddsRunTo, AddsSpanTo, AreClosed, IsHeldOf}
+use Rattle.sf_picture.specs.DrawnBy.{Drawing, DrawsBy, DrawsSpans, DrawsOn, DrawsEarly, DrawsLeafOf, AddsRunTo, AddsSpanTo, AreClosed, IsHeldOf}
 
 -- ---- runs
 
@@ -104,16 +104,16 @@ spans-more draws held axis lasts i first last s u runs inside b t new l is start
 -- ---- what is drawn
 
 pub draws-one : (axes : List Axis) (held : List HeldData) (s t : SketchData) (b : Option Branch) → AreOneLabel held
-    → DrawsLeafOf All held s t b → Draws axes held s t b
-unfolding Draws
+    → DrawsLeafOf All held s t b → DrawsBy axes held s t b
+unfolding DrawsBy
 draws-one [] held s t b one leaf = inl (one, leaf)
 draws-one (axis ∷ axes) held s t b one leaf = inl (one, leaf)
 
 pub draws-last : (axes : List Axis) (at : ℕ) (held : List HeldData) (s t : SketchData) (b : Option Branch)
-    → length axes ≤ at → (AreOneLabel held → ⊥) → DrawsLeafOf Left held s t b → Draws (drop at axes) held s t b
-unfolding Draws
+    → length axes ≤ at → (AreOneLabel held → ⊥) → DrawsLeafOf Left held s t b → DrawsBy (drop at axes) held s t b
+unfolding DrawsBy
 draws-last axes at held s t b le several leaf =
-    subst (λ (rest : List Axis). Draws rest held s t b) (sym (drop_all at axes le)) (inr (several, leaf))
+    subst (λ (rest : List Axis). DrawsBy rest held s t b) (sym (drop_all at axes le)) (inr (several, leaf))
 
 drop-axis : (axes : List Axis) (at : ℕ) (d : Axis) → at < length axes
     → drop at axes ≡ get_or axes at d ∷ drop (suc at) axes
@@ -130,22 +130,23 @@ next-axis axes at axis l on =
 
 pub draws-early : (axes : List Axis) (at : ℕ) (axis : Axis) (held : List HeldData) (s t : SketchData)
     (b : Option Branch) → at < length axes → get_or axes at axis ≡ axis → (AreOneLabel held → ⊥) → s.most ≤ s.drawn
-    → DrawsEarly held s t b → Draws (drop at axes) held s t b
-unfolding Draws
+    → DrawsEarly held s t b → DrawsBy (drop at axes) held s t b
+unfolding DrawsBy
 draws-early axes at axis held s t b l on several full leaf =
-    subst (λ (rest : List Axis). Draws rest held s t b) (sym (next-axis axes at axis l on))
+    subst (λ (rest : List Axis). DrawsBy rest held s t b) (sym (next-axis axes at axis l on))
     (inr (several, inl (full, leaf)))
 
 pub draws-on : (axes : List Axis) (at : ℕ) (axis : Axis) (held : List HeldData) (s t : SketchData)
     (b : Option Branch) → at < length axes → get_or axes at axis ≡ axis → (AreOneLabel held → ⊥)
-    → (s.most ≤ s.drawn → ⊥) → DrawsOn (Draws (drop (at + 1) axes)) axis held s t b → Draws (drop at axes) held s t b
-unfolding Draws
+    → (s.most ≤ s.drawn → ⊥) → DrawsOn (DrawsBy (drop (at + 1) axes)) axis held s t b
+    → DrawsBy (drop at axes) held s t b
+unfolding DrawsBy
 draws-on axes at axis held s t b l on several room drawn =
     let less : s.drawn < s.most = elim (cases_lt s.drawn s.most) [
       | inl l ↦ l
       | inr le ↦ absurd (room le)
     ] in
-    subst (λ (rest : List Axis). Draws rest held s t b) (sym (next-axis axes at axis l on))
+    subst (λ (rest : List Axis). DrawsBy rest held s t b) (sym (next-axis axes at axis l on))
     (inr (several, inr (less, drawn)))
 
 -- ---- what is held of regions

@@ -1,7 +1,7 @@
 -- Cuts that are gathered are those of the rules.
-use Rattle.std.proofs.Common.{◌≡◌, ℕ, zero, suc, ◌<◌, ◌≤◌, ◌+◌, ◌-◌, ◌⊎◌, Bool, true, false, true≢false, List, [], ◌∷◌, ◌++◌, length, take, drop, get_or, set, Some, None, refl, sym, ap, subst, ◌∙◌, inl, inr, arith}
+use Rattle.std.proofs.Common.{◌≡◌, ℕ, zero, suc, ◌<◌, ◌≤◌, ◌+◌, ◌-◌, ◌⊎◌, Bool, true, false, true≢false, List, [], ◌∷◌, length, take, drop, get_or, set, Some, None, refl, sym, ap, subst, ◌∙◌, inl, inr, arith}
 use Rattle.std.specs.Prelude.{◌↔◌, Option, is_some, All, Contains, slice_get, bit_and, ◌==◌}
-use Rattle.std.proofs.lemmas.Bool.{cases_eq, eqb-true, eqb-false}
+use Rattle.std.proofs.lemmas.Bool.{eqb-true, eqb-false}
 use Rattle.std.proofs.lemmas.List.{drop_all, take_all, take_more, get_or-set_same, get_or-set_other}
 use Rattle.std.proofs.lemmas.List.Elements.{Contains-push, Contains-push_cases, Contains-append_left, All-contains}
 use Rattle.std.proofs.lemmas.Option.{same_Some}
@@ -18,7 +18,7 @@ use Rattle.sf_picture.specs.declared.windows.FixedBits.{FixedBits}
 use Rattle.sf_picture.specs.Cutting.{AxisTest, IsCutBy, NeedsNoCut, IsSingleAfter, AreTestsOf, with_test, fixed_by, fixed_with, fixed_bits, AreCutsBy, cut_within, window_of, window_at}
 use Rattle.sf_picture.specs.Cuts.{IsCutOfWord}
 use Rattle.sf_picture.proofs.NarrowLemmas.{drop-at}
-use Rattle.sf_picture.specs.Gathering.{AreMore, IsCutAfter, IsCutBelow, bits_at, AreWithTest, AreWithCondition, NeedNone, NeedsOne, IsMovedBy, IsMovedFrom}
+use Rattle.sf_picture.specs.Gathering.{AreMore, IsCutAfter, IsCutBelow, bits_at, AreWithTest, AreWithCondition, NoneNeedsCut, NeedsCut, IsMovedBy, IsMovedFrom}
 
 -- ---- cuts of a test
 
@@ -192,7 +192,7 @@ some-at (x ∷ cs) (suc i) l = some-at cs i (omega arith)
 
 -- conditions that need no cut tell nothing
 skip : (n : ℕ) (ns : List Node) (cs : List Cond) (from end : ℕ) (single : Option NodeId) (tests : List AxisTest)
-    → end ≡ from + n → end ≤ length cs → NeedNone cs single from end
+    → end ≡ from + n → end ≤ length cs → NoneNeedsCut cs single from end
     → AreTestsOf ns (drop end cs) single tests → AreTestsOf ns (drop from cs) single tests
 unfolding AreTestsOf
 skip zero ns cs from end single tests e le none of =
@@ -244,7 +244,7 @@ with-fixed (Some t) tests cuts more bits fixed h each word l =
 -- the newest condition that needs a cut is seen
 pub seen-more : (p : PieceData) (end place : ℕ) (cond : Cond) (single next : Option NodeId) (cuts more : List Cut)
     (bits fixed : List FixedBits) → end ≤ length p.conditions → place < end → slice_get p.conditions place ≡ Some cond
-    → NeedNone p.conditions single (place + 1) end → NeedsOne p.conditions single place
+    → NoneNeedsCut p.conditions single (place + 1) end → NeedsCut p.conditions single place
     → AreWithCondition p.pool cond cuts more bits fixed → IsSingleAfter p.pool single cond next
     → AreSeen p end single cuts bits → AreSeen p place next more fixed
 unfolding AreTestsOf
@@ -267,7 +267,7 @@ seen-more p end place cond single next cuts more bits fixed le lt there none nee
 
 -- all are seen, and their cuts are moved
 pub cuts-by : (p : PieceData) (end : ℕ) (single : Option NodeId) (cuts moved : List Cut) (bits : List FixedBits)
-    → end ≤ length p.conditions → NeedNone p.conditions single 0 end → AreSeen p end single cuts bits
+    → end ≤ length p.conditions → NoneNeedsCut p.conditions single 0 end → AreSeen p end single cuts bits
     → All IsCutOfWord cuts → ((c : Cut) → Contains moved c ↔ IsMovedFrom p.facts bits cuts c) → AreCutsBy p moved
 cuts-by p end single cuts moved bits le none seen words each = record {
   single = single;
@@ -305,7 +305,7 @@ cuts-by p end single cuts moved bits le none seen words each = record {
 
 -- the one that needs a cut is the one at its place
 pub needs-one : (conds : List Cond) (single : Option NodeId) (place : ℕ) (cond : Cond)
-    → slice_get conds place ≡ Some cond → ¬ NeedsNoCut single cond → NeedsOne conds single place
+    → slice_get conds place ≡ Some cond → ¬ NeedsNoCut single cond → NeedsCut conds single place
 needs-one conds single place cond there needs c at less =
     needs (subst (NeedsNoCut single) (same_Some c cond (sym at ∙ there)) less)
 

@@ -11,7 +11,7 @@ use Rattle.std.proofs.lemmas.List.Elements.{All-more, All-weaker, All-contains, 
 use Rattle.sf_picture.specs.declared.axis.Axis.{Axis}
 use Rattle.sf_picture.specs.declared.cuts.Cut.{Cut}
 use Rattle.sf_picture.specs.Holding.{HeldData}
-use Rattle.sf_picture.specs.Drawing.{IsLastOfCut, AreLasts}
+use Rattle.sf_picture.specs.Drawing.{IsLastOfCut, EndSpans}
 
 -- a cut of no axis
 abbrev pub no_cut : Cut
@@ -49,7 +49,7 @@ lasts-more axis held i h lasts more lt is keeps here before = All-more (HasLasts
 -- in ascending order, each once, and then the greatest number of the axis
 pub lasts-whole : (held : List HeldData) (axis : Axis) (found sorted once : List ℕ) (n : ℕ) → length held ≤ n
     → All (HasLasts axis found) (take n held) → All (IsLastOfCut held axis) found → IsPermutation found sorted
-    → once ≡ dedup eqb sorted → IsNonDecreasing once → AreLasts held axis (once ++ axis.mask ∷ [])
+    → once ≡ dedup eqb sorted → IsNonDecreasing once → EndSpans held axis (once ++ axis.mask ∷ [])
 lasts-whole held axis found sorted once n le has only moved is rising =
     let few : All (IsLastOfCut held axis) once = All-from_get_or (IsLastOfCut held axis) once 0 (λ i lt.
     All-contains (IsLastOfCut held axis) found (get_or once i 0) only
@@ -70,7 +70,7 @@ lasts-whole held axis found sorted once n le has only moved is rising =
     }
 
 -- none is above the greatest number of the axis
-pub lasts-inside : (held : List HeldData) (axis : Axis) (lasts : List ℕ) (i : ℕ) → AreLasts held axis lasts
+pub lasts-inside : (held : List HeldData) (axis : Axis) (lasts : List ℕ) (i : ℕ) → EndSpans held axis lasts
     → i < length lasts → slice_index lasts i ≤ axis.mask
 lasts-inside held axis lasts i l lt = search (arith, length-append, get_or_push)
 

@@ -21,7 +21,7 @@ use Rattle.sf_picture.specs.declared.picture.Run.{Run}
 use Rattle.sf_picture.specs.PictureData.{ForkData, PictureData}
 use Rattle.sf_picture.specs.Holding.{HeldData}
 use Rattle.sf_picture.specs.Drawing.{SketchData, EndsElsewhere}
-use Rattle.sf_picture.specs.DrawnBy.{IsFirstAt, IsKeptOnce, DrawsLeaf, DrawsLabels, DrawsLeafOf, AddsRunTo, AddsSpanTo, AreClosed, DrawsFork, LeadRunsTo, ClosesTo, Drawing, DrawsSpans, DrawsOn, Draws, BeginsAt, DrawsRoot, IsHeldOf, HasPicture, empty_sketch}
+use Rattle.sf_picture.specs.DrawnBy.{IsFirstAt, IsKeptOnce, DrawsLeaf, DrawsLabels, DrawsLeafOf, AddsRunTo, AddsSpanTo, AreClosed, DrawsFork, LeadRunsTo, ClosesTo, Drawing, DrawsSpans, DrawsOn, DrawsBy, BeginsAt, DrawsRoot, IsHeldOf, HasPicture, empty_sketch}
 use Rattle.sf_picture.proofs.OneCutting.{same-cuts, small-cuts}
 use Rattle.sf_picture.proofs.NarrowLemmas.{equal-back}
 use Rattle.sf_picture.proofs.OneNarrowing.{AreSameHeld, AreAllSame, all-back, same-axes, same-lasts, same-labels, one-label-as, same-inside}
@@ -204,8 +204,8 @@ module _ (laws : HaveOneResult) where
           (subst (λ (rs : List Run). ClosesTo axis rs p.1.0 u b) (sym e.1)
           (subst (λ (z : SketchData). ClosesTo axis q.1.1 z u b) (sym e.0) q.1.3))
 
-  one-draws : (axes : List Axis) → DrawsOne (Draws axes)
-  unfolding Draws
+  one-draws : (axes : List Axis) → DrawsOne (DrawsBy axes)
+  unfolding DrawsBy
   one-draws [] held others s t u a b same (inl x) (inl y) = one-leaf-of All held others s t u a b same x.1 y.1
   one-draws [] held others s t u a b same (inl x) (inr y) = absurd (y.0 (one-label-as held others same x.0))
   one-draws [] held others s t u a b same (inr x) (inl y) =
@@ -224,7 +224,7 @@ module _ (laws : HaveOneResult) where
   one-draws (axis ∷ axes) held others s t u a b same (inr (n, inr x)) (inr (m, inl y)) =
       absurd (let p = x.0 in let q = y.0 in omega arith)
   one-draws (axis ∷ axes) held others s t u a b same (inr (n, inr x)) (inr (m, inr y)) =
-      one-on (Draws axes) (one-draws axes) axis held others s t u a b same x.1 y.1
+      one-on (DrawsBy axes) (one-draws axes) axis held others s t u a b same x.1 y.1
 
   -- ---- pictures
 
@@ -238,7 +238,7 @@ module _ (laws : HaveOneResult) where
   one-root held others s t u root other same x y =
       let axes = same-axes held others x.axes y.axes same x.cut y.cut in
       let e = one-draws x.axes held others s x.sketch y.sketch x.branch y.branch same x.drawn
-      (subst (λ (as' : List Axis). Draws as' others s y.sketch y.branch) (sym axes) y.drawn) in
+      (subst (λ (as' : List Axis). DrawsBy as' others s y.sketch y.branch) (sym axes) y.drawn) in
       one-beginning x.sketch t u x.branch root other x.begins
       (subst (λ (b : Option Branch). BeginsAt x.sketch u b other) (sym e.1)
       (subst (λ (z : SketchData). BeginsAt z u y.branch other) (sym e.0) y.begins))

@@ -22,7 +22,7 @@ use Rattle.sf_picture.specs.declared.labels.Which.TheVariants.{All as AllOf, Lef
 use Rattle.sf_picture.specs.Axes.{axis_places, axis_order}
 use Rattle.sf_picture.specs.Drawing.{IsLastOfCut}
 use Rattle.sf_picture.specs.Holding.{HeldData, AreOneLabel}
-use Rattle.sf_picture.specs.Narrowing.{IsCutAxis, AreAxes, AreLastsBy, ends_on, ends_of, lie_in, miss, learnt_in_span, TakeInSpan, CantTakeInSpan, IsConfined, IsKeptOf, IsNarrowedTo, AreNarrowedTo, CanLearnAgain, IsGathered, IsLabelOf, AreLabelsOf}
+use Rattle.sf_picture.specs.Narrowing.{IsCutAxis, AreAxes, AreLastNumbers, ends_on, ends_of, lie_in, miss, learnt_in_span, TakeInSpan, CantTakeInSpan, IsConfined, IsKeptOf, IsNarrowedTo, AreNarrowedTo, CanLearnAgain, IsGathered, IsLabelOf, AreLabelsOf}
 use Rattle.sf_picture.specs.Pictures.{AreEachOnce}
 use Rattle.sf_picture.proofs.NarrowLemmas.{equal-back}
 
@@ -241,14 +241,14 @@ last-of held others axis n same is =
     }
 
 last-to : (held others : List HeldData) (axis : Axis) (lasts more : List ℕ) → AreAllSame held others
-    → AreLastsBy held axis lasts → AreLastsBy others axis more → (n : ℕ) → Contains lasts n → Contains more n
+    → AreLastNumbers held axis lasts → AreLastNumbers others axis more → (n : ℕ) → Contains lasts n → Contains more n
 last-to held others axis lasts more same x y n there = elim ((x.each n).0 there) [
   | inl is ↦ (y.each n).1 (inl (last-of held others axis n same is))
   | inr is ↦ (y.each n).1 (inr is)
 ]
 
 pub same-lasts : (held others : List HeldData) (axis : Axis) (lasts more : List ℕ) → AreAllSame held others
-    → AreLastsBy held axis lasts → AreLastsBy others axis more → lasts ≡ more
+    → AreLastNumbers held axis lasts → AreLastNumbers others axis more → lasts ≡ more
 same-lasts held others axis lasts more same x y =
     same-numbers lasts more x.rising y.rising (last-to held others axis lasts more same x y)
     (last-to others held axis more lasts (all-back held others same) y x)

@@ -17,13 +17,12 @@ use Rattle.sf_book.specs.Books.{RegionData, BookData, IsSettled}
 use Rattle.sf_book.specs.PartitionLaws.{no_second}
 use Rattle.sf_picture.specs.declared.axis.Axis.{Axis}
 use Rattle.sf_picture.specs.declared.cuts.Cut.{Cut}
-use Rattle.sf_picture.specs.declared.drawing.Span.{Span}
 use Rattle.sf_picture.specs.Pictures.{number_on}
-use Rattle.sf_picture.specs.Spans.{IsInSpan, IsExactSpan}
+use Rattle.sf_picture.specs.Spans.{Span, IsInSpan, IsExactSpan}
 use Rattle.sf_picture.specs.Cuts.{LiesBetween, IsPlainCut, AreCutsOf}
 use Rattle.sf_picture.specs.Holding.{HeldData, IsHeldBy, IsNarrowed, IsFromSome, AreOneLabel}
 use Rattle.sf_picture.specs.PlainHolding.{IsPlainHeld, IsUncut, IsCutOn, IsPlainTask, IsUncutIn, IsPlainSpan}
-use Rattle.sf_picture.specs.Drawing.{IsLastOfCut, AreLasts}
+use Rattle.sf_picture.specs.Drawing.{IsLastOfCut, EndSpans}
 use Rattle.sf_picture.proofs.LastLemmas.{HasAxes}
 
 -- ---- one label
@@ -130,7 +129,7 @@ cut-below c d e (inr b) =
     omega (arith, b.1)
 
 -- this many last numbers
-lasts-count : (held : List HeldData) (axis : Axis) (lasts : List ℕ) (l : AreLasts held axis lasts)
+lasts-count : (held : List HeldData) (axis : Axis) (lasts : List ℕ) (l : EndSpans held axis lasts)
     → length lasts ≡ length l.before + 1
 lasts-count held axis lasts l = ap length l.whole ∙ (length-append l.before (axis.mask ∷ []) ∙ omega arith)
 
@@ -140,7 +139,7 @@ none-in xs n none there = omega (arith, there.1)
 -- an axis that nothing cuts is passed over
 pub skip-task : (s : BookData) (labels : List ℕ) (box : List Span) (held : List HeldData) (axes : List Axis) (at : ℕ)
     (axis : Axis) (lasts : List ℕ) → IsPlainTask s labels box held axes at → at < length axes
-    → get_or axes at axis ≡ axis → AreLasts held axis lasts → length lasts ≡ 1
+    → get_or axes at axis ≡ axis → EndSpans held axis lasts → length lasts ≡ 1
     → IsPlainTask s labels box held axes (at + 1)
 skip-task s labels box held axes at axis lasts task lt is all one = record {
   settled = task.settled;
@@ -170,7 +169,7 @@ bit-last s labels box held axis n all l = search arith
 
 -- the span that ends with one of the last numbers is exact, where those before are passed
 exact-span : (s : BookData) (labels : List ℕ) (box : List Span) (held : List HeldData) (axis : Axis) (lasts : List ℕ)
-    (i first last : ℕ) → All (IsPlainHeld s labels box) held → AreLasts held axis lasts → (length lasts ≡ 1 → ⊥)
+    (i first last : ℕ) → All (IsPlainHeld s labels box) held → EndSpans held axis lasts → (length lasts ≡ 1 → ⊥)
     → i < length lasts → slice_index lasts i ≡ last → ((k : ℕ) → k < i → slice_index lasts k < first)
     → first ≤ last → IsExactSpan axis first last
 exact-span s labels box held axis lasts i first last all l several lt is passed le =
@@ -200,7 +199,7 @@ exact-span s labels box held axis lasts i first last all l several lt is passed 
 -- the span that ends with one of the last numbers, where those before are passed
 pub plain-span : (s : BookData) (labels : List ℕ) (box : List Span) (held : List HeldData) (axes : List Axis) (at : ℕ)
     (axis : Axis) (lasts : List ℕ) (i first last : ℕ) → IsPlainTask s labels box held axes at
-    → get_or axes at axis ≡ axis → AreLasts held axis lasts → (length lasts ≡ 1 → ⊥) → i < length lasts
+    → get_or axes at axis ≡ axis → EndSpans held axis lasts → (length lasts ≡ 1 → ⊥) → i < length lasts
     → slice_index lasts i ≡ last → ((k : ℕ) → k < i → slice_index lasts k < first)
     → IsPlainSpan held axes at (record { axis = axis; first = first; last = last })
 plain-span s labels box held axes at axis lasts i first last task on l several lt is passed = record {

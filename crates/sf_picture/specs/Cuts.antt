@@ -81,8 +81,8 @@ pub record IsSingle (p : PieceData) (cuts : List Cut) (node : ℕ) : Type 0 wher
   pub lie : LieAtCondition p cuts cond
 
 -- the conditions from a place on, before an end, are about the single node, each against a node of the pool
-abbrev pub NeedNoCut : PieceData → Option NodeId → ℕ → ℕ → Type 0
-NeedNoCut p single from end = (j : ℕ) (c : Cond) → from ≤ j → j < end → slice_get p.conditions j ≡ Some c
+abbrev pub AreAboutSingle : PieceData → Option NodeId → ℕ → ℕ → Type 0
+AreAboutSingle p single from end = (j : ℕ) (c : Cond) → from ≤ j → j < end → slice_get p.conditions j ≡ Some c
     → (single ≡ Some c.node) × (c.other.0 < length p.pool)
 
 -- wherever this cut lies between an input that agrees with the facts and another input, one of the cuts in the list

@@ -1,6 +1,6 @@
 -- How a picture is drawn: leaves, forks and runs that grow, and what they show of what is held. For the functions of
 -- this crate only.
-use Rattle.std.specs.Prelude.{◌≡◌, ◌≢◌, ℕ, suc, ◌<◌, ◌≤◌, ◌+◌, ◌⊎◌, ◌++◌, Bool, false, slice_index_or, List, [], ◌∷◌, length, All, Contains, Option, Some, None}
+use Rattle.std.specs.Prelude.{◌≡◌, ℕ, ◌<◌, ◌≤◌, ◌+◌, ◌⊎◌, ◌++◌, false, slice_index_or, List, [], ◌∷◌, length, All, Contains, Option, Some, None}
 use Rattle.std.specs.List.Sorted.{IsNonDecreasing}
 use Rattle.sf_insn.specs.declared.input.Input.{Input}
 use Rattle.sf_picture.specs.declared.axis.Axis.{Axis}
@@ -13,7 +13,7 @@ use Rattle.sf_picture.specs.Pictures.{number_on, next_of, fork_at, labels_along,
 pub use Rattle.sf_picture.specs.HeldData.{SketchData}
 pub use Rattle.sf_picture.specs.Narrowing.{IsLastOfCut}
 pub use Rattle.sf_picture.specs.DrawnBy.{EndsElsewhere}
-use Rattle.sf_picture.specs.DrawnBy.{Drawing as ADrawing, AddsSpanTo, IsHeldOf}
+use Rattle.sf_picture.specs.DrawnBy.{IsHeldOf}
 use Rattle.sf_book.specs.Books.{RegionData}
 use Rattle.sf_picture.specs.Holding.{HeldData, IsHeldBy}
 
@@ -82,6 +82,12 @@ pub record AddsRun (old new : List Run) (first last : ℕ) (next : Branch) : Typ
   pub keeps : (n : ℕ) (b : Branch) → next_of old n ≡ Some b → next_of new n ≡ Some b
   pub adds : (n : ℕ) → first ≤ n → n ≤ last → next_of new n ≡ Some next
 
+-- Runs for the numbers below any number up to `last` became runs for all numbers up to it, and the span from there to
+-- `last` leads to the branch.
+abbrev pub AreRunsTo : List Run → List Run → ℕ → Branch → Type 0
+AreRunsTo old new last next = (leaves forks first : ℕ) → first ≤ last → AreRuns leaves forks first old
+    → IsBelow leaves forks next → AreRuns leaves forks (last + 1) new × AddsRun old new first last next
+
 -- the same runs, of which the last one goes on to a number
 pub record ClosesRuns (leaves forks last : ℕ) (old new : List Run) : Type 0 where
   pub rising : RiseFrom 0 new
@@ -104,25 +110,12 @@ IsFoundBelow s axis runs first h = (d : Input) → IsHeldBy h d → number_on ax
     → (b : Branch) × (next_of runs (number_on axis d) ≡ Some b) × IsBelow (length s.leaves) (length s.forks) b
     × Contains (shown_at s (Some b) d) h.label
 
--- From the sketch s and the old runs, which were drawn up to the number `first`, the sketch t and the new runs were
--- drawn, up to the number `next`. Where all members below `first` were found by the old ones, all below `next` are
--- found by the new ones. A span that ends on the axis, with `last`, is drawn then.
-pub record DrawsTo (s t : SketchData) (old new : List Run) (held : List HeldData) (axis : Axis)
-    (first last next : ℕ) : Type 0 where
-  pub grows : Grows s t
-  pub right : IsRightSketch t
-  pub runs : AreRuns (length t.leaves) (length t.forks) next new
-  pub found : All (IsFoundBelow s axis old first) held → All (IsFoundBelow t axis new next) held
-  pub short : next ≤ axis.mask + 1
-  pub onward : first ≤ next
-  pub passed : last ≤ axis.mask → last < next
-
 -- The last numbers of the spans into which what is held cuts an axis: those of all cuts, in ascending order, and then
 -- the greatest number of the axis.
-pub record AreLasts (held : List HeldData) (axis : Axis) (lasts : List ℕ) : Type 0 where
+pub record EndSpans (held : List HeldData) (axis : Axis) (last_numbers : List ℕ) : Type 0 where
   pub before : List ℕ
-  pub whole : lasts ≡ before ++ axis.mask ∷ []
-  pub rising : IsNonDecreasing lasts
+  pub whole : last_numbers ≡ before ++ axis.mask ∷ []
+  pub rising : IsNonDecreasing last_numbers
   pub only : All (IsLastOfCut held axis) before
   pub each : (h : HeldData) (c : Cut) → Contains held h → Contains h.cuts c → c.axis ≡ axis → c.last < axis.mask
       → Contains before c.last
@@ -159,14 +152,6 @@ pub record IsAttainedBelow (s : SketchData) (axis : Axis) (runs : List Run) (fir
 abbrev pub AreAttainedBelow : ℕ → SketchData → Axis → List Run → ℕ → List HeldData → Type 0
 AreAttainedBelow from s axis runs first held = (place : ℕ) → from ≤ place → place < length s.leaves
     → IsAttainedBelow s axis runs first held place
-
--- what is left in a span is drawn, a run is added that leads to it, and the next number is the one after the span
-pub record DrawsSpan (draws : ADrawing) (inside : List HeldData) (last : ℕ) (s t : SketchData) (old new : List Run)
-    (next : ℕ) : Type 0 where
-  pub branch : Option Branch
-  pub drawn : draws inside s t branch
-  pub run : AddsSpanTo old last branch new
-  pub next_is : next ≡ last + 1
 
 -- what is held of one more region at first stands behind what is held of others
 pub record IsOneHeldMore (region : RegionData) (label : ℕ) (old new : List HeldData) : Type 0 where

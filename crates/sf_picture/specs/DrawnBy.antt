@@ -14,7 +14,7 @@ use Rattle.sf_picture.specs.declared.picture.Run.{Run}
 use Rattle.sf_picture.specs.PictureData.{ForkData, PictureData}
 use Rattle.sf_picture.specs.HeldData.{HeldData, SketchData}
 use Rattle.sf_picture.specs.Cutting.{AreCutsBy}
-use Rattle.sf_picture.specs.Narrowing.{AreOneLabel, AreLabelsOf, AreAxes, AreLastsBy, AreNarrowedTo}
+use Rattle.sf_picture.specs.Narrowing.{AreOneLabel, AreLabelsOf, AreAxes, AreLastNumbers, AreNarrowedTo}
 
 -- ---- leaves, runs and forks
 
@@ -108,32 +108,33 @@ Drawing = List HeldData → SketchData → SketchData → Option Branch → Type
 unfoldable pub DrawsSpans : Drawing → List HeldData → Axis → (first : ℕ) → List ℕ → SketchData → List Run → SketchData
     → List Run → Type 0
 DrawsSpans draws held axis first [] s old t new = (t ≡ s) × (new ≡ old)
-DrawsSpans draws held axis first (last ∷ lasts) s old t new =
+DrawsSpans draws held axis first (last ∷ more) s old t new =
     (inside : List HeldData) × (b : Option Branch) × (u : SketchData) × (runs : List Run)
     × AreNarrowedTo held axis first last inside × draws inside s u b × AddsSpanTo old last b runs
-    × DrawsSpans draws held axis (last + 1) lasts u runs t new
+    × DrawsSpans draws held axis (last + 1) more u runs t new
 
 -- an axis is cut: its spans are drawn, and their runs closed
 abbrev pub DrawsFrom : Drawing → List HeldData → Axis → List ℕ → SketchData → SketchData → Option Branch → Type 0
-DrawsFrom draws held axis lasts s t b = (u : SketchData) × (runs : List Run)
-    × DrawsSpans draws held axis 0 lasts s [] u runs × ClosesTo axis runs u t b
+DrawsFrom draws held axis last_numbers s t b = (u : SketchData) × (runs : List Run)
+    × DrawsSpans draws held axis 0 last_numbers s [] u runs × ClosesTo axis runs u t b
 
 -- an axis is passed over, where it has only one span, and else cut
 abbrev pub DrawsOn : Drawing → Axis → Drawing
-DrawsOn draws axis held s t b = (lasts : List ℕ) × AreLastsBy held axis lasts
-    × (((length lasts ≡ 1) × draws held s t b) ⊎ ((length lasts ≢ 1) × DrawsFrom draws held axis lasts s t b))
+DrawsOn draws axis held s t b = (last_numbers : List ℕ) × AreLastNumbers held axis last_numbers
+    × (((length last_numbers ≡ 1) × draws held s t b)
+    ⊎ ((length last_numbers ≢ 1) × DrawsFrom draws held axis last_numbers s t b))
 
 -- What is held is drawn, by these axes. Where it has at most one label, a leaf is drawn with that, or nothing. Where it
 -- has several, and no axis is left, a leaf is drawn with those that the regions' conditions leave. Where it has
 -- several, an axis is left, and as many leaves were drawn as are allowed, a leaf is drawn early. Else the first axis is
 -- cut or passed over.
-unfoldable pub Draws : List Axis → Drawing
-Draws [] held s t b =
+unfoldable pub DrawsBy : List Axis → Drawing
+DrawsBy [] held s t b =
     (AreOneLabel held × DrawsLeafOf All held s t b) ⊎ ((¬ AreOneLabel held) × DrawsLeafOf Left held s t b)
-Draws (axis ∷ axes) held s t b =
+DrawsBy (axis ∷ axes) held s t b =
     (AreOneLabel held × DrawsLeafOf All held s t b)
     ⊎ ((¬ AreOneLabel held) × (((s.most ≤ s.drawn) × DrawsEarly held s t b)
-    ⊎ ((s.drawn < s.most) × DrawsOn (Draws axes) axis held s t b)))
+    ⊎ ((s.drawn < s.most) × DrawsOn (DrawsBy axes) axis held s t b)))
 
 -- ---- pictures
 
@@ -152,7 +153,7 @@ pub record DrawsRoot (held : List HeldData) (s t : SketchData) (root : Branch) :
   pub cut : AreAxes held axes
   pub sketch : SketchData
   pub branch : Option Branch
-  pub drawn : Draws axes held s sketch branch
+  pub drawn : DrawsBy axes held s sketch branch
   pub begins : BeginsAt sketch t branch root
 
 -- what is held of a region at first: its piece with the piece's own facts, its label, and its cuts by the rules

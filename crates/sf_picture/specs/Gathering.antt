@@ -41,13 +41,13 @@ pub record AreWithCondition (ns : List Node) (cond : Cond) (cuts more : List Cut
   pub with : AreWithTest tested cuts more bits fixed
 
 -- no condition from a place on, before an end, needs a cut
-abbrev pub NeedNone : List Cond → Option NodeId → ℕ → ℕ → Type 0
-NeedNone conds single from end = (j : ℕ) (c : Cond) → from ≤ j → j < end → slice_get conds j ≡ Some c
+abbrev pub NoneNeedsCut : List Cond → Option NodeId → ℕ → ℕ → Type 0
+NoneNeedsCut conds single from end = (j : ℕ) (c : Cond) → from ≤ j → j < end → slice_get conds j ≡ Some c
     → NeedsNoCut single c
 
 -- the condition at a place, if there is one, needs a cut
-abbrev pub NeedsOne : List Cond → Option NodeId → ℕ → Type 0
-NeedsOne conds single place = (c : Cond) → slice_get conds place ≡ Some c → ¬ NeedsNoCut single c
+abbrev pub NeedsCut : List Cond → Option NodeId → ℕ → Type 0
+NeedsCut conds single place = (c : Cond) → slice_get conds place ≡ Some c → ¬ NeedsNoCut single c
 
 -- a cut, moved into the window of its word
 pub record IsMovedBy (facts : FactsView) (bits : List FixedBits) (tested c : Cut) : Type 0 where

@@ -1,6 +1,6 @@
 -- Which members what is held of regions still has, and what confining it to a span keeps of them. For the functions of
 -- this crate only.
-use Rattle.std.specs.Prelude.{◌≡◌, ℕ, ◌⊎◌, true, slice_get, List, [], ◌∷◌, Contains, Some, ◌<◌, ◌≤◌, length, slice_index_or, All, ◌++◌, Option}
+use Rattle.std.specs.Prelude.{◌≡◌, ℕ, ◌⊎◌, true, slice_get, List, [], ◌∷◌, Contains, Some, ◌<◌, ◌≤◌, length, slice_index_or, ◌++◌, Option}
 use Rattle.sf_insn.specs.declared.input.Input.{Input}
 use Rattle.sf_insn.specs.Inputs.{IsInput}
 use Rattle.std.specs.Option.{option_to_list}
@@ -12,7 +12,6 @@ use Rattle.sf_piece.specs.Pieces.{PieceData, is_member}
 use Rattle.sf_book.specs.Books.{RegionData, BookData}
 use Rattle.sf_picture.specs.declared.axis.Axis.{Axis}
 use Rattle.sf_picture.specs.declared.cuts.Cut.{Cut}
-use Rattle.sf_picture.specs.declared.drawing.Span.{Span}
 use Rattle.sf_picture.specs.declared.ends.Ends.{Ends}
 use Rattle.sf_picture.specs.Pictures.{number_on}
 pub use Rattle.sf_picture.specs.HeldData.{HeldData}
@@ -90,13 +89,6 @@ pub record AreAllEnds (held : List HeldData) (axis : Axis) (ends : List Ends) : 
   pub count : length ends ≡ length held
   pub each : (i : ℕ) (h : HeldData) (e : Ends) → i < length held
       → AreEndsOf (slice_index_or held i h) axis (slice_index_or ends i e)
-
--- What is held in the span: each member with a number of the span, and only what is narrowed from what is held. (The
--- first is asked only of a span of which something is left to be drawn.)
-pub record AreHeldIn (held : List HeldData) (span : Span) (inside : List HeldData) : Type 0 where
-  pub kept : span.first ≤ span.last → span.last ≤ span.axis.mask
-      → All (IsKeptIn inside span.axis span.first span.last) held
-  pub only : All (IsFromSome held span.axis span.first span.last) inside
 
 -- facts can't learn conditions, one after the other
 abbrev pub CantLearnAll : FactsView → List Node → List Cond → Type 0

@@ -1,6 +1,6 @@
 -- What happens to what is held of regions where a picture is drawn, by the rules: which axes it cuts, and into which
 -- spans; what is left of it in a span; and which labels it has.
-use Rattle.std.specs.Prelude.{◌≡◌, ℕ, ◌<◌, ◌-◌, ◌⊎◌, ◌↔◌, ◌++◌, Bool, List, Option, Some, None, Contains, bit_and, if◌then◌else◌, nat_lt, nat_le, ◌==◌, ◌&&◌, ◌||◌, MatchOption, MatchBool, ⊤}
+use Rattle.std.specs.Prelude.{◌≡◌, ℕ, ◌<◌, ◌-◌, ◌⊎◌, ◌↔◌, Bool, List, Option, Some, None, Contains, bit_and, if◌then◌else◌, nat_lt, nat_le, ◌==◌, ◌&&◌, ◌||◌, MatchOption, MatchBool, ⊤}
 use Rattle.std.specs.Int.{is_power_of_two}
 use Rattle.std.specs.List.{AllZip, filter_map}
 use Rattle.std.specs.List.Sorted.{IsNonDecreasingBy, IsStrictlyIncreasing}
@@ -47,9 +47,9 @@ pub record IsLastOfCut (held : List HeldData) (axis : Axis) (last : ℕ) : Type 
   pub last_is : cut.last ≡ last
 
 -- the last numbers of the spans of an axis, each once, in rising order: those below its cuts, and its greatest number
-pub record AreLastsBy (held : List HeldData) (axis : Axis) (lasts : List ℕ) : Type 0 where
-  pub each : (n : ℕ) → Contains lasts n ↔ (IsLastOfCut held axis n ⊎ (n ≡ axis.mask))
-  pub rising : IsStrictlyIncreasing lasts
+pub record AreLastNumbers (held : List HeldData) (axis : Axis) (last_numbers : List ℕ) : Type 0 where
+  pub each : (n : ℕ) → Contains last_numbers n ↔ (IsLastOfCut held axis n ⊎ (n ≡ axis.mask))
+  pub rising : IsStrictlyIncreasing last_numbers
 
 -- the least and the greatest number that an axis can have, by the interval of its word, or under a mask by the word's
 -- known bits

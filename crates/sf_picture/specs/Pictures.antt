@@ -1,6 +1,6 @@
 -- Pictures of stacks: which labels a picture shows for an input, and when it is a picture of an exploration.
 use Rattle.std.specs.Prelude.{◌≡◌, ◌≢◌, ℕ, zero, suc, ◌<◌, ◌≤◌, ◌+◌, nat_le, true, List, [], ◌∷◌, length, All, AllPairs, Contains, Option, Some, None, slice_get, slice_index, slice_index_or, bit_and, if◌then◌else◌}
-use Rattle.std.specs.List.Sorted.{IsNonDecreasing}
+use Rattle.std.specs.List.Sorted.{IsStrictlyIncreasing}
 use Rattle.sf_insn.specs.declared.input.Input.{Input}
 use Rattle.sf_insn.specs.Inputs.{IsInput}
 use Rattle.sf_piece.specs.Pieces.{is_member}
@@ -83,14 +83,14 @@ abbrev pub AreEachOnce : {X : Type 0} → List X → Type 0
 AreEachOnce xs = AllPairs (λ x y. x ≢ y) xs
 
 -- What each picture keeps. It begins at one of its leaves or forks, and each fork is right. No two leaves are equal,
--- and no two forks: branches that lead to equal ones are the same. The labels of each leaf are in order, the least
--- first.
+-- and no two forks: branches that lead to equal ones are the same. Each leaf has each of its labels once, in
+-- rising order.
 pub record IsPicture (p : PictureData) : Type 0 where
   pub root : IsBelow (length p.leaves) (length p.forks) p.root
   pub forks : AreRightForks (length p.leaves) p.forks
   pub leaves_once : AreEachOnce p.leaves
   pub forks_once : AreEachOnce p.forks
-  pub rising : All IsNonDecreasing p.leaves
+  pub rising : All IsStrictlyIncreasing p.leaves
 
 -- The leaf at which an input lies, from a branch on, through at most this many forks.
 abbrev pub leaf_along : List ForkData → ℕ → Option Branch → Input → Option ℕ
@@ -125,10 +125,10 @@ ShowsLabels s labels p = (place : ℕ) (region : RegionData) (d : Input) → sli
 
 -- some member of a region is shown just the labels of the leaf at a place
 pub record IsAttained (s : BookData) (p : PictureData) (place : ℕ) : Type 0 where
-  pub at : ℕ
+  pub region_place : ℕ
   pub region : RegionData
   pub input : Input
-  pub there : slice_get s.regions at ≡ Some region
+  pub there : slice_get s.regions region_place ≡ Some region
   pub is : IsInput input
   pub member : is_member region.piece input ≡ true
   pub shown : labels_at p input ≡ slice_index_or p.leaves place []

@@ -9,8 +9,7 @@ use Rattle.sf_piece.specs.PlainPieces.{IsPlainPiece}
 use Rattle.sf_book.specs.Books.{RegionData, BookData, IsSettled}
 use Rattle.sf_picture.specs.declared.axis.Axis.{Axis}
 use Rattle.sf_picture.specs.declared.cuts.Cut.{Cut}
-use Rattle.sf_picture.specs.declared.drawing.Span.{Span}
-use Rattle.sf_picture.specs.Spans.{IsExactSpan, LiesInBox}
+use Rattle.sf_picture.specs.Spans.{Span, IsExactSpan, LiesInBox}
 use Rattle.sf_picture.specs.Cuts.{LiesBetween, AreCutsOf}
 use Rattle.sf_picture.specs.Holding.{HeldData}
 

@@ -6,8 +6,13 @@ use Rattle.sf_insn.specs.Words.{IsOneBit}
 use Rattle.sf_sym.specs.declared.pool.Node.{Node}
 use Rattle.sf_dom.specs.Facts.{FactsView, Agrees}
 use Rattle.sf_picture.specs.declared.axis.Axis.{Axis}
-use Rattle.sf_picture.specs.declared.drawing.Span.{Span}
 use Rattle.sf_picture.specs.Pictures.{number_on}
+
+-- a span of an axis: its numbers from the first to the last one
+pub record Span : Type 0 where
+  pub axis : Axis
+  pub first : ℕ
+  pub last : ℕ
 
 -- on the input the axis has a number of the span
 pub record IsInSpan (axis : Axis) (first last : ℕ) (d : Input) : Type 0 where

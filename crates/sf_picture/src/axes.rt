@@ -45,7 +45,7 @@ fn push_axis(axes: &mut Vec<Axis>, axis: Axis) -> Result<(), Fault>
     Ok(())
 }
 
-/// Adds the axes that a held region cuts. `Memory` where an allocation is refused.
+/// Adds the axes on which a held region has cuts, each that isn't there yet. `Memory` where an allocation is refused.
 fn push_axes(axes: &mut Vec<Axis>, one: &Held) -> Result<(), Fault>
     ensures has { IfOk result (λ _. (c : ACut) → Contains one.now.cuts c → c.axis.word < 16
         → Contains axes.new.items c.axis) }
@@ -65,7 +65,8 @@ fn push_axes(axes: &mut Vec<Axis>, one: &Held) -> Result<(), Fault>
     Ok(())
 }
 
-/// All axes that regions cut, each once, in their order. `Memory` where an allocation is refused.
+/// The axes on which held regions have cuts, each once, in the order of `Axis::order`. `Memory` where an allocation is
+/// refused.
 pub(crate) fn axes_of(alloc: Global, held: &[Held]) -> Result<Vec<Axis>, Fault>
     ensures words { IfOk result (λ v. All (λ (a : AnAxis). a.word < 16) v.items) }
     ensures each { IfOk result (λ v. All (λ (h : HeldData). (c : ACut) → Contains h.cuts c

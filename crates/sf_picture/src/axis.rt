@@ -17,12 +17,13 @@ pub struct Axis {
     pub mask: u32,
 }
 
-/// The place of each word in the order of axes, as `axis_places` says.
+/// The place of each word of the input in the order of axes: the architecture comes first, then the call's number, then
+/// the arguments, the high half of each before its low half, and last the instruction pointer.
 const PLACES: [u8; 16] = [1, 0, 15, 14, 3, 2, 5, 4, 7, 6, 9, 8, 11, 10, 13, 12];
 
 impl Axis {
     /// A number by which axes are put in order: by the places of their words, and of one word those with greater masks
-    /// first.
+    /// first. A word that is none of the 16 comes last.
     pub(crate) fn order(self) -> u64
         ensures { result ≡ axis_order self }
     {
@@ -35,6 +36,7 @@ impl Axis {
 }
 
 /// The axis that a node stands for; none where the node isn't a word of the input, or such a word ANDed with constants.
+/// The caller's condition: the node is one of the pool.
 pub(crate) fn axis_of(pool: &Pool, id: NodeId) -> Option<Axis>
     requires { id.0 < length pool.now }
     ensures inside { IfSome result (λ a. a.word < 16) }

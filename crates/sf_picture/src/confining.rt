@@ -1,4 +1,4 @@
-//! Facts, confined to spans of axes.
+//! Facts, confined to spans of axes. A span is the numbers of an axis from `first` to `last`, both included.
 
 ghost use Rattle.std.specs.Prelude.{◌≡◌, ◌≢◌, ◌<◌, ◌≤◌, ◌↔◌, ℕ, true, Ok, IsTrue, IfOk, IfErr, IfSome, IsSomeAnd, MatchBool, MatchOption, bit_and};
 ghost use Rattle.std.specs.Int.{is_power_of_two};
@@ -22,8 +22,9 @@ fn is_one_bit(mask: u32) -> bool
     mask.is_power_of_two()
 }
 
-/// The only number of the axis that can lie in the span, where it is seen at once: the span is one number, or the axis
-/// is one bit and the span is without 0. None in all other cases.
+/// The only number of the axis that can lie in the span from `first` to `last`, where it is seen at once: the span is
+/// one number (which needn't be one of the axis), or the axis is one bit and the span is without 0. None in all other
+/// cases.
 fn number_in(axis: Axis, first: u32, last: u32) -> Option<u32>
     ensures one { IfSome result (λ v. (n : ℕ) → first ≤ bit_and n axis.mask
         → bit_and n axis.mask ≤ last → bit_and n axis.mask ≡ v) }
@@ -43,7 +44,9 @@ fn number_in(axis: Axis, first: u32, last: u32) -> Option<u32>
     None
 }
 
-/// Confines facts to a span of numbers of a whole word. False: no input that agrees with the facts has one of them.
+/// Confines facts to the numbers from `first` to `last` of a whole word. False: no input that agrees with the facts has
+/// one of them. The facts are unchanged then, and where an allocation is refused, which is `Memory`. The caller's
+/// condition: the facts are about the nodes of this pool.
 fn confine_whole(
     alloc: Global,
     facts: &mut Facts,
@@ -69,8 +72,10 @@ fn confine_whole(
     Ok(facts.confine(alloc, pool, axis.word, first, last)?)
 }
 
-/// Confines facts to a span of numbers of a word under a mask, where `number_in` gives the only number that can lie in
-/// it. Else nothing is learnt. False: no input that agrees with the facts has a number of the span.
+/// Confines facts to the span from `first` to `last` of a word under a mask, where `number_in` gives the only number
+/// that can lie in it, and this is a number of the axis. Else nothing is learnt. False: no input that agrees with the
+/// facts has a number of the span. The facts are unchanged then, and where an allocation is refused, which is `Memory`.
+/// The caller's condition: the facts are about the nodes of this pool.
 fn confine_masked(
     alloc: Global,
     facts: &mut Facts,
@@ -101,7 +106,9 @@ fn confine_masked(
     Ok(facts.confine_bits(alloc, pool, axis.word, axis.mask, number)?)
 }
 
-/// Confines facts to a span of an axis. False: no input that agrees has a number of it.
+/// Confines facts to the span from `first` to `last` of an axis. False: no input that agrees with the facts has a
+/// number of the span. The facts are unchanged then, and where an allocation is refused, which is `Memory`. The
+/// caller's condition: the facts are about the nodes of this pool.
 fn confine(
     alloc: Global,
     facts: &mut Facts,
@@ -129,8 +136,9 @@ fn confine(
     confine_masked(alloc, facts, pool, axis, first, last)
 }
 
-/// A copy of facts, confined to a span of an axis. None: no input that agrees with the facts has a number of the span.
-/// `Memory` where an allocation is refused.
+/// A copy of facts, confined to the span from `first` to `last` of an axis. None: no input that agrees with the facts
+/// has a number of the span. The caller's condition: the facts are about the nodes of this pool. `Memory` where an
+/// allocation is refused.
 pub(crate) fn facts_within(
     alloc: Global,
     facts: &Facts,

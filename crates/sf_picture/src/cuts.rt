@@ -9,8 +9,8 @@ ghost use Rattle.sf_piece.specs.PlainPieces.{IsPlainPiece};
 ghost use Rattle.sf_picture.specs.declared.cuts.Cut.{Cut as ACut};
 ghost use Rattle.sf_insn.specs.declared.ops.Test.TheVariants.{Equal};
 ghost use Rattle.sf_picture.specs.Cutting.{over_node, number_test_of, IsCutBy, NeedsNoCut, IsSingleAfter, cut_within, AreCutsBy};
-ghost use Rattle.sf_picture.specs.Gathering.{AreMore, IsCutAfter, IsCutBelow, AreWithCondition, NeedNone, NeedsOne, IsMovedBy, IsMovedFrom};
-ghost use Rattle.sf_picture.specs.Cuts.{IsCutOfWord, IsPlainCut, SomeLiesBetweenNumbers, LieBetweenResults, IsMovedTo, SaysNumber, NeedNoCut, AreCutsOf, AreEqualAlike};
+ghost use Rattle.sf_picture.specs.Gathering.{AreMore, IsCutAfter, IsCutBelow, AreWithCondition, NoneNeedsCut, NeedsCut, IsMovedBy, IsMovedFrom};
+ghost use Rattle.sf_picture.specs.Cuts.{IsCutOfWord, IsPlainCut, SomeLiesBetweenNumbers, LieBetweenResults, IsMovedTo, SaysNumber, AreAboutSingle, AreCutsOf, AreEqualAlike};
 ghost use Rattle.sf_picture.specs.declared.fault.Fault.TheVariants.{Memory};
 
 use crate::axis::{Axis, axis_of};
@@ -21,10 +21,12 @@ use sf_piece::Piece;
 use sf_sym::{Cond, Node, NodeId, Pool, constant_of};
 use std::alloc::Global;
 
-/// A cut of an axis: `last` is the last number below it.
+/// A cut of an axis: it lies between the numbers `last` and `last + 1`.
 #[derive(Clone, Copy, Debug, PartialEq, Eq)]
 pub(crate) struct Cut {
+    /// The axis that is cut.
     pub(crate) axis: Axis,
+    /// The number right below the cut.
     pub(crate) last: u32,
 }
 
@@ -36,7 +38,8 @@ struct NumberTest {
     number: u32,
 }
 
-/// Adds a cut, where there are numbers on both sides of it.
+/// Adds the cut right above the number `last` of an axis, unless this is the axis's greatest number, or more: then no
+/// number lies above the cut. `Memory` where an allocation is refused.
 fn push_cut(cuts: &mut Vec<Cut>, axis: Axis, last: u32) -> Result<(), Fault>
     ensures has { IfOk result (λ _. last < axis.mask
         → Contains cuts.new.items (record { axis = axis; last = last })) }
@@ -57,7 +60,8 @@ fn push_cut(cuts: &mut Vec<Cut>, axis: Axis, last: u32) -> Result<(), Fault>
     Ok(())
 }
 
-/// Adds the cut right below a number.
+/// Adds the cut right below a number of an axis, unless the number is 0, or no number of the axis lies above the cut.
+/// `Memory` where an allocation is refused.
 fn push_cut_below(cuts: &mut Vec<Cut>, axis: Axis, number: u32) -> Result<(), Fault>
     ensures has { IfOk result (λ _. 0 < number → number - 1 < axis.mask
         → Contains cuts.new.items (record { axis = axis; last = number - 1 })) }
@@ -78,7 +82,8 @@ fn push_cut_below(cuts: &mut Vec<Cut>, axis: Axis, number: u32) -> Result<(), Fa
     push_cut(cuts, axis, number - 1)
 }
 
-/// Adds the cuts on both sides of a number.
+/// Adds the cuts on both sides of a number of an axis, each only where numbers of the axis lie below and above it.
+/// `Memory` where an allocation is refused.
 fn push_cuts_beside(cuts: &mut Vec<Cut>, axis: Axis, number: u32) -> Result<(), Fault>
     ensures has { IfOk result (λ _. (number < axis.mask
         → Contains cuts.new.items (record { axis = axis; last = number }))
@@ -102,7 +107,7 @@ fn push_cuts_beside(cuts: &mut Vec<Cut>, axis: Axis, number: u32) -> Result<(), 
 }
 
 /// Adds the cuts at which a test of an axis against a number changes its result. For a test of bits this is one cut, on
-/// the axis of the bits that are tested.
+/// the axis of the bits that are tested: right above its number 0. `Memory` where an allocation is refused.
 fn push_cuts_of(cuts: &mut Vec<Cut>, axis: Axis, test: Test, number: u32) -> Result<(), Fault>
     ensures between { IfOk result (λ _. axis.mask ≡ 4294967295 → (m n : ℕ) → m < 2 ^ 32
         → n < 2 ^ 32 → passes test m number ≡ true → passes test n number ≡ false
@@ -131,7 +136,8 @@ fn push_cuts_of(cuts: &mut Vec<Cut>, axis: Axis, test: Test, number: u32) -> Res
 }
 
 /// A test of equality without a constant in its node: where the node is an operand plus or minus a constant, the test
-/// of the operand against the number that it has to have then. Where it isn't, the test stays.
+/// of the operand against the number that it has to have then, modulo 2 ^ 32. Where it isn't, the test stays. The
+/// caller's conditions: the test is one of equality, and its node is one of the pool.
 fn drop_constant(pool: &Pool, tested: NumberTest) -> NumberTest
     requires { tested.node.0 < length pool.now }
     ensures node { result.node.0 < length pool.now }
@@ -159,8 +165,9 @@ fn drop_constant(pool: &Pool, tested: NumberTest) -> NumberTest
     }
 }
 
-/// The test of a condition against a number, if it is one. A sum or a difference with a constant that is compared for
-/// equality is a test of the other operand.
+/// The test of a condition against a number; none where the condition's other side isn't a constant. A sum or a
+/// difference with a constant that is compared for equality is a test of the other operand. The caller's condition: the
+/// two nodes of the condition are of the pool.
 fn number_test(pool: &Pool, cond: &Cond) -> Option<NumberTest>
     requires node { cond.now.node.0 < length pool.now }
     requires other { cond.now.other.0 < length pool.now }
@@ -183,7 +190,9 @@ fn number_test(pool: &Pool, cond: &Cond) -> Option<NumberTest>
     Some(tested)
 }
 
-/// Adds the cuts of a condition, where it is on an axis against a number, and the bits that it fixes.
+/// Adds the cuts of a condition, and to `bits`, which has an entry for each of the 16 words, the bits that it fixes.
+/// Nothing is added where the condition isn't a test of an axis against a number. The caller's condition: the two nodes
+/// of the condition are of the pool. `Memory` where an allocation is refused.
 fn push_cuts_of_cond(
     cuts: &mut Vec<Cut>,
     bits: &mut [FixedBits],
@@ -226,15 +235,16 @@ fn needs_no_cut(single: Option<NodeId>, cond: &Cond) -> bool
     single == Some(cond.node) && cond.test != Test::AnyBit
 }
 
-/// The place of the newest condition before `end` that needs a cut, as `needs_no_cut` says. Paths can be long, so this
-/// loop does nothing else.
+/// The place of the newest condition before `end` that needs a cut, as `needs_no_cut` says; none where none needs one.
+/// Paths can be long, so this loop does nothing else. The caller's condition: `end` is at most the number of
+/// conditions.
 fn newest_to_cut(piece: &Piece, single: Option<NodeId>, end: usize) -> Option<usize>
     requires { end ≤ length piece.now.conditions }
-    ensures found { MatchOption result (NeedNoCut piece.now single 0 end)
-        (λ n. (n < end) × NeedNoCut piece.now single (n + 1) end) }
-    ensures rule { MatchOption result (NeedNone piece.now.conditions single 0 end)
-        (λ n. NeedNone piece.now.conditions single (n + 1) end
-        × NeedsOne piece.now.conditions single n) }
+    ensures found { MatchOption result (AreAboutSingle piece.now single 0 end)
+        (λ n. (n < end) × AreAboutSingle piece.now single (n + 1) end) }
+    ensures rule { MatchOption result (NoneNeedsCut piece.now.conditions single 0 end)
+        (λ n. NoneNeedsCut piece.now.conditions single (n + 1) end
+        × NeedsCut piece.now.conditions single n) }
 {
     for i in 0..end {
         let place = end - 1 - i;
@@ -246,7 +256,8 @@ fn newest_to_cut(piece: &Piece, single: Option<NodeId>, end: usize) -> Option<us
 }
 
 /// The word of which only one number is left after one more condition: the condition's own word, if it says that this
-/// equals a constant; else `newer`, the word that newer conditions gave.
+/// equals a constant; else `newer`, the word that newer conditions gave, if any. (The first 16 nodes of each pool are
+/// the input's words.) The caller's condition: the condition's other node is of the pool.
 fn single_after(newer: Option<NodeId>, pool: &Pool, cond: &Cond) -> Option<NodeId>
     requires { cond.now.other.0 < length pool.now }
     ensures said { IfSome result (λ n. (newer ≡ Some n)
@@ -298,8 +309,10 @@ fn is_among_newest(cuts: &Vec<Cut>, cut: Cut) -> bool
     has(&all[newest..], cut)
 }
 
-/// Adds a cut of a piece, moved into the window of its word, unless it equals one of the last two that were added. This
-/// keeps many out that were moved to the same end of a window.
+/// Adds a cut of a piece, moved into the window of its word, unless it then equals one of the last two that were added,
+/// or no number of its axis lies above it. The comparison keeps many out that were moved to the same end of a window.
+/// `bits` are the bits of each of the 16 words that the piece's conditions fix. `Memory` where an allocation is
+/// refused.
 fn push_moved(cuts: &mut Vec<Cut>, piece: &Piece, bits: &[FixedBits], cut: Cut) -> Result<(), Fault>
     requires bits { length bits.now ≡ 16 }
     requires word { cut.axis.word < 16 }
@@ -322,8 +335,9 @@ fn push_moved(cuts: &mut Vec<Cut>, piece: &Piece, bits: &[FixedBits], cut: Cut) 
     Ok(())
 }
 
-/// Cuts of a piece, each moved into the window of its word: of many that lie before or behind it few are left. `Memory`
-/// where an allocation is refused.
+/// Cuts of a piece, each moved into the window of its word: of many that lie before or behind a window few are left.
+/// `bits` are the bits of each of the 16 words that the piece's conditions fix. `Memory` where an allocation is
+/// refused.
 fn moved_cuts(
     alloc: Global,
     piece: &Piece,
@@ -345,9 +359,9 @@ fn moved_cuts(
     Ok(cuts)
 }
 
-/// The cuts of a piece, by its conditions on axes. The newest condition is taken first: once one leaves only one number
-/// of a word, older conditions on the word aren't needed. On a plain stack some cut lies between each member and each
-/// input that is no member. `Memory` where an allocation is refused.
+/// The cuts of a piece, by its conditions on axes, each moved into the window of its word. The newest condition is
+/// taken first: once one leaves only one number of a word, older conditions on the word aren't needed. On a plain stack
+/// some cut lies between each member and each input that is no member. `Memory` where an allocation is refused.
 pub(crate) fn cuts_of(alloc: Global, piece: &Piece) -> Result<Vec<Cut>, Fault>
     ensures plain { IfOk result (λ v. IsPlainPiece piece.now → AreCutsOf piece.now v.items) }
     ensures rule { IfOk result (λ v. AreCutsBy piece.now v.items) }

@@ -1,37 +1,36 @@
 //! Pictures of explorations, drawn axis by axis.
 
 ghost use Rattle.std.specs.Prelude.{◌≡◌, ◌<◌, ◌≤◌, ◌+◌, [], ℕ, true, false, List, length, slice_index, slice_get, Some, drop, map, All, IfOk, IfErr, MatchOption, ◌⊎◌};
-ghost use Rattle.std.specs.List.Sorted.{IsNonDecreasing};
+ghost use Rattle.std.specs.List.Sorted.{IsStrictlyIncreasing};
 ghost use Rattle.sf_check.specs.Stacks.{IsPlain};
 ghost use Rattle.sf_book.specs.Books.{RegionData, BookData, IsSettled};
-ghost use Rattle.sf_picture.specs.Holding.{HeldData, IsHeldAt, AreOneLabel, AreAllEnds, AreHeldIn};
-ghost use Rattle.sf_picture.specs.PlainHolding.{IsPlainHeld, IsPlainTask, IsPlainSpan};
-ghost use Rattle.sf_picture.specs.Narrowing.{ends_on, AreNarrowedTo};
-ghost use Rattle.sf_picture.specs.DrawnBy.{DrawsLabels, DrawsLeafOf, DrawsEarly, ClosesTo, Draws, AreHeldOf, DrawsRoot, HasPicture};
-ghost use Rattle.sf_picture.specs.Drawing.{DrawsSpan, IsOneHeldMore, IsShownAt, NoneIsHeld, Grows, AddsLeaf, IsShort, KeepsShort, AreRuns, IsLeafOf, LeadsAs, IsRightSketch, DrawsTo, IsAttainedAt, AreAttainedAt, AreAttainedBelow};
+ghost use Rattle.sf_picture.specs.Holding.{HeldData, IsHeldAt, AreOneLabel};
+ghost use Rattle.sf_picture.specs.PlainHolding.{IsPlainHeld, IsPlainTask};
+ghost use Rattle.sf_picture.specs.DrawnBy.{DrawsLabels, DrawsLeafOf, DrawsEarly, ClosesTo, DrawsBy, AreHeldOf, DrawsRoot, HasPicture};
+ghost use Rattle.sf_picture.specs.Drawing.{IsOneHeldMore, IsShownAt, NoneIsHeld, Grows, AddsLeaf, IsShort, KeepsShort, AreRuns, IsLeafOf, LeadsAs, IsRightSketch, IsAttainedAt, AreAttainedAt};
+ghost use Rattle.sf_picture.specs.Spans.{Span as ASpan};
 ghost use Rattle.sf_picture.specs.Pictures.{ShowsLabels, IsDetermined, IsAttainedEverywhere, IsSpentOnlyFrom};
 ghost use Rattle.sf_picture.specs.declared.axis.Axis.{Axis as AnAxis};
-ghost use Rattle.sf_picture.specs.declared.drawing.Span.{Span as ASpan};
 ghost use Rattle.sf_picture.specs.declared.fault.Fault.TheVariants.{Memory};
 
 use crate::axes::axes_of;
 use crate::axis::Axis;
-use crate::ends::Ends;
 use crate::fault::Fault;
 use crate::held::{Held, all_ends, held_within};
 use crate::labels::{Which, is_one_label, labels_of};
-use crate::lasts::lasts_of;
+use crate::last_numbers::last_numbers_of;
 use crate::picture::{Branch, Picture, Run};
-use crate::runs::{close_runs, push_run};
+use crate::runs::{close_runs, push_span};
 use crate::sketch::Sketch;
 use sf_book::Settled;
 use std::alloc::Global;
 use std::sync::Arc;
 
-/// The leaf with these labels; none where there is no label. `Memory` where an allocation is refused.
+/// The leaf with these labels; none where there is no label. The caller's condition: the labels are in rising order,
+/// each once. `Memory` where an allocation is refused.
 fn leaf_of(sketch: &mut Sketch, labels: Vec<usize>) -> Result<Option<Branch>, Fault>
     requires right { IsRightSketch sketch.old }
-    requires rising { IsNonDecreasing labels.items }
+    requires rising { IsStrictlyIncreasing labels.items }
     ensures grows { IfOk result (λ _. Grows sketch.old sketch.new) }
     ensures right { IfOk result (λ _. IsRightSketch sketch.new) }
     ensures leaf { IfOk result (λ o. MatchOption o (labels.items ≡ [])
@@ -76,8 +75,9 @@ fn leaf_of_held(
     Ok(leaf)
 }
 
-/// A leaf with the labels of all that is held, which is drawn early, since as many leaves were drawn as are allowed.
-/// `Memory` where an allocation is refused.
+/// A leaf with the labels of all held regions, which is drawn early, since as many leaves were drawn as are allowed
+/// (the caller's condition). The sketch is spent from then on. None where no region is held. `Memory` where an
+/// allocation is refused.
 fn early_leaf_of(alloc: Global, sketch: &mut Sketch, held: &[Held]) -> Result<Option<Branch>, Fault>
     requires right { IsRightSketch sketch.old }
     requires full { sketch.old.most ≤ sketch.old.drawn }
@@ -97,8 +97,10 @@ fn early_leaf_of(alloc: Global, sketch: &mut Sketch, held: &[Held]) -> Result<Op
 }
 
 /// The branch for these runs of an axis, once the last run is made to go on to the axis's greatest number. It is a
-/// fork, or, where there is only one run, the branch to which this run leads. None where there is no run. `Memory`
-/// where an allocation is refused.
+/// fork, or, where there is only one run, the branch to which this run leads. None where there is no run. The caller's
+/// conditions: the axis's word is one of the 16; the runs are in the order of their numbers, which are numbers of the
+/// axis; and each leads to what is in the sketch, and not to where the next one leads. `Memory` where an allocation is
+/// refused.
 fn fork_of(sketch: &mut Sketch, axis: Axis, mut runs: Vec<Run>) -> Result<Option<Branch>, Fault>
     requires word { axis.word < 16 }
     requires right { IsRightSketch sketch.old }
@@ -125,98 +127,10 @@ fn fork_of(sketch: &mut Sketch, axis: Axis, mut runs: Vec<Run>) -> Result<Option
     Ok(Some(fork))
 }
 
-/// A span of an axis that is to be drawn, both ends included: `first` is the first number that isn't drawn yet.
-#[derive(Clone, Copy)]
-struct Span {
-    axis: Axis,
-    first: u64,
-    last: u32,
-}
-
-/// Whether there is nothing to draw in a span: its numbers are drawn already, or it ends beyond the axis's numbers.
-fn is_past(span: Span) -> bool
-    ensures past { result ≡ true → (span.last < span.first) ⊎ (span.axis.mask < span.last) }
-    ensures ahead { result ≡ false → (span.first ≤ span.last)
-        × (span.last ≤ span.axis.mask) }
-{
-    (span.last as u64) < span.first || span.axis.mask < span.last
-}
-
-/// The held regions that may have members in a span, each confined to it; none where there is nothing to draw in the
-/// span. `Memory` where an allocation is refused.
-fn held_in(alloc: Global, held: &[Held], ends: &[Ends], span: Span) -> Result<Vec<Held>, Fault>
-    requires word { span.axis.word < 16 }
-    requires ends { AreAllEnds held.now span.axis ends.now }
-    ensures inside { IfOk result (λ v. AreHeldIn held.now span v.items) }
-    ensures rule { span.first ≤ span.last → span.last ≤ span.axis.mask
-        → ends.now ≡ map (ends_on span.axis) held.now
-        → IfOk result (λ v. AreNarrowedTo held.now span.axis span.first span.last v.items) }
-    ensures err { IfErr result (λ f. f ≡ Memory) }
-{
-    if is_past(span) {
-        return Ok(Vec::new(alloc));
-    }
-    let inside = held_within(alloc, held, ends, span.axis, span.first as u32, span.last)?;
-    Ok(inside)
-}
-
-/// Draws a span of the axis at the place `at`, by the axes behind it, and adds a run that leads to the branch that was
-/// drawn. `inside` are the regions that are held in the span. Where it is found that none of them has a member, there
-/// is no branch, and no run is added: the next run, or else the last one, takes in the numbers of the span. Where there
-/// is nothing to draw in the span, nothing changes. Returns the first number that isn't drawn yet after that. `Memory`
-/// where an allocation is refused.
-///
-/// On a plain stack each leaf has at most one label, unless one is drawn early (clause `short`), and some member is
-/// shown the labels of each leaf (clause `attained`): if that was so before, it is so afterwards.
-#[cycle(draw)]
-fn draw_span(
-    alloc: Global,
-    sketch: &mut Sketch,
-    runs: &mut Vec<Run>,
-    inside: &[Held],
-    axes: &[Axis],
-    at: usize,
-    span: Span,
-) -> Result<u64, Fault>
-    requires words { All (λ (a : AnAxis). a.word < 16) axes.now }
-    requires at { at < length axes.now }
-    requires word { span.axis.word < 16 }
-    requires right { IsRightSketch sketch.old }
-    requires runs { AreRuns (length sketch.old.leaves) (length sketch.old.forks) span.first
-        runs.old.items }
-    requires short { span.first ≤ span.axis.mask + 1 }
-    ensures drawn { IfOk result (λ next. (held : List HeldData) → AreHeldIn held span inside.now
-        → DrawsTo sketch.old sketch.new runs.old.items runs.new.items held span.axis span.first
-        span.last next) }
-    ensures short { IfOk result (λ _. (held : List HeldData) (s : BookData) (labels : List ℕ)
-        (box : List ASpan) → AreHeldIn held span inside.now
-        → IsPlainTask s labels box held axes.now at → IsPlainSpan held axes.now at span
-        → KeepsShort sketch.old sketch.new) }
-    ensures attained { IfOk result (λ next. (held : List HeldData) (s : BookData)
-        (labels : List ℕ) (box : List ASpan) (from : ℕ) → AreHeldIn held span inside.now
-        → IsPlainTask s labels box held axes.now at → IsPlainSpan held axes.now at span
-        → AreAttainedBelow from sketch.old span.axis runs.old.items span.first held
-        → AreAttainedBelow from sketch.new span.axis runs.new.items next held) }
-    ensures rule { span.first ≤ span.last → span.last ≤ span.axis.mask → IfOk result
-        (DrawsSpan (Draws (drop (at + 1) axes.now)) inside.now span.last sketch.old sketch.new
-        runs.old.items runs.new.items) }
-    ensures err { IfErr result (λ f. f ≡ Memory) }
-{
-    if is_past(span) {
-        return Ok(span.first);
-    }
-    let Some(next) = draw(alloc, sketch, inside, axes, at + 1)? else {
-        return Ok(span.last as u64 + 1);
-    };
-    push_run(runs, span.last, next)?;
-    Ok(span.last as u64 + 1)
-}
-
 /// Draws held regions by the axes from the place `at` on. They get one leaf where they have only one label, where no
 /// axis is left, or where as many leaves were drawn as are allowed. Else the next axis that they cut is parted by the
-/// cuts, and each span of it is drawn by the axes behind it. None: no held region has a member. `Memory` where an
-/// allocation is refused.
-#[cycle(draw)]
+/// cuts, and each span of it is drawn by the axes behind it. None: no held region has a member. The caller's condition:
+/// `at` is at most the number of axes. `Memory` where an allocation is refused.
 fn draw(
     alloc: Global,
     sketch: &mut Sketch,
@@ -236,7 +150,7 @@ fn draw(
     ensures attained { IfOk result (λ o. (s : BookData) (labels : List ℕ) (box : List ASpan)
         → IsPlainTask s labels box held.now axes.now at
         → AreAttainedAt (length sketch.old.leaves) sketch.new held.now o) }
-    ensures rule { IfOk result (Draws (drop at axes.now) held.now sketch.old sketch.new) }
+    ensures rule { IfOk result (DrawsBy (drop at axes.now) held.now sketch.old sketch.new) }
     ensures err { IfErr result (λ f. f ≡ Memory) }
 {
     if is_one_label(held) {
@@ -249,24 +163,27 @@ fn draw(
         return early_leaf_of(alloc, sketch, held);
     }
     let axis = axes[at];
-    let lasts = lasts_of(alloc, held, axis)?;
-    if lasts.len() == 1 {
+    let last_numbers = last_numbers_of(alloc, held, axis)?;
+    if last_numbers.len() == 1 {
         return draw(alloc, sketch, held, axes, at + 1);
     }
     let ends = all_ends(alloc, held, axis)?;
     let mut runs: Vec<Run> = Vec::new(alloc);
+    // The first number of the next span. Behind the last span of a whole word it is 2 ^ 32.
     let mut first = 0u64;
-    for last in lasts.as_slice() {
+    for last in last_numbers.as_slice() {
         let last = *last;
-        let span = Span { axis, first, last };
-        let inside = held_in(alloc, held, ends.as_slice(), span)?;
-        first = draw_span(alloc, sketch, &mut runs, inside.as_slice(), axes, at, span)?;
+        let inside = held_within(alloc, held, ends.as_slice(), axis, first as u32, last)?;
+        let branch = draw(alloc, sketch, inside.as_slice(), axes, at + 1)?;
+        push_span(&mut runs, last, branch)?;
+        first = last as u64 + 1;
     }
     let drawn = fork_of(sketch, axis, runs)?;
     Ok(drawn)
 }
 
-/// Adds the region at a place, with its label. `Memory` where an allocation is refused.
+/// Adds the region at a place of an exploration, with its label, not confined to any span yet. The caller's condition:
+/// there is a region at the place. `Memory` where an allocation is refused.
 fn push_held(
     alloc: Global,
     held: &mut Vec<Held>,
@@ -297,7 +214,8 @@ fn push_held(
     Ok(())
 }
 
-/// The regions, each with its label. `Memory` where an allocation is refused.
+/// The regions of an exploration, each with its label, not confined to any span yet. The caller's condition: there is a
+/// label for each region. `Memory` where an allocation is refused.
 fn held_of(alloc: Global, settled: &Settled, labels: &[usize]) -> Result<Vec<Held>, Fault>
     requires { length labels.now ≡ length settled.now.regions }
     ensures held { IfOk result (λ v. (place : ℕ) → place < length settled.now.regions
@@ -317,7 +235,8 @@ fn held_of(alloc: Global, settled: &Settled, labels: &[usize]) -> Result<Vec<Hel
 }
 
 /// Draws held regions by all axes that they cut, and returns where the picture begins. That is a leaf without labels
-/// where nothing was drawn, since no region has a member. `Memory` where an allocation is refused.
+/// where nothing was drawn, since no region has a member. The caller's condition: the sketch has no leaf yet. `Memory`
+/// where an allocation is refused.
 fn root_of(alloc: Global, sketch: &mut Sketch, held: &[Held]) -> Result<Branch, Fault>
     requires right { IsRightSketch sketch.old }
     requires empty { sketch.old.leaves ≡ [] }

@@ -7,14 +7,14 @@ ghost use Rattle.sf_picture.specs.Narrowing.{ends_of, lie_in, miss};
 use crate::axis::Axis;
 use sf_dom::Known;
 
-/// An interval of numbers of an axis.
+/// An interval of numbers of an axis: from `low` to `high`, both included.
 #[derive(Clone, Copy)]
 pub(crate) struct Ends {
     low: u32,
     high: u32,
 }
 
-/// Between which numbers a word with these known bits lies under a mask.
+/// Between which numbers a word lies under a mask, where its bits in `zeros` are known to be 0, and those in `ones` 1.
 fn ends_of_bits(zeros: u32, ones: u32, mask: u32) -> Ends
     ensures between { (n : ℕ) → HasBits n zeros ones
         → (result.low ≤ bit_and n mask) × (bit_and n mask ≤ result.high) }
@@ -30,7 +30,8 @@ fn ends_of_bits(zeros: u32, ones: u32, mask: u32) -> Ends
 }
 
 impl Ends {
-    /// The ends on an axis, where this is known of its word.
+    /// The numbers between which an axis lies, where this is known of its word. Of a whole word the interval is taken,
+    /// and under another mask the known bits.
     pub(crate) fn of(known: Known, axis: Axis) -> Ends
         ensures between { (n : ℕ) → n < 2 ^ 32 → Admits known n
             → (result.low ≤ bit_and n axis.mask) × (bit_and n axis.mask ≤ result.high) }
@@ -45,7 +46,7 @@ impl Ends {
         ends_of_bits(known.zeros, known.ones, axis.mask)
     }
 
-    /// Whether all numbers between them are numbers of a span.
+    /// Whether all numbers of the interval lie in the span from `first` to `last`.
     pub(crate) fn lie_in(self, first: u32, last: u32) -> bool
         ensures inside { result ≡ true → (first ≤ self.low) × (self.high ≤ last) }
         ensures rule { result ≡ lie_in self first last }
@@ -53,7 +54,7 @@ impl Ends {
         first <= self.low && self.high <= last
     }
 
-    /// Whether none of the numbers between them is a number of a span.
+    /// Whether no number of the interval lies in the span from `first` to `last`.
     pub(crate) fn miss(self, first: u32, last: u32) -> bool
         ensures outside { result ≡ true → (last < self.low) ⊎ (self.high < first) }
         ensures rule { result ≡ miss self first last }

@@ -113,7 +113,8 @@ impl Held {
         Ok(Held { source, facts })
     }
 
-    /// The same region with other facts. `Memory` where an allocation is refused.
+    /// The same region with other facts. The caller's condition: they are about the nodes of the piece's pool. `Memory`
+    /// where an allocation is refused.
     fn with_facts(&self, alloc: Global, facts: Facts) -> Result<Held, Fault>
         requires { Covers facts self.now.piece.pool }
         ensures held { IfOk result (λ h. h ≡ record self.now { facts = facts }) }
@@ -125,7 +126,7 @@ impl Held {
     }
 
     /// A copy, which shares the region and the facts. `Memory` where one of these has too many owners.
-    fn again(&self) -> Result<Held, Fault>
+    fn share(&self) -> Result<Held, Fault>
         ensures held { IfOk result (λ h. h ≡ self.now) }
         ensures err { IfErr result (λ f. f ≡ Memory) }
     {
@@ -141,7 +142,7 @@ impl Held {
         self.source.piece()
     }
 
-    /// What is known of its members so far.
+    /// What is known of those members that may come to the branch that is drawn.
     fn facts(&self) -> &Facts
         ensures value { result.now ≡ self.now.facts }
         ensures covers { Covers self.now.facts self.now.piece.pool }
@@ -149,7 +150,8 @@ impl Held {
         &self.facts
     }
 
-    /// The numbers between which the members lie on an axis, by what is known of them so far.
+    /// The numbers between which those members lie on an axis that may come to the branch that is drawn. The caller's
+    /// condition: the axis's word is one of the 16.
     pub(crate) fn ends_on(&self, axis: Axis) -> Ends
         requires { axis.word < 16 }
         ensures ends { AreEndsOf self.now axis result }
@@ -175,8 +177,8 @@ impl Held {
     }
 }
 
-/// Whether conditions of a piece, learnt once more from facts of it, show that no member agrees with the facts.
-/// `Memory` where an allocation is refused.
+/// Whether the conditions of a piece, learnt once more from these facts about its nodes, show that no member agrees
+/// with the facts. `Memory` where an allocation is refused.
 fn rules_out(alloc: Global, piece: &Piece, facts: &Facts) -> Result<bool, Fault>
     requires { Covers facts.now piece.now.pool }
     ensures none { IfOk result (λ b. b ≡ true → NoMemberAgrees piece.now facts.now) }
@@ -208,8 +210,9 @@ pub(crate) fn is_ruled_out(alloc: Global, one: &Held) -> Result<bool, Fault>
     Ok(ruled)
 }
 
-/// The same region, confined to a span of an axis. None where its facts show that no member has a number of the span.
-/// `Memory` where an allocation is refused.
+/// The same region, confined to the span from `first` to `last` of an axis. None where its facts show that no member
+/// has a number of the span. The caller's condition: the axis's word is one of the 16. `Memory` where an allocation is
+/// refused.
 fn confine_held(
     alloc: Global,
     one: &Held,
@@ -225,7 +228,7 @@ fn confine_held(
     ensures err { IfErr result (λ f. f ≡ Memory) }
 {
     if one.ends_on(axis).lie_in(first, last) {
-        let same = one.again()?;
+        let same = one.share()?;
         return Ok(Some(same));
     }
     let facts = one.facts();
@@ -236,8 +239,9 @@ fn confine_held(
     Ok(Some(inside))
 }
 
-/// Adds a held region, confined to a span of an axis, unless its facts show that no member has a number of the span.
-/// `Memory` where an allocation is refused.
+/// Adds a held region, confined to the span from `first` to `last` of an axis, unless its facts show that no member has
+/// a number of the span. The caller's condition: the axis's word is one of the 16. `Memory` where an allocation is
+/// refused.
 fn push_within(
     alloc: Global,
     inside: &mut Vec<Held>,
@@ -265,7 +269,8 @@ fn push_within(
     Ok(())
 }
 
-/// For each held region the numbers between which its members lie on an axis. `Memory` where an allocation is refused.
+/// For each held region, in their order, the numbers between which its members lie on an axis. The caller's condition:
+/// the axis's word is one of the 16. `Memory` where an allocation is refused.
 pub(crate) fn all_ends(alloc: Global, held: &[Held], axis: Axis) -> Result<Vec<Ends>, Fault>
     requires { axis.word < 16 }
     ensures ends { IfOk result (λ v. AreAllEnds held.now axis v.items) }
@@ -279,9 +284,10 @@ pub(crate) fn all_ends(alloc: Global, held: &[Held], axis: Axis) -> Result<Vec<E
     Ok(ends)
 }
 
-/// The held regions that may have members with a number in a span of an axis, each confined to the span. `ends` are the
-/// regions' ends on the axis: a region whose ends miss the span is left out at once, without a copy of its facts.
-/// `Memory` where an allocation is refused.
+/// The held regions that may have members with a number in the span from `first` to `last` of an axis, each confined to
+/// the span. `ends` are what `all_ends` gives for the regions and the axis: a region whose ends miss the span is left
+/// out at once, without a copy of its facts. The caller's condition: the axis's word is one of the 16. `Memory` where
+/// an allocation is refused.
 pub(crate) fn held_within(
     alloc: Global,
     held: &[Held],

@@ -1,7 +1,7 @@
-//! The labels of what is held.
+//! The labels of held regions.
 
 ghost use Rattle.std.specs.Prelude.{◌≡◌, ◌≤◌, ◌+◌, ℕ, true, length, All, Contains, IfOk, IfErr, IsTrue, ◌↔◌, ◌⊎◌, MatchBool};
-ghost use Rattle.std.specs.List.Sorted.{IsNonDecreasing, IsStrictlyIncreasing};
+ghost use Rattle.std.specs.List.Sorted.{IsStrictlyIncreasing};
 ghost use Rattle.sf_insn.specs.declared.input.Input.{Input as AnInput};
 ghost use Rattle.sf_picture.specs.Holding.{IsHeldBy, HeldData, AreOneLabel, AreAtMost};
 ghost use Rattle.sf_picture.specs.Narrowing.{IsGathered, AreLabelsOf};
@@ -87,7 +87,7 @@ fn insert_label_of(
     Ok(())
 }
 
-/// Whether all that is held has this label.
+/// Whether all held regions have this label. True also where none is held.
 fn have_label(held: &[Held], label: usize) -> bool
     ensures { IsTrue result ↔ All (λ (h : HeldData). h.label ≡ label) held.now }
 {
@@ -107,8 +107,7 @@ pub(crate) fn is_one_label(held: &[Held]) -> bool
 /// Labels as a list in rising order. `Memory` where an allocation is refused.
 fn list_of(alloc: Global, labels: BTreeSet<usize>) -> Result<Vec<usize>, Fault>
     ensures same { IfOk result (λ v. v.items ≡ labels.keys) }
-    ensures rising { IfOk result (λ v. IsNonDecreasing v.items) }
-    ensures once { IfOk result (λ v. IsStrictlyIncreasing v.items) }
+    ensures rising { IfOk result (λ v. IsStrictlyIncreasing v.items) }
     ensures err { IfErr result (λ f. f ≡ Memory) }
 {
     Ok(labels.into_iter().collect(alloc)?)
@@ -121,7 +120,7 @@ pub(crate) fn labels_of(alloc: Global, held: &[Held], which: Which) -> Result<Ve
         → Contains v.items h.label) held.now) }
     ensures one { IfOk result (λ v. AreOneLabel held.now → length v.items ≤ 1) }
     ensures few { IfOk result (λ v. length v.items ≤ length held.now) }
-    ensures rising { IfOk result (λ v. IsNonDecreasing v.items) }
+    ensures rising { IfOk result (λ v. IsStrictlyIncreasing v.items) }
     ensures rule { IfOk result (λ v. AreLabelsOf which held.now v.items) }
     ensures err { IfErr result (λ f. f ≡ Memory) }
 {

@@ -10,7 +10,7 @@ mod ends;
 mod fault;
 mod held;
 mod labels;
-mod lasts;
+mod last_numbers;
 pub mod laws;
 mod picture;
 mod runs;

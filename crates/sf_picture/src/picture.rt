@@ -19,7 +19,7 @@ pub enum Branch {
 pub struct Run {
     /// The last number of the run.
     pub last: u32,
-    /// Where it leads to.
+    /// Where the run leads to.
     pub next: Branch,
 }
 
@@ -144,7 +144,8 @@ impl Picture {
         self.leaves.len()
     }
 
-    /// The labels of the leaf at a place, in rising order.
+    /// The labels of the leaf at a place, in rising order, each once. The caller's condition: the place is below
+    /// `leaf_count`.
     pub fn leaf(&self, place: usize) -> &[usize]
         requires { place < length self.now.leaves }
         ensures value { slice_get self.now.leaves place ≡ Some result.now }
@@ -161,7 +162,7 @@ impl Picture {
         self.forks.len()
     }
 
-    /// The fork at a place.
+    /// The fork at a place. The caller's condition: the place is below `fork_count`.
     pub fn fork(&self, place: usize) -> &Fork
         requires { place < length self.now.forks }
         ensures value { slice_get self.now.forks place ≡ Some result.now }

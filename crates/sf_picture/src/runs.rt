@@ -1,10 +1,9 @@
 //! Runs of numbers, while a fork is drawn.
 
-ghost use Rattle.std.specs.Prelude.{◌≡◌, ◌<◌, ◌≤◌, ◌+◌, ◌-◌, ℕ, true, false, length, slice_index_or, IfOk, IfErr};
+ghost use Rattle.std.specs.Prelude.{◌≡◌, ◌<◌, ◌≤◌, ◌+◌, ◌-◌, ℕ, true, false, length, slice_index_or, IfOk, IfErr, MatchOption};
 ghost use Rattle.sf_picture.specs.declared.picture.Run.{Run as ARun};
-ghost use Rattle.sf_picture.specs.Pictures.{IsBelow};
-ghost use Rattle.sf_picture.specs.DrawnBy.{AddsRunTo, AreClosed};
-ghost use Rattle.sf_picture.specs.Drawing.{AreRuns, AddsRun, ClosesRuns, EndsElsewhere};
+ghost use Rattle.sf_picture.specs.DrawnBy.{AddsRunTo, AddsSpanTo, AreClosed};
+ghost use Rattle.sf_picture.specs.Drawing.{AreRuns, AreRunsTo, ClosesRuns, EndsElsewhere};
 ghost use Rattle.sf_picture.specs.declared.fault.Fault.TheVariants.{Memory};
 
 use crate::fault::Fault;
@@ -18,7 +17,7 @@ fn is_same(left: Branch, right: Branch) -> bool
     left == right
 }
 
-/// Whether the last run leads to the branch.
+/// Whether the last run leads to the branch. False where there is no run.
 fn ends_at(runs: &Vec<Run>, next: Branch) -> bool
     ensures some { result ≡ true → 0 < length runs.now.items }
     ensures leads { result ≡ true → (d : ARun)
@@ -33,13 +32,10 @@ fn ends_at(runs: &Vec<Run>, next: Branch) -> bool
     is_same(last.next, next)
 }
 
-/// Adds a run that goes to `last` and leads to `next`. Where the newest run leads to `next` already, it is made to go
-/// on to `last` instead. `Memory` where an allocation is refused.
-pub(crate) fn push_run(runs: &mut Vec<Run>, last: u32, next: Branch) -> Result<(), Fault>
-    ensures added { IfOk result (λ _. (leaves forks first : ℕ) → first ≤ last
-        → AreRuns leaves forks first runs.old.items → IsBelow leaves forks next
-        → AreRuns leaves forks (last + 1) runs.new.items
-        × AddsRun runs.old.items runs.new.items first last next) }
+/// Adds a run that goes to `last` and leads to `next`. Where the last run leads to `next` already, it is made to go on
+/// to `last` instead. `Memory` where an allocation is refused.
+fn push_run(runs: &mut Vec<Run>, last: u32, next: Branch) -> Result<(), Fault>
+    ensures added { IfOk result (λ _. AreRunsTo runs.old.items runs.new.items last next) }
     ensures rule { IfOk result (λ _.
         AddsRunTo runs.old.items last next runs.new.items) }
     ensures err { IfErr result (λ f. f ≡ Memory) }
@@ -51,6 +47,21 @@ pub(crate) fn push_run(runs: &mut Vec<Run>, last: u32, next: Branch) -> Result<(
     }
     runs.push(Run { last, next })?;
     Ok(())
+}
+
+/// Adds a run for a span of an axis that ends with `last`, and for which the branch `next` was drawn. Where none was
+/// drawn, since no region has a member there, no run is added: the next run, or else the last one, takes in the numbers
+/// of the span. `Memory` where an allocation is refused.
+pub(crate) fn push_span(runs: &mut Vec<Run>, last: u32, next: Option<Branch>) -> Result<(), Fault>
+    ensures added { IfOk result (λ _. MatchOption next (runs.new.items ≡ runs.old.items)
+        (AreRunsTo runs.old.items runs.new.items last)) }
+    ensures rule { IfOk result (λ _. AddsSpanTo runs.old.items last next runs.new.items) }
+    ensures err { IfErr result (λ f. f ≡ Memory) }
+{
+    match next {
+        None => Ok(()),
+        Some(next) => push_run(runs, last, next),
+    }
 }
 
 /// Makes the last run go on to the number `last`. Where there is no run, nothing is changed.

@@ -24,7 +24,7 @@ pub(crate) struct Sketch {
 
 impl Model for Sketch {
     ghost use Rattle.std.specs.Prelude.{◌≡◌, ◌≤◌, All, length, true};
-    ghost use Rattle.std.specs.List.Sorted.{IsNonDecreasing};
+    ghost use Rattle.std.specs.List.Sorted.{IsStrictlyIncreasing};
     ghost use Rattle.sf_picture.specs.Drawing.{SketchData};
     ghost use Rattle.sf_picture.specs.Pictures.{AreEachOnce, AreRightForks};
 
@@ -40,7 +40,7 @@ impl Model for Sketch {
 
     ghost invariant = { λ s. AreRightForks (length s.leaves.items) s.forks.items
         × AreEachOnce s.leaves.items × AreEachOnce s.forks.items
-        × All IsNonDecreasing s.leaves.items
+        × All IsStrictlyIncreasing s.leaves.items
         × (s.spent ≡ true → s.most ≤ s.drawn) };
 }
 
@@ -75,7 +75,7 @@ fn are_same_runs(a: &[Run], b: &[Run]) -> bool
 }
 
 impl Sketch {
-    ghost use Rattle.std.specs.List.Sorted.{IsNonDecreasing};
+    ghost use Rattle.std.specs.List.Sorted.{IsStrictlyIncreasing};
     ghost use Rattle.sf_picture.specs.Pictures.{AreRightForks, IsRightFork, IsBelow, fork_at};
     ghost use Rattle.sf_picture.specs.DrawnBy.{IsFirstAt, DrawsLeaf, DrawsFork, empty_sketch};
     ghost use Rattle.sf_picture.specs.Drawing.{Grows, AddsLeaf, IsLeafOf, IsForkOf, IsRightSketch};
@@ -127,10 +127,11 @@ impl Sketch {
         None
     }
 
-    /// The leaf with these labels: one that is there already, or else a new one. It counts as drawn in both cases. The
-    /// caller's condition: the labels are in rising order. `Memory` where an allocation is refused.
+    /// The leaf with these labels: one that is there already, or else a new one. It counts as drawn in both cases (the
+    /// count ends at 2 ^ 64 - 1), and also where there is an error. The caller's condition: the labels are in rising
+    /// order, each once. `Memory` where an allocation is refused.
     pub(crate) fn leaf(&mut self, labels: Vec<usize>) -> Result<Branch, Fault>
-        requires { IsNonDecreasing labels.items }
+        requires { IsStrictlyIncreasing labels.items }
         ensures grows { IfOk result (λ _. Grows self.old self.new) }
         ensures right { IsRightSketch self.new }
         ensures leaf { IfOk result (λ b. IsLeafOf self.new labels.items b) }
@@ -166,7 +167,9 @@ impl Sketch {
         None
     }
 
-    /// The fork on this axis with these runs: one that is there already, or else a new one. `Memory` where an
+    /// The fork on this axis with these runs: one that is there already, or else a new one. The caller's conditions:
+    /// the axis's word is one of the 16; the runs are at least two, in the order of their numbers, and go to the axis's
+    /// greatest number; and each leads to what is in the sketch, and not to where the next one leads. `Memory` where an
     /// allocation is refused.
     pub(crate) fn fork(&mut self, axis: Axis, runs: Vec<Run>) -> Result<Branch, Fault>
         requires { IsRightFork (length self.old.leaves) (length self.old.forks)
@@ -189,7 +192,7 @@ impl Sketch {
         Ok(Branch::Fork(place))
     }
 
-    /// The picture that begins at a branch.
+    /// The picture that begins at a branch. The caller's condition: this is a leaf or a fork of the sketch.
     pub(crate) fn picture_from(self, root: Branch) -> Picture
         requires { IsBelow (length self.leaves) (length self.forks) root }
         ensures picture { result ≡ record {

@@ -34,7 +34,8 @@ impl FixedBits {
         }
     }
 
-    /// These bits, and those that are fixed by the result `sense` of a test of an axis of the word against a number.
+    /// These bits, and those that are fixed by the result `sense` of a test of an axis of the word against a number. An
+    /// equality with a whole word fixes none here: it leaves only one number of the word, so no bits are asked for.
     pub(crate) fn and_by_test(self, axis: Axis, test: Test, number: u32, sense: bool) -> FixedBits
         ensures { result ≡ fixed_by self axis test number sense }
     {
@@ -67,7 +68,8 @@ pub(crate) struct Window {
     last: u32,
 }
 
-/// Where the window of a word begins whose numbers are at least `low`.
+/// Where the window of a word begins whose numbers are at least `low`: right below `low`; or at 0, where there is no
+/// number below, or the fixed bits rule it out.
 fn first_of(low: u32, bits: FixedBits) -> u32
     ensures below { (result ≡ 0) ⊎ (result < low) }
     ensures rule { result ≡ window_first low bits }
@@ -79,7 +81,8 @@ fn first_of(low: u32, bits: FixedBits) -> u32
     }
 }
 
-/// Where the window of a word ends whose numbers are at most `high`.
+/// Where the window of a word ends whose numbers are at most `high`: at `high`; or at the greatest number of all, where
+/// there is no number above `high`, or the fixed bits rule it out.
 fn last_of(high: u32, bits: FixedBits) -> u32
     ensures above { high ≤ result }
     ensures rule { result ≡ window_last high bits }

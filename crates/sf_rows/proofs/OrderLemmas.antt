@@ -1,6 +1,6 @@
 -- What is in order stays in order where repeats are left out.
-use Rattle.std.proofs.Common.{◌≡◌, ℕ, zero, suc, ◌<◌, ◌≤◌, Bool, true, false, List, [], ◌∷◌, ◌+◌, ◌++◌, length, map, take, drop, get_or, refl, sym, ap, subst, ◌∙◌, inl, inr, arith}
-use Rattle.std.specs.Prelude.{Contains}
+use Rattle.std.proofs.Common.{◌≡◌, ℕ, zero, suc, ◌<◌, ◌≤◌, Bool, true, false, List, [], ◌∷◌, ◌+◌, ◌++◌, length, map, take, drop, get_or, refl, sym, ap, ◌∙◌, inl, inr, arith}
+use Rattle.std.specs.Prelude.{◌↔◌, Contains}
 use Rattle.std.specs.List.{dedup, dedup_from}
 use Rattle.std.specs.List.Retain.{DiffersFromLast, IsFiltered}
 use Rattle.std.specs.List.Sorted.{IsNonDecreasingBy, IsStableByKey}
@@ -80,20 +80,13 @@ keeps-dedup E once (x ∷ xs) a there = keeps-dedup_from E once x xs a there
 -- what a stable sort and then a removal of repeats leave is in order
 pub in-order : {X : Type 0} (n : X → ℕ) (all sorted listed : List X) (E : X → X → Bool)
     → IsFiltered (DiffersFromLast E) [] sorted listed → IsNonDecreasingBy n sorted
-    → IsStableByKey n nat_cmp all sorted → ((a b : X) → E a b ≡ true → a ≡ b)
-    → ((a b : X) → E a b ≡ false → a ≡ b → ⊥) → IsInOrder n all listed
-in-order n all sorted listed E filtered rises stable alike apart = record {
+    → IsStableByKey n nat_cmp all sorted → ((a b : X) → (E a b ≡ true) ↔ (a ≡ b)) → IsInOrder n all listed
+in-order n all sorted listed E filtered rises stable same = record {
   sorted = sorted;
   rises = rises;
   stable = stable;
   equal = E;
-  is_equality = λ a b. (
-    alike a b,
-    λ e. elim (cases_Bool (E a b)) [
-      | inl same ↦ same
-      | inr other ↦ absurd (apart a b other e)
-    ],
-  );
+  is_equality = same;
   once = dedup_is E sorted listed filtered;
 }
 

@@ -4,6 +4,7 @@ pub mod InOrder
 pub mod InOrderLaws
 pub mod Answers
 pub mod Pairs
+pub mod PairsLaws
 pub mod Lines
 pub mod Calls
 pub mod Unnamed

@@ -1,20 +1,23 @@
 //! The answers of a stack, by their labels.
 
-ghost use Rattle.std.specs.Prelude.{◌≡◌, ◌≢◌, ◌<◌, ◌≤◌, ◌^◌, ◌++◌, ℕ, All, Contains, IfOk, OnOk, Some, length, map, slice_get, string_bytes};
+ghost use Rattle.std.specs.Prelude.{◌≡◌, ◌<◌, ◌^◌, ◌++◌, All, Contains, IfOk, OnOk, length, map, string_bytes};
+ghost use Rattle.std.proofs.Common.{rules};
 ghost use Rattle.std.specs.List.Sorted.{IsNonDecreasingBy};
-ghost use Rattle.sf_run.specs.declared.action.Answer.{Answer as AnAnswer};
 ghost use Rattle.sf_book.specs.Books.{RegionData};
 ghost use Rattle.sf_picture.specs.Answering.{TellAnswers};
 ghost use Rattle.sf_rows.specs.Answers.{AreFirstPlaces, answer_order};
 ghost use Rattle.sf_rows.specs.InOrder.{IsInOrder};
 ghost use Rattle.sf_policy.specs.Texts.{answer_words};
 
+use crate::labels::{Labelled, place_of, put_in_order};
 use sf_book::Settled;
 use sf_policy::push_action;
 use sf_run::Answer;
 use std::alloc::{AllocError, Global};
 
-/// A number by which answers are put in order: by the precedence of their actions, and then by their data.
+/// A number by which answers are put in order: by the precedence of their actions, and then by their data, which are 16
+/// bits. Of two actions the one with the lower number, taken as signed, has precedence; with 0x80000000 added, the
+/// numbers stand in this order as unsigned ones.
 pub(crate) fn order_of(answer: Answer) -> u64
     ensures order { result ≡ answer_order answer }
     ensures few { result < 2 ^ 48 }
@@ -23,19 +26,18 @@ pub(crate) fn order_of(answer: Answer) -> u64
     rank as u64 * 65536 + answer.info as u64
 }
 
-/// Sorts answers in place, and leaves each only once. An error where an allocation is refused.
-fn put_in_order(answers: &mut Vec<Answer>) -> Result<(), AllocError>
-    ensures keeps { OnOk result ((a : AnAnswer) → Contains answers.old.items a
-        → Contains answers.new.items a) }
-    ensures order { OnOk result (IsNonDecreasingBy answer_order answers.new.items) }
-    ensures rule { OnOk result (IsInOrder answer_order answers.old.items answers.new.items) }
-{
-    answers.sort_by_key(|answer| order_of(*answer))?;
-    answers.dedup();
-    Ok(())
+impl Labelled for Answer {
+    ghost number = { answer_order };
+
+    fn order(self) -> u128 {
+        order_of(self) as u128
+    }
+
+    ghost same = { Prim.search rules };
 }
 
-/// The answers of all regions, each once, by precedence and then by data. A label is a place among them.
+/// The answers of all regions, each once, by precedence and then by data. A label is a place among them. An error where
+/// an allocation is refused.
 pub fn answers_of(alloc: Global, settled: &Settled) -> Result<Vec<Answer>, AllocError>
     ensures each { IfOk result (λ v. All (λ (r : RegionData). Contains v.items r.answer)
         settled.now.regions) }
@@ -51,35 +53,8 @@ pub fn answers_of(alloc: Global, settled: &Settled) -> Result<Vec<Answer>, Alloc
     Ok(answers)
 }
 
-/// How many answers have an order below this one. The caller's condition: the answers are in order.
-fn count_before(answers: &[Answer], order: u64) -> usize
-    requires { IsNonDecreasingBy answer_order answers.now }
-    ensures bound { result ≤ length answers.now }
-    ensures before { (n : ℕ) (a : AnAnswer) → n < result → slice_get answers.now n ≡ Some a
-        → answer_order a < order }
-{
-    answers.partition_point(|answer| order_of(*answer) < order)
-}
-
-/// The first place of an answer among others, which are in order.
-fn place_of(answers: &[Answer], answer: Answer) -> usize
-    requires there { Contains answers.now answer }
-    requires order { IsNonDecreasingBy answer_order answers.now }
-    ensures there { slice_get answers.now result ≡ Some answer }
-    ensures first { (n : ℕ) → n < result → slice_get answers.now n ≢ Some answer }
-{
-    let first = count_before(answers, order_of(answer));
-    for place in first..answers.len() {
-        if answers[place] == answer {
-            return place;
-        }
-    }
-    prove!(false);
-    0
-}
-
-/// The label of each region: the first place of its answer. The caller's conditions: the answers of all regions are
-/// there, and they are in order.
+/// The label of each region: the first place of its answer among `answers`. The caller's conditions: the answers of all
+/// regions are there, and they are in order, as `answers_of` gives them. An error where an allocation is refused.
 pub fn labels_of(
     alloc: Global,
     settled: &Settled,
@@ -118,7 +93,8 @@ fn words_of(alloc: Global, answer: Answer) -> Result<String, AllocError>
     Ok(text)
 }
 
-/// The words of answers, by their labels.
+/// The words of these answers, in their order: those of a label stand at its place. An error where an allocation is
+/// refused.
 pub fn all_words(alloc: Global, answers: &[Answer]) -> Result<Vec<String>, AllocError>
     ensures { IfOk result (λ v. map string_bytes v.items ≡ map answer_words answers.now) }
 {

@@ -62,7 +62,8 @@ impl<'a> CallRow<'a> {
     }
 }
 
-/// The number that all inputs of a call have on an axis of its number or its architecture.
+/// The number that all inputs of a call have on an axis of its number, which is the word 0, or of its architecture. The
+/// axis is taken as one of the architecture where its word isn't 0.
 fn number_of_call(arch: u32, number: u32, axis: Axis) -> u32
     ensures { result ≡ number_of_call arch number axis }
 {
@@ -146,7 +147,7 @@ fn is_among(texts: &[&str], text: &str) -> bool
     has_text(texts, text)
 }
 
-/// Whether a call is asked for: its name is among those that are asked for, or none is.
+/// Whether a call is asked for: its name is in `wanted`, or `wanted` is empty.
 fn is_wanted(wanted: &[&str], call: &Call) -> bool
     ensures { result ≡ is_wanted (map (λ t. t.now) wanted.now) call.now }
 {
@@ -212,7 +213,7 @@ pub(crate) fn count_undetermined(rows: &[CallRow<'_>]) -> usize
     rows.iter().filter(|row| row.is_undetermined()).count()
 }
 
-/// Adds the line of a row of a call, by the words of labels.
+/// Adds the line of a row of a call. `words` are the words of the labels, each at its label's place.
 fn push_call_row(text: &mut String, words: &[String], row: &CallRow<'_>) -> Result<(), AllocError>
     ensures { OnOk result (string_bytes text.new ≡ string_bytes text.old
         ++ call_line (map string_bytes words.now) row.now) }
@@ -226,7 +227,7 @@ fn push_call_row(text: &mut String, words: &[String], row: &CallRow<'_>) -> Resu
     Ok(())
 }
 
-/// Adds a line for each row of a call, by the words of labels.
+/// Adds a line for each row of a call. `words` are the words of the labels, each at its label's place.
 pub(crate) fn push_call_rows(
     text: &mut String,
     words: &[String],

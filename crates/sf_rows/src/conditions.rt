@@ -36,7 +36,7 @@ fn push_long(text: &mut String, number: u32) -> Result<(), AllocError>
     write!(text, "0x{number:08X}")
 }
 
-/// Adds the number of a call: below 65,536 in decimal.
+/// Adds the number of a call: below 65,536 in decimal, else in hexadecimal.
 fn push_call(text: &mut String, number: u32) -> Result<(), AllocError>
     ensures { OnOk result (string_bytes text.new ≡ string_bytes text.old ++ call_words number) }
 {
@@ -46,7 +46,7 @@ fn push_call(text: &mut String, number: u32) -> Result<(), AllocError>
     push_short(text, number)
 }
 
-/// Adds a number.
+/// Adds a number in a style.
 fn push_number(text: &mut String, style: Style, number: u32) -> Result<(), AllocError>
     ensures { OnOk result (string_bytes text.new ≡ string_bytes text.old
         ++ number_words style number) }
@@ -58,7 +58,7 @@ fn push_number(text: &mut String, style: Style, number: u32) -> Result<(), Alloc
     }
 }
 
-/// Adds a span: its number where it has only one, else both ends.
+/// Adds a span: its number where it has only one, else both ends, with `..` between them.
 fn push_span(text: &mut String, style: Style, span: Span) -> Result<(), AllocError>
     ensures { OnOk result (string_bytes text.new ≡ string_bytes text.old
         ++ span_words style span) }
@@ -85,7 +85,7 @@ pub(crate) fn push_spans(text: &mut String, style: Style, spans: &[Span]) -> Res
     Ok(())
 }
 
-/// Whether the spans are one number.
+/// Whether there is only one span, and this is one number.
 fn is_one(spans: &[Span]) -> bool
     ensures { result ≡ is_one_number spans.now }
 {
@@ -143,7 +143,7 @@ fn words_between(part: &Part) -> &'static str
     }
 }
 
-/// The name of a word.
+/// The name of a word of the input, as policies write it; an empty text where the word is none of the 16.
 fn name_of(word: usize) -> &'static str
     ensures { result.now ≡ slice_index_or word_keys word [] }
 {
@@ -165,7 +165,7 @@ fn push_axis(text: &mut String, axis: Axis) -> Result<(), AllocError>
     push_short(text, axis.mask)
 }
 
-/// Adds a condition.
+/// Adds a condition: its axis, and the numbers of its part.
 pub(crate) fn push_condition(text: &mut String, condition: &Condition) -> Result<(), AllocError>
     ensures { OnOk result (string_bytes text.new ≡ string_bytes text.old
         ++ condition_words condition.now) }
@@ -176,7 +176,8 @@ pub(crate) fn push_condition(text: &mut String, condition: &Condition) -> Result
     push_spans(text, Style::Short, part.spans())
 }
 
-/// Adds conditions.
+/// Adds conditions: ` if ` before the first one, and ` and ` before each further one. Adds nothing where there are
+/// none.
 pub(crate) fn push_conditions(text: &mut String, conditions: &[Condition]) -> Result<(), AllocError>
     ensures { OnOk result (string_bytes text.new ≡ string_bytes text.old
         ++ conditions_words (codes " if ") conditions.now) }
@@ -190,7 +191,7 @@ pub(crate) fn push_conditions(text: &mut String, conditions: &[Condition]) -> Re
     Ok(())
 }
 
-/// Adds the conditions on other words than the call's number and its architecture.
+/// Adds the conditions on other words than the call's number and its architecture, as `push_conditions` does.
 pub(crate) fn push_further(text: &mut String, conditions: &[Condition]) -> Result<(), AllocError>
     ensures { OnOk result (string_bytes text.new ≡ string_bytes text.old
         ++ further_words (codes " if ") conditions.now) }

@@ -5,6 +5,7 @@ pub mod answers;
 mod calls;
 mod conditions;
 mod document;
+mod labels;
 pub mod laws;
 mod lines;
 mod named;

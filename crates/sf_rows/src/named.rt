@@ -9,7 +9,8 @@ use crate::rows::Scope;
 use sf_names::{Names, push_names_between};
 use std::alloc::AllocError;
 
-/// The only number that spans have; none where they have several, or none.
+/// The only number that spans have; none where they have several numbers or no number, or where there are several
+/// spans.
 fn single_number(spans: &[Span]) -> Option<u32>
     ensures { result ≡ single_number spans.now }
 {
@@ -25,7 +26,7 @@ fn single_number(spans: &[Span]) -> Option<u32>
     }
 }
 
-/// The architecture that is meant, where it is only one.
+/// The architecture that is meant, where it is only one; none where it is several, all, or all but some.
 pub(crate) fn only_arch(arch: &Option<Part>) -> Option<u32>
     ensures { result ≡ only_arch arch.now }
 {

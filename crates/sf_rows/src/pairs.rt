@@ -1,51 +1,35 @@
 //! The pairs of answers of two stacks, by their labels.
 
-ghost use Rattle.std.specs.Prelude.{◌≡◌, ◌≢◌, ◌<◌, ◌≤◌, ◌↔◌, ℕ, All, Contains, IfOk, IsTrue, OnOk, Some, false, length, map, slice_get, slice_index, string_bytes, true};
+ghost use Rattle.std.specs.Prelude.{◌≡◌, ◌↔◌, ℕ, All, Contains, IfOk, IsTrue, OnOk, Some, length, map, slice_get, slice_index, string_bytes};
 ghost use Rattle.std.specs.List.Sorted.{IsNonDecreasingBy};
 ghost use Rattle.sf_run.specs.declared.replaying.PartAnswers.{PartAnswers as APair};
-ghost use Rattle.sf_rows.specs.InOrder.{IsInOrder};
 ghost use Rattle.sf_rows.specs.Pairs.{AddsChanged, ArePairsOf, Differ, IsLabelOf, pair_order, pair_words, pairs_words};
+ghost use Rattle.sf_rows.specs.PairsLaws.{same-pairs};
 
 use crate::answers::{order_of, push_answer};
+use crate::labels::{Labelled, place_of, put_in_order};
 use sf_run::PartAnswers;
 use std::alloc::{AllocError, Global};
 
-/// Whether the two answers are the same.
+/// Whether the two answers of a pair are the same.
 fn is_same(both: PartAnswers) -> bool
     ensures { IsTrue result ↔ (both.older ≡ both.newer) }
 {
     both.older == both.newer
 }
 
-/// A number by which pairs of answers are put in order: by the old stack's answers, and then by those of the new one.
-fn pair_order_of(both: PartAnswers) -> u128
-    ensures { result ≡ pair_order both }
-{
-    order_of(both.older) as u128 * 0x1_0000_0000_0000 + order_of(both.newer) as u128
+impl Labelled for PartAnswers {
+    ghost number = { pair_order };
+
+    /// By the old stack's answers, and then by those of the new one.
+    fn order(self) -> u128 {
+        order_of(self.older) as u128 * 0x1_0000_0000_0000 + order_of(self.newer) as u128
+    }
+
+    ghost same = { same-pairs };
 }
 
-/// Whether two pairs of answers are the same.
-fn are_equal(one: PartAnswers, other: PartAnswers) -> bool
-    ensures yes { result ≡ true → one ≡ other }
-    ensures no { result ≡ false → one ≢ other }
-{
-    one.older == other.older && one.newer == other.newer
-}
-
-/// Puts pairs in order, each once, in place. An error where an allocation is refused.
-fn put_in_order(pairs: &mut Vec<PartAnswers>) -> Result<(), AllocError>
-    ensures keeps { OnOk result ((p : APair) → Contains pairs.old.items p
-        → Contains pairs.new.items p) }
-    ensures differ { OnOk result (All Differ pairs.old.items → All Differ pairs.new.items) }
-    ensures order { OnOk result (IsNonDecreasingBy pair_order pairs.new.items) }
-    ensures rule { OnOk result (IsInOrder pair_order pairs.old.items pairs.new.items) }
-{
-    pairs.sort_by_key(|both| pair_order_of(*both))?;
-    pairs.dedup();
-    Ok(())
-}
-
-/// Adds a pair, unless its answers are the same.
+/// Adds a pair, unless its two answers are the same.
 fn push_changed(pairs: &mut Vec<PartAnswers>, both: PartAnswers) -> Result<(), AllocError>
     requires { All Differ pairs.old.items }
     ensures has { IfOk result (λ _. Differ both → Contains pairs.new.items both) }
@@ -62,7 +46,8 @@ fn push_changed(pairs: &mut Vec<PartAnswers>, both: PartAnswers) -> Result<(), A
 }
 
 /// The pairs of answers that differ, each once, by the old stack's answers and then by those of the new one. A label is
-/// a place among them; the number of pairs is the label of two answers that are the same.
+/// a place among them; the number of pairs is the label of two answers that are the same. An error where an allocation
+/// is refused.
 pub fn pairs_of(alloc: Global, answers: &[PartAnswers]) -> Result<Vec<PartAnswers>, AllocError>
     ensures each { IfOk result (λ v. All (λ (p : APair). Differ p
         → Contains v.items p) answers.now) }
@@ -78,34 +63,8 @@ pub fn pairs_of(alloc: Global, answers: &[PartAnswers]) -> Result<Vec<PartAnswer
     Ok(pairs)
 }
 
-/// How many pairs have an order below this one. The caller's condition: the pairs are in order.
-fn count_before(pairs: &[PartAnswers], order: u128) -> usize
-    requires { IsNonDecreasingBy pair_order pairs.now }
-    ensures bound { result ≤ length pairs.now }
-    ensures before { (n : ℕ) (p : APair) → n < result → slice_get pairs.now n ≡ Some p
-        → pair_order p < order }
-{
-    pairs.partition_point(|both| pair_order_of(*both) < order)
-}
-
-/// The first place of a pair among others, which are in order.
-fn place_of(pairs: &[PartAnswers], both: PartAnswers) -> usize
-    requires there { Contains pairs.now both }
-    requires order { IsNonDecreasingBy pair_order pairs.now }
-    ensures there { slice_get pairs.now result ≡ Some both }
-    ensures first { (n : ℕ) → n < result → slice_get pairs.now n ≢ Some both }
-{
-    let first = count_before(pairs, pair_order_of(both));
-    for place in first..pairs.len() {
-        if are_equal(pairs[place], both) {
-            return place;
-        }
-    }
-    prove!(false);
-    0
-}
-
-/// The label of two answers: their place among the pairs, or the number of pairs where they are the same.
+/// The label of two answers: their first place among the pairs, or the number of pairs where they are the same. The
+/// caller's conditions: if they differ, they are among the pairs; and the pairs are in order.
 fn label_of(pairs: &[PartAnswers], both: PartAnswers) -> usize
     requires there { Differ both → Contains pairs.now both }
     requires order { IsNonDecreasingBy pair_order pairs.now }
@@ -117,8 +76,8 @@ fn label_of(pairs: &[PartAnswers], both: PartAnswers) -> usize
     place_of(pairs, both)
 }
 
-/// The labels of pairs of answers, in their order. The caller's conditions: those that differ are among the pairs, and
-/// these are in order.
+/// The labels of pairs of answers, in their order. The caller's conditions: those that differ are among `pairs`, and
+/// these are in order, as `pairs_of` gives them. An error where an allocation is refused.
 pub fn labels_of(
     alloc: Global,
     answers: &[PartAnswers],
@@ -138,7 +97,7 @@ pub fn labels_of(
     Ok(labels)
 }
 
-/// The words of two answers.
+/// The words of two answers, with ` -> ` between them.
 fn words_of(alloc: Global, both: PartAnswers) -> Result<String, AllocError>
     ensures { IfOk result (λ text. string_bytes text ≡ pair_words both) }
 {
@@ -149,7 +108,8 @@ fn words_of(alloc: Global, both: PartAnswers) -> Result<String, AllocError>
     Ok(text)
 }
 
-/// The words of all labels: those of each pair, and last `unchanged`, for two answers that are the same.
+/// The words of all labels: those of each pair, and last `unchanged`, for two answers that are the same. An error where
+/// an allocation is refused.
 pub fn all_words(alloc: Global, pairs: &[PartAnswers]) -> Result<Vec<String>, AllocError>
     ensures { IfOk result (λ v. map string_bytes v.items ≡ pairs_words pairs.now) }
 {

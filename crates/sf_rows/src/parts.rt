@@ -13,7 +13,7 @@ use std::alloc::{AllocError, Global};
 use std::marker::Model;
 use std::sync::Arc;
 
-/// Numbers from the first to the last.
+/// Numbers from the first to the last, both included.
 #[derive(Clone, Copy, Debug, PartialEq, Eq)]
 pub(crate) struct Span {
     pub(crate) first: u32,
@@ -42,7 +42,8 @@ impl Model for Part {
 }
 
 impl Part {
-    /// A part. `Memory` where an allocation is refused.
+    /// The part of the numbers of these spans, or, where it is the rest, of all other numbers. They lead to `next`.
+    /// `Memory` where an allocation is refused.
     pub(crate) fn of(
         alloc: Global,
         next: Branch,
@@ -140,7 +141,7 @@ fn is_same(left: Branch, right: Branch) -> bool
     }
 }
 
-/// Whether the last of some spans, if there is one, ends right below a number.
+/// Whether the last of some spans ends right below the number `first`. False where there is no span.
 fn is_touched(spans: &Vec<Span>, first: u32) -> bool
     ensures some { result ≡ true → 0 < length spans.now.items }
     ensures touched { result ≡ true → (d : ASpan)
@@ -155,7 +156,8 @@ fn is_touched(spans: &Vec<Span>, first: u32) -> bool
     newest.last as u64 + 1 == first as u64
 }
 
-/// Adds a span. Where the last one ends right below it, that one is made to go on to its end instead.
+/// Adds a span behind others. Where the last of these ends right below it, that one is made to go on to its end
+/// instead.
 fn push_span(spans: &mut Vec<Span>, span: Span) -> Result<(), AllocError>
     ensures { OnOk result (spans.new.items ≡ with_span spans.old.items span) }
 {
@@ -182,7 +184,7 @@ fn is_named(branch: Branch, is_rest: bool, next: Branch) -> bool
     }
 }
 
-/// The numbers of a run, from a first one on.
+/// The numbers of a run from `first` on. The caller's condition: `first` is at most the run's last number.
 fn span_from(first: u64, run: Run) -> Span
     requires { first ≤ run.last }
     ensures { result ≡ span_of first run.last }
@@ -194,7 +196,8 @@ fn span_from(first: u64, run: Run) -> Span
     }
 }
 
-/// Adds the span of a run from a first number on, if the run is one of those that name the part of a branch.
+/// Adds the span of a run from the number `first` on, if the run is one of those that name the part of a branch. The
+/// caller's condition: `first` is at most the run's last number.
 fn push_named(
     spans: &mut Vec<Span>,
     is_rest: bool,
@@ -212,7 +215,8 @@ fn push_named(
     Ok(())
 }
 
-/// The spans of the runs that name the part of a branch.
+/// The spans of the runs that name the part of a branch; those that touch are joined. The caller's condition: the last
+/// numbers of the runs rise.
 fn spans_of(
     alloc: Global,
     runs: &[Run],
@@ -231,7 +235,8 @@ fn spans_of(
     Ok(spans)
 }
 
-/// The part that leads to a branch. `Memory` where an allocation is refused.
+/// The part that leads to a branch, as the rest or not. The caller's condition: the last numbers of the runs rise.
+/// `Memory` where an allocation is refused.
 fn part_of(alloc: Global, runs: &[Run], is_rest: bool, branch: Branch) -> Result<Part, Fault>
     requires { RiseFrom 0 runs.now }
     ensures made { IfOk result (λ p. p ≡ part_to runs.now is_rest branch) }
@@ -241,7 +246,8 @@ fn part_of(alloc: Global, runs: &[Run], is_rest: bool, branch: Branch) -> Result
     Part::of(alloc, branch, is_rest, spans)
 }
 
-/// How many numbers of a run lead to a branch, from a first number on.
+/// How many numbers of a run lead to a branch, from the number `first` on: all or none. The caller's condition: `first`
+/// is at most the run's last number.
 fn count_in(run: Run, first: u64, branch: Branch) -> u64
     requires { first ≤ run.last }
     ensures few { result ≤ 4294967296 }
@@ -253,7 +259,7 @@ fn count_in(run: Run, first: u64, branch: Branch) -> u64
     0
 }
 
-/// How many numbers lead to a branch.
+/// How many numbers of the runs lead to a branch. The caller's condition: the last numbers of the runs rise.
 fn count_of(runs: &[Run], branch: Branch) -> u64
     requires { RiseFrom 0 runs.now }
     ensures { result ≡ count_after branch 0 runs.now }
@@ -303,7 +309,7 @@ fn branches_of(alloc: Global, runs: &[Run]) -> Result<Vec<Branch>, AllocError>
 }
 
 /// The branch to which most numbers lead, among a branch and others. Where several have equally many, the first of
-/// them.
+/// them. The caller's condition: the last numbers of the runs rise.
 fn largest(runs: &[Run], branch: Branch, others: &[Branch]) -> Branch
     requires { RiseFrom 0 runs.now }
     ensures { result ≡ largest_of runs.now branch others.now }
@@ -320,7 +326,8 @@ fn largest(runs: &[Run], branch: Branch, others: &[Branch]) -> Branch
     largest
 }
 
-/// Adds the part that leads to a branch, unless the rest leads to it. `Memory` where an allocation is refused.
+/// Adds the part that leads to a branch, unless this is `rest`, the one to which the rest leads. The caller's
+/// condition: the last numbers of the runs rise. `Memory` where an allocation is refused.
 fn push_part(
     alloc: Global,
     parts: &mut Vec<Part>,
@@ -341,7 +348,8 @@ fn push_part(
     Ok(())
 }
 
-/// A part for each branch but `rest`, the one to which the rest leads. `Memory` where an allocation is refused.
+/// A part for each branch but `rest`, the one to which the rest leads. The caller's condition: the last numbers of the
+/// runs rise. `Memory` where an allocation is refused.
 fn parts_without(
     alloc: Global,
     runs: &[Run],
@@ -359,7 +367,8 @@ fn parts_without(
     Ok(parts)
 }
 
-/// A part for each of some branches, the one to which most numbers lead last. `Memory` where an allocation is refused.
+/// A part for each of some branches, the one to which most numbers lead last, as the rest. No part where there is no
+/// branch. The caller's condition: the last numbers of the runs rise. `Memory` where an allocation is refused.
 fn parts_of_branches(alloc: Global, runs: &[Run], branches: &[Branch]) -> Result<Vec<Part>, Fault>
     requires { RiseFrom 0 runs.now }
     ensures made { IfOk result (λ v. v.items ≡ parts_to runs.now branches.now) }
@@ -376,7 +385,7 @@ fn parts_of_branches(alloc: Global, runs: &[Run], branches: &[Branch]) -> Result
 }
 
 /// The parts of a fork, in the order of their least numbers. Only the rest, which is the part with most numbers, stands
-/// last. `Memory` where an allocation is refused.
+/// last. The caller's condition: the last numbers of the runs rise. `Memory` where an allocation is refused.
 pub(crate) fn parts_of(alloc: Global, runs: &[Run]) -> Result<Vec<Part>, Fault>
     requires { RiseFrom 0 runs.now }
     ensures made { IfOk result (λ v. v.items ≡ fork_parts runs.now) }
@@ -386,7 +395,8 @@ pub(crate) fn parts_of(alloc: Global, runs: &[Run]) -> Result<Vec<Part>, Fault>
     parts_of_branches(alloc, runs, branches.as_slice())
 }
 
-/// The part of one run. `Memory` where an allocation is refused.
+/// The numbers of one run from `first` on as a part. The caller's condition: `first` is at most the run's last number.
+/// `Memory` where an allocation is refused.
 fn part_of_run(alloc: Global, first: u64, run: Run) -> Result<Part, Fault>
     requires { first ≤ run.last }
     ensures made { IfOk result (λ p. p ≡ record {
@@ -401,7 +411,8 @@ fn part_of_run(alloc: Global, first: u64, run: Run) -> Result<Part, Fault>
     Part::of(alloc, run.next, false, spans)
 }
 
-/// Each run of a fork as a part. `Memory` where an allocation is refused.
+/// Each run of a fork as a part. The caller's condition: the last numbers of the runs rise. `Memory` where an
+/// allocation is refused.
 pub(crate) fn runs_apart(alloc: Global, runs: &[Run]) -> Result<Vec<Part>, Fault>
     requires { RiseFrom 0 runs.now }
     ensures made { IfOk result (λ v. v.items ≡ run_parts 0 runs.now) }

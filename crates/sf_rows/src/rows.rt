@@ -29,7 +29,7 @@ impl Model for Condition {
 }
 
 impl Condition {
-    /// A condition.
+    /// The condition that the numbers on the axis lie in the part.
     pub(crate) fn of(axis: Axis, part: Part) -> Condition
         ensures { result ≡ record { axis = axis; part = part } }
     {
@@ -43,14 +43,14 @@ impl Condition {
         self.axis
     }
 
-    /// The part of it.
+    /// The part in which the numbers on the axis lie.
     pub(crate) fn part(&self) -> &Part
         ensures { result.now ≡ self.now.part }
     {
         &self.part
     }
 
-    /// Whether it is one on the number of a call or its architecture.
+    /// Whether it is a condition on the number of a call or its architecture: the words 0 and 1.
     pub(crate) fn is_on_call(&self) -> bool
         ensures { result ≡ is_on_call self.now }
     {
@@ -119,7 +119,7 @@ pub(crate) fn clone_conditions(
     Ok(copy)
 }
 
-/// Whether an axis is this word, and all its bits.
+/// Whether an axis is this word with all its bits.
 fn is_whole_word(axis: Axis, word: usize) -> bool
     ensures { result ≡ is_whole axis word }
 {
@@ -129,7 +129,7 @@ fn is_whole_word(axis: Axis, word: usize) -> bool
 impl Scope {
     ghost use Rattle.sf_rows.specs.Rows.{scope_within, whole_scope};
 
-    /// All inputs.
+    /// The scope of all inputs.
     fn whole(alloc: Global) -> Scope
         ensures { result ≡ whole_scope }
     {
@@ -140,7 +140,8 @@ impl Scope {
         }
     }
 
-    /// A scope.
+    /// The scope of the inputs with these architectures and call numbers, where not all are meant, that meet the
+    /// further conditions.
     pub(crate) fn of(arch: Option<Part>, nr: Option<Part>, conditions: Vec<Condition>) -> Scope
         ensures { result ≡ record { arch = arch; nr = nr; conditions = conditions.items } }
     {
@@ -187,7 +188,9 @@ impl Scope {
         })
     }
 
-    /// Leaves only inputs with their numbers in a part of an axis. `Memory` where an allocation is refused.
+    /// Leaves only inputs with their numbers in a part of an axis. The first part of the architecture's word and of the
+    /// call number's, taken whole, have places of their own; each other one becomes a condition. `Memory` where an
+    /// allocation is refused.
     fn narrow(&mut self, axis: Axis, part: Part) -> Result<(), Fault>
         ensures within { IfOk result (λ _. self.new ≡ scope_within self.old axis part) }
         ensures refused { IfErr result (λ e. e ≡ MemoryFault) }
@@ -234,8 +237,8 @@ impl Row {
     }
 }
 
-/// The parts of a fork; in a fork on call numbers each run is a part by itself. `Memory` where an allocation is
-/// refused.
+/// The parts of a fork; in a fork on call numbers each run is a part by itself. The caller's condition: the last
+/// numbers of the fork's runs rise. `Memory` where an allocation is refused.
 fn parts_in(alloc: Global, fork: &Fork) -> Result<Vec<Part>, Fault>
     requires { RiseFrom 0 fork.now.runs }
     ensures made { IfOk result (λ v. v.items ≡ parts_at fork.now) }

@@ -8,7 +8,7 @@ use crate::parts::Span;
 use sf_names::{Call, Names};
 use std::alloc::{AllocError, Global};
 
-/// Adds a span without a number: what lies below it, and what lies above it.
+/// Adds a span without a number: what lies below the number, and what lies above it, each where there is something.
 fn push_without(spans: &mut Vec<Span>, number: u32, span: Span) -> Result<(), AllocError>
     ensures { OnOk result (spans.new.items ≡ spans.old.items ++ span_without number span) }
 {
@@ -83,7 +83,7 @@ fn without_set(
     Ok(spans)
 }
 
-/// The numbers of an architecture that no call with a name has.
+/// The numbers of an architecture that no call with a name has, as spans. An error where an allocation is refused.
 pub(crate) fn gaps_of(alloc: Global, sets: &[Names], arch: u32) -> Result<Vec<Span>, AllocError>
     ensures { IfOk result (λ v. v.items ≡ gaps_of sets.now arch) }
 {
@@ -98,7 +98,7 @@ pub(crate) fn gaps_of(alloc: Global, sets: &[Names], arch: u32) -> Result<Vec<Sp
     Ok(left)
 }
 
-/// Adds the numbers that two spans share.
+/// Adds the span of the numbers that two spans share, if there are any.
 fn push_meet(spans: &mut Vec<Span>, one: Span, other: Span) -> Result<(), AllocError>
     ensures { OnOk result (spans.new.items ≡ spans.old.items ++ span_meet one other) }
 {

@@ -64,7 +64,7 @@ fn archs_of(alloc: Global, sets: &[Names]) -> Result<Vec<u32>, AllocError>
     Ok(archs)
 }
 
-/// The gaps of an architecture.
+/// An architecture, with the call numbers that no call with a name has there.
 fn gaps_at(alloc: Global, sets: &[Names], arch: u32) -> Result<Gaps, AllocError>
     ensures { IfOk result (λ g. g ≡ gaps_at sets.now arch) }
 {
@@ -72,7 +72,7 @@ fn gaps_at(alloc: Global, sets: &[Names], arch: u32) -> Result<Gaps, AllocError>
     Ok(Gaps { arch, gaps })
 }
 
-/// The gaps of each architecture of the sets.
+/// For each architecture of the sets, once, the call numbers that no call with a name has there.
 fn all_gaps(alloc: Global, sets: &[Names]) -> Result<Vec<Gaps>, AllocError>
     ensures { IfOk result (λ v. v.items ≡ all_gaps sets.now) }
 {
@@ -234,7 +234,7 @@ fn push_rows_at_all(
     Ok(())
 }
 
-/// Adds the architecture of gaps, if a row with this part is about it.
+/// Adds the architecture of gaps, if a row is about it whose architectures are this part (all, where it is none).
 fn push_if_met(archs: &mut Vec<u32>, part: &Option<Part>, gaps: &Gaps) -> Result<(), AllocError>
     ensures { OnOk result (archs.new.items ≡ archs.old.items ++ arch_if_met part.now gaps.now) }
 {
@@ -244,7 +244,7 @@ fn push_if_met(archs: &mut Vec<u32>, part: &Option<Part>, gaps: &Gaps) -> Result
     Ok(())
 }
 
-/// The architectures of gaps that a row with this part is about.
+/// The architectures of gaps that a row is about whose architectures are this part (all, where it is none).
 fn archs_met(alloc: Global, part: &Option<Part>, all: &[Gaps]) -> Result<Vec<u32>, AllocError>
     ensures { IfOk result (λ v. v.items ≡ archs_met part.now all.now) }
 {

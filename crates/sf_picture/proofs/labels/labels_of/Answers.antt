@@ -32,4 +32,4 @@ returns-clause-one c = λ one.
 pub returns-clause-rule : goal.returns-clause-rule
 returns-clause-rule c =
     labels-exact c.args.which c.args.held.now c.loop-one.labels.keys c.in_ok-list.list.items c.loop-one.one-index
-    (omega arith) c.in_ok-list.ensures.same c.in_ok-list.ensures.once c.loop-one.invariant.each
+    (omega arith) c.in_ok-list.ensures.same c.in_ok-list.ensures.rising c.loop-one.invariant.each

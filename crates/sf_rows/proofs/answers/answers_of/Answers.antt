@@ -41,7 +41,7 @@ returns-clause-each c =
     let all : take c.loop-place.place rs ≡ rs =
     take_all c.loop-place.place rs (omega (arith, c.region_count-place-end.ensures.value)) in
     All-weaker (λ (x : RegionData). Contains c.loop-place.answers.items x.answer)
-    (λ (x : RegionData). Contains c.put_in_order.new.answers.items x.answer)
+    (λ (x : RegionData). Contains c.put_in_order.new.list.items x.answer)
     (λ x old. c.in_ok-put_in_order.ensures.keeps x.answer old) rs
     (subst (All (λ (x : RegionData). Contains c.loop-place.answers.items x.answer)) all c.loop-place.invariant.each)
 
@@ -50,5 +50,5 @@ returns-clause-rule c =
     let rs = c.args.settled.now.regions in
     let all : take c.loop-place.place rs ≡ rs =
     take_all c.loop-place.place rs (omega (arith, c.region_count-place-end.ensures.value)) in
-    subst (λ l. IsInOrder answer_order l c.put_in_order.new.answers.items)
+    subst (λ l. IsInOrder answer_order l c.put_in_order.new.list.items)
     (c.loop-place.invariant.list ∙ ap (map (λ (x : RegionData). x.answer)) all) c.in_ok-put_in_order.ensures.rule

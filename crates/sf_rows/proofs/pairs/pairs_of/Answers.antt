@@ -1,7 +1,7 @@
 use Rattle.std.proofs.Common.{◌≡◌, arith, refl, take, subst}
 use Rattle.std.specs.Prelude.{All, Contains}
 use Rattle.std.proofs.lemmas.List.{drop_all, take_all}
-use Rattle.std.proofs.lemmas.List.Elements.{All-more, All-weaker}
+use Rattle.std.proofs.lemmas.List.Elements.{All-contains, All-contains_itself, All-more, All-weaker}
 use Rattle.sf_run.specs.declared.action.Action.TheVariants.{KillProcess}
 use Rattle.sf_run.specs.declared.action.Answer.{Answer}
 use Rattle.sf_run.specs.declared.replaying.PartAnswers.{PartAnswers}
@@ -32,11 +32,18 @@ pub returns-clause-each : goal.returns-clause-each
 returns-clause-each c =
     let all = c.args.answers.now in
     let old = c.loop-both.pairs.items in
-    let pairs = c.put_in_order.new.pairs.items in
+    let pairs = c.put_in_order.new.list.items in
     let whole : take c.loop-both.both-index all ≡ all = take_all c.loop-both.both-index all (omega arith) in
     All-weaker (λ (p : PartAnswers). Differ p → Contains old p) (λ (p : PartAnswers). Differ p → Contains pairs p)
     (λ p had differs. c.in_ok-put_in_order.ensures.keeps p (had differs)) all
     (subst (All (λ (p : PartAnswers). Differ p → Contains old p)) whole c.loop-both.invariant.each)
+
+pub returns-clause-differ : goal.returns-clause-differ
+returns-clause-differ c =
+    let old = c.loop-both.pairs.items in
+    let pairs = c.put_in_order.new.list.items in
+    All-weaker (Contains pairs) Differ (λ p there. All-contains Differ old p c.loop-both.invariant.differ
+    (c.in_ok-put_in_order.ensures.only p there)) pairs (All-contains_itself pairs)
 
 pub returns-clause-rule : goal.returns-clause-rule
 returns-clause-rule c =

@@ -1,4 +1,4 @@
-use Rattle.std.proofs.Common.{◌≡◌, List, [], drop, take}
+use Rattle.std.proofs.Common.{List, [], drop, take}
 use Rattle.std.specs.Prelude.{All, Contains}
 use Rattle.sf_run.specs.declared.replaying.PartAnswers.{PartAnswers}
 use Rattle.sf_rows.specs.Pairs.{AreChangedOf, Differ}

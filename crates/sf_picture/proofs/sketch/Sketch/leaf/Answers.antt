@@ -1,6 +1,6 @@
 use Rattle.std.proofs.Common.{◌≢◌, ℕ, List, length, subst, arith}
 use Rattle.std.specs.Prelude.{All}
-use Rattle.std.specs.List.Sorted.{IsNonDecreasing}
+use Rattle.std.specs.List.Sorted.{IsStrictlyIncreasing}
 use Rattle.std.proofs.lemmas.List.Elements.{All-push}
 use Rattle.sf_picture.proofs.SketchLemmas.{longer, once-more, right-more}
 use Rattle.sf_picture.proofs.sketch.Sketch.leaf.Goals as goal
@@ -15,7 +15,8 @@ invariant_of-self-2 c =
       once-more leaves c.push.new.self.items _ c.in_ok-push.ensures.items c.self.invariant.1
           (subst (λ (a : List ℕ). All (λ (l : List ℕ). l ≢ a) leaves) c.as_slice.ensures.value none),
       c.self.invariant.2,
-      rw c.in_ok-push.ensures.items (All-push IsNonDecreasing leaves c.args.labels.items c.self.invariant.3 c.requires),
+      rw c.in_ok-push.ensures.items (All-push IsStrictlyIncreasing leaves c.args.labels.items
+          c.self.invariant.3 c.requires),
       λ spent. omega (arith, c.self.invariant.4 spent),
     )
 

@@ -5,25 +5,25 @@ use Rattle.std.proofs.lemmas.Map.Keys.{IsStrictlyIncreasing-dedup}
 use Rattle.sf_picture.proofs.HoldingLemmas.{there-at}
 use Rattle.sf_picture.proofs.LastLemmas.{lasts-more, lasts-whole, rising-ascends}
 use Rattle.sf_picture.proofs.AxisLemmas.{lasts-exact}
-use Rattle.sf_picture.proofs.lasts.lasts_of.Goals as goal
+use Rattle.sf_picture.proofs.last_numbers.last_numbers_of.Goals as goal
 
 pub loop-one-preserved : goal.loop-one-preserved
 loop-one-preserved c =
     let i = c.loop-one.invariant in
-    let p = c.in_ok-push_lasts.ensures in
+    let p = c.in_ok-push_last_numbers.ensures in
     record {
-      has = lasts-more c.args.axis c.args.held.now c.loop-one.one-index c.one-item.result c.loop-one.lasts.items
-          c.push_lasts.new.lasts.items (omega arith) c.one-item.is p.keeps p.has i.has;
+      has = lasts-more c.args.axis c.args.held.now c.loop-one.one-index c.one-item.result c.loop-one.last_numbers.items
+          c.push_last_numbers.new.last_numbers.items (omega arith) c.one-item.is p.keeps p.has i.has;
       only = p.only c.args.held.now
           (there-at c.args.held.now c.loop-one.one-index c.one-item.result (omega arith) c.one-item.is) i.only;
     }
 
-pub returns-clause-lasts : goal.returns-clause-lasts
-returns-clause-lasts c =
+pub returns-clause-last_numbers : goal.returns-clause-last_numbers
+returns-clause-last_numbers c =
     let i = c.loop-one.invariant in
     let once = dedup_is eqb c.sort_unstable.new.self.items c.dedup.new.self.items c.dedup.ensures.filtered in
     rw c.in_ok-push.ensures.items
-    (lasts-whole c.args.held.now c.args.axis c.loop-one.lasts.items c.sort_unstable.new.self.items
+    (lasts-whole c.args.held.now c.args.axis c.loop-one.last_numbers.items c.sort_unstable.new.self.items
     c.dedup.new.self.items c.loop-one.one-index (omega arith) i.has i.only c.sort_unstable.ensures.permutation once
     (subst IsNonDecreasing (sym once)
     (rising-ascends _ (IsStrictlyIncreasing-dedup c.sort_unstable.new.self.items c.sort_unstable.ensures.sorted))))
@@ -35,7 +35,7 @@ returns-clause-rule c =
     let rising = IsStrictlyIncreasing-dedup c.sort_unstable.new.self.items c.sort_unstable.ensures.sorted in
     rw c.in_ok-push.ensures.items
     (lasts-exact c.args.held.now c.args.axis c.dedup.new.self.items
-    (lasts-whole c.args.held.now c.args.axis c.loop-one.lasts.items c.sort_unstable.new.self.items
+    (lasts-whole c.args.held.now c.args.axis c.loop-one.last_numbers.items c.sort_unstable.new.self.items
     c.dedup.new.self.items c.loop-one.one-index (omega arith) i.has i.only c.sort_unstable.ensures.permutation once
     (subst IsNonDecreasing (sym once) (rising-ascends _ rising)))
     (subst IsStrictlyIncreasing (sym once) rising))
