@@ -121,7 +121,6 @@ KNOWN = {
         "mark_of": "the text that marks a filter",
         "told": "a text that is written",
     },
-    "sf_picture": {"passed": "the numbers below the next one to draw"},
 }
 
 WORD = {form: (crates, meaning) for forms, crates, meaning in WORDS for form in forms.split()}

@@ -1,3 +1,4 @@
 pub mod ChangeLemmas
+pub mod ComparisonLemmas
 pub mod UserLemmas
 pub mod OneComparison

@@ -18,12 +18,12 @@ use Rattle.sf_compare.specs.Finding.{new_of, old_of}
 use Rattle.sf_compare.proofs.ChangeLemmas.{both_parts}
 
 -- where nothing gets further, what breaks the question under the new stack breaks it under the old one
-pub breaks_no_more : (s : BookData) (older : ℕ) (q : QuestionData) (d : Input) → IsSettled s
-    → IsRightChange s older Looser Never → IsUpward q.actions → IsInput d
-    → Breaks (new_of s older) q d → Breaks (old_of s older) q d
-breaks_no_more s older q d settled never upward is broken =
-    let both = answers_are_right (old_of s older) (new_of s older) d
-    (subst IsLawfulStack (sym (both_parts s older)) settled.lawful.stack) in
+pub breaks_no_more : (s : BookData) (old_count : ℕ) (q : QuestionData) (d : Input) → IsSettled s
+    → IsRightChange s old_count Looser Never → IsUpward q.actions → IsInput d
+    → Breaks (new_of s old_count) q d → Breaks (old_of s old_count) q d
+breaks_no_more s old_count q d settled never upward is broken =
+    let both = answers_are_right (old_of s old_count) (new_of s old_count) d
+    (subst IsLawfulStack (sym (both_parts s old_count)) settled.lawful.stack) in
     let before = both.0.older in
     let answered = both.2.of_older in
     record {

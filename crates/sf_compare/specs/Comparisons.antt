@@ -19,14 +19,14 @@ use Rattle.sf_compare.specs.Finding.{new_of, old_of}
 -- the members of each region, and what is found of each relation
 pub record Compared : Type 0 where
   pub settled : BookData
-  pub older : ℕ
+  pub old_count : ℕ
   pub answers : List PartAnswers
   pub findings : Findings
 
 -- the old stack is the first part of the whole, and the answers are those of the two parts
 pub record IsOfTwoStacks (c : Compared) : Type 0 where
-  pub part : c.older ≤ length c.settled.stack
-  pub answers : AreAnswersOfRegions c.settled c.older c.answers
+  pub part : c.old_count ≤ length c.settled.stack
+  pub answers : AreAnswersOfRegions c.settled c.old_count c.answers
 
 -- what is found of a relation
 abbrev pub change_of : Compared → Relation → Change
@@ -35,16 +35,16 @@ change_of c relation = finding_of c.findings relation
 -- An exploration of the stack came to its end, with nothing outstanding or all of the budget spent; on a plain stack
 -- this is the exact end, whoever worked. The stack's first programs are the old stack, and the others the new one: what
 -- is found of each relation between their answers is right, and what the rules find.
-pub record IsComparedOn (stack : List (List Insn)) (older budget : ℕ) (c : Compared) : Type 0 where
+pub record IsComparedOn (stack : List (List Insn)) (old_count budget : ℕ) (c : Compared) : Type 0 where
   pub end : IsExplorationOf stack budget c.settled
   pub plain : IsPlain stack → IsExactExploration stack budget c.settled
-  pub parted : c.older ≡ older
-  pub told : (relation : Relation) → IsChangeOf c.settled older relation (change_of c relation)
+  pub parted : c.old_count ≡ old_count
+  pub told : (relation : Relation) → IsChangeOf c.settled old_count relation (change_of c relation)
 
--- a comparison of the two stacks that files spell: the first `older` files are those of the old stack
-pub record IsComparison (files : List (List ℕ)) (older budget : ℕ) (c : Compared) : Type 0 where
+-- a comparison of the two stacks that files spell: the first `old_count` files are those of the old stack
+pub record IsComparison (files : List (List ℕ)) (old_count budget : ℕ) (c : Compared) : Type 0 where
   pub stack : SpellStack files c.settled.stack
-  pub compared : IsComparedOn c.settled.stack older budget c
+  pub compared : IsComparedOn c.settled.stack old_count budget c
 
 -- how many filters one of the two stacks has, and the length of the path through them
 abbrev pub part_line : List ℕ → List (List Insn) → List ℕ
@@ -64,8 +64,8 @@ comparison_title = line (codes "seccomp_audit" ∷ codes "compare" ∷ codes "1"
 
 -- the lines of both stacks and of the exploration
 abbrev pub sizes_text : BookData → ℕ → List ℕ
-sizes_text s older = comparison_title ++ (part_line (codes "old") (old_of s older)
-    ++ (part_line (codes "new") (new_of s older) ++ counts_line (counts_of s)))
+sizes_text s old_count = comparison_title ++ (part_line (codes "old") (old_of s old_count)
+    ++ (part_line (codes "new") (new_of s old_count) ++ counts_line (counts_of s)))
 
 -- the lines of the relations
 abbrev pub changes_text : Compared → List ℕ
@@ -74,4 +74,4 @@ changes_text c = change_line (codes "looser") c.findings.looser ++ (change_line 
 
 -- the whole text
 abbrev pub comparison_text : Compared → List ℕ
-comparison_text c = sizes_text c.settled c.older ++ changes_text c
+comparison_text c = sizes_text c.settled c.old_count ++ changes_text c

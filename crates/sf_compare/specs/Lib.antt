@@ -1,5 +1,6 @@
 pub mod Relations
 pub mod Finding
 pub mod Changes
+pub mod FoundSoFar
 pub mod Comparisons
 pub mod Documents

@@ -3,7 +3,8 @@
 ghost use Rattle.std.specs.Prelude.{◌≡◌, ◌<◌, ◌≤◌, ◌+◌, ◌↔◌, ℕ, false, length, IfOk, IfErr, IsTrue};
 ghost use Rattle.sf_ask.specs.declared.fault.Fault.TheVariants.{Memory};
 ghost use Rattle.sf_compare.specs.declared.relation.Relation.{Relation as ARelation};
-ghost use Rattle.sf_compare.specs.Changes.{AllTellBefore, AreAnswersAt, AreAnswersOfRegions, AreFindings, Follows, IsChangeOf, IsSought, TellsBefore, finding_of};
+ghost use Rattle.sf_compare.specs.Changes.{AreAnswersAt, AreAnswersOfRegions, IsChangeOf, finding_of};
+ghost use Rattle.sf_compare.specs.FoundSoFar.{AllTellBefore, AreFindings, Follows, IsSought, TellsBefore};
 
 use crate::relation::Relation;
 use sf_ask::{Fault, Membership, find_member};
@@ -30,11 +31,12 @@ pub enum Change {
     Never,
     /// This input is changed in this way.
     Found(Example),
-    /// Nothing was found, but a piece is outstanding or a region is in doubt.
+    /// No input was found, but there may be one: a piece is outstanding or a region is in doubt. It is in doubt where
+    /// its two answers have the relation, and the search for a member neither finds one nor shows that there is none.
     Unsettled,
 }
 
-/// What is found of each relation.
+/// What is found of each relation: in the end, or in the regions that were looked at so far.
 #[derive(Clone, Copy, Debug, PartialEq, Eq)]
 pub(crate) struct Findings {
     pub(crate) looser: Change,
@@ -42,41 +44,44 @@ pub(crate) struct Findings {
     pub(crate) different: Change,
 }
 
-/// The answers of both stacks to the members of the region at a place. `Memory` where an allocation is refused.
+/// The answers of both stacks to the members of the region at a place: a replay along its name gives them. The first
+/// `old_count` programs are the old stack, and the others the new one. The caller's conditions: the stack has at least
+/// `old_count` programs, and a region stands at the place. `Memory` where an allocation is refused.
 fn answers_at(
     alloc: Global,
     settled: &Settled,
-    older: usize,
+    old_count: usize,
     place: usize,
 ) -> Result<PartAnswers, Fault>
-    requires older { older ≤ length settled.now.stack }
+    requires old_count { old_count ≤ length settled.now.stack }
     requires place { place < length settled.now.regions }
-    ensures ok { IfOk result (AreAnswersAt settled.now older place) }
+    ensures ok { IfOk result (AreAnswersAt settled.now old_count place) }
     ensures err { IfErr result (λ f. f ≡ Memory) }
 {
     let programs = settled.stack().programs();
     let route = settled.region(place).name().values(alloc)?;
-    match replay(&programs[..older], &programs[older..], &route) {
+    match replay(&programs[..old_count], &programs[old_count..], &route) {
         Some(both) => Ok(both),
+        // A region's name is a whole trace, so both stacks return along it.
         None => unreachable!(),
     }
 }
 
 /// The answers of both stacks to the members of each region, in the order of the regions. Both were explored as one
-/// stack: its first `older` programs are the old stack, and the others the new one. The caller's condition: the stack
-/// has at least `older` programs. `Memory` where an allocation is refused.
+/// stack: its first `old_count` programs are the old stack, and the others the new one. The caller's condition: the
+/// stack has at least `old_count` programs. `Memory` where an allocation is refused.
 pub(crate) fn answers_of_regions(
     alloc: Global,
     settled: &Settled,
-    older: usize,
+    old_count: usize,
 ) -> Result<Vec<PartAnswers>, Fault>
-    requires { older ≤ length settled.now.stack }
-    ensures ok { IfOk result (λ all. AreAnswersOfRegions settled.now older all.items) }
+    requires { old_count ≤ length settled.now.stack }
+    ensures ok { IfOk result (λ all. AreAnswersOfRegions settled.now old_count all.items) }
     ensures err { IfErr result (λ f. f ≡ Memory) }
 {
     let mut answers = Vec::with_capacity(alloc, settled.region_count())?;
     for place in 0..settled.region_count() {
-        let both = answers_at(alloc, settled, older, place)?;
+        let both = answers_at(alloc, settled, old_count, place)?;
         answers.push(both)?;
     }
     Ok(answers)
@@ -116,7 +121,9 @@ fn is_sought(relation: Relation, both: PartAnswers, found: Change) -> bool
     }
 }
 
-/// What is found of a relation after one more region, from what was found before it, and of the region's members.
+/// What is found of a relation after one more region, whose members get these two answers. `found` is what was found
+/// before it, and `membership` what a search for a member of the region found. Where no example is sought in the
+/// region, what was found before stays.
 fn change_after(
     relation: Relation,
     both: PartAnswers,
@@ -139,24 +146,25 @@ fn change_after(
     }
 }
 
-/// What is found of each relation after the region at a place. A member of it is looked for once, and only where an
-/// example is sought. `Memory` where an allocation is refused.
+/// What is found of each relation after the region at a place. A member of it is looked for once for all relations, and
+/// only where an example of one is sought. The caller's conditions: `both` are the answers to the region's members, and
+/// `found` is what is found in the regions before it. `Memory` where an allocation is refused.
 fn findings_after(
     alloc: Global,
     settled: &Settled,
-    older: usize,
+    old_count: usize,
     place: usize,
     both: PartAnswers,
     found: Findings,
 ) -> Result<Findings, Fault>
     requires place { place < length settled.now.regions }
-    requires answers { AreAnswersAt settled.now older place both }
-    requires found { AllTellBefore settled.now older place found }
-    ensures ok { IfOk result (AllTellBefore settled.now older (place + 1)) }
+    requires answers { AreAnswersAt settled.now old_count place both }
+    requires found { AllTellBefore settled.now old_count place found }
+    ensures ok { IfOk result (AllTellBefore settled.now old_count (place + 1)) }
     ensures err { IfErr result (λ f. f ≡ Memory) }
 {
     // For the prover: only clauses speak of it.
-    let _of = older;
+    let _of = old_count;
     let region = settled.region(place);
     if !found.seeks_example(both) {
         return Ok(found);
@@ -172,15 +180,15 @@ fn findings_after(
     })
 }
 
-/// What is found of a relation when every region was looked at: `Never` becomes `Unsettled` where a piece is
-/// outstanding.
-fn change_at_end(settled: &Settled, older: usize, relation: Relation, found: Change) -> Change
-    requires { TellsBefore settled.now older (length settled.now.regions) relation found }
-    ensures { IsChangeOf settled.now older relation result }
+/// What is found of a relation in the end, by what was found of it in all regions, `found`: `Never` becomes `Unsettled`
+/// where a piece is outstanding, and all else stays.
+fn change_at_end(settled: &Settled, old_count: usize, relation: Relation, found: Change) -> Change
+    requires { TellsBefore settled.now old_count (length settled.now.regions) relation found }
+    ensures { IsChangeOf settled.now old_count relation result }
 {
     let any_left = settled.outstanding_count() > 0;
     // For the prover: only clauses speak of these.
-    let _of = (older, relation);
+    let _of = (old_count, relation);
     match found {
         Change::Never if any_left => Change::Unsettled,
         Change::Never => Change::Never,
@@ -190,7 +198,7 @@ fn change_at_end(settled: &Settled, older: usize, relation: Relation, found: Cha
 }
 
 /// What is found of each relation between the answers of an old stack and of a new one, for all inputs. Both were
-/// explored as one stack: its first `older` programs are the old stack, and the others the new one. The caller's
+/// explored as one stack: its first `old_count` programs are the old stack, and the others the new one. The caller's
 /// condition: `answers` are those of `answers_of_regions`.
 ///
 /// Regions are searched in their order, for members whose two answers have the relation. `Found` has the member of the
@@ -201,11 +209,11 @@ fn change_at_end(settled: &Settled, older: usize, relation: Relation, found: Cha
 pub(crate) fn find_changes(
     alloc: Global,
     settled: &Settled,
-    older: usize,
+    old_count: usize,
     answers: &[PartAnswers],
 ) -> Result<Findings, Fault>
-    requires { AreAnswersOfRegions settled.now older answers.now }
-    ensures ok { IfOk result (AreFindings settled.now older) }
+    requires { AreAnswersOfRegions settled.now old_count answers.now }
+    ensures ok { IfOk result (AreFindings settled.now old_count) }
     ensures err { IfErr result (λ f. f ≡ Memory) }
 {
     let mut found = Findings {
@@ -214,11 +222,11 @@ pub(crate) fn find_changes(
         different: Change::Never,
     };
     for place in 0..answers.len() {
-        found = findings_after(alloc, settled, older, place, answers[place], found)?;
+        found = findings_after(alloc, settled, old_count, place, answers[place], found)?;
     }
-    let looser = change_at_end(settled, older, Relation::Looser, found.looser);
-    let tighter = change_at_end(settled, older, Relation::Tighter, found.tighter);
-    let different = change_at_end(settled, older, Relation::Different, found.different);
+    let looser = change_at_end(settled, old_count, Relation::Looser, found.looser);
+    let tighter = change_at_end(settled, old_count, Relation::Tighter, found.tighter);
+    let different = change_at_end(settled, old_count, Relation::Different, found.different);
     Ok(Findings {
         looser,
         tighter,

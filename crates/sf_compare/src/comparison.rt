@@ -3,12 +3,12 @@
 ghost use Rattle.std.specs.Prelude.{◌≡◌, ◌⊎◌, ◌<◌, ◌≤◌, length, map, IfOk, IfErr};
 ghost use Rattle.sf_policy.specs.Filters.{IsFirstRefusal};
 ghost use Rattle.sf_compare.specs.Changes.{AreAnswersOfRegions};
-ghost use Rattle.sf_compare.specs.Comparisons.{change_of, IsComparedOn, IsComparison};
+ghost use Rattle.sf_compare.specs.Comparisons.{change_of, IsComparison};
+ghost use Rattle.sf_compare.specs.FoundSoFar.{AreFindings};
 
 use crate::changes::{Change, Findings, answers_of_regions, find_changes};
 use crate::relation::Relation;
 use sf_book::Settled;
-use sf_check::Stack;
 use sf_crew::{Gate, explore};
 use sf_policy::{Fault, stack_of};
 use sf_run::PartAnswers;
@@ -17,11 +17,12 @@ use std::marker::Model;
 use std::sync::{Arc, Wait};
 use std::thread::Threads;
 
-/// What a comparison found: how the exploration of both stacks as one ended, and what was found of each relation.
+/// What a comparison found: how the exploration of both stacks as one ended, how many of its programs are those of the
+/// old stack, the answers of both stacks to each region, and what was found of each relation.
 #[derive(Drop)]
 pub struct Comparison {
     settled: Settled,
-    older: usize,
+    old_count: usize,
     answers: Vec<PartAnswers>,
     findings: Findings,
 }
@@ -33,14 +34,14 @@ impl Model for Comparison {
 
     ghost view = { λ c. record {
       settled = c.settled;
-      older = c.older;
+      old_count = c.old_count;
       answers = c.answers.items;
       findings = c.findings;
     } };
 
     ghost invariant = { λ c. IsOfTwoStacks (record {
       settled = c.settled;
-      older = c.older;
+      old_count = c.old_count;
       answers = c.answers.items;
       findings = c.findings;
     }) };
@@ -55,17 +56,17 @@ impl Comparison {
     }
 
     /// How many of the programs are those of the old stack.
-    pub fn older(&self) -> usize
-        ensures same { result ≡ self.now.older }
-        ensures part { self.now.older ≤ length self.now.settled.stack }
+    pub fn old_count(&self) -> usize
+        ensures same { result ≡ self.now.old_count }
+        ensures part { self.now.old_count ≤ length self.now.settled.stack }
     {
-        self.older
+        self.old_count
     }
 
     /// The answers of both stacks to the members of each region, in the order of the regions.
     pub fn answers(&self) -> &[PartAnswers]
         ensures same { result.now ≡ self.now.answers }
-        ensures right { AreAnswersOfRegions self.now.settled self.now.older result.now }
+        ensures right { AreAnswersOfRegions self.now.settled self.now.old_count result.now }
     {
         self.answers.as_slice()
     }
@@ -78,61 +79,60 @@ impl Comparison {
     }
 }
 
-/// The comparison of a stack's first `older` programs, as the old stack, with the others. An error where an allocation
-/// is refused.
-fn compare_parts<R: Threads + Wait + Sync, G: Gate>(
-    rt: &R,
+/// What an exploration of both stacks as one tells of them: its first `old_count` programs are the old stack, and the
+/// others the new one. The caller's condition: the stack has at least `old_count` programs. `Memory` where an
+/// allocation is refused.
+fn comparison_of(
     alloc: Global,
-    stack: Stack,
-    older: usize,
-    budget: u32,
-    workers: usize,
-    gate: &G,
-) -> Result<Comparison, sf_crew::Fault>
-    requires workers { (0 < workers) × (workers ≤ 64) }
-    requires older { older ≤ length stack }
-    ensures { IfOk result (IsComparedOn stack older budget) }
+    settled: Settled,
+    old_count: usize,
+) -> Result<Comparison, sf_ask::Fault>
+    requires { old_count ≤ length settled.stack }
+    ensures same { IfOk result (λ c. c.settled ≡ settled) }
+    ensures parted { IfOk result (λ c. c.old_count ≡ old_count) }
+    ensures found { IfOk result (λ c. AreFindings settled old_count c.findings) }
 {
-    let stack = Arc::new(alloc, stack)?;
-    let settled = explore(rt, alloc, stack, budget, workers, gate)?;
-    let answers = answers_of_regions(alloc, &settled, older)?;
-    let findings = find_changes(alloc, &settled, older, answers.as_slice())?;
+    let answers = answers_of_regions(alloc, &settled, old_count)?;
+    let findings = find_changes(alloc, &settled, old_count, answers.as_slice())?;
     Ok(Comparison {
         settled,
-        older,
+        old_count,
         answers,
         findings,
     })
 }
 
-/// Compares two stacks, for all inputs. The first `older` filter files are those of the old stack, and the others those
-/// of the new one. The files of each stack stand in order of installation, the newest last. Both stacks are explored as
-/// one, by at most `budget` works. The gate sees each work before it is committed.
+/// Compares two stacks, for all inputs. The first `old_count` filter files are those of the old stack, and the others
+/// those of the new one. The files of each stack stand in order of installation, the newest last. Both stacks are
+/// explored as one, by at most `budget` works. The gate sees each work before it is committed.
 ///
-/// The caller's conditions: at least `older` files, a budget from 1 to 1,000,000, and 1 to 64 workers (where there are
-/// more than one, each gets a thread, if it can be started). Refusals: those of `stack_of` for all files together.
+/// The caller's conditions: at least `old_count` files, a budget from 1 to 1,000,000, and 1 to 64 workers (where there
+/// are more than one, each gets a thread, if it can be started). Refusals: those of `stack_of` for all files together.
 /// `Memory` can come anywhere. Waits for the workers.
 pub fn compare<R: Threads + Wait + Sync, G: Gate>(
     rt: &R,
     alloc: Global,
     filters: &[Vec<u8>],
-    older: usize,
+    old_count: usize,
     budget: u32,
     workers: usize,
     gate: &G,
 ) -> Result<Comparison, Fault>
     requires workers { (0 < workers) × (workers ≤ 64) }
-    requires older { older ≤ length filters.now }
+    requires old_count { old_count ≤ length filters.now }
 
     // What is found of the two stacks that the files spell is right.
-    ensures found { IfOk result (IsComparison (map (λ f. f.items) filters.now) older budget) }
+    ensures found { IfOk result (IsComparison (map (λ f. f.items) filters.now) old_count budget) }
 
     // Any error is the files' first refusal, or refused memory.
     ensures refused { IfErr result (λ e. (e ≡ Fault.Memory)
         ⊎ IsFirstRefusal (map (λ f. f.items) filters.now) e) }
 {
-    let stack = stack_of(alloc, filters)?;
-    match compare_parts(rt, alloc, stack, older, budget, workers, gate) {
+    let stack = Arc::new(alloc, stack_of(alloc, filters)?)?;
+    let Ok(settled) = explore(rt, alloc, stack, budget, workers, gate) else {
+        return Err(Fault::Memory);
+    };
+    match comparison_of(alloc, settled, old_count) {
         Ok(comparison) => Ok(comparison),
         Err(_) => Err(Fault::Memory),
     }

@@ -16,7 +16,8 @@ use sf_json::{Document, Fields, answer_document, counts_document, input_document
 use sf_names::Names;
 use std::alloc::{AllocError, Global};
 
-/// A result for a relation, an example, and the answers of both stacks to it.
+/// What is found of a relation: the word for it, an example, and the answers of both stacks to this input. Without an
+/// example all three are null.
 fn result_document(
     alloc: Global,
     word: &str,
@@ -35,7 +36,7 @@ fn result_document(
     Ok(Document::object(fields))
 }
 
-/// A result without an example.
+/// What is found of a relation where there is no example: the word for it.
 fn bare_document(alloc: Global, word: &str) -> Result<Document, AllocError>
     ensures { IfOk result (λ d. view d ≡ result_document word.now null null null) }
 {
@@ -48,7 +49,7 @@ fn bare_document(alloc: Global, word: &str) -> Result<Document, AllocError>
     )
 }
 
-/// The result that an example was found.
+/// What is found of a relation where there is an example. Its input is shown with these names of calls.
 fn found_document(alloc: Global, names: &[Names], example: &Example) -> Result<Document, AllocError>
     ensures { IfOk result (λ d. view d ≡ change_document names.now (Found example.now)) }
 {
@@ -58,7 +59,7 @@ fn found_document(alloc: Global, names: &[Names], example: &Example) -> Result<D
     result_document(alloc, "found", input, old, new)
 }
 
-/// What is found of a relation.
+/// What is found of a relation. Inputs are shown with these names of calls.
 fn change_document(alloc: Global, names: &[Names], change: Change) -> Result<Document, AllocError>
     ensures { IfOk result (λ d. view d ≡ change_document names.now change) }
 {
@@ -69,20 +70,21 @@ fn change_document(alloc: Global, names: &[Names], change: Change) -> Result<Doc
     }
 }
 
-/// The size of the old stack.
-fn old_sizes(alloc: Global, settled: &Settled, older: usize) -> Result<Document, AllocError>
-    requires { older ≤ length settled.now.stack }
-    ensures { IfOk result (λ d. view d ≡ sizes_document (old_of settled.now older)) }
+/// The size of the old stack, the first `old_count` programs. The caller's condition: the explored stack has as many.
+fn old_sizes(alloc: Global, settled: &Settled, old_count: usize) -> Result<Document, AllocError>
+    requires { old_count ≤ length settled.now.stack }
+    ensures { IfOk result (λ d. view d ≡ sizes_document (old_of settled.now old_count)) }
 {
-    sizes_document(alloc, &settled.stack().programs()[..older])
+    sizes_document(alloc, &settled.stack().programs()[..old_count])
 }
 
-/// The size of the new stack.
-fn new_sizes(alloc: Global, settled: &Settled, older: usize) -> Result<Document, AllocError>
-    requires { older ≤ length settled.now.stack }
-    ensures { IfOk result (λ d. view d ≡ sizes_document (new_of settled.now older)) }
+/// The size of the new stack, all but the first `old_count` programs. The caller's condition: the explored stack has as
+/// many.
+fn new_sizes(alloc: Global, settled: &Settled, old_count: usize) -> Result<Document, AllocError>
+    requires { old_count ≤ length settled.now.stack }
+    ensures { IfOk result (λ d. view d ≡ sizes_document (new_of settled.now old_count)) }
 {
-    sizes_document(alloc, &settled.stack().programs()[older..])
+    sizes_document(alloc, &settled.stack().programs()[old_count..])
 }
 
 /// The fields of a comparison as JSON: the sizes of both stacks, the counts of the exploration, and what is found of
@@ -95,15 +97,15 @@ pub fn comparison_fields(
 ) -> Result<Fields, AllocError>
     ensures { IfOk result (λ f. view f ≡ comparison_document names.now comparison.now) }
 {
-    let (settled, older) = (comparison.settled(), comparison.older());
+    let (settled, old_count) = (comparison.settled(), comparison.old_count());
     let looser = change_document(alloc, names, comparison.change(Relation::Looser))?;
     let tighter = change_document(alloc, names, comparison.change(Relation::Tighter))?;
     let different = change_document(alloc, names, comparison.change(Relation::Different))?;
     Fields::new(alloc)
         .with("seccomp_audit", Document::copy_of(alloc, "compare")?)?
         .with("version", Document::number(1))?
-        .with("old", old_sizes(alloc, settled, older)?)?
-        .with("new", new_sizes(alloc, settled, older)?)?
+        .with("old", old_sizes(alloc, settled, old_count)?)?
+        .with("new", new_sizes(alloc, settled, old_count)?)?
         .with("counts", counts_document(alloc, settled)?)?
         .with("looser", looser)?
         .with("tighter", tighter)?

@@ -24,16 +24,16 @@ use sf_piece::laws::execution_has_one_result;
 /// it under the old one, if the question asks about all actions that let a call get as far as one that it asks about.
 /// So where the reply to such a question is `never` for the old stack, it holds for the new one too.
 pub fn never_looser_breaks_no_more()
-    ensures { (s : BookData) (older : ℕ) (q : QuestionData) (d : Input) →
-        IsSettled s → IsRightChange s older Looser Never → IsUpward q.actions → IsInput d
-        → Breaks (new_of s older) q d → Breaks (old_of s older) q d }
+    ensures { (s : BookData) (old_count : ℕ) (q : QuestionData) (d : Input) →
+        IsSettled s → IsRightChange s old_count Looser Never → IsUpward q.actions → IsInput d
+        → Breaks (new_of s old_count) q d → Breaks (old_of s old_count) q d }
 {}
 
 /// Two comparisons of the same stacks have the same text, where both leave nothing outstanding: whatever their budgets,
 /// whoever worked and in whatever order.
 pub fn one_text()
-    ensures { (files others : List (List ℕ)) (older b c : ℕ) (o p : Compared) →
-        IsComparison files older b o → IsComparison others older c p →
+    ensures { (files others : List (List ℕ)) (old_count b c : ℕ) (o p : Compared) →
+        IsComparison files old_count b o → IsComparison others old_count c p →
         o.settled.stack ≡ p.settled.stack →
         o.settled.outstanding ≡ [] → p.settled.outstanding ≡ [] →
         comparison_text o ≡ comparison_text p }
@@ -45,8 +45,8 @@ pub fn one_text()
 
 /// Two comparisons as in `one_text` have the same JSON document too, where they are shown with the same names of calls.
 pub fn one_document()
-    ensures { (files others : List (List ℕ)) (older b c : ℕ) (o p : Compared) →
-        IsComparison files older b o → IsComparison others older c p →
+    ensures { (files others : List (List ℕ)) (old_count b c : ℕ) (o p : Compared) →
+        IsComparison files old_count b o → IsComparison others old_count c p →
         o.settled.stack ≡ p.settled.stack →
         o.settled.outstanding ≡ [] → p.settled.outstanding ≡ [] →
         (names : List NamesData) → comparison_document names o ≡ comparison_document names p }

@@ -27,7 +27,8 @@ fn words_of(alloc: Global, answer: Answer) -> Result<String, AllocError>
     Ok(text)
 }
 
-/// Adds the line of a relation: what was found of it, and the example with both answers.
+/// Adds the line of a relation, which is given by its word: what was found of it, and the example with the answers of
+/// the old stack and of the new one, if there is one.
 fn push_change(
     alloc: Global,
     text: &mut String,
@@ -64,7 +65,8 @@ fn push_changes(alloc: Global, text: &mut String, comparison: &Comparison) -> Re
     )
 }
 
-/// Adds the line with the size of one of the two stacks.
+/// Adds the line with the size of one of the two stacks. `which` says which one it is: `old` or `new`. The caller's
+/// condition: it has at most 64 programs.
 fn push_part(text: &mut String, which: &str, programs: &[Program]) -> Result<(), AllocError>
     requires { length programs.now ≤ 64 }
     ensures { OnOk result (string_bytes text.new ≡ string_bytes text.old
@@ -75,16 +77,17 @@ fn push_part(text: &mut String, which: &str, programs: &[Program]) -> Result<(),
     write!(text, "{which} filters {filters} path {path}\n")
 }
 
-/// Adds what stands above the relations: the version of the text, the sizes of both stacks, and the counts.
-fn push_sizes(text: &mut String, settled: &Settled, older: usize) -> Result<(), AllocError>
-    requires { older ≤ length settled.now.stack }
+/// Adds what stands above the relations: the version of the text, the sizes of both stacks, and the counts of the
+/// exploration. The caller's condition: the explored stack has at least `old_count` programs.
+fn push_sizes(text: &mut String, settled: &Settled, old_count: usize) -> Result<(), AllocError>
+    requires { old_count ≤ length settled.now.stack }
     ensures { OnOk result (string_bytes text.new ≡ string_bytes text.old
-        ++ sizes_text settled.now older) }
+        ++ sizes_text settled.now old_count) }
 {
     text.push_str("seccomp_audit compare 1\n")?;
     let programs = settled.stack().programs();
-    push_part(text, "old", &programs[..older])?;
-    push_part(text, "new", &programs[older..])?;
+    push_part(text, "old", &programs[..old_count])?;
+    push_part(text, "new", &programs[old_count..])?;
     push_counts(text, settled.counts())
 }
 
@@ -93,7 +96,7 @@ pub fn text_of_comparison(alloc: Global, comparison: &Comparison) -> Result<Stri
     ensures { IfOk result (λ text. string_bytes text ≡ comparison_text comparison.now) }
 {
     let mut text = String::new(alloc);
-    push_sizes(&mut text, comparison.settled(), comparison.older())?;
+    push_sizes(&mut text, comparison.settled(), comparison.old_count())?;
     push_changes(alloc, &mut text, comparison)?;
     Ok(text)
 }

@@ -79,10 +79,10 @@ no-count : (count label : ℕ) → is_unchanged count (label ∷ []) ≡ false �
 no-count count label h e = grind (arith, common_steps, nat_tests)
 
 -- the labels of pairs are those of the regions
-pub tell-pairs : (s : BookData) (older : ℕ) (answers pairs : List PartAnswers) (labels : List ℕ)
-    → AreAnswersOfRegions s older answers → ((n : ℕ) (both : PartAnswers) → slice_get answers n ≡ Some both
-    → IsLabelOf pairs both (slice_index labels n)) → TellPairs s older pairs labels
-tell-pairs s older answers pairs labels all told = record {
+pub tell-pairs : (s : BookData) (old_count : ℕ) (answers pairs : List PartAnswers) (labels : List ℕ)
+    → AreAnswersOfRegions s old_count answers → ((n : ℕ) (both : PartAnswers) → slice_get answers n ≡ Some both
+    → IsLabelOf pairs both (slice_index labels n)) → TellPairs s old_count pairs labels
+tell-pairs s old_count answers pairs labels all told = record {
   each = λ place region there.
       let within = slice_get_within s.regions place region there in
       let count = all.count in
@@ -93,22 +93,22 @@ tell-pairs s older answers pairs labels all told = record {
 -- ---- inputs
 
 -- What is told of an input: its label, and what both stacks answer to it.
-pub record IsTold (s : BookData) (older : ℕ) (x : DifferencesData) (p : PictureData) (d : Input) : Type 0 where
+pub record IsTold (s : BookData) (old_count : ℕ) (x : DifferencesData) (p : PictureData) (d : Input) : Type 0 where
   pub label : ℕ
   pub both : PartAnswers
   pub shown : Contains (labels_at p d) label
   pub is : IsLabelOf x.pairs both label
-  pub before : Answers (old_of s older) d both.older
-  pub after : Answers (new_of s older) d both.newer
+  pub before : Answers (old_of s old_count) d both.older
+  pub after : Answers (new_of s old_count) d both.newer
 
 -- what was drawn
-drawn : (s : BookData) (older : ℕ) (x : DifferencesData) (p : PictureData) → AreDifferences s older x
-    → x.picture ≡ Some p → ArePictured s older x.pairs p
-drawn s older x p h some = grind (arith, common_steps)
+drawn : (s : BookData) (old_count : ℕ) (x : DifferencesData) (p : PictureData) → AreDifferences s old_count x
+    → x.picture ≡ Some p → ArePictured s old_count x.pairs p
+drawn s old_count x p h some = grind (arith, common_steps)
 
-told : (s : BookData) (older : ℕ) (x : DifferencesData) (p : PictureData) (d : Input) → IsSettled s
-    → ArePictured s older x.pairs p → IsInput d → IsTold s older x p d
-told s older x p d settled h input = search (arith, in_some_region, shown)
+told : (s : BookData) (old_count : ℕ) (x : DifferencesData) (p : PictureData) (d : Input) → IsSettled s
+    → ArePictured s old_count x.pairs p → IsInput d → IsTold s old_count x p d
+told s old_count x p d settled h input = search (arith, in_some_region, shown)
 
 -- ---- rows
 
@@ -122,14 +122,15 @@ abbrev pub HasItsLabels : Type 0
 HasItsLabels = (p : PictureData) (d : Input) (r : RowData) → IsPicture p → IsInput d → Contains (rows_of p) r
     → is_in_scope r.scope d ≡ true → r.labels ≡ labels_at p d
 
-pub row-differences : HasItsLabels → (s : BookData) (older : ℕ) (x : DifferencesData) (p : PictureData)
+pub row-differences : HasItsLabels → (s : BookData) (old_count : ℕ) (x : DifferencesData) (p : PictureData)
     (d : Input) (r : RowData)
-    → IsSettled s → AreDifferences s older x → x.picture ≡ Some p → IsInput d → Contains (rows_of p) r
+    → IsSettled s → AreDifferences s old_count x → x.picture ≡ Some p → IsInput d → Contains (rows_of p) r
     → is_in_scope r.scope d ≡ true → (label : ℕ) × (both : PartAnswers) × Contains r.labels label
-    × IsLabelOf x.pairs both label × Answers (old_of s older) d both.older × Answers (new_of s older) d both.newer
-row-differences in-row s older x p d r settled h some input there on =
-    let pictured = drawn s older x p h some in
-    let t = told s older x p d settled pictured input in
+    × IsLabelOf x.pairs both label × Answers (old_of s old_count) d both.older
+    × Answers (new_of s old_count) d both.newer
+row-differences in-row s old_count x p d r settled h some input there on =
+    let pictured = drawn s old_count x p h some in
+    let t = told s old_count x p d settled pictured input in
     let same = in-row p d r pictured.lawful input there on in
     (t.label, t.both, subst (λ (ls : List ℕ). Contains ls t.label) (sym same) t.shown, t.is, t.before, t.after)
 
@@ -140,21 +141,21 @@ place-of pairs both label (inl differ) differs = slice_get_within pairs label bo
 place-of pairs both label (inr same) differs = absurd (differs same.0)
 
 pub changed-shown : LiesInOne → HasItsLabels
-    → (s : BookData) (older : ℕ) (x : DifferencesData) (p : PictureData) (d : Input)
-    (before after : Answer) → IsSettled s → AreDifferences s older x → x.picture ≡ Some p
-    → IsChange (old_of s older) (new_of s older) Different d before after
+    → (s : BookData) (old_count : ℕ) (x : DifferencesData) (p : PictureData) (d : Input)
+    (before after : Answer) → IsSettled s → AreDifferences s old_count x → x.picture ≡ Some p
+    → IsChange (old_of s old_count) (new_of s old_count) Different d before after
     → (r : RowData) × Contains (changed_rows x) r × (is_in_scope r.scope d ≡ true)
-changed-shown in-one in-row s older x p d before after settled h some change =
-    let pictured = drawn s older x p h some in
-    let t = told s older x p d settled pictured change.input in
+changed-shown in-one in-row s old_count x p d before after settled h some change =
+    let pictured = drawn s old_count x p h some in
+    let t = told s old_count x p d settled pictured change.input in
     let one-row = in-one p d pictured.lawful change.input in
     let row = counted (λ (r : RowData). is_in_scope r.scope d) (rows_of p) (omega (arith, one-row)) in
     let r = row.0 in
     let same = in-row p d r pictured.lawful change.input row.1 row.2 in
     let b : before ≡ t.both.older =
-    one (returns_of (old_of s older) d) before t.both.older change.answered_before t.before in
+    one (returns_of (old_of s old_count) d) before t.both.older change.answered_before t.before in
     let a : after ≡ t.both.newer =
-    one (returns_of (new_of s older) d) after t.both.newer change.answered_after t.after in
+    one (returns_of (new_of s old_count) d) after t.both.newer change.answered_after t.after in
     let differs : Differ t.both = λ e. change.related (b ∙ e ∙ sym a) in
     let lt = place-of x.pairs t.both t.label t.is differs in
     let passes : not (is_unchanged (length x.pairs) r.labels) ≡ true =
@@ -185,15 +186,15 @@ not-true : (b : Bool) → not b ≡ true → b ≡ false
 not-true true e = cc
 not-true false e = refl
 
-pub plain-difference : HasItsLabels → (s : BookData) (older : ℕ) (x : DifferencesData) (p : PictureData)
+pub plain-difference : HasItsLabels → (s : BookData) (old_count : ℕ) (x : DifferencesData) (p : PictureData)
     (d : Input) (r : RowData)
-    → IsSettled s → AreDifferences s older x → x.picture ≡ Some p → IsPlain s.stack → p.spent ≡ false → IsInput d
+    → IsSettled s → AreDifferences s old_count x → x.picture ≡ Some p → IsPlain s.stack → p.spent ≡ false → IsInput d
     → Contains (changed_rows x) r → is_in_scope r.scope d ≡ true → (label : ℕ) × (both : PartAnswers)
     × (r.labels ≡ label ∷ []) × (slice_get x.pairs label ≡ Some both) × Differ both
-    × Answers (old_of s older) d both.older × Answers (new_of s older) d both.newer
-plain-difference in-row s older x p d r settled h some plain whole input there on =
-    let pictured = drawn s older x p h some in
-    let t = told s older x p d settled pictured input in
+    × Answers (old_of s old_count) d both.older × Answers (new_of s old_count) d both.newer
+plain-difference in-row s old_count x p d r settled h some plain whole input there on =
+    let pictured = drawn s old_count x p h some in
+    let t = told s old_count x p d settled pictured input in
     let keeps = λ (q : RowData). not (is_unchanged (length x.pairs) q.labels) in
     let within : Contains (filter keeps (rows_of p)) r =
     subst (λ (o : Option PictureData). Contains (changed_of (length x.pairs) (listed_rows o)) r) some there in

@@ -1,6 +1,6 @@
 -- What differs between two stacks, of comparisons that end with nothing outstanding, has one text and one document.
 use Rattle.std.proofs.Common.{◌≡◌, ℕ, zero, suc, ◌<◌, List, [], ◌∷◌, ◌++◌, length, map, take, drop, Option, Some, None, slice_get, get_or, refl, sym, ap, subst, ◌∙◌, inl, inr, arith}
-use Rattle.std.specs.Prelude.{codes, IfSome, MatchOption, slice_index}
+use Rattle.std.specs.Prelude.{codes, MatchOption, slice_index}
 use Rattle.std.proofs.lemmas.List.{ext_get_or, same_lists}
 use Rattle.std.proofs.lemmas.Option.{same_Some, slice_get-get_or}
 use Rattle.serde_json.specs.Data.{Data, string}
@@ -22,7 +22,7 @@ use Rattle.sf_rows.specs.Documents.{calls_document, rows_document, total_documen
 use Rattle.sf_rows.specs.InOrder.{IsInOrder}
 use Rattle.sf_rows.specs.InOrderLaws.{one-in-order}
 use Rattle.sf_rows.specs.Pairs.{AddsChanged, AreChangedOf, ArePairsOf, IsLabelOf, pair_order}
-use Rattle.sf_list.specs.Differences.{ArePictured, DifferencesData, IsComparisonWithRows, IsDrawnOfPairs, ShownData, compared_text, differences_text, shown_rows, shown_words}
+use Rattle.sf_list.specs.Differences.{DifferencesData, IsComparisonWithRows, IsDrawnOfPairs, ShownData, compared_text, differences_text, shown_rows, shown_words}
 use Rattle.sf_list.specs.Documents.{differences_document, drawn_document, pair_document}
 use Rattle.sf_list.proofs.OneListing.{first-is-one}
 
@@ -50,17 +50,18 @@ same-count [] (s ∷ ss) h = absurd h
 same-count (r ∷ rs) [] h = absurd h
 same-count (r ∷ rs) (s ∷ ss) h = let rest = same-count rs ss h.1 in omega arith
 
-module _ (s t : BookData) (older : ℕ) (stack : s.stack ≡ t.stack) (same : AreSameRegions s.regions t.regions) where
-  same-answer : (xs ys : List PartAnswers) (place : ℕ) (a b : PartAnswers) → AreAnswersOfRegions s older xs
-      → AreAnswersOfRegions t older ys → place < length s.regions → slice_get xs place ≡ Some a
+module _ (s t : BookData) (old_count : ℕ) (stack : s.stack ≡ t.stack) (same : AreSameRegions s.regions t.regions) where
+  same-answer : (xs ys : List PartAnswers) (place : ℕ) (a b : PartAnswers) → AreAnswersOfRegions s old_count xs
+      → AreAnswersOfRegions t old_count ys → place < length s.regions → slice_get xs place ≡ Some a
       → slice_get ys place ≡ Some b → a ≡ b
   same-answer xs ys place a b f g lt at there =
       let region = at-both s.regions t.regions place same lt in
       same_Some a b (sym (f.each place a at region.one region.here).1
-      ∙ (λ j. answers_along (take older (stack j)) (drop older (stack j)) (region.same.name j))
+      ∙ (λ j. answers_along (take old_count (stack j)) (drop old_count (stack j)) (region.same.name j))
       ∙ (g.each place b there region.other region.there).1)
 
-  same-answers : (xs ys : List PartAnswers) → AreAnswersOfRegions s older xs → AreAnswersOfRegions t older ys → xs ≡ ys
+  same-answers : (xs ys : List PartAnswers) → AreAnswersOfRegions s old_count xs
+      → AreAnswersOfRegions t old_count ys → xs ≡ ys
   same-answers xs ys f g =
       let count = same-count s.regions t.regions same in
       same_lists xs ys (f.count ∙ count ∙ sym g.count) (λ k d less.
@@ -110,16 +111,15 @@ module _ (s t : BookData) (answers pairs : List PartAnswers) (leaves : ℕ) wher
       none : PartAnswers
       none = let one : Answer = record { action = KillProcess; info = 0 } in record { older = one; newer = one }
 
-  same-picture : HaveOnePicture → (others : List PartAnswers) (older : ℕ) → IsSettled s → IsSettled t → IsFringe s
-      → IsFringe t → s.stack ≡ t.stack → s.outstanding ≡ [] → t.outstanding ≡ [] → (x y : Option PictureData)
-      → MatchOption x (0 < length s.outstanding) (ArePictured s older pairs)
-      → MatchOption y (0 < length t.outstanding) (ArePictured t older others)
-      → IfSome x (IsDrawnOfPairs s answers pairs leaves) → IfSome y (IsDrawnOfPairs t answers pairs leaves) → x ≡ y
-  same-picture drawn others older lawful also fringe edge stack none none' None y there too f g =
-      let l : length s.outstanding ≡ 0 = ap length none in absurd (omega (arith, l, there))
-  same-picture drawn others older lawful also fringe edge stack none none' (Some p) None there too f g =
-      let l : length t.outstanding ≡ 0 = ap length none' in absurd (omega (arith, l, too))
-  same-picture drawn others older lawful also fringe edge stack none none' (Some p) (Some q) there too f g =
+  same-picture : HaveOnePicture → IsSettled s → IsSettled t → IsFringe s → IsFringe t → s.stack ≡ t.stack
+      → s.outstanding ≡ [] → t.outstanding ≡ [] → (x y : Option PictureData)
+      → MatchOption x (0 < length s.outstanding) (IsDrawnOfPairs s answers pairs leaves)
+      → MatchOption y (0 < length t.outstanding) (IsDrawnOfPairs t answers pairs leaves) → x ≡ y
+  same-picture drawn lawful also fringe edge stack none none' None y f g =
+      let l : length s.outstanding ≡ 0 = ap length none in absurd (omega (arith, l, f))
+  same-picture drawn lawful also fringe edge stack none none' (Some p) None f g =
+      let l : length t.outstanding ≡ 0 = ap length none' in absurd (omega (arith, l, g))
+  same-picture drawn lawful also fringe edge stack none none' (Some p) (Some q) f g =
       let labels = same-labels p q f g in
       ap Some (drawn s t f.labels leaves p q lawful also fringe edge stack none none' f.drawn
       (subst (λ (l : List ℕ). HasPicture t l leaves q) (sym labels) g.drawn))
@@ -127,38 +127,36 @@ module _ (s t : BookData) (answers pairs : List PartAnswers) (leaves : ℕ) wher
 -- ---- what differs
 
 -- one thing differs
-one-difference : ExplorationsHaveOneResult → HaveOnePicture → (files others : List (List ℕ)) (older m n leaves : ℕ)
-    (o p : Compared) (x y : DifferencesData) → IsComparisonWithRows files older m leaves o x
-    → IsComparisonWithRows others older n leaves p y → o.settled.stack ≡ p.settled.stack
+one-difference : ExplorationsHaveOneResult → HaveOnePicture → (files others : List (List ℕ)) (old_count m n leaves : ℕ)
+    (o p : Compared) (x y : DifferencesData) → IsComparisonWithRows files old_count m leaves o x
+    → IsComparisonWithRows others old_count n leaves p y → o.settled.stack ≡ p.settled.stack
     → o.settled.outstanding ≡ [] → p.settled.outstanding ≡ [] → x ≡ y
-one-difference explored drawn files others older m n leaves o p x y f g stack none none' =
+one-difference explored drawn files others old_count m n leaves o p x y f g stack none none' =
     let fe = f.comparison.compared.end in let ge = g.comparison.compared.end in
     let h = f.rule in let k = g.rule in
     let one = explored o.settled p.settled fe.settled ge.settled fe.fringe ge.fringe stack none none' in
-    let part : p.older ≡ o.older = g.comparison.compared.parted ∙ sym f.comparison.compared.parted in
-    let answers : p.answers ≡ o.answers = sym (same-answers o.settled p.settled o.older stack one.regions o.answers
+    let part : p.old_count ≡ o.old_count = g.comparison.compared.parted ∙ sym f.comparison.compared.parted in
+    let answers : p.answers ≡ o.answers = sym (same-answers o.settled p.settled o.old_count stack one.regions o.answers
     p.answers h.answers_are (subst (λ (i : ℕ). AreAnswersOfRegions p.settled i p.answers) part k.answers_are)) in
     let pairs : y.pairs ≡ x.pairs = same-pairs o.answers y.pairs x.pairs
     (subst (λ (l : List PartAnswers). ArePairsOf l y.pairs) answers k.pairs) h.pairs in
+    let drawn_of : List PartAnswers → List PartAnswers → Type 0 = λ all some.
+    MatchOption y.picture (0 < length p.settled.outstanding) (IsDrawnOfPairs p.settled all some leaves) in
     let picture : x.picture ≡ y.picture =
-    same-picture o.settled p.settled o.answers x.pairs leaves drawn y.pairs o.older fe.settled ge.settled fe.fringe
-    ge.fringe stack none none' x.picture y.picture f.drawn.picture
-    (subst (λ (i : ℕ). MatchOption y.picture (0 < length p.settled.outstanding) (ArePictured p.settled i y.pairs)) part
-    g.drawn.picture)
-    h.picture
-    (subst (λ (l : List PartAnswers). IfSome y.picture (IsDrawnOfPairs p.settled o.answers l leaves)) pairs
-    (subst (λ (l : List PartAnswers). IfSome y.picture (IsDrawnOfPairs p.settled l y.pairs leaves)) answers
-    k.picture)) in
+    same-picture o.settled p.settled o.answers x.pairs leaves drawn fe.settled ge.settled fe.fringe ge.fringe stack none
+    none' x.picture y.picture h.picture
+    (subst (drawn_of o.answers) pairs (subst (λ (l : List PartAnswers). drawn_of l y.pairs) answers k.picture)) in
     let back : x.pairs ≡ y.pairs = sym pairs in
     λ j. let both : DifferencesData = record { pairs = back j; picture = picture j } in both
 
 pub same-rows-text : ExplorationsHaveOneResult → HaveOnePicture → (files others : List (List ℕ))
-    (older m n leaves : ℕ) (o p : Compared) (x y : DifferencesData) → IsComparisonWithRows files older m leaves o x
-    → IsComparisonWithRows others older n leaves p y → o.settled.stack ≡ p.settled.stack
+    (old_count m n leaves : ℕ) (o p : Compared) (x y : DifferencesData)
+    → IsComparisonWithRows files old_count m leaves o x
+    → IsComparisonWithRows others old_count n leaves p y → o.settled.stack ≡ p.settled.stack
     → o.settled.outstanding ≡ [] → p.settled.outstanding ≡ [] → comparison_text o ≡ comparison_text p
     → (sets : List NamesData) (shown : ShownData) → compared_text sets shown o x ≡ compared_text sets shown p y
-same-rows-text explored drawn files others older m n leaves o p x y f g stack none none' text sets shown =
-    let same = one-difference explored drawn files others older m n leaves o p x y f g stack none none' in
+same-rows-text explored drawn files others old_count m n leaves o p x y f g stack none none' text sets shown =
+    let same = one-difference explored drawn files others old_count m n leaves o p x y f g stack none none' in
     λ j. text j ++ differences_text sets shown (same j)
 
 -- the document of a comparison with rows
@@ -172,11 +170,12 @@ document sets shown x comparison =
     (with_field (codes "shown") (string (shown_words shown.only)) comparison)))
 
 pub same-rows-document : ExplorationsHaveOneResult → HaveOnePicture → (files others : List (List ℕ))
-    (older m n leaves : ℕ) (o p : Compared) (x y : DifferencesData) → IsComparisonWithRows files older m leaves o x
-    → IsComparisonWithRows others older n leaves p y → o.settled.stack ≡ p.settled.stack
+    (old_count m n leaves : ℕ) (o p : Compared) (x y : DifferencesData)
+    → IsComparisonWithRows files old_count m leaves o x
+    → IsComparisonWithRows others old_count n leaves p y → o.settled.stack ≡ p.settled.stack
     → o.settled.outstanding ≡ [] → p.settled.outstanding ≡ [] → (sets : List NamesData) (shown : ShownData)
     → comparison_document sets o ≡ comparison_document sets p
     → differences_document sets shown o x ≡ differences_document sets shown p y
-same-rows-document explored drawn files others older m n leaves o p x y f g stack none none' sets shown comparison =
-    let same = one-difference explored drawn files others older m n leaves o p x y f g stack none none' in
+same-rows-document explored drawn files others old_count m n leaves o p x y f g stack none none' sets shown comparison =
+    let same = one-difference explored drawn files others old_count m n leaves o p x y f g stack none none' in
     λ j. document sets shown (same j) (comparison j)

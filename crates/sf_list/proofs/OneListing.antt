@@ -1,6 +1,6 @@
 -- Listings of one stack that end with nothing outstanding have one text, and one document.
 use Rattle.std.proofs.Common.{◌≡◌, ℕ, zero, suc, ◌<◌, List, [], ◌∷◌, ◌++◌, length, map, Option, Some, None, slice_get, refl, sym, ap, subst, ◌∙◌, inl, inr, arith}
-use Rattle.std.specs.Prelude.{codes, IfSome, MatchOption, slice_index}
+use Rattle.std.specs.Prelude.{codes, MatchOption, slice_index}
 use Rattle.std.proofs.lemmas.Bool.{cases_lt}
 use Rattle.std.proofs.lemmas.List.{ext_get_or}
 use Rattle.serde_json.specs.Data.{Data, string}
@@ -24,7 +24,7 @@ use Rattle.sf_rows.specs.Documents.{calls_document, rows_document, total_documen
 use Rattle.sf_rows.specs.Rows.{listed_rows}
 use Rattle.sf_rows.specs.Written.{written_count, written_lines, written_undetermined}
 use Rattle.sf_list.specs.Documents.{listing_document}
-use Rattle.sf_list.specs.Listings.{IsDrawnWith, IsListing, IsListingByRule, IsPictured, Listed, listing_text, listing_title, stack_line, total_line}
+use Rattle.sf_list.specs.Listings.{IsDrawnWith, IsListing, IsListingByRule, Listed, listing_text, listing_title, stack_line, total_line}
 
 -- ---- answers and labels
 
@@ -83,18 +83,16 @@ module _ (s t : BookData) (answers : List Answer) (same : AreSameRegions s.regio
       (λ i l. same-label f.labels g.labels i (let c = f.count in omega arith) f.tell f.first g.tell g.first)
 
 -- the pictures are one
-same-picture : HaveOnePicture → (s t : BookData) (answers others : List Answer) (leaves : ℕ) → IsSettled s → IsSettled t
+same-picture : HaveOnePicture → (s t : BookData) (answers : List Answer) (leaves : ℕ) → IsSettled s → IsSettled t
     → IsFringe s → IsFringe t → s.stack ≡ t.stack → s.outstanding ≡ [] → t.outstanding ≡ []
     → AreSameRegions s.regions t.regions → (x y : Option PictureData)
-    → MatchOption x (0 < length s.outstanding) (IsPictured s answers)
-    → MatchOption y (0 < length t.outstanding) (IsPictured t others)
-    → IfSome x (IsDrawnWith s answers leaves) → IfSome y (IsDrawnWith t answers leaves) → x ≡ y
-same-picture drawn s t answers others leaves lawful also fringe edge stack none none' same None y there too f g =
-    let l : length s.outstanding ≡ 0 = ap length none in absurd (omega (arith, l, there))
-same-picture drawn s t answers others leaves lawful also fringe edge stack none none' same (Some p) None there too f g =
-    let l : length t.outstanding ≡ 0 = ap length none' in absurd (omega (arith, l, too))
-same-picture drawn s t answers others leaves lawful also fringe edge stack none none' same (Some p)
-    (Some q) there too f g =
+    → MatchOption x (0 < length s.outstanding) (IsDrawnWith s answers leaves)
+    → MatchOption y (0 < length t.outstanding) (IsDrawnWith t answers leaves) → x ≡ y
+same-picture drawn s t answers leaves lawful also fringe edge stack none none' same None y f g =
+    let l : length s.outstanding ≡ 0 = ap length none in absurd (omega (arith, l, f))
+same-picture drawn s t answers leaves lawful also fringe edge stack none none' same (Some p) None f g =
+    let l : length t.outstanding ≡ 0 = ap length none' in absurd (omega (arith, l, g))
+same-picture drawn s t answers leaves lawful also fringe edge stack none none' same (Some p) (Some q) f g =
     let labels = same-labels s t answers same leaves p q f g in
     ap Some (drawn s t f.labels leaves p q lawful also fringe edge stack none none' f.drawn
     (subst (λ (l : List ℕ). HasPicture t l leaves q) (sym labels) g.drawn))
@@ -120,9 +118,10 @@ listed-twice explored drawn files others m n leaves o p f g h k stack none none'
       stack = stack;
       counts = same_counts o.settled p.settled one none none';
       answers = answers;
-      picture = same-picture drawn o.settled p.settled o.answers p.answers leaves f.end.settled g.end.settled
-          f.end.fringe g.end.fringe stack none none' one.regions o.picture p.picture f.picture g.picture h.picture
-          (subst (λ (l : List Answer). IfSome p.picture (IsDrawnWith p.settled l leaves)) (sym answers) k.picture);
+      picture = same-picture drawn o.settled p.settled o.answers leaves f.end.settled g.end.settled f.end.fringe
+          g.end.fringe stack none none' one.regions o.picture p.picture h.picture
+          (subst (λ (l : List Answer). MatchOption p.picture (0 < length p.settled.outstanding)
+          (IsDrawnWith p.settled l leaves)) (sym answers) k.picture);
     }
 
 abbrev text : List NamesData → Option (List (List ℕ)) → List (List Insn) → Counts → List Answer → Option PictureData

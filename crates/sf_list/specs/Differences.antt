@@ -1,5 +1,5 @@
 -- What differs between the answers of two stacks that were explored as one, and the rows that show it.
-use Rattle.std.specs.Prelude.{◌≡◌, ℕ, ◌<◌, ◌==◌, not, Bool, true, false, List, [], ◌∷◌, ◌++◌, codes, All, length, nat_lt, Option, None, Some, IfSome, MatchOption, slice_get, slice_index}
+use Rattle.std.specs.Prelude.{◌≡◌, ℕ, ◌<◌, ◌==◌, not, Bool, true, false, List, [], ◌∷◌, ◌++◌, codes, All, length, nat_lt, Option, None, Some, MatchOption, slice_get, slice_index}
 use Rattle.std.specs.List.{filter, list_any}
 use Rattle.std.specs.Option.{option_map_or}
 use Rattle.std.specs.List.Sorted.{IsNonDecreasingBy}
@@ -22,9 +22,9 @@ use Rattle.sf_rows.specs.Rows.{RowData, listed_rows}
 use Rattle.sf_rows.specs.Written.{written_count, written_lines, written_undetermined}
 
 -- the label of each region is the label of the two answers that the old and the new stack give to its members
-pub record TellPairs (s : BookData) (older : ℕ) (pairs : List PartAnswers) (labels : List ℕ) : Type 0 where
+pub record TellPairs (s : BookData) (old_count : ℕ) (pairs : List PartAnswers) (labels : List ℕ) : Type 0 where
   pub each : (place : ℕ) (region : RegionData) → slice_get s.regions place ≡ Some region
-      → (both : PartAnswers) × AreAnswersOf s older region both × IsLabelOf pairs both (slice_index labels place)
+      → (both : PartAnswers) × AreAnswersOf s old_count region both × IsLabelOf pairs both (slice_index labels place)
 
 -- The pairs of answers that differ; and a picture, where no piece is outstanding. A label of the picture is the place
 -- of a pair, or the number of the pairs, which stands for answers that are the same.
@@ -35,24 +35,26 @@ pub record DifferencesData : Type 0 where
 -- The picture shows each member of each region the label of the answers of both stacks. The pairs are in order, and the
 -- answers of each differ. On a plain stack no leaf of a picture that isn't spent has two labels, and some member of a
 -- region lies at each leaf.
-pub record ArePictured (s : BookData) (older : ℕ) (pairs : List PartAnswers) (p : PictureData) : Type 0 where
+pub record ArePictured (s : BookData) (old_count : ℕ) (pairs : List PartAnswers) (p : PictureData) : Type 0 where
   pub lawful : IsPicture p
   pub none_left : s.outstanding ≡ []
   pub order : IsNonDecreasingBy pair_order pairs
   pub differ : All Differ pairs
   pub labels : List ℕ
-  pub tell : TellPairs s older pairs labels
+  pub tell : TellPairs s old_count pairs labels
   pub shows : ShowsLabels s labels p
   pub plain : IsPlain s.stack → p.spent ≡ false → IsDetermined p
   pub attained : IsPlain s.stack → 0 < length s.regions → IsAttainedEverywhere s p
 
 -- what differs was drawn, unless a piece is outstanding
-pub record AreDifferences (s : BookData) (older : ℕ) (x : DifferencesData) : Type 0 where
-  pub picture : MatchOption x.picture (0 < length s.outstanding) (ArePictured s older x.pairs)
+pub record AreDifferences (s : BookData) (old_count : ℕ) (x : DifferencesData) : Type 0 where
+  pub picture : MatchOption x.picture (0 < length s.outstanding) (ArePictured s old_count x.pairs)
 
--- this is the picture by the rules, where the label of each region is the label of its two answers
+-- nothing is outstanding, and this is the picture by the rules, where the label of each region is the label of its two
+-- answers
 pub record IsDrawnOfPairs (s : BookData) (answers pairs : List PartAnswers) (leaves : ℕ)
     (p : PictureData) : Type 0 where
+  pub none_left : s.outstanding ≡ []
   pub labels : List ℕ
   pub count : length labels ≡ length answers
   pub tell : (place : ℕ) (both : PartAnswers) → slice_get answers place ≡ Some both
@@ -60,21 +62,21 @@ pub record IsDrawnOfPairs (s : BookData) (answers pairs : List PartAnswers) (lea
   pub drawn : HasPicture s labels leaves p
 
 -- What differs is that of the rules. `answers` are the two answers to each region. The pairs are those of them that
--- differ, in order and each once. If there is a picture, it is drawn with these pairs by the rules, where this many
--- leaves are allowed.
-pub record AreDifferencesByRule (s : BookData) (older : ℕ) (answers : List PartAnswers) (leaves : ℕ)
+-- differ, in order and each once. Where no piece is outstanding, and only there, there is a picture: it is drawn with
+-- these pairs by the rules, where this many leaves are allowed.
+pub record AreDifferencesByRule (s : BookData) (old_count : ℕ) (answers : List PartAnswers) (leaves : ℕ)
     (x : DifferencesData) : Type 0 where
-  pub answers_are : AreAnswersOfRegions s older answers
+  pub answers_are : AreAnswersOfRegions s old_count answers
   pub pairs : ArePairsOf answers x.pairs
-  pub picture : IfSome x.picture (IsDrawnOfPairs s answers x.pairs leaves)
+  pub picture : MatchOption x.picture (0 < length s.outstanding) (IsDrawnOfPairs s answers x.pairs leaves)
 
 -- a comparison of the two stacks that files spell, and what differs between their answers: this is right, and that of
 -- the rules, where this many leaves of the picture are allowed
-pub record IsComparisonWithRows (files : List (List ℕ)) (older budget leaves : ℕ) (c : Compared)
+pub record IsComparisonWithRows (files : List (List ℕ)) (old_count budget leaves : ℕ) (c : Compared)
     (x : DifferencesData) : Type 0 where
-  pub comparison : IsComparison files older budget c
-  pub drawn : AreDifferences c.settled c.older x
-  pub rule : AreDifferencesByRule c.settled c.older c.answers leaves x
+  pub comparison : IsComparison files old_count budget c
+  pub drawn : AreDifferences c.settled c.old_count x
+  pub rule : AreDifferencesByRule c.settled c.old_count c.answers leaves x
 
 -- a row without a difference: its only label is the number behind all places
 abbrev pub is_unchanged : ℕ → List ℕ → Bool
@@ -96,12 +98,12 @@ is_so_related Tighter both = nat_lt (reach_of both.newer.action) (reach_of both.
 is_so_related Different both = true
 
 -- whether a label stands for a pair of answers that have the relation
-abbrev pub is_label_of : Relation → List PartAnswers → ℕ → Bool
-is_label_of relation pairs label = option_map_or (is_so_related relation) (slice_get pairs label) false
+abbrev pub is_label_related : Relation → List PartAnswers → ℕ → Bool
+is_label_related relation pairs label = option_map_or (is_so_related relation) (slice_get pairs label) false
 
 -- the rows of which some label stands for a pair of answers that have the relation
 abbrev pub related_of : Relation → List PartAnswers → List RowData → List RowData
-related_of relation pairs rows = filter (λ (r : RowData). list_any (is_label_of relation pairs) r.labels) rows
+related_of relation pairs rows = filter (λ (r : RowData). list_any (is_label_related relation pairs) r.labels) rows
 
 -- What is shown of the rows that show a difference: only those of a relation, if one is given; and how they are told:
 -- each by a line, or call by call, if names of calls are given (an empty list stands for all calls).

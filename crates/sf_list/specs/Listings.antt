@@ -1,5 +1,5 @@
 -- What a listing of a stack of filter files finds, and its text.
-use Rattle.std.specs.Prelude.{◌≡◌, ℕ, ◌<◌, ◌==◌, Bool, false, List, [], ◌∷◌, ◌++◌, codes, length, map, count_by, Option, Some, None, IfSome, MatchOption}
+use Rattle.std.specs.Prelude.{◌≡◌, ℕ, ◌<◌, ◌==◌, Bool, false, List, [], ◌∷◌, ◌++◌, codes, length, map, count_by, Option, Some, None, MatchOption}
 use Rattle.std.specs.List.Sorted.{IsNonDecreasingBy}
 use Rattle.std.specs.Fmt.{decimal}
 use Rattle.sf_check.specs.declared.insn.Insn.{Insn}
@@ -49,19 +49,22 @@ pub record IsListing (files : List (List ℕ)) (budget : ℕ) (l : Listed) : Typ
   pub plain : IsPlain l.settled.stack → IsExactExploration l.settled.stack budget l.settled
   pub picture : MatchOption l.picture (0 < length l.settled.outstanding) (IsPictured l.settled l.answers)
 
--- this is the picture by the rules, where the label of each region is the first place of its answer
+-- nothing is outstanding, and this is the picture by the rules, where the label of each region is the first place of
+-- its answer
 pub record IsDrawnWith (s : BookData) (answers : List Answer) (leaves : ℕ) (p : PictureData) : Type 0 where
+  pub none_left : s.outstanding ≡ []
   pub labels : List ℕ
   pub count : length labels ≡ length s.regions
   pub tell : TellAnswers s answers labels
   pub first : AreFirstPlaces s answers labels
   pub drawn : HasPicture s labels leaves p
 
--- A listing is that of the rules: it has the answers of all regions, in order and each once; and if it has a picture,
--- this is drawn with them by the rules, where this many leaves are allowed.
+-- A listing is that of the rules: it has the answers of all regions, in order and each once. Where no piece is
+-- outstanding, and only there, it has a picture: this is drawn with the answers by the rules, where this many leaves
+-- are allowed.
 pub record IsListingByRule (leaves : ℕ) (l : Listed) : Type 0 where
   pub answers : IsInOrder answer_order (map (λ (r : RegionData). r.answer) l.settled.regions) l.answers
-  pub picture : IfSome l.picture (IsDrawnWith l.settled l.answers leaves)
+  pub picture : MatchOption l.picture (0 < length l.settled.outstanding) (IsDrawnWith l.settled l.answers leaves)
 
 -- what a listing begins with, and the number of its form: of rows, or of calls
 abbrev pub listing_title : Option (List (List ℕ)) → List ℕ

@@ -5,7 +5,7 @@ ghost use Rattle.std.specs.Io.KnownBytes.{Appends};
 ghost use Rattle.sf_policy.specs.Texts.{AppendsFront};
 ghost use Rattle.sf_policy.specs.declared.fault.Fault.TheVariants.{Memory as MemoryFault, Write as WriteFault};
 ghost use Rattle.std.specs.List.{list_any};
-ghost use Rattle.sf_list.specs.Differences.{changed_line, changed_of, compared_text, differences_text, drawn_line, is_label_of, is_so_related, is_unchanged, related_of, shown_rows, shown_words};
+ghost use Rattle.sf_list.specs.Differences.{changed_line, changed_of, compared_text, differences_text, drawn_line, is_label_related, is_so_related, is_unchanged, related_of, shown_rows, shown_words};
 
 use crate::differences::Differences;
 use sf_compare::{Comparison, Relation, text_of_comparison};
@@ -19,8 +19,9 @@ use std::alloc::{AllocError, Global};
 use std::io::Write;
 use std::marker::Model;
 
-/// Whether these labels are those of a row without a difference. The labels below `count` are places of the pairs of
-/// answers that differ, and `count` itself stands for equal answers: it is the only label of such a row.
+/// Whether these labels are those of a row without a difference. `count` is the number of the pairs of answers that
+/// differ: labels below it are places of pairs, and `count` itself stands for equal answers. It is the only label of
+/// such a row.
 fn is_unchanged(count: usize, labels: &[usize]) -> bool
     ensures { result ≡ is_unchanged count labels.now }
 {
@@ -30,14 +31,14 @@ fn is_unchanged(count: usize, labels: &[usize]) -> bool
     }
 }
 
-/// Whether a row shows a difference.
+/// Whether a row shows a difference, where `count` pairs of answers differ.
 fn is_changed(count: usize, row: &Row) -> bool
     ensures { result ≡ not (is_unchanged count row.now.labels) }
 {
     !is_unchanged(count, row.labels())
 }
 
-/// Leaves only rows with a difference.
+/// Leaves only the rows that show a difference, where `count` pairs of answers differ.
 fn keep_changed(rows: &mut Vec<Row>, count: usize)
     ensures { rows.new.items ≡ changed_of count rows.old.items }
 {
@@ -55,9 +56,10 @@ fn is_so_related(relation: Relation, pair: &PartAnswers) -> bool
     }
 }
 
-/// Whether a label stands for a pair of answers with this relation. The label of equal answers stands for no pair.
-fn is_label_of(relation: Relation, pairs: &[PartAnswers], label: usize) -> bool
-    ensures { result ≡ is_label_of relation pairs.now label }
+/// Whether a label stands for a pair of answers with this relation. A label is a place of the pairs; that of equal
+/// answers is their number, and stands for no pair.
+fn is_label_related(relation: Relation, pairs: &[PartAnswers], label: usize) -> bool
+    ensures { result ≡ is_label_related relation pairs.now label }
 {
     match pairs.get(label) {
         Some(pair) => is_so_related(relation, pair),
@@ -67,14 +69,14 @@ fn is_label_of(relation: Relation, pairs: &[PartAnswers], label: usize) -> bool
 
 /// Whether some label of a row stands for a pair of answers with this relation.
 fn is_related(relation: Relation, pairs: &[PartAnswers], row: &Row) -> bool
-    ensures { result ≡ list_any (is_label_of relation pairs.now) row.now.labels }
+    ensures { result ≡ list_any (is_label_related relation pairs.now) row.now.labels }
 {
     row.labels()
         .iter()
-        .any(|label| is_label_of(relation, pairs, *label))
+        .any(|label| is_label_related(relation, pairs, *label))
 }
 
-/// Leaves only rows of which some label stands for a pair of answers with this relation.
+/// Leaves only the rows of which some label stands for a pair of answers with this relation.
 fn keep_related(rows: &mut Vec<Row>, relation: Relation, pairs: &[PartAnswers])
     ensures { rows.new.items ≡ related_of relation pairs.now rows.old.items }
 {
@@ -104,7 +106,8 @@ impl<'a> Model for Shown<'a> {
     } };
 }
 
-/// The rows that are shown. `Memory` where an allocation is refused.
+/// The rows that are shown: those with a difference, and of these only those that have the relation `only`, if one is
+/// given. There are no rows where a piece is outstanding. `Memory` where an allocation is refused.
 pub(crate) fn rows_of(
     alloc: Global,
     differences: &Differences,
@@ -121,7 +124,7 @@ pub(crate) fn rows_of(
     Ok(rows)
 }
 
-/// What the rows that are shown have in common.
+/// The word for what the rows that are shown have in common: the relation, or that they show a difference.
 pub(crate) fn words_of(only: Option<Relation>) -> &'static str
     ensures { result.now ≡ shown_words only }
 {
@@ -133,7 +136,7 @@ pub(crate) fn words_of(only: Option<Relation>) -> &'static str
     }
 }
 
-/// Adds the line that says how many lines there are, and how many of them have several labels.
+/// Adds the line that says how many lines tell the rows, and how many of them have several labels.
 fn push_total(text: &mut String, only: Option<Relation>, lines: Lines) -> Result<(), AllocError>
     ensures { OnOk result (string_bytes text.new ≡ string_bytes text.old
         ++ changed_line only lines.count lines.undetermined) }
@@ -144,7 +147,7 @@ fn push_total(text: &mut String, only: Option<Relation>, lines: Lines) -> Result
     write!(text, "total {shown} {count} undetermined {undetermined}\n")
 }
 
-/// Adds the line that counts the rows of a picture. Where there is none, nothing was drawn, and there is no such line.
+/// Adds the line that counts the rows. Where there is no picture, since a piece is outstanding, there is no such line.
 fn push_drawn(
     text: &mut String,
     picture: Option<&Picture>,
@@ -161,7 +164,8 @@ fn push_drawn(
     }
 }
 
-/// Adds the rows and the line that counts them, with these sets of calls. `Memory` where an allocation is refused.
+/// Adds the rows and the line that counts them, with these sets of calls. The caller's condition: `rows` are those of
+/// the differences that are shown. `Memory` where an allocation is refused; some lines may have been added then.
 fn push_differences(
     alloc: Global,
     text: &mut String,
@@ -181,7 +185,8 @@ fn push_differences(
     Ok(())
 }
 
-/// The whole text: that of the comparison, and then the rows. `Memory` where an allocation is refused.
+/// The whole text: that of the comparison, and then the rows, with these sets of calls. The caller's condition: `rows`
+/// are those of the differences that are shown. `Memory` where an allocation is refused.
 fn text_of(
     alloc: Global,
     comparison: &Comparison,
@@ -202,7 +207,8 @@ fn text_of(
 
 /// Writes the text of a comparison, then the rows in which the answers of the two stacks differ, with these sets of
 /// calls, and a line that counts them: how many lines there are, and how many of them have several labels. `shown` says
-/// what is shown of the rows, and how. Where a piece is outstanding, there are no rows and no such line.
+/// what is shown of the rows, and how. Where a piece is outstanding, there are no rows and no such line. `differences`
+/// are meant to be those of `draw_differences` for this comparison.
 ///
 /// `Write` where a write fails or takes no byte: a beginning of the text was written then. `Memory` where the text
 /// can't be built: nothing was written then.

@@ -42,7 +42,8 @@ impl Differences {
         self.pairs.as_slice()
     }
 
-    /// The picture, where no piece is outstanding.
+    /// The picture; `None` where a piece is outstanding. Its labels are places of the pairs, or their number for
+    /// answers that are equal.
     pub fn picture(&self) -> Option<&Picture>
         ensures { option_map (λ p. p.now) result ≡ self.now.picture }
     {
@@ -50,27 +51,29 @@ impl Differences {
     }
 }
 
-/// The picture of an exploration of two stacks. The label of a region is the place of its two answers among `pairs`, or
-/// the number of the pairs where the answers are equal. `Memory` where an allocation is refused.
+/// The picture of an exploration of two stacks, by their answers to each region. The label of a region is the place of
+/// its two answers among `pairs`, or the number of the pairs where the answers are equal. Once `leaves` leaves are
+/// drawn, no fork is begun any more. The caller's conditions: `pairs` are the answers that differ, in order, and no
+/// piece is outstanding. `Memory` where an allocation is refused.
 fn picture_by(
     alloc: Global,
     settled: &Settled,
-    older: usize,
+    old_count: usize,
     answers: &[PartAnswers],
     pairs: &[PartAnswers],
     leaves: usize,
 ) -> Result<Picture, Fault>
-    requires answers { AreAnswersOfRegions settled.now older answers.now }
+    requires answers { AreAnswersOfRegions settled.now old_count answers.now }
     requires each { All (λ (p : APair). Differ p → Contains pairs.now p) answers.now }
     requires differ { All Differ pairs.now }
     requires order { IsNonDecreasingBy pair_order pairs.now }
     requires none_left { length settled.now.outstanding ≡ 0 }
-    ensures picture { IfOk result (ArePictured settled.now older pairs.now) }
+    ensures picture { IfOk result (ArePictured settled.now old_count pairs.now) }
     ensures rule { IfOk result (IsDrawnOfPairs settled.now answers.now pairs.now leaves) }
     ensures refused { IfErr result (λ e. e ≡ Fault.Memory) }
 {
     // For the prover: only clauses speak of it.
-    let _of = older;
+    let _of = old_count;
     let labels = labels_of(alloc, answers, pairs)?;
     match picture_of(alloc, settled, labels.as_slice(), leaves) {
         Ok(picture) => Ok(picture),
@@ -78,17 +81,19 @@ fn picture_by(
     }
 }
 
-/// What differs between the answers of two stacks, by those to each region. `Memory` where an allocation is refused.
+/// What differs between the answers of two stacks, by those to each region, in the order of the regions. The first
+/// `old_count` programs are the old stack. Without a picture where a piece is outstanding; once `leaves` leaves of it
+/// are drawn, no fork is begun any more. `Memory` where an allocation is refused.
 fn differences_by(
     alloc: Global,
     settled: &Settled,
-    older: usize,
+    old_count: usize,
     answers: &[PartAnswers],
     leaves: usize,
 ) -> Result<Differences, Fault>
-    requires answers { AreAnswersOfRegions settled.now older answers.now }
-    ensures drawn { IfOk result (AreDifferences settled.now older) }
-    ensures rule { IfOk result (AreDifferencesByRule settled.now older answers.now leaves) }
+    requires answers { AreAnswersOfRegions settled.now old_count answers.now }
+    ensures drawn { IfOk result (AreDifferences settled.now old_count) }
+    ensures rule { IfOk result (AreDifferencesByRule settled.now old_count answers.now leaves) }
     ensures refused { IfErr result (λ e. e ≡ Fault.Memory) }
 {
     let pairs = pairs_of(alloc, answers)?;
@@ -98,25 +103,25 @@ fn differences_by(
             picture: None,
         });
     }
-    let picture = picture_by(alloc, settled, older, answers, pairs.as_slice(), leaves)?;
+    let picture = picture_by(alloc, settled, old_count, answers, pairs.as_slice(), leaves)?;
     Ok(Differences {
         pairs,
         picture: Some(picture),
     })
 }
 
-/// Draws what differs between the answers of the two stacks of a comparison, unless a piece is outstanding. Once
-/// `leaves` leaves are drawn, no fork is begun any more. `Memory` where an allocation is refused.
+/// The pairs of answers in which the two stacks of a comparison differ, and a picture of both, unless a piece is
+/// outstanding. Once `leaves` leaves are drawn, no fork is begun any more. `Memory` where an allocation is refused.
 pub fn draw_differences(
     alloc: Global,
     comparison: &Comparison,
     leaves: usize,
 ) -> Result<Differences, Fault>
     // The rows' answers are right, on the two stacks.
-    ensures drawn { IfOk result (AreDifferences comparison.now.settled comparison.now.older) }
+    ensures drawn { IfOk result (AreDifferences comparison.now.settled comparison.now.old_count) }
 
     // What differs is that of the rules.
-    ensures rule { IfOk result (AreDifferencesByRule comparison.now.settled comparison.now.older
+    ensures rule { IfOk result (AreDifferencesByRule comparison.now.settled comparison.now.old_count
         comparison.now.answers leaves) }
 
     ensures refused { IfErr result (λ e. e ≡ Fault.Memory) }
@@ -124,7 +129,7 @@ pub fn draw_differences(
     differences_by(
         alloc,
         comparison.settled(),
-        comparison.older(),
+        comparison.old_count(),
         comparison.answers(),
         leaves,
     )

@@ -20,7 +20,7 @@ use sf_rows::{Row, count_undetermined, documents_of_rows, rows_in};
 use sf_run::{Answer, PartAnswers};
 use std::alloc::{AllocError, Global};
 
-/// A listing as JSON, and whether it is whole.
+/// A listing as JSON, and whether each input lies in a row with one answer.
 #[derive(Drop)]
 pub struct ListingDocument {
     /// The document.
@@ -29,7 +29,7 @@ pub struct ListingDocument {
     pub is_whole: bool,
 }
 
-/// Answers, one by one.
+/// Answers as JSON, one by one.
 fn answer_documents(alloc: Global, answers: &[Answer]) -> Result<Vec<Document>, AllocError>
     ensures { IfOk result (λ v. map view v.items ≡ map answer_document answers.now) }
 {
@@ -40,7 +40,8 @@ fn answer_documents(alloc: Global, answers: &[Answer]) -> Result<Vec<Document>, 
     Ok(documents)
 }
 
-/// A listing with these answers and rows. `Memory` where an allocation is refused.
+/// A listing as JSON with these sets of calls, where its answers are given as JSON, and its rows. `Memory` where an
+/// allocation is refused.
 fn rows_listed(
     alloc: Global,
     listing: &Listing,
@@ -90,7 +91,7 @@ pub fn listing_document(
     Ok(ListingDocument { document, is_whole })
 }
 
-/// The answers of both stacks.
+/// A pair of answers as JSON: that of the old stack, and that of the new one.
 fn pair_document(alloc: Global, both: PartAnswers) -> Result<Document, AllocError>
     ensures { IfOk result (λ d. view d ≡ pair_document both) }
 {
@@ -100,7 +101,7 @@ fn pair_document(alloc: Global, both: PartAnswers) -> Result<Document, AllocErro
     Ok(Document::object(fields))
 }
 
-/// Pairs of answers, one by one.
+/// Pairs of answers as JSON, one by one.
 fn pair_documents(alloc: Global, pairs: &[PartAnswers]) -> Result<Vec<Document>, AllocError>
     ensures { IfOk result (λ v. map view v.items ≡ map pair_document pairs.now) }
 {
@@ -111,7 +112,7 @@ fn pair_documents(alloc: Global, pairs: &[PartAnswers]) -> Result<Vec<Document>,
     Ok(documents)
 }
 
-/// What counts the rows, where there is a picture; else `null`.
+/// The total of the rows, where there is a picture; `null` where there is none, since a piece is outstanding.
 fn drawn_document(picture: Option<&Picture>, total: Document) -> Document
     ensures { view result ≡ drawn_document (option_map (λ p. p.now) picture.entry) (view total) }
 {
@@ -121,7 +122,8 @@ fn drawn_document(picture: Option<&Picture>, total: Document) -> Document
     }
 }
 
-/// A comparison with these rows. `Memory` where an allocation is refused.
+/// A comparison as JSON with these rows, which are those of the differences that are shown, and with these sets of
+/// calls. `Memory` where an allocation is refused.
 fn rows_compared(
     alloc: Global,
     comparison: &Comparison,

@@ -24,7 +24,8 @@ use sf_book::laws::explorations_have_one_result;
 use sf_picture::laws::{each_input_is_shown_its_answer, pictures_have_one_result};
 use sf_rows::laws::each_input_lies_in_one_row;
 
-/// What the stack answers to an input is among the answers of the row of its listing in which the input lies.
+/// What the stack answers to an input is among the answers of the row in which the input lies, if its listing has a
+/// picture.
 pub fn each_row_has_its_answers()
     ensures { (files : List (List ℕ)) (budget : ℕ) (l : Listed) (p : PictureData) (d : Input)
         (r : RowData) → IsListing files budget l → l.picture ≡ Some p → IsInput d
@@ -37,12 +38,12 @@ pub fn each_row_has_its_answers()
     each_input_lies_in_one_row();
 }
 
-/// An input that two stacks answer differently lies in a row that is shown.
+/// An input that two stacks answer differently lies in a row that shows a difference, if there is a picture.
 pub fn each_changed_input_is_shown()
-    ensures { (s : BookData) (older : ℕ) (x : DifferencesData) (p : PictureData) (d : Input)
-        (before after : Answer) → IsSettled s → AreDifferences s older x
+    ensures { (s : BookData) (old_count : ℕ) (x : DifferencesData) (p : PictureData) (d : Input)
+        (before after : Answer) → IsSettled s → AreDifferences s old_count x
         → x.picture ≡ Some p
-        → IsChange (old_of s older) (new_of s older) Different d before after
+        → IsChange (old_of s old_count) (new_of s old_count) Different d before after
         → (r : RowData) × Contains (changed_rows x) r × (is_in_scope r.scope d ≡ true) }
 {
     each_input_lies_in_one_row();
@@ -51,13 +52,13 @@ pub fn each_changed_input_is_shown()
 /// Let an input lie in a row. Where two stacks answer it differently, the pair of their answers is among those of the
 /// row. Where they answer it alike, the row has the label that says so.
 pub fn each_row_has_its_differences()
-    ensures { (s : BookData) (older : ℕ) (x : DifferencesData) (p : PictureData) (d : Input)
-        (r : RowData) → IsSettled s → AreDifferences s older x
+    ensures { (s : BookData) (old_count : ℕ) (x : DifferencesData) (p : PictureData) (d : Input)
+        (r : RowData) → IsSettled s → AreDifferences s old_count x
         → x.picture ≡ Some p → IsInput d
         → Contains (rows_of p) r → is_in_scope r.scope d ≡ true
         → (label : ℕ) × (both : PartAnswers)
         × Contains r.labels label × IsLabelOf x.pairs both label
-        × Answers (old_of s older) d both.older × Answers (new_of s older) d both.newer }
+        × Answers (old_of s old_count) d both.older × Answers (new_of s old_count) d both.newer }
 {
     each_input_lies_in_one_row();
 }
@@ -65,13 +66,13 @@ pub fn each_row_has_its_differences()
 /// On plain stacks, where the picture isn't spent, a row that is shown has one pair of answers. They differ, and the
 /// two stacks give them to each input of the row.
 pub fn each_plain_row_has_one_difference()
-    ensures { (s : BookData) (older : ℕ) (x : DifferencesData) (p : PictureData) (d : Input)
-        (r : RowData) → IsSettled s → AreDifferences s older x → x.picture ≡ Some p
+    ensures { (s : BookData) (old_count : ℕ) (x : DifferencesData) (p : PictureData) (d : Input)
+        (r : RowData) → IsSettled s → AreDifferences s old_count x → x.picture ≡ Some p
         → IsPlain s.stack → p.spent ≡ false → IsInput d
         → Contains (changed_rows x) r → is_in_scope r.scope d ≡ true
         → (label : ℕ) × (both : PartAnswers)
         × (r.labels ≡ label ∷ []) × (slice_get x.pairs label ≡ Some both) × Differ both
-        × Answers (old_of s older) d both.older × Answers (new_of s older) d both.newer }
+        × Answers (old_of s old_count) d both.older × Answers (new_of s old_count) d both.newer }
 {
     each_input_lies_in_one_row();
 }
@@ -108,9 +109,9 @@ pub fn one_document()
 /// Two comparisons of the same stacks have the same text with their rows, where both leave nothing outstanding and as
 /// many leaves are allowed.
 pub fn one_text_with_rows()
-    ensures { (files others : List (List ℕ)) (older b c leaves : ℕ) (o p : Compared)
-        (x y : DifferencesData) → IsComparisonWithRows files older b leaves o x
-        → IsComparisonWithRows others older c leaves p y →
+    ensures { (files others : List (List ℕ)) (old_count b c leaves : ℕ) (o p : Compared)
+        (x y : DifferencesData) → IsComparisonWithRows files old_count b leaves o x
+        → IsComparisonWithRows others old_count c leaves p y →
         o.settled.stack ≡ p.settled.stack →
         o.settled.outstanding ≡ [] → p.settled.outstanding ≡ [] →
         (sets : List NamesData) (shown : ShownData) →
@@ -123,9 +124,9 @@ pub fn one_text_with_rows()
 
 /// Two comparisons as in `one_text_with_rows` have the same JSON document with their rows too.
 pub fn one_document_with_rows()
-    ensures { (files others : List (List ℕ)) (older b c leaves : ℕ) (o p : Compared)
-        (x y : DifferencesData) → IsComparisonWithRows files older b leaves o x
-        → IsComparisonWithRows others older c leaves p y →
+    ensures { (files others : List (List ℕ)) (old_count b c leaves : ℕ) (o p : Compared)
+        (x y : DifferencesData) → IsComparisonWithRows files old_count b leaves o x
+        → IsComparisonWithRows others old_count c leaves p y →
         o.settled.stack ≡ p.settled.stack →
         o.settled.outstanding ≡ [] → p.settled.outstanding ≡ [] →
         (sets : List NamesData) (shown : ShownData) →

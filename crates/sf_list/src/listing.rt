@@ -51,14 +51,14 @@ impl Listing {
         &self.settled
     }
 
-    /// The picture, where no piece is outstanding. Its labels are places of the answers.
+    /// The picture; `None` where a piece is outstanding. Its labels are places of the answers.
     pub fn picture(&self) -> Option<&Picture>
         ensures { option_map (λ p. p.now) result ≡ self.now.picture }
     {
         self.picture.as_ref()
     }
 
-    /// The answers of the regions, by precedence and then by data.
+    /// The answers of the regions, each once, in order of precedence and then of data.
     pub fn answers(&self) -> &[Answer]
         ensures { result.now ≡ self.now.answers }
     {
@@ -66,8 +66,9 @@ impl Listing {
     }
 }
 
-/// The picture of an exploration, in which the label of a region is the place of its answer among `answers`; none where
-/// a piece is outstanding. `Memory` where an allocation is refused.
+/// The picture of an exploration, in which the label of a region is the first place of its answer among `answers`.
+/// `None` where a piece is outstanding. Once `leaves` leaves are drawn, no fork is begun any more. The caller's
+/// conditions: `answers` has the answer of each region, and is in order. `Memory` where an allocation is refused.
 fn picture_by(
     alloc: Global,
     settled: &Settled,
@@ -79,7 +80,8 @@ fn picture_by(
     ensures picture { IfOk result (λ p. MatchOption p (0 < length settled.now.outstanding)
         (IsPictured settled.now answers.now)) }
     ensures allowed { IfOk result (λ p. IfSome p (IsSpentOnlyFrom leaves)) }
-    ensures rule { IfOk result (λ p. IfSome p (IsDrawnWith settled.now answers.now leaves)) }
+    ensures rule { IfOk result (λ p. MatchOption p (0 < length settled.now.outstanding)
+        (IsDrawnWith settled.now answers.now leaves)) }
     ensures refused { IfErr result (λ e. e ≡ Fault.Memory) }
 {
     if settled.outstanding_count() > 0 {
@@ -92,7 +94,8 @@ fn picture_by(
     }
 }
 
-/// The listing of an exploration. `Memory` where an allocation is refused.
+/// The listing of an exploration. Once `leaves` leaves of its picture are drawn, no fork is begun any more. `Memory`
+/// where an allocation is refused.
 fn listing_of(alloc: Global, settled: Settled, leaves: usize) -> Result<Listing, Fault>
     ensures same { IfOk result (λ l. l.settled ≡ settled) }
     ensures picture { IfOk result (λ l. MatchOption l.picture (0 < length settled.outstanding)
@@ -111,7 +114,8 @@ fn listing_of(alloc: Global, settled: Settled, leaves: usize) -> Result<Listing,
 }
 
 /// Explores the stack that filter files spell, by at most `budget` works, and draws its picture, unless a piece is
-/// outstanding. Once `leaves` leaves are drawn, no fork is begun any more.
+/// outstanding. Once `leaves` leaves are drawn, no fork is begun any more. The gate sees each work before it is
+/// committed.
 ///
 /// The caller's conditions: a budget from 1 to 1,000,000, and 1 to 64 workers (where there are more than one, each gets
 /// a thread, if it can be started). Refusals: those of `stack_of`. `Memory` can come anywhere. Waits for the workers.

@@ -18,7 +18,7 @@ use sf_rows::{Lines, Row, count_undetermined, push_lines, rows_in};
 use std::alloc::{AllocError, Global};
 use std::io::Write;
 
-/// Adds the line with the size of the stack.
+/// Adds the line with the size of the stack. The caller's condition: it has at most 64 programs.
 fn push_stack(text: &mut String, programs: &[Program]) -> Result<(), AllocError>
     requires { length programs.now ≤ 64 }
     ensures { OnOk result (string_bytes text.new ≡ string_bytes text.old
@@ -29,7 +29,8 @@ fn push_stack(text: &mut String, programs: &[Program]) -> Result<(), AllocError>
     write!(text, "filters {filters} path {path}\n")
 }
 
-/// What a listing begins with, and the number of its form: of rows, or of calls.
+/// The first line of a listing: what it is, and the version of its form. Where `calls` is given, the listing is one of
+/// calls, and else one of rows.
 fn title_of(calls: &Option<Vec<&str>>) -> &'static str
     ensures { result.now
         ≡ listing_title (option_map (λ v. map (λ t. t.now) v.items) calls.now) }
@@ -41,7 +42,8 @@ fn title_of(calls: &Option<Vec<&str>>) -> &'static str
     }
 }
 
-/// What is counted at the end: rows, or lines of calls.
+/// The word for what is counted at the end: lines, where `calls` is given and each call has lines of its own; else
+/// rows.
 fn counted_of(calls: &Option<Vec<&str>>) -> &'static str
     ensures { result.now
         ≡ counted_words (option_map (λ v. map (λ t. t.now) v.items) calls.now) }
@@ -49,7 +51,7 @@ fn counted_of(calls: &Option<Vec<&str>>) -> &'static str
     if calls.is_some() { "lines" } else { "rows" }
 }
 
-/// Adds what stands above the rows: the version of the text, the size of the stack, and the counts.
+/// Adds what stands above the rows: the version of the text, the size of the stack, and the counts of the exploration.
 fn push_head(
     text: &mut String,
     calls: &Option<Vec<&str>>,
@@ -78,7 +80,8 @@ fn push_total(text: &mut String, calls: &Option<Vec<&str>>, lines: Lines) -> Res
     )
 }
 
-/// The whole text, with these sets of calls, of a listing with these rows. `Memory` where an allocation is refused.
+/// The whole text of a listing, with these sets of calls. The caller's condition: `rows` are those of its picture.
+/// `Memory` where an allocation is refused.
 fn text_of(
     alloc: Global,
     listing: &Listing,
@@ -99,8 +102,8 @@ fn text_of(
     Ok(text)
 }
 
-/// Whether each input lies in a row with one answer: there is a picture, and no row has several answers. `undetermined`
-/// is how many rows have several.
+/// Whether each input lies in a row with one answer: there is a picture, and no row has several answers. The caller's
+/// condition: `undetermined` is how many rows of the picture have several.
 pub(crate) fn is_whole(listing: &Listing, undetermined: usize) -> bool
     requires { undetermined ≡ count_by is_undetermined (listed_rows listing.now.picture) }
     ensures { result ≡ is_whole_listing listing.now.picture }

@@ -108,9 +108,9 @@ stand_in (f ∷ files) (x ∷ programs) p = record {
 -- ---- the two stacks of a comparison
 
 -- a comparison of the stacks of two lists of programs
-record IsOf (programs others : List (List Insn)) (older : ℕ) (c : Compared) : Type 0 where
-  before : old_of c.settled older ≡ programs
-  after : new_of c.settled older ≡ others
+record IsOf (programs others : List (List Insn)) (old_count : ℕ) (c : Compared) : Type 0 where
+  before : old_of c.settled old_count ≡ programs
+  after : new_of c.settled old_count ≡ others
   lawful : IsLawfulStack (programs ++ others)
 
 is_of : OneProgram → (files rest : List (List ℕ)) (programs others : List (List Insn)) (budget : ℕ) (c : Compared)
@@ -152,10 +152,10 @@ same_or_other programs others d a b p q =
     ]
 
 -- where no answers differ, the two answers to an input are the same
-never_other : (programs others : List (List Insn)) (older : ℕ) (c : Compared) (d : Input) (both : PartAnswers)
-    → IsOf programs others older c → IsRightChange c.settled older Different Never → IsInput d
+never_other : (programs others : List (List Insn)) (old_count : ℕ) (c : Compared) (d : Input) (both : PartAnswers)
+    → IsOf programs others old_count c → IsRightChange c.settled old_count Different Never → IsInput d
     → ArePartAnswers programs others d both → both.older ≡ both.newer
-never_other programs others older c d both of right input are =
+never_other programs others old_count c d both of right input are =
     elim (same_or_other programs others d both.older both.newer are.of_older are.of_newer) [
       | inl e ↦ e
       | inr other ↦ absurd (right.1 d both.older both.newer (record {
@@ -174,12 +174,12 @@ alike_by programs others d a both are same = (
   λ p. subst (Answers programs d) (same ∙ one (returns_of others d) both.newer a are.of_newer p) are.of_older,
 )
 
-never_differ : (programs others : List (List Insn)) (older : ℕ) (c : Compared) (d : Input) (a : Answer)
-    → IsOf programs others older c → IsRightChange c.settled older Different Never → IsInput d
+never_differ : (programs others : List (List Insn)) (old_count : ℕ) (c : Compared) (d : Input) (a : Answer)
+    → IsOf programs others old_count c → IsRightChange c.settled old_count Different Never → IsInput d
     → (Answers programs d a ↔ Answers others d a)
-never_differ programs others older c d a of right input =
+never_differ programs others old_count c d a of right input =
     let (both, along, are) = answers_are_right programs others d of.lawful in
-    alike_by programs others d a both are (never_other programs others older c d both of right input are)
+    alike_by programs others d a both are (never_other programs others old_count c d both of right input are)
 
 -- those that are left answer as all of them do
 pub left_alike : OneProgram → (files : List (List ℕ)) (budget : ℕ) (places : List ℕ) → IsLeft files budget places
@@ -225,10 +225,10 @@ left_alike one-of files budget places (dropped before place left within found e)
 -- ---- what is found of a filter
 
 -- what a right finding of a comparison says of the programs that answer as its two stacks do
-meant : (programs others rest : List (List Insn)) (older place : ℕ) (c : Compared) (finding : Change)
-    → IsOf programs others older c → ((d : Input) (a : Answer) → (Answers others d a ↔ Answers rest d a))
-    → rest ≡ remove programs place → IsRightChange c.settled older Looser finding → Describes programs place finding
-meant programs others rest older place c Never of alike e right =
+meant : (programs others rest : List (List Insn)) (old_count place : ℕ) (c : Compared) (finding : Change)
+    → IsOf programs others old_count c → ((d : Input) (a : Answer) → (Answers others d a ↔ Answers rest d a))
+    → rest ≡ remove programs place → IsRightChange c.settled old_count Looser finding → Describes programs place finding
+meant programs others rest old_count place c Never of alike e right =
     λ d before after input p q. elim (cases_lt (reach_of before.action) (reach_of after.action)) [
       | inl further ↦ absurd (right.1 d before after (record {
         input = input;
@@ -239,7 +239,7 @@ meant programs others rest older place c Never of alike e right =
       }))
       | inr no_further ↦ no_further
     ]
-meant programs others rest older place c (Found x) of alike e right = record {
+meant programs others rest old_count place c (Found x) of alike e right = record {
   input = right.0.input;
   answered_before = subst (λ (l : List (List Insn)). Answers l x.input x.before) of.before right.0.answered_before;
   answered_after = subst (λ (l : List (List Insn)). Answers l x.input x.after) e
@@ -247,7 +247,7 @@ meant programs others rest older place c (Found x) of alike e right = record {
       (subst (λ (l : List (List Insn)). Answers l x.input x.after) of.after right.0.answered_after));
   related = right.0.related;
 }
-meant programs others rest older place c Unsettled of alike e right = tt
+meant programs others rest old_count place c Unsettled of alike e right = tt
 
 -- a finding says what it should of its filter
 pub describes : OneProgram → (files : List (List ℕ)) (place budget : ℕ) (finding : Change)

@@ -5,7 +5,7 @@ ghost use Rattle.sf_needed.specs.Texts.{is_needed, is_spare, is_unsettled};
 
 use sf_compare::Change;
 
-/// How many filters are needed.
+/// How many filters were found needed: an input gets further without them.
 pub(crate) fn count_needed(findings: &[Change]) -> usize
     ensures { result ≡ count_by is_needed findings.now }
 {
@@ -15,7 +15,7 @@ pub(crate) fn count_needed(findings: &[Change]) -> usize
         .count()
 }
 
-/// How many filters are spare.
+/// How many filters were found spare: no input gets further without them.
 pub(crate) fn count_spare(findings: &[Change]) -> usize
     ensures { result ≡ count_by is_spare findings.now }
 {
@@ -25,7 +25,7 @@ pub(crate) fn count_spare(findings: &[Change]) -> usize
         .count()
 }
 
-/// How many filters are unsettled.
+/// How many filters are unsettled: found neither needed nor spare.
 pub(crate) fn count_unsettled(findings: &[Change]) -> usize
     ensures { result ≡ count_by is_unsettled findings.now }
 {

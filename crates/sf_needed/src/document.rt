@@ -11,7 +11,7 @@ use sf_insn::Input;
 use sf_json::{Document, Fields, input_document};
 use std::alloc::{AllocError, Global};
 
-/// A filter: its number, what was found of it, and an example.
+/// A filter as JSON: its number, the word for what was found of it, and an example, which is null where there is none.
 fn found_document(
     alloc: Global,
     number: usize,
@@ -27,7 +27,7 @@ fn found_document(
     Ok(Document::object(fields))
 }
 
-/// A filter that is needed, for which this input is an example.
+/// A filter that is needed, as JSON: this input, its example, gets further without it.
 fn needed_document(alloc: Global, number: usize, input: &Input) -> Result<Document, AllocError>
     ensures { IfOk result (λ d. view d ≡ needed_document number input.now) }
 {
@@ -35,7 +35,7 @@ fn needed_document(alloc: Global, number: usize, input: &Input) -> Result<Docume
     found_document(alloc, number, "needed", example)
 }
 
-/// A filter: its number, and what was found of it.
+/// A filter as JSON: its number, and what was found of it.
 fn finding_document(alloc: Global, number: usize, finding: Change) -> Result<Document, AllocError>
     ensures { IfOk result (λ d. view d ≡ finding_document number finding) }
 {
@@ -46,7 +46,7 @@ fn finding_document(alloc: Global, number: usize, finding: Change) -> Result<Doc
     }
 }
 
-/// All filters, in their order.
+/// All filters as JSON, in their order, with numbers from 1.
 fn finding_documents(alloc: Global, findings: &[Change]) -> Result<Vec<Document>, AllocError>
     ensures { IfOk result (λ v. map view v.items ≡ finding_documents 1 findings.now) }
 {
@@ -58,7 +58,7 @@ fn finding_documents(alloc: Global, findings: &[Change]) -> Result<Vec<Document>
     Ok(documents)
 }
 
-/// The numbers of the filters that are kept.
+/// The numbers, from 1, of the filters at the places that are kept. The caller's condition: each place is below 64.
 fn kept_documents(alloc: Global, kept: &[usize]) -> Result<Vec<Document>, AllocError>
     requires { All (λ p. p < 64) kept.now }
     ensures { IfOk result (λ v. map view v.items ≡ map (λ p. count (p + 1)) kept.now) }
@@ -93,8 +93,8 @@ fn totals_document(alloc: Global, needs: &Needs) -> Result<Document, AllocError>
 }
 
 /// Which filters of a stack are needed, as JSON: the size of the stack, what was found of each filter with an example
-/// where it is needed, the numbers of the filters that are kept, and how often each was found. An error where an
-/// allocation is refused.
+/// where it is needed, the numbers of the filters that are kept, and of how many filters each result was found. An
+/// error where an allocation is refused.
 pub fn needs_document(alloc: Global, needs: &Needs) -> Result<Document, AllocError>
     ensures { IfOk result (λ d. view d ≡ needs_document needs.now) }
 {

@@ -9,16 +9,15 @@ use crate::trial::{Task, Trial, try_without};
 use sf_compare::Change;
 use sf_crew::Gate;
 use sf_policy::Fault;
-use std::alloc::Global;
 use std::sync::Wait;
 use std::thread::Threads;
 
 /// Compares the filters that `kept` still has with the same filters without one: the one at `place` of the list `kept`.
 /// While no filter has been dropped, the result is taken from `trials`, which has tried the whole stack without each
-/// filter.
+/// filter. The caller's conditions: `kept` is what is left of the whole stack where filters are dropped one after
+/// another, and `place` is below its length. Refusals: as those of `try_without`.
 fn trial_of<R: Threads + Wait + Sync, G: Gate>(
     rt: &R,
-    alloc: Global,
     task: &Task<'_>,
     trials: &[Trial],
     kept: &[usize],
@@ -36,7 +35,7 @@ fn trial_of<R: Threads + Wait + Sync, G: Gate>(
     if kept.len() == trials.len() {
         return Ok(trials[place]);
     }
-    try_without(rt, alloc, task, kept, place, gate)
+    try_without(rt, task, kept, place, gate)
 }
 
 /// Whether a comparison found that no input is changed.
@@ -47,11 +46,11 @@ fn is_never(change: Change) -> bool
     matches!(change, Change::Never)
 }
 
-/// Whether the filter at a place of `kept` can be dropped: a comparison finds that the others that are left answer each
-/// input as before. Where the comparison is unsettled, the filter can't be dropped.
+/// Whether the filter at `place` of the list `kept` can be dropped: a comparison finds that the others that are left
+/// answer each input as before. Where the comparison is unsettled, the filter can't be dropped. The caller's conditions
+/// and the refusals are those of `trial_of`.
 fn is_droppable<R: Threads + Wait + Sync, G: Gate>(
     rt: &R,
-    alloc: Global,
     task: &Task<'_>,
     trials: &[Trial],
     kept: &[usize],
@@ -68,11 +67,12 @@ fn is_droppable<R: Threads + Wait + Sync, G: Gate>(
     ensures refused { IfErr result (λ e. (e ≡ MemoryFault)
         ⊎ AreRefusedTogether task.now.files task.now.budget e) }
 {
-    let trial = trial_of(rt, alloc, task, trials, kept, place, gate)?;
+    let trial = trial_of(rt, task, trials, kept, place, gate)?;
     Ok(is_never(trial.different))
 }
 
 /// The place of a list of `count` filters that is tried next: `place` itself, or the first one if `place` is the end.
+/// The caller's conditions: there is a filter, and `place` is at most `count`.
 fn place_to_try(place: usize, count: usize) -> usize
     requires { (0 < count) × (place ≤ count) }
     ensures { ((result ≡ place) × (place < count)) ⊎ ((result ≡ 0) × (place ≡ count)) }
@@ -80,11 +80,13 @@ fn place_to_try(place: usize, count: usize) -> usize
     if place == count { 0 } else { place }
 }
 
-/// Drops filters one after another, each where a comparison finds that the others answer as before. Tries them in
-/// order, and after the last one begins again, until each filter that is left has been tried since the last drop.
-pub(crate) fn drop_unneeded<R: Threads + Wait + Sync, G: Gate>(
+/// Drops filters of `kept` one after another, each where a comparison finds that the others answer as before. Tries
+/// them in order, and after the last one begins again, until each filter that is left has been tried since the last
+/// drop. The caller's conditions: `kept` has the places of all filters, or what is left of them by such drops, and
+/// `trials` has tried the whole stack without each filter. Refusals: those of `try_without`; `kept` lacks the filters
+/// that were dropped until then.
+pub(crate) fn drop_while_alike<R: Threads + Wait + Sync, G: Gate>(
     rt: &R,
-    alloc: Global,
     task: &Task<'_>,
     trials: &[Trial],
     kept: &mut Vec<usize>,
@@ -100,11 +102,13 @@ pub(crate) fn drop_unneeded<R: Threads + Wait + Sync, G: Gate>(
         task.now.files task.now.budget e) }
 {
     let mut next = 0;
+    // How many filters before `next`, counted round the list, were tried since the last drop.
     let mut tried = 0;
     while tried < kept.len() {
         let place = place_to_try(next, kept.len());
-        if is_droppable(rt, alloc, task, trials, kept, place, gate)? {
+        if is_droppable(rt, task, trials, kept, place, gate)? {
             kept.remove(place);
+            // The filter behind it has moved to its place.
             next = place;
             tried = 0;
         } else {

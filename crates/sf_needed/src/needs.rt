@@ -8,7 +8,7 @@ ghost use Rattle.sf_needed.specs.Needs.{AreFew, AreFindings, AreKept, ArePlaces,
 ghost use Rattle.sf_needed.specs.Texts.{is_needed, is_spare, is_unsettled};
 
 use crate::counting;
-use crate::dropping::drop_unneeded;
+use crate::dropping::drop_while_alike;
 use crate::laws::{a_finding_describes_its_filter, dropping_changes_no_answer};
 use crate::trial::{Task, Trial, try_without};
 use sf_compare::Change;
@@ -19,7 +19,7 @@ use std::marker::Model;
 use std::sync::Wait;
 use std::thread::Threads;
 
-/// What was found of each filter of a stack, and which filters are kept.
+/// What was found of each filter of a stack, which filters are kept, and the length of the path through all.
 #[derive(Drop)]
 pub struct Needs {
     findings: Vec<Change>,
@@ -48,7 +48,7 @@ impl Model for Needs {
 impl Needs {
     /// What was found of each filter, in the order of the filters: how the answers change where it is left out. With
     /// `Found` it is needed: that input gets further without it. With `Never` it is spare: no input gets further
-    /// without it.
+    /// without it. With `Unsettled` neither was found.
     pub fn findings(&self) -> &[Change]
         ensures same { result.now ≡ self.now.findings }
     {
@@ -63,7 +63,7 @@ impl Needs {
         self.kept.as_slice()
     }
 
-    /// The length of the path through all filters.
+    /// The length of the path through all filters, as seccomp(2) counts it.
     pub fn path_length(&self) -> usize
         ensures { result ≡ self.now.path }
     {
@@ -92,7 +92,7 @@ impl Needs {
     }
 }
 
-/// The places of this many filters.
+/// The places of this many filters: the numbers from 0 to below `count`.
 fn places_of(alloc: Global, count: usize) -> Result<Vec<usize>, AllocError>
     ensures { IfOk result (λ v. v.items ≡ range_with_len 0 count) }
 {
@@ -103,10 +103,10 @@ fn places_of(alloc: Global, count: usize) -> Result<Vec<usize>, AllocError>
     Ok(places)
 }
 
-/// Compares the whole stack with the stack without each of its filters.
+/// Compares the whole stack with the stack without each of its filters, in their order. The caller's condition: `all`
+/// has the places of all filters of the task. Refusals: those of `try_without`.
 fn try_each<R: Threads + Wait + Sync, G: Gate>(
     rt: &R,
-    alloc: Global,
     task: &Task<'_>,
     all: &[usize],
     gate: &G,
@@ -116,15 +116,15 @@ fn try_each<R: Threads + Wait + Sync, G: Gate>(
     ensures refused { IfErr result (λ e. (e ≡ MemoryFault) ⊎ AreRefusedTogether
         task.now.files task.now.budget e) }
 {
-    let mut trials = Vec::with_capacity(alloc, all.len())?;
+    let mut trials = Vec::with_capacity(task.alloc, all.len())?;
     for place in 0..all.len() {
-        let trial = try_without(rt, alloc, task, all, place, gate)?;
+        let trial = try_without(rt, task, all, place, gate)?;
         trials.push(trial)?;
     }
     Ok(trials)
 }
 
-/// How far inputs get without the filter, for each trial.
+/// What was found of each filter by its trial: whether some input gets further without it.
 fn findings_of(alloc: Global, trials: &[Trial]) -> Result<Vec<Change>, AllocError>
     ensures { IfOk result (λ v. v.items ≡ map (λ t. t.looser) trials.now) }
 {
@@ -143,11 +143,12 @@ fn findings_of(alloc: Global, trials: &[Trial]) -> Result<Vec<Change>, AllocErro
 /// found. Then filters are dropped one after another, in order and again from the first, where what is left answers as
 /// before; one that is unsettled is kept. A stack without its only filter is that of the filter that allows all.
 ///
-/// The caller's conditions: a budget of works, for each comparison, from 1 to 1,000,000 and 1 to 64 workers, each a
-/// thread of its own where there are more than one. The gate sees each work before it is committed. Refusals, tried in
-/// this order: those of `stack_of` for the files; `TooMany` where the stack and the stack without one filter have more
-/// than 64 filters together; `PathLength` where the path through both is longer than 32768. `Memory` can come anywhere.
-/// Waits for the workers.
+/// The caller's conditions: a budget of works, for each comparison, from 1 to 1,000,000 and 1 to 64 workers (where
+/// there are more than one, each gets a thread, if it can be started). The gate sees each work before it is committed.
+///
+/// Refusals, tried in this order: those of `stack_of` for the files; `TooMany` where the stack and the stack without
+/// one filter have more than 64 filters together; `PathLength` where the path through both is longer than 32768.
+/// `Memory` can come anywhere. Waits for the workers.
 pub fn needed<R: Threads + Wait + Sync, G: Gate>(
     rt: &R,
     alloc: Global,
@@ -187,13 +188,14 @@ pub fn needed<R: Threads + Wait + Sync, G: Gate>(
     a_finding_describes_its_filter();
     let path = stack_of(alloc, filters)?.path_length();
     let task = Task {
+        alloc,
         filters,
         budget,
         workers,
     };
     let mut kept = places_of(alloc, filters.len())?;
-    let trials = try_each(rt, alloc, &task, &kept, gate)?;
-    drop_unneeded(rt, alloc, &task, &trials, &mut kept, gate)?;
+    let trials = try_each(rt, &task, &kept, gate)?;
+    drop_while_alike(rt, &task, &trials, &mut kept, gate)?;
     let findings = findings_of(alloc, &trials)?;
     Ok(Needs {
         findings,

@@ -43,7 +43,8 @@ fn push_findings(alloc: Global, text: &mut String, findings: &[Change]) -> Resul
     Ok(())
 }
 
-/// Adds the numbers of the filters that are kept, or a dash where there are none.
+/// Adds the numbers, from 1, of the filters at the places that are kept, each after a blank; a dash where there are
+/// none. The caller's condition: each place is below 64.
 fn push_numbers(text: &mut String, kept: &[usize]) -> Result<(), AllocError>
     requires { All (λ p. p < 64) kept.now }
     ensures { OnOk result (string_bytes text.new ≡ string_bytes text.old ++ kept_words kept.now) }
@@ -57,7 +58,7 @@ fn push_numbers(text: &mut String, kept: &[usize]) -> Result<(), AllocError>
     Ok(())
 }
 
-/// Adds the line of the filters that are kept.
+/// Adds the line of the filters that are kept. The caller's condition: each place is below 64.
 fn push_kept(text: &mut String, kept: &[usize]) -> Result<(), AllocError>
     requires { All (λ p. p < 64) kept.now }
     ensures { OnOk result (string_bytes text.new ≡ string_bytes text.old ++ kept_line kept.now) }
@@ -67,7 +68,7 @@ fn push_kept(text: &mut String, kept: &[usize]) -> Result<(), AllocError>
     text.push_str("\n")
 }
 
-/// Adds the line with the size of the stack.
+/// Adds the line with the size of the stack: how many filters it has, and the length of the path through them.
 fn push_size(text: &mut String, filters: usize, path: usize) -> Result<(), AllocError>
     ensures { OnOk result (string_bytes text.new ≡ string_bytes text.old
         ++ size_line filters path) }

@@ -19,8 +19,13 @@ const ALLOW_ALL: [u8; 8] = [0x06, 0x00, 0x00, 0x00, 0x00, 0x00, 0xff, 0x7f];
 /// The filter files of the whole stack, and how each comparison is done.
 #[derive(Drop)]
 pub(crate) struct Task<'a> {
+    /// Where memory is taken from.
+    pub(crate) alloc: Global,
+    /// The filter files of the whole stack, in order of installation.
     pub(crate) filters: &'a [Vec<u8>],
+    /// How many works each comparison may take at most.
     pub(crate) budget: u32,
+    /// How many workers a comparison has: 1 to 64.
     pub(crate) workers: usize,
 }
 
@@ -46,7 +51,9 @@ impl<'a> Model for Task<'a> {
 /// What a comparison of a stack with the stack without one filter found.
 #[derive(Clone, Copy, Debug, PartialEq, Eq)]
 pub(crate) struct Trial {
+    /// Whether some input gets further without the filter.
     pub(crate) looser: Change,
+    /// Whether some input gets another answer without the filter.
     pub(crate) different: Change,
 }
 
@@ -58,7 +65,8 @@ fn copy_of(filter: &Vec<u8>) -> Result<Vec<u8>, AllocError>
     Ok(copy)
 }
 
-/// Adds copies of the filter files at these places.
+/// Adds copies of the filter files at these places, in their order. The caller's condition: each place is that of a
+/// filter file. `files` has some of the copies where an allocation is refused.
 fn push_filters(
     files: &mut Vec<Vec<u8>>,
     filters: &[Vec<u8>],
@@ -76,8 +84,10 @@ fn push_filters(
     Ok(())
 }
 
-/// Adds the filter files at these places, without the one at `place` of the list `places`. Where it is the only one,
-/// adds the filter that allows all, since a stack has at least one filter.
+/// Adds copies of the filter files at these places, without the one at `place` of the list `places`. Where it is the
+/// only one, adds the filter that allows all, since a stack has at least one filter. The caller's conditions: each
+/// place is that of a filter file, and `place` is below the length of `places`. `files` has some of the copies where an
+/// allocation is refused.
 fn push_rest(
     alloc: Global,
     files: &mut Vec<Vec<u8>>,
@@ -99,7 +109,8 @@ fn push_rest(
     push_filters(files, filters, &places[place + 1..])
 }
 
-/// The filter files at these places, and then those of the stack without the one at a place of the list.
+/// Copies of the filter files at these places, and then those of the stack without the one at `place` of the list
+/// `places`. The caller's conditions: each place is that of a filter file, and `place` is below the length of `places`.
 fn files_of_both(
     alloc: Global,
     filters: &[Vec<u8>],
@@ -117,10 +128,12 @@ fn files_of_both(
     Ok(files)
 }
 
-/// Compares the stack of the filters at these places with the stack without the one at a place of the list.
+/// Compares the stack of the filters at these places with the stack without the one at `place` of the list `places`.
+/// The caller's conditions: each place is that of a filter of the task, and `place` is below the length of `places`.
+/// Refusals: those of `stack_of` for the files of both stacks together. `Memory` can come anywhere. Waits for the
+/// workers.
 pub(crate) fn try_without<R: Threads + Wait + Sync, G: Gate>(
     rt: &R,
-    alloc: Global,
     task: &Task<'_>,
     places: &[usize],
     place: usize,
@@ -133,9 +146,17 @@ pub(crate) fn try_without<R: Threads + Wait + Sync, G: Gate>(
     ensures refused { IfErr result (λ e. (e ≡ MemoryFault) ⊎ IsFirstRefusal (with_rest
         (at_places task.now.files places.now) place) e) }
 {
-    let files = files_of_both(alloc, task.filters, places, place)?;
-    let older = places.len();
-    let comparison = compare(rt, alloc, &files, older, task.budget, task.workers, gate)?;
+    let files = files_of_both(task.alloc, task.filters, places, place)?;
+    let old_count = places.len();
+    let comparison = compare(
+        rt,
+        task.alloc,
+        &files,
+        old_count,
+        task.budget,
+        task.workers,
+        gate,
+    )?;
     Ok(Trial {
         looser: comparison.change(Relation::Looser),
         different: comparison.change(Relation::Different),

@@ -15,13 +15,13 @@ returns-clause-ok c = λ region there.
     let both = c.in-Some.both in
     let route : c.deref-2.result.now ≡ c.region.result.now.name =
     c.deref-2.ensures.value ∙ c.in_ok-route.ensures ∙ c.name.ensures in
-    let along : answers_along (old_of s c.args.older) (new_of s c.args.older) c.deref-2.result.now ≡ Some both =
-    rw (last_part c.args.older programs, all) at (sym c.replay.ensures.same ∙ c.in-Some.is) in
-    subst (λ (r : RegionData). AreAnswersOf s c.args.older r both
-    × (answers_along (old_of s c.args.older) (new_of s c.args.older) r.name ≡ Some both)) same (
-      region_answers s c.args.older c.region.result.now both c.region.ensures.lawful.lawful.stack
+    let along : answers_along (old_of s c.args.old_count) (new_of s c.args.old_count) c.deref-2.result.now ≡ Some both =
+    rw (last_part c.args.old_count programs, all) at (sym c.replay.ensures.same ∙ c.in-Some.is) in
+    subst (λ (r : RegionData). AreAnswersOf s c.args.old_count r both
+    × (answers_along (old_of s c.args.old_count) (new_of s c.args.old_count) r.name ≡ Some both)) same (
+      region_answers s c.args.old_count c.region.result.now both c.region.ensures.lawful.lawful.stack
           c.region.ensures.right (λ d lawful traced.
-          let h = rw (last_part c.args.older programs, all) at (c.in-Some.ensures.right d) in
+          let h = rw (last_part c.args.old_count programs, all) at (c.in-Some.ensures.right d) in
           let answers = h lawful (traced ∙ sym route) in (answers.of_older, answers.of_newer)),
-      ap (answers_along (old_of s c.args.older) (new_of s c.args.older)) (sym route) ∙ along,
+      ap (answers_along (old_of s c.args.old_count) (new_of s c.args.old_count)) (sym route) ∙ along,
     )

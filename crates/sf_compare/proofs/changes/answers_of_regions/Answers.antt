@@ -14,7 +14,8 @@ loop-place-preserved c =
     let pushed = c.in_ok-push.ensures.items in
     record {
       count = rw pushed (length_push all both ∙ ap (λ (n : ℕ). n + 1) so_far.count);
-      each = λ place told there. one_pushed (AreAnswersAt s c.args.older) all both so_far.each
-          (subst (λ (n : ℕ). AreAnswersAt s c.args.older n both) (sym so_far.count) c.in_ok-both.ensures.ok) place told
+      each = λ place told there. one_pushed (AreAnswersAt s c.args.old_count) all both so_far.each
+          (subst (λ (n : ℕ). AreAnswersAt s c.args.old_count n both)
+          (sym so_far.count) c.in_ok-both.ensures.ok) place told
           (subst (λ (l : List PartAnswers). slice_get l place ≡ Some told) pushed there);
     }

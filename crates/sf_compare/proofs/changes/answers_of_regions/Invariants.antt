@@ -7,5 +7,5 @@ abbrev pub invariant-loop-place : goal.invariant-loop-place
 invariant-loop-place l = record {
   count : length l.answers.items ≡ l.place;
   each : (place : ℕ) (both : PartAnswers) → slice_get l.answers.items place ≡ Some both
-      → AreAnswersAt l.settled l.older place both;
+      → AreAnswersAt l.settled l.old_count place both;
 }

@@ -6,17 +6,17 @@ use Rattle.sf_compare.proofs.changes.find_changes.Goals as goal
 
 pub change_at_end-looser-requires : goal.change_at_end-looser-requires
 change_at_end-looser-requires c =
-    tells_at_end c.args.settled.now c.args.older c.loop-place.place c.loop-place.found c.loop-place.invariant
+    tells_at_end c.args.settled.now c.args.old_count c.loop-place.place c.loop-place.found c.loop-place.invariant
     (omega (arith, c.loop-place-test.false, c.loop-place.auto.place-end, c.requires.count)) Looser
 
 pub change_at_end-tighter-requires : goal.change_at_end-tighter-requires
 change_at_end-tighter-requires c =
-    tells_at_end c.args.settled.now c.args.older c.loop-place.place c.loop-place.found c.loop-place.invariant
+    tells_at_end c.args.settled.now c.args.old_count c.loop-place.place c.loop-place.found c.loop-place.invariant
     (omega (arith, c.loop-place-test.false, c.loop-place.auto.place-end, c.requires.count)) Tighter
 
 pub change_at_end-different-requires : goal.change_at_end-different-requires
 change_at_end-different-requires c =
-    tells_at_end c.args.settled.now c.args.older c.loop-place.place c.loop-place.found c.loop-place.invariant
+    tells_at_end c.args.settled.now c.args.old_count c.loop-place.place c.loop-place.found c.loop-place.invariant
     (omega (arith, c.loop-place-test.false, c.loop-place.auto.place-end, c.requires.count)) Different
 
 pub findings_after-requires-clause-answers : goal.findings_after-requires-clause-answers

@@ -11,5 +11,5 @@ returns c =
     let all : programs ≡ s.stack = cc (c.programs-programs.ensures.same, c.deref.ensures, c.stack.ensures.value) in
     on_ok_weaker c.push_counts.result (λ e. added_four _ _ _ _ _ _ _ _ _ c.in_ok-push_str.ensures.bytes
     (rw all at c.in_ok-push_part.ensures)
-    (rw (last_part c.args.older programs, all) at c.in_ok-push_part-2.ensures)
+    (rw (last_part c.args.old_count programs, all) at c.in_ok-push_part-2.ensures)
     (rw c.counts.ensures.counts at e)) c.push_counts.ensures

@@ -2,15 +2,15 @@ use Rattle.std.proofs.lemmas.List.{length-map}
 use Rattle.sf_needed.proofs.NeedsLemmas.{all_left, few_told, later_why, findings_told, places_told}
 use Rattle.sf_needed.proofs.needs.needed.Goals as goal
 
-pub drop_unneeded-requires-clause-kept : goal.drop_unneeded-requires-clause-kept
-drop_unneeded-requires-clause-kept g c κs within =
+pub drop_while_alike-requires-clause-kept : goal.drop_while_alike-requires-clause-kept
+drop_while_alike-requires-clause-kept g c κs within =
     all_left _ _ _ _ (length-map c.args.filters.now _) c.in_ok-kept.ensures
 
 pub invariant_of-result : goal.invariant_of-result
 invariant_of-result g c =
     let told = rw c.deref-3.ensures.value at c.in_ok-findings.ensures in
     few_told _ _ _ _ c.in_ok-stack_of.ensures.accepted (findings_told _ _ _ _ c.in_ok-trials.ensures.tried told)
-    c.in_ok-drop_unneeded.ensures.left
+    c.in_ok-drop_while_alike.ensures.left
 
 pub returns-clause-findings : goal.returns-clause-findings
 returns-clause-findings g c =
@@ -25,10 +25,10 @@ returns-clause-described g c =
 
 pub returns-clause-places : goal.returns-clause-places
 returns-clause-places g c =
-    places_told _ _ _ _ (length-map c.args.filters.now _) c.in_ok-drop_unneeded.ensures.left
+    places_told _ _ _ _ (length-map c.args.filters.now _) c.in_ok-drop_while_alike.ensures.left
 
 pub returns-clause-alike : goal.returns-clause-alike
-returns-clause-alike g c = c.dropping_changes_no_answer.ensures _ _ _ c.in_ok-drop_unneeded.ensures.left
+returns-clause-alike g c = c.dropping_changes_no_answer.ensures _ _ _ c.in_ok-drop_while_alike.ensures.left
 
 pub returns-in_err-trials-clause-refused : goal.returns-in_err-trials-clause-refused
 returns-in_err-trials-clause-refused g c =
@@ -36,8 +36,8 @@ returns-in_err-trials-clause-refused g c =
     c.from_residual-in_err-trials.ensures.1
     c.in_ok-stack_of.ensures.accepted c.in_err-trials.ensures.refused
 
-pub returns-in_err-drop_unneeded-clause-refused : goal.returns-in_err-drop_unneeded-clause-refused
-returns-in_err-drop_unneeded-clause-refused g c =
-    later_why _ _ _ c.from_residual-in_err-drop_unneeded.result c.in_err-drop_unneeded.field-0.0
-    c.from_residual-in_err-drop_unneeded.ensures.1 c.in_ok-stack_of.ensures.accepted
-    c.in_err-drop_unneeded.ensures.refused
+pub returns-in_err-drop_while_alike-clause-refused : goal.returns-in_err-drop_while_alike-clause-refused
+returns-in_err-drop_while_alike-clause-refused g c =
+    later_why _ _ _ c.from_residual-in_err-drop_while_alike.result c.in_err-drop_while_alike.field-0.0
+    c.from_residual-in_err-drop_while_alike.ensures.1 c.in_ok-stack_of.ensures.accepted
+    c.in_err-drop_while_alike.ensures.refused

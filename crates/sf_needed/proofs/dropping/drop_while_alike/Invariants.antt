@@ -1,7 +1,7 @@
 use Rattle.std.proofs.Common.{ℕ, ◌+◌, ◌-◌, ◌*◌, ◌<◌, ◌≤◌, length}
 use Rattle.sf_needed.specs.Needs.{IsKept, IsLeft}
 use Rattle.sf_needed.proofs.LeftLemmas.{WasTried}
-use Rattle.sf_needed.proofs.dropping.drop_unneeded.Given as goal
+use Rattle.sf_needed.proofs.dropping.drop_while_alike.Given as goal
 
 abbrev pub invariant-loop-tried : goal.invariant-loop-tried
 invariant-loop-tried g l = record {

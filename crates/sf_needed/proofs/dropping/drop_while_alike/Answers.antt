@@ -1,7 +1,7 @@
 use Rattle.std.proofs.Common.{◌<◌, arith, length, rules}
 use Rattle.sf_needed.specs.Needs.{dropped}
 use Rattle.sf_needed.proofs.LeftLemmas.{none_tried}
-use Rattle.sf_needed.proofs.dropping.drop_unneeded.Goals as goal
+use Rattle.sf_needed.proofs.dropping.drop_while_alike.Goals as goal
 
 pub loop-tried-preserved-then-branch : goal.loop-tried-preserved-then-branch
 loop-tried-preserved-then-branch g c =
