@@ -114,9 +114,6 @@ KNOWN = {
         "RefusesAsTold": "what words of the command line ask for",
         "told": "a text that is written",
     },
-    "sf_compare": {
-        "told": "what is found of a relation",
-    },
     "sf_evaluate": {
         "mark_of": "the text that marks a filter",
         "told": "a text that is written",

@@ -31,7 +31,7 @@ kept one bytes plan files budget c d a filter comparison never input answers fur
   where
     right : IsRightChange c.settled 1 Looser Never
     right = subst (λ (change : Change). IsRightChange c.settled 1 Looser change) never
-        (comparison.compared.told Looser).right
+        (comparison.compared.each_relation Looser).right
 
     by : (stack : List (List Insn)) → c.settled.stack ≡ stack → SpellPrograms (bytes ∷ files) stack → ⊥
     by [] e spelled = absurd spelled

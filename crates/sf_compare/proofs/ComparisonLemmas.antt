@@ -32,6 +32,6 @@ compared files program stack old_count budget s c spelled is end plain same part
         plain = rw same (subst (λ (st : List (List Insn)). IsPlain st → IsExactExploration st budget s)
             (sym end.of) plain);
         parted = parted;
-        told = rw same found;
+        each_relation = rw same found;
       };
     }

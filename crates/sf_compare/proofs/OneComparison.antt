@@ -162,11 +162,11 @@ compared_twice explored tree find files others old_count m n o p f g stack none 
       old_count = h.parted ∙ sym k.parted;
       counts = same_counts o.settled p.settled one none none';
       looser = one_change tree find o.settled p.settled old_count Looser stack h.end.fringe one.regions none none'
-          o.findings.looser p.findings.looser (h.told Looser).rule (k.told Looser).rule;
+          o.findings.looser p.findings.looser (h.each_relation Looser).rule (k.each_relation Looser).rule;
       tighter = one_change tree find o.settled p.settled old_count Tighter stack h.end.fringe one.regions none none'
-          o.findings.tighter p.findings.tighter (h.told Tighter).rule (k.told Tighter).rule;
+          o.findings.tighter p.findings.tighter (h.each_relation Tighter).rule (k.each_relation Tighter).rule;
       different = one_change tree find o.settled p.settled old_count Different stack h.end.fringe one.regions none none'
-          o.findings.different p.findings.different (h.told Different).rule (k.told Different).rule;
+          o.findings.different p.findings.different (h.each_relation Different).rule (k.each_relation Different).rule;
     }
 
 abbrev text : List (List Insn) → ℕ → Counts → (looser tighter different : Change) → List ℕ

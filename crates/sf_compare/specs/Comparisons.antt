@@ -39,7 +39,7 @@ pub record IsComparedOn (stack : List (List Insn)) (old_count budget : ℕ) (c :
   pub end : IsExplorationOf stack budget c.settled
   pub plain : IsPlain stack → IsExactExploration stack budget c.settled
   pub parted : c.old_count ≡ old_count
-  pub told : (relation : Relation) → IsChangeOf c.settled old_count relation (change_of c relation)
+  pub each_relation : (relation : Relation) → IsChangeOf c.settled old_count relation (change_of c relation)
 
 -- a comparison of the two stacks that files spell: the first `old_count` files are those of the old stack
 pub record IsComparison (files : List (List ℕ)) (old_count budget : ℕ) (c : Compared) : Type 0 where

@@ -205,7 +205,7 @@ left_alike one-of files budget places (dropped before place left within found e)
 
     right : IsRightChange found.comparison.settled (length (at_places files before)) Different Never
     right = subst (IsRightChange found.comparison.settled (length (at_places files before)) Different) found.found
-        (found.is.compared.told Different).right
+        (found.is.compared.each_relation Different).right
 
     alike : Answers (at_places programs before) d a ↔ Answers other.programs' d a
     alike = never_differ (at_places programs before) other.programs' (length (at_places files before))
@@ -257,7 +257,7 @@ describes one-of files place budget finding programs found p =
     let other = stand_in (remove files place) (remove programs place)
     (spelled_remove files programs place p.spelled) in
     let right = subst (IsRightChange found.comparison.settled (length files) Looser) found.found
-    (found.is.compared.told Looser).right in
+    (found.is.compared.each_relation Looser).right in
     meant programs other.programs' (remove programs place) (length files) place found.comparison finding
     (is_of one-of files (or_allow_all (remove files place)) programs other.programs' budget found.comparison found.is
     p.spelled other.spelled) other.alike refl right
