@@ -3,7 +3,7 @@
 use crate::fragments::words_of;
 use crate::limited::{Counted, Full, Limited};
 use crate::memory_files::MemoryFiles;
-use sf_command::command;
+use sf_command::{Means, command};
 use sf_crew::Open;
 use std::alloc::Global;
 use std::sync::Wait;
@@ -56,7 +56,12 @@ fn run_over<R: Print + Threads + Wait + Sync + AllocGlobal>(
         full,
     };
     let mut err = no_errors(alloc);
-    let status = command(rt, alloc, words, files, &Open, &mut out, &mut err);
+    let means = Means {
+        rt,
+        alloc,
+        gate: &Open,
+    };
+    let status = command(&means, words, files, &mut out, &mut err);
     Ended { out, err, status }
 }
 

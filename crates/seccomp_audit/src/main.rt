@@ -4,7 +4,7 @@
 mod meter;
 
 use meter::Progress;
-use sf_command::command;
+use sf_command::{Means, command};
 use sf_evaluate::{Files, MOST_BYTES, tell_fault};
 use sf_policy::Fault;
 use std::env::{Env, FillError};
@@ -21,8 +21,9 @@ const REASON: usize = 256;
 /// The variable of the environment that has `1` where each fault is to be explained.
 const EXPLAIN: &str = "SECCOMP_AUDIT_EXPLAIN";
 
-/// The files of the system, read through `rt`.
+/// The files of the system, and its standard input, which can be read once.
 struct Disk<'a, R> {
+    /// What files are opened by.
     rt: &'a R,
     /// Why the last file that was refused could not be read, in words for a person; empty before one is.
     reason: InlineText<REASON>,
@@ -35,7 +36,8 @@ struct Disk<'a, R> {
 /// The path that stands for standard input.
 const STANDARD_INPUT: &str = "-";
 
-/// The bytes of standard input. Where it is longer than `MOST_BYTES`, only one byte more than that is read.
+/// The bytes of standard input. Where it is longer than `MOST_BYTES`, only one byte more than that is read, which shows
+/// that it is too long.
 fn bytes_of_input<R: Input + AllocGlobal>(rt: &R) -> io::Result<Vec<u8>> {
     let mut bytes = Vec::new(rt.alloc());
     rt.reader()
@@ -54,7 +56,8 @@ fn bytes_of<R: FileSystem + AllocGlobal>(rt: &R, path: &str) -> io::Result<Vec<u
 }
 
 impl<R: FileSystem + Input + AllocGlobal> Disk<'_, R> {
-    /// The bytes of the file at a path, or of standard input.
+    /// The bytes of the file at a path, or of standard input where the path is `-`: then it counts as read. At most one
+    /// byte more than `MOST_BYTES` is read.
     fn bytes_at(&mut self, path: &str) -> io::Result<Vec<u8>> {
         if path != STANDARD_INPUT {
             return bytes_of(self.rt, path);
@@ -65,6 +68,8 @@ impl<R: FileSystem + Input + AllocGlobal> Disk<'_, R> {
 }
 
 impl<R: FileSystem + Input + AllocGlobal> Files for Disk<'_, R> {
+    /// The bytes of the file at a path; `-` is standard input. `Read` where it can't be read, is too long, or is
+    /// standard input for a second time; `Memory` where an allocation is refused. After an error `reason` says why.
     fn read(&mut self, path: &str) -> Result<Vec<u8>, Fault> {
         if path == STANDARD_INPUT && self.is_input_read {
             self.reason = InlineText::of(format_args!("standard input is read only once"));
@@ -90,10 +95,12 @@ impl<R: FileSystem + Input + AllocGlobal> Files for Disk<'_, R> {
         }
     }
 
+    /// Why the last file that was refused could not be read; empty before one is.
     fn reason(&self) -> &str {
         self.reason.as_str()
     }
 
+    /// Whether the environment asks that each fault is explained.
     fn explains(&self) -> bool {
         self.explains
     }
@@ -108,10 +115,12 @@ impl<R: FileSystem + Input + AllocGlobal> Files for Disk<'_, R> {
 /// The arguments after the program's name. The name isn't read, so it needn't be UTF-8.
 #[derive(Drop)]
 struct AfterName<'a, R> {
+    /// What all arguments are read from, the name too.
     rt: &'a R,
 }
 
 impl<R: Env> Env for AfterName<'_, R> {
+    /// Writes the argument at the place `i` behind the name into `buf`, as `arg` of the handle does.
     fn arg(&self, i: usize, buf: &mut [u8]) -> Result<usize, FillError> {
         match i.checked_add(1) {
             Some(next) => self.rt.arg(next, buf),
@@ -119,22 +128,24 @@ impl<R: Env> Env for AfterName<'_, R> {
         }
     }
 
+    /// Hands on to `rt`.
     fn var(&self, name: &str, buf: &mut [u8]) -> Result<usize, FillError> {
         self.rt.var(name, buf)
     }
 
+    /// Hands on to `rt`.
     fn var_at(&self, i: usize, buf: &mut [u8]) -> Result<usize, FillError> {
         self.rt.var_at(i, buf)
     }
 }
 
-/// The words after the program's name.
+/// The words after the program's name. An error where one of them isn't UTF-8, or an allocation is refused.
 fn words_of(rt: &HostRuntime) -> io::Result<Vec<String>> {
     let words = env::args(&(AfterName { rt }, rt.alloc()))?;
     Ok(words.collect(rt.alloc())?)
 }
 
-/// Whether the environment asks that each fault is explained: the variable is `1`, and nothing else.
+/// Whether the environment asks that each fault is explained: the variable `EXPLAIN` is there, and is just `1`.
 fn asks_to_explain<R: Env>(rt: &R) -> bool {
     let mut value = [0u8; 8];
     matches!(rt.var(EXPLAIN, &mut value), Ok(1)) && value[0] == b'1'
@@ -152,6 +163,7 @@ fn no_words<E: Write>(error: &io::Error, err: &mut E) -> u8 {
     4
 }
 
+/// Runs the command line over the files, the streams and the clock of the system. Gives the exit status.
 fn main(rt: HostRuntime) -> ExitCode {
     let mut err = rt.stderr();
     let words = match words_of(&rt) {
@@ -166,15 +178,12 @@ fn main(rt: HostRuntime) -> ExitCode {
     };
     let mut out = rt.stdout();
     let meter = Progress::new(&rt);
-    let status = command(
-        &rt,
-        rt.alloc(),
-        &words,
-        &mut disk,
-        &meter,
-        &mut out,
-        &mut err,
-    );
+    let means = Means {
+        rt: &rt,
+        alloc: rt.alloc(),
+        gate: &meter,
+    };
+    let status = command(&means, &words, &mut disk, &mut out, &mut err);
     let Disk {
         rt: _,
         reason: _,

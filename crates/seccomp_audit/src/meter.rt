@@ -17,15 +17,20 @@ const STEPS: u64 = 64;
 /// line to standard error if the second is a new one.
 #[derive(Drop)]
 pub struct Progress<'a, R> {
+    /// What has the clock and standard error.
     rt: &'a R,
+    /// When this meter was made; none where the clock couldn't be read then.
     started: Option<Instant>,
+    /// The most works that are committed in each exploration; 0 before that is known.
     budget: AtomicU64,
+    /// How many steps were counted.
     steps: AtomicU64,
+    /// The last second, since `started`, for which a line was written; 0 before there is one.
     last: AtomicU64,
 }
 
 impl<'a, R: Clock> Progress<'a, R> {
-    /// Nothing is done yet. Where the clock can't be read, nothing is ever written.
+    /// A meter of a run in which nothing is done yet. Where the clock can't be read, it never writes anything.
     pub fn new(rt: &'a R) -> Progress<'a, R> {
         Progress {
             rt,
@@ -49,7 +54,8 @@ impl<'a, R: Clock> Progress<'a, R> {
 }
 
 impl Progress<'_, HostRuntime> {
-    /// Writes the line for this second.
+    /// Writes to standard error how many steps were counted in how many seconds. A line that can't be written is left
+    /// out.
     fn tell(&self, steps: u64, seconds: u64) {
         let budget = self.budget.load(Ordering::Relaxed);
         let line: InlineText<LINE> = InlineText::of(format_args!(
@@ -61,6 +67,8 @@ impl Progress<'_, HostRuntime> {
 }
 
 impl Gate for Progress<'_, HostRuntime> {
+    /// Counts a step, and at every `STEPS`th one looks at the clock. In a second that is new, one of the workers that
+    /// see it writes the line: the one that sets `last`.
     fn pass(&self, _worker: usize, _call: usize) {
         let steps = self.steps.fetch_add(1, Ordering::Relaxed).wrapping_add(1);
         if steps % STEPS != 0 {
@@ -80,6 +88,7 @@ impl Gate for Progress<'_, HostRuntime> {
 }
 
 impl Meter for Progress<'_, HostRuntime> {
+    /// Keeps the budget, which each line tells.
     fn begin(&self, budget: u32) {
         self.budget.store(u64::from(budget), Ordering::Relaxed);
     }

@@ -15,8 +15,11 @@ use std::marker::Model;
 /// those with an accepted name.
 #[derive(Drop)]
 pub struct Expected {
+    /// The questions of the control.
     control: Vec<Question>,
+    /// The replies to them, one for each.
     held: Vec<Reply>,
+    /// The names of the questions that may be allowed.
     accepted: Vec<String>,
 }
 
@@ -104,7 +107,7 @@ impl Expected {
     }
 }
 
-/// Adds the line of a question of the control, where it isn't allowed.
+/// Adds the line of a question of the control with this name, where it isn't allowed.
 fn push_control(text: &mut String, name: &str, reply: Reply) -> Result<(), AllocError>
     ensures { OnOk result (string_bytes text.new ≡ string_bytes text.old
         ++ control_line name.now reply) }
@@ -116,7 +119,8 @@ fn push_control(text: &mut String, name: &str, reply: Reply) -> Result<(), Alloc
     }
 }
 
-/// Adds the lines of the questions of the control that aren't allowed.
+/// Adds the lines of the questions of the control that aren't allowed. The caller's condition: there is a reply to
+/// each.
 fn push_controls(
     text: &mut String,
     questions: &[Question],
@@ -161,7 +165,7 @@ fn push_unexpected(text: &mut String, name: &str, reply: Reply) -> Result<(), Al
     }
 }
 
-/// Adds the line of a question, where it isn't as expected.
+/// Adds the line of a question, where it isn't as expected: it is accepted and never, or allowed and not accepted.
 fn push_expected(
     text: &mut String,
     accepted: &[String],
@@ -178,7 +182,7 @@ fn push_expected(
     }
 }
 
-/// Adds the lines of the questions that aren't as expected.
+/// Adds the lines of the questions that aren't as expected. The caller's condition: there is a reply to each.
 fn push_questions(
     text: &mut String,
     accepted: &[String],
@@ -222,7 +226,7 @@ fn is_unexpected(accepted: &[String], name: &str, reply: &Reply) -> bool
     is_allowed(reply) && !is_accepted(accepted, name)
 }
 
-/// Whether some question is allowed whose name isn't an accepted one.
+/// Whether some question is allowed whose name isn't an accepted one. The caller's condition: there is a reply to each.
 fn has_unexpected(accepted: &[String], questions: &[Question], replies: &[Reply]) -> bool
     requires { length questions.now ≡ length replies.now }
     ensures { result

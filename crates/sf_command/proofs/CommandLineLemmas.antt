@@ -7,7 +7,7 @@ use Rattle.clap.specs.declared.error.kind.ErrorKind.TheVariants.{OutOfMemory}
 use Rattle.sf_command_line.specs.CommandLine.{IsKnown, errors_at, subcommand_at}
 use Rattle.sf_command_line.specs.SubcommandLaws.{known_subcommand}
 use Rattle.sf_policy.specs.declared.fault.Fault.{Fault}
-use Rattle.sf_evaluate.specs.Profiles.{words_fit}
+use Rattle.sf_evaluate.specs.Profiles.{profile_words_fit}
 use Rattle.sf_command.specs.Runs.{HasWrongWord, Helps, IsHelp, RefusesWords, WritesText, words_fit_for}
 
 -- an answer to a call for help or for the version is what the words ask for
@@ -44,6 +44,6 @@ profile_ran W (Ok s) (inr four) done = λ small. absurd (omega (arith, four, sma
 profile_ran W (Err e) status done = tt
 
 -- words of `profile` that don't fit are words that don't fit their subcommand
-pub profile_words : (name : Text) (rows : List Row) → name ≡ codes "profile" → words_fit rows ≡ false
+pub profile_words : (name : Text) (rows : List Row) → name ≡ codes "profile" → profile_words_fit rows ≡ false
     → words_fit_for name rows ≡ false
 profile_words name rows is wrong = rw is wrong

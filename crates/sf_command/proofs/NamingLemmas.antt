@@ -3,15 +3,15 @@ use Rattle.std.proofs.Common.{◌≡◌, ◌⊎◌, true, false, inl, inr, List,
 use Rattle.sf_policy.specs.declared.fault.Fault.{Fault}
 use Rattle.sf_policy.specs.declared.fault.Fault.TheVariants.{Input as InputFault, Memory, UnknownName}
 use Rattle.sf_names.specs.Names.{NamesData}
-use Rattle.sf_evaluate.specs.Asking.{LacksName, spells_input}
+use Rattle.sf_evaluate.specs.Asking.{LacksName, numbers_fit}
 use Rattle.clap.specs.Words.{Row, Text}
 use Rattle.sf_command.specs.Runs.{AreNamed, OnCalls, RefusesEval}
 use Rattle.sf_evaluate.specs.Wanted.{are_known, calls_asked}
 
 -- where no input is asked for, though it is spelled, a name is unknown
 pub asked_why : (holds : Text → Option Text) (rows : List Row) (names : List NamesData) (e : Fault)
-    → AreNamed holds rows names → spells_input rows ≡ true
-    → ((e ≡ InputFault) × (spells_input rows ≡ false)) ⊎ ((e ≡ UnknownName) × LacksName rows names)
+    → AreNamed holds rows names → numbers_fit rows ≡ true
+    → ((e ≡ InputFault) × (numbers_fit rows ≡ false)) ⊎ ((e ≡ UnknownName) × LacksName rows names)
     → RefusesEval holds rows e
 asked_why holds rows names e named spelled (inl input) = inl input
 asked_why holds rows names e named spelled (inr (unknown, lacks)) = inr (inl (unknown, spelled, (names, named, lacks)))

@@ -20,8 +20,8 @@ use Rattle.sf_command.specs.Listings.{ListsFiles, RefusesListing}
 use Rattle.sf_command.specs.Needs.{RefusesNeeds, TellsNeeds}
 use Rattle.sf_evaluate.specs.Names.{AreNamesRead, RefusesNaming}
 use Rattle.sf_evaluate.specs.Outputs.{AnswersFiles, ChecksFiles, RefusesCheck}
-use Rattle.sf_evaluate.specs.Asking.{AsksInput, LacksName, eval_words_fit, spells_input}
-use Rattle.sf_evaluate.specs.Profiles.{RefusesProfile, WritesProfile, words_fit}
+use Rattle.sf_evaluate.specs.Asking.{AsksInput, LacksName, eval_words_fit, numbers_fit}
+use Rattle.sf_evaluate.specs.Profiles.{RefusesProfile, WritesProfile, profile_words_fit}
 use Rattle.sf_evaluate.specs.Expecting.{audit_words_fit}
 use Rattle.sf_evaluate.specs.Wanted.{are_known, calls_asked, calls_fit, rows_fit}
 use Rattle.sf_list.specs.Differences.{ShownData}
@@ -39,12 +39,12 @@ relation_named word =
     else Different
 
 -- the relation that the rows of a comparison are asked for by; none where all rows are shown
-abbrev pub relation_asked : Option Text → Option Relation
-relation_asked text = option_map relation_named text
+abbrev pub relation_of_rows : Option Text → Option Relation
+relation_of_rows text = option_map relation_named text
 
 -- what is shown of the rows of a comparison
 abbrev pub shown_by : List Row → ShownData
-shown_by rows = record { only = relation_asked (first_of (codes "only") rows); calls = calls_asked rows }
+shown_by rows = record { only = relation_of_rows (first_of (codes "only") rows); calls = calls_asked rows }
 
 -- the files of names that are named have these names
 pub record AreNamed (holds : Text → Option Text) (rows : List Row) (names : List NamesData) : Type 0 where
@@ -179,7 +179,7 @@ RunsAs holds named status old new = ByName
 -- the words behind the options of a subcommand, which has this name, are among those that the options take
 abbrev pub words_fit_for : Text → List Row → Bool
 words_fit_for name rows =
-    if bytes_eq name (codes "profile") then words_fit rows
+    if bytes_eq name (codes "profile") then profile_words_fit rows
     else if bytes_eq name (codes "list") then calls_fit rows
     else if bytes_eq name (codes "compare") then calls_fit rows && rows_fit rows
     else if bytes_eq name (codes "eval") then eval_words_fit rows
@@ -256,8 +256,8 @@ IsUnknown holds rows = (names : List NamesData) × AreNamed holds rows names × 
 -- an input is asked for, and the filter files are refused as by `check`.
 abbrev pub RefusesEval : (Text → Option Text) → List Row → Fault → Type 0
 RefusesEval holds rows fault =
-    ((fault ≡ InputFault) × (spells_input rows ≡ false))
-    ⊎ ((fault ≡ UnknownName) × (spells_input rows ≡ true) × IsUnknown holds rows)
+    ((fault ≡ InputFault) × (numbers_fit rows ≡ false))
+    ⊎ ((fault ≡ UnknownName) × (numbers_fit rows ≡ true) × IsUnknown holds rows)
     ⊎ (IsAsked holds rows × OnPaths (codes "filters") rows (λ paths. RefusesCheck holds paths fault))
 
 -- why what the named subcommand asks for is refused

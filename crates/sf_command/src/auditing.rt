@@ -7,6 +7,7 @@ ghost use Rattle.sf_crew.specs.Sweeps.{AreRightReplies};
 ghost use Rattle.sf_policy.specs.declared.fault.Fault.TheVariants.{Count as CountFault, Memory as MemoryFault, Write as WriteFault};
 ghost use Rattle.sf_command.specs.Audits.{AreRemarks, AuditsFiles, HasRemarks, IsAskedBy, IsFoundFor, IsRefusedFor, IsRemark, RefusesAsked, RefusesAudit, audit_output, behind_text, is_expecting, read_data};
 
+use crate::means::Means;
 use crate::status::status_of_audit;
 use sf_ask::{Question, Reply};
 use sf_audit::{
@@ -66,7 +67,8 @@ impl<'m, 'a> Model for Asked<'m, 'a> {
 }
 
 impl Asked<'_, '_> {
-    /// Whether it is shown what isn't as expected.
+    /// Whether the audit is to show what isn't as expected: a control is given, or a file of questions that may be
+    /// allowed.
     fn is_expecting(&self) -> bool
         ensures { result ≡ is_expecting self.now }
     {
@@ -74,13 +76,29 @@ impl Asked<'_, '_> {
     }
 }
 
-/// What the files of an `Asked` hold: the questions, where each of them stands, the questions of the control, and the
-/// names of the questions that may be allowed.
+/// What an audit is asked for.
+#[derive(Drop)]
+pub struct AuditTask<'m, 'a> {
+    /// The files that ask, and those that say what is expected.
+    pub asked: &'m Asked<'m, 'a>,
+    /// The paths of the filter files, in order of installation.
+    pub paths: &'m [&'a str],
+    /// The names of calls.
+    pub names: &'m [Names],
+    /// How the audit is done, and what its report lists.
+    pub options: Options,
+}
+
+/// What the files of an `Asked` hold.
 #[derive(Drop)]
 struct Read {
+    /// The questions of the policies.
     questions: Vec<Question>,
+    /// Where each of these questions stands.
     origins: Vec<Document>,
+    /// The questions of the control; none where no control is given.
     control: Vec<Question>,
+    /// The names of the questions that may be allowed.
     accepted: Vec<String>,
 }
 
@@ -107,15 +125,14 @@ fn read_questions<F: Files>(
     })
 }
 
-/// The replies to the questions of a control; none where it has none. `Count` where they are more than 256, `Memory`
-/// where an allocation is refused.
+/// The replies to the questions of a control, by an exploration that has ended; none where it has no questions. The
+/// caller's condition: 1 to 64 workers. `Count` where there are more than 256 questions, `Memory` where an allocation
+/// is refused.
 fn replies_to<R: Threads + Wait + Sync, G: Gate>(
-    rt: &R,
-    alloc: Global,
+    means: &Means<'_, R, G>,
     settled: &Settled,
     control: &[Question],
     workers: usize,
-    gate: &G,
 ) -> Result<Vec<Reply>, Fault>
     requires workers { (0 < workers) × (workers ≤ 64) }
     ensures right { IfOk result (λ v. AreRightReplies settled.now control.now v.items) }
@@ -123,21 +140,20 @@ fn replies_to<R: Threads + Wait + Sync, G: Gate>(
         ⊎ ((e ≡ CountFault) × (256 < length control.now))) }
 {
     if control.is_empty() {
-        return Ok(Vec::new(alloc));
+        return Ok(Vec::new(means.alloc));
     }
-    reply_to(rt, alloc, settled, control, workers, gate)
+    reply_to(means.rt, means.alloc, settled, control, workers, means.gate)
 }
 
 /// Audits the stack of these filters with the questions that were read, and asks the questions of the control of the
-/// same exploration. Gives the outcome, what is expected of it, and where each question stands. Refusals: those of
-/// `audit` of the library, and then `Count` where the control has more than 256 questions. `Memory` can come anywhere.
+/// same exploration. Gives the outcome, what is expected of it, and where each question stands. The caller's condition:
+/// 1 to 64 workers. Refusals: those of `audit` of the library, and then `Count` where the control has more than 256
+/// questions. `Memory` can come anywhere.
 fn find<R: Threads + Wait + Sync, G: Gate>(
-    rt: &R,
-    alloc: Global,
+    means: &Means<'_, R, G>,
     filters: &[Vec<u8>],
     read: Read,
     options: Options,
-    gate: &G,
 ) -> Result<(Outcome, Expected, Vec<Document>), Fault>
     requires workers { (0 < options.workers) × (options.workers ≤ 64) }
     ensures found { IfOk result (λ r. IsFoundFor (map (λ f. f.items) filters.now)
@@ -152,9 +168,10 @@ fn find<R: Threads + Wait + Sync, G: Gate>(
         control,
         accepted,
     } = read;
+    let (rt, alloc, gate) = (means.rt, means.alloc, means.gate);
     let workers = usize::from(options.workers);
     let outcome = sf_audit::audit(rt, alloc, filters, questions, options.budget, workers, gate)?;
-    let held = replies_to(rt, alloc, outcome.settled(), &control, workers, gate)?;
+    let held = replies_to(means, outcome.settled(), &control, workers)?;
     let expected = Expected::of(control, held, accepted);
     Ok((outcome, expected, origins))
 }
@@ -177,7 +194,8 @@ fn behind_of(
     }
 }
 
-/// Why the stack answers as it does to the example of a reply; empty where it has none.
+/// Why the stack answers as it does to the example of a reply; empty where it has none. `Memory` where an allocation is
+/// refused.
 fn remark_of(alloc: Global, names: &[Names], stack: &Stack, reply: Reply) -> Result<String, Fault>
     ensures told { IfOk result (λ text. IsRemark names.now stack.now reply
         (string_bytes text)) }
@@ -189,7 +207,8 @@ fn remark_of(alloc: Global, names: &[Names], stack: &Stack, reply: Reply) -> Res
     }
 }
 
-/// The remarks on replies, in their order.
+/// The remarks on replies, in their order: for each why the stack answers its example as it does, or an empty text.
+/// `Memory` where an allocation is refused.
 fn remarks_of(
     alloc: Global,
     names: &[Names],
@@ -208,7 +227,8 @@ fn remarks_of(
     Ok(remarks)
 }
 
-/// The remarks on the replies of an audit, where `why` asks for them; else none.
+/// The remarks on the replies of an audit, where `why` asks for them; else none. `Memory` where an allocation is
+/// refused.
 fn asked_remarks(
     alloc: Global,
     why: bool,
@@ -255,45 +275,43 @@ fn write_audit<O: Write>(
     )
 }
 
-/// Reads the files of `asked` and then the filter files, which are named in order of installation. Audits the stack of
+/// Reads the files that ask and then the filter files, which are named in order of installation. Audits the stack of
 /// the filters, writes the report, and behind it what isn't as expected, and gives the exit status. The options can ask
-/// for lines under each allowed question that say why the stack answers its example as it does, with these names of
-/// calls; and for one JSON document in place of all that text. The gate sees each work before it is committed, and each
-/// sheet of verdicts before it is entered.
+/// for lines under each allowed question that say why the stack answers its example as it does, with the names of the
+/// task; and for one JSON document in place of all that text. The gate sees each work before it is committed, and each
+/// sheet of verdicts before it is entered. The caller's condition: 1 to 64 workers.
 ///
 /// Refusals, tried in this order: of the policy files, of that of the control and of that of the questions that may be
 /// allowed `Read`, `Syntax` where it isn't UTF-8, and what `read_policy` or `read_accepted` refuses; `Read` where a
 /// filter file can't be read; what `audit` of the library refuses; `Write` where standard output can't be written,
 /// after a beginning of the report. `Memory` can come anywhere. After any error but `Write` nothing is written.
 pub fn audit<R: Threads + Wait + Sync, F: Files, G: Gate, O: Write>(
-    rt: &R,
-    alloc: Global,
-    asked: &Asked<'_, '_>,
-    paths: &[&str],
-    names: &[Names],
-    options: Options,
+    means: &Means<'_, R, G>,
+    task: &AuditTask<'_, '_>,
     files: &mut F,
     notes: &mut Notes,
-    gate: &G,
     out: &mut O,
 ) -> Result<u8, Fault>
-    requires workers { (0 < options.workers) × (options.workers ≤ 64) }
-    ensures written { IfOk result (λ s. AuditsFiles (F.holds files.old) asked.now paths.now
-        names.now options.budget options.regions options.why options.json s
+    requires workers { (0 < task.now.options.workers) × (task.now.options.workers ≤ 64) }
+    ensures written { IfOk result (λ s. AuditsFiles (F.holds files.old) task.now.asked.now
+        task.now.paths.now task.now.names.now task.now.options.budget task.now.options.regions
+        task.now.options.why task.now.options.json s
         (O.contents out.old) (O.contents out.new)) }
     ensures status { IfOk result (λ s. s ≤ 2) }
-    ensures refused { IfErr result (RefusesAudit (F.holds files.old) asked.now paths.now) }
+    ensures refused { IfErr result (RefusesAudit (F.holds files.old) task.now.asked.now
+        task.now.paths.now) }
     ensures quiet { IfErr result (λ e. (e ≡ WriteFault) ⊎ (out.new ≡ out.old)) }
 {
-    let read = read_questions(alloc, asked, files, notes)?;
-    let filters = read_all(alloc, paths, files, notes)?;
-    let (outcome, expected, origins) = find(rt, alloc, &filters, read, options, gate)?;
+    let (alloc, options, names) = (means.alloc, task.options, task.names);
+    let read = read_questions(alloc, task.asked, files, notes)?;
+    let filters = read_all(alloc, task.paths, files, notes)?;
+    let (outcome, expected, origins) = find(means, &filters, read, options)?;
     notes.warnings = warnings_of_stack(alloc, &filters, outcome.settled());
     notes.warn_of_questions(outcome.questions(), names);
     let remarks = asked_remarks(alloc, options.why, names, &outcome)?;
     let telling = Telling {
         regions: options.regions,
-        is_expecting: asked.is_expecting(),
+        is_expecting: task.asked.is_expecting(),
         names,
         origins: &origins,
         remarks: &remarks,

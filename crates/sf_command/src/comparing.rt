@@ -6,6 +6,7 @@ ghost use Rattle.sf_policy.specs.declared.fault.Fault.TheVariants.{Memory as Mem
 ghost use Rattle.sf_command.specs.Comparisons.{AreBothKept, ComparesFiles, RefusesComparison, WritesCompared, compared_output, comparison_output};
 ghost use Rattle.sf_evaluate.specs.Files.{HasUnknown};
 
+use crate::means::Means;
 use crate::status::status_of_change;
 use sf_compare::{Comparison, Relation, comparison_document, write_comparison};
 use sf_crew::Gate;
@@ -37,8 +38,23 @@ pub struct Terms {
     pub leaves: u32,
 }
 
-/// The bytes of the old filter files and then those of the new ones, of each as many as `read_all` keeps; and how many
-/// of them are old. The refusals are those of `read_all`.
+/// What a comparison is asked for.
+#[derive(Drop)]
+pub struct ComparisonTask<'m, 'a> {
+    /// The paths of the old filter files, in order of installation.
+    pub old: &'m [&'a str],
+    /// The paths of the new filter files, in order of installation.
+    pub new: &'m [&'a str],
+    /// Sets of calls, by which calls are named.
+    pub sets: &'m [Names],
+    /// How the comparison is done, and what is written of it.
+    pub terms: Terms,
+    /// What is shown of the rows in which the answers differ.
+    pub shown: &'m Shown<'a>,
+}
+
+/// The bytes of the old filter files and then those of the new ones, in one list, of each stack as many files as
+/// `read_all` keeps; and how many of the files in the list are old. The refusals are those of `read_all`.
 fn read_both<F: Files>(
     alloc: Global,
     old: &[&str],
@@ -60,8 +76,8 @@ fn read_both<F: Files>(
     Ok((filters, older))
 }
 
-/// Writes what is found of two stacks: its text, or one JSON document. `Write` where that fails, after a beginning of
-/// it; `Memory` where an allocation is refused: nothing was written then.
+/// Writes what is found of two stacks: a text, or if `json` one JSON document, where `sets` names calls. `Write` where
+/// that fails, after a beginning of it; `Memory` where an allocation is refused: nothing was written then.
 fn write_found<O: Write>(
     alloc: Global,
     comparison: &Comparison,
@@ -81,96 +97,84 @@ fn write_found<O: Write>(
     write_document(alloc, &document, out)
 }
 
-/// Writes what is found of two stacks, and the rows in which their answers differ: the text, or one JSON document.
-/// `Write` where that fails, after a beginning of it; `Memory` where an allocation is refused: nothing was written
-/// then.
+/// Writes what is found of two stacks, and of the rows in which their answers differ those that the task asks for: a
+/// text, or one JSON document. `Write` where that fails, after a beginning of it; `Memory` where an allocation is
+/// refused: nothing was written then.
 fn write_rows<O: Write>(
     alloc: Global,
     comparison: &Comparison,
     differences: &Differences,
-    sets: &[Names],
-    shown: &Shown<'_>,
-    json: bool,
+    task: &ComparisonTask<'_, '_>,
     out: &mut O,
 ) -> Result<(), Fault>
     ensures written { OnOk result (Appends (O.contents out.old) (O.contents out.new)
-        (compared_output json sets.now shown.now comparison.now differences.now)) }
+        (compared_output task.now.terms.json task.now.sets.now task.now.shown.now
+        comparison.now differences.now)) }
     ensures refused { IfErr result (λ e. (e ≡ WriteFault)
         ⊎ ((e ≡ MemoryFault) × (out.new ≡ out.old))) }
 {
-    if !json {
+    let (sets, shown) = (task.sets, task.shown);
+    if !task.terms.json {
         return write_differences(alloc, comparison, differences, sets, shown, out);
     }
     let document = differences_document(alloc, comparison, differences, sets, shown)?;
     write_document(alloc, &document, out)
 }
 
-/// Writes what is found of two stacks, and where it is asked for the rows in which their answers differ, with these
-/// sets of calls. `Write` where that fails, after a beginning of the text; `Memory` where an allocation is refused:
-/// nothing was written then.
+/// Writes what is found of two stacks, and where the task asks for it the rows in which their answers differ. `Write`
+/// where that fails, after a beginning of the text; `Memory` where an allocation is refused: nothing was written then.
 fn write_compared<O: Write>(
     alloc: Global,
     comparison: &Comparison,
-    sets: &[Names],
-    terms: Terms,
-    shown: &Shown<'_>,
+    task: &ComparisonTask<'_, '_>,
     out: &mut O,
 ) -> Result<(), Fault>
-    ensures written { OnOk result (WritesCompared terms.rows terms.json sets.now
-        shown.now comparison.now
+    ensures written { OnOk result (WritesCompared task.now.terms.rows task.now.terms.json
+        task.now.sets.now task.now.shown.now comparison.now
         (O.contents out.old) (O.contents out.new)) }
     ensures refused { IfErr result (λ e. (e ≡ WriteFault)
         ⊎ ((e ≡ MemoryFault) × (out.new ≡ out.old))) }
 {
+    let terms = task.terms;
     if !terms.rows {
-        return write_found(alloc, comparison, sets, terms.json, out);
+        return write_found(alloc, comparison, task.sets, terms.json, out);
     }
     let differences = draw_differences(alloc, comparison, terms.leaves as usize)?;
-    write_rows(
-        alloc,
-        comparison,
-        &differences,
-        sets,
-        shown,
-        terms.json,
-        out,
-    )
+    write_rows(alloc, comparison, &differences, task, out)
 }
 
 /// Reads the old filter files and then the new ones, each named in order of installation; compares their stacks, writes
 /// what is found, and gives the exit status of the relation that is asked for. The gate sees each work before it is
-/// committed.
+/// committed. The caller's condition: 1 to 64 workers.
 ///
 /// Refusals, tried in this order: `Read` where a file can't be read; what `compare` of the library refuses; `Write`
 /// where standard output can't be written, after a beginning of the text. `Memory` can come anywhere. After any error
 /// but `Write` nothing is written.
 pub fn compare<R: Threads + Wait + Sync, F: Files, G: Gate, O: Write>(
-    rt: &R,
-    alloc: Global,
-    old: &[&str],
-    new: &[&str],
-    sets: &[Names],
-    terms: Terms,
-    shown: &Shown<'_>,
+    means: &Means<'_, R, G>,
+    task: &ComparisonTask<'_, '_>,
     files: &mut F,
     notes: &mut Notes,
-    gate: &G,
     out: &mut O,
 ) -> Result<u8, Fault>
-    requires workers { (0 < terms.workers) × (terms.workers ≤ 64) }
-    ensures written { IfOk result (λ s. ComparesFiles (F.holds files.old) old.now new.now
-        sets.now terms.budget terms.asked terms.rows terms.json shown.now s
+    requires workers { (0 < task.now.terms.workers) × (task.now.terms.workers ≤ 64) }
+    ensures written { IfOk result (λ s. ComparesFiles (F.holds files.old) task.now.old.now
+        task.now.new.now task.now.sets.now task.now.terms.budget task.now.terms.asked
+        task.now.terms.rows task.now.terms.json task.now.shown.now s
         (O.contents out.old) (O.contents out.new)) }
     ensures status { IfOk result (λ s. s ≤ 2) }
-    ensures refused { IfErr result (RefusesComparison (F.holds files.old) old.now new.now) }
+    ensures refused { IfErr result (RefusesComparison (F.holds files.old) task.now.old.now
+        task.now.new.now) }
     ensures quiet { IfErr result (λ e. (e ≡ WriteFault) ⊎ (out.new ≡ out.old)) }
 {
-    let (filters, older) = read_both(alloc, old, new, files, notes)?;
+    let (rt, alloc, gate) = (means.rt, means.alloc, means.gate);
+    let terms = task.terms;
+    let (filters, older) = read_both(alloc, task.old, task.new, files, notes)?;
     let workers = usize::from(terms.workers);
     let comparison = sf_compare::compare(rt, alloc, &filters, older, terms.budget, workers, gate)?;
     let (settled, answers) = (comparison.settled(), comparison.answers());
     notes.warnings = warnings_of_both(alloc, &filters, older, settled, answers);
-    write_compared(alloc, &comparison, sets, terms, shown, out)?;
+    write_compared(alloc, &comparison, task, out)?;
     let status = status_of_change(comparison.change(terms.asked));
     files.take_over(comparison);
     Ok(status)

@@ -1,6 +1,6 @@
 //! What the program does, from the words of its command line to its exit status.
-ghost use Rattle.std.specs.Prelude.{◌≡◌, ◌≢◌, ◌<◌, ◌≤◌, ◌⊎◌, ℕ, List, [], codes, length, map, string_bytes, true, ◌++◌, IfOk, IfErr, OnOk};
-ghost use Rattle.clap.specs.Words.{first_of, found_of, kind_of, one_of, rows_of, subcommand_rows_of};
+ghost use Rattle.std.specs.Prelude.{◌≡◌, ◌≤◌, ◌⊎◌, ℕ, List, [], codes, map, string_bytes, IfOk, IfErr};
+ghost use Rattle.clap.specs.Words.{first_of, found_of, one_of, rows_of, subcommand_rows_of};
 ghost use Rattle.sf_policy.specs.Faults.{fault_number};
 ghost use Rattle.sf_policy.specs.declared.fault.Fault.TheVariants.{Memory as MemoryFault, Write as WriteFault};
 ghost use Rattle.sf_command.specs.Audits.{AskedData, RefusesAudit};
@@ -9,31 +9,33 @@ ghost use Rattle.sf_command.specs.Listings.{RefusesListing};
 ghost use Rattle.sf_command.specs.Needs.{RefusesNeeds};
 ghost use Rattle.sf_evaluate.specs.Names.{RefusesNaming};
 ghost use Rattle.sf_evaluate.specs.Outputs.{RefusesCheck};
-ghost use Rattle.sf_command.specs.Runs.{AreNamed, Audits, Checks, Compares, Evaluates, RunsAs, IsAskedFor, IsAskedRelation, IsHelp, Lists, Needs, DoesAsTold, HasWrongWord, OnCalls, OnNames, OnPaths, RefusesAs, RefusesAsTold, RefusesEval, RefusesWords, WritesText, begins_with_help, meant_words, relation_asked, relation_named, words_fit_for};
+ghost use Rattle.sf_command.specs.Runs.{AreNamed, Audits, Checks, Compares, Evaluates, RunsAs, IsAskedFor, IsAskedRelation, Lists, Needs, DoesAsTold, HasWrongWord, OnCalls, OnNames, OnPaths, RefusesAs, RefusesAsTold, RefusesEval, RefusesWords, meant_words, relation_of_rows, relation_named, words_fit_for};
 ghost use Rattle.sf_command_line.specs.CommandLine.{IsKnown, errors_at};
 ghost use Rattle.sf_evaluate.specs.Status.{fault_status};
 
-use crate::auditing::{Asked, Options, audit};
-use crate::comparing::{Terms, compare};
-use crate::listing::{Limits, list};
+use crate::auditing::{Asked, AuditTask, Options, audit};
+use crate::comparing::{ComparisonTask, Terms, compare};
+use crate::listing::{Limits, ListingTask, list};
+use crate::means::Means;
 use crate::needing::{Manner as Finding, needed};
+use crate::usage::{meant_words, write_usage};
 use crate::watching::{Meter, Watched};
 use clap::ArgMatches;
-use clap::error::ErrorKind;
 use sf_command_line::{
-    budget_of, command_form, given_text, leaves_of, wants_brief, wants_instructions, wants_json,
-    wants_progress, wants_regions, wants_rows, wants_same, wants_trace, wants_why, workers_of,
+    budget_of, command_form, given_text, leaves_of, wants_brief_trace, wants_instructions,
+    wants_json, wants_progress, wants_regions, wants_rows, wants_same, wants_trace, wants_why,
+    workers_of,
 };
 use sf_compare::Relation;
 use sf_evaluate::{
-    Files, Manner, Notes, asked_input, audit_words_fit, calls_fit, check, eval_words_fit, evaluate,
-    known_calls, print, profile, read_all_names, rows_fit, spells_input, tell, tell_wrong_words,
-    warn, words_fit,
+    CheckManner, Evaluation, Files, Manner, Notes, asked_input, audit_words_fit, calls_fit, check,
+    eval_words_fit, evaluate, known_calls, numbers_fit, profile, profile_words_fit, read_all_names,
+    rows_fit, tell, tell_wrong_words, warn,
 };
 use sf_list::Shown;
 use sf_names::Names;
 use sf_policy::Fault;
-use std::alloc::{AllocError, Global};
+use std::alloc::Global;
 use std::io::Write;
 use std::sync::Wait;
 use std::thread::Threads;
@@ -55,19 +57,28 @@ fn names_of<F: Files>(
     read_all_names(alloc, paths, files, notes)
 }
 
-/// The meter of a run: it sees what happens only where progress is asked for.
+/// The gate of a run: it passes what it sees on to the meter only where `--progress` asks for it. Then the meter is
+/// given the budget here.
 fn watched<'a, M: Meter>(found: &ArgMatches<'_>, meter: &'a M) -> Watched<'a, M> {
     Watched::of(meter, wants_progress(found), budget_of(found))
 }
 
-/// Runs `audit` as the matches of the subcommand say.
+/// The same means, but for the gate: this one is in place of theirs.
+fn through<'a, R, M, G>(means: &Means<'a, R, M>, gate: &'a G) -> Means<'a, R, G> {
+    Means {
+        rt: means.rt,
+        alloc: means.alloc,
+        gate,
+    }
+}
+
+/// Runs `audit` as the matches of the subcommand say, and gives its exit status, 0 to 2. The refusals are those of the
+/// files of names, and then those of `audit`.
 fn run_audit<R: Threads + Wait + Sync, F: Files, M: Meter, O: Write>(
-    rt: &R,
-    alloc: Global,
+    means: &Means<'_, R, M>,
     found: &ArgMatches<'_>,
     files: &mut F,
     notes: &mut Notes,
-    meter: &M,
     out: &mut O,
 ) -> Result<u8, Fault>
     ensures done { IfOk result (λ s. Audits (F.holds files.old) (rows_of (found_of found.now)) s
@@ -80,7 +91,7 @@ fn run_audit<R: Threads + Wait + Sync, F: Files, M: Meter, O: Write>(
         (λ paths. (asked : AskedData) × IsAskedFor (rows_of (found_of found.now)) asked
         × RefusesAudit (F.holds files.old) asked paths e))) }
 {
-    let names = names_of(alloc, found, files, notes)?;
+    let names = names_of(means.alloc, found, files, notes)?;
     let paths = found.get_strs("filters").unwrap_or(&[]);
     let options = Options {
         budget: budget_of(found),
@@ -94,13 +105,18 @@ fn run_audit<R: Threads + Wait + Sync, F: Files, M: Meter, O: Write>(
         control: given_text(found, "control"),
         accept: given_text(found, "accept"),
     };
-    let gate = watched(found, meter);
-    audit(
-        rt, alloc, &asked, paths, &names, options, files, notes, &gate, out,
-    )
+    let task = AuditTask {
+        asked: &asked,
+        paths,
+        names: &names,
+        options,
+    };
+    let gate = watched(found, means.gate);
+    audit(&through(means, &gate), &task, files, notes, out)
 }
 
-/// Runs `check` on the filter files that the matches of the subcommand name.
+/// Runs `check` on the filter files that the matches of the subcommand name. The exit status is 0. The refusals are
+/// those of `check`.
 fn run_check<F: Files, O: Write>(
     alloc: Global,
     found: &ArgMatches<'_>,
@@ -115,13 +131,16 @@ fn run_check<F: Files, O: Write>(
         (λ paths. RefusesCheck (F.holds files.old) paths e)) }
 {
     let paths = found.get_strs("filters").unwrap_or(&[]);
-    let listed = wants_instructions(found);
-    let json = wants_json(found);
-    check(alloc, paths, listed, json, files, notes, out)?;
+    let how = CheckManner {
+        listed: wants_instructions(found),
+        json: wants_json(found),
+    };
+    check(alloc, paths, how, files, notes, out)?;
     Ok(0)
 }
 
-/// Runs `eval` on the input that the words of the subcommand ask for, and on the filter files that they name.
+/// Runs `eval` on the input that the words of the subcommand ask for, and on the filter files that they name. The exit
+/// status is 0.
 ///
 /// Refusals, tried in this order: `Input` where no input is spelled, or a number is too wide; those of the files of
 /// names; `UnknownName` where a name that is given is none of theirs; and those of `evaluate`.
@@ -139,23 +158,28 @@ fn run_eval<F: Files, O: Write>(
         (rows_of (found_of found.now)) e
         (RefusesEval (F.holds files.old) (rows_of (found_of found.now)) e)) }
 {
-    if !spells_input(found) {
+    if !numbers_fit(found) {
         return Err(Fault::Input);
     }
     let names = names_of(alloc, found, files, notes)?;
     let input = asked_input(found, &names, notes)?;
     let paths = found.get_strs("filters").unwrap_or(&[]);
-    let manner = Manner {
+    let how = Manner {
         traced: wants_trace(found),
-        brief: wants_brief(found),
+        brief: wants_brief_trace(found),
         json: wants_json(found),
     };
-    evaluate(alloc, &input, manner, &names, paths, files, notes, out)?;
+    let asked = Evaluation {
+        input: &input,
+        how,
+        names: &names,
+    };
+    evaluate(alloc, &asked, paths, files, notes, out)?;
     Ok(0)
 }
 
 /// The relation that the exit status of a comparison is about: `Different` where `--same` is given, and else `Looser`.
-fn relation_of(found: &ArgMatches<'_>) -> Relation
+fn relation_of_status(found: &ArgMatches<'_>) -> Relation
     ensures { IsAskedRelation (one_of (codes "same") (rows_of (found_of found.now))) result }
 {
     if wants_same(found) {
@@ -179,8 +203,8 @@ fn relation_named(word: &str) -> Relation
 
 /// The relation that `--only` names, which the rows of a comparison must have to be shown; none where the option isn't
 /// given, and all rows with a difference are shown.
-fn relation_asked(found: &ArgMatches<'_>) -> Option<Relation>
-    ensures { result ≡ relation_asked (first_of (codes "only") (rows_of (found_of found.now))) }
+fn relation_of_rows(found: &ArgMatches<'_>) -> Option<Relation>
+    ensures { result ≡ relation_of_rows (first_of (codes "only") (rows_of (found_of found.now))) }
 {
     match given_text(found, "only") {
         Some(word) => Some(relation_named(word)),
@@ -188,14 +212,13 @@ fn relation_asked(found: &ArgMatches<'_>) -> Option<Relation>
     }
 }
 
-/// Runs `compare` as the matches of the subcommand say.
+/// Runs `compare` as the matches of the subcommand say, and gives its exit status, 0 to 2. The refusals are those of
+/// the files of names, `UnknownName` where `--calls` names a call that no set has, and then those of `compare`.
 fn run_compare<R: Threads + Wait + Sync, F: Files, M: Meter, O: Write>(
-    rt: &R,
-    alloc: Global,
+    means: &Means<'_, R, M>,
     found: &ArgMatches<'_>,
     files: &mut F,
     notes: &mut Notes,
-    meter: &M,
     out: &mut O,
 ) -> Result<u8, Fault>
     ensures done { IfOk result (λ s. Compares (F.holds files.old) (rows_of (found_of found.now)) s
@@ -208,35 +231,39 @@ fn run_compare<R: Threads + Wait + Sync, F: Files, M: Meter, O: Write>(
         (λ old. OnPaths (codes "new") (rows_of (found_of found.now))
         (λ new. RefusesComparison (F.holds files.old) old new e)))) }
 {
-    let names = names_of(alloc, found, files, notes)?;
+    let names = names_of(means.alloc, found, files, notes)?;
     let shown = Shown {
-        only: relation_asked(found),
-        calls: known_calls(alloc, found, &names, notes)?,
+        only: relation_of_rows(found),
+        calls: known_calls(means.alloc, found, &names, notes)?,
     };
     let old = found.get_strs("old").unwrap_or(&[]);
     let new = found.get_strs("new").unwrap_or(&[]);
     let terms = Terms {
         budget: budget_of(found),
         workers: workers_of(found),
-        asked: relation_of(found),
+        asked: relation_of_status(found),
         rows: wants_rows(found),
         json: wants_json(found),
         leaves: leaves_of(found),
     };
-    let gate = watched(found, meter);
-    compare(
-        rt, alloc, old, new, &names, terms, &shown, files, notes, &gate, out,
-    )
+    let task = ComparisonTask {
+        old,
+        new,
+        sets: &names,
+        terms,
+        shown: &shown,
+    };
+    let gate = watched(found, means.gate);
+    compare(&through(means, &gate), &task, files, notes, out)
 }
 
-/// Runs `list` as the matches of the subcommand say.
+/// Runs `list` as the matches of the subcommand say, and gives its exit status, 0 or 2. The refusals are those of the
+/// files of names, `UnknownName` where `--calls` names a call that no set has, and then those of `list`.
 fn run_list<R: Threads + Wait + Sync, F: Files, M: Meter, O: Write>(
-    rt: &R,
-    alloc: Global,
+    means: &Means<'_, R, M>,
     found: &ArgMatches<'_>,
     files: &mut F,
     notes: &mut Notes,
-    meter: &M,
     out: &mut O,
 ) -> Result<u8, Fault>
     ensures done { IfOk result (λ s. Lists (F.holds files.old) (rows_of (found_of found.now)) s
@@ -248,8 +275,8 @@ fn run_list<R: Threads + Wait + Sync, F: Files, M: Meter, O: Write>(
         (OnPaths (codes "filters") (rows_of (found_of found.now))
         (λ paths. RefusesListing (F.holds files.old) paths e))) }
 {
-    let names = names_of(alloc, found, files, notes)?;
-    let calls = known_calls(alloc, found, &names, notes)?;
+    let names = names_of(means.alloc, found, files, notes)?;
+    let calls = known_calls(means.alloc, found, &names, notes)?;
     let paths = found.get_strs("filters").unwrap_or(&[]);
     let limits = Limits {
         budget: budget_of(found),
@@ -257,20 +284,23 @@ fn run_list<R: Threads + Wait + Sync, F: Files, M: Meter, O: Write>(
         leaves: leaves_of(found),
         json: wants_json(found),
     };
-    let gate = watched(found, meter);
-    list(
-        rt, alloc, paths, &names, &calls, limits, files, notes, &gate, out,
-    )
+    let task = ListingTask {
+        paths,
+        sets: &names,
+        calls: &calls,
+        limits,
+    };
+    let gate = watched(found, means.gate);
+    list(&through(means, &gate), &task, files, notes, out)
 }
 
-/// Runs `needed` as the matches of the subcommand say.
+/// Runs `needed` as the matches of the subcommand say, and gives its exit status, 0 to 2. The refusals are those of
+/// `needed`.
 fn run_needed<R: Threads + Wait + Sync, F: Files, M: Meter, O: Write>(
-    rt: &R,
-    alloc: Global,
+    means: &Means<'_, R, M>,
     found: &ArgMatches<'_>,
     files: &mut F,
     notes: &mut Notes,
-    meter: &M,
     out: &mut O,
 ) -> Result<u8, Fault>
     ensures done { IfOk result (λ s. Needs (F.holds files.old) (rows_of (found_of found.now)) s
@@ -286,8 +316,8 @@ fn run_needed<R: Threads + Wait + Sync, F: Files, M: Meter, O: Write>(
         workers: workers_of(found),
         json: wants_json(found),
     };
-    let gate = watched(found, meter);
-    needed(rt, alloc, paths, manner, files, notes, &gate, out)
+    let gate = watched(found, means.gate);
+    needed(&through(means, &gate), paths, manner, files, notes, out)
 }
 
 /// Whether the words of the subcommand with this name fit: each option has a word that it takes, and the options go
@@ -296,7 +326,7 @@ fn words_fit_for(name: &str, found: &ArgMatches<'_>) -> bool
     ensures { result ≡ words_fit_for name.now (rows_of (found_of found.now)) }
 {
     match name {
-        "profile" => words_fit(found),
+        "profile" => profile_words_fit(found),
         "eval" => eval_words_fit(found),
         "list" => calls_fit(found),
         "compare" => calls_fit(found) && rows_fit(found),
@@ -306,14 +336,13 @@ fn words_fit_for(name: &str, found: &ArgMatches<'_>) -> bool
 }
 
 /// Runs the subcommand that the command line names, and gives its exit status. It is 4 where none of the seven is
-/// named, or where the subcommand's words don't fit.
+/// named, or where the subcommand's words don't fit; no file is read then, and nothing is written. The refusals are
+/// those of the subcommand.
 fn run<R: Threads + Wait + Sync, F: Files, M: Meter, O: Write>(
-    rt: &R,
-    alloc: Global,
+    means: &Means<'_, R, M>,
     matches: &ArgMatches<'_>,
     files: &mut F,
     notes: &mut Notes,
-    meter: &M,
     out: &mut O,
 ) -> Result<u8, Fault>
     ensures status { IfOk result (λ s. (s ≤ 2) ⊎ (s ≡ 4)) }
@@ -333,101 +362,25 @@ fn run<R: Threads + Wait + Sync, F: Files, M: Meter, O: Write>(
         return Ok(4);
     }
     match name {
-        "audit" => run_audit(rt, alloc, found, files, notes, meter, out),
-        "check" => run_check(alloc, found, files, notes, out),
-        "eval" => run_eval(alloc, found, files, notes, out),
-        "compare" => run_compare(rt, alloc, found, files, notes, meter, out),
-        "list" => run_list(rt, alloc, found, files, notes, meter, out),
-        "needed" => run_needed(rt, alloc, found, files, notes, meter, out),
-        "profile" => profile(alloc, found, files, notes, out),
+        "audit" => run_audit(means, found, files, notes, out),
+        "check" => run_check(means.alloc, found, files, notes, out),
+        "eval" => run_eval(means.alloc, found, files, notes, out),
+        "compare" => run_compare(means, found, files, notes, out),
+        "list" => run_list(means, found, files, notes, out),
+        "needed" => run_needed(means, found, files, notes, out),
+        "profile" => profile(means.alloc, found, files, notes, out),
         _ => Ok(4),
     }
-}
-
-/// Writes the help or the version to standard output, with status 0, where that was asked for. Otherwise writes to
-/// standard error why the command line is refused, with status 4. `Memory` where an allocation was refused, `Write`
-/// where standard output can't be written.
-fn write_usage<O: Write, E: Write>(
-    alloc: Global,
-    error: &clap::Error,
-    out: &mut O,
-    err: &mut E,
-) -> Result<u8, Fault>
-    ensures status { IfOk result (λ s. (s ≤ 2) ⊎ (s ≡ 4)) }
-    ensures help { IsHelp (kind_of error.now) → IfOk result (λ s. s ≡ 0) }
-    ensures done { IfOk result (λ s. s ≤ 2 → IsHelp (kind_of error.now) × (s ≡ 0)
-        × WritesText (O.contents out.old) (O.contents out.new)) }
-    ensures refused { ¬ IsHelp (kind_of error.now) → IfOk result (λ s. s ≡ 4) }
-    ensures usage { IfOk result (λ s. s ≡ 4 → (kind_of error.now ≢ ErrorKind.OutOfMemory)
-        × (out.new ≡ out.old)) }
-    ensures explained { IfErr result (λ e. (e ≡ MemoryFault) ⊎ (e ≡ WriteFault)) }
-    ensures quiet { IfErr result (λ e. (e ≡ WriteFault) ⊎ (out.new ≡ out.old)) }
-{
-    if error.kind() == ErrorKind::OutOfMemory {
-        return Err(Fault::Memory);
-    }
-    let text = error.to_string(alloc)?;
-    match error.kind() {
-        ErrorKind::DisplayHelp | ErrorKind::DisplayVersion => {
-            print(&text, out)?;
-            Ok(0)
-        }
-        _ => {
-            let _ = err.write_all(text.as_bytes());
-            Ok(4)
-        }
-    }
-}
-
-/// Adds copies of words. An error where an allocation is refused.
-fn push_words(alloc: Global, all: &mut Vec<String>, words: &[String]) -> Result<(), AllocError>
-    ensures { OnOk result (map string_bytes all.new.items
-        ≡ map string_bytes all.old.items ++ map string_bytes words.now) }
-{
-    for word in words {
-        all.push(String::from_str(alloc, word.as_str())?)?;
-    }
-    Ok(())
-}
-
-/// Whether the first word is `help`.
-fn begins_with_help(words: &[String]) -> bool
-    ensures help { result ≡ begins_with_help (map string_bytes words.now) }
-    ensures some { result ≡ true → 0 < length words.now }
-{
-    match words.first() {
-        Some(word) => word.as_str() == "help",
-        None => false,
-    }
-}
-
-/// The words as `clap` is to read them. Where the first word is `help`, these are the words behind it and then
-/// `--help`, so that `help list` asks for what `list --help` asks for. Otherwise they are copies of all words. An error
-/// where an allocation is refused.
-fn meant_words(alloc: Global, words: &[String]) -> Result<Vec<String>, AllocError>
-    ensures { IfOk result (λ v. map string_bytes v.items
-        ≡ meant_words (map string_bytes words.now)) }
-{
-    let mut meant = Vec::new(alloc);
-    if begins_with_help(words) {
-        push_words(alloc, &mut meant, &words[1..])?;
-        meant.push(String::from_str(alloc, "--help")?)?;
-    } else {
-        push_words(alloc, &mut meant, words)?;
-    }
-    Ok(meant)
 }
 
 /// Does what the words of the command line ask for, and gives the exit status, or the fault for which it could not be
 /// done. The lines that explain a fault are kept in the notes. Warnings of a run without a fault, and lines about words
 /// that are refused, are written to standard error.
-fn reply<R: Threads + Wait + Sync, F: Files, M: Meter, O: Write, E: Write>(
-    rt: &R,
-    alloc: Global,
+fn run_words<R: Threads + Wait + Sync, F: Files, M: Meter, O: Write, E: Write>(
+    means: &Means<'_, R, M>,
     words: &[String],
     files: &mut F,
     notes: &mut Notes,
-    meter: &M,
     out: &mut O,
     err: &mut E,
 ) -> Result<u8, Fault>
@@ -441,10 +394,11 @@ fn reply<R: Threads + Wait + Sync, F: Files, M: Meter, O: Write, E: Write>(
     ensures refused { IfErr result (RefusesAsTold (F.holds files.old)
         (meant_words (map string_bytes words.now))) }
 {
+    let alloc = means.alloc;
     let meant = meant_words(alloc, words)?;
     match command_form(alloc)?.try_get_matches_from(&meant) {
         Ok(matches) => {
-            let ran = run(rt, alloc, &matches, files, notes, meter, out);
+            let ran = run(means, &matches, files, notes, out);
             notes.explain(alloc, &matches, &ran, files.explains(), files.reason());
             if ran.is_ok() {
                 warn(&matches, &notes.warnings, err);
@@ -471,16 +425,14 @@ fn reply<R: Threads + Wait + Sync, F: Files, M: Meter, O: Write, E: Write>(
 ///   text of `clap`, or of `tell_wrong_words`.
 /// - 5: reading, writing or memory failed. Standard output is left as it was, unless writing failed.
 ///
-/// The meter sees each step where `--progress` is given.
+/// The gate of the means sees each step where `--progress` is given.
 ///
 /// At 3 and 5 one line on standard error names the fault: `error`, its number, its name and its place. With
 /// `--explain-errors`, or where `files` say so, lines for a person follow.
 pub fn command<R: Threads + Wait + Sync, F: Files, M: Meter, O: Write, E: Write>(
-    rt: &R,
-    alloc: Global,
+    means: &Means<'_, R, M>,
     words: &[String],
     files: &mut F,
-    meter: &M,
     out: &mut O,
     err: &mut E,
 ) -> u8
@@ -497,9 +449,9 @@ pub fn command<R: Threads + Wait + Sync, F: Files, M: Meter, O: Write, E: Write>
         × RefusesAsTold (F.holds files.old) (meant_words (map string_bytes words.now)) e
         × ((e ≡ WriteFault) ⊎ (out.new ≡ out.old)) }
 {
-    let mut notes = Notes::new(alloc);
-    match reply(rt, alloc, words, files, &mut notes, meter, out, err) {
+    let mut notes = Notes::new(means.alloc);
+    match run_words(means, words, files, &mut notes, out, err) {
         Ok(status) => status,
-        Err(fault) => tell(alloc, &fault, &notes, err),
+        Err(fault) => tell(means.alloc, &fault, &notes, err),
     }
 }

@@ -6,9 +6,12 @@ mod comparing;
 mod dispatch;
 pub mod laws;
 mod listing;
+mod means;
 mod needing;
 mod status;
+mod usage;
 mod watching;
 
 pub use dispatch::command;
+pub use means::Means;
 pub use watching::Meter;

@@ -6,6 +6,7 @@ ghost use Rattle.sf_policy.specs.declared.fault.Fault.TheVariants.{Memory as Mem
 ghost use Rattle.sf_command.specs.Listings.{ListsFiles, RefusesListing, listing_output};
 ghost use Rattle.sf_list.specs.Listings.{is_whole_listing};
 
+use crate::means::Means;
 use crate::status::status_of_listing;
 use sf_crew::Gate;
 use sf_evaluate::{Files, Notes, read_all};
@@ -32,9 +33,23 @@ pub struct Limits {
     pub json: bool,
 }
 
-/// Writes a listing, as text or as one JSON document. Gives whether it is whole: each input lies in a row with one
-/// answer. `Write` where writing fails, after a beginning of the listing; `Memory` where an allocation is refused:
-/// nothing was written then.
+/// What a listing is asked for.
+#[derive(Drop)]
+pub struct ListingTask<'m, 'a> {
+    /// The paths of the filter files, in order of installation.
+    pub paths: &'m [&'a str],
+    /// Sets of calls, by which calls are named.
+    pub sets: &'m [Names],
+    /// The names of the calls whose rows are written call by call, or an empty list for all calls. Without it each row
+    /// has a line of its own.
+    pub calls: &'m Option<Vec<&'a str>>,
+    /// How the listing is done.
+    pub limits: Limits,
+}
+
+/// Writes a listing, as text or if `json` as one JSON document, with the calls of `ListingTask`. Gives whether it is
+/// whole: each input lies in a row with one answer. `Write` where writing fails, after a beginning of the listing;
+/// `Memory` where an allocation is refused: nothing was written then.
 fn write_listed<O: Write>(
     alloc: Global,
     listing: &Listing,
@@ -59,39 +74,37 @@ fn write_listed<O: Write>(
 }
 
 /// Reads the filter files, which are named in order of installation, explores their stack and writes its rows, with
-/// the names of calls from these sets. Where `calls` is given, the rows are written call by call: those of the calls
+/// the names of calls from the sets. Where `calls` is given, the rows are written call by call: those of the calls
 /// that it names, or of all calls where it names none. The exit status is 0 where each input lies in a row with one
-/// answer, and else 2.
+/// answer, and else 2. The caller's condition: 1 to 64 workers.
 ///
 /// Refusals, tried in this order: `Read` where a file can't be read; what `list` of the library refuses; `Write` where
 /// standard output can't be written, after a beginning of the text. `Memory` can come anywhere. After any error but
 /// `Write` nothing is written.
 pub fn list<R: Threads + Wait + Sync, F: Files, G: Gate, O: Write>(
-    rt: &R,
-    alloc: Global,
-    paths: &[&str],
-    sets: &[Names],
-    calls: &Option<Vec<&str>>,
-    limits: Limits,
+    means: &Means<'_, R, G>,
+    task: &ListingTask<'_, '_>,
     files: &mut F,
     notes: &mut Notes,
-    gate: &G,
     out: &mut O,
 ) -> Result<u8, Fault>
-    requires workers { (0 < limits.workers) × (limits.workers ≤ 64) }
-    ensures written { IfOk result (λ s. ListsFiles (F.holds files.old) paths.now sets.now
-        (option_map (λ v. map (λ t. t.now) v.items) calls.now) limits.json limits.budget s
+    requires workers { (0 < task.now.limits.workers) × (task.now.limits.workers ≤ 64) }
+    ensures written { IfOk result (λ s. ListsFiles (F.holds files.old) task.now.paths.now
+        task.now.sets.now (option_map (λ v. map (λ t. t.now) v.items) task.now.calls.now)
+        task.now.limits.json task.now.limits.budget s
         (O.contents out.old) (O.contents out.new)) }
     ensures status { IfOk result (λ s. s ≤ 2) }
-    ensures refused { IfErr result (RefusesListing (F.holds files.old) paths.now) }
+    ensures refused { IfErr result (RefusesListing (F.holds files.old) task.now.paths.now) }
     ensures quiet { IfErr result (λ e. (e ≡ WriteFault) ⊎ (out.new ≡ out.old)) }
 {
-    let filters = read_all(alloc, paths, files, notes)?;
+    let (rt, alloc, gate) = (means.rt, means.alloc, means.gate);
+    let limits = task.limits;
+    let filters = read_all(alloc, task.paths, files, notes)?;
     let workers = usize::from(limits.workers);
     let leaves = limits.leaves as usize;
     let listing = sf_list::list(rt, alloc, &filters, limits.budget, workers, leaves, gate)?;
     notes.warnings = warnings_of_stack(alloc, &filters, listing.settled());
-    let whole = write_listed(alloc, &listing, sets, calls, limits.json, out)?;
+    let whole = write_listed(alloc, &listing, task.sets, task.calls, limits.json, out)?;
     let status = status_of_listing(whole);
     files.take_over(listing);
     Ok(status)

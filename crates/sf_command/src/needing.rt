@@ -5,6 +5,7 @@ ghost use Rattle.std.specs.Io.KnownBytes.{Appends};
 ghost use Rattle.sf_policy.specs.declared.fault.Fault.TheVariants.{Memory as MemoryFault, Write as WriteFault};
 ghost use Rattle.sf_command.specs.Needs.{RefusesNeeds, TellsNeeds, needs_output};
 
+use crate::means::Means;
 use crate::status::status_of_needs;
 use sf_crew::Gate;
 use sf_evaluate::{Files, Notes, read_all};
@@ -27,8 +28,8 @@ pub struct Manner {
     pub json: bool,
 }
 
-/// Writes which filters are needed: a text, or one JSON document. `Write` where that fails, after a beginning of it;
-/// `Memory` where an allocation is refused: nothing was written then.
+/// Writes which filters are needed: a text, or if `json` one JSON document. `Write` where that fails, after a beginning
+/// of it; `Memory` where an allocation is refused: nothing was written then.
 fn write_needs<O: Write>(alloc: Global, needs: &Needs, json: bool, out: &mut O) -> Result<(), Fault>
     ensures written { OnOk result (Appends (O.contents out.old) (O.contents out.new)
         (needs_output json needs.now)) }
@@ -43,19 +44,18 @@ fn write_needs<O: Write>(alloc: Global, needs: &Needs, json: bool, out: &mut O) 
 }
 
 /// Reads the filter files, which are named in order of installation. Finds which of the filters are needed, where each
-/// comparison commits at most `manner.budget` works, writes that, and gives the exit status.
+/// comparison commits at most `manner.budget` works, writes that, and gives the exit status. The gate sees each work
+/// before it is committed. The caller's condition: 1 to 64 workers.
 ///
 /// Refusals, tried in this order: `Read` where a file can't be read; what `needed` of the library refuses; `Write`
 /// where standard output can't be written, after a beginning of the text. `Memory` can come anywhere. After any error
 /// but `Write` nothing is written.
 pub fn needed<R: Threads + Wait + Sync, F: Files, G: Gate, O: Write>(
-    rt: &R,
-    alloc: Global,
+    means: &Means<'_, R, G>,
     paths: &[&str],
     manner: Manner,
     files: &mut F,
     notes: &mut Notes,
-    gate: &G,
     out: &mut O,
 ) -> Result<u8, Fault>
     requires workers { (0 < manner.workers) × (manner.workers ≤ 64) }
@@ -66,6 +66,7 @@ pub fn needed<R: Threads + Wait + Sync, F: Files, G: Gate, O: Write>(
     ensures refused { IfErr result (RefusesNeeds (F.holds files.old) paths.now manner.budget) }
     ensures quiet { IfErr result (λ e. (e ≡ WriteFault) ⊎ (out.new ≡ out.old)) }
 {
+    let (rt, alloc, gate) = (means.rt, means.alloc, means.gate);
     let filters = read_all(alloc, paths, files, notes)?;
     let workers = usize::from(manner.workers);
     let needs = sf_needed::needed(rt, alloc, &filters, manner.budget, workers, gate)?;

@@ -11,18 +11,21 @@ pub trait Meter: Gate {
 }
 
 impl Meter for Open {
+    /// Does nothing: this gate shows nothing.
     fn begin(&self, _budget: u32) {}
 }
 
 /// The gate of a run: it passes each call on to a meter where progress is to be shown, and else does nothing.
 #[derive(Drop)]
 pub(crate) struct Watched<'a, M> {
+    /// The meter, to which calls are passed on.
     meter: &'a M,
+    /// Whether progress is to be shown.
     is_wanted: bool,
 }
 
 impl<'a, M: Meter> Watched<'a, M> {
-    /// The gate that passes calls on to this meter if `is_wanted`. The meter is given the budget here.
+    /// The gate that passes calls on to this meter if `is_wanted`. Only then the meter is given the budget, here.
     pub(crate) fn of(meter: &'a M, is_wanted: bool, budget: u32) -> Watched<'a, M> {
         if is_wanted {
             meter.begin(budget);
@@ -32,6 +35,7 @@ impl<'a, M: Meter> Watched<'a, M> {
 }
 
 impl<M: Meter> Gate for Watched<'_, M> {
+    /// Passes the call on, where progress is to be shown.
     fn pass(&self, worker: usize, call: usize) {
         if self.is_wanted {
             self.meter.pass(worker, call);

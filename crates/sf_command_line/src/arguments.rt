@@ -6,7 +6,7 @@ ghost use Rattle.sf_command_line.specs.CommandLine.{choice_rule, file_rule, file
 use clap::{Arg, ArgAction, value_parser};
 use std::alloc::Global;
 
-/// An option with a value.
+/// An option with a value: `name` behind two dashes. The help calls the value `value`.
 fn option<'a>(alloc: Global, name: &'a str, value: &'a str) -> Arg<'a>
     ensures rule { rule_of result ≡ option_rule name.entry.now }
     ensures own { result.global ≡ false }
@@ -14,7 +14,7 @@ fn option<'a>(alloc: Global, name: &'a str, value: &'a str) -> Arg<'a>
     Arg::new(alloc, name).long(name).value_name(value)
 }
 
-/// An option without a value.
+/// An option without a value: `name` behind two dashes.
 fn switch<'a>(alloc: Global, name: &'a str) -> Arg<'a>
     ensures rule { rule_of result ≡ switch_rule name.entry.now }
     ensures own { result.global ≡ false }
@@ -209,7 +209,8 @@ pub(crate) fn filters<'a>(alloc: Global) -> Arg<'a>
         .help("Filter files, in order of installation")
 }
 
-/// `--old` or `--new`: the paths of the filter files of one of two stacks.
+/// `--old` or `--new`, as `name` says: the paths of the filter files of one of two stacks. `help` is what the help says
+/// of it.
 pub(crate) fn files<'a>(alloc: Global, name: &'a str, help: &'a str) -> Arg<'a>
     ensures rule { rule_of result ≡ files_rule name.entry.now }
     ensures own { result.global ≡ false }

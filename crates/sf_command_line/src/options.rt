@@ -5,14 +5,16 @@ ghost use Rattle.sf_command_line.specs.Options.{IsOptionNumber, IsSwitch, text_o
 
 use clap::ArgMatches;
 
-/// The text of an option; empty where it isn't given.
+/// The text behind the option with this name, which has no dashes. Where the option isn't given, it is its usual value,
+/// or empty where it has none.
 pub fn text_of<'a>(found: &ArgMatches<'a>, name: &str) -> &'a str
     ensures { result.now ≡ text_of name.now (rows_of (found_of found.now)) }
 {
     found.get_str(name).unwrap_or("")
 }
 
-/// The text behind an option, where it is given.
+/// The text behind the option with this name, which has no dashes. Where the option isn't given, it is its usual value,
+/// or none where it has none.
 pub fn given_text<'a>(found: &ArgMatches<'a>, name: &str) -> Option<&'a str>
     ensures { option_map (λ t. t.now) result ≡ first_of name.now (rows_of (found_of found.now)) }
 {
@@ -28,7 +30,8 @@ pub fn budget_of(found: &ArgMatches<'_>) -> u32
     found.get_one::<u32>("budget").unwrap_or(100_000)
 }
 
-/// The number of workers that is asked for; 4 where it isn't given.
+/// The number of workers that is asked for; 4 where it isn't given. The form of the command line lets only 1 to 64
+/// through, but the clause doesn't say so: `workers_of` looks.
 fn asked_workers(found: &ArgMatches<'_>) -> u8
     ensures { IsOptionNumber (one_of (codes "workers") (rows_of (found_of found.now))) 64 4 result }
 {
@@ -45,7 +48,7 @@ pub fn workers_of(found: &ArgMatches<'_>) -> u8
     if 0 < asked && asked <= 64 { asked } else { 4 }
 }
 
-/// Whether a switch is given: an option without a value.
+/// Whether the switch with this name is given. A switch is an option without a value; the name has no dashes.
 fn is_on(found: &ArgMatches<'_>, name: &str) -> bool
     ensures { IsSwitch (one_of name.now (rows_of (found_of found.now))) result }
 {
@@ -67,7 +70,7 @@ pub fn wants_trace(found: &ArgMatches<'_>) -> bool
 }
 
 /// Whether an evaluation shows where its answer comes from, without failed tests and divisions by an X that isn't 0.
-pub fn wants_brief(found: &ArgMatches<'_>) -> bool
+pub fn wants_brief_trace(found: &ArgMatches<'_>) -> bool
     ensures { IsSwitch (one_of (codes "trace-true") (rows_of (found_of found.now))) result }
 {
     is_on(found, "trace-true")

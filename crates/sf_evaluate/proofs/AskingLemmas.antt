@@ -9,7 +9,7 @@ use Rattle.sf_names.specs.Names.{NamesData}
 use Rattle.sf_calls.specs.Numbers.{read_arguments}
 use Rattle.sf_policy.specs.declared.fault.Fault.{Fault}
 use Rattle.sf_policy.specs.declared.fault.Fault.TheVariants.{Input, UnknownName}
-use Rattle.sf_evaluate.specs.Asking.{LacksName, is_given, is_nr_narrow, spells_input}
+use Rattle.sf_evaluate.specs.Asking.{LacksName, is_given, is_nr_narrow, numbers_fit}
 
 -- a reading is there just where what is read is
 pub read_some : (r : Option (Bor Text)) (t : Option Text) → option_map (λ s. s.now) r ≡ t → is_some r ≡ is_some t
@@ -25,7 +25,7 @@ some_read xs texts are = grind (arith, length-map)
 pub misspelled : (rows : List Row) (names : List NamesData) (e : Fault) → is_given (codes "input") rows ≡ false
     → ((e ≡ Input) × ((is_ok (read_arguments (text_of (codes "args") rows)) ≡ false) ⊎ (is_nr_narrow rows ≡ false)))
     ⊎ ((e ≡ UnknownName) × LacksName rows names)
-    → ((e ≡ Input) × (spells_input rows ≡ false)) ⊎ ((e ≡ UnknownName) × LacksName rows names)
+    → ((e ≡ Input) × (numbers_fit rows ≡ false)) ⊎ ((e ≡ UnknownName) × LacksName rows names)
 misspelled rows names e absent (inl (input, inl args)) = inl (input, rw absent (and_left _ _ args))
 misspelled rows names e absent (inl (input, inr wide)) = inl (input, rw absent (and_right _ _ wide))
 misspelled rows names e absent (inr unknown) = inr unknown

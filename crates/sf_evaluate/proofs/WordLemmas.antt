@@ -8,7 +8,7 @@ use Rattle.sf_profile.specs.Profiles.{version_of}
 use Rattle.sf_profile.specs.declared.rules.CallSet.TheVariants.{X64}
 use Rattle.sf_profile.specs.declared.rules.Reading.TheVariants.{Strictest}
 use Rattle.sf_profile.specs.declared.settings.Settings.{Settings}
-use Rattle.sf_evaluate.specs.Profiles.{AreSettings, is_capability, is_kernel, machine_named, reading_named, words_fit}
+use Rattle.sf_evaluate.specs.Profiles.{AreSettings, is_capability, is_kernel, machine_named, reading_named, profile_words_fit}
 
 pub any_now : {X : Type 0} (f : X → Bool) (xs : List (Bor X))
     → list_any (λ (x : Bor X). f x.now) xs ≡ list_any f (map (λ (x : Bor X). x.now) xs)
@@ -32,7 +32,7 @@ first_hold true false c d all = cc
 first_hold false b c d all = cc
 
 -- what words say that fit, read word by word
-pub settings_said : (rows : List Row) (s : Settings) (machine conflicts kernel : Text) → words_fit rows ≡ true
+pub settings_said : (rows : List Row) (s : Settings) (machine conflicts kernel : Text) → profile_words_fit rows ≡ true
     → machine ≡ text_of (codes "machine") rows → s.machine ≡ unwrap_or (machine_named machine) X64
     → conflicts ≡ text_of (codes "conflicts") rows → s.conflicts ≡ unwrap_or (reading_named conflicts) Strictest
     → kernel ≡ text_of (codes "kernel") rows → s.kernel ≡ version_of kernel

@@ -66,8 +66,8 @@ is_nr_narrow rows =
     else true
 
 -- the bytes of an input are spelled, or each number of a call has no more bits than its place
-abbrev pub spells_input : List Row → Bool
-spells_input rows =
+abbrev pub numbers_fit : List Row → Bool
+numbers_fit rows =
     if is_given (codes "input") rows then is_ok (decode_sized (text_of (codes "input") rows) 64)
     else is_ok (read_arguments (text_of (codes "args") rows)) && is_nr_narrow rows
 

@@ -67,8 +67,8 @@ is_kernel [] = true
 is_kernel text = is_some (version_of text)
 
 -- the words behind the options are among those that these take
-abbrev pub words_fit : List Row → Bool
-words_fit rows =
+abbrev pub profile_words_fit : List Row → Bool
+profile_words_fit rows =
     (is_some (machine_named (text_of (codes "machine") rows)) && is_some (reading_named
     (text_of (codes "conflicts") rows)))
     && (is_kernel (text_of (codes "kernel") rows) && list_all is_capability (paths_of (codes "cap") rows))
@@ -80,7 +80,7 @@ pub record AreSettings (rows : List Row) (s : Settings) : Type 0 where
   pub kernel : s.kernel ≡ version_of (text_of (codes "kernel") rows)
   pub conflicts : reading_named (text_of (codes "conflicts") rows) ≡ Some s.conflicts
   pub newer : IsSwitch (one_of (codes "newer") rows) s.newer
-  pub fits : words_fit rows ≡ true
+  pub fits : profile_words_fit rows ≡ true
 
 -- ---- names, as the calls of sets
 

@@ -5,14 +5,15 @@ use sf_ask::Question;
 use sf_names::Names;
 use std::alloc::AllocError;
 
-/// Whether a question asks about one architecture, and no set has it. A range of architectures is meant as it is
-/// written.
+/// Whether a question asks about just one architecture (word 1 of an input), and no set has it. A range of several is
+/// meant as it is written, so no question with one is strange.
 fn is_strange(question: &Question, sets: &[Names]) -> bool {
     let (low, high) = question.range(1);
     low == high && !sets.iter().any(|names| names.arch() == low)
 }
 
-/// Adds the warning of the first question that asks about an architecture of no set, where there is one.
+/// Adds the warning of the first question that asks about an architecture of no set; nothing where none does. An error
+/// where an allocation is refused.
 fn push_warning(
     text: &mut String,
     questions: &[Question],
@@ -36,8 +37,9 @@ fn push_warning(
 }
 
 impl Notes {
-    /// Keeps a warning where a question asks about one architecture that none of the sets has; nothing where there are
-    /// no sets.
+    /// Adds a warning to those that are kept, where a question asks about one architecture that none of the sets has.
+    /// Nothing changes where there are no sets, or where there was no memory for the warnings before. Where there is
+    /// none for this one, that is kept in place of all warnings.
     pub fn warn_of_questions(&mut self, questions: &[Question], sets: &[Names]) {
         if sets.is_empty() {
             return;

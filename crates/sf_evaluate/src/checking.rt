@@ -14,8 +14,7 @@ ghost use Rattle.sf_policy.specs.declared.fault.Fault.TheVariants.{Memory as Mem
 use crate::document::{check_document, eval_document};
 use crate::explaining::Notes;
 use crate::files::{Files, read_all};
-use crate::texts::{answer_text, check_text};
-use crate::tracing::{Trace, push_trace};
+use crate::texts::{Trace, answer_text, check_text, push_trace};
 use hex::FromHex;
 use sf_check::Stack;
 use sf_insn::{Input, input_of_bytes};
@@ -27,6 +26,15 @@ use sf_warnings::warnings_of_files;
 use std::alloc::{AllocError, Global};
 use std::io::Write;
 
+/// How what is found of a stack is shown.
+#[derive(Clone, Copy)]
+pub struct CheckManner {
+    /// Whether the instructions of each filter are shown too.
+    pub listed: bool,
+    /// Whether all of it is one JSON document.
+    pub json: bool,
+}
+
 /// How an answer is shown.
 #[derive(Clone, Copy)]
 pub struct Manner {
@@ -36,6 +44,17 @@ pub struct Manner {
     pub brief: bool,
     /// Whether all of it is one JSON document.
     pub json: bool,
+}
+
+/// What `eval` is asked for.
+#[derive(Clone, Copy, Drop)]
+pub struct Evaluation<'a> {
+    /// The input to which the answer is wanted.
+    pub input: &'a Input,
+    /// How the answer is shown.
+    pub how: Manner,
+    /// Names of calls, which are shown beside their numbers.
+    pub names: &'a [Names],
 }
 
 /// Writes a text to standard output. `Write` where that fails, after a beginning of the text.
@@ -57,7 +76,8 @@ pub fn input_of(text: &str) -> Result<Input, Fault>
     Ok(input_of_bytes(&bytes))
 }
 
-/// What `check` says of a stack: a text, or one JSON document.
+/// What `check` says of a stack: a text, or if `json` one JSON document; if `listed`, with the instructions of each
+/// filter. An error where an allocation is refused.
 fn check_output(
     alloc: Global,
     stack: &Stack,
@@ -73,30 +93,32 @@ fn check_output(
     line_of(alloc, &document)
 }
 
-/// Writes the number of instructions of each filter and the path length of their stack, and the instructions too where
-/// `listed` asks for them; as text, or as one JSON document. The notes get the warnings that the files call for.
+/// Writes the number of instructions of each filter and the path length of their stack, as it is asked for. The notes
+/// get the warnings that the files call for. `filters` are the bytes of the filter files. Refusals: those of
+/// `stack_of`; `Write` where standard output can't be written, after a beginning of the text. `Memory` can come
+/// anywhere.
 fn check_filters<O: Write>(
     alloc: Global,
     filters: &[Vec<u8>],
-    listed: bool,
-    json: bool,
+    how: CheckManner,
     notes: &mut Notes,
     out: &mut O,
 ) -> Result<(), Fault>
-    ensures written { OnOk result (WritesCheck listed json (map (λ f. f.items) filters.now)
-        (O.contents out.old) (O.contents out.new)) }
+    ensures written { OnOk result (WritesCheck how.listed how.json
+        (map (λ f. f.items) filters.now) (O.contents out.old) (O.contents out.new)) }
     ensures refused { IfErr result (λ e. (e ≡ WriteFault)
         ⊎ (((e ≡ MemoryFault) ⊎ IsFirstRefusal (map (λ f. f.items) filters.now) e)
         × (out.new ≡ out.old))) }
 {
     let stack = stack_of(alloc, filters)?;
     notes.warnings = warnings_of_files(alloc, filters, stack.programs());
-    let text = check_output(alloc, &stack, listed, json)?;
+    let text = check_output(alloc, &stack, how.listed, how.json)?;
     print(&text, out)
 }
 
 /// The text of the stack's answer to the input. Where `traced` or `brief` is set, lines under the answer show the
-/// input, and how each filter comes to its return value; with `brief` without the comparisons that are false.
+/// input, and how each filter comes to its return value; with `brief` without the comparisons that are false. `Memory`
+/// where an allocation is refused.
 fn eval_text(
     alloc: Global,
     stack: &Stack,
@@ -125,7 +147,8 @@ fn eval_text(
     Ok(text)
 }
 
-/// What `eval` says of the stack's answer to the input: a text, or one JSON document.
+/// What `eval` says of the stack's answer to the input: a text, or if `how.json` one JSON document. `Memory` where an
+/// allocation is refused.
 fn eval_output(
     alloc: Global,
     stack: &Stack,
@@ -145,30 +168,30 @@ fn eval_output(
     Ok(line_of(alloc, &document)?)
 }
 
-/// Writes what the stack of the filters answers to the input, as it is asked for.
+/// Writes what the stack of the filters answers to the input, as it is asked for. `filters` are the bytes of the filter
+/// files. The refusals are those of `check_filters`.
 fn evaluate_filters<O: Write>(
     alloc: Global,
-    input: &Input,
-    how: Manner,
-    names: &[Names],
+    asked: &Evaluation<'_>,
     filters: &[Vec<u8>],
     out: &mut O,
 ) -> Result<(), Fault>
-    ensures written { OnOk result (WritesAnswer (map (λ f. f.items) filters.now) input.now how
-        names.now (O.contents out.old) (O.contents out.new)) }
+    ensures written { OnOk result (WritesAnswer (map (λ f. f.items) filters.now)
+        asked.now.input.now asked.now.how asked.now.names.now
+        (O.contents out.old) (O.contents out.new)) }
     ensures refused { IfErr result (λ e. (e ≡ WriteFault)
         ⊎ (((e ≡ MemoryFault) ⊎ IsFirstRefusal (map (λ f. f.items) filters.now) e)
         × (out.new ≡ out.old))) }
 {
     let stack = stack_of(alloc, filters)?;
-    let text = eval_output(alloc, &stack, input, how, names)?;
+    let text = eval_output(alloc, &stack, asked.input, asked.how, asked.names)?;
     print(&text, out)
 }
 
 /// Reads the filter files, which are named in order of installation, and writes the number of instructions of each and
-/// the path length of their stack. Where `listed` asks for it, the instructions of each filter stand under its line,
-/// and those to which no path through the filter comes have a comment. Where `json` asks for it, all that is one JSON
-/// document.
+/// the path length of their stack. Where `how.listed` asks for it, the instructions of each filter stand under its
+/// line, and those to which no path through the filter comes have a comment. Where `how.json` asks for it, all that is
+/// one JSON document.
 ///
 /// Refusals, tried in this order: `Read` where a file can't be read; what `stack_of` refuses; `Write` where standard
 /// output can't be written, after a beginning of the text. `Memory` can come anywhere. After any error but `Write`
@@ -176,38 +199,36 @@ fn evaluate_filters<O: Write>(
 pub fn check<F: Files, O: Write>(
     alloc: Global,
     paths: &[&str],
-    listed: bool,
-    json: bool,
+    how: CheckManner,
     files: &mut F,
     notes: &mut Notes,
     out: &mut O,
 ) -> Result<(), Fault>
-    ensures written { OnOk result (ChecksFiles listed json (F.holds files.old) paths.now
-        (O.contents out.old) (O.contents out.new)) }
+    ensures written { OnOk result (ChecksFiles how.listed how.json (F.holds files.old)
+        paths.now (O.contents out.old) (O.contents out.new)) }
     ensures refused { IfErr result (λ e. (e ≡ WriteFault)
         ⊎ (RefusesFiles (F.holds files.old) paths.now e × (out.new ≡ out.old))) }
 {
     let filters = read_all(alloc, paths, files, notes)?;
-    check_filters(alloc, &filters, listed, json, notes, out)
+    check_filters(alloc, &filters, how, notes, out)
 }
 
 /// Reads the filter files, which are named in order of installation, and writes what their stack answers to the input,
 /// as it is asked for. The refusals are those of `check`.
 pub fn evaluate<F: Files, O: Write>(
     alloc: Global,
-    input: &Input,
-    how: Manner,
-    names: &[Names],
+    asked: &Evaluation<'_>,
     paths: &[&str],
     files: &mut F,
     notes: &mut Notes,
     out: &mut O,
 ) -> Result<(), Fault>
-    ensures written { OnOk result (AnswersFiles input.now how
-        (F.holds files.old) paths.now names.now (O.contents out.old) (O.contents out.new)) }
+    ensures written { OnOk result (AnswersFiles asked.now.input.now asked.now.how
+        (F.holds files.old) paths.now asked.now.names.now
+        (O.contents out.old) (O.contents out.new)) }
     ensures refused { IfErr result (λ e. (e ≡ WriteFault)
         ⊎ (RefusesFiles (F.holds files.old) paths.now e × (out.new ≡ out.old))) }
 {
     let filters = read_all(alloc, paths, files, notes)?;
-    evaluate_filters(alloc, input, how, names, &filters, out)
+    evaluate_filters(alloc, asked, &filters, out)
 }

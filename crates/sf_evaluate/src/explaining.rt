@@ -1,25 +1,35 @@
 //! What `--explain-errors` shows of a fault under its line. It is for a person: contracts say only when it may be
 //! shown.
 
+mod hints;
+mod kinds;
+mod meanings;
+mod places;
+mod policies;
+mod refusals;
+mod roles;
+
 ghost use Rattle.std.specs.Prelude.{◌≡◌, [], IfOk, None, false};
 ghost use Rattle.clap.specs.Words.{subcommand_rows_of};
 ghost use Rattle.sf_policy.specs.Faults.{without_place};
 ghost use Rattle.sf_command_line.specs.Options.{IsUnasked};
 
-use crate::asking::is_given;
-use crate::hints::{
+use crate::words::is_given;
+use clap::ArgMatches;
+use hints::{
     Hint, hint_of_filter, hint_of_input, hint_of_names, hint_of_policy, hint_of_profile,
     hint_of_unknown, hint_of_unread,
 };
-use crate::kinds::{Kind, bytes_of_text, kind_of};
-use crate::meanings::meaning_of;
-use crate::places::position_of;
-use crate::policies::Page;
-use crate::refusals::{OtherSet, push_profile};
-use crate::roles::{
-    Role, Which, count_before_filters, count_of, file_at, filter_path, which_policy,
-};
-use clap::ArgMatches;
+pub(crate) use kinds::bytes_of_text;
+use kinds::{Kind, kind_of};
+use meanings::meaning_of;
+pub(crate) use places::lines_of_questions;
+use places::position_of;
+use policies::Page;
+pub(crate) use refusals::OtherSet;
+use refusals::push_profile;
+pub(crate) use roles::Which;
+use roles::{Role, count_before_filters, count_of, file_at, filter_path, which_policy};
 use sf_ask::Question;
 use sf_calls::{read_arguments, read_word};
 use sf_command_line::{text_of, wants_explanation};
@@ -52,7 +62,8 @@ pub struct Notes {
     pub warnings: Result<String, AllocError>,
     /// Whether the files of names have the set that `eval --arch` names. It is true until that is looked up.
     pub(crate) is_set_known: bool,
-    /// The place of the first call behind `--calls` that no file of names has, once they were looked up.
+    /// The place, from 0, of the first call behind `--calls` that no file of names has, once they were looked up and
+    /// one was unknown; 0 before that.
     pub(crate) unknown_call: usize,
 }
 
@@ -96,8 +107,9 @@ impl Notes {
         }
     }
 
-    /// The place of the file of names that has the set at a place, and how many sets it has; none where that isn't
-    /// known.
+    /// The place of the file of names that has the set at `place`, and how many sets it has; none where that isn't
+    /// known. Both places count from 0: that of the set among all sets that were read, that of the file among the files
+    /// of names.
     pub(crate) fn file_of_set(&self, place: usize) -> Option<(usize, usize)> {
         let mut before = 0usize;
         for (file, count) in self.sets.iter().enumerate() {
@@ -217,7 +229,8 @@ fn push_unread(text: &mut String, path: &str, reason: &str) -> Result<(), AllocE
     write!(text, "file {path:?}: {reason}\n")
 }
 
-/// Adds the line that says why a text spells no input.
+/// Adds the line that says why a text spells no input: which character, counted from 1, is no hexadecimal digit, or how
+/// many digits there are. The caller has seen that it spells none.
 fn push_input(text: &mut String, input: &str) -> Result<(), AllocError> {
     match input.chars().position(|digit| !digit.is_ascii_hexdigit()) {
         Some(place) => {
@@ -231,7 +244,8 @@ fn push_input(text: &mut String, input: &str) -> Result<(), AllocError> {
     }
 }
 
-/// Adds the line that says which number of a call is too wide.
+/// Adds the line that says which number of a call is too wide: one behind `--args`, else that behind `--nr`, else that
+/// behind `--arch`. The caller has seen that one is.
 fn push_wide(text: &mut String, found: &ArgMatches<'_>) -> Result<(), AllocError> {
     let (args, nr) = (text_of(found, "args"), text_of(found, "nr"));
     if read_arguments(args).is_err() {
@@ -269,7 +283,8 @@ fn push_unknown(
     write!(text, "set {set:?}\n")
 }
 
-/// Adds the line of the policy file, and where the policy is refused, as far as that is known.
+/// Adds the line of the policy file with this path, and lines that say where it is refused: where it isn't UTF-8, or
+/// what the notes know of its refusal. They have its bytes. An error where an allocation is refused.
 fn push_policy(
     alloc: Global,
     text: &mut String,
@@ -294,7 +309,7 @@ fn push_policy(
     }
 }
 
-/// The number of the filter that is refused for a fault, from 1.
+/// The number, from 1, of the filter that is refused for a fault; none where the fault isn't that of one filter.
 fn filter_of(fault: &Fault) -> Option<usize> {
     match fault {
         Fault::Ragged { filter }
@@ -310,7 +325,7 @@ fn filter_of(fault: &Fault) -> Option<usize> {
 }
 
 /// Whether this can be a fault of a policy or of a file of names. `Syntax` can be one of the file of `--accept` too.
-fn is_of_text(fault: &Fault) -> bool {
+fn is_of_policy_or_names(fault: &Fault) -> bool {
     match fault {
         Fault::Version
         | Fault::TopKey
@@ -328,7 +343,8 @@ fn is_of_text(fault: &Fault) -> bool {
 }
 
 /// Adds the lines that say where a fault lies. The first one names the file that is refused or can't be read, if there
-/// is one.
+/// is one; `reason` is why it can't be read. Nothing is added for a fault that lies in no file and no word. An error
+/// where an allocation is refused.
 fn push_place(
     alloc: Global,
     text: &mut String,
@@ -347,7 +363,7 @@ fn push_place(
         Fault::UnknownName => push_unknown(text, found, notes),
         Fault::Accepted { .. } => push_accept(text, found),
         Fault::Read => push_unread(text, path_at(found, notes.files), reason),
-        _ if is_of_text(fault) => push_asked(alloc, text, found, notes),
+        _ if is_of_policy_or_names(fault) => push_asked(alloc, text, found, notes),
         _ => Ok(()),
     }
 }
@@ -366,7 +382,7 @@ fn hint_of_read(found: &ArgMatches<'_>, place: usize, reason: &str) -> Option<Hi
     hint_of_unread(path, reason, ready)
 }
 
-/// What may have been meant by what is refused, where that is known. An error where an allocation is refused.
+/// What may have been meant by what is refused; none where that isn't known. An error where an allocation is refused.
 fn hint_of(
     alloc: Global,
     found: &ArgMatches<'_>,
@@ -385,7 +401,7 @@ fn hint_of(
         Fault::Input if is_given(found, "input") => Ok(Some(hint_of_input())),
         Fault::UnknownName if count_of(found, Role::Names) == 0 => Ok(Some(hint_of_unknown())),
         Fault::Read => Ok(hint_of_read(found, notes.files, reason)),
-        _ if is_of_text(fault) => {
+        _ if is_of_policy_or_names(fault) => {
             let kind = notes.kind_at(notes.files.saturating_sub(1));
             match role_of_last(found, notes) {
                 Role::Policy | Role::Control => hint_of_policy(alloc, kind, &notes.refusal),
@@ -406,7 +422,8 @@ fn meaning_of_syntax(role: Role) -> &'static str {
     }
 }
 
-/// The lines that explain a fault: where it lies, what its number means, and a hint where there is one.
+/// The lines that explain a fault: where it lies, what its number means, and a hint where there is one. An error where
+/// an allocation is refused.
 fn fault_text(
     alloc: Global,
     found: &ArgMatches<'_>,
@@ -428,7 +445,8 @@ fn fault_text(
     Ok(text)
 }
 
-/// The lines that explain a fault, where the matches ask for them or `explains` does, and there is memory for them.
+/// The lines that explain a fault, where the matches ask for them or `explains` is true. None where neither is, where
+/// the matches name no subcommand, or where there is no memory for the lines.
 fn explanation(
     alloc: Global,
     matches: &ArgMatches<'_>,

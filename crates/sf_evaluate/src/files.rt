@@ -1,10 +1,18 @@
 //! The files that the program reads.
 
+mod expecting;
+mod naming;
+mod origins;
+mod questions;
+
 ghost use Rattle.std.specs.Prelude.{◌≡◌, ◌⊎◌, ◌≤◌, ℕ, List, None, length, map, IfOk, IfErr};
 ghost use Rattle.sf_evaluate.specs.Files.{AreKept, AreKnownBytes, HasUnknown};
 ghost use Rattle.sf_policy.specs.declared.fault.Fault.TheVariants.{Memory, Read};
 
 use crate::explaining::Notes;
+pub use expecting::{accepted_in, audit_words_fit, control_in};
+pub use naming::read_all_names;
+pub use questions::all_questions_in;
 use sf_check::MOST_PROGRAMS;
 use sf_policy::Fault;
 use std::alloc::Global;

@@ -3,44 +3,28 @@
 #![tactic(auto)]
 
 mod architectures;
-mod asking;
 mod calls;
 mod checking;
+mod comparisons;
 mod document;
-mod expecting;
 mod explaining;
 mod files;
-mod hints;
-mod instructions;
-mod kinds;
 pub mod laws;
-mod meanings;
-mod misfits;
-mod naming;
-mod origins;
-mod places;
-mod policies;
 mod profiling;
-mod questions;
-mod refusals;
-mod roles;
 mod telling;
 mod texts;
-mod tracing;
-mod wanted;
-mod why;
 mod words;
 
-pub use asking::{asked_input, eval_words_fit, spells_input};
-pub use checking::{Manner, check, evaluate, input_of, print};
-pub use expecting::{accepted_in, audit_words_fit, control_in};
+pub use checking::{CheckManner, Evaluation, Manner, check, evaluate, input_of, print};
 pub use explaining::Notes;
-pub use files::{Files, MOST_BYTES, read_all};
-pub use misfits::tell_wrong_words;
-pub use naming::read_all_names;
+pub use files::{
+    Files, MOST_BYTES, accepted_in, all_questions_in, audit_words_fit, control_in, read_all,
+    read_all_names,
+};
 pub use profiling::profile;
-pub use questions::all_questions_in;
 pub use telling::{tell, tell_fault, warn};
-pub use wanted::{calls_fit, known_calls, rows_fit};
-pub use why::why_text;
-pub use words::words_fit;
+pub use texts::why_text;
+pub use words::{
+    asked_input, calls_fit, eval_words_fit, known_calls, numbers_fit, profile_words_fit, rows_fit,
+    tell_wrong_words,
+};

@@ -3,15 +3,13 @@
 ghost use Rattle.std.specs.Prelude.{◌≡◌, ◌⊎◌, ℕ, List, true, false, IfOk, IfErr, OnOk};
 ghost use Rattle.clap.specs.Words.{found_of, rows_of};
 ghost use Rattle.sf_policy.specs.declared.fault.Fault.TheVariants.{Write as WriteFault};
-ghost use Rattle.sf_evaluate.specs.Profiles.{IsReadFor, RefusesNamesOf, RefusesProfile, RefusesProfileOf, WritesOf, WritesProfile, words_fit};
+ghost use Rattle.sf_evaluate.specs.Profiles.{IsReadFor, RefusesNamesOf, RefusesProfile, RefusesProfileOf, WritesOf, WritesProfile, profile_words_fit};
 
 use crate::calls::calls_of;
 use crate::checking::print;
-use crate::explaining::Notes;
-use crate::files::Files;
-use crate::naming::read_all_names;
-use crate::refusals::OtherSet;
-use crate::words::{settings_of, words_fit};
+use crate::explaining::{Notes, OtherSet};
+use crate::files::{Files, read_all_names};
+use crate::words::{profile_words_fit, settings_of};
 use clap::ArgMatches;
 use sf_command_line::{text_of, wants_notes, wants_quiet};
 use sf_names::Names;
@@ -22,7 +20,8 @@ use sf_profile::{
 use std::alloc::{AllocError, Global};
 use std::io::Write;
 
-/// The line that warns of names that no file of names has; empty where there are none.
+/// The line that warns of names that no file of names has; empty where there are none. The caller has made the filter
+/// of this profile, so that the only fault left is refused memory.
 fn warning_of(alloc: Global, settings: &Settings, bytes: &[u8]) -> Result<String, AllocError> {
     let names = unknown_names(alloc, settings, bytes).map_err(|_| AllocError)?;
     let mut text = String::new(alloc);
@@ -32,8 +31,8 @@ fn warning_of(alloc: Global, settings: &Settings, bytes: &[u8]) -> Result<String
     Ok(text)
 }
 
-/// Writes a profile's filter, or its notes if `told`. Refusals: those of the profile; then `Write` where standard
-/// output can't be written.
+/// Writes a profile's filter, or its notes if `told`. `bytes` are those of its file. Refusals: those of the profile;
+/// then `Write` where standard output can't be written, after a beginning of what is written.
 fn write_of<O: Write>(
     alloc: Global,
     settings: &Settings,
@@ -54,7 +53,8 @@ fn write_of<O: Write>(
     write_bytes(&filter, out)
 }
 
-/// The first set that is none of the five sets of calls; none where each is one of them.
+/// The first set that is none of the five sets of `CallSet`; none where each is one of them. An error where an
+/// allocation is refused.
 fn other_set(alloc: Global, names: &[Names]) -> Result<Option<OtherSet>, AllocError> {
     for (place, one) in names.iter().enumerate() {
         if set_of_names(one).is_none() {
@@ -66,14 +66,15 @@ fn other_set(alloc: Global, names: &[Names]) -> Result<Option<OtherSet>, AllocEr
 }
 
 /// The settings for a profile: what the command line says, with the calls of the files of names. Keeps in the notes the
-/// first set that is none of the five. The refusals are those of `read_all_names`; then those of `calls_of`.
+/// first set that is none of the five of `CallSet`. The caller's condition: the words behind the options fit. The
+/// refusals are those of `read_all_names`; then those of `calls_of`.
 fn read_settings<F: Files>(
     alloc: Global,
     found: &ArgMatches<'_>,
     files: &mut F,
     notes: &mut Notes,
 ) -> Result<Settings, Fault>
-    requires { words_fit (rows_of (found_of found.now)) ≡ true }
+    requires { profile_words_fit (rows_of (found_of found.now)) ≡ true }
     ensures read { IfOk result (IsReadFor (F.holds files.old) (rows_of (found_of found.now))) }
     ensures refused { IfErr result (RefusesNamesOf (F.holds files.old)
         (rows_of (found_of found.now))) }
@@ -86,8 +87,8 @@ fn read_settings<F: Files>(
     settings_of(alloc, found, calls)
 }
 
-/// Keeps the warning of names that no file of names has, after a filter was written. It keeps none with `--quiet`, nor
-/// with `--notes`, where no filter was written.
+/// Keeps in the notes the warning of names that no file of names has, after a filter was written. It keeps none with
+/// `--quiet`, nor with `--notes`, where no filter was written.
 fn keep_warning(
     alloc: Global,
     found: &ArgMatches<'_>,
@@ -100,7 +101,8 @@ fn keep_warning(
     }
 }
 
-/// Keeps the key for which the profile is refused.
+/// Keeps in the notes the key for which the profile is refused, where one is known. Does nothing where the fault isn't
+/// that of a profile.
 fn keep_key(alloc: Global, settings: &Settings, bytes: &[u8], fault: &Fault, notes: &mut Notes) {
     if let Fault::Profile(refusal) = fault {
         notes.key = wrong_key(alloc, settings, bytes, *refusal);
@@ -127,13 +129,13 @@ pub fn profile<F: Files, O: Write>(
     ensures done { IfOk result (λ s. s ≡ 0 → WritesProfile (F.holds files.old)
         (rows_of (found_of found.now)) (O.contents out.old) (O.contents out.new)) }
     ensures usage { IfOk result (λ s. s ≡ 4
-        → (words_fit (rows_of (found_of found.now)) ≡ false)
+        → (profile_words_fit (rows_of (found_of found.now)) ≡ false)
         × (files.new ≡ files.old) × (out.new ≡ out.old)) }
     ensures quiet { IfErr result (λ e. (e ≡ WriteFault) ⊎ (out.new ≡ out.old)) }
     ensures refused { IfErr result (RefusesProfile (F.holds files.old)
         (rows_of (found_of found.now))) }
 {
-    if !words_fit(found) {
+    if !profile_words_fit(found) {
         return Ok(4);
     }
     let settings = read_settings(alloc, found, files, notes)?;

@@ -6,8 +6,7 @@ ghost use Rattle.sf_command_line.specs.Options.{IsQuiet};
 ghost use Rattle.sf_policy.specs.Faults.{fault_number};
 ghost use Rattle.sf_evaluate.specs.Status.{fault_status};
 
-use crate::explaining::Notes;
-use crate::roles::Which;
+use crate::explaining::{Notes, Which};
 use clap::ArgMatches;
 use sf_command_line::wants_quiet;
 use sf_policy::Fault;
@@ -31,8 +30,8 @@ fn line_of(fault: &Fault) -> InlineText<LINE> {
     InlineText::of(format_args!("error {fault}\n"))
 }
 
-/// The line of a fault in one of several policies, or in that of the control: which one it is stands before the
-/// question.
+/// The line of a fault in one of several policies, or in that of the control. `policy` says which one it is, as
+/// `policy 2` or `control`, and stands before the question, or at the end where the fault has none.
 fn line_in(fault: &Fault, policy: &str) -> InlineText<LINE> {
     let line: InlineText<LINE> = InlineText::of(format_args!("{fault}"));
     match line.as_str().split_once(" question ") {
@@ -72,7 +71,7 @@ pub fn tell_fault<E: Write>(fault: &Fault, err: &mut E) -> u8
     tell_line(&line_of(fault), fault, err)
 }
 
-/// A line with more lines under it.
+/// A line with more lines under it. An error where an allocation is refused.
 fn with_more(alloc: Global, line: &str, more: &str) -> Result<String, AllocError>
     ensures { IfOk result (λ text. string_bytes text ≡ line.now ++ more.now) }
 {

@@ -1,12 +1,19 @@
 //! The texts that `check` and `eval` write.
+
+mod instructions;
+mod tracing;
+mod why;
+
 ghost use Rattle.std.specs.Prelude.{◌≡◌, ◌++◌, ℕ, List, IfOk, OnOk, length, string_bytes};
 ghost use Rattle.sf_evaluate.specs.Texts.{AreFilterLines, IsCheckText, StandUnder, answer_text, filter_line, path_line};
 
-use crate::instructions::push_instructions;
+pub(crate) use instructions::push_instructions;
 use sf_check::{Program, Stack};
 use sf_policy::push_action;
 use sf_run::Answer;
 use std::alloc::{AllocError, Global};
+pub(crate) use tracing::{Trace, push_trace};
+pub use why::why_text;
 
 /// The line of an answer: its action and its data. An error where an allocation is refused.
 pub fn answer_text(alloc: Global, answer: Answer) -> Result<String, AllocError>

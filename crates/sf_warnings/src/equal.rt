@@ -10,7 +10,8 @@ fn have_same_bytes(left: &[u8], right: &[u8]) -> bool
     left == right
 }
 
-/// The first place before `later` at which a file has the same bytes as the one there.
+/// The first place before `later` at which a file has the same bytes as the file at `later`; none where no file has.
+/// The caller's condition: there is a file at `later`.
 fn same_before(files: &[Vec<u8>], later: usize) -> Option<usize>
     requires { later < length files.now }
     ensures same { IfSome result (λ earlier. AreSame

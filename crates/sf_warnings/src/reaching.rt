@@ -8,7 +8,8 @@ ghost use Rattle.sf_warnings.specs.Reaching.{AreReached, with_found};
 use sf_check::{Insn, Program};
 use std::alloc::{AllocError, Global};
 
-/// Marks in `found` the places to which the instruction at a place may lead.
+/// Marks in `found` the places to which the instruction at a place may lead. The caller's condition: these places are
+/// in `found`, as in a lawful program, and `place` is below 4096.
 fn find_next(found: &mut [bool], place: usize, insn: &Insn)
     requires small { place < 4096 }
     requires inside { AllBelow (length found.old) (successors place insn.now) }
@@ -33,6 +34,7 @@ pub fn reached(alloc: Global, program: &Program) -> Result<Vec<bool>, AllocError
     let code = program.insns();
     let mut found = vec![in alloc; false; code.len()]?;
     found[0] = true;
+    // Instructions lead only to later places, so one pass finds all.
     for (place, insn) in code.iter().enumerate() {
         if found[place] {
             find_next(&mut found, place, insn);

@@ -8,8 +8,8 @@ use sf_check::Program;
 use sf_run::PartAnswers;
 use std::alloc::{AllocError, Global};
 
-/// Adds the warning that two files of a stack are the same filter. `which` is empty, or `old ` or `new ` for one of two
-/// stacks.
+/// Adds the warning that two files of a stack are the same filter; nothing where all are different. `which` is empty,
+/// or `old ` or `new ` for one of two stacks. An error where an allocation is refused.
 fn push_same(text: &mut String, which: &str, files: &[Vec<u8>]) -> Result<(), AllocError> {
     let Some((earlier, later)) = first_same(files) else {
         return Ok(());
@@ -22,7 +22,8 @@ fn push_same(text: &mut String, which: &str, files: &[Vec<u8>]) -> Result<(), Al
 }
 
 /// Adds the warning that control never comes to some instructions of a filter, if another one than the last is among
-/// them: libseccomp ends each filter with a return to which often nothing leads.
+/// them: libseccomp ends each filter with a return to which often nothing leads. `number` is that of the filter, from
+/// 1, and `which` is as in `push_same`. An error where an allocation is refused.
 fn push_unreached(
     alloc: Global,
     text: &mut String,
@@ -44,7 +45,8 @@ two filters in one file?\n"
     )
 }
 
-/// Adds the warnings that the files of a stack call for. `which` is empty, or `old ` or `new ` for one of two stacks.
+/// Adds the warnings that the files of a stack call for. `programs` are these files, read. `which` is empty, or `old `
+/// or `new ` for one of two stacks. An error where an allocation is refused.
 fn push_of_files(
     alloc: Global,
     text: &mut String,
@@ -60,7 +62,7 @@ fn push_of_files(
 }
 
 /// The warnings that the files of a stack call for: two of them are the same, or a filter has instructions to which
-/// control never comes. An error where an allocation is refused.
+/// control never comes. `programs` are these files, read. An error where an allocation is refused.
 pub fn warnings_of_files(
     alloc: Global,
     files: &[Vec<u8>],
@@ -85,7 +87,7 @@ pub fn warnings_of_stack(
     Ok(text)
 }
 
-/// Adds the warning that no call gets through one of two stacks.
+/// Adds the warning that no call gets through one of two stacks. `which` is `old ` or `new `.
 fn push_none(text: &mut String, which: &str) -> Result<(), AllocError> {
     write!(
         text,
@@ -93,8 +95,9 @@ fn push_none(text: &mut String, which: &str) -> Result<(), AllocError> {
     )
 }
 
-/// The warnings that the exploration of two stacks as one calls for. The files of the old stack come first, and `older`
-/// of them are its own; `answers` has the answers of both to each region. An error where an allocation is refused.
+/// The warnings that the exploration of two stacks as one calls for: those of the files of each, and for each that no
+/// call gets through it, if nothing is outstanding. The first `older` files are those of the old stack. `answers` has
+/// the answers of both to each region. An error where an allocation is refused.
 pub fn warnings_of_both(
     alloc: Global,
     files: &[Vec<u8>],

@@ -20,7 +20,7 @@ fn control_document(alloc: Global, name: &str, reply: Reply) -> Result<Document,
     Ok(Document::object(fields))
 }
 
-/// The questions of the control, each with its reply.
+/// The questions of the control, each with its reply. The caller's condition: there is a reply to each.
 fn control_documents(
     alloc: Global,
     questions: &[Question],

@@ -80,7 +80,7 @@ fn origin_of(origins: &[Document], place: usize) -> Result<Document, AllocError>
     }
 }
 
-/// What is shown of the question at a place beside its reply.
+/// What is shown beside the reply of the question at a place, counted from 0. `name` is the question's name.
 fn beside_of(
     alloc: Global,
     telling: &Telling<'_>,
@@ -106,7 +106,7 @@ fn beside_of(
     })
 }
 
-/// A question with its reply, an example, and what is shown beside.
+/// A question with its number, from 1, its name, the word of its reply, its example, and what is shown beside.
 fn asked_document(
     alloc: Global,
     number: usize,
@@ -135,7 +135,8 @@ fn asked_document(
     Ok(Document::object(fields))
 }
 
-/// The question at a place, counted from 0, with its reply.
+/// The question at a place, counted from 0, with its name and its reply. The caller's condition: its number, which is
+/// the place plus 1, fits into 64 bits, as that of each question in memory does.
 fn question_document(
     alloc: Global,
     telling: &Telling<'_>,
@@ -153,7 +154,7 @@ fn question_document(
     asked_document(alloc, place + 1, name, reply_word(reply), example, beside)
 }
 
-/// Questions in their order, each with its reply.
+/// Questions in their order, each with its reply. The caller's condition: there is a reply to each.
 fn question_documents(
     alloc: Global,
     telling: &Telling<'_>,

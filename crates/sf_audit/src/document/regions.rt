@@ -9,7 +9,7 @@ use sf_book::{Region, Settled};
 use sf_json::{Document, Fields, answer_document};
 use std::alloc::{AllocError, Global};
 
-/// A letter for each truth value.
+/// A letter for each truth value: `T` or `F`. An error where an allocation is refused.
 fn letters_of(alloc: Global, name: &[bool]) -> Result<String, AllocError>
     ensures { IfOk result (λ text. string_bytes text ≡ map letter name.now) }
 {
@@ -20,7 +20,7 @@ fn letters_of(alloc: Global, name: &[bool]) -> Result<String, AllocError>
     Ok(text)
 }
 
-/// The name of a region.
+/// The name of a region: a letter for each truth value, as `letters_of` writes them.
 fn name_of(alloc: Global, region: &Region) -> Result<String, AllocError>
     ensures { IfOk result (λ text. string_bytes text ≡ map letter region.now.name) }
 {

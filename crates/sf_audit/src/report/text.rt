@@ -11,7 +11,7 @@ use sf_book::{Region, Settled};
 use sf_policy::{hex_of, push_action, push_counts};
 use std::alloc::{AllocError, Global};
 
-/// Adds a region's name: a letter for each truth value, or a dash where it has none.
+/// Adds a region's name: `T` or `F` for each truth value, or a dash where it has none.
 fn push_truth_values(text: &mut String, name: &[bool]) -> Result<(), AllocError>
     ensures { OnOk result (string_bytes text.new ≡ string_bytes text.old ++ name_text name.now) }
 {
@@ -71,7 +71,8 @@ fn push_shown_regions(
     Ok(())
 }
 
-/// Adds the line of a question: its number, its name and its reply, and the example where it is allowed.
+/// Adds the line of a question: its number, from 1, its name and its reply, and where it is allowed the bytes of the
+/// example as hexadecimal digits.
 fn push_question(
     alloc: Global,
     text: &mut String,
@@ -103,7 +104,8 @@ fn push_remark(text: &mut String, remarks: &[String], place: usize) -> Result<()
     }
 }
 
-/// Adds the line of the question at a place, counted from 0, and under it the remark on it.
+/// Adds the line of the question at a place, counted from 0, and under it the remark on it, if it has one. The caller's
+/// condition: the question's number, which is the place plus 1, fits into 64 bits, as that of each in memory does.
 fn push_remarked(
     alloc: Global,
     text: &mut String,
@@ -120,7 +122,8 @@ fn push_remarked(
     push_remark(text, remarks, place)
 }
 
-/// Adds the lines of all questions, in their order, and under each the remark on it.
+/// Adds the lines of all questions, in their order, and under each the remark on it, if it has one. The caller's
+/// condition: there is a reply to each.
 fn push_questions(
     alloc: Global,
     text: &mut String,
@@ -203,7 +206,8 @@ fn push_totals(text: &mut String, replies: &[Reply]) -> Result<(), AllocError>
     )
 }
 
-/// The whole text of a report.
+/// The whole text of a report: its head, the questions with their replies and remarks, the regions where they are asked
+/// for, and the totals. An error where an allocation is refused.
 pub(super) fn report_of(
     alloc: Global,
     outcome: &Outcome,

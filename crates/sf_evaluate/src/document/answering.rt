@@ -11,7 +11,7 @@ ghost use Rattle.sf_evaluate.specs.TraceDocuments.{eval_document, filter_documen
 ghost use Rattle.sf_policy.specs.declared.fault.Fault.TheVariants.{Memory as MemoryFault};
 
 use super::steps::met_documents;
-use crate::tracing::Trace;
+use crate::texts::Trace;
 use sf_check::{Program, Stack};
 use sf_insn::Input;
 use sf_json::{Document, Fields, action_document, answer_document, input_document};
@@ -20,7 +20,9 @@ use sf_policy::Fault;
 use sf_run::{Action, Course, answer, walk};
 use std::alloc::{AllocError, Global};
 
-/// A filter, from its run: what it returns and where, whether its answer stands, and what it meets.
+/// The filter with this number, from its run: what it returns and where, whether its answer stands, and what it meets;
+/// with `brief` without the comparisons that are false. The upper 16 bits of its return value are the action, the lower
+/// 16 the data.
 fn filter_document(
     alloc: Global,
     brief: bool,
@@ -45,8 +47,8 @@ fn filter_document(
     Ok(Document::object(fields))
 }
 
-/// Adds a filter, and says whether its answer stands: it returns the action of the stack's answer, and the answer of no
-/// newer filter stood.
+/// Adds the filter with this number, and says whether its answer stands: it returns the action of the stack's answer,
+/// and the answer of no newer filter stood, as `stood` says. An error where an allocation is refused.
 fn push_filter(
     alloc: Global,
     documents: &mut Vec<Document>,

@@ -4,7 +4,7 @@ ghost use Rattle.std.specs.Prelude.{◌≡◌, length, map, IfOk};
 ghost use Rattle.serde_json.specs.View.{view};
 ghost use Rattle.sf_evaluate.specs.CheckDocuments.{AreFilterDocuments, IsCheckDocument, IsFilterDocument, IsListing, filter_size_document};
 
-use crate::instructions::push_instructions;
+use crate::texts::push_instructions;
 use sf_check::{Program, Stack};
 use sf_json::{Document, Fields};
 use std::alloc::{AllocError, Global};
@@ -38,7 +38,7 @@ fn filter_size_document(
     Ok(Document::object(fields))
 }
 
-/// A filter with this number.
+/// The filter with this number: how many instructions it has, and if `listed` their listing.
 fn document_of(
     alloc: Global,
     listed: bool,
@@ -51,7 +51,7 @@ fn document_of(
     filter_size_document(alloc, number, program.insns().len(), listing)
 }
 
-/// All filters, in order of installation.
+/// All filters, in order of installation; if `listed`, with the listings of their instructions.
 fn filter_documents(
     alloc: Global,
     listed: bool,

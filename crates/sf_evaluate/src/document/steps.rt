@@ -8,13 +8,13 @@ ghost use Rattle.sf_evaluate.specs.Traces.{is_false, sign_text};
 ghost use Rattle.serde_json.specs.Data.{boolean, null, string};
 ghost use Rattle.sf_json.specs.Documents.{word as word_of};
 
-use sf_insn::Test;
+use crate::comparisons::{Comparison, is_false, sign_of};
 use sf_json::{Document, Fields, word_document};
 use sf_policy::WORD_KEYS;
 use sf_run::{Meeting, Met};
 use std::alloc::{AllocError, Global};
 
-/// The name of a word of the input; `null` where there is no word.
+/// The name of the word of the input at a place, 0 to 15; `null` where there is no word.
 fn word_name(alloc: Global, word: Option<u8>) -> Result<Document, AllocError>
     ensures { IfOk result (λ d. view d ≡ word_name word) }
 {
@@ -25,68 +25,21 @@ fn word_name(alloc: Global, word: Option<u8>) -> Result<Document, AllocError>
     Document::copy_of(alloc, name)
 }
 
-/// The sign of a test: how it compares two words.
-fn sign_of(test: Test) -> &'static str
-    ensures { result.now ≡ sign_text test }
-{
-    match test {
-        Test::Equal => "=",
-        Test::Greater => ">",
-        Test::GreaterOrEqual => ">=",
-        Test::AnyBit => "&",
-    }
-}
-
-/// What the instruction at a place meets, from its parts.
-fn step_document(
-    alloc: Global,
-    place: usize,
-    name: Document,
-    value: u32,
-    sign: Document,
-    other: Document,
-    truth: Document,
-) -> Result<Document, AllocError>
-    ensures { IfOk result (λ d. view d ≡ step_document place (view name)
-        (word_of value) (view sign)
-        (view other) (view truth)) }
+/// The document of a comparison.
+fn compared_document(alloc: Global, compared: &Comparison) -> Result<Document, AllocError>
+    ensures { IfOk result (λ d. view d ≡ step_document compared.now.place
+        (word_name compared.now.word) (word_of compared.now.value)
+        (string compared.now.sign.now) (word_of compared.now.other)
+        (boolean compared.now.truth)) }
 {
     let fields = Fields::new(alloc)
-        .with("instruction", Document::count(place))?
-        .with("word", name)?
-        .with("value", word_document(alloc, value)?)?
-        .with("sign", sign)?
-        .with("other", other)?
-        .with("true", truth)?;
+        .with("instruction", Document::count(compared.place))?
+        .with("word", word_name(alloc, compared.word)?)?
+        .with("value", word_document(alloc, compared.value)?)?
+        .with("sign", Document::copy_of(alloc, compared.sign)?)?
+        .with("other", word_document(alloc, compared.other)?)?
+        .with("true", Document::truth(compared.truth))?;
     Ok(Document::object(fields))
-}
-
-/// The document of a comparison: the instruction at a place compares `value` with `other`. `word` is the word of the
-/// input from which `value` was loaded, if it is one.
-fn compared_document(
-    alloc: Global,
-    place: usize,
-    word: Option<u8>,
-    value: u32,
-    sign: &str,
-    other: u32,
-    truth: bool,
-) -> Result<Document, AllocError>
-    ensures { IfOk result (λ d. view d ≡ step_document place (word_name word) (word_of value)
-        (string sign.now) (word_of other) (boolean truth)) }
-{
-    let name = word_name(alloc, word)?;
-    let sign = Document::copy_of(alloc, sign)?;
-    let other = word_document(alloc, other)?;
-    step_document(
-        alloc,
-        place,
-        name,
-        value,
-        sign,
-        other,
-        Document::truth(truth),
-    )
 }
 
 /// A value that is returned and not compared.
@@ -94,40 +47,45 @@ fn returned_document(alloc: Global, place: usize, value: u32) -> Result<Document
     ensures { IfOk result (λ d. view d ≡ step_document place null
         (word_of value) null null null) }
 {
-    step_document(
-        alloc,
-        place,
-        Document::null(),
-        value,
-        Document::null(),
-        Document::null(),
-        Document::null(),
-    )
+    let fields = Fields::new(alloc)
+        .with("instruction", Document::count(place))?
+        .with("word", Document::null())?
+        .with("value", word_document(alloc, value)?)?
+        .with("sign", Document::null())?
+        .with("other", Document::null())?
+        .with("true", Document::null())?;
+    Ok(Document::object(fields))
 }
 
-/// What a filter meets at an instruction.
+/// What a filter meets at an instruction. A division by X is a comparison of X with 0.
 fn meeting_document(alloc: Global, meeting: Meeting) -> Result<Document, AllocError>
     ensures { IfOk result (λ d. view d ≡ meeting_document meeting) }
 {
     let place = meeting.place;
     match meeting.met {
         Met::Tested(test, a, other, passed) => {
-            let sign = sign_of(test);
-            compared_document(alloc, place, meeting.word, a, sign, other, passed)
+            let compared = Comparison {
+                place,
+                word: meeting.word,
+                value: a,
+                sign: sign_of(test),
+                other,
+                truth: passed,
+            };
+            compared_document(alloc, &compared)
         }
-        Met::Divided(x) => compared_document(alloc, place, None, x, "=", 0, x == 0),
+        Met::Divided(x) => {
+            let compared = Comparison {
+                place,
+                word: None,
+                value: x,
+                sign: "=",
+                other: 0,
+                truth: x == 0,
+            };
+            compared_document(alloc, &compared)
+        }
         Met::Returned(a) => returned_document(alloc, place, a),
-    }
-}
-
-/// Whether a comparison was met that is false. A division by X compares X with 0, so it is false where X isn't 0.
-fn is_false(met: Met) -> bool
-    ensures { result ≡ is_false met }
-{
-    match met {
-        Met::Tested(_, _, _, passed) => !passed,
-        Met::Divided(x) => x != 0,
-        Met::Returned(_) => false,
     }
 }
 

@@ -15,8 +15,8 @@ returns-clause-done g c = IfOk-weaker c.compare.result _ _ (λ s written. record
       c.get_strs-2.ensures refl);
   budget = c.budget_of.result;
   counted = c.budget_of.ensures;
-  asked = c.relation_of.result;
-  switched = c.relation_of.ensures;
+  asked = c.relation_of_status.result;
+  switched = c.relation_of_status.ensures;
   with_rows = c.wants_rows.result;
   listed = c.wants_rows.ensures;
   json = c.wants_json.result;
@@ -25,7 +25,7 @@ returns-clause-done g c = IfOk-weaker c.compare.result _ _ (λ s written. record
   called = c.in_ok-names.ensures.called;
   known = rw c.deref.ensures.value at c.in_ok-known_calls.ensures.known;
   compared = rw (
-    c.relation_asked.ensures,
+    c.relation_of_rows.ensures,
     c.in_ok-known_calls.ensures.asked,
     c.deref-2.ensures.value,
     fun_ext c.names_of.ensures.same,

@@ -14,8 +14,8 @@ returns-clause-done g c = record {
       c.get_strs.ensures refl);
   traced = c.wants_trace.result;
   in_full = c.wants_trace.ensures;
-  brief = c.wants_brief.result;
-  in_brief = c.wants_brief.ensures;
+  brief = c.wants_brief_trace.result;
+  in_brief = c.wants_brief_trace.ensures;
   json = c.wants_json.result;
   in_json = c.wants_json.ensures;
   names = c.in_ok-names.names.items;
@@ -30,7 +30,7 @@ pub returns-in_err-input-clause-refused : goal.returns-in_err-input-clause-refus
 returns-in_err-input-clause-refused g c =
     handed_on _ c.from_residual-in_err-input.result c.in_err-input.field-0.0 c.from_residual-in_err-input.ensures.1
     (inr (asked_why _ _ _ _ c.in_ok-names.ensures.called
-    (rw c.spells_input.ensures at c.if-not-spells_input.false)
+    (rw c.numbers_fit.ensures at c.if-not-numbers_fit.false)
     (rw c.deref.ensures.value at c.in_err-input.ensures.refused)))
 
 pub returns-in_err-evaluate-clause-refused : goal.returns-in_err-evaluate-clause-refused

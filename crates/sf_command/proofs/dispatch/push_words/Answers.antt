@@ -1,7 +1,0 @@
-use Rattle.std.proofs.lemmas.Grind.{common_steps}
-use Rattle.std.proofs.Common.{arith}
-use Rattle.std.proofs.lemmas.List.{map_push, map-append, take_more}
-use Rattle.sf_command.proofs.dispatch.push_words.Goals as goal
-
-pub loop-word-preserved : goal.loop-word-preserved
-loop-word-preserved c = grind (arith, common_steps, map_push, map-append, take_more)

@@ -1,0 +1,20 @@
+use Rattle.std.proofs.Common.{◌≡◌, ◌∙◌, Some, ap, codes, not, refl, sym}
+use Rattle.std.specs.List.{list_any}
+use Rattle.std.specs.Prelude.{option_map}
+use Rattle.std.specs.Str.{bytes_eq}
+use Rattle.clap.specs.Words.{first_of, found_of, rows_of}
+use Rattle.sf_command_line.specs.Options.{ArePaths, paths_of}
+use Rattle.sf_command_line.specs.OptionsLaws.{paths_found}
+use Rattle.sf_evaluate.specs.Expecting.{is_other_policy}
+use Rattle.sf_evaluate.proofs.files.expecting.audit_words_fit.Goals as goal
+
+pub returns-in-Some : goal.returns-in-Some
+returns-in-Some c =
+    let rows = rows_of (found_of c.args.found.now) in
+    let policies : ArePaths (codes "policy") rows c.unwrap_or-policies.result.now =
+    rw c.unwrap_or-policies.ensures (paths_found (found_of c.args.found.now) (codes "policy") c.get_strs.result _
+    c.get_strs.ensures refl) in
+    let given : Some c.in-Some.path.now ≡ first_of (codes "control") rows =
+    ap (option_map (λ t. t.now)) (sym c.in-Some.is) ∙ c.given_text.ensures in
+    ap not (c.is_among.ensures ∙ ap (list_any (bytes_eq c.in-Some.path.now)) policies)
+    ∙ ap (λ o. is_other_policy o (paths_of (codes "policy") rows)) given

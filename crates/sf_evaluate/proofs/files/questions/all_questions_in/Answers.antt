@@ -1,0 +1,35 @@
+use Rattle.std.proofs.Common.{◌≡◌, arith, length, List, [], ℕ, Bor}
+use Rattle.std.proofs.lemmas.Option.{slice_get-get_or}
+use Rattle.sf_evaluate.proofs.AskedLemmas.{all_asked, all_placed, asking_why, one_asked, one_placed}
+use Rattle.sf_evaluate.specs.FilesLaws.{handed_on}
+use Rattle.sf_evaluate.proofs.files.questions.all_questions_in.Goals as goal
+
+no_path : Bor (List ℕ)
+no_path = record { ref_ptr = (0, 0); now = [] }
+
+pub loop-path-preserved : goal.loop-path-preserved
+unfolding no_path
+loop-path-preserved g c =
+    let here = slice_get-get_or c.args.paths.now c.loop-path.path-index no_path c.loop-path-test.true in
+    let placed = c.in_ok-push_origins.ensures in
+    let many : c.len.result ≡ length c.in_ok-questions.questions.items =
+    omega (arith, c.len.ensures, c.in_ok-questions.questions.ok.0) in
+    record {
+      asked = one_asked _ _ _ _ _ _ _ _ c.loop-path.invariant.asked here c.in_ok-questions.ensures.asked _
+          c.questions_in.ensures.same c.in_ok-append.ensures.items;
+      placed = one_placed _ _ _ _ _ _ _ _ _ _ c.loop-path.invariant.placed here c.in_ok-questions.ensures.asked
+          (rw many at placed.1) _ _ c.questions_in.ensures.same c.in_ok-append.ensures.items placed.2;
+    }
+
+pub returns-in_err-questions-clause-refused : goal.returns-in_err-questions-clause-refused
+unfolding no_path
+returns-in_err-questions-clause-refused g c =
+    let here = slice_get-get_or c.args.paths.now c.loop-path.path-index no_path c.loop-path-test.true in
+    handed_on _ c.from_residual.result c.in_err-questions.field-0.0 c.from_residual.ensures.1
+    (asking_why _ _ _ _ _ _ c.loop-path.invariant.asked.read.same here c.in_err-questions.ensures.refused)
+
+pub returns-clause-asked : goal.returns-clause-asked
+returns-clause-asked g c = all_asked _ _ _ _ _ c.loop-path.invariant.asked (omega arith) (omega arith)
+
+pub returns-clause-placed : goal.returns-clause-placed
+returns-clause-placed g c = all_placed _ _ _ _ _ _ c.loop-path.invariant.placed (omega arith) (omega arith)

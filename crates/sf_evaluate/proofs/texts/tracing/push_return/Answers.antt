@@ -1,0 +1,16 @@
+use Rattle.std.proofs.Common.{string_bytes}
+use Rattle.std.specs.Fmt.{decimal}
+use Rattle.std.proofs.lemmas.Result.{on_ok_weaker}
+use Rattle.sf_policy.specs.Texts.{action_text}
+use Rattle.sf_evaluate.specs.Traces.{stands_text}
+use Rattle.sf_evaluate.proofs.TraceLemmas.{return_parts}
+use Rattle.sf_evaluate.proofs.texts.tracing.push_return.Goals as goal
+
+pub returns : goal.returns
+returns c = on_ok_weaker c.write-2.result
+    (λ e. return_parts (string_bytes c.args.text.now) (string_bytes c.write.new.self)
+    (string_bytes c.push_action.new.text) (string_bytes c.write-2.new.self) (decimal c.args.number)
+    (action_text c.args.action) (decimal c.args.info) (decimal c.args.place) c.mark_of-mark.result.now
+    (stands_text c.args.stands)
+    c.in_ok-write.ensures.bytes c.in_ok-push_action.ensures c.mark_of-mark.ensures e)
+    c.write-2.ensures.bytes

@@ -1,0 +1,10 @@
+use Rattle.std.proofs.Common.{◌≡◌, ◌-◌, ◌++◌, false, length, string_bytes}
+use Rattle.sf_run.specs.Answers.{action_number}
+use Rattle.sf_evaluate.specs.Traces.{cause_text, stack_text}
+use Rattle.sf_evaluate.proofs.texts.why.push_filters.Given as goal
+
+abbrev pub invariant-loop-i : goal.invariant-loop-i
+invariant-loop-i l = string_bytes l.text ++ stack_text cause_text
+    (length l.programs - l.i) (action_number l.trace.answer.action) l.programs l.trace.input.now l.stood
+    ≡ string_bytes l.initial.text ++ stack_text cause_text (length l.programs)
+    (action_number l.trace.answer.action) l.programs l.trace.input.now false

@@ -1,0 +1,47 @@
+//! The comparisons that filters make, as texts and documents show them.
+
+ghost use Rattle.std.specs.Prelude.{◌≡◌, ◌==◌, false, not};
+ghost use Rattle.sf_evaluate.specs.Traces.{is_false, sign_text};
+
+use sf_insn::Test;
+use sf_run::Met;
+
+/// A comparison that an instruction of a filter makes: of one number with another one.
+#[derive(Clone, Copy, Drop)]
+pub(crate) struct Comparison {
+    /// The place of the instruction.
+    pub(crate) place: usize,
+    /// The place of the word of the input that is compared, 0 to 15; none where it is no such word.
+    pub(crate) word: Option<u8>,
+    /// The number that is compared.
+    pub(crate) value: u32,
+    /// The sign of the comparison, as `sign_of` gives it.
+    pub(crate) sign: &'static str,
+    /// The number with which it is compared.
+    pub(crate) other: u32,
+    /// Whether the comparison is true.
+    pub(crate) truth: bool,
+}
+
+/// The sign of a test: how it compares two words.
+pub(crate) fn sign_of(test: Test) -> &'static str
+    ensures { result.now ≡ sign_text test }
+{
+    match test {
+        Test::Equal => "=",
+        Test::Greater => ">",
+        Test::GreaterOrEqual => ">=",
+        Test::AnyBit => "&",
+    }
+}
+
+/// Whether a comparison was met that is false. A division by X compares X with 0, so it is false where X isn't 0.
+pub(crate) fn is_false(met: Met) -> bool
+    ensures { result ≡ is_false met }
+{
+    match met {
+        Met::Tested(_, _, _, passed) => !passed,
+        Met::Divided(x) => x != 0,
+        Met::Returned(_) => false,
+    }
+}

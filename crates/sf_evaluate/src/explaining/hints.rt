@@ -1,0 +1,278 @@
+//! What may have been meant by something that is refused. No contract speaks of it.
+
+use super::kinds::Kind;
+use sf_policy::{Fault, Refusal, WORD_KEYS};
+use std::alloc::{AllocError, Global};
+use toml::Value;
+
+/// Keys that people write in small letters or capitals, and the keys of a question that are meant by them.
+const MEANT: [(&str, &str); 7] = [
+    ("name", "name"),
+    ("actions", "actions"),
+    ("action", "actions"),
+    ("syscall", "nr"),
+    ("call", "nr"),
+    ("number", "nr"),
+    ("architecture", "arch"),
+];
+
+/// The numbers of 64 bits that a question has in two halves, each with a key of its own.
+const HALVED: [&str; 7] = ["ip", "arg0", "arg1", "arg2", "arg3", "arg4", "arg5"];
+
+/// What is said about a text that spells no input.
+const INPUT: &str =
+    "128 digits without `0x` are wanted: the 64 bytes of struct seccomp_data, of each number the lowest byte first";
+
+/// A hint for a person.
+#[derive(Clone, Copy, Debug)]
+pub(crate) enum Hint {
+    /// This sentence.
+    Sentence(&'static str),
+    /// Another key is meant, which is this one.
+    Meant(&'static str),
+    /// This key names a number that has a key for each half.
+    Halved(&'static str),
+}
+
+impl Hint {
+    /// Adds the line of the hint.
+    pub(crate) fn push(self, text: &mut String) -> Result<(), AllocError> {
+        match self {
+            Hint::Sentence(sentence) => write!(text, "hint: {sentence}\n"),
+            Hint::Meant(key) => write!(text, "hint: did you mean `{key}`?\n"),
+            Hint::Halved(key) => write!(
+                text,
+                "hint: did you mean `{key}_lo`? {key} has two halves, `{key}_lo` and `{key}_hi`\n"
+            ),
+        }
+    }
+}
+
+/// The hint for a text that spells no input.
+pub(crate) fn hint_of_input() -> Hint {
+    Hint::Sentence(INPUT)
+}
+
+/// The hint for a name of a set of calls where there is no file of names.
+pub(crate) fn hint_of_unknown() -> Hint {
+    Hint::Sentence(
+        "a file of names has the sets of calls: `--names policies/names/x86_64.toml` has x86_64",
+    )
+}
+
+/// Whether this fault fits a file in which the number of the instructions stands before them: its length is no multiple
+/// of 8, or one of its first two instructions is wrong.
+fn is_at_front(fault: &Fault) -> bool {
+    match fault {
+        Fault::Ragged { .. } => true,
+        Fault::Code { instruction, .. } | Fault::Field { instruction, .. } => *instruction < 2,
+        _ => false,
+    }
+}
+
+/// The hint for a file of this kind that is refused as a filter, for this fault. There is none where it seems to be a
+/// filter, nor for an empty file.
+pub(crate) fn hint_of_filter(kind: Kind, fault: &Fault) -> Option<Hint> {
+    let sentence = match kind {
+        Kind::Json => "this is JSON: a profile becomes a filter by `seccomp_audit profile`",
+        Kind::Text => "this is text, and a filter file holds the instructions' bytes",
+        Kind::Elf =>
+            "this is a program or a library, and a filter file holds only a filter's instructions",
+        Kind::Policy => "this is a policy: `audit --policy` takes it",
+        Kind::Names => "this is a file of names: each file of names wants its own `--names`",
+        Kind::BigEndian =>
+            "these instructions are big-endian, and only little-endian ones are read",
+        Kind::Counted if is_at_front(fault) => {
+            "the number of the instructions seems to stand before them, and a filter file holds only the instructions"
+        }
+        Kind::Counted | Kind::Bytes | Kind::Empty => return None,
+    };
+    Some(Hint::Sentence(sentence))
+}
+
+/// The hint for a file of this kind that is refused as a file of names. There is none where it seems to be one, nor for
+/// another text or an empty file.
+pub(crate) fn hint_of_names(kind: Kind) -> Option<Hint> {
+    let sentence = match kind {
+        Kind::Json => "this is JSON, and a file of names is TOML, as policies/names/x86_64.toml is",
+        Kind::Policy => "this is a policy: `audit --policy` takes it",
+        Kind::Bytes | Kind::BigEndian | Kind::Counted | Kind::Elf => {
+            "this is no text: were a file of names and a filter exchanged?"
+        }
+        Kind::Names | Kind::Text | Kind::Empty => return None,
+    };
+    Some(Hint::Sentence(sentence))
+}
+
+/// The hint for a file of this kind that is refused as a profile. There is none for JSON, which is what a profile is,
+/// nor for a file of names or an empty file.
+pub(crate) fn hint_of_profile(kind: Kind) -> Option<Hint> {
+    let sentence = match kind {
+        Kind::Policy => "this is a policy: `audit --policy` takes it",
+        Kind::Text => "this is text, and a profile is JSON",
+        Kind::Bytes | Kind::BigEndian | Kind::Counted | Kind::Elf => {
+            "this is no text: were the profile and a filter exchanged?"
+        }
+        Kind::Json | Kind::Names | Kind::Empty => return None,
+    };
+    Some(Hint::Sentence(sentence))
+}
+
+/// The hint for a file that can't be read, which is the sentence `ready`. It is given only if the path has no `/`, so
+/// that a name may have been given in place of a path, or if it is that of a folder.
+pub(crate) fn hint_of_unread(path: &str, reason: &str, ready: &'static str) -> Option<Hint> {
+    if path.contains('/') && !reason.starts_with("Is a directory") {
+        return None;
+    }
+    Some(Hint::Sentence(ready))
+}
+
+/// The hint for a file of this kind that is refused as a policy. There is none where it seems to be one, nor for
+/// another text or an empty file.
+fn hint_of_policy_file(kind: Kind) -> Option<Hint> {
+    let sentence = match kind {
+        Kind::Json => "this is JSON, and a policy is TOML, as policies/x86_64.toml is",
+        Kind::Names => "this is a file of names, and a policy has questions",
+        Kind::Bytes | Kind::BigEndian | Kind::Counted | Kind::Elf => {
+            "this is no text: were the policy and a filter exchanged?"
+        }
+        Kind::Policy | Kind::Text | Kind::Empty => return None,
+    };
+    Some(Hint::Sentence(sentence))
+}
+
+/// Whether a question may have this key.
+fn is_key_of_question(key: &str) -> bool {
+    key == "name" || key == "actions" || WORD_KEYS.iter().any(|known| *known == key)
+}
+
+/// The key that is meant by another one: by one of `MEANT`, or by the key of a word with capitals. None where no key is
+/// known to be meant.
+fn key_meant_by(key: &str) -> Option<&'static str> {
+    for (written, meant) in MEANT {
+        if key.eq_ignore_ascii_case(written) {
+            return Some(meant);
+        }
+    }
+    WORD_KEYS
+        .into_iter()
+        .find(|known| key.eq_ignore_ascii_case(*known))
+}
+
+/// The hint for an unknown key; none where it isn't known which one is meant.
+fn meant_by(key: &str) -> Option<Hint> {
+    for halved in HALVED {
+        if key.eq_ignore_ascii_case(halved) {
+            return Some(Hint::Halved(halved));
+        }
+    }
+    key_meant_by(key).map(|meant| Hint::Meant(meant))
+}
+
+/// The hint for a key that is refused at the top of a policy.
+fn hint_of_top_key(key: &str) -> Hint {
+    match key {
+        "question" => Hint::Sentence("each question begins with the line `[[question]]`"),
+        "questions" => Hint::Meant("question"),
+        _ if is_key_of_question(key) || meant_by(key).is_some() => {
+            Hint::Sentence("the keys of a question stand below its line `[[question]]`")
+        }
+        _ => Hint::Sentence("at the top of a policy stand only `version` and then the questions"),
+    }
+}
+
+/// What is said about the value of a word that is of a wrong kind.
+fn sentence_of_word(refusal: &Refusal, key: &str, value: &Value) -> &'static str {
+    match value {
+        Value::Table(_) if has_version_1(refusal) => {
+            "version 2 has masks: begin the policy with `version = 2`"
+        }
+        Value::Table(_) => {
+            "a table has `mask` and `value`, and if you want `low` and `high`, all of them whole numbers"
+        }
+        Value::Array(_) => "an array has two whole numbers, the lowest and the highest",
+        Value::String(_) if key == "nr" => {
+            "the number of the call is wanted: the names and their numbers stand in policies/names"
+        }
+        _ => "a whole number is wanted: leave a word out that may have any value",
+    }
+}
+
+/// Whether a policy names version 1.
+fn has_version_1(refusal: &Refusal) -> bool {
+    match &refusal.read {
+        Ok(tree) => matches!(tree.get("version"), Some(Value::Integer(1))),
+        Err(_) => false,
+    }
+}
+
+/// The hint for a key of a question that is refused since it is unknown, or its value of a wrong kind.
+fn hint_of_question_key(refusal: &Refusal, key: &str, value: &Value) -> Hint {
+    match key {
+        "name" => Hint::Sentence("a name is a text in quotes"),
+        "actions" => Hint::Sentence("`actions` is an array of texts, as [\"ALLOW\", \"LOG\"]"),
+        _ if is_key_of_question(key) => Hint::Sentence(sentence_of_word(refusal, key, value)),
+        _ => meant_by(key).unwrap_or(Hint::Sentence(
+            "a question has the keys name, actions, nr, arch, ip_lo, ip_hi, and arg0_lo, arg0_hi to arg5_lo, arg5_hi",
+        )),
+    }
+}
+
+/// The hint for a number outside 32 bits. There is none where the value is no single number, nor where a number at `nr`
+/// or `arch` is too large: these words are no halves of a longer number.
+fn hint_of_range(key: &str, value: &Value) -> Option<Hint> {
+    match value {
+        Value::Integer(number) if *number < 0 => Some(Hint::Sentence(
+            "a negative number is written by its 32 bits, as 0xffffffff for -1",
+        )),
+        Value::Integer(_) if key != "nr" && key != "arch" => Some(Hint::Sentence(
+            "a number of 64 bits is asked for by its two halves, at the keys with `_lo` and `_hi`",
+        )),
+        _ => None,
+    }
+}
+
+/// The hint for a policy that is refused at a key that it has, with this value; none for some faults.
+fn hint_of_key(refusal: &Refusal, key: &str, value: &Value) -> Option<Hint> {
+    match refusal.fault {
+        Fault::TopKey => Some(hint_of_top_key(key)),
+        Fault::Key { .. } => Some(hint_of_question_key(refusal, key, value)),
+        Fault::Range { .. } => hint_of_range(key, value),
+        Fault::Actions { .. } => Some(Hint::Sentence(
+            "the actions are KILL_PROCESS, KILL_THREAD, TRAP, ERRNO, USER_NOTIF, TRACE, LOG, ALLOW and OTHER",
+        )),
+        _ => None,
+    }
+}
+
+/// The hint for a policy that is TOML and is refused for what it says. None where it is refused for a key that is
+/// missing, or where nothing is known to be meant. An error where an allocation is refused.
+fn hint_of_refusal(alloc: Global, refusal: &Refusal) -> Result<Option<Hint>, AllocError> {
+    if refusal.fault == Fault::Version {
+        return Ok(Some(Hint::Sentence("a policy begins with `version = 2`")));
+    }
+    if refusal.fault == Fault::Count && refusal.items().is_empty() {
+        return Ok(Some(hint_of_top_key("question")));
+    }
+    let key = refusal.key(alloc)?;
+    match refusal.table() {
+        Some(table) => match table.get(key) {
+            Some(value) => Ok(hint_of_key(refusal, key, value)),
+            None => Ok(None),
+        },
+        None => Ok(None),
+    }
+}
+
+/// The hint for a policy that is refused: about what the file is, or else about the key at which it is refused. An
+/// error where an allocation is refused.
+pub(crate) fn hint_of_policy(
+    alloc: Global,
+    kind: Kind,
+    refusal: &Option<Refusal>,
+) -> Result<Option<Hint>, AllocError> {
+    match (hint_of_policy_file(kind), refusal) {
+        (None, Some(refusal)) => hint_of_refusal(alloc, refusal),
+        (hint, _) => Ok(hint),
+    }
+}

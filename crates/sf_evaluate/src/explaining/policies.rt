@@ -1,0 +1,129 @@
+//! What is shown of a policy that is refused. It is safe on a terminal: long texts are cut, and characters that a
+//! terminal obeys or hides are replaced.
+
+use super::places::{line_of, position_of};
+use sf_policy::{Fault, MOST_QUESTIONS, Refusal};
+use std::alloc::{AllocError, Global};
+use toml::de::Error;
+
+/// The most characters of a line, a name or a key that are shown.
+const MOST_CHARACTERS: usize = 160;
+
+/// The characters of a text that are shown, and the mark behind them: ` ..` where the text was cut there, else nothing.
+/// An error where an allocation is refused.
+fn front_of(alloc: Global, text: &str) -> Result<(String, &'static str), AllocError> {
+    let mut front = String::new(alloc);
+    for character in text.chars().take(MOST_CHARACTERS) {
+        front.push(character)?;
+    }
+    let mark = if front.len() < text.len() { " .." } else { "" };
+    Ok((front, mark))
+}
+
+/// Adds a character of a line: a blank for a control character, and its number for another one that can't be seen.
+fn push_character(text: &mut String, character: char) -> Result<(), AllocError> {
+    if character.is_control() {
+        return text.push(' ');
+    }
+    if character.is_ascii() {
+        return text.push(character);
+    }
+    for shown in character.escape_debug() {
+        text.push(shown)?;
+    }
+    Ok(())
+}
+
+/// A policy that is refused, and the text that gets what is shown of it.
+#[derive(Drop)]
+pub struct Page<'a> {
+    /// The allocator of what is added.
+    pub alloc: Global,
+    /// The text to which lines are added.
+    pub text: &'a mut String,
+    /// The text of the policy, without a byte order mark.
+    pub policy: &'a str,
+}
+
+impl Page<'_> {
+    /// Adds a name or a key in quotes, and the end of the line.
+    fn push_quoted(&mut self, quoted: &str) -> Result<(), AllocError> {
+        let (front, mark) = front_of(self.alloc, quoted)?;
+        write!(self.text, "{front:?}{mark}\n")
+    }
+
+    /// Adds `: ` and the text of the policy's line with this number, from 1, and the end of the line.
+    fn push_line(&mut self, number: usize) -> Result<(), AllocError> {
+        let lines = &mut self.policy.lines();
+        let line = lines.nth(number.saturating_sub(1)).unwrap_or("");
+        let (front, mark) = front_of(self.alloc, line)?;
+        self.text.push_str(": ")?;
+        for character in front.chars() {
+            push_character(self.text, character)?;
+        }
+        write!(self.text, "{mark}\n")
+    }
+
+    /// Adds the line on which a key stands, or without a key the one on which a question begins; nothing where that
+    /// isn't found. Without a question's number the key is one at the top.
+    fn push_place(&mut self, question: Option<usize>, key: Option<&str>) -> Result<(), AllocError> {
+        let Some(number) = line_of(self.alloc, self.policy, question, key) else {
+            return Ok(());
+        };
+        write!(self.text, "line {number}")?;
+        self.push_line(number)
+    }
+
+    /// Adds why the policy is no TOML, and where. The place of the error counts the `hidden` bytes before the policy's
+    /// text too. An error where an allocation is refused, or was while the policy was read: then there is no place.
+    fn push_syntax(&mut self, error: &Error, hidden: usize) -> Result<(), AllocError> {
+        let Some(span) = error.span() else {
+            return Err(AllocError);
+        };
+        let message = error.message();
+        let (line, column) = position_of(self.policy.as_bytes(), span.start.saturating_sub(hidden));
+        write!(self.text, "{message}\nline {line} column {column}")?;
+        self.push_line(line)
+    }
+
+    /// Adds the key that is refused or missing, and its line; for a missing one, the line of its question.
+    fn push_key(&mut self, refusal: &Refusal) -> Result<(), AllocError> {
+        let key = refusal.key(self.alloc)?;
+        let question = refusal.question();
+        if refusal.table().is_some_and(|table| table.contains_key(key)) {
+            self.text.push_str("key ")?;
+            self.push_quoted(key)?;
+            return self.push_place(question, Some(key));
+        }
+        self.text.push_str("no key ")?;
+        self.push_quoted(key)?;
+        self.push_place(question, None)
+    }
+
+    /// Adds where the policy is refused, as far as that is known. `hidden` is the length in bytes of the byte order
+    /// mark before the policy's text. An error where an allocation is refused.
+    pub fn push_refusal(&mut self, refusal: &Refusal, hidden: usize) -> Result<(), AllocError> {
+        if let Err(error) = &refusal.read {
+            return self.push_syntax(error, hidden);
+        }
+        let count = refusal.items().len();
+        if refusal.fault == Fault::Count && MOST_QUESTIONS < count {
+            write!(
+                self.text,
+                "questions {count}, and {MOST_QUESTIONS} are the most\n"
+            )?;
+            return self.push_place(Some(MOST_QUESTIONS + 1), None);
+        }
+        if let Some(number) = refusal.question() {
+            write!(self.text, "question {number}")?;
+            match refusal.name() {
+                Some(name) => {
+                    self.text.push_str(" ")?;
+                    self.push_quoted(name)?;
+                }
+                None => self.text.push_str("\n")?,
+            }
+        }
+        self.push_key(refusal)
+    }
+}

@@ -1,0 +1,73 @@
+//! What is said of a profile that is refused, or of the set of names for which it is.
+
+use crate::explaining::Notes;
+use clap::ArgMatches;
+use sf_command_line::text_of;
+use std::alloc::AllocError;
+
+/// A set of names that is none of the five sets of calls.
+#[derive(Drop)]
+pub(crate) struct OtherSet {
+    /// Its place among all sets that were read, counted from 0.
+    pub(crate) place: usize,
+    /// Its name.
+    pub(crate) name: String,
+}
+
+/// Adds the line of the file of names with the unknown set, and the line of this set where the file has several. An
+/// error where there was no memory to keep which file it is.
+fn push_unknown_set(
+    text: &mut String,
+    found: &ArgMatches<'_>,
+    notes: &Notes,
+    other: &OtherSet,
+) -> Result<(), AllocError> {
+    let Some((file, count)) = notes.file_of_set(other.place) else {
+        return Err(AllocError);
+    };
+    let path = match found.get_strs("names").unwrap_or(&[]).get(file) {
+        Some(path) => *path,
+        None => "",
+    };
+    write!(text, "names {path:?}\n")?;
+    if count > 1 {
+        let set = &other.name;
+        write!(text, "set {set:?}\n")?;
+    }
+    Ok(())
+}
+
+/// Adds the line of the profile, and that of the key for which it is refused, where one is known. An error where there
+/// was no memory to keep the key, or an allocation is refused.
+fn push_refused_profile(
+    text: &mut String,
+    found: &ArgMatches<'_>,
+    notes: &Notes,
+) -> Result<(), AllocError> {
+    let path = text_of(found, "profile");
+    write!(text, "profile {path:?}\n")?;
+    match &notes.key {
+        Ok(Some(key)) => push_key(text, key),
+        Ok(None) => Ok(()),
+        Err(_) => Err(AllocError),
+    }
+}
+
+/// Adds the lines of what `profile` refuses: a set of names, or the profile. An error where there was no memory to keep
+/// which set or key it is, or an allocation is refused.
+pub(crate) fn push_profile(
+    text: &mut String,
+    found: &ArgMatches<'_>,
+    notes: &Notes,
+) -> Result<(), AllocError> {
+    match &notes.other {
+        Ok(Some(other)) => push_unknown_set(text, found, notes, other),
+        Ok(None) => push_refused_profile(text, found, notes),
+        Err(_) => Err(AllocError),
+    }
+}
+
+/// Adds the line of a key.
+fn push_key(text: &mut String, key: &str) -> Result<(), AllocError> {
+    write!(text, "key {key:?}\n")
+}

@@ -1,0 +1,108 @@
+//! The files that say what a build expects of an audit.
+
+ghost use Rattle.std.specs.Prelude.{◌≡◌, ◌⊎◌, ℕ, List, None, Some, codes, map, option_map, string_bytes, IfOk, IfErr};
+ghost use Rattle.clap.specs.Words.{found_of, rows_of};
+ghost use Rattle.sf_policy.specs.Accepted.{AreAccepted};
+ghost use Rattle.sf_policy.specs.declared.fault.Fault.TheVariants.{Memory as MemoryFault, Read as ReadFault};
+ghost use Rattle.sf_command_line.specs.Options.{paths_of};
+ghost use Rattle.sf_evaluate.specs.Files.{AreKnownBytes};
+ghost use Rattle.sf_evaluate.specs.Expecting.{AreAcceptedIn, IsAcceptFile, IsControl, RefusesAccepted, RefusesControl, RefusesNamed, audit_words_fit};
+
+use super::questions::questions_in;
+use crate::explaining::Notes;
+use crate::files::Files;
+use crate::words::is_among;
+use clap::ArgMatches;
+use sf_ask::Question;
+use sf_command_line::given_text;
+use sf_policy::{Fault, read_accepted};
+use std::alloc::Global;
+
+/// The questions of the control, whose policy file is at a path; none where no path is given. `Read` where the file
+/// can't be read, `Syntax` where it isn't UTF-8, then what `read_policy` refuses; `Memory` can come anywhere.
+pub fn control_in<F: Files>(
+    alloc: Global,
+    path: Option<&str>,
+    files: &mut F,
+    notes: &mut Notes,
+) -> Result<Vec<Question>, Fault>
+    ensures asked { IfOk result (λ v. IsControl (F.holds files.old)
+        (option_map (λ t. t.now) path.entry) v.items) }
+    ensures refused { IfErr result (RefusesControl (F.holds files.old)
+        (option_map (λ t. t.now) path.entry)) }
+    ensures same { (p : List ℕ) → F.holds files.new p ≡ F.holds files.old p }
+{
+    match path {
+        Some(path) => questions_in(alloc, path, files, notes),
+        None => Ok(Vec::new(alloc)),
+    }
+}
+
+/// The names of the questions that may be allowed, by the bytes of their file. `Syntax` where these are no UTF-8, then
+/// what `read_accepted` refuses; `Memory` can come anywhere.
+fn accepted_of(alloc: Global, bytes: &[u8], questions: &[Question]) -> Result<Vec<String>, Fault>
+    ensures named { IfOk result (λ v. AreAccepted questions.now bytes.now
+        (map string_bytes v.items)) }
+    ensures refused { IfErr result (λ e. (e ≡ MemoryFault)
+        ⊎ RefusesNamed questions.now bytes.now e) }
+{
+    match std::str::from_utf8(bytes) {
+        Ok(text) => read_accepted(alloc, text, questions),
+        Err(_) => Err(Fault::Syntax),
+    }
+}
+
+/// The names of the questions that may be allowed, by the file at a path. `Read` where it can't be read, then what
+/// `accepted_of` refuses.
+fn accepted_at<F: Files>(
+    alloc: Global,
+    path: &str,
+    questions: &[Question],
+    files: &mut F,
+    notes: &mut Notes,
+) -> Result<Vec<String>, Fault>
+    ensures named { IfOk result (λ v. IsAcceptFile (F.holds files.old path.now) questions.now
+        (map string_bytes v.items)) }
+    ensures refused { IfErr result (λ e. ((e ≡ ReadFault)
+        × (F.holds files.old path.now ≡ None)) ⊎ (e ≡ MemoryFault)
+        ⊎ ((bytes : List ℕ) × AreKnownBytes (F.holds files.old path.now) bytes
+        × RefusesNamed questions.now bytes e)) }
+    ensures same { (p : List ℕ) → F.holds files.new p ≡ F.holds files.old p }
+{
+    let bytes = files.read(path)?;
+    notes.count_file(bytes.as_slice());
+    accepted_of(alloc, &bytes, questions)
+}
+
+/// The names of the questions that may be allowed, whose file is at a path; none where no path is given. Refusals,
+/// tried in this order: `Read` where the file can't be read; `Syntax` where it isn't UTF-8; `Accepted` at the first
+/// line with two words, or with a word that isn't the name of just one of the questions. `Memory` can come anywhere.
+pub fn accepted_in<F: Files>(
+    alloc: Global,
+    path: Option<&str>,
+    questions: &[Question],
+    files: &mut F,
+    notes: &mut Notes,
+) -> Result<Vec<String>, Fault>
+    ensures named { IfOk result (λ v. AreAcceptedIn (F.holds files.old)
+        (option_map (λ t. t.now) path.entry) questions.now (map string_bytes v.items)) }
+    ensures refused { IfErr result (RefusesAccepted (F.holds files.old)
+        (option_map (λ t. t.now) path.entry) questions.now) }
+    ensures same { (p : List ℕ) → F.holds files.new p ≡ F.holds files.old p }
+{
+    match path {
+        Some(path) => accepted_at(alloc, path, questions, files, notes),
+        None => Ok(Vec::new(alloc)),
+    }
+}
+
+/// Whether the words of `audit` fit: the path behind `--control`, if it is given, is none of those behind `--policy`.
+pub fn audit_words_fit(found: &ArgMatches<'_>) -> bool
+    ensures { result ≡ audit_words_fit (rows_of (found_of found.now)) }
+{
+    let policies = found.get_strs("policy").unwrap_or(&[]);
+    match given_text(found, "control") {
+        Some(path) => !is_among(path, policies),
+        None => true,
+    }
+}

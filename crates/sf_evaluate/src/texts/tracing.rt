@@ -1,0 +1,334 @@
+//! The text of `eval --trace`: the input, and how each filter comes to its return value.
+ghost use Rattle.std.specs.Prelude.{◌≡◌, ◌<◌, ◌++◌, ◌==◌, ◌&&◌, ◌||◌, not, false, OnOk, IfOk, Some, length, string_bytes};
+ghost use Rattle.sf_run.specs.Answers.{action_bits, action_number};
+ghost use Rattle.sf_run.specs.Walks.{CourseData, walk_of};
+ghost use Rattle.sf_evaluate.specs.Traces.{call_line, call_text, compared_text, field_line, fields_text, filters_text, first_arguments, input_text, is_false, last_arguments, stands_text, meeting_line, meeting_lines, named_line, named_text, nr_line, returned_line, shown_line, sign_text, test_line, trace_text, truth_text, walk_text, word_text};
+
+use crate::comparisons::{Comparison, is_false, sign_of};
+use sf_calls::{is_named, push_call_words};
+use sf_check::{Program, Stack};
+use sf_insn::Input;
+use sf_names::{Names, push_names_between};
+use sf_policy::{WORD_KEYS, push_action};
+use sf_run::{Action, Answer, Course, Fault, Meeting, Met, walk};
+use std::alloc::{AllocError, Global};
+
+/// Adds a word as a hexadecimal number.
+fn push_word(text: &mut String, word: u32) -> Result<(), AllocError>
+    ensures { OnOk result (string_bytes text.new ≡ string_bytes text.old ++ word_text word) }
+{
+    write!(text, "0x{word:08X}")
+}
+
+/// Adds the line of a field of 64 bits, from its low and its high half.
+fn push_field(text: &mut String, name: &str, low: u32, high: u32) -> Result<(), AllocError>
+    ensures { OnOk result (string_bytes text.new ≡ string_bytes text.old
+        ++ field_line name.now low high) }
+{
+    write!(text, "{name} ")?;
+    push_word(text, high)?;
+    write!(text, "{low:08X}\n")
+}
+
+/// Adds the line of the call's number, with its names on its architecture.
+fn push_nr(text: &mut String, names: &[Names], arch: u32, nr: u32) -> Result<(), AllocError>
+    ensures { OnOk result (string_bytes text.new ≡ string_bytes text.old
+        ++ nr_line names.now arch nr) }
+{
+    write!(text, "nr 0x{nr:08X} {nr}")?;
+    push_names_between(text, 0, names, arch, nr, nr)?;
+    text.push_str("\n")?;
+    Ok(())
+}
+
+/// Adds the lines of the call's number, with its names, the architecture and the instruction pointer.
+fn push_call(text: &mut String, names: &[Names], input: &Input) -> Result<(), AllocError>
+    ensures { OnOk result (string_bytes text.new ≡ string_bytes text.old
+        ++ call_text names.now input.now) }
+{
+    let arch = input.words[1];
+    push_nr(text, names, arch, input.words[0])?;
+    write!(text, "arch 0x{arch:08X}\n")?;
+    push_field(text, "ip", input.words[2], input.words[3])
+}
+
+/// Adds the lines of the arguments 0 to 2.
+fn push_first_arguments(text: &mut String, input: &Input) -> Result<(), AllocError>
+    ensures { OnOk result (string_bytes text.new ≡ string_bytes text.old
+        ++ first_arguments input.now) }
+{
+    push_field(text, "arg0", input.words[4], input.words[5])?;
+    push_field(text, "arg1", input.words[6], input.words[7])?;
+    push_field(text, "arg2", input.words[8], input.words[9])
+}
+
+/// Adds the lines of the arguments 3 to 5.
+fn push_last_arguments(text: &mut String, input: &Input) -> Result<(), AllocError>
+    ensures { OnOk result (string_bytes text.new ≡ string_bytes text.old
+        ++ last_arguments input.now) }
+{
+    push_field(text, "arg3", input.words[10], input.words[11])?;
+    push_field(text, "arg4", input.words[12], input.words[13])?;
+    push_field(text, "arg5", input.words[14], input.words[15])
+}
+
+/// Adds the lines of all fields of an input.
+fn push_fields(text: &mut String, names: &[Names], input: &Input) -> Result<(), AllocError>
+    ensures { OnOk result (string_bytes text.new ≡ string_bytes text.old
+        ++ fields_text names.now input.now) }
+{
+    push_call(text, names, input)?;
+    push_first_arguments(text, input)?;
+    push_last_arguments(text, input)
+}
+
+/// Adds the line of an input as a call.
+pub(crate) fn push_call_line(
+    text: &mut String,
+    names: &[Names],
+    input: &Input,
+) -> Result<(), AllocError>
+    ensures { OnOk result (string_bytes text.new ≡ string_bytes text.old
+        ++ call_line names.now input.now) }
+{
+    text.push_str("call ")?;
+    push_call_words(text, names, input)?;
+    text.push_str("\n")?;
+    Ok(())
+}
+
+/// Adds the line of an input as a call, if a set has the call.
+fn push_named(text: &mut String, names: &[Names], input: &Input) -> Result<(), AllocError>
+    ensures { OnOk result (string_bytes text.new ≡ string_bytes text.old
+        ++ named_line names.now input.now) }
+{
+    if is_named(names, input) {
+        push_call_line(text, names, input)?;
+    }
+    Ok(())
+}
+
+/// Adds the line of an input as a call, if a set has the call, and the lines of all its fields.
+fn push_input(text: &mut String, names: &[Names], input: &Input) -> Result<(), AllocError>
+    ensures { OnOk result (string_bytes text.new ≡ string_bytes text.old
+        ++ input_text names.now input.now) }
+{
+    push_named(text, names, input)?;
+    push_fields(text, names, input)
+}
+
+/// The text of a truth value.
+fn truth_of(truth: bool) -> &'static str
+    ensures { result.now ≡ truth_text truth }
+{
+    if truth { "true" } else { "false" }
+}
+
+/// Adds the end of the line of a comparison: its sign, the other number and the result.
+fn push_compared(text: &mut String, sign: &str, other: u32, truth: bool) -> Result<(), AllocError>
+    ensures { OnOk result (string_bytes text.new ≡ string_bytes text.old
+        ++ compared_text sign.now other truth) }
+{
+    let truth = truth_of(truth);
+    write!(text, " {sign} 0x{other:08X} {truth}\n")
+}
+
+/// Adds the name of the word of the input at a place, 0 to 15, and a blank; nothing where there is no word.
+fn push_name(text: &mut String, word: Option<u8>) -> Result<(), AllocError>
+    ensures { OnOk result (string_bytes text.new ≡ string_bytes text.old ++ named_text word) }
+{
+    let Some(word) = word else {
+        return Ok(());
+    };
+    let name = WORD_KEYS.get(usize::from(word)).copied().unwrap_or("");
+    write!(text, "{name} ")
+}
+
+/// Adds the line of a comparison that the filter with this number makes.
+fn push_test(text: &mut String, number: usize, compared: &Comparison) -> Result<(), AllocError>
+    ensures { OnOk result (string_bytes text.new ≡ string_bytes text.old
+        ++ test_line number compared.now.place compared.now.word compared.now.value
+        compared.now.sign.now compared.now.other compared.now.truth) }
+{
+    let place = compared.place;
+    write!(text, "filter {number} instruction {place} ")?;
+    push_name(text, compared.word)?;
+    push_word(text, compared.value)?;
+    push_compared(text, compared.sign, compared.other, compared.truth)
+}
+
+/// Adds the line of what an instruction of the filter with this number met: a comparison with its result, or that the
+/// number in A is returned. A division by X is a comparison of X with 0.
+pub(crate) fn push_meeting(
+    text: &mut String,
+    number: usize,
+    meeting: Meeting,
+) -> Result<(), AllocError>
+    ensures { OnOk result (string_bytes text.new ≡ string_bytes text.old
+        ++ meeting_line number meeting) }
+{
+    let place = meeting.place;
+    match meeting.met {
+        Met::Tested(test, a, other, passed) => {
+            let compared = Comparison {
+                place,
+                word: meeting.word,
+                value: a,
+                sign: sign_of(test),
+                other,
+                truth: passed,
+            };
+            push_test(text, number, &compared)
+        }
+        Met::Divided(x) => {
+            let compared = Comparison {
+                place,
+                word: None,
+                value: x,
+                sign: "=",
+                other: 0,
+                truth: x == 0,
+            };
+            push_test(text, number, &compared)
+        }
+        Met::Returned(a) => write!(
+            text,
+            "filter {number} instruction {place} 0x{a:08X} returned\n"
+        ),
+    }
+}
+
+/// Adds the line of what a filter met; with `brief` nothing where that is a comparison that is false.
+fn push_shown(
+    text: &mut String,
+    brief: bool,
+    number: usize,
+    meeting: Meeting,
+) -> Result<(), AllocError>
+    ensures { OnOk result (string_bytes text.new ≡ string_bytes text.old
+        ++ shown_line brief number meeting) }
+{
+    if brief && is_false(meeting.met) {
+        return Ok(());
+    }
+    push_meeting(text, number, meeting)
+}
+
+/// Adds the lines of all that a filter met, in order.
+fn push_meetings(
+    text: &mut String,
+    brief: bool,
+    number: usize,
+    met: &[Meeting],
+) -> Result<(), AllocError>
+    ensures { OnOk result (string_bytes text.new ≡ string_bytes text.old
+        ++ meeting_lines brief number met.now) }
+{
+    for meeting in met {
+        push_shown(text, brief, number, *meeting)?;
+    }
+    Ok(())
+}
+
+/// The word behind a filter whose answer stands; no text where it does not.
+fn mark_of(stands: bool) -> &'static str
+    ensures { result.now ≡ stands_text stands }
+{
+    if stands { " stands" } else { "" }
+}
+
+/// Adds the line of what a filter returns: an action and its data, `info`. `number` is that of the filter, `place` that
+/// of the instruction that returns. The answer stands where it is the answer of the stack.
+pub(crate) fn push_return(
+    text: &mut String,
+    number: usize,
+    place: usize,
+    action: Action,
+    info: u32,
+    stands: bool,
+) -> Result<(), AllocError>
+    ensures { OnOk result (string_bytes text.new ≡ string_bytes text.old
+        ++ returned_line number place action info stands) }
+{
+    write!(text, "filter {number} ")?;
+    push_action(text, action)?;
+    let mark = mark_of(stands);
+    write!(text, " {info} instruction {place}{mark}\n")
+}
+
+/// What a trace shows.
+#[derive(Clone, Copy, Drop)]
+pub struct Trace<'a> {
+    /// The stack that is run.
+    pub stack: &'a Stack,
+    /// The input that it is run on.
+    pub input: &'a Input,
+    /// The answer of the stack.
+    pub answer: Answer,
+    /// Whether comparisons that are false are left out.
+    pub brief: bool,
+    /// Names of calls, which are shown beside their numbers.
+    pub names: &'a [Names],
+}
+
+/// Adds the lines of the filter with this number, and says whether its answer stands: it returns the action of the
+/// stack's answer, and the answer of no newer filter stood, as `stood` says. The upper 16 bits of its return value are
+/// the action, the lower 16 the data. `Memory` where an allocation is refused.
+fn push_filter(
+    alloc: Global,
+    text: &mut String,
+    trace: &Trace<'_>,
+    number: usize,
+    program: &Program,
+    stood: bool,
+) -> Result<bool, Fault>
+    ensures { IfOk result (λ b. (w : CourseData)
+        × (walk_of program.now trace.now.input.now ≡ Some w)
+        × (b ≡ (not stood && (action_bits w.value == action_number trace.now.answer.action)))
+        × (string_bytes text.new ≡ string_bytes text.old
+        ++ walk_text trace.now.brief number b w)) }
+{
+    let run = walk(alloc, program, trace.input)?;
+    let action = run.value & 0xffff0000;
+    let stands = !stood && action == trace.answer.action.number();
+    push_return(
+        text,
+        number,
+        run.place,
+        Action::of_number(action),
+        run.value & 0xffff,
+        stands,
+    )?;
+    push_meetings(text, trace.brief, number, &run.met)?;
+    Ok(stands)
+}
+
+/// Adds the lines of all filters, newest first.
+fn push_filters(alloc: Global, text: &mut String, trace: &Trace<'_>) -> Result<(), Fault>
+    ensures { OnOk result (string_bytes text.new ≡ string_bytes text.old
+        ++ filters_text trace.now.brief (length trace.now.stack.now)
+        (action_number trace.now.answer.action) trace.now.stack.now trace.now.input.now false) }
+{
+    let programs = trace.stack.programs();
+    let mut stood = false;
+    for i in 0..programs.len() {
+        let number = programs.len() - i;
+        let program = &programs[number - 1];
+        let stands = push_filter(alloc, text, trace, number, program, stood)?;
+        stood = stood || stands;
+    }
+    Ok(())
+}
+
+/// Adds the lines of `eval --trace`. First comes the input as a call, if a set has the call, and then its fields. Then
+/// comes each filter, newest first: what it returns and at which instruction, whether its answer is the stack's, and
+/// under it what it met, in order. In brief, comparisons that are false are left out. `Memory` where an allocation is
+/// refused.
+pub fn push_trace(alloc: Global, text: &mut String, trace: &Trace<'_>) -> Result<(), Fault>
+    ensures { OnOk result (string_bytes text.new ≡ string_bytes text.old
+        ++ trace_text trace.now.brief trace.now.names.now trace.now.stack.now
+        trace.now.input.now trace.now.answer) }
+{
+    push_input(text, trace.names, trace.input)?;
+    push_filters(alloc, text, trace)
+}

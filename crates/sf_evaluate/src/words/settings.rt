@@ -1,0 +1,235 @@
+//! What the words behind the options of `profile` say.
+
+ghost use Rattle.std.specs.Prelude.{◌≡◌, IfErr, IfOk, codes, map, string_bytes, true};
+ghost use Rattle.std.specs.List.{list_all, list_any};
+ghost use Rattle.std.specs.Str.{bytes_eq};
+ghost use Rattle.clap.specs.Words.{found_of, rows_of};
+ghost use Rattle.sf_command_line.specs.Options.{paths_of};
+ghost use Rattle.sf_policy.specs.declared.fault.Fault.TheVariants.{Memory as MemoryFault};
+ghost use Rattle.sf_evaluate.specs.Profiles.{AreSettings, capabilities, is_capability, is_kernel, machine_named, reading_named, profile_words_fit};
+
+use clap::ArgMatches;
+use sf_command_line::{text_of, wants_newer};
+use sf_policy::Fault;
+use sf_profile::{CallSet, Calls, Reading, Settings, version_of};
+use std::alloc::{AllocError, Global};
+use std::io::Write;
+
+/// The capabilities of linux/capability.h, in the order of their numbers.
+const CAPABILITIES: [&str; 41] = [
+    "CAP_CHOWN",
+    "CAP_DAC_OVERRIDE",
+    "CAP_DAC_READ_SEARCH",
+    "CAP_FOWNER",
+    "CAP_FSETID",
+    "CAP_KILL",
+    "CAP_SETGID",
+    "CAP_SETUID",
+    "CAP_SETPCAP",
+    "CAP_LINUX_IMMUTABLE",
+    "CAP_NET_BIND_SERVICE",
+    "CAP_NET_BROADCAST",
+    "CAP_NET_ADMIN",
+    "CAP_NET_RAW",
+    "CAP_IPC_LOCK",
+    "CAP_IPC_OWNER",
+    "CAP_SYS_MODULE",
+    "CAP_SYS_RAWIO",
+    "CAP_SYS_CHROOT",
+    "CAP_SYS_PTRACE",
+    "CAP_SYS_PACCT",
+    "CAP_SYS_ADMIN",
+    "CAP_SYS_BOOT",
+    "CAP_SYS_NICE",
+    "CAP_SYS_RESOURCE",
+    "CAP_SYS_TIME",
+    "CAP_SYS_TTY_CONFIG",
+    "CAP_MKNOD",
+    "CAP_LEASE",
+    "CAP_AUDIT_WRITE",
+    "CAP_AUDIT_CONTROL",
+    "CAP_SETFCAP",
+    "CAP_MAC_OVERRIDE",
+    "CAP_MAC_ADMIN",
+    "CAP_SYSLOG",
+    "CAP_WAKE_ALARM",
+    "CAP_BLOCK_SUSPEND",
+    "CAP_AUDIT_READ",
+    "CAP_PERFMON",
+    "CAP_BPF",
+    "CAP_CHECKPOINT_RESTORE",
+];
+
+/// The set of calls that a machine's own programs use, by the machine's word; none where a text is no such word.
+fn machine_named(text: &str) -> Option<CallSet>
+    ensures { result ≡ machine_named text.now }
+{
+    match text {
+        "x86_64" => Some(CallSet::X64),
+        "i386" => Some(CallSet::I386),
+        "aarch64" => Some(CallSet::Aarch64),
+        "arm" => Some(CallSet::Arm),
+        _ => None,
+    }
+}
+
+/// Which of several rules of a profile counts for a call, by the word of `--conflicts`; none where a text is no such
+/// word.
+fn reading_named(text: &str) -> Option<Reading>
+    ensures { result ≡ reading_named text.now }
+{
+    match text {
+        "strictest" => Some(Reading::Strictest),
+        "mildest" => Some(Reading::Mildest),
+        "first" => Some(Reading::First),
+        _ => None,
+    }
+}
+
+/// Whether a text is one of these.
+fn has_text(texts: &[&str], text: &str) -> bool
+    ensures { result ≡ list_any (λ t. bytes_eq text.now t.now) texts.now }
+{
+    texts.iter().any(|one| text == *one)
+}
+
+/// Whether a text is one of these. For the prover: its clause speaks of the texts themselves.
+pub(crate) fn is_among(text: &str, texts: &[&str]) -> bool
+    ensures { result ≡ list_any (bytes_eq text.now) (map (λ t. t.now) texts.now) }
+{
+    has_text(texts, text)
+}
+
+/// Whether a text is the name of a capability.
+fn is_capability(text: &str) -> bool
+    ensures { result ≡ is_capability text.now }
+{
+    is_among(text, CAPABILITIES.as_slice())
+}
+
+/// Whether each text is the name of a capability.
+fn are_capabilities(texts: &[&str]) -> bool
+    ensures { result ≡ list_all (λ t. is_capability t.now) texts.now }
+{
+    texts.iter().all(|text| is_capability(text))
+}
+
+/// Whether the capabilities that are given have known names.
+fn caps_fit(found: &ArgMatches<'_>) -> bool
+    ensures { result ≡ list_all is_capability (paths_of (codes "cap")
+        (rows_of (found_of found.now))) }
+{
+    are_capabilities(found.get_strs("cap").unwrap_or(&[]))
+}
+
+/// Whether a text is empty, as where no version is given, or the version of a kernel, such as 6.12.
+fn is_kernel(text: &str) -> bool
+    ensures { result ≡ is_kernel text.now }
+{
+    text.is_empty() || version_of(text).is_some()
+}
+
+/// Whether the words behind the options of `profile` are among those that these take.
+pub fn profile_words_fit(found: &ArgMatches<'_>) -> bool
+    ensures { result ≡ profile_words_fit (rows_of (found_of found.now)) }
+{
+    machine_named(text_of(found, "machine")).is_some()
+        && reading_named(text_of(found, "conflicts")).is_some()
+        && is_kernel(text_of(found, "kernel"))
+        && caps_fit(found)
+}
+
+/// Copies of these texts, which own their bytes. An error where an allocation is refused.
+fn strings_of(alloc: Global, texts: &[&str]) -> Result<Vec<String>, AllocError>
+    ensures { IfOk result (λ v. map string_bytes v.items ≡ map (λ t. t.now) texts.now) }
+{
+    let mut strings = Vec::new(alloc);
+    for text in texts {
+        let string = String::from_str(alloc, text)?;
+        strings.push(string)?;
+    }
+    Ok(strings)
+}
+
+/// The settings with which a profile is read: what the options say (machine, capabilities, kernel and so on), and these
+/// calls. The caller's condition: the words behind the options fit. So none is unknown, and the values that stand here
+/// for unknown ones aren't used. `Memory` where an allocation is refused.
+pub(crate) fn settings_of(
+    alloc: Global,
+    found: &ArgMatches<'_>,
+    calls: Vec<Calls>,
+) -> Result<Settings, Fault>
+    requires { profile_words_fit (rows_of (found_of found.now)) ≡ true }
+    ensures words { IfOk result (AreSettings (rows_of (found_of found.now))) }
+    ensures calls { IfOk result (λ s. s.calls.items ≡ calls.items) }
+    ensures refused { IfErr result (λ e. e ≡ MemoryFault) }
+{
+    let caps = found.get_strs("cap").unwrap_or(&[]);
+    Ok(Settings {
+        machine: machine_named(text_of(found, "machine")).unwrap_or(CallSet::X64),
+        caps: strings_of(alloc, caps)?,
+        kernel: version_of(text_of(found, "kernel")),
+        conflicts: reading_named(text_of(found, "conflicts")).unwrap_or(Reading::Strictest),
+        newer: wants_newer(found),
+        calls,
+    })
+}
+
+/// The first option of `profile` whose word isn't one that it takes: the option, the word, and what it takes. None
+/// where each word is one.
+fn wrong_word<'a>(found: &ArgMatches<'a>) -> Option<(&'static str, &'a str, &'static str)> {
+    let machine = text_of(found, "machine");
+    if machine_named(machine).is_none() {
+        return Some(("--machine <MACHINE>", machine, "x86_64, i386, aarch64, arm"));
+    }
+    let conflicts = text_of(found, "conflicts");
+    if reading_named(conflicts).is_none() {
+        return Some(("--conflicts <RULE>", conflicts, "strictest, mildest, first"));
+    }
+    let kernel = text_of(found, "kernel");
+    if !is_kernel(kernel) {
+        return Some((
+            "--kernel <X.Y>",
+            kernel,
+            "two numbers with a point between them",
+        ));
+    }
+    for cap in found.get_strs("cap").unwrap_or(&[]) {
+        if !is_capability(cap) {
+            return Some((
+                "--cap <NAME>",
+                *cap,
+                "a name of linux/capability.h, such as CAP_BPF",
+            ));
+        }
+    }
+    None
+}
+
+/// The lines that say which word isn't one that its option takes, in the form in which `clap` says it; empty where each
+/// is. An error where an allocation is refused.
+fn wrong_word_text(alloc: Global, found: &ArgMatches<'_>) -> Result<String, AllocError> {
+    let mut text = String::new(alloc);
+    if let Some((option, word, taken)) = wrong_word(found) {
+        write!(text, "error: invalid value {word:?} for '{option}'\n")?;
+        write!(text, "  [possible values: {taken}]\n\n")?;
+        text.push_str("For more information, try '--help'.\n")?;
+    }
+    Ok(text)
+}
+
+/// Writes to standard error which word of the command line isn't one that its option takes, if a run ended for that
+/// reason, with status 4, and there is memory to say so.
+pub(crate) fn tell_wrong_word<E: Write>(
+    alloc: Global,
+    matches: &ArgMatches<'_>,
+    ran: &Result<u8, Fault>,
+    err: &mut E,
+) {
+    let (Ok(4), Some((_, found))) = (ran, matches.subcommand()) else {
+        return;
+    };
+    if let Ok(text) = wrong_word_text(alloc, found) {
+        let _ = err.write_all(text.as_bytes());
+    }
+}

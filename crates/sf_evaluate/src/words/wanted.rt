@@ -1,0 +1,208 @@
+//! The calls that `list` and `compare` are asked to show one by one, and which rows of a comparison.
+
+ghost use Rattle.std.specs.Prelude.{◌≡◌, ◌==◌, ◌&&◌, ◌⊎◌, IfErr, IfOk, None, codes, false, true, count_by, length, map, option_map, slice_get};
+ghost use Rattle.std.specs.List.{list_all};
+ghost use Rattle.std.specs.Str.{bytes_eq};
+ghost use Rattle.std.specs.Option.{option_map_or};
+ghost use Rattle.clap.specs.Words.{first_of, found_of, rows_of};
+ghost use Rattle.sf_calls.specs.Numbers.{parts_of};
+ghost use Rattle.sf_policy.specs.declared.fault.Fault.TheVariants.{Memory as MemoryFault, UnknownName as UnknownNameFault};
+ghost use Rattle.sf_evaluate.specs.Wanted.{are_known, calls_asked, calls_fit, has_rows_if_wanted, is_known_call, is_name_once, is_relation, names_in_text, rows_fit};
+
+use super::asking::{has_names, is_given};
+use crate::explaining::Notes;
+use clap::ArgMatches;
+use sf_command_line::{given_text, text_of};
+use sf_names::{Names, is_call_name};
+use sf_policy::Fault;
+use std::alloc::{AllocError, Global};
+use std::io::Write;
+
+/// How many of the names in a text, which commas separate, are this one.
+fn count_of(text: &str, name: &str) -> usize
+    ensures { result ≡ count_by (bytes_eq name.now) (parts_of text.now) }
+{
+    text.split(',').filter(|part| name == *part).count()
+}
+
+/// Whether a name can be that of a call, and stands once in a text.
+fn is_name_once(text: &str, name: &str) -> bool
+    ensures { result ≡ is_name_once (parts_of text.now) name.now }
+{
+    is_call_name(name) && count_of(text, name) == 1
+}
+
+/// Whether each name in a text can be that of a call, and stands once. An empty text has no names.
+fn are_names(text: &str) -> bool
+    ensures { result ≡ list_all (is_name_once (names_in_text text.now)) (names_in_text text.now) }
+{
+    text.is_empty() || text.split(',').all(|name| is_name_once(text, name))
+}
+
+/// Whether `--calls`, if it is given, comes with a file of names, and each name behind it can be that of a call, and
+/// stands once.
+pub fn calls_fit(found: &ArgMatches<'_>) -> bool
+    ensures { result ≡ calls_fit (rows_of (found_of found.now)) }
+{
+    match given_text(found, "calls") {
+        Some(text) => has_names(found) && are_names(text),
+        None => true,
+    }
+}
+
+/// Whether a word is that of a relation of answers.
+fn is_relation(word: &str) -> bool
+    ensures { result ≡ is_relation word.now }
+{
+    word == "looser" || word == "tighter" || word == "different"
+}
+
+/// Whether the word of `--only` names a relation, if the option is given.
+fn only_fits(found: &ArgMatches<'_>) -> bool
+    ensures { result ≡ option_map_or is_relation
+        (first_of (codes "only") (rows_of (found_of found.now))) true }
+{
+    match given_text(found, "only") {
+        Some(word) => is_relation(word),
+        None => true,
+    }
+}
+
+/// Whether `--rows` is given if it is wanted: `--calls` and `--only` of `compare` say how rows are shown, and nothing
+/// without them. (A switch that is given has the text `true`.)
+fn has_rows_if_wanted(found: &ArgMatches<'_>) -> bool
+    ensures { result ≡ has_rows_if_wanted (rows_of (found_of found.now)) }
+{
+    text_of(found, "rows") == "true" || !(is_given(found, "calls") || is_given(found, "only"))
+}
+
+/// Whether the options of `compare` about rows fit: `--calls` and `--only` come only with `--rows`, and `--only` names
+/// a relation.
+pub fn rows_fit(found: &ArgMatches<'_>) -> bool
+    ensures { result ≡ rows_fit (rows_of (found_of found.now)) }
+{
+    has_rows_if_wanted(found) && only_fits(found)
+}
+
+/// The names in a text, with commas between them; none where it is empty. An error where an allocation is refused.
+fn names_in_text<'a>(alloc: Global, text: &'a str) -> Result<Vec<&'a str>, AllocError>
+    ensures { IfOk result (λ v. map (λ t. t.now) v.items ≡ names_in_text text.now) }
+{
+    if text.is_empty() {
+        return Ok(Vec::new(alloc));
+    }
+    text.split(',').collect(alloc)
+}
+
+/// The names of calls in the text of `--calls`; none where the option isn't given. An empty list asks for all calls.
+/// `Memory` where an allocation is refused.
+fn calls_asked<'a>(alloc: Global, found: &ArgMatches<'a>) -> Result<Option<Vec<&'a str>>, Fault>
+    ensures asked { IfOk result (λ o. option_map (λ v. map (λ t. t.now) v.items) o
+        ≡ calls_asked (rows_of (found_of found.now))) }
+    ensures refused { IfErr result (λ e. e ≡ MemoryFault) }
+{
+    match given_text(found, "calls") {
+        Some(text) => Ok(Some(names_in_text(alloc, text)?)),
+        None => Ok(None),
+    }
+}
+
+/// Whether some set has a call with this name.
+fn is_known_call(sets: &[Names], name: &str) -> bool
+    ensures { result ≡ is_known_call sets.now name.now }
+{
+    sets.iter().any(|names| names.number_of(name).is_some())
+}
+
+/// Whether each of some calls is one of some set.
+fn are_all_known(sets: &[Names], names: &[&str]) -> bool
+    ensures { result ≡ list_all (λ t. is_known_call sets.now t.now) names.now }
+{
+    names.iter().all(|name| is_known_call(sets, name))
+}
+
+/// Whether each call that is asked for by its name is one of some set.
+fn are_known(sets: &[Names], calls: &Option<Vec<&str>>) -> bool
+    ensures { result
+        ≡ are_known sets.now (option_map (λ v. map (λ t. t.now) v.items) calls.now) }
+{
+    match calls {
+        Some(names) => are_all_known(sets, names),
+        None => true,
+    }
+}
+
+/// The place, from 0, of the first call in a text, between its commas, that no set has; 0 also where there is none.
+fn unknown_place(sets: &[Names], text: &str) -> usize {
+    text.split(',')
+        .position(|name| !is_known_call(sets, name))
+        .unwrap_or(0)
+}
+
+/// The names of calls in the text of `--calls`, as `calls_asked` gives them. Each is the name of a call in some set.
+/// `UnknownName` where one isn't: then the notes get the place of the first such name. `Memory` where an allocation is
+/// refused.
+pub fn known_calls<'a>(
+    alloc: Global,
+    found: &ArgMatches<'a>,
+    sets: &[Names],
+    notes: &mut Notes,
+) -> Result<Option<Vec<&'a str>>, Fault>
+    ensures asked { IfOk result (λ o. option_map (λ v. map (λ t. t.now) v.items) o
+        ≡ calls_asked (rows_of (found_of found.now))) }
+    ensures known { IfOk result (λ _.
+        are_known sets.now (calls_asked (rows_of (found_of found.now))) ≡ true) }
+    ensures refused { IfErr result (λ e. (e ≡ MemoryFault) ⊎ ((e ≡ UnknownNameFault)
+        × (are_known sets.now (calls_asked (rows_of (found_of found.now))) ≡ false))) }
+{
+    let calls = calls_asked(alloc, found)?;
+    if !are_known(sets, &calls) {
+        notes.unknown_call = unknown_place(sets, text_of(found, "calls"));
+        return Err(Fault::UnknownName);
+    }
+    Ok(calls)
+}
+
+/// The first name in a text that can't be that of a call, or that stands twice; none where each can be and stands once.
+fn wrong_name(text: &str) -> Option<&str> {
+    if text.is_empty() {
+        return None;
+    }
+    text.split(',').find(|name| !is_name_once(text, name))
+}
+
+/// Adds the lines that say what is wrong with the calls that are asked for: `calls_fit` is false. An error where an
+/// allocation is refused.
+pub(crate) fn push_wrong_calls(
+    text: &mut String,
+    found: &ArgMatches<'_>,
+) -> Result<(), AllocError> {
+    let calls = found.get_str("calls").unwrap_or("");
+    if !has_names(found) {
+        return text.push_str(
+            "error: --calls needs names: give --names policies/names.toml, or another file of names\n",
+        );
+    }
+    let name = wrong_name(calls).unwrap_or("");
+    if is_call_name(name) {
+        return write!(text, "error: --calls names {name:?} twice\n");
+    }
+    write!(text, "error: {name:?} is no name of a call, for --calls\n")?;
+    text.push_str(
+        "  For all calls, let another option follow --calls, or give it behind the filters.\n",
+    )
+}
+
+/// Adds the lines that say what is wrong with the options about the rows of a comparison: `rows_fit` is false. An error
+/// where an allocation is refused.
+pub(crate) fn push_wrong_rows(text: &mut String, found: &ArgMatches<'_>) -> Result<(), AllocError> {
+    let only = found.get_str("only").unwrap_or("different");
+    if is_relation(only) {
+        return text.push_str("error: --calls and --only tell of rows: give --rows too\n");
+    }
+    write!(
+        text,
+        "error: invalid value {only:?} for '--only <RELATION>'\n"
+    )?;
+    text.push_str("  [possible values: looser, tighter, different]\n")
+}
