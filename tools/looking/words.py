@@ -10,8 +10,7 @@ Names are those of functions, types, fields, variants, parameters, constants and
 and the definitions of `specs/` with their fields. A name is taken apart at underscores and at capital letters. Names of
 lemmas and of local values aren't looked at, nor are the toolchain's own.
 
-KNOWN has the names that break the rule today, each with its reason. One that is no longer there has to be taken out of
-the list. Names are counted.
+Names are counted.
 """
 import re
 
@@ -107,19 +106,6 @@ WORDS = [
     ("route routes", above("run"), "truth values that a run may meet as far as control goes"),
 ]
 
-# Names that break the rule, by their crates, with the reason.
-KNOWN = {
-    "sf_command": {
-        "DoesAsTold": "what words of the command line ask for",
-        "RefusesAsTold": "what words of the command line ask for",
-        "told": "a text that is written",
-    },
-    "sf_evaluate": {
-        "mark_of": "the text that marks a filter",
-        "told": "a text that is written",
-    },
-}
-
 WORD = {form: (crates, meaning) for forms, crates, meaning in WORDS for form in forms.split()}
 
 
@@ -142,19 +128,15 @@ def names(crate):
 
 def faults(crate):
     """What is wrong with the crate's names, and how many it has."""
-    found, broken = [], set()
+    found = []
     here = names(crate)
-    known = KNOWN.get(crate.name, {})
     for name, path in sorted(here.items()):
         for part in parts(name):
             allowed, meaning = WORD.get(part, (None, None))
             if allowed is None or crate.name in allowed:
                 continue
-            broken.add(name)
-            if name not in known:
-                found.append(f"{shown(path)}: {name}, but `{part}` is kept for: {meaning}")
-                break
-    found += [f"{crate.name}: {name} is known as broken, and isn't any more" for name in sorted(set(known) - broken)]
+            found.append(f"{shown(path)}: {name}, but `{part}` is kept for: {meaning}")
+            break
     return found, len(here)
 
 

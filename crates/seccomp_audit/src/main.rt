@@ -37,7 +37,7 @@ struct Disk<'a, R> {
 const STANDARD_INPUT: &str = "-";
 
 /// The bytes of standard input. Where it is longer than `MOST_BYTES`, only one byte more than that is read, which shows
-/// that it is too long.
+/// the caller that it is too long. An error where it can't be read, or an allocation is refused.
 fn bytes_of_input<R: Input + AllocGlobal>(rt: &R) -> io::Result<Vec<u8>> {
     let mut bytes = Vec::new(rt.alloc());
     rt.reader()
@@ -46,8 +46,8 @@ fn bytes_of_input<R: Input + AllocGlobal>(rt: &R) -> io::Result<Vec<u8>> {
     Ok(bytes)
 }
 
-/// The bytes of a file. Where it is longer than `MOST_BYTES`, only one byte more than that is read, which shows that
-/// it is too long.
+/// The bytes of a file. Where it is longer than `MOST_BYTES`, only one byte more than that is read, which shows the
+/// caller that it is too long. An error where it can't be opened or read, or an allocation is refused.
 fn bytes_of<R: FileSystem + AllocGlobal>(rt: &R, path: &str) -> io::Result<Vec<u8>> {
     let mut bytes = Vec::new(rt.alloc());
     let file = File::open(rt, path)?;
@@ -56,8 +56,9 @@ fn bytes_of<R: FileSystem + AllocGlobal>(rt: &R, path: &str) -> io::Result<Vec<u
 }
 
 impl<R: FileSystem + Input + AllocGlobal> Disk<'_, R> {
-    /// The bytes of the file at a path, or of standard input where the path is `-`: then it counts as read. At most one
-    /// byte more than `MOST_BYTES` is read.
+    /// The bytes of the file at a path, or of standard input where the path is `-`: this counts as read from then on,
+    /// also after an error. At most one byte more than `MOST_BYTES` is read. The errors are those of `bytes_of` and
+    /// `bytes_of_input`.
     fn bytes_at(&mut self, path: &str) -> io::Result<Vec<u8>> {
         if path != STANDARD_INPUT {
             return bytes_of(self.rt, path);
@@ -120,7 +121,8 @@ struct AfterName<'a, R> {
 }
 
 impl<R: Env> Env for AfterName<'_, R> {
-    /// Writes the argument at the place `i` behind the name into `buf`, as `arg` of the handle does.
+    /// Writes into `buf` the argument at the place `i`, from 0, of those behind the name, and gives what `arg` of `rt`
+    /// gives for it. `NotPresent` where the place after `i` is too large for a number.
     fn arg(&self, i: usize, buf: &mut [u8]) -> Result<usize, FillError> {
         match i.checked_add(1) {
             Some(next) => self.rt.arg(next, buf),
@@ -145,14 +147,15 @@ fn words_of(rt: &HostRuntime) -> io::Result<Vec<String>> {
     Ok(words.collect(rt.alloc())?)
 }
 
-/// Whether the environment asks that each fault is explained: the variable `EXPLAIN` is there, and is just `1`.
+/// Whether the environment asks that each fault is explained: the variable that `EXPLAIN` names is there, and its value
+/// is `1` and nothing else. A longer value than 8 bytes isn't read, and asks for nothing.
 fn asks_to_explain<R: Env>(rt: &R) -> bool {
     let mut value = [0u8; 8];
     matches!(rt.var(EXPLAIN, &mut value), Ok(1)) && value[0] == b'1'
 }
 
-/// Writes to standard error why there are no words, and gives the exit status: 4 where a word is no UTF-8, or that of
-/// refused memory.
+/// Writes to standard error why there are no words. Gives the exit status: 4 where a word is no UTF-8, and 5, that of
+/// refused memory, where an allocation was refused. These are the errors of `words_of`.
 fn no_words<E: Write>(error: &io::Error, err: &mut E) -> u8 {
     if error.kind() == ErrorKind::OutOfMemory {
         return tell_fault(&Fault::Memory, err);
@@ -184,6 +187,7 @@ fn main(rt: HostRuntime) -> ExitCode {
         gate: &meter,
     };
     let status = command(&means, &words, &mut disk, &mut out, &mut err);
+    // A value is dropped only where its type is `Drop`. That of `disk` isn't, so `disk` is taken apart.
     let Disk {
         rt: _,
         reason: _,

@@ -54,8 +54,8 @@ impl<'a, R: Clock> Progress<'a, R> {
 }
 
 impl Progress<'_, HostRuntime> {
-    /// Writes to standard error how many steps were counted in how many seconds. A line that can't be written is left
-    /// out.
+    /// Writes to standard error how many steps were counted in how many seconds, and the budget. A line that can't be
+    /// written is left out.
     fn tell(&self, steps: u64, seconds: u64) {
         let budget = self.budget.load(Ordering::Relaxed);
         let line: InlineText<LINE> = InlineText::of(format_args!(
@@ -67,8 +67,8 @@ impl Progress<'_, HostRuntime> {
 }
 
 impl Gate for Progress<'_, HostRuntime> {
-    /// Counts a step, and at every `STEPS`th one looks at the clock. In a second that is new, one of the workers that
-    /// see it writes the line: the one that sets `last`.
+    /// Counts a step, and at every `STEPS`th one looks at the clock. Several workers may see that a second has begun
+    /// since the last line. Only the one that sets `last` to it writes a line.
     fn pass(&self, _worker: usize, _call: usize) {
         let steps = self.steps.fetch_add(1, Ordering::Relaxed).wrapping_add(1);
         if steps % STEPS != 0 {

@@ -14,8 +14,9 @@ use std::alloc::Global;
 use std::sync::{Arc, Wait};
 use std::thread::Threads;
 
-/// The outcome for a stack and up to 256 questions: explores the stack, and judges the questions by what was found. The
-/// caller's condition: not more questions, and 1 to 64 workers. An error where an allocation is refused.
+/// The outcome for a stack and its questions: explores the stack by at most `budget` works, and judges the questions by
+/// what was found. The caller's condition: at most 256 questions, and 1 to 64 workers. An error where an allocation is
+/// refused.
 fn outcome_of<R: Threads + Wait + Sync, G: Gate>(
     rt: &R,
     alloc: Global,

@@ -5,7 +5,7 @@ ghost use Rattle.sf_audit.specs.Reports.{is_never, is_allowed, is_unsettled};
 
 use sf_ask::Reply;
 
-/// Whether a reply has an example.
+/// Whether a reply is that its question is allowed. It has an example then.
 pub(crate) fn is_allowed(reply: &Reply) -> bool
     ensures { result ≡ is_allowed reply.now }
 {
@@ -22,7 +22,7 @@ pub fn count_never(replies: &[Reply]) -> usize
         .count()
 }
 
-/// How many replies have an example.
+/// How many replies are that the question is allowed. Each of these has an example.
 pub fn count_allowed(replies: &[Reply]) -> usize
     ensures { result ≡ count_by is_allowed replies.now }
 {

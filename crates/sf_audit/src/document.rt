@@ -28,14 +28,14 @@ pub struct Telling<'m> {
     pub is_expecting: bool,
     /// The names of calls with which inputs are shown.
     pub names: &'m [Names],
-    /// For each question, at its place, the policy file and the line where it stands. `null` is shown where this is
-    /// missing.
+    /// For each question, at its place, the policy file and the line where it stands, as an object. `null` is shown for
+    /// a question behind the end of this list.
     pub origins: &'m [Document],
     /// For each question, at its place, the remark on it: whole lines of text. Where there is none, `null` is shown.
     pub remarks: &'m [String],
 }
 
-/// How many replies are of each kind.
+/// The object that says how many replies are of each kind. An error where an allocation is refused.
 fn totals_document(alloc: Global, replies: &[Reply]) -> Result<Document, AllocError>
     ensures { IfOk result (λ d. view d ≡ totals_document replies.now) }
 {
@@ -47,8 +47,8 @@ fn totals_document(alloc: Global, replies: &[Reply]) -> Result<Document, AllocEr
 }
 
 /// An audit as JSON: the size of the stack, the counts of its exploration, each question with its reply, what was
-/// expected, the regions where they are asked for, and how many replies are of each kind. An error where an allocation
-/// is refused.
+/// expected and the regions, each where `telling` asks for it, and how many replies are of each kind. `version` is that
+/// of this form of the document. An error where an allocation is refused.
 pub fn audit_document(
     alloc: Global,
     outcome: &Outcome,

@@ -69,7 +69,7 @@ impl Expected {
         self.control.as_slice()
     }
 
-    /// The replies to the questions of the control.
+    /// The replies to the questions of the control, one for each, in the same order.
     pub(crate) fn held(&self) -> &[Reply]
         ensures same { result.now ≡ self.now.held }
         ensures held { length self.now.control ≡ length self.now.held }
@@ -107,7 +107,8 @@ impl Expected {
     }
 }
 
-/// Adds the line of a question of the control with this name, where it isn't allowed.
+/// Adds the line of a question of the control with this name, where it isn't allowed; nothing where it is. An error
+/// where an allocation is refused.
 fn push_control(text: &mut String, name: &str, reply: Reply) -> Result<(), AllocError>
     ensures { OnOk result (string_bytes text.new ≡ string_bytes text.old
         ++ control_line name.now reply) }
@@ -119,8 +120,8 @@ fn push_control(text: &mut String, name: &str, reply: Reply) -> Result<(), Alloc
     }
 }
 
-/// Adds the lines of the questions of the control that aren't allowed. The caller's condition: there is a reply to
-/// each.
+/// Adds the lines of the questions of the control that aren't allowed. The caller's condition: there is a reply to each
+/// question. An error where an allocation is refused.
 fn push_controls(
     text: &mut String,
     questions: &[Question],
@@ -143,7 +144,8 @@ fn is_accepted(accepted: &[String], name: &str) -> bool
     accepted.iter().any(|one| one.as_str() == name)
 }
 
-/// Adds the line of an accepted question, where it is never.
+/// Adds the line of an accepted question, where its reply is never; else nothing. Such a question needn't be accepted
+/// any more. An error where an allocation is refused.
 fn push_accepted(text: &mut String, name: &str, reply: Reply) -> Result<(), AllocError>
     ensures { OnOk result (string_bytes text.new ≡ string_bytes text.old
         ++ accepted_line name.now reply) }
@@ -154,7 +156,8 @@ fn push_accepted(text: &mut String, name: &str, reply: Reply) -> Result<(), Allo
     }
 }
 
-/// Adds the line of a question that isn't accepted, where it is allowed.
+/// Adds the line of a question that isn't accepted, where it is allowed; else nothing. An error where an allocation is
+/// refused.
 fn push_unexpected(text: &mut String, name: &str, reply: Reply) -> Result<(), AllocError>
     ensures { OnOk result (string_bytes text.new ≡ string_bytes text.old
         ++ unexpected_line name.now reply) }
@@ -165,7 +168,8 @@ fn push_unexpected(text: &mut String, name: &str, reply: Reply) -> Result<(), Al
     }
 }
 
-/// Adds the line of a question, where it isn't as expected: it is accepted and never, or allowed and not accepted.
+/// Adds the line of a question that isn't as expected: it is accepted and its reply is never, or it is allowed and not
+/// accepted. Adds nothing for another question. An error where an allocation is refused.
 fn push_expected(
     text: &mut String,
     accepted: &[String],
@@ -182,7 +186,8 @@ fn push_expected(
     }
 }
 
-/// Adds the lines of the questions that aren't as expected. The caller's condition: there is a reply to each.
+/// Adds the lines of the questions that aren't as expected. The caller's condition: there is a reply to each. An error
+/// where an allocation is refused.
 fn push_questions(
     text: &mut String,
     accepted: &[String],
@@ -200,7 +205,8 @@ fn push_questions(
 }
 
 /// The lines behind a report that say what isn't as expected: questions of the control that aren't allowed, questions
-/// that are allowed and not accepted, and accepted ones that are never. An error where an allocation is refused.
+/// that are allowed and not accepted, and accepted ones whose reply is never. Empty where all is as expected. An error
+/// where an allocation is refused.
 pub fn text_of_expected(
     alloc: Global,
     expected: &Expected,

@@ -13,8 +13,8 @@ use sf_ask::laws::replies_have_one_result;
 use sf_book::laws::explorations_have_one_result;
 use sf_policy::laws::a_refusal_spells_no_stack;
 
-/// Where there is an audit, nothing is refused: the files have no refusal, and there are 1 to 256 questions. So `audit`
-/// refuses exactly what `IsAuditRefusal` says, unless memory is refused.
+/// A law for the prover: where there is an audit, nothing is refused. The files have no refusal then, and there are 1
+/// to 256 questions. So `audit` refuses exactly what `IsAuditRefusal` says, unless memory is refused.
 pub fn an_audit_is_not_refused()
     ensures { (files : List (List ℕ)) (questions : List QuestionData) (budget : ℕ)
         (o : Found) (e : Fault) →
@@ -23,9 +23,9 @@ pub fn an_audit_is_not_refused()
     a_refusal_spells_no_stack();
 }
 
-/// Two audits with the same questions have the same report, where their files spell one stack and both leave nothing
-/// outstanding: whatever their budgets, whoever worked and in whatever order, and whatever stands in fields that no
-/// instruction uses. The remarks on the questions are given, and the same in both.
+/// A law for the prover: two audits with the same questions have the same report, where their files spell one stack and
+/// both leave nothing outstanding. Budgets, workers and their order play no part, nor does what stands in fields that
+/// no instruction uses. The remarks on the questions are given, and the same in both.
 pub fn one_report()
     ensures { (files others : List (List ℕ)) (questions : List QuestionData)
         (b c : ℕ) (o p : Found) →
@@ -39,8 +39,8 @@ pub fn one_report()
     replies_have_one_result();
 }
 
-/// Two audits as in `one_report` have the same JSON document too, where they are shown in the same way and beside the
-/// same expectations.
+/// A law for the prover: two audits as in `one_report` have the same JSON document too, where they are shown in the
+/// same way and beside the same expectations.
 pub fn one_document()
     ensures { (files others : List (List ℕ)) (questions : List QuestionData)
         (b c : ℕ) (o p : Found) →

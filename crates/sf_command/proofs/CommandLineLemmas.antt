@@ -14,9 +14,9 @@ use Rattle.sf_command.specs.Runs.{HasWrongWord, Helps, IsHelp, RefusesWords, Wri
 pub helps : (words : List Text) (e : Error) (status : ℕ) (old new : Option Text) → HasKind (errors_at words) e
     → IsHelp (kind_of e) × (status ≡ 0) × WritesText old new → Helps words status old new
 helps words e status old new (inr among) done =
-    record { kind = kind_of e; error = among; help = done.0; told = done.1; written = done.2 }
-helps words e status old new (inl memory) (inl help, told, written) = cc
-helps words e status old new (inl memory) (inr version, told, written) = cc
+    record { kind = kind_of e; error = among; help = done.0; status_is = done.1; written = done.2 }
+helps words e status old new (inl memory) (inl help, status_is, written) = cc
+helps words e status old new (inl memory) (inr version, status_is, written) = cc
 
 -- where an error isn't refused memory, the words don't fit the form
 pub some_error : (words : List Text) (e : Error) → HasKind (errors_at words) e → kind_of e ≢ OutOfMemory

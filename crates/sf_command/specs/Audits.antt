@@ -127,7 +127,7 @@ pub record AuditsFiles (holds : List ℕ → Option (List ℕ)) (asked : AskedDa
   pub remarks : List (List ℕ)
   pub remarked : HasRemarks why names found remarks
   pub written : Appends old new (audit_output json (telling_of asked read names regions remarks) expected found)
-  pub told : status ≡ audit_status expected found
+  pub status_is : status ≡ audit_status expected found
 
 -- Why the files that an audit is asked by are refused: a policy is; or the control; or the questions that may be
 -- allowed.

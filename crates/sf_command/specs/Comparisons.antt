@@ -64,7 +64,7 @@ module _ (holds : List ℕ → Option (List ℕ)) (old_paths new_paths : List (B
     pub found : Compared
     pub comparison : IsComparison files older budget found
     pub written : WritesCompared rows json sets shown found old new
-    pub told : status ≡ change_status (change_of found asked)
+    pub status_is : status ≡ change_status (change_of found asked)
 
   -- Why a comparison is refused: a file whose bytes aren't known can't be read; writing or memory failed; or the files
   -- of both stacks together make no lawful stack.

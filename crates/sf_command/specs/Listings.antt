@@ -28,7 +28,7 @@ module _ (holds : List ℕ → Option (List ℕ)) (paths : List (Bor (List ℕ))
     pub found : Listed
     pub listing : IsListing files budget found
     pub written : Appends old new (listing_output json sets calls found)
-    pub told : status ≡ listing_status (is_whole_listing found.picture)
+    pub status_is : status ≡ listing_status (is_whole_listing found.picture)
 
   -- Why a listing is refused: a file whose bytes aren't known can't be read; writing or memory failed; or the files
   -- make no lawful stack.

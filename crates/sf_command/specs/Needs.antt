@@ -34,7 +34,7 @@ module _ (holds : List ℕ → Option (List ℕ)) (paths : List (Bor (List ℕ))
     pub needs : NeedsData
     pub found : AreNeeds files budget needs
     pub written : Appends old new (needs_output json needs)
-    pub told : status ≡ needs_status needs.findings
+    pub status_is : status ≡ needs_status needs.findings
 
   -- Why `needed` is refused: a file whose bytes aren't known can't be read; writing or memory failed; the files make no
   -- lawful stack; or those of a stack and of the same stack without a filter make none together.

@@ -86,7 +86,7 @@ module _ (holds : Text → Option Text) (rows : List Row) (status : ℕ) (old ne
     pub json : Bool
     pub in_json : IsSwitch (one_of (codes "json") rows) json
     pub checked : ChecksFiles with_instructions json holds paths old new
-    pub told : status ≡ 0
+    pub status_is : status ≡ 0
 
   -- the input that is asked for was evaluated by the files that are named
   pub record Evaluates : Type 0 where
@@ -104,7 +104,7 @@ module _ (holds : Text → Option Text) (rows : List Row) (status : ℕ) (old ne
     pub asked : AsksInput rows names input
     pub evaluated : AnswersFiles input (record { traced = traced; brief = brief; json = json }) holds
         paths names old new
-    pub told : status ≡ 0
+    pub status_is : status ≡ 0
 
   -- the old and the new files that are named were compared
   pub record Compares : Type 0 where
@@ -152,7 +152,7 @@ module _ (holds : Text → Option Text) (rows : List Row) (status : ℕ) (old ne
   -- the filter of the profile that is named was written, or what is told of it
   pub record Profiles : Type 0 where
     pub written : WritesProfile holds rows old new
-    pub told : status ≡ 0
+    pub status_is : status ≡ 0
 
 -- one of the seven subcommands is named, and what belongs to its name holds of the values of its arguments
 abbrev pub ByName : (audit check eval compare list needed profile : List Row → Type 0)
@@ -216,13 +216,13 @@ pub record Helps (words : List Text) (status : ℕ) (old new : Option Text) : Ty
   pub kind : ErrorKind
   pub error : IsAmong kind (errors_at words)
   pub help : IsHelp kind
-  pub told : status ≡ 0
+  pub status_is : status ≡ 0
   pub written : WritesText old new
 
 -- What was done is what the words ask for: what their subcommand asks for, where they fit the form; or else help or the
 -- version was written, which they ask for.
-abbrev pub DoesAsTold : (Text → Option Text) → List Text → ℕ → Option Text → Option Text → Type 0
-DoesAsTold holds words status old new =
+abbrev pub DoesAsAsked : (Text → Option Text) → List Text → ℕ → Option Text → Option Text → Type 0
+DoesAsAsked holds words status old new =
     ((errors_at words ≡ []) × RunsAs holds (subcommand_at words) status old new) ⊎ Helps words status old new
 
 -- this holds of the paths that an argument names
@@ -277,6 +277,6 @@ RefusesAs holds named fault = ByName
 
 -- Why what the words ask for is refused. Memory can run out at any time, and writing can fail even for help; the other
 -- reasons come only where the words fit the form.
-abbrev pub RefusesAsTold : (Text → Option Text) → List Text → Fault → Type 0
-RefusesAsTold holds words fault =
+abbrev pub RefusesAsAsked : (Text → Option Text) → List Text → Fault → Type 0
+RefusesAsAsked holds words fault =
     (fault ≡ Memory) ⊎ (fault ≡ Write) ⊎ ((errors_at words ≡ []) × RefusesAs holds (subcommand_at words) fault)

@@ -103,7 +103,8 @@ struct Read {
 }
 
 /// Reads the policy files, then that of the control, and then that of the questions that may be allowed. The refusal is
-/// that of the first file that is refused.
+/// that of the first file that is refused, as `all_questions_in`, `control_in` or `accepted_in` refuses it. `Memory`
+/// can come anywhere.
 fn read_questions<F: Files>(
     alloc: Global,
     asked: &Asked<'_, '_>,
@@ -125,9 +126,9 @@ fn read_questions<F: Files>(
     })
 }
 
-/// The replies to the questions of a control, by an exploration that has ended; none where it has no questions. The
-/// caller's condition: 1 to 64 workers. `Count` where there are more than 256 questions, `Memory` where an allocation
-/// is refused.
+/// The replies to the questions of a control, by an exploration that has ended; an empty list where there are no
+/// questions. The caller's condition: 1 to 64 workers. `Count` where there are more than 256 questions, `Memory` where
+/// an allocation is refused.
 fn replies_to<R: Threads + Wait + Sync, G: Gate>(
     means: &Means<'_, R, G>,
     settled: &Settled,
@@ -147,7 +148,7 @@ fn replies_to<R: Threads + Wait + Sync, G: Gate>(
 
 /// Audits the stack of these filters with the questions that were read, and asks the questions of the control of the
 /// same exploration. Gives the outcome, what is expected of it, and where each question stands. The caller's condition:
-/// 1 to 64 workers. Refusals: those of `audit` of the library, and then `Count` where the control has more than 256
+/// 1 to 64 workers. Refusals: those of `audit` of `sf_audit`, and then `Count` where the control has more than 256
 /// questions. `Memory` can come anywhere.
 fn find<R: Threads + Wait + Sync, G: Gate>(
     means: &Means<'_, R, G>,
@@ -176,8 +177,8 @@ fn find<R: Threads + Wait + Sync, G: Gate>(
     Ok((outcome, expected, origins))
 }
 
-/// The lines behind a report: what isn't as expected; empty where nothing was expected. An error where an allocation is
-/// refused.
+/// The lines behind a report, which say what isn't as expected; empty where nothing was expected, or all is as
+/// expected. An error where an allocation is refused.
 fn behind_of(
     alloc: Global,
     telling: &Telling<'_>,
@@ -194,10 +195,10 @@ fn behind_of(
     }
 }
 
-/// Why the stack answers as it does to the example of a reply; empty where it has none. `Memory` where an allocation is
-/// refused.
+/// Why the stack answers as it does to the example of a reply, in lines that use these names of calls; empty where the
+/// reply has no example. `Memory` where an allocation is refused.
 fn remark_of(alloc: Global, names: &[Names], stack: &Stack, reply: Reply) -> Result<String, Fault>
-    ensures told { IfOk result (λ text. IsRemark names.now stack.now reply
+    ensures shown { IfOk result (λ text. IsRemark names.now stack.now reply
         (string_bytes text)) }
     ensures refused { IfErr result (λ e. e ≡ MemoryFault) }
 {
@@ -215,7 +216,7 @@ fn remarks_of(
     stack: &Stack,
     replies: &[Reply],
 ) -> Result<Vec<String>, Fault>
-    ensures told { IfOk result (λ v. AreRemarks names.now stack.now replies.now
+    ensures shown { IfOk result (λ v. AreRemarks names.now stack.now replies.now
         (map string_bytes v.items)) }
     ensures refused { IfErr result (λ e. e ≡ MemoryFault) }
 {
@@ -227,7 +228,7 @@ fn remarks_of(
     Ok(remarks)
 }
 
-/// The remarks on the replies of an audit, where `why` asks for them; else none. `Memory` where an allocation is
+/// The remarks on the replies of an audit, one for each, if `why`; else an empty list. `Memory` where an allocation is
 /// refused.
 fn asked_remarks(
     alloc: Global,
@@ -235,7 +236,7 @@ fn asked_remarks(
     names: &[Names],
     outcome: &Outcome,
 ) -> Result<Vec<String>, Fault>
-    ensures told { IfOk result (λ v. HasRemarks why names.now outcome.now
+    ensures shown { IfOk result (λ v. HasRemarks why names.now outcome.now
         (map string_bytes v.items)) }
     ensures refused { IfErr result (λ e. e ≡ MemoryFault) }
 {
@@ -245,8 +246,9 @@ fn asked_remarks(
     remarks_of(alloc, names, outcome.settled().stack(), outcome.replies())
 }
 
-/// Writes what an audit found: the report, and behind it what isn't as expected; or one JSON document. `Write` where
-/// that fails, after a beginning of it; `Memory` where an allocation is refused: nothing was written then.
+/// Writes what an audit found: the report, and behind it what isn't as expected; or if `json` one JSON document.
+/// `Write` where that fails (a beginning may be written then). `Memory` where an allocation is refused; nothing is
+/// written then.
 fn write_audit<O: Write>(
     alloc: Global,
     json: bool,
@@ -278,13 +280,15 @@ fn write_audit<O: Write>(
 /// Reads the files that ask and then the filter files, which are named in order of installation. Audits the stack of
 /// the filters, writes the report, and behind it what isn't as expected, and gives the exit status. The options can ask
 /// for lines under each allowed question that say why the stack answers its example as it does, with the names of the
-/// task; and for one JSON document in place of all that text. The gate sees each work before it is committed, and each
-/// sheet of verdicts before it is entered. The caller's condition: 1 to 64 workers.
+/// task; and for one JSON document in place of all that text. The notes get the warnings. The gate sees each work
+/// before it is committed, and each sheet of verdicts before it is entered. The caller's condition: 1 to 64 workers.
 ///
-/// Refusals, tried in this order: of the policy files, of that of the control and of that of the questions that may be
-/// allowed `Read`, `Syntax` where it isn't UTF-8, and what `read_policy` or `read_accepted` refuses; `Read` where a
-/// filter file can't be read; what `audit` of the library refuses; `Write` where standard output can't be written,
-/// after a beginning of the report. `Memory` can come anywhere. After any error but `Write` nothing is written.
+/// Refusals, tried in this order: those of the policy files, then that of the control, then that of the file of
+/// questions that may be allowed, each of which is `Read` where the file can't be read, `Syntax` where it isn't UTF-8,
+/// or what `read_policy` or `read_accepted` refuses; `Read` where a filter file can't be read; what `audit` of
+/// `sf_audit` refuses; `Count` where the control has more than 256 questions; `Write` where standard output can't be
+/// written (a beginning of the report may be written then). `Memory` can come anywhere. After any error but `Write`
+/// nothing is written.
 pub fn audit<R: Threads + Wait + Sync, F: Files, G: Gate, O: Write>(
     means: &Means<'_, R, G>,
     task: &AuditTask<'_, '_>,

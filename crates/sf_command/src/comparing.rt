@@ -76,8 +76,9 @@ fn read_both<F: Files>(
     Ok((filters, older))
 }
 
-/// Writes what is found of two stacks: a text, or if `json` one JSON document, where `sets` names calls. `Write` where
-/// that fails, after a beginning of it; `Memory` where an allocation is refused: nothing was written then.
+/// Writes what is found of two stacks: a text, or if `json` one JSON document, in which `sets` names calls. `Write`
+/// where that fails (a beginning may be written then). `Memory` where an allocation is refused; nothing is written
+/// then.
 fn write_found<O: Write>(
     alloc: Global,
     comparison: &Comparison,
@@ -98,8 +99,8 @@ fn write_found<O: Write>(
 }
 
 /// Writes what is found of two stacks, and of the rows in which their answers differ those that the task asks for: a
-/// text, or one JSON document. `Write` where that fails, after a beginning of it; `Memory` where an allocation is
-/// refused: nothing was written then.
+/// text, or one JSON document where the task asks for that. `Write` where that fails (a beginning may be written then).
+/// `Memory` where an allocation is refused; nothing is written then.
 fn write_rows<O: Write>(
     alloc: Global,
     comparison: &Comparison,
@@ -121,8 +122,9 @@ fn write_rows<O: Write>(
     write_document(alloc, &document, out)
 }
 
-/// Writes what is found of two stacks, and where the task asks for it the rows in which their answers differ. `Write`
-/// where that fails, after a beginning of the text; `Memory` where an allocation is refused: nothing was written then.
+/// Writes what is found of two stacks, and where the task asks for it the rows in which their answers differ, which are
+/// drawn only then. `Write` where that fails (a beginning may be written then). `Memory` where an allocation is
+/// refused; nothing is written then.
 fn write_compared<O: Write>(
     alloc: Global,
     comparison: &Comparison,
@@ -144,12 +146,12 @@ fn write_compared<O: Write>(
 }
 
 /// Reads the old filter files and then the new ones, each named in order of installation; compares their stacks, writes
-/// what is found, and gives the exit status of the relation that is asked for. The gate sees each work before it is
-/// committed. The caller's condition: 1 to 64 workers.
+/// what is found, and gives the exit status of the relation that is asked for. The notes get the warnings. The gate
+/// sees each work before it is committed. The caller's condition: 1 to 64 workers.
 ///
-/// Refusals, tried in this order: `Read` where a file can't be read; what `compare` of the library refuses; `Write`
-/// where standard output can't be written, after a beginning of the text. `Memory` can come anywhere. After any error
-/// but `Write` nothing is written.
+/// Refusals, tried in this order: `Read` where a file can't be read; what `compare` of `sf_compare` refuses; `Write`
+/// where standard output can't be written (a beginning of the text may be written then). `Memory` can come anywhere.
+/// After any error but `Write` nothing is written.
 pub fn compare<R: Threads + Wait + Sync, F: Files, G: Gate, O: Write>(
     means: &Means<'_, R, G>,
     task: &ComparisonTask<'_, '_>,

@@ -9,7 +9,7 @@ ghost use Rattle.sf_command.specs.Listings.{RefusesListing};
 ghost use Rattle.sf_command.specs.Needs.{RefusesNeeds};
 ghost use Rattle.sf_evaluate.specs.Names.{RefusesNaming};
 ghost use Rattle.sf_evaluate.specs.Outputs.{RefusesCheck};
-ghost use Rattle.sf_command.specs.Runs.{AreNamed, Audits, Checks, Compares, Evaluates, RunsAs, IsAskedFor, IsAskedRelation, Lists, Needs, DoesAsTold, HasWrongWord, OnCalls, OnNames, OnPaths, RefusesAs, RefusesAsTold, RefusesEval, RefusesWords, meant_words, relation_of_rows, relation_named, words_fit_for};
+ghost use Rattle.sf_command.specs.Runs.{AreNamed, Audits, Checks, Compares, Evaluates, RunsAs, IsAskedFor, IsAskedRelation, Lists, Needs, DoesAsAsked, HasWrongWord, OnCalls, OnNames, OnPaths, RefusesAs, RefusesAsAsked, RefusesEval, RefusesWords, meant_words, relation_of_rows, relation_named, words_fit_for};
 ghost use Rattle.sf_command_line.specs.CommandLine.{IsKnown, errors_at};
 ghost use Rattle.sf_evaluate.specs.Status.{fault_status};
 
@@ -57,13 +57,13 @@ fn names_of<F: Files>(
     read_all_names(alloc, paths, files, notes)
 }
 
-/// The gate of a run: it passes what it sees on to the meter only where `--progress` asks for it. Then the meter is
-/// given the budget here.
+/// The gate of a run. Where `--progress` is given, it passes each call on to the meter, and the meter is given the
+/// budget here. Else it does nothing.
 fn watched<'a, M: Meter>(found: &ArgMatches<'_>, meter: &'a M) -> Watched<'a, M> {
     Watched::of(meter, wants_progress(found), budget_of(found))
 }
 
-/// The same means, but for the gate: this one is in place of theirs.
+/// A copy of these means in which `gate` stands in place of their gate.
 fn through<'a, R, M, G>(means: &Means<'a, R, M>, gate: &'a G) -> Means<'a, R, G> {
     Means {
         rt: means.rt,
@@ -72,8 +72,8 @@ fn through<'a, R, M, G>(means: &Means<'a, R, M>, gate: &'a G) -> Means<'a, R, G>
     }
 }
 
-/// Runs `audit` as the matches of the subcommand say, and gives its exit status, 0 to 2. The refusals are those of the
-/// files of names, and then those of `audit`.
+/// Runs `audit` as the matches of the subcommand say, and gives its exit status, 0 to 2, as `command` explains it. The
+/// refusals are those of the files of names, and then those of `audit`.
 fn run_audit<R: Threads + Wait + Sync, F: Files, M: Meter, O: Write>(
     means: &Means<'_, R, M>,
     found: &ArgMatches<'_>,
@@ -201,8 +201,8 @@ fn relation_named(word: &str) -> Relation
     }
 }
 
-/// The relation that `--only` names, which the rows of a comparison must have to be shown; none where the option isn't
-/// given, and all rows with a difference are shown.
+/// The relation that `--only` names: only rows that have it are shown. `None` where the option isn't given: then all
+/// rows with a difference are shown.
 fn relation_of_rows(found: &ArgMatches<'_>) -> Option<Relation>
     ensures { result ≡ relation_of_rows (first_of (codes "only") (rows_of (found_of found.now))) }
 {
@@ -212,8 +212,9 @@ fn relation_of_rows(found: &ArgMatches<'_>) -> Option<Relation>
     }
 }
 
-/// Runs `compare` as the matches of the subcommand say, and gives its exit status, 0 to 2. The refusals are those of
-/// the files of names, `UnknownName` where `--calls` names a call that no set has, and then those of `compare`.
+/// Runs `compare` as the matches of the subcommand say, and gives its exit status, 0 to 2, as `command` explains it.
+/// The refusals are those of the files of names, `UnknownName` where `--calls` names a call that no set has, and then
+/// those of `compare`.
 fn run_compare<R: Threads + Wait + Sync, F: Files, M: Meter, O: Write>(
     means: &Means<'_, R, M>,
     found: &ArgMatches<'_>,
@@ -257,8 +258,9 @@ fn run_compare<R: Threads + Wait + Sync, F: Files, M: Meter, O: Write>(
     compare(&through(means, &gate), &task, files, notes, out)
 }
 
-/// Runs `list` as the matches of the subcommand say, and gives its exit status, 0 or 2. The refusals are those of the
-/// files of names, `UnknownName` where `--calls` names a call that no set has, and then those of `list`.
+/// Runs `list` as the matches of the subcommand say, and gives its exit status, 0 or 2, as `command` explains it. The
+/// refusals are those of the files of names, `UnknownName` where `--calls` names a call that no set has, and then those
+/// of `list`.
 fn run_list<R: Threads + Wait + Sync, F: Files, M: Meter, O: Write>(
     means: &Means<'_, R, M>,
     found: &ArgMatches<'_>,
@@ -294,8 +296,8 @@ fn run_list<R: Threads + Wait + Sync, F: Files, M: Meter, O: Write>(
     list(&through(means, &gate), &task, files, notes, out)
 }
 
-/// Runs `needed` as the matches of the subcommand say, and gives its exit status, 0 to 2. The refusals are those of
-/// `needed`.
+/// Runs `needed` as the matches of the subcommand say, and gives its exit status, 0 to 2, as `command` explains it. The
+/// refusals are those of `needed`.
 fn run_needed<R: Threads + Wait + Sync, F: Files, M: Meter, O: Write>(
     means: &Means<'_, R, M>,
     found: &ArgMatches<'_>,
@@ -385,13 +387,13 @@ fn run_words<R: Threads + Wait + Sync, F: Files, M: Meter, O: Write, E: Write>(
     err: &mut E,
 ) -> Result<u8, Fault>
     ensures status { IfOk result (λ s. (s ≤ 2) ⊎ (s ≡ 4)) }
-    ensures done { IfOk result (λ s. s ≤ 2 → DoesAsTold (F.holds files.old)
+    ensures done { IfOk result (λ s. s ≤ 2 → DoesAsAsked (F.holds files.old)
         (meant_words (map string_bytes words.now)) s (O.contents out.old) (O.contents out.new)) }
     ensures usage { IfOk result (λ s. s ≡ 4 → RefusesWords
         (meant_words (map string_bytes words.now))
         × (files.new ≡ files.old) × (out.new ≡ out.old)) }
     ensures quiet { IfErr result (λ e. (e ≡ WriteFault) ⊎ (out.new ≡ out.old)) }
-    ensures refused { IfErr result (RefusesAsTold (F.holds files.old)
+    ensures refused { IfErr result (RefusesAsAsked (F.holds files.old)
         (meant_words (map string_bytes words.now))) }
 {
     let alloc = means.alloc;
@@ -437,16 +439,16 @@ pub fn command<R: Threads + Wait + Sync, F: Files, M: Meter, O: Write, E: Write>
     err: &mut E,
 ) -> u8
     ensures status { result ≤ 5 }
-    ensures done { result ≤ 2 → DoesAsTold (F.holds files.old)
+    ensures done { result ≤ 2 → DoesAsAsked (F.holds files.old)
         (meant_words (map string_bytes words.now)) result
         (O.contents out.old) (O.contents out.new) }
     ensures usage { result ≡ 4 → RefusesWords (meant_words (map string_bytes words.now))
         × (files.new ≡ files.old) × (out.new ≡ out.old) }
     ensures refused { result ≡ 3 → (out.new ≡ out.old)
         × ((e : Fault) × (fault_status (fault_number e) ≡ 3)
-        × RefusesAsTold (F.holds files.old) (meant_words (map string_bytes words.now)) e) }
+        × RefusesAsAsked (F.holds files.old) (meant_words (map string_bytes words.now)) e) }
     ensures failed { result ≡ 5 → (e : Fault) × (fault_status (fault_number e) ≡ 5)
-        × RefusesAsTold (F.holds files.old) (meant_words (map string_bytes words.now)) e
+        × RefusesAsAsked (F.holds files.old) (meant_words (map string_bytes words.now)) e
         × ((e ≡ WriteFault) ⊎ (out.new ≡ out.old)) }
 {
     let mut notes = Notes::new(means.alloc);

@@ -16,8 +16,8 @@ ghost use Rattle.sf_compare.specs.declared.changes.Change.TheVariants.{Never};
 
 use sf_check::laws::one_program_of_a_file;
 
-/// Let the filter of a profile be compared, as the old stack, with other filters, and let *looser* be never. Then no
-/// input gets further under these filters than the profile lets it.
+/// A law for the prover. Let the filter of a profile be compared, as the old stack, with other filters, and let
+/// *looser* be never. Then no input gets further under these filters than the profile lets it.
 pub fn never_looser_keeps_the_profile()
     ensures { (bytes : List ℕ) (plan : PlanData) (files : List (List ℕ)) (budget : ℕ)
         (c : Compared) (d : Input) (a : Answer) →

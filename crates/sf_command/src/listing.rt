@@ -47,9 +47,9 @@ pub struct ListingTask<'m, 'a> {
     pub limits: Limits,
 }
 
-/// Writes a listing, as text or if `json` as one JSON document, with the calls of `ListingTask`. Gives whether it is
-/// whole: each input lies in a row with one answer. `Write` where writing fails, after a beginning of the listing;
-/// `Memory` where an allocation is refused: nothing was written then.
+/// Writes a listing, as text or if `json` as one JSON document. `sets` and `calls` are as in `ListingTask`. Gives
+/// whether the listing is whole: each input lies in a row with one answer. `Write` where writing fails (a beginning may
+/// be written then). `Memory` where an allocation is refused; nothing is written then.
 fn write_listed<O: Write>(
     alloc: Global,
     listing: &Listing,
@@ -73,14 +73,15 @@ fn write_listed<O: Write>(
     Ok(is_whole)
 }
 
-/// Reads the filter files, which are named in order of installation, explores their stack and writes its rows, with
-/// the names of calls from the sets. Where `calls` is given, the rows are written call by call: those of the calls
-/// that it names, or of all calls where it names none. The exit status is 0 where each input lies in a row with one
-/// answer, and else 2. The caller's condition: 1 to 64 workers.
+/// Reads the filter files, which are named in order of installation, explores their stack and writes its rows, with the
+/// names of calls from the sets. Where the task has `calls`, the rows are written call by call: those of the calls that
+/// it names, or of all calls where it names none. The exit status is 0 where each input lies in a row with one answer,
+/// and else 2. The notes get the warnings. The gate sees each work before it is committed. The caller's condition: 1 to
+/// 64 workers.
 ///
-/// Refusals, tried in this order: `Read` where a file can't be read; what `list` of the library refuses; `Write` where
-/// standard output can't be written, after a beginning of the text. `Memory` can come anywhere. After any error but
-/// `Write` nothing is written.
+/// Refusals, tried in this order: `Read` where a file can't be read; what `list` of `sf_list` refuses; `Write` where
+/// standard output can't be written (a beginning of the text may be written then). `Memory` can come anywhere. After
+/// any error but `Write` nothing is written.
 pub fn list<R: Threads + Wait + Sync, F: Files, G: Gate, O: Write>(
     means: &Means<'_, R, G>,
     task: &ListingTask<'_, '_>,

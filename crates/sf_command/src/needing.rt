@@ -28,8 +28,8 @@ pub struct Manner {
     pub json: bool,
 }
 
-/// Writes which filters are needed: a text, or if `json` one JSON document. `Write` where that fails, after a beginning
-/// of it; `Memory` where an allocation is refused: nothing was written then.
+/// Writes which filters are needed: a text, or if `json` one JSON document. `Write` where that fails (a beginning may
+/// be written then). `Memory` where an allocation is refused; nothing is written then.
 fn write_needs<O: Write>(alloc: Global, needs: &Needs, json: bool, out: &mut O) -> Result<(), Fault>
     ensures written { OnOk result (Appends (O.contents out.old) (O.contents out.new)
         (needs_output json needs.now)) }
@@ -47,9 +47,9 @@ fn write_needs<O: Write>(alloc: Global, needs: &Needs, json: bool, out: &mut O) 
 /// comparison commits at most `manner.budget` works, writes that, and gives the exit status. The gate sees each work
 /// before it is committed. The caller's condition: 1 to 64 workers.
 ///
-/// Refusals, tried in this order: `Read` where a file can't be read; what `needed` of the library refuses; `Write`
-/// where standard output can't be written, after a beginning of the text. `Memory` can come anywhere. After any error
-/// but `Write` nothing is written.
+/// Refusals, tried in this order: `Read` where a file can't be read; what `needed` of `sf_needed` refuses; `Write`
+/// where standard output can't be written (a beginning of the text may be written then). `Memory` can come anywhere.
+/// After any error but `Write` nothing is written.
 pub fn needed<R: Threads + Wait + Sync, F: Files, G: Gate, O: Write>(
     means: &Means<'_, R, G>,
     paths: &[&str],

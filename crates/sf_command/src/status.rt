@@ -10,7 +10,7 @@ use sf_needed::Needs;
 /// The exit status of an audit: 2 where the control doesn't hold; else 1 where some question is allowed whose name
 /// isn't an accepted one; else 2 where some question is unsettled; else 0.
 pub fn status_of_audit(expected: &Expected, outcome: &Outcome) -> u8
-    ensures told { result ≡ audit_status expected.now outcome.now }
+    ensures status { result ≡ audit_status expected.now outcome.now }
     ensures few { result ≤ 2 }
 {
     if !expected.does_hold() {
@@ -36,15 +36,15 @@ pub fn status_of_change(change: Change) -> u8
     }
 }
 
-/// The status of a listing: 0 where each input lies in a row with one answer, and else 2.
+/// The exit status of a listing: 0 where it is `whole`, so that each input lies in a row with one answer, and else 2.
 pub fn status_of_listing(whole: bool) -> u8
     ensures { result ≡ listing_status whole }
 {
     if whole { 0 } else { 2 }
 }
 
-/// The status of what is found of filters: 1 where some is spare, 2 where none is and some is unsettled, 0 where all
-/// are needed.
+/// The exit status of `needed`, by what was found of the filters: 1 where some filter is spare, 2 where none is spare
+/// and some is unsettled, 0 where all are needed.
 pub fn status_of_needs(needs: &Needs) -> u8
     ensures { result ≡ needs_status needs.now.findings }
 {

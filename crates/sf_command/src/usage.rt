@@ -12,8 +12,9 @@ use std::alloc::{AllocError, Global};
 use std::io::Write;
 
 /// Writes what `clap` says in place of matches. The help or the version, where that was asked for, goes to standard
-/// output, with status 0. Otherwise it says why the command line is refused, and goes to standard error, with status 4.
-/// `Memory` where an allocation was refused, to `clap` or here; `Write` where standard output can't be written.
+/// output, and the status is 0. Otherwise it says why the command line is refused, and goes to standard error, and the
+/// status is 4. `Memory` where an allocation was refused, to `clap` or here; nothing is written then. `Write` where
+/// standard output can't be written (a beginning of the text may be written then).
 pub(crate) fn write_usage<O: Write, E: Write>(
     alloc: Global,
     error: &clap::Error,
@@ -46,7 +47,8 @@ pub(crate) fn write_usage<O: Write, E: Write>(
     }
 }
 
-/// Adds copies of words. An error where an allocation is refused.
+/// Adds copies of these words to `all`, in order. An error where an allocation is refused; some of them may be added
+/// then.
 fn push_words(alloc: Global, all: &mut Vec<String>, words: &[String]) -> Result<(), AllocError>
     ensures { OnOk result (map string_bytes all.new.items
         ≡ map string_bytes all.old.items ++ map string_bytes words.now) }

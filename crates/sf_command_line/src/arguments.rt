@@ -22,7 +22,7 @@ fn switch<'a>(alloc: Global, name: &'a str) -> Arg<'a>
     Arg::new(alloc, name).long(name).action(ArgAction::SetTrue)
 }
 
-/// `--policy`: a file that asks questions; it may be given more than once.
+/// `--policy`: a file that asks questions; it must be given, and may be given more than once.
 pub(crate) fn policy<'a>(alloc: Global) -> Arg<'a>
     ensures rule { rule_of result ≡ needed_repeated_rule (codes "policy") }
     ensures own { result.global ≡ false }
@@ -33,7 +33,7 @@ pub(crate) fn policy<'a>(alloc: Global) -> Arg<'a>
         .help("A policy file, which asks questions; once for each file")
 }
 
-/// `--control`: the file of a second policy, each of whose questions must be allowed.
+/// `--control`: the file of a second policy, each of whose questions must be allowed. It may be left out.
 pub(crate) fn control<'a>(alloc: Global) -> Arg<'a>
     ensures rule { rule_of result ≡ option_rule (codes "control") }
     ensures own { result.global ≡ false }
@@ -43,7 +43,7 @@ pub(crate) fn control<'a>(alloc: Global) -> Arg<'a>
     )
 }
 
-/// `--accept`: the file of the names of questions that may be allowed.
+/// `--accept`: the file with the names of the questions that may be allowed.
 pub(crate) fn accept<'a>(alloc: Global) -> Arg<'a>
     ensures rule { rule_of result ≡ option_rule (codes "accept") }
     ensures own { result.global ≡ false }
@@ -69,7 +69,7 @@ pub(crate) fn json<'a>(alloc: Global) -> Arg<'a>
     switch(alloc, "json").help("Write one JSON document in place of the text")
 }
 
-/// `--budget`: the most works that are committed.
+/// `--budget`: the most works that are committed, 1 to 1,000,000; 100,000 where it isn't given.
 pub(crate) fn budget<'a>(alloc: Global) -> Arg<'a>
     ensures rule { rule_of result ≡ number_rule (codes "budget") 1000000 (codes "100000") }
     ensures own { result.global ≡ false }
@@ -81,7 +81,7 @@ pub(crate) fn budget<'a>(alloc: Global) -> Arg<'a>
         .help("The most pieces that are worked on, 1 to 1000000")
 }
 
-/// `--workers`: the number of workers.
+/// `--workers`: the number of workers, 1 to 64; 4 where it isn't given.
 pub(crate) fn workers<'a>(alloc: Global) -> Arg<'a>
     ensures rule { rule_of result ≡ number_rule (codes "workers") 64 (codes "4") }
     ensures own { result.global ≡ false }
@@ -93,7 +93,8 @@ pub(crate) fn workers<'a>(alloc: Global) -> Arg<'a>
         .help("The number of workers, 1 to 64: 1 is as fast, and answers more under a budget")
 }
 
-/// `--leaves`: after how many leaves of a picture no further fork is begun. Each branch that is left then gets a leaf.
+/// `--leaves`: after how many leaves of a picture no further fork is begun, 1 to 1,000,000; 20,000 where it isn't
+/// given. Each branch that is left then gets a leaf.
 pub(crate) fn leaves<'a>(alloc: Global) -> Arg<'a>
     ensures rule { rule_of result ≡ number_rule (codes "leaves") 1000000 (codes "20000") }
     ensures own { result.global ≡ false }
@@ -196,7 +197,7 @@ pub(crate) fn quiet<'a>(alloc: Global) -> Arg<'a>
     switch(alloc, "quiet").help("Leave out the warnings on standard error")
 }
 
-/// The paths of the filter files.
+/// The paths of the filter files, at least one. They stand without an option, in order of installation.
 pub(crate) fn filters<'a>(alloc: Global) -> Arg<'a>
     ensures rule { rule_of result ≡ filters_rule }
     ensures own { result.global ≡ false }
@@ -248,7 +249,8 @@ pub(crate) fn names<'a>(alloc: Global) -> Arg<'a>
         .help("A file of names of calls, such as policies/names.toml; once for each file")
 }
 
-/// `--calls`: whether rows are shown call by call, and of which calls.
+/// `--calls`: whether rows are shown call by call, and of which calls. Where no names follow it, its text is empty, and
+/// all calls are meant.
 pub(crate) fn calls<'a>(alloc: Global) -> Arg<'a>
     ensures rule { rule_of result ≡ choice_rule (codes "calls") }
     ensures own { result.global ≡ false }
@@ -259,7 +261,7 @@ pub(crate) fn calls<'a>(alloc: Global) -> Arg<'a>
         .help("A line for each row of each call of --names, or of these calls only")
 }
 
-/// `--only`: of which relation rows are listed.
+/// `--only`: the relation whose rows are listed. Whether its word is that of a relation is seen later.
 pub(crate) fn only<'a>(alloc: Global) -> Arg<'a>
     ensures rule { rule_of result ≡ option_rule (codes "only") }
     ensures own { result.global ≡ false }
@@ -287,7 +289,8 @@ pub(crate) fn instructions<'a>(alloc: Global) -> Arg<'a>
     switch(alloc, "instructions").help("List the instructions of each filter too")
 }
 
-/// `--machine`: the machine for which a profile is read.
+/// `--machine`: the machine for which a profile is read; it must be given. Whether its word is that of a machine is
+/// seen later.
 pub(crate) fn machine<'a>(alloc: Global) -> Arg<'a>
     ensures rule { rule_of result ≡ needed_rule (codes "machine") }
     ensures own { result.global ≡ false }
@@ -307,7 +310,7 @@ pub(crate) fn cap<'a>(alloc: Global) -> Arg<'a>
     )
 }
 
-/// `--kernel`: the version of the kernel.
+/// `--kernel`: the version of the kernel for which a profile is read.
 pub(crate) fn kernel<'a>(alloc: Global) -> Arg<'a>
     ensures rule { rule_of result ≡ option_rule (codes "kernel") }
     ensures own { result.global ≡ false }
@@ -315,7 +318,7 @@ pub(crate) fn kernel<'a>(alloc: Global) -> Arg<'a>
     option(alloc, "kernel", "X.Y").help("The version of the kernel, such as 6.12")
 }
 
-/// `--conflicts`: which rule counts where several speak of one call.
+/// `--conflicts`: which rule counts where several speak of one call; `strictest` where it isn't given.
 pub(crate) fn conflicts<'a>(alloc: Global) -> Arg<'a>
     ensures rule { rule_of result ≡ word_rule (codes "conflicts") (codes "strictest") }
     ensures own { result.global ≡ false }
@@ -343,7 +346,7 @@ pub(crate) fn notes<'a>(alloc: Global) -> Arg<'a>
     switch(alloc, "notes").help("Write what the profile has, and not its filter")
 }
 
-/// The path of the file of a profile.
+/// The path of the file of a profile; it must be given.
 pub(crate) fn profile_file<'a>(alloc: Global) -> Arg<'a>
     ensures rule { rule_of result ≡ file_rule (codes "profile") }
     ensures own { result.global ≡ false }

@@ -21,8 +21,8 @@ pub fn given_text<'a>(found: &ArgMatches<'a>, name: &str) -> Option<&'a str>
     found.get_str(name)
 }
 
-/// The budget of an exploration; 100,000 where it isn't given. The form of the command line lets only 1 to 1,000,000
-/// through.
+/// The most works that an exploration may commit, by `--budget`; 100,000 where it isn't given. The form of the command
+/// line lets only 1 to 1,000,000 through.
 pub fn budget_of(found: &ArgMatches<'_>) -> u32
     ensures { IsOptionNumber (one_of (codes "budget") (rows_of (found_of found.now)))
         1000000 100000 result }
@@ -125,7 +125,8 @@ pub fn wants_quiet(found: &ArgMatches<'_>) -> bool
     is_on(found, "quiet")
 }
 
-/// After how many leaves of a picture no further fork is begun; 20,000 where it isn't given.
+/// After how many leaves of a picture no further fork is begun; 20,000 where it isn't given. The form of the command
+/// line lets only 1 to 1,000,000 through.
 pub fn leaves_of(found: &ArgMatches<'_>) -> u32
     ensures { IsOptionNumber (one_of (codes "leaves") (rows_of (found_of found.now)))
         1000000 20000 result }

@@ -43,7 +43,7 @@ The path - is standard input, for one file. `seccomp_audit help COMMAND` is `sec
 
 docs/GUIDE.md says how to get filters, how to ask questions and how to read the answers.";
 
-/// The subcommand `audit` and what it takes.
+/// The subcommand `audit` and what it takes. An error where an allocation is refused.
 fn audit<'a>(alloc: Global) -> Result<Command<'a>, AllocError>
     ensures { IfOk result (λ c. app_of c ≡ audit_line) }
 {
@@ -64,7 +64,7 @@ fn audit<'a>(alloc: Global) -> Result<Command<'a>, AllocError>
         .arg(filters(alloc))
 }
 
-/// The subcommand `check` and what it takes.
+/// The subcommand `check` and what it takes. An error where an allocation is refused.
 fn check<'a>(alloc: Global) -> Result<Command<'a>, AllocError>
     ensures { IfOk result (λ c. app_of c ≡ check_line) }
 {
@@ -77,7 +77,7 @@ fn check<'a>(alloc: Global) -> Result<Command<'a>, AllocError>
         .arg(filters(alloc))
 }
 
-/// The subcommand `eval` and what it takes.
+/// The subcommand `eval` and what it takes. An error where an allocation is refused.
 fn eval<'a>(alloc: Global) -> Result<Command<'a>, AllocError>
     ensures { IfOk result (λ c. app_of c ≡ eval_line) }
 {
@@ -96,7 +96,7 @@ fn eval<'a>(alloc: Global) -> Result<Command<'a>, AllocError>
         .arg(filters(alloc))
 }
 
-/// The subcommand `compare` and what it takes.
+/// The subcommand `compare` and what it takes. An error where an allocation is refused.
 fn compare<'a>(alloc: Global) -> Result<Command<'a>, AllocError>
     ensures { IfOk result (λ c. app_of c ≡ compare_line) }
 {
@@ -122,7 +122,7 @@ fn compare<'a>(alloc: Global) -> Result<Command<'a>, AllocError>
         .arg(explain(alloc))
 }
 
-/// The subcommand `list` and what it takes.
+/// The subcommand `list` and what it takes. An error where an allocation is refused.
 fn list<'a>(alloc: Global) -> Result<Command<'a>, AllocError>
     ensures { IfOk result (λ c. app_of c ≡ list_line) }
 {
@@ -140,7 +140,7 @@ fn list<'a>(alloc: Global) -> Result<Command<'a>, AllocError>
         .arg(filters(alloc))
 }
 
-/// The subcommand `needed` and what it takes.
+/// The subcommand `needed` and what it takes. An error where an allocation is refused.
 fn needed<'a>(alloc: Global) -> Result<Command<'a>, AllocError>
     ensures { IfOk result (λ c. app_of c ≡ needed_line) }
 {
@@ -155,7 +155,7 @@ fn needed<'a>(alloc: Global) -> Result<Command<'a>, AllocError>
         .arg(filters(alloc))
 }
 
-/// The subcommand `profile` and what it takes.
+/// The subcommand `profile` and what it takes. An error where an allocation is refused.
 fn profile<'a>(alloc: Global) -> Result<Command<'a>, AllocError>
     ensures { IfOk result (λ c. app_of c ≡ profile_line) }
 {
@@ -173,7 +173,8 @@ fn profile<'a>(alloc: Global) -> Result<Command<'a>, AllocError>
         .arg(profile_file(alloc))
 }
 
-/// The program without its subcommands.
+/// The program without its subcommands. The words that are matched by it begin behind the program's name. An error
+/// where an allocation is refused.
 fn program<'a>(alloc: Global) -> Result<Command<'a>, AllocError>
     ensures { IfOk result (λ c. app_of c ≡ program_line) }
 {

@@ -44,18 +44,19 @@ module _ (before after : Text → Option Text) (rows : List Row) (s : Settings) 
   known_before same is known = subst (λ (k : Option Text). AreKnownBytes k bytes) (same path ∙ ap before is) known
 
   -- a profile that was read was written
-  pub profile_written : (told : Bool) (old new : Option Text) → ((p : Text) → after p ≡ before p)
+  pub profile_written : (wants_notes : Bool) (old new : Option Text) → ((p : Text) → after p ≡ before p)
       → path ≡ text_of (codes "profile") rows → AreKnownBytes (after path) bytes → seen ≡ bytes
-      → IsReadFor before rows s → IsSwitch (one_of (codes "notes") rows) told → WritesOf told s seen old new
+      → IsReadFor before rows s → IsSwitch (one_of (codes "notes") rows) wants_notes
+      → WritesOf wants_notes s seen old new
       → WritesProfile before rows old new
-  profile_written told old new same is known value read asked written = record {
+  profile_written wants_notes old new same is known value read asked written = record {
     settings = s;
     is_read_for = read;
     bytes = bytes;
     read = known_before same is known;
-    told = told;
+    wants_notes = wants_notes;
     asked = asked;
-    written = subst (λ (b : Text). WritesOf told s b old new) value written;
+    written = subst (λ (b : Text). WritesOf wants_notes s b old new) value written;
   }
 
   -- a profile that was read is refused, or writing failed

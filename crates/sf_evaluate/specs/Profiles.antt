@@ -111,7 +111,7 @@ pub record IsReadFor (holds : Text → Option Text) (rows : List Row) (s : Setti
   pub calls : AreCallsOf names s.calls.items
 
 -- what is written of the bytes of a profile: its filter, or what is told of it
-abbrev pub WritesOf : (told : Bool) → Settings → (bytes : Text) → (old new : Option Text) → Type 0
+abbrev pub WritesOf : (wants_notes : Bool) → Settings → (bytes : Text) → (old new : Option Text) → Type 0
 WritesOf false s bytes old new = (filter : Text) × MakesFilterOf s bytes filter × Appends old new filter
 WritesOf true s bytes old new = (text : Text) × AreNotesOfText s bytes text × Appends old new text
 
@@ -121,9 +121,9 @@ pub record WritesProfile (holds : Text → Option Text) (rows : List Row) (old n
   pub is_read_for : IsReadFor holds rows settings
   pub bytes : Text
   pub read : AreKnownBytes (holds (text_of (codes "profile") rows)) bytes
-  pub told : Bool
-  pub asked : IsSwitch (one_of (codes "notes") rows) told
-  pub written : WritesOf told settings bytes old new
+  pub wants_notes : Bool
+  pub asked : IsSwitch (one_of (codes "notes") rows) wants_notes
+  pub written : WritesOf wants_notes settings bytes old new
 
 -- the bytes of a profile are refused for this reason
 abbrev pub RefusesProfileOf : Settings → (bytes : Text) → Fault → Type 0

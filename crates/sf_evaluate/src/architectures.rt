@@ -5,15 +5,16 @@ use sf_ask::Question;
 use sf_names::Names;
 use std::alloc::AllocError;
 
-/// Whether a question asks about just one architecture (word 1 of an input), and no set has it. A range of several is
-/// meant as it is written, so no question with one is strange.
+/// Whether a question asks about exactly one architecture (word 1 of an input), and no set is of that architecture. A
+/// question about several architectures isn't strange: its range is taken to be meant.
 fn is_strange(question: &Question, sets: &[Names]) -> bool {
     let (low, high) = question.range(1);
     low == high && !sets.iter().any(|names| names.arch() == low)
 }
 
-/// Adds the warning of the first question that asks about an architecture of no set; nothing where none does. An error
-/// where an allocation is refused.
+/// Adds a warning about the first strange question, as `is_strange` says it, with the question's number, from 1, and
+/// its name. Adds nothing where no question is strange. An error where an allocation is refused; a part of the warning
+/// may stand in the text then.
 fn push_warning(
     text: &mut String,
     questions: &[Question],
@@ -37,9 +38,10 @@ fn push_warning(
 }
 
 impl Notes {
-    /// Adds a warning to those that are kept, where a question asks about one architecture that none of the sets has.
-    /// Nothing changes where there are no sets, or where there was no memory for the warnings before. Where there is
-    /// none for this one, that is kept in place of all warnings.
+    /// Adds a warning to those in the notes, where a question asks about exactly one architecture, and no set is of
+    /// that architecture. Nothing changes where there are no sets, or where the notes say already that there was no
+    /// memory for warnings. Where there is no memory for this warning, the notes say so from then on, and keep no
+    /// warning.
     pub fn warn_of_questions(&mut self, questions: &[Question], sets: &[Names]) {
         if sets.is_empty() {
             return;

@@ -57,7 +57,7 @@ pub struct Evaluation<'a> {
     pub names: &'a [Names],
 }
 
-/// Writes a text to standard output. `Write` where that fails, after a beginning of the text.
+/// Writes a text to standard output. `Write` where that fails (a beginning of the text may be written then).
 pub fn print<O: Write>(text: &str, out: &mut O) -> Result<(), Fault>
     ensures written { OnOk result (Appends (O.contents out.old) (O.contents out.new) text.now) }
     ensures refused { IfErr result (λ e. e ≡ WriteFault) }
@@ -76,8 +76,8 @@ pub fn input_of(text: &str) -> Result<Input, Fault>
     Ok(input_of_bytes(&bytes))
 }
 
-/// What `check` says of a stack: a text, or if `json` one JSON document; if `listed`, with the instructions of each
-/// filter. An error where an allocation is refused.
+/// What `check` says of a stack: the text of `check_text`, or if `json` the document of `check_document` on a line of
+/// its own. If `listed`, the instructions of each filter belong to it. An error where an allocation is refused.
 fn check_output(
     alloc: Global,
     stack: &Stack,
@@ -93,10 +93,11 @@ fn check_output(
     line_of(alloc, &document)
 }
 
-/// Writes the number of instructions of each filter and the path length of their stack, as it is asked for. The notes
-/// get the warnings that the files call for. `filters` are the bytes of the filter files. Refusals: those of
-/// `stack_of`; `Write` where standard output can't be written, after a beginning of the text. `Memory` can come
-/// anywhere.
+/// Writes how many instructions each filter has, and the path length of their stack, in the manner `how`. `filters` are
+/// the bytes of the filter files, in order of installation. The notes get the warnings about these files, or that there
+/// was no memory for the warnings, which is no refusal. Refusals: those of `stack_of`; `Write` where standard output
+/// can't be written (a beginning of the text may be written then). `Memory` can come anywhere. After any error but
+/// `Write` nothing is written.
 fn check_filters<O: Write>(
     alloc: Global,
     filters: &[Vec<u8>],
@@ -117,8 +118,8 @@ fn check_filters<O: Write>(
 }
 
 /// The text of the stack's answer to the input. Where `traced` or `brief` is set, lines under the answer show the
-/// input, and how each filter comes to its return value; with `brief` without the comparisons that are false. `Memory`
-/// where an allocation is refused.
+/// input, with the name of its call where `names` have it, and how each filter comes to its return value; with `brief`
+/// without the comparisons that are false. `Memory` where an allocation is refused.
 fn eval_text(
     alloc: Global,
     stack: &Stack,
@@ -127,7 +128,7 @@ fn eval_text(
     brief: bool,
     names: &[Names],
 ) -> Result<String, Fault>
-    ensures told { IfOk result (λ text. (a : Answer) × Answers stack.now input.now a
+    ensures shown { IfOk result (λ text. (a : Answer) × Answers stack.now input.now a
         × (string_bytes text ≡ eval_text traced brief names.now stack.now input.now a)) }
     ensures refused { IfErr result (λ e. e ≡ MemoryFault) }
 {
@@ -147,8 +148,9 @@ fn eval_text(
     Ok(text)
 }
 
-/// What `eval` says of the stack's answer to the input: a text, or if `how.json` one JSON document. `Memory` where an
-/// allocation is refused.
+/// What `eval` says of the stack's answer to the input, in the manner `how` and with these names of calls: the text of
+/// `eval_text`, or if `how.json` the document of `eval_document` on a line of its own. `Memory` where an allocation is
+/// refused.
 fn eval_output(
     alloc: Global,
     stack: &Stack,
@@ -156,7 +158,7 @@ fn eval_output(
     how: Manner,
     names: &[Names],
 ) -> Result<String, Fault>
-    ensures told { IfOk result (λ text. (a : Answer) × Answers stack.now input.now a
+    ensures shown { IfOk result (λ text. (a : Answer) × Answers stack.now input.now a
         × (string_bytes text ≡ eval_output how.traced how.brief how.json names.now stack.now
         input.now a)) }
     ensures refused { IfErr result (λ e. e ≡ MemoryFault) }
@@ -168,8 +170,8 @@ fn eval_output(
     Ok(line_of(alloc, &document)?)
 }
 
-/// Writes what the stack of the filters answers to the input, as it is asked for. `filters` are the bytes of the filter
-/// files. The refusals are those of `check_filters`.
+/// Writes what the stack of the filters answers to the input in `asked`, in the manner that `asked` has. `filters` are
+/// the bytes of the filter files, in order of installation. The refusals are those of `check_filters`.
 fn evaluate_filters<O: Write>(
     alloc: Global,
     asked: &Evaluation<'_>,
@@ -191,11 +193,11 @@ fn evaluate_filters<O: Write>(
 /// Reads the filter files, which are named in order of installation, and writes the number of instructions of each and
 /// the path length of their stack. Where `how.listed` asks for it, the instructions of each filter stand under its
 /// line, and those to which no path through the filter comes have a comment. Where `how.json` asks for it, all that is
-/// one JSON document.
+/// one JSON document. The notes count the files, and get the warnings about them.
 ///
 /// Refusals, tried in this order: `Read` where a file can't be read; what `stack_of` refuses; `Write` where standard
-/// output can't be written, after a beginning of the text. `Memory` can come anywhere. After any error but `Write`
-/// nothing is written.
+/// output can't be written (a beginning of the text may be written then). `Memory` can come anywhere. After any error
+/// but `Write` nothing is written.
 pub fn check<F: Files, O: Write>(
     alloc: Global,
     paths: &[&str],
@@ -213,8 +215,8 @@ pub fn check<F: Files, O: Write>(
     check_filters(alloc, &filters, how, notes, out)
 }
 
-/// Reads the filter files, which are named in order of installation, and writes what their stack answers to the input,
-/// as it is asked for. The refusals are those of `check`.
+/// Reads the filter files, which are named in order of installation, and writes what their stack answers to the input
+/// in `asked`, in the manner that `asked` has. The notes count the files. The refusals are those of `check`.
 pub fn evaluate<F: Files, O: Write>(
     alloc: Global,
     asked: &Evaluation<'_>,

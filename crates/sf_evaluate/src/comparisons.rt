@@ -11,7 +11,8 @@ use sf_run::Met;
 pub(crate) struct Comparison {
     /// The place of the instruction.
     pub(crate) place: usize,
-    /// The place of the word of the input that is compared, 0 to 15; none where it is no such word.
+    /// The place of the word of the input that is compared, 0 to 15; `None` where the number that is compared is no
+    /// such word.
     pub(crate) word: Option<u8>,
     /// The number that is compared.
     pub(crate) value: u32,
@@ -35,7 +36,8 @@ pub(crate) fn sign_of(test: Test) -> &'static str
     }
 }
 
-/// Whether a comparison was met that is false. A division by X compares X with 0, so it is false where X isn't 0.
+/// Whether what was met is a comparison that is false. A division by X compares X with 0, so it is false where X isn't
+/// 0. A return is no comparison.
 pub(crate) fn is_false(met: Met) -> bool
     ensures { result ≡ is_false met }
 {

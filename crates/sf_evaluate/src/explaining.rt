@@ -36,29 +36,33 @@ use sf_command_line::{text_of, wants_explanation};
 use sf_policy::{Fault, Refusal};
 use std::alloc::{AllocError, Global};
 
-/// What was read before a fault came, and the text that explains the fault.
+/// What a run notes for a person beside its result: what was read, what was refused, warnings, and the text that
+/// explains a fault.
 #[derive(Drop)]
 pub struct Notes {
     /// The bytes of the policy file that was read last, and empty before one is.
     pub policy: Vec<u8>,
     /// Why a policy is refused, if `read_policy` refuses it.
     pub refusal: Option<Refusal>,
-    /// The key for which a profile is refused, where one is known, or that there is no memory for it.
+    /// The key for which a profile is refused; `Ok(None)` where none is known, and an error where there was no memory
+    /// for it.
     pub key: Result<Option<String>, AllocError>,
-    /// The first set of names for which `profile` is refused, or that there is no memory for it.
+    /// The first set of names that is none of the five of `CallSet`, so that `profile` is refused; `Ok(None)` where
+    /// there is none, and an error where there was no memory for it.
     pub(crate) other: Result<Option<OtherSet>, AllocError>,
-    /// How many sets each of the files of names has that were read, in order; less of them where an allocation was
-    /// refused.
+    /// How many sets each file of names has, in the order in which these files were read. Where an allocation was
+    /// refused, the list ends before that file.
     sets: Vec<usize>,
     /// How many files were read, of whatever kind.
     pub files: usize,
-    /// What each of these files seems to hold, in order; less of them where an allocation was refused.
+    /// What each of these files seems to hold, in the order in which they were read. Where an allocation was refused,
+    /// the list ends before that file.
     kinds: Vec<Kind>,
     /// Which of the policies is refused, where one is.
     pub(crate) which: Which,
     /// The lines that explain the fault, where they are asked for and there is memory for them.
     pub explanation: Option<String>,
-    /// The lines of warnings, or that there is no memory for them.
+    /// The lines of warnings; an error where there was no memory for them.
     pub warnings: Result<String, AllocError>,
     /// Whether the files of names have the set that `eval --arch` names. It is true until that is looked up.
     pub(crate) is_set_known: bool,
@@ -90,8 +94,9 @@ impl Notes {
         }
     }
 
-    /// Counts a file with these bytes that was read, and keeps what it seems to hold. That isn't kept where there is no
-    /// memory for it, nor then for later files.
+    /// Counts a file with these bytes that was read, and keeps what it seems to hold. Where there is no memory for
+    /// that, nothing is kept for this file nor for later ones: else what is kept for a later file would stand at the
+    /// place of this one.
     pub(crate) fn count_file(&mut self, bytes: &[u8]) {
         if self.kinds.len() == self.files {
             let _ = self.kinds.push(kind_of(bytes));
@@ -99,17 +104,18 @@ impl Notes {
         self.files = self.files.saturating_add(1);
     }
 
-    /// Keeps how many sets the file of names has that was counted last. That isn't kept where there is no memory for
-    /// it, nor then for later files.
+    /// Keeps how many sets a file of names has. The caller has counted this file just before, with `count_file`, and
+    /// only files of names before it. Where there is no memory for the number, nothing is kept for this file nor for
+    /// later ones.
     pub(crate) fn count_sets(&mut self, count: usize) {
         if self.sets.len().saturating_add(1) == self.files {
             let _ = self.sets.push(count);
         }
     }
 
-    /// The place of the file of names that has the set at `place`, and how many sets it has; none where that isn't
-    /// known. Both places count from 0: that of the set among all sets that were read, that of the file among the files
-    /// of names.
+    /// The place of the file of names that has the set at `place`, and how many sets that file has; `None` where it
+    /// isn't known. Both places count from 0: that of the set among all sets that were read, that of the file among the
+    /// files of names.
     pub(crate) fn file_of_set(&self, place: usize) -> Option<(usize, usize)> {
         let mut before = 0usize;
         for (file, count) in self.sets.iter().enumerate() {
@@ -130,7 +136,8 @@ impl Notes {
         }
     }
 
-    /// The questions that were read of a policy, or the fault of its refusal, which is kept in the notes.
+    /// The questions, where `read` has them. Where it has the refusal of a policy, the notes keep that, and its fault
+    /// is the error.
     pub fn take_refusal(
         &mut self,
         read: Result<Vec<Question>, Refusal>,
@@ -147,9 +154,10 @@ impl Notes {
         }
     }
 
-    /// Does nothing unless the run ended with a fault. Then keeps which of several policies is refused, and the lines
-    /// that explain the fault. These are made only if the matches ask for them, or `explains` is true: then each fault
-    /// is explained. `reason` says in words for a person why the last file couldn't be read.
+    /// Where the run ended with a fault, keeps in the notes which of several policies is refused, and the lines that
+    /// explain the fault; else does nothing. `ran` is how the run ended. The lines are kept only where the matches ask
+    /// for them or `explains` is true, and where there is memory for them. `reason` says in words for a person why the
+    /// last file couldn't be read.
     pub fn explain(
         &mut self,
         alloc: Global,
@@ -190,20 +198,21 @@ fn role_of_last(found: &ArgMatches<'_>, notes: &Notes) -> Role {
     }
 }
 
-/// Adds the line of the file of names that was read last, which is refused.
+/// Adds the line of the file of names that was read last, which is refused. An error where an allocation is refused.
 fn push_names(text: &mut String, found: &ArgMatches<'_>, notes: &Notes) -> Result<(), AllocError> {
     let path = path_at(found, notes.files.saturating_sub(1));
     write!(text, "names {path:?}\n")
 }
 
-/// Adds the line of the file of the questions that may be allowed.
+/// Adds the line of the file of the questions that may be allowed, the one behind `--accept`. An error where an
+/// allocation is refused.
 fn push_accept(text: &mut String, found: &ArgMatches<'_>) -> Result<(), AllocError> {
     let path = text_of(found, "accept");
     write!(text, "accept {path:?}\n")
 }
 
 /// Adds the lines of the file that was read last and is refused, where it is a policy, a file of names or one of
-/// questions that may be allowed.
+/// questions that may be allowed; nothing for a filter or a profile. An error where an allocation is refused.
 fn push_asked(
     alloc: Global,
     text: &mut String,
@@ -221,7 +230,8 @@ fn push_asked(
     }
 }
 
-/// Adds the line of a file that can't be read, with the reason where it is known.
+/// Adds the line of a file that can't be read, and the reason on it, unless this is empty. An error where an allocation
+/// is refused.
 fn push_unread(text: &mut String, path: &str, reason: &str) -> Result<(), AllocError> {
     if reason.is_empty() {
         return write!(text, "file {path:?}\n");
@@ -230,7 +240,7 @@ fn push_unread(text: &mut String, path: &str, reason: &str) -> Result<(), AllocE
 }
 
 /// Adds the line that says why a text spells no input: which character, counted from 1, is no hexadecimal digit, or how
-/// many digits there are. The caller has seen that it spells none.
+/// many digits there are. The caller has seen that it spells none. An error where an allocation is refused.
 fn push_input(text: &mut String, input: &str) -> Result<(), AllocError> {
     match input.chars().position(|digit| !digit.is_ascii_hexdigit()) {
         Some(place) => {
@@ -245,7 +255,7 @@ fn push_input(text: &mut String, input: &str) -> Result<(), AllocError> {
 }
 
 /// Adds the line that says which number of a call is too wide: one behind `--args`, else that behind `--nr`, else that
-/// behind `--arch`. The caller has seen that one is.
+/// behind `--arch`. The caller has seen that one is. An error where an allocation is refused.
 fn push_wide(text: &mut String, found: &ArgMatches<'_>) -> Result<(), AllocError> {
     let (args, nr) = (text_of(found, "args"), text_of(found, "nr"));
     if read_arguments(args).is_err() {
@@ -258,7 +268,8 @@ fn push_wide(text: &mut String, found: &ArgMatches<'_>) -> Result<(), AllocError
     write!(text, "arch {arch:?}: more than 32 bits\n")
 }
 
-/// Adds the line that says why the words spell no input.
+/// Adds the line that says why the words of `eval` spell no input, as the caller has seen: by `push_input` where
+/// `--input` is given, else by `push_wide`. An error where an allocation is refused.
 fn push_misspelled(text: &mut String, found: &ArgMatches<'_>) -> Result<(), AllocError> {
     match found.get_str("input") {
         Some(input) => push_input(text, input),
@@ -266,7 +277,9 @@ fn push_misspelled(text: &mut String, found: &ArgMatches<'_>) -> Result<(), Allo
     }
 }
 
-/// Adds the line of the name of a call that is asked for, or of a set, that no file of names has.
+/// Adds the line of the name that no file of names has. Where `--calls` is given, it is the call behind it that the
+/// notes know. Else it is the call behind `--call`, or where the notes say that the set behind `--arch` is unknown,
+/// that set. An error where an allocation is refused.
 fn push_unknown(
     text: &mut String,
     found: &ArgMatches<'_>,
@@ -284,7 +297,8 @@ fn push_unknown(
 }
 
 /// Adds the line of the policy file with this path, and lines that say where it is refused: where it isn't UTF-8, or
-/// what the notes know of its refusal. They have its bytes. An error where an allocation is refused.
+/// what the notes know of its refusal. The caller has seen that the notes have the bytes of this file. An error where
+/// an allocation is refused.
 fn push_policy(
     alloc: Global,
     text: &mut String,
@@ -368,8 +382,9 @@ fn push_place(
     }
 }
 
-/// The hint for the file that can't be read, which is the one at this place among all files: what kind of file is
-/// wanted. There is none for a filter or a profile, nor where `hint_of_unread` has none.
+/// The hint for a file that can't be read: what kind of file is wanted. `place` is the file's, from 0, among all files
+/// that are read, and `reason` says why it can't be read. `None` for a filter or a profile, where there is no such
+/// file, and where `hint_of_unread` gives `None`.
 fn hint_of_read(found: &ArgMatches<'_>, place: usize, reason: &str) -> Option<Hint> {
     let (role, path) = file_at(found, place)?;
     let ready = match role {
@@ -382,7 +397,9 @@ fn hint_of_read(found: &ArgMatches<'_>, place: usize, reason: &str) -> Option<Hi
     hint_of_unread(path, reason, ready)
 }
 
-/// What may have been meant by what is refused; none where that isn't known. An error where an allocation is refused.
+/// What may have been meant by what is refused; `None` where that isn't known. For a profile it is asked only where the
+/// profile itself is refused, and not a set of names. `reason` is why a file can't be read. An error where an
+/// allocation is refused.
 fn hint_of(
     alloc: Global,
     found: &ArgMatches<'_>,
@@ -413,7 +430,7 @@ fn hint_of(
     }
 }
 
-/// What it means that a file of a role is no UTF-8 or no TOML.
+/// What the fault `Syntax` means for a file that was read in this role.
 fn meaning_of_syntax(role: Role) -> &'static str {
     match role {
         Role::Names => "the file of names is no UTF-8 or no TOML",

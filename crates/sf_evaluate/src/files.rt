@@ -37,7 +37,8 @@ pub trait Files {
             ⊎ (e ≡ Memory)) }
         ensures same { (p : List ℕ) → holds self.new p ≡ holds self.old p };
 
-    /// Why the last file was refused, in words for a person; empty where that isn't known. No contract speaks of it.
+    /// Why the last file that was refused couldn't be read, in words for a person; empty where that isn't known. No
+    /// contract speaks of it.
     fn reason(&self) -> &str;
 
     /// Whether each fault is explained, also where the command line doesn't ask for it. By default it isn't.

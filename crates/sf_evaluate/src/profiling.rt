@@ -20,8 +20,8 @@ use sf_profile::{
 use std::alloc::{AllocError, Global};
 use std::io::Write;
 
-/// The line that warns of names that no file of names has; empty where there are none. The caller has made the filter
-/// of this profile, so that the only fault left is refused memory.
+/// The line that warns of names in the profile that no file of names has; empty where there are none. An error where an
+/// allocation is refused: the caller has made the filter of this profile before, so that no other fault is left.
 fn warning_of(alloc: Global, settings: &Settings, bytes: &[u8]) -> Result<String, AllocError> {
     let names = unknown_names(alloc, settings, bytes).map_err(|_| AllocError)?;
     let mut text = String::new(alloc);
@@ -31,21 +31,22 @@ fn warning_of(alloc: Global, settings: &Settings, bytes: &[u8]) -> Result<String
     Ok(text)
 }
 
-/// Writes a profile's filter, or its notes if `told`. `bytes` are those of its file. Refusals: those of the profile;
-/// then `Write` where standard output can't be written, after a beginning of what is written.
+/// Writes a profile's filter, or if `wants_notes` the notes on the profile. `bytes` are those of its file. Refusals:
+/// those of `profile` of `sf_profile`; then `Write` where standard output can't be written (a beginning may be written
+/// then). After any other error nothing is written.
 fn write_of<O: Write>(
     alloc: Global,
     settings: &Settings,
-    told: bool,
+    wants_notes: bool,
     bytes: &[u8],
     out: &mut O,
 ) -> Result<(), Fault>
-    ensures written { OnOk result (WritesOf told settings.now bytes.now (O.contents out.old)
+    ensures written { OnOk result (WritesOf wants_notes settings.now bytes.now (O.contents out.old)
         (O.contents out.new)) }
     ensures refused { IfErr result (λ e. (e ≡ WriteFault)
         ⊎ (RefusesProfileOf settings.now bytes.now e × (out.new ≡ out.old))) }
 {
-    if told {
+    if wants_notes {
         let text = notes_of(alloc, settings, bytes)?;
         return print(&text, out);
     }
@@ -53,8 +54,8 @@ fn write_of<O: Write>(
     write_bytes(&filter, out)
 }
 
-/// The first set that is none of the five sets of `CallSet`; none where each is one of them. An error where an
-/// allocation is refused.
+/// The first set that is none of the five sets of `CallSet`, by its place, from 0, and its name; `None` where each is
+/// one of them. An error where an allocation is refused.
 fn other_set(alloc: Global, names: &[Names]) -> Result<Option<OtherSet>, AllocError> {
     for (place, one) in names.iter().enumerate() {
         if set_of_names(one).is_none() {
@@ -66,8 +67,9 @@ fn other_set(alloc: Global, names: &[Names]) -> Result<Option<OtherSet>, AllocEr
 }
 
 /// The settings for a profile: what the command line says, with the calls of the files of names. Keeps in the notes the
-/// first set that is none of the five of `CallSet`. The caller's condition: the words behind the options fit. The
-/// refusals are those of `read_all_names`; then those of `calls_of`.
+/// first set that is none of the five of `CallSet`. The caller's condition: the words behind the options fit, as
+/// `profile_words_fit` says. The refusals are those of `read_all_names`; then those of `calls_of`. `Memory` can come
+/// anywhere.
 fn read_settings<F: Files>(
     alloc: Global,
     found: &ArgMatches<'_>,
@@ -101,8 +103,8 @@ fn keep_warning(
     }
 }
 
-/// Keeps in the notes the key for which the profile is refused, where one is known. Does nothing where the fault isn't
-/// that of a profile.
+/// Keeps in the notes the key for which the profile is refused, where one is known, or that there is no memory for it.
+/// Does nothing where the fault isn't that of a profile.
 fn keep_key(alloc: Global, settings: &Settings, bytes: &[u8], fault: &Fault, notes: &mut Notes) {
     if let Fault::Profile(refusal) = fault {
         notes.key = wrong_key(alloc, settings, bytes, *refusal);
@@ -114,10 +116,10 @@ fn keep_key(alloc: Global, settings: &Settings, bytes: &[u8], fault: &Fault, not
 /// profile are written, and no filter. The status is 0; or 4 where a word isn't one that its option takes, before any
 /// file is read.
 ///
-/// Refusals, tried in this order: what `read_all_names` refuses; `Set` where one of the sets of names is none of the
-/// five sets of calls; of the profile `Read`, and what `profile` of `sf_profile` refuses; `Write` where standard output
-/// can't be written, after a beginning of what is written. `Memory` can come anywhere. After any error but `Write`
-/// nothing is written.
+/// Refusals, tried in this order: what `read_all_names` refuses; `Profile(Set)` where one of the sets of names is none
+/// of the five sets of `CallSet`; `Read` where the profile can't be read; what `profile` of `sf_profile` refuses;
+/// `Write` where standard output can't be written (a beginning may be written then). `Memory` can come anywhere. After
+/// any error but `Write` nothing is written.
 pub fn profile<F: Files, O: Write>(
     alloc: Global,
     found: &ArgMatches<'_>,

@@ -55,7 +55,7 @@ fn placed_line(fault: &Fault, which: Which) -> InlineText<LINE> {
 }
 
 /// Writes the line of a fault to standard error, with one write, so that it stays whole beside the lines of other
-/// programs. Gives the exit status.
+/// programs. It isn't looked at whether the write succeeds. Gives the exit status.
 fn tell_line<E: Write>(line: &InlineText<LINE>, fault: &Fault, err: &mut E) -> u8
     ensures { result ≡ fault_status (fault_number fault.now) }
 {

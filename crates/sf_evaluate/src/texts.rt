@@ -26,7 +26,8 @@ pub fn answer_text(alloc: Global, answer: Answer) -> Result<String, AllocError>
     Ok(text)
 }
 
-/// Adds the line of a filter: its number, from 1, and how many instructions it has.
+/// Adds the line of a filter: its number, from 1, and how many instructions it has. An error where an allocation is
+/// refused.
 fn push_filter(text: &mut String, number: usize, instructions: usize) -> Result<(), AllocError>
     ensures { OnOk result (string_bytes text.new ≡ string_bytes text.old
         ++ filter_line number instructions) }
@@ -34,7 +35,7 @@ fn push_filter(text: &mut String, number: usize, instructions: usize) -> Result<
     write!(text, "filter {number} {instructions} instructions\n")
 }
 
-/// Adds the lines of a filter's instructions, if they are listed.
+/// Adds the lines of a filter's instructions, if `listed`; else nothing. An error where an allocation is refused.
 fn push_under(
     alloc: Global,
     text: &mut String,
@@ -50,7 +51,8 @@ fn push_under(
     Ok(())
 }
 
-/// Adds the lines of all filters, in order of installation.
+/// Adds the lines of all filters, in order of installation; if `listed`, with the lines of its instructions under each.
+/// An error where an allocation is refused.
 fn push_filters(
     alloc: Global,
     text: &mut String,
@@ -67,7 +69,7 @@ fn push_filters(
     Ok(())
 }
 
-/// Adds the line of a stack's path length.
+/// Adds the line of a stack's path length. An error where an allocation is refused.
 fn push_path(text: &mut String, path: usize) -> Result<(), AllocError>
     ensures { OnOk result (string_bytes text.new ≡ string_bytes text.old ++ path_line path) }
 {

@@ -10,8 +10,8 @@ fn have_same_bytes(left: &[u8], right: &[u8]) -> bool
     left == right
 }
 
-/// The first place before `later` at which a file has the same bytes as the file at `later`; none where no file has.
-/// The caller's condition: there is a file at `later`.
+/// The first place before `later` at which a file has the same bytes as the file at `later`; `None` where no file
+/// before it has. Places count from 0. The caller's condition: there is a file at `later`.
 fn same_before(files: &[Vec<u8>], later: usize) -> Option<usize>
     requires { later < length files.now }
     ensures same { IfSome result (λ earlier. AreSame
@@ -27,7 +27,8 @@ fn same_before(files: &[Vec<u8>], later: usize) -> Option<usize>
     None
 }
 
-/// The places of two files that have the same bytes, the lower one first; none where all are different.
+/// The places, from 0, of two files that have the same bytes, the lower one first. The higher one is the first file
+/// that equals one before it. `None` where all files are different.
 pub fn first_same(files: &[Vec<u8>]) -> Option<(usize, usize)>
     ensures same { IfSome result (λ r. AreSame (map (λ f. f.items) files.now) r.0 r.1) }
     ensures apart { IfNone result (AreApart (map (λ f. f.items) files.now)) }

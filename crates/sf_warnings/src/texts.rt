@@ -45,8 +45,8 @@ two filters in one file?\n"
     )
 }
 
-/// Adds the warnings that the files of a stack call for. `programs` are these files, read. `which` is empty, or `old `
-/// or `new ` for one of two stacks. An error where an allocation is refused.
+/// Adds the warnings that the files of a stack call for, as `warnings_of_files` has them. `programs` are what these
+/// files spell, in the same order. `which` is as in `push_same`. An error where an allocation is refused.
 fn push_of_files(
     alloc: Global,
     text: &mut String,
@@ -62,7 +62,8 @@ fn push_of_files(
 }
 
 /// The warnings that the files of a stack call for: two of them are the same, or a filter has instructions to which
-/// control never comes. `programs` are these files, read. An error where an allocation is refused.
+/// control never comes. Empty where there are none. `programs` are what these files spell, in the same order. An error
+/// where an allocation is refused.
 pub fn warnings_of_files(
     alloc: Global,
     files: &[Vec<u8>],
@@ -87,7 +88,8 @@ pub fn warnings_of_stack(
     Ok(text)
 }
 
-/// Adds the warning that no call gets through one of two stacks. `which` is `old ` or `new `.
+/// Adds the warning that no call gets through one of two stacks. `which` is `old ` or `new `. An error where an
+/// allocation is refused.
 fn push_none(text: &mut String, which: &str) -> Result<(), AllocError> {
     write!(
         text,

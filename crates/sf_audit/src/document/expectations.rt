@@ -10,7 +10,8 @@ use sf_ask::{Question, Reply};
 use sf_json::{Document, Fields};
 use std::alloc::{AllocError, Global};
 
-/// A question of the control, with its reply.
+/// The object of a question of the control: its name and the word of its reply. An error where an allocation is
+/// refused.
 fn control_document(alloc: Global, name: &str, reply: Reply) -> Result<Document, AllocError>
     ensures { IfOk result (λ d. view d ≡ control_document name.now reply) }
 {
@@ -20,7 +21,8 @@ fn control_document(alloc: Global, name: &str, reply: Reply) -> Result<Document,
     Ok(Document::object(fields))
 }
 
-/// The questions of the control, each with its reply. The caller's condition: there is a reply to each.
+/// The objects of the questions of the control, in their order. The caller's condition: there is a reply to each. An
+/// error where an allocation is refused.
 fn control_documents(
     alloc: Global,
     questions: &[Question],
@@ -38,7 +40,8 @@ fn control_documents(
     Ok(documents)
 }
 
-/// The control, and whether it holds.
+/// The object of what was expected: the questions of the control with their replies, and whether the control holds. An
+/// error where an allocation is refused.
 fn expected_document(alloc: Global, expected: &Expected) -> Result<Document, AllocError>
     ensures { IfOk result (λ d. view d ≡ expected_document expected.now) }
 {
@@ -49,7 +52,7 @@ fn expected_document(alloc: Global, expected: &Expected) -> Result<Document, All
     Ok(Document::object(fields))
 }
 
-/// The control, and whether it holds, where that is shown, else `null`. An error where an allocation is refused.
+/// What `expected_document` gives, if `shown`; else the document `null`. An error where an allocation is refused.
 pub(super) fn shown_expected(
     alloc: Global,
     shown: bool,

@@ -39,7 +39,8 @@ pub(super) fn reply_word(reply: Reply) -> &'static str
     }
 }
 
-/// The example of a reply; `null` where it has none.
+/// The example of a reply, shown with these names of calls; the document `null` where the reply has none. An error
+/// where an allocation is refused.
 fn example_of(alloc: Global, names: &[Names], reply: Reply) -> Result<Document, AllocError>
     ensures { IfOk result (λ d. view d ≡ example_of names.now reply) }
 {
@@ -49,7 +50,8 @@ fn example_of(alloc: Global, names: &[Names], reply: Reply) -> Result<Document, 
     }
 }
 
-/// The lines of a remark as one text; `null` where there are none.
+/// The lines of a remark as one text; the document `null` where they are empty. An error where an allocation is
+/// refused.
 fn remark_document(alloc: Global, text: &str) -> Result<Document, AllocError>
     ensures { IfOk result (λ d. view d ≡ remark_document text.now) }
 {
@@ -59,7 +61,8 @@ fn remark_document(alloc: Global, text: &str) -> Result<Document, AllocError>
     Document::copy_of(alloc, text)
 }
 
-/// The remark on the question at a place, counted from 0; `null` where it has none.
+/// The remark on the question at a place, counted from 0; the document `null` where it has none. An error where an
+/// allocation is refused.
 fn why_of(alloc: Global, remarks: &[String], place: usize) -> Result<Document, AllocError>
     ensures { IfOk result (λ d. view d
         ≡ remark_document (remark_at (map string_bytes remarks.now) place)) }
@@ -70,7 +73,8 @@ fn why_of(alloc: Global, remarks: &[String], place: usize) -> Result<Document, A
     }
 }
 
-/// Where the question at a place stands, counted from 0; `null` where that isn't given.
+/// Where the question at a place stands, counted from 0; the document `null` where `origins` don't reach so far. An
+/// error where an allocation is refused.
 fn origin_of(origins: &[Document], place: usize) -> Result<Document, AllocError>
     ensures { IfOk result (λ d. view d ≡ origin_of (map view origins.now) place) }
 {
@@ -80,7 +84,8 @@ fn origin_of(origins: &[Document], place: usize) -> Result<Document, AllocError>
     }
 }
 
-/// What is shown beside the reply of the question at a place, counted from 0. `name` is the question's name.
+/// What is shown beside the reply of the question at a place, counted from 0. `name` is the question's name. An error
+/// where an allocation is refused.
 fn beside_of(
     alloc: Global,
     telling: &Telling<'_>,
@@ -106,7 +111,8 @@ fn beside_of(
     })
 }
 
-/// A question with its number, from 1, its name, the word of its reply, its example, and what is shown beside.
+/// The object of a question: its number, from 1, its name, the word of its reply, its example, and what is shown
+/// beside. An error where an allocation is refused.
 fn asked_document(
     alloc: Global,
     number: usize,
@@ -135,8 +141,9 @@ fn asked_document(
     Ok(Document::object(fields))
 }
 
-/// The question at a place, counted from 0, with its name and its reply. The caller's condition: its number, which is
-/// the place plus 1, fits into 64 bits, as that of each question in memory does.
+/// The object of the question at a place, counted from 0, with its name and its reply. The caller's condition: its
+/// number, which is the place plus 1, fits into 64 bits, as that of each question in memory does. An error where an
+/// allocation is refused.
 fn question_document(
     alloc: Global,
     telling: &Telling<'_>,
@@ -154,7 +161,8 @@ fn question_document(
     asked_document(alloc, place + 1, name, reply_word(reply), example, beside)
 }
 
-/// Questions in their order, each with its reply. The caller's condition: there is a reply to each.
+/// The objects of questions in their order, each with its reply. The caller's condition: there is a reply to each. An
+/// error where an allocation is refused.
 fn question_documents(
     alloc: Global,
     telling: &Telling<'_>,
@@ -176,7 +184,7 @@ fn question_documents(
     Ok(documents)
 }
 
-/// The questions of an audit in their order, each with its reply. An error where an allocation is refused.
+/// The array of the questions of an audit in their order, each with its reply. An error where an allocation is refused.
 pub(super) fn questions_document(
     alloc: Global,
     outcome: &Outcome,

@@ -20,7 +20,8 @@ fn letters_of(alloc: Global, name: &[bool]) -> Result<String, AllocError>
     Ok(text)
 }
 
-/// The name of a region: a letter for each truth value, as `letters_of` writes them.
+/// The name of a region: a letter for each truth value, as `letters_of` writes them. An error where an allocation is
+/// refused.
 fn name_of(alloc: Global, region: &Region) -> Result<String, AllocError>
     ensures { IfOk result (λ text. string_bytes text ≡ map letter region.now.name) }
 {
@@ -28,7 +29,7 @@ fn name_of(alloc: Global, region: &Region) -> Result<String, AllocError>
     letters_of(alloc, &name)
 }
 
-/// A region: its number, its name and its answer.
+/// The object of a region: its number, from 1, its name and its answer. An error where an allocation is refused.
 fn region_document(alloc: Global, number: usize, region: &Region) -> Result<Document, AllocError>
     ensures { IfOk result (λ d. view d ≡ region_document number region.now) }
 {
@@ -41,7 +42,8 @@ fn region_document(alloc: Global, number: usize, region: &Region) -> Result<Docu
     Ok(Document::object(fields))
 }
 
-/// All regions, in the order of their names.
+/// The objects of all regions, in the order of their names, which is that of their numbers. An error where an
+/// allocation is refused.
 fn region_documents(alloc: Global, settled: &Settled) -> Result<Vec<Document>, AllocError>
     ensures { IfOk result (λ v. map view v.items ≡ region_documents 1 settled.now.regions) }
 {
@@ -53,7 +55,7 @@ fn region_documents(alloc: Global, settled: &Settled) -> Result<Vec<Document>, A
     Ok(documents)
 }
 
-/// All regions where they are asked for, else `null`. An error where an allocation is refused.
+/// The array of all regions, if `shown`; else the document `null`. An error where an allocation is refused.
 pub(super) fn shown_regions(
     alloc: Global,
     shown: bool,

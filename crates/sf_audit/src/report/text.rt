@@ -11,7 +11,8 @@ use sf_book::{Region, Settled};
 use sf_policy::{hex_of, push_action, push_counts};
 use std::alloc::{AllocError, Global};
 
-/// Adds a region's name: `T` or `F` for each truth value, or a dash where it has none.
+/// Adds a region's name: `T` or `F` for each truth value, or a dash where it has none. An error where an allocation is
+/// refused.
 fn push_truth_values(text: &mut String, name: &[bool]) -> Result<(), AllocError>
     ensures { OnOk result (string_bytes text.new ≡ string_bytes text.old ++ name_text name.now) }
 {
@@ -24,7 +25,7 @@ fn push_truth_values(text: &mut String, name: &[bool]) -> Result<(), AllocError>
     Ok(())
 }
 
-/// Adds the line of a region: its number, its name and its answer.
+/// Adds the line of a region: its number, from 1, its name and its answer. An error where an allocation is refused.
 fn push_region(
     alloc: Global,
     text: &mut String,
@@ -44,7 +45,8 @@ fn push_region(
     write!(text, " {info}\n")
 }
 
-/// Adds the lines of all regions, in the order of their names.
+/// Adds the lines of all regions, in the order of their names, which is that of their numbers. An error where an
+/// allocation is refused.
 fn push_regions(alloc: Global, text: &mut String, settled: &Settled) -> Result<(), AllocError>
     ensures { OnOk result (string_bytes text.new ≡ string_bytes text.old
         ++ region_lines 1 settled.now.regions) }
@@ -55,7 +57,7 @@ fn push_regions(alloc: Global, text: &mut String, settled: &Settled) -> Result<(
     Ok(())
 }
 
-/// Adds the lines of all regions where they are asked for.
+/// Adds the lines of all regions where they are asked for. An error where an allocation is refused.
 fn push_shown_regions(
     alloc: Global,
     text: &mut String,
@@ -72,7 +74,7 @@ fn push_shown_regions(
 }
 
 /// Adds the line of a question: its number, from 1, its name and its reply, and where it is allowed the bytes of the
-/// example as hexadecimal digits.
+/// example as hexadecimal digits. An error where an allocation is refused.
 fn push_question(
     alloc: Global,
     text: &mut String,
@@ -93,7 +95,7 @@ fn push_question(
     }
 }
 
-/// Adds the remark on the question at a place, counted from 0, if it has one.
+/// Adds the remark on the question at a place, counted from 0, if it has one. An error where an allocation is refused.
 fn push_remark(text: &mut String, remarks: &[String], place: usize) -> Result<(), AllocError>
     ensures { OnOk result (string_bytes text.new ≡ string_bytes text.old
         ++ remark_at (map string_bytes remarks.now) place) }
@@ -105,7 +107,8 @@ fn push_remark(text: &mut String, remarks: &[String], place: usize) -> Result<()
 }
 
 /// Adds the line of the question at a place, counted from 0, and under it the remark on it, if it has one. The caller's
-/// condition: the question's number, which is the place plus 1, fits into 64 bits, as that of each in memory does.
+/// condition: the question's number, which is the place plus 1, fits into 64 bits, as that of each in memory does. An
+/// error where an allocation is refused.
 fn push_remarked(
     alloc: Global,
     text: &mut String,
@@ -123,7 +126,7 @@ fn push_remarked(
 }
 
 /// Adds the lines of all questions, in their order, and under each the remark on it, if it has one. The caller's
-/// condition: there is a reply to each.
+/// condition: there is a reply to each. An error where an allocation is refused.
 fn push_questions(
     alloc: Global,
     text: &mut String,
@@ -141,8 +144,8 @@ fn push_questions(
     Ok(())
 }
 
-/// Adds the line that says how much was audited: the number of filters, their length as seccomp(2) counts it, and the
-/// number of questions.
+/// Adds the line that says how much was audited: the number of filters, the length of the path through them, as
+/// seccomp(2) counts it, and the number of questions. An error where an allocation is refused.
 fn push_size(
     text: &mut String,
     filters: usize,
@@ -158,7 +161,8 @@ fn push_size(
     )
 }
 
-/// Adds the line that says how much was audited: the size of the stack, and the number of questions.
+/// Adds the line that says how much was audited: the size of the stack, and the number of questions. An error where an
+/// allocation is refused.
 fn push_stack(text: &mut String, settled: &Settled, questions: usize) -> Result<(), AllocError>
     ensures { OnOk result (string_bytes text.new ≡ string_bytes text.old
         ++ size_line (length settled.now.stack) (path_length settled.now.stack) questions) }
@@ -167,7 +171,8 @@ fn push_stack(text: &mut String, settled: &Settled, questions: usize) -> Result<
     push_size(text, stack.programs().len(), stack.path_length(), questions)
 }
 
-/// Adds what stands above the questions: the report's version, how much was audited, and the counts of the exploration.
+/// Adds what stands above the questions: the version of the form of reports, which is 2, how much was audited, and the
+/// counts of the exploration. An error where an allocation is refused.
 fn push_head(text: &mut String, settled: &Settled, questions: usize) -> Result<(), AllocError>
     ensures { OnOk result (string_bytes text.new ≡ string_bytes text.old
         ++ head_text settled.now questions) }
@@ -177,7 +182,7 @@ fn push_head(text: &mut String, settled: &Settled, questions: usize) -> Result<(
     push_counts(text, settled.counts())
 }
 
-/// Adds the line of totals, from the number of replies of each kind.
+/// Adds the line of totals, from the number of replies of each kind. An error where an allocation is refused.
 fn push_total(
     text: &mut String,
     never: usize,
@@ -193,7 +198,7 @@ fn push_total(
     )
 }
 
-/// Counts the replies of each kind, and adds the line of totals.
+/// Counts the replies of each kind, and adds the line of totals. An error where an allocation is refused.
 fn push_totals(text: &mut String, replies: &[Reply]) -> Result<(), AllocError>
     ensures { OnOk result (string_bytes text.new ≡ string_bytes text.old
         ++ totals_line replies.now) }

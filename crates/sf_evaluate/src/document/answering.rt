@@ -20,9 +20,9 @@ use sf_policy::Fault;
 use sf_run::{Action, Course, answer, walk};
 use std::alloc::{AllocError, Global};
 
-/// The filter with this number, from its run: what it returns and where, whether its answer stands, and what it meets;
-/// with `brief` without the comparisons that are false. The upper 16 bits of its return value are the action, the lower
-/// 16 the data.
+/// The document of the filter with this number, from its run: what it returns and where, whether its answer stands, as
+/// `stands` says, and what it meets; with `brief` without the comparisons that are false. The upper 16 bits of its
+/// return value are the action, the lower 16 the data. An error where an allocation is refused.
 fn filter_document(
     alloc: Global,
     brief: bool,
@@ -47,8 +47,9 @@ fn filter_document(
     Ok(Document::object(fields))
 }
 
-/// Adds the filter with this number, and says whether its answer stands: it returns the action of the stack's answer,
-/// and the answer of no newer filter stood, as `stood` says. An error where an allocation is refused.
+/// Adds the document of the filter with this number, and returns whether its answer stands: the filter returns the
+/// action of the stack's answer, and the answer of no newer filter stood. `stood` says whether one did. An error where
+/// an allocation is refused.
 fn push_filter(
     alloc: Global,
     documents: &mut Vec<Document>,
@@ -71,7 +72,8 @@ fn push_filter(
     Ok(stands)
 }
 
-/// All filters, newest first.
+/// The documents of all filters, newest first; the newest one has the highest number. An error where an allocation is
+/// refused.
 fn filter_documents(alloc: Global, trace: &Trace<'_>) -> Result<Vec<Document>, sf_run::Fault>
     ensures { IfOk result (λ v. map view v.items
         ≡ filter_documents trace.now.brief (length trace.now.stack.now)
@@ -89,7 +91,8 @@ fn filter_documents(alloc: Global, trace: &Trace<'_>) -> Result<Vec<Document>, s
     Ok(documents)
 }
 
-/// All filters, where `traced` or `brief` asks for them, newest first; else `null`.
+/// The array of all filters, newest first, where `traced` or `trace.brief` asks for it; else the document `null`. An
+/// error where an allocation is refused.
 fn traced_document(
     alloc: Global,
     traced: bool,
@@ -105,7 +108,8 @@ fn traced_document(
     Ok(Document::array(alloc, documents)?)
 }
 
-/// What a trace shows: the input, the answer, and the filters where they are asked for.
+/// What `eval` finds, as JSON: the input, the answer, and the filters where `traced` or `trace.brief` asks for them.
+/// `version` is that of this form of the document. An error where an allocation is refused.
 fn document_of(alloc: Global, traced: bool, trace: &Trace<'_>) -> Result<Document, sf_run::Fault>
     ensures { IfOk result (λ d. view d ≡ eval_document traced trace.now.brief trace.now.names.now
         trace.now.stack.now trace.now.input.now trace.now.answer) }
@@ -131,7 +135,7 @@ pub fn eval_document(
     brief: bool,
     names: &[Names],
 ) -> Result<Document, Fault>
-    ensures told { IfOk result (λ d. (a : AnAnswer) × Answers stack.now input.now a
+    ensures shown { IfOk result (λ d. (a : AnAnswer) × Answers stack.now input.now a
         × (view d ≡ eval_document traced brief names.now stack.now input.now a)) }
     ensures refused { IfErr result (λ e. e ≡ MemoryFault) }
 {

@@ -9,7 +9,7 @@ use sf_check::{Program, Stack};
 use sf_json::{Document, Fields};
 use std::alloc::{AllocError, Global};
 
-/// The lines of a filter's instructions, if they are listed; else `null`.
+/// The text of a filter's instructions, if `listed`; else the document `null`. An error where an allocation is refused.
 fn listing_of(alloc: Global, listed: bool, program: &Program) -> Result<Document, AllocError>
     ensures { IfOk result (λ d. IsListing listed program.now (view d)) }
 {
@@ -21,7 +21,8 @@ fn listing_of(alloc: Global, listed: bool, program: &Program) -> Result<Document
     Ok(Document::text(text))
 }
 
-/// A filter: its number, how many instructions it has, and their listing.
+/// The object of a filter: its number, how many instructions it has, and their listing. An error where an allocation is
+/// refused.
 fn filter_size_document(
     alloc: Global,
     number: usize,
@@ -38,7 +39,8 @@ fn filter_size_document(
     Ok(Document::object(fields))
 }
 
-/// The filter with this number: how many instructions it has, and if `listed` their listing.
+/// The object of the filter with this number: how many instructions it has, and if `listed` their listing. An error
+/// where an allocation is refused.
 fn document_of(
     alloc: Global,
     listed: bool,
@@ -51,7 +53,8 @@ fn document_of(
     filter_size_document(alloc, number, program.insns().len(), listing)
 }
 
-/// All filters, in order of installation; if `listed`, with the listings of their instructions.
+/// The objects of all filters, in order of installation, numbered from 1; if `listed`, with the listings of their
+/// instructions. An error where an allocation is refused.
 fn filter_documents(
     alloc: Global,
     listed: bool,
@@ -68,7 +71,8 @@ fn filter_documents(
 }
 
 /// What `check` finds of a stack, as JSON: how many instructions each filter has, with their listing where `listed`
-/// asks for it, and the path length of the stack. An error where an allocation is refused.
+/// asks for it, and the path length of the stack. `version` is that of this form of the document. An error where an
+/// allocation is refused.
 pub fn check_document(alloc: Global, stack: &Stack, listed: bool) -> Result<Document, AllocError>
     ensures { IfOk result (λ d. IsCheckDocument listed stack.now (view d)) }
 {

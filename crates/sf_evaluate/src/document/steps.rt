@@ -14,7 +14,8 @@ use sf_policy::WORD_KEYS;
 use sf_run::{Meeting, Met};
 use std::alloc::{AllocError, Global};
 
-/// The name of the word of the input at a place, 0 to 15; `null` where there is no word.
+/// The name of the word of the input at a place, 0 to 15; the document `null` where there is no word. An error where an
+/// allocation is refused.
 fn word_name(alloc: Global, word: Option<u8>) -> Result<Document, AllocError>
     ensures { IfOk result (λ d. view d ≡ word_name word) }
 {
@@ -25,7 +26,7 @@ fn word_name(alloc: Global, word: Option<u8>) -> Result<Document, AllocError>
     Document::copy_of(alloc, name)
 }
 
-/// The document of a comparison.
+/// The document of a comparison. An error where an allocation is refused.
 fn compared_document(alloc: Global, compared: &Comparison) -> Result<Document, AllocError>
     ensures { IfOk result (λ d. view d ≡ step_document compared.now.place
         (word_name compared.now.word) (word_of compared.now.value)
@@ -42,7 +43,8 @@ fn compared_document(alloc: Global, compared: &Comparison) -> Result<Document, A
     Ok(Document::object(fields))
 }
 
-/// A value that is returned and not compared.
+/// The document of a value that is returned. It has the fields of a comparison, so that each step has the same ones;
+/// those that a return lacks are `null`. An error where an allocation is refused.
 fn returned_document(alloc: Global, place: usize, value: u32) -> Result<Document, AllocError>
     ensures { IfOk result (λ d. view d ≡ step_document place null
         (word_of value) null null null) }
@@ -57,7 +59,8 @@ fn returned_document(alloc: Global, place: usize, value: u32) -> Result<Document
     Ok(Document::object(fields))
 }
 
-/// What a filter meets at an instruction. A division by X is a comparison of X with 0.
+/// The document of what a filter meets at an instruction. A division by X is a comparison of X with 0. An error where
+/// an allocation is refused.
 fn meeting_document(alloc: Global, meeting: Meeting) -> Result<Document, AllocError>
     ensures { IfOk result (λ d. view d ≡ meeting_document meeting) }
 {
@@ -89,7 +92,8 @@ fn meeting_document(alloc: Global, meeting: Meeting) -> Result<Document, AllocEr
     }
 }
 
-/// Adds what a filter meets at an instruction; with `brief` nothing where that is a comparison that is false.
+/// Adds the document of what a filter meets at an instruction; with `brief` nothing where that is a comparison that is
+/// false. An error where an allocation is refused.
 fn push_shown(
     alloc: Global,
     documents: &mut Vec<Document>,
@@ -106,8 +110,8 @@ fn push_shown(
     Ok(())
 }
 
-/// What a filter meets, in order; with `brief` without the comparisons that are false. An error where an allocation is
-/// refused.
+/// The documents of what a filter meets, in order; with `brief` without the comparisons that are false. An error where
+/// an allocation is refused.
 pub(super) fn met_documents(
     alloc: Global,
     brief: bool,

@@ -35,7 +35,7 @@ pub(crate) enum Hint {
 }
 
 impl Hint {
-    /// Adds the line of the hint.
+    /// Adds the line of the hint. An error where an allocation is refused.
     pub(crate) fn push(self, text: &mut String) -> Result<(), AllocError> {
         match self {
             Hint::Sentence(sentence) => write!(text, "hint: {sentence}\n"),
@@ -61,7 +61,7 @@ pub(crate) fn hint_of_unknown() -> Hint {
 }
 
 /// Whether this fault fits a file in which the number of the instructions stands before them: its length is no multiple
-/// of 8, or one of its first two instructions is wrong.
+/// of 8, or one of its first two instructions is wrong. The number takes at most 16 bytes, as two instructions do.
 fn is_at_front(fault: &Fault) -> bool {
     match fault {
         Fault::Ragged { .. } => true,
@@ -70,8 +70,9 @@ fn is_at_front(fault: &Fault) -> bool {
     }
 }
 
-/// The hint for a file of this kind that is refused as a filter, for this fault. There is none where it seems to be a
-/// filter, nor for an empty file.
+/// The hint for a file of this kind that is refused as a filter, for this fault. `None` where the bytes may be
+/// instructions, where a number seems to stand before the instructions but this fault doesn't fit that, and for an
+/// empty file.
 pub(crate) fn hint_of_filter(kind: Kind, fault: &Fault) -> Option<Hint> {
     let sentence = match kind {
         Kind::Json => "this is JSON: a profile becomes a filter by `seccomp_audit profile`",
@@ -118,8 +119,9 @@ pub(crate) fn hint_of_profile(kind: Kind) -> Option<Hint> {
     Some(Hint::Sentence(sentence))
 }
 
-/// The hint for a file that can't be read, which is the sentence `ready`. It is given only if the path has no `/`, so
-/// that a name may have been given in place of a path, or if it is that of a folder.
+/// The hint for a file that can't be read, which is the sentence `ready`. It is given where the path has no `/`, since
+/// a name may have been given in place of a path, and where `reason` says that the path is that of a folder. Else
+/// `None`.
 pub(crate) fn hint_of_unread(path: &str, reason: &str, ready: &'static str) -> Option<Hint> {
     if path.contains('/') && !reason.starts_with("Is a directory") {
         return None;
@@ -181,7 +183,7 @@ fn hint_of_top_key(key: &str) -> Hint {
     }
 }
 
-/// What is said about the value of a word that is of a wrong kind.
+/// What is said where the value at `key`, which is the key of a word of the input, is of a wrong kind.
 fn sentence_of_word(refusal: &Refusal, key: &str, value: &Value) -> &'static str {
     match value {
         Value::Table(_) if has_version_1(refusal) => {
@@ -198,7 +200,7 @@ fn sentence_of_word(refusal: &Refusal, key: &str, value: &Value) -> &'static str
     }
 }
 
-/// Whether a policy names version 1.
+/// Whether a policy names version 1. It is false where the text is no TOML.
 fn has_version_1(refusal: &Refusal) -> bool {
     match &refusal.read {
         Ok(tree) => matches!(tree.get("version"), Some(Value::Integer(1))),
@@ -206,7 +208,8 @@ fn has_version_1(refusal: &Refusal) -> bool {
     }
 }
 
-/// The hint for a key of a question that is refused since it is unknown, or its value of a wrong kind.
+/// The hint for a key of a question that is refused with the fault `Key`: the key is unknown, or its value is of a
+/// wrong kind.
 fn hint_of_question_key(refusal: &Refusal, key: &str, value: &Value) -> Hint {
     match key {
         "name" => Hint::Sentence("a name is a text in quotes"),
@@ -218,8 +221,8 @@ fn hint_of_question_key(refusal: &Refusal, key: &str, value: &Value) -> Hint {
     }
 }
 
-/// The hint for a number outside 32 bits. There is none where the value is no single number, nor where a number at `nr`
-/// or `arch` is too large: these words are no halves of a longer number.
+/// The hint for a number that hasn't 32 bits. `None` where the value is no single number, and where a number at `nr` or
+/// `arch` is too large: these words are no halves of a longer number.
 fn hint_of_range(key: &str, value: &Value) -> Option<Hint> {
     match value {
         Value::Integer(number) if *number < 0 => Some(Hint::Sentence(
@@ -232,7 +235,8 @@ fn hint_of_range(key: &str, value: &Value) -> Option<Hint> {
     }
 }
 
-/// The hint for a policy that is refused at a key that it has, with this value; none for some faults.
+/// The hint for a policy that is refused at a key that it has, with this value. `None` for faults that aren't about
+/// keys, numbers or actions, and where `hint_of_range` gives `None`.
 fn hint_of_key(refusal: &Refusal, key: &str, value: &Value) -> Option<Hint> {
     match refusal.fault {
         Fault::TopKey => Some(hint_of_top_key(key)),
@@ -264,8 +268,8 @@ fn hint_of_refusal(alloc: Global, refusal: &Refusal) -> Result<Option<Hint>, All
     }
 }
 
-/// The hint for a policy that is refused: about what the file is, or else about the key at which it is refused. An
-/// error where an allocation is refused.
+/// The hint for a policy that is refused: about what the file is, or else about the key at which it is refused. `None`
+/// where nothing is known of either. An error where an allocation is refused.
 pub(crate) fn hint_of_policy(
     alloc: Global,
     kind: Kind,

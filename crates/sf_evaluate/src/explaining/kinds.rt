@@ -34,7 +34,8 @@ pub(crate) fn bytes_of_text(bytes: &[u8]) -> &[u8] {
     }
 }
 
-/// Whether bytes begin like a text. Those of a filter don't, since the second byte of each permitted code is 0.
+/// Whether bytes begin like a text: none of the first `FRONT` bytes is below 0x20, but for white space. Those of a
+/// filter don't, since the second byte of each permitted code is 0.
 fn is_text(bytes: &[u8]) -> bool {
     let mut front = bytes.iter().take(FRONT);
     front.all(|byte| 0x20 <= *byte || byte.is_ascii_whitespace())
@@ -67,13 +68,13 @@ fn line_at(text: &str, place: usize) -> &str {
     ""
 }
 
-/// Whether a line begins with a key that a set of calls has.
+/// Whether a line begins with a key that stands in a set of calls: `arch` or `calls`.
 fn is_of_set(line: &str) -> bool {
     line.starts_with("arch") || line.starts_with("calls")
 }
 
-/// What a text that begins with these two lines seems to be. A file of several sets of calls begins with the name of a
-/// set.
+/// What a text that begins with these two lines seems to be. The second one counts only where the first one is a
+/// header: a file of several sets of calls begins with the header of a set.
 fn kind_of_lines(line: &str, next: &str) -> Kind {
     if line.starts_with('{') || line.starts_with("[{") || line == "[" {
         return Kind::Json;
@@ -91,7 +92,8 @@ fn kind_of_lines(line: &str, next: &str) -> Kind {
     }
 }
 
-/// What a file with these bytes seems to hold.
+/// What a file with these bytes seems to hold. The high byte of a permitted code is 0: where it stands first, the
+/// instructions are big-endian.
 pub(crate) fn kind_of(bytes: &[u8]) -> Kind {
     if bytes.is_empty() {
         return Kind::Empty;

@@ -35,7 +35,8 @@ fn is_question(key: &Key) -> bool {
     key.path.is_empty() && key.last.as_str() == "question"
 }
 
-/// The key at the head of a text, and the text from its value on. None where no key with a value stands there.
+/// The key at the head of a text, and the text from its value on. `None` where no key with a value stands there, and
+/// where an allocation is refused.
 fn key_and_value(alloc: Global, text: &str) -> Option<(Key, &str)> {
     let (key, rest) = dotted_key(alloc, text).ok()?;
     if first(rest) == b'=' {
@@ -56,7 +57,8 @@ impl Reading<'_> {
         self.question.is_none() && self.key == Some(key)
     }
 
-    /// Reads a key that stands before a value, and says whether it is looked for.
+    /// Reads a key that stands before a value, and says whether it is looked for. A key at the top also tells whether
+    /// the tables behind it are questions, as those of `question = [{ .. }]` are.
     fn take_key(&mut self, key: &Key) -> bool {
         if self.is_top && self.depth == 0 {
             self.depth_of_questions = if is_question(key) { Some(2) } else { None };
@@ -65,7 +67,9 @@ impl Reading<'_> {
         self.depth_of_questions == Some(self.depth) && self.is_of_question(Some(part_of(key, 0)))
     }
 
-    /// Reads the key of a header, and says whether it is looked for, or the question that begins there is.
+    /// Reads the key of a header, which stands as `[key]`, or where `is_array` as `[[key]]`. Says whether what is
+    /// looked for stands there: a question that begins, a key at the top, or as in `[question.nr]` a key of the
+    /// question that began last.
     fn take_header(&mut self, key: &Key, is_array: bool) -> bool {
         self.is_top = false;
         self.depth_of_questions = None;
@@ -83,7 +87,8 @@ impl Reading<'_> {
         self.is_of_question(None)
     }
 
-    /// Reads an opening bracket, and says whether a question begins there that is looked for.
+    /// Reads an opening bracket, `[` or `{`, and says whether a question that is looked for begins there. One begins at
+    /// the `{` of each table in `question = [{ .. }]`.
     fn open(&mut self, bracket: u8) -> bool {
         let begins = bracket == b'{' && self.depth == 1 && self.depth_of_questions == Some(2);
         self.depth = self.depth.saturating_add(1);
@@ -91,7 +96,7 @@ impl Reading<'_> {
     }
 
     /// Reads the token at the head of a text. Gives whether what is looked for stands there, and the text behind the
-    /// token; none where no token can be read.
+    /// token; `None` where no token can be read, or an allocation is refused.
     fn step<'a>(&mut self, alloc: Global, text: &'a str) -> Option<(bool, &'a str)> {
         if let Some((key, value)) = key_and_value(alloc, text) {
             let found = self.take_key(&key);
@@ -122,7 +127,8 @@ impl Reading<'_> {
 }
 
 /// The number, from 1, of the line on which a key of a question stands, or without a question's number a key at the
-/// top. Without a key it is the line on which the question begins. None where that isn't found.
+/// top. Without a key it is the line on which the question begins. `None` where that isn't found, or an allocation is
+/// refused.
 pub fn line_of(
     alloc: Global,
     policy: &str,
@@ -190,7 +196,7 @@ pub fn lines_of_questions(alloc: Global, policy: &str) -> Result<Vec<usize>, All
 }
 
 /// The line and the column, both from 1, of the place in a policy that has `before` bytes before it. A column counts
-/// characters.
+/// characters, so the bytes 0x80 to 0xBF, which continue a character of UTF-8, aren't counted.
 pub fn position_of(policy: &[u8], before: usize) -> (usize, usize) {
     let mut line = 1usize;
     let mut column = 1usize;

@@ -20,7 +20,8 @@ fn front_of(alloc: Global, text: &str) -> Result<(String, &'static str), AllocEr
     Ok((front, mark))
 }
 
-/// Adds a character of a line: a blank for a control character, and its number for another one that can't be seen.
+/// Adds a character of a line: a blank for a control character, and its number for another one that can't be seen, as
+/// `\u{200b}`. An error where an allocation is refused.
 fn push_character(text: &mut String, character: char) -> Result<(), AllocError> {
     if character.is_control() {
         return text.push(' ');
@@ -46,13 +47,15 @@ pub struct Page<'a> {
 }
 
 impl Page<'_> {
-    /// Adds a name or a key in quotes, and the end of the line.
+    /// Adds a name or a key in quotes, cut as by `front_of`, and the end of the line. An error where an allocation is
+    /// refused.
     fn push_quoted(&mut self, quoted: &str) -> Result<(), AllocError> {
         let (front, mark) = front_of(self.alloc, quoted)?;
         write!(self.text, "{front:?}{mark}\n")
     }
 
-    /// Adds `: ` and the text of the policy's line with this number, from 1, and the end of the line.
+    /// Adds `: ` and the text of the policy's line with this number, from 1, cut as by `front_of`, and the end of the
+    /// line. An error where an allocation is refused.
     fn push_line(&mut self, number: usize) -> Result<(), AllocError> {
         let lines = &mut self.policy.lines();
         let line = lines.nth(number.saturating_sub(1)).unwrap_or("");
@@ -65,7 +68,7 @@ impl Page<'_> {
     }
 
     /// Adds the line on which a key stands, or without a key the one on which a question begins; nothing where that
-    /// isn't found. Without a question's number the key is one at the top.
+    /// isn't found. Without a question's number the key is one at the top. An error where an allocation is refused.
     fn push_place(&mut self, question: Option<usize>, key: Option<&str>) -> Result<(), AllocError> {
         let Some(number) = line_of(self.alloc, self.policy, question, key) else {
             return Ok(());
@@ -86,7 +89,9 @@ impl Page<'_> {
         self.push_line(line)
     }
 
-    /// Adds the key that is refused or missing, and its line; for a missing one, the line of its question.
+    /// Adds the key that is refused, and the line on which it stands. A key that is missing is added too, with the line
+    /// on which its question begins, or with no line where it would stand at the top. An error where an allocation is
+    /// refused.
     fn push_key(&mut self, refusal: &Refusal) -> Result<(), AllocError> {
         let key = refusal.key(self.alloc)?;
         let question = refusal.question();

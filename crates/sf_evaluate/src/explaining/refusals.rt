@@ -14,8 +14,8 @@ pub(crate) struct OtherSet {
     pub(crate) name: String,
 }
 
-/// Adds the line of the file of names with the unknown set, and the line of this set where the file has several. An
-/// error where there was no memory to keep which file it is.
+/// Adds the line of the file of names that has the unknown set, and the line of this set where the file has several. An
+/// error where an allocation is refused, or was before, so that it isn't known which file it is.
 fn push_unknown_set(
     text: &mut String,
     found: &ArgMatches<'_>,
@@ -67,7 +67,7 @@ pub(crate) fn push_profile(
     }
 }
 
-/// Adds the line of a key.
+/// Adds the line of a key. An error where an allocation is refused.
 fn push_key(text: &mut String, key: &str) -> Result<(), AllocError> {
     write!(text, "key {key:?}\n")
 }

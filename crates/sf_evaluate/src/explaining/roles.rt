@@ -32,7 +32,7 @@ const READ: [(&str, Role); 8] = [
     ("profile", Role::Profile),
 ];
 
-/// How many files are read as this.
+/// How many files the command line names that are read in this role.
 pub(crate) fn count_of(found: &ArgMatches<'_>, role: Role) -> usize {
     let mut count = 0usize;
     for (name, of) in READ {

@@ -18,8 +18,9 @@ use sf_command_line::given_text;
 use sf_policy::{Fault, read_accepted};
 use std::alloc::Global;
 
-/// The questions of the control, whose policy file is at a path; none where no path is given. `Read` where the file
-/// can't be read, `Syntax` where it isn't UTF-8, then what `read_policy` refuses; `Memory` can come anywhere.
+/// The questions of the control, whose policy file is at a path; an empty list where no path is given. The notes get
+/// what `questions_in` keeps in them. `Read` where the file can't be read, `Syntax` where it isn't UTF-8, then what
+/// `read_policy` refuses; `Memory` can come anywhere.
 pub fn control_in<F: Files>(
     alloc: Global,
     path: Option<&str>,
@@ -52,8 +53,8 @@ fn accepted_of(alloc: Global, bytes: &[u8], questions: &[Question]) -> Result<Ve
     }
 }
 
-/// The names of the questions that may be allowed, by the file at a path. `Read` where it can't be read, then what
-/// `accepted_of` refuses.
+/// The names of the questions that may be allowed, by the file at a path, which the notes count. `Read` where it can't
+/// be read, then what `accepted_of` refuses; `Memory` can come anywhere.
 fn accepted_at<F: Files>(
     alloc: Global,
     path: &str,
@@ -74,9 +75,10 @@ fn accepted_at<F: Files>(
     accepted_of(alloc, &bytes, questions)
 }
 
-/// The names of the questions that may be allowed, whose file is at a path; none where no path is given. Refusals,
-/// tried in this order: `Read` where the file can't be read; `Syntax` where it isn't UTF-8; `Accepted` at the first
-/// line with two words, or with a word that isn't the name of just one of the questions. `Memory` can come anywhere.
+/// The names of the questions that may be allowed, whose file is at a path; an empty list where no path is given. The
+/// notes count the file. Refusals, tried in this order: `Read` where the file can't be read; `Syntax` where it isn't
+/// UTF-8; `Accepted` at the first line with two words, or with a word that isn't the name of exactly one of the
+/// questions. `Memory` can come anywhere.
 pub fn accepted_in<F: Files>(
     alloc: Global,
     path: Option<&str>,

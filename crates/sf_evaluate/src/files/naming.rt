@@ -20,8 +20,8 @@ fn sets_of(alloc: Global, text: &str) -> Result<Vec<Names>, Fault>
     Ok(read_names(alloc, text)?)
 }
 
-/// The sets of the file at a path. `Read` where the file can't be read, `Syntax` where it isn't UTF-8, then what
-/// `read_names` refuses; `Memory` can come anywhere.
+/// The sets of the file at a path, which the notes count. `Read` where the file can't be read, `Syntax` where it isn't
+/// UTF-8, then what `read_names` refuses; `Memory` can come anywhere.
 fn names_in<F: Files>(
     alloc: Global,
     path: &str,
@@ -49,8 +49,9 @@ fn has_set(sets: &[Names], set: &str) -> bool
     sets.iter().any(|names| names.set() == set)
 }
 
-/// Adds the sets of a file to those of the files before it, of which no two have one name. `NamesKey` where a set's
-/// name was there before; `Memory` where an allocation is refused. After an error some of them are added.
+/// Adds the sets of a file to `all`, which has those of the files before it. `NamesKey` where `all` has a set of the
+/// same name already; `Memory` where an allocation is refused. After an error some of the sets are added. If no two
+/// sets in `all` had the same name before, no two have it afterwards.
 fn add_sets(all: &mut Vec<Names>, sets: Vec<Names>) -> Result<(), Fault>
     ensures added { OnOk result (all.new.items ≡ all.old.items ++ sets.items) }
     ensures once { OnOk result (AreOnce all.old.items → AreOnce all.new.items) }
@@ -66,8 +67,9 @@ fn add_sets(all: &mut Vec<Names>, sets: Vec<Names>) -> Result<(), Fault>
     Ok(())
 }
 
-/// The sets of the files of names at these paths, one file after the other. The refusal is that of the first file that
-/// is refused: as `names_in` refuses it, or by `NamesKey` where it has a set whose name was there before.
+/// The sets of the files of names at these paths, one file after the other; no two of them have the same name. The
+/// notes count the files, and the sets of each. The refusal is that of the first file that is refused: as `names_in`
+/// refuses it, or `NamesKey` where it has a set whose name was there before. `Memory` can come anywhere.
 pub fn read_all_names<F: Files>(
     alloc: Global,
     paths: &[&str],

@@ -9,7 +9,8 @@ use crate::explaining::{bytes_of_text, lines_of_questions};
 use sf_json::{Document, Fields};
 use std::alloc::{AllocError, Global};
 
-/// Where a question stands: the path of its policy file, and its line there if it is known.
+/// Where a question stands, as JSON: the path of its policy file, and the number of its line there, from 1, or `null`
+/// where that isn't known. An error where an allocation is refused.
 fn origin_document(alloc: Global, path: &str, line: Option<&usize>) -> Result<Document, AllocError>
     ensures { IfOk result (λ d. IsOrigin path.now (view d)) }
 {
@@ -23,8 +24,8 @@ fn origin_document(alloc: Global, path: &str, line: Option<&usize>) -> Result<Do
     Ok(Document::object(fields))
 }
 
-/// The lines on which the questions of a policy begin, by the bytes of its file; none where these are no UTF-8. An
-/// error where an allocation is refused.
+/// The numbers, from 1, of the lines on which the questions of a policy begin, by the bytes of its file; an empty list
+/// where these are no UTF-8. An error where an allocation is refused.
 fn lines_in(alloc: Global, policy: &[u8]) -> Result<Vec<usize>, AllocError> {
     match std::str::from_utf8(bytes_of_text(policy)) {
         Ok(text) => lines_of_questions(alloc, text),
@@ -32,8 +33,8 @@ fn lines_in(alloc: Global, policy: &[u8]) -> Result<Vec<usize>, AllocError> {
     }
 }
 
-/// Adds for each of the `count` questions of a policy file where it stands. The file has this path and these bytes. An
-/// error where an allocation is refused.
+/// Adds to `origins` for each of the `count` questions of a policy file where it stands. The file has this path and
+/// these bytes. An error where an allocation is refused; some of them may be added then.
 pub(crate) fn push_origins(
     alloc: Global,
     origins: &mut Vec<Document>,

@@ -7,7 +7,7 @@ use sf_insn::{BinOp, Test};
 use sf_warnings::reached;
 use std::alloc::{AllocError, Global};
 
-/// The name of an operation.
+/// The name of an operation in the form of `bpf_asm`.
 fn name_of_operation(op: BinOp) -> &'static str
     ensures { result.now ≡ operation_text op }
 {
@@ -24,7 +24,7 @@ fn name_of_operation(op: BinOp) -> &'static str
     }
 }
 
-/// The name of a test.
+/// The name of a test in the form of `bpf_asm`.
 fn name_of_test(test: Test) -> &'static str
     ensures { result.now ≡ test_text test }
 {
@@ -36,14 +36,14 @@ fn name_of_test(test: Test) -> &'static str
     }
 }
 
-/// The comment behind an instruction to which no path comes; no text where one does.
+/// The comment behind an instruction to which no path comes; an empty text where one does.
 fn comment_of(is_reached: bool) -> &'static str
     ensures { result.now ≡ comment_text is_reached }
 {
     if is_reached { "" } else { " ; never reached" }
 }
 
-/// Adds the second word of an operation or a test: a constant, or X.
+/// Adds the second word of an operation or a test: a constant, or X. An error where an allocation is refused.
 fn push_operand(text: &mut String, operand: Operand) -> Result<(), AllocError>
     ensures { OnOk result (string_bytes text.new ≡ string_bytes text.old
         ++ operand_text operand) }
@@ -54,7 +54,7 @@ fn push_operand(text: &mut String, operand: Operand) -> Result<(), AllocError>
     }
 }
 
-/// Adds an operation on A.
+/// Adds an operation on A: its name and its second word. An error where an allocation is refused.
 fn push_alu(text: &mut String, op: BinOp, operand: Operand) -> Result<(), AllocError>
     ensures { OnOk result (string_bytes text.new ≡ string_bytes text.old ++ alu_text op operand) }
 {
@@ -64,7 +64,8 @@ fn push_alu(text: &mut String, op: BinOp, operand: Operand) -> Result<(), AllocE
 }
 
 /// Adds a test of the instruction at a place, with the labels to which it leads. `on_true` and `on_false` are how many
-/// instructions it skips. The caller's condition: the place is below 4096.
+/// instructions are skipped, counted from the next one. The caller's condition: the place is below 4096. An error where
+/// an allocation is refused.
 fn push_branch(
     text: &mut String,
     place: usize,
@@ -85,7 +86,8 @@ fn push_branch(
     write!(text, ", l{if_true}, l{if_false}")
 }
 
-/// Adds the instruction at a place. The caller's condition: the place is below 4096.
+/// Adds the instruction at a place, with labels for the instructions to which it leads. The caller's condition: the
+/// place is below 4096. An error where an allocation is refused.
 fn push_insn(text: &mut String, place: usize, insn: Insn) -> Result<(), AllocError>
     requires small { place < 4096 }
     ensures { OnOk result (string_bytes text.new ≡ string_bytes text.old
@@ -121,7 +123,7 @@ fn push_insn(text: &mut String, place: usize, insn: Insn) -> Result<(), AllocErr
 }
 
 /// Adds the line of the instruction at a place, with a comment where no path comes to it. The caller's condition: the
-/// place is below 4096.
+/// place is below 4096. An error where an allocation is refused.
 fn push_line(
     text: &mut String,
     place: usize,
@@ -138,8 +140,9 @@ fn push_line(
     write!(text, "{comment}\n")
 }
 
-/// Adds the lines of instructions, in order. `found` says for each place whether a path comes to it. The caller's
-/// condition: they are at most 4096, and `found` is as long.
+/// Adds the lines of the instructions `code`, in order. `found` says for each place whether a path comes to it. The
+/// caller's condition: there are at most 4096 instructions, and `found` is as long as `code`. An error where an
+/// allocation is refused.
 fn push_lines(text: &mut String, code: &[Insn], found: &[bool]) -> Result<(), AllocError>
     requires short { length code.now ≤ 4096 }
     requires count { length found.now ≡ length code.now }

@@ -13,14 +13,15 @@ use sf_policy::{WORD_KEYS, push_action};
 use sf_run::{Action, Answer, Course, Fault, Meeting, Met, walk};
 use std::alloc::{AllocError, Global};
 
-/// Adds a word as a hexadecimal number.
+/// Adds a word as `0x` and eight hexadecimal digits. An error where an allocation is refused.
 fn push_word(text: &mut String, word: u32) -> Result<(), AllocError>
     ensures { OnOk result (string_bytes text.new ≡ string_bytes text.old ++ word_text word) }
 {
     write!(text, "0x{word:08X}")
 }
 
-/// Adds the line of a field of 64 bits, from its low and its high half.
+/// Adds the line of a field of 64 bits: its name, and its number from the low and the high half. An error where an
+/// allocation is refused.
 fn push_field(text: &mut String, name: &str, low: u32, high: u32) -> Result<(), AllocError>
     ensures { OnOk result (string_bytes text.new ≡ string_bytes text.old
         ++ field_line name.now low high) }
@@ -30,7 +31,8 @@ fn push_field(text: &mut String, name: &str, low: u32, high: u32) -> Result<(), 
     write!(text, "{low:08X}\n")
 }
 
-/// Adds the line of the call's number, with its names on its architecture.
+/// Adds the line of a call's number, with the names that the sets of this architecture have for it. An error where an
+/// allocation is refused.
 fn push_nr(text: &mut String, names: &[Names], arch: u32, nr: u32) -> Result<(), AllocError>
     ensures { OnOk result (string_bytes text.new ≡ string_bytes text.old
         ++ nr_line names.now arch nr) }
@@ -41,7 +43,8 @@ fn push_nr(text: &mut String, names: &[Names], arch: u32, nr: u32) -> Result<(),
     Ok(())
 }
 
-/// Adds the lines of the call's number, with its names, the architecture and the instruction pointer.
+/// Adds the lines of the call's number, with its names, the architecture and the instruction pointer. An error where an
+/// allocation is refused.
 fn push_call(text: &mut String, names: &[Names], input: &Input) -> Result<(), AllocError>
     ensures { OnOk result (string_bytes text.new ≡ string_bytes text.old
         ++ call_text names.now input.now) }
@@ -52,7 +55,7 @@ fn push_call(text: &mut String, names: &[Names], input: &Input) -> Result<(), Al
     push_field(text, "ip", input.words[2], input.words[3])
 }
 
-/// Adds the lines of the arguments 0 to 2.
+/// Adds the lines of the arguments 0 to 2. An error where an allocation is refused.
 fn push_first_arguments(text: &mut String, input: &Input) -> Result<(), AllocError>
     ensures { OnOk result (string_bytes text.new ≡ string_bytes text.old
         ++ first_arguments input.now) }
@@ -62,7 +65,7 @@ fn push_first_arguments(text: &mut String, input: &Input) -> Result<(), AllocErr
     push_field(text, "arg2", input.words[8], input.words[9])
 }
 
-/// Adds the lines of the arguments 3 to 5.
+/// Adds the lines of the arguments 3 to 5. An error where an allocation is refused.
 fn push_last_arguments(text: &mut String, input: &Input) -> Result<(), AllocError>
     ensures { OnOk result (string_bytes text.new ≡ string_bytes text.old
         ++ last_arguments input.now) }
@@ -72,7 +75,8 @@ fn push_last_arguments(text: &mut String, input: &Input) -> Result<(), AllocErro
     push_field(text, "arg5", input.words[14], input.words[15])
 }
 
-/// Adds the lines of all fields of an input.
+/// Adds the lines of all fields of an input. `names` are shown beside the number of the call. An error where an
+/// allocation is refused.
 fn push_fields(text: &mut String, names: &[Names], input: &Input) -> Result<(), AllocError>
     ensures { OnOk result (string_bytes text.new ≡ string_bytes text.old
         ++ fields_text names.now input.now) }
@@ -82,7 +86,7 @@ fn push_fields(text: &mut String, names: &[Names], input: &Input) -> Result<(), 
     push_last_arguments(text, input)
 }
 
-/// Adds the line of an input as a call.
+/// Adds the line of an input as a call, in the words of `push_call_words`. An error where an allocation is refused.
 pub(crate) fn push_call_line(
     text: &mut String,
     names: &[Names],
@@ -97,7 +101,7 @@ pub(crate) fn push_call_line(
     Ok(())
 }
 
-/// Adds the line of an input as a call, if a set has the call.
+/// Adds the line of an input as a call, if a set has the call; else nothing. An error where an allocation is refused.
 fn push_named(text: &mut String, names: &[Names], input: &Input) -> Result<(), AllocError>
     ensures { OnOk result (string_bytes text.new ≡ string_bytes text.old
         ++ named_line names.now input.now) }
@@ -108,7 +112,8 @@ fn push_named(text: &mut String, names: &[Names], input: &Input) -> Result<(), A
     Ok(())
 }
 
-/// Adds the line of an input as a call, if a set has the call, and the lines of all its fields.
+/// Adds the line of an input as a call, if a set has the call, and then the lines of all its fields. An error where an
+/// allocation is refused.
 fn push_input(text: &mut String, names: &[Names], input: &Input) -> Result<(), AllocError>
     ensures { OnOk result (string_bytes text.new ≡ string_bytes text.old
         ++ input_text names.now input.now) }
@@ -124,7 +129,8 @@ fn truth_of(truth: bool) -> &'static str
     if truth { "true" } else { "false" }
 }
 
-/// Adds the end of the line of a comparison: its sign, the other number and the result.
+/// Adds the end of the line of a comparison: its sign, the other number and the result. An error where an allocation is
+/// refused.
 fn push_compared(text: &mut String, sign: &str, other: u32, truth: bool) -> Result<(), AllocError>
     ensures { OnOk result (string_bytes text.new ≡ string_bytes text.old
         ++ compared_text sign.now other truth) }
@@ -133,7 +139,8 @@ fn push_compared(text: &mut String, sign: &str, other: u32, truth: bool) -> Resu
     write!(text, " {sign} 0x{other:08X} {truth}\n")
 }
 
-/// Adds the name of the word of the input at a place, 0 to 15, and a blank; nothing where there is no word.
+/// Adds the name of the word of the input at a place, 0 to 15, and a blank; nothing where there is no word. An error
+/// where an allocation is refused.
 fn push_name(text: &mut String, word: Option<u8>) -> Result<(), AllocError>
     ensures { OnOk result (string_bytes text.new ≡ string_bytes text.old ++ named_text word) }
 {
@@ -144,7 +151,7 @@ fn push_name(text: &mut String, word: Option<u8>) -> Result<(), AllocError>
     write!(text, "{name} ")
 }
 
-/// Adds the line of a comparison that the filter with this number makes.
+/// Adds the line of a comparison that the filter with this number makes. An error where an allocation is refused.
 fn push_test(text: &mut String, number: usize, compared: &Comparison) -> Result<(), AllocError>
     ensures { OnOk result (string_bytes text.new ≡ string_bytes text.old
         ++ test_line number compared.now.place compared.now.word compared.now.value
@@ -158,7 +165,7 @@ fn push_test(text: &mut String, number: usize, compared: &Comparison) -> Result<
 }
 
 /// Adds the line of what an instruction of the filter with this number met: a comparison with its result, or that the
-/// number in A is returned. A division by X is a comparison of X with 0.
+/// number in A is returned. A division by X is a comparison of X with 0. An error where an allocation is refused.
 pub(crate) fn push_meeting(
     text: &mut String,
     number: usize,
@@ -198,7 +205,8 @@ pub(crate) fn push_meeting(
     }
 }
 
-/// Adds the line of what a filter met; with `brief` nothing where that is a comparison that is false.
+/// Adds the line of what the filter with this number met at an instruction; with `brief` nothing where that is a
+/// comparison that is false. An error where an allocation is refused.
 fn push_shown(
     text: &mut String,
     brief: bool,
@@ -214,7 +222,8 @@ fn push_shown(
     push_meeting(text, number, meeting)
 }
 
-/// Adds the lines of all that a filter met, in order.
+/// Adds the lines of all that the filter with this number met, in order; with `brief` without the comparisons that are
+/// false. An error where an allocation is refused.
 fn push_meetings(
     text: &mut String,
     brief: bool,
@@ -230,15 +239,16 @@ fn push_meetings(
     Ok(())
 }
 
-/// The word behind a filter whose answer stands; no text where it does not.
-fn mark_of(stands: bool) -> &'static str
+/// The word behind a filter whose answer stands; an empty text where it doesn't stand.
+fn stands_word(stands: bool) -> &'static str
     ensures { result.now ≡ stands_text stands }
 {
     if stands { " stands" } else { "" }
 }
 
 /// Adds the line of what a filter returns: an action and its data, `info`. `number` is that of the filter, `place` that
-/// of the instruction that returns. The answer stands where it is the answer of the stack.
+/// of the instruction that returns. `stands` says whether the filter's answer is that of the stack. An error where an
+/// allocation is refused.
 pub(crate) fn push_return(
     text: &mut String,
     number: usize,
@@ -252,7 +262,7 @@ pub(crate) fn push_return(
 {
     write!(text, "filter {number} ")?;
     push_action(text, action)?;
-    let mark = mark_of(stands);
+    let mark = stands_word(stands);
     write!(text, " {info} instruction {place}{mark}\n")
 }
 
@@ -271,9 +281,9 @@ pub struct Trace<'a> {
     pub names: &'a [Names],
 }
 
-/// Adds the lines of the filter with this number, and says whether its answer stands: it returns the action of the
-/// stack's answer, and the answer of no newer filter stood, as `stood` says. The upper 16 bits of its return value are
-/// the action, the lower 16 the data. `Memory` where an allocation is refused.
+/// Adds the lines of the filter with this number, and returns whether its answer stands: the filter returns the action
+/// of the stack's answer, and the answer of no newer filter stood. `stood` says whether one did. The upper 16 bits of a
+/// return value are the action, the lower 16 the data. `Memory` where an allocation is refused.
 fn push_filter(
     alloc: Global,
     text: &mut String,
@@ -303,7 +313,8 @@ fn push_filter(
     Ok(stands)
 }
 
-/// Adds the lines of all filters, newest first.
+/// Adds the lines of all filters, newest first; the newest one has the highest number. `Memory` where an allocation is
+/// refused.
 fn push_filters(alloc: Global, text: &mut String, trace: &Trace<'_>) -> Result<(), Fault>
     ensures { OnOk result (string_bytes text.new ≡ string_bytes text.old
         ++ filters_text trace.now.brief (length trace.now.stack.now)

@@ -15,7 +15,7 @@ use sf_policy::Fault;
 use sf_run::{Action, Answer, Meeting, Met, answer, walk};
 use std::alloc::{AllocError, Global};
 
-/// Adds the line of an input as a call, behind `why`.
+/// Adds the line of an input as a call, with `why ` before it. An error where an allocation is refused.
 fn push_called(text: &mut String, names: &[Names], input: &Input) -> Result<(), AllocError>
     ensures { OnOk result (string_bytes text.new ≡ string_bytes text.old
         ++ why_line (call_line names.now input.now)) }
@@ -24,8 +24,9 @@ fn push_called(text: &mut String, names: &[Names], input: &Input) -> Result<(), 
     push_call_line(text, names, input)
 }
 
-/// Adds the line of what a filter returns, behind `why`. `number` is the filter's, `place` that of the instruction that
-/// returns, `value` what it returns: the action in the upper 16 bits, its data in the lower 16.
+/// Adds the line of what a filter returns, with `why ` before it. `number` is the filter's, `place` that of the
+/// instruction that returns, `value` what it returns: the action in the upper 16 bits, its data in the lower 16.
+/// `stands` says whether the filter's answer is that of the stack. An error where an allocation is refused.
 fn push_returned(
     text: &mut String,
     number: usize,
@@ -41,7 +42,8 @@ fn push_returned(
     push_return(text, number, place, action, value & 0xffff, stands)
 }
 
-/// Whether a comparison was met that is true. A division by X compares X with 0, so it is true where X is 0.
+/// Whether what was met is a comparison that is true. A division by X compares X with 0, so it is true where X is 0. A
+/// return is no comparison.
 fn is_true(meeting: Meeting) -> bool
     ensures { result ≡ is_true meeting }
 {
@@ -52,14 +54,15 @@ fn is_true(meeting: Meeting) -> bool
     }
 }
 
-/// The last true comparison of what was met; none where none was true.
+/// The last true comparison of what was met; `None` where no comparison was true.
 fn last_true(met: &[Meeting]) -> Option<&Meeting>
     ensures { option_map (λ m. m.now) result ≡ last_true met.now }
 {
     met.iter().rev().find(|meeting| is_true(**meeting))
 }
 
-/// Adds the line of the last true comparison that a filter met, behind `why`; nothing where it met none.
+/// Adds the line of the last true comparison that a filter met, with `why ` before it; nothing where none was true. An
+/// error where an allocation is refused.
 fn push_cause(text: &mut String, number: usize, met: &[Meeting]) -> Result<(), AllocError>
     ensures { OnOk result (string_bytes text.new ≡ string_bytes text.old
         ++ cause_line number (last_true met.now)) }
@@ -73,16 +76,16 @@ fn push_cause(text: &mut String, number: usize, met: &[Meeting]) -> Result<(), A
     }
 }
 
-/// Whether the answer of a filter that returns this value stands: it has the action of the stack's answer, and the
-/// answer of no newer filter stood.
+/// Whether the answer of a filter that returns `value` stands: the value has the action of the stack's answer, and the
+/// answer of no newer filter stood. `stood` says whether one did.
 fn is_standing(stood: bool, value: u32, answer: Answer) -> bool
     ensures { result ≡ (not stood && (action_bits value == action_number answer.action)) }
 {
     !stood && value & 0xffff0000 == answer.action.number()
 }
 
-/// Adds the lines of the filter with this number, and says whether its answer stands: it returns the action of the
-/// stack's answer, and the answer of no newer filter stood, as `stood` says. `Memory` where an allocation is refused.
+/// Adds the lines of the filter with this number, and returns whether its answer stands, as `is_standing` says: `stood`
+/// is whether the answer of a newer filter did. `Memory` where an allocation is refused.
 fn push_filter(
     alloc: Global,
     text: &mut String,
@@ -104,7 +107,8 @@ fn push_filter(
     Ok(stands)
 }
 
-/// Adds the lines of all filters, newest first.
+/// Adds the lines of all filters, newest first; the newest one has the highest number. `Memory` where an allocation is
+/// refused.
 fn push_filters(alloc: Global, text: &mut String, trace: &Trace<'_>) -> Result<(), Fault>
     ensures added { OnOk result (string_bytes text.new ≡ string_bytes text.old
         ++ stack_text cause_text (length trace.now.stack.now)
@@ -122,7 +126,8 @@ fn push_filters(alloc: Global, text: &mut String, trace: &Trace<'_>) -> Result<(
     Ok(())
 }
 
-/// Adds the line of the input as a call, and the lines of all filters.
+/// Adds the line of the input as a call, and then the lines of all filters, newest first. `Memory` where an allocation
+/// is refused.
 fn push_why(alloc: Global, text: &mut String, trace: &Trace<'_>) -> Result<(), Fault>
     ensures added { OnOk result (string_bytes text.new ≡ string_bytes text.old
         ++ why_text trace.now.names.now trace.now.stack.now trace.now.input.now
@@ -142,7 +147,7 @@ pub fn why_text(
     stack: &Stack,
     input: &Input,
 ) -> Result<String, Fault>
-    ensures told { IfOk result (λ text. IsWhy names.now stack.now input.now (string_bytes text)) }
+    ensures shown { IfOk result (λ text. IsWhy names.now stack.now input.now (string_bytes text)) }
     ensures refused { IfErr result (λ e. e ≡ MemoryFault) }
 {
     let answer = answer(stack, input);

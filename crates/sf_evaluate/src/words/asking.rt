@@ -17,7 +17,8 @@ use sf_insn::Input;
 use sf_names::{Names, find_set, is_call_name};
 use sf_policy::Fault;
 
-/// Whether the option with this name is given. The name has no dashes; the option has no usual value.
+/// Whether the option with this name is given. The name has no dashes. The option has no usual value: one that has such
+/// a value would always seem to be given.
 pub(crate) fn is_given(found: &ArgMatches<'_>, name: &str) -> bool
     ensures { result ≡ is_given name.now (rows_of (found_of found.now)) }
 {
@@ -118,7 +119,8 @@ fn is_input(text: &str) -> bool
 }
 
 /// Whether the word of `--input` spells an input; without `--input`, whether each number that is given for a call fits
-/// into its place: 64 bits for an argument, 32 bits for the others. `eval` asks this before it reads any file.
+/// into its place: 64 bits for an argument, 32 bits for the others. The caller has seen by `eval_words_fit` that the
+/// words have the right form. `eval` asks this before it reads any file.
 pub fn numbers_fit(found: &ArgMatches<'_>) -> bool
     ensures { result ≡ numbers_fit (rows_of (found_of found.now)) }
 {
@@ -189,7 +191,8 @@ fn asked_nr(found: &ArgMatches<'_>, names: &[Names]) -> Result<u32, Fault>
     nr_named(names, text_of(found, "arch"), text_of(found, "call"))
 }
 
-/// Whether the architecture is given by its number.
+/// Whether the architecture is given by its number. It can be only beside `--nr`: with `--call`, the word of `--arch`
+/// is the name of a set, also where it looks like a number.
 fn is_arch_number(found: &ArgMatches<'_>) -> bool
     ensures { result ≡ is_arch_number (rows_of (found_of found.now)) }
 {
@@ -228,8 +231,9 @@ fn asked_call(found: &ArgMatches<'_>, names: &[Names]) -> Result<Input, Fault>
 }
 
 /// The input that the words ask for, with these sets of calls. `Input` where the bytes of an input aren't spelled, or a
-/// number is too wide, as `numbers_fit` says before; `UnknownName` where no set has the name that is given, or it has
-/// no call with the name that is given. The notes get to know whether there is a set with the name behind `--arch`.
+/// number is too wide, so that `numbers_fit` is false; `UnknownName` where no set has the name that is given, or it has
+/// no call with the name that is given. Without `--input`, the notes keep whether there is a set with the name behind
+/// `--arch`.
 pub fn asked_input(
     found: &ArgMatches<'_>,
     names: &[Names],

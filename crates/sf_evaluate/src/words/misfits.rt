@@ -67,7 +67,8 @@ fn first_missing(
     None
 }
 
-/// What doesn't go with `--input`, which is given; none where it stands alone.
+/// The first option that doesn't go with `--input`, which is given; `None` where neither `--call` nor `--nr`, `--arch`
+/// or `--args` is given.
 fn misfit_of_input<'a>(found: &ArgMatches<'a>) -> Option<Misfit<'a>> {
     let other = match first_given(found, &ASKING[1..]) {
         Some(other) => other,
@@ -135,7 +136,8 @@ fn first_misfit<'a>(found: &ArgMatches<'a>) -> Option<Misfit<'a>> {
     }
 }
 
-/// Adds the lines that say what doesn't fit, in the form in which `clap` says it.
+/// Adds the lines that say what doesn't fit, in the form in which `clap` says it. An error where an allocation is
+/// refused.
 fn push_misfit(text: &mut String, misfit: &Misfit<'_>) -> Result<(), AllocError> {
     match misfit {
         Misfit::Both(one, other) => write!(
@@ -167,8 +169,8 @@ fn misfit_text(alloc: Global, found: &ArgMatches<'_>) -> Result<String, AllocErr
     Ok(text)
 }
 
-/// The lines that say what is wrong with the calls, or else with the rows, that `list` or `compare` is asked for. An
-/// error where an allocation is refused.
+/// The lines that say what is wrong with the calls, or else with the rows, that `list` or `compare` is asked for. The
+/// caller has seen that `calls_fit` or `rows_fit` is false. An error where an allocation is refused.
 fn wrong_rows_text(alloc: Global, found: &ArgMatches<'_>) -> Result<String, AllocError> {
     let mut text = String::new(alloc);
     if calls_fit(found) {
@@ -196,8 +198,8 @@ fn wrong_control_text(alloc: Global, found: &ArgMatches<'_>) -> Result<String, A
     Ok(text)
 }
 
-/// Writes to standard error which words of the command line don't fit, if a run ended for that reason, with status 4,
-/// and there is memory to say so.
+/// Writes to standard error which words of the command line don't fit, if a run ended for that reason, which is so
+/// where `ran` has the status 4, and there is memory to say so.
 pub fn tell_wrong_words<E: Write>(
     alloc: Global,
     matches: &ArgMatches<'_>,

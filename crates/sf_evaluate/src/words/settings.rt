@@ -60,7 +60,8 @@ const CAPABILITIES: [&str; 41] = [
     "CAP_CHECKPOINT_RESTORE",
 ];
 
-/// The set of calls that a machine's own programs use, by the machine's word; none where a text is no such word.
+/// The set of calls that programs built for a machine use, by the word behind `--machine`; `None` where a text is no
+/// such word.
 fn machine_named(text: &str) -> Option<CallSet>
     ensures { result ≡ machine_named text.now }
 {
@@ -73,8 +74,8 @@ fn machine_named(text: &str) -> Option<CallSet>
     }
 }
 
-/// Which of several rules of a profile counts for a call, by the word of `--conflicts`; none where a text is no such
-/// word.
+/// Which of several rules of a profile counts for a call, by the word behind `--conflicts`; `None` where a text is no
+/// such word.
 fn reading_named(text: &str) -> Option<Reading>
     ensures { result ≡ reading_named text.now }
 {
@@ -218,8 +219,8 @@ fn wrong_word_text(alloc: Global, found: &ArgMatches<'_>) -> Result<String, Allo
     Ok(text)
 }
 
-/// Writes to standard error which word of the command line isn't one that its option takes, if a run ended for that
-/// reason, with status 4, and there is memory to say so.
+/// Writes to standard error which word of the command line isn't one that its option takes, if a run of `profile` ended
+/// for that reason, which is so where `ran` has the status 4, and there is memory to say so.
 pub(crate) fn tell_wrong_word<E: Write>(
     alloc: Global,
     matches: &ArgMatches<'_>,

@@ -50,7 +50,7 @@ pub fn calls_fit(found: &ArgMatches<'_>) -> bool
     }
 }
 
-/// Whether a word is that of a relation of answers.
+/// Whether a word is that of a relation between the answers of two stacks.
 fn is_relation(word: &str) -> bool
     ensures { result ≡ is_relation word.now }
 {
@@ -84,7 +84,8 @@ pub fn rows_fit(found: &ArgMatches<'_>) -> bool
     has_rows_if_wanted(found) && only_fits(found)
 }
 
-/// The names in a text, with commas between them; none where it is empty. An error where an allocation is refused.
+/// The names in a text, with commas between them; an empty list where the text is empty. An error where an allocation
+/// is refused.
 fn names_in_text<'a>(alloc: Global, text: &'a str) -> Result<Vec<&'a str>, AllocError>
     ensures { IfOk result (λ v. map (λ t. t.now) v.items ≡ names_in_text text.now) }
 {
@@ -94,7 +95,7 @@ fn names_in_text<'a>(alloc: Global, text: &'a str) -> Result<Vec<&'a str>, Alloc
     text.split(',').collect(alloc)
 }
 
-/// The names of calls in the text of `--calls`; none where the option isn't given. An empty list asks for all calls.
+/// The names of calls in the text of `--calls`; `None` where the option isn't given. An empty list asks for all calls.
 /// `Memory` where an allocation is refused.
 fn calls_asked<'a>(alloc: Global, found: &ArgMatches<'a>) -> Result<Option<Vec<&'a str>>, Fault>
     ensures asked { IfOk result (λ o. option_map (λ v. map (λ t. t.now) v.items) o
@@ -121,7 +122,7 @@ fn are_all_known(sets: &[Names], names: &[&str]) -> bool
     names.iter().all(|name| is_known_call(sets, name))
 }
 
-/// Whether each call that is asked for by its name is one of some set.
+/// Whether each call that is asked for by its name is one of some set. It is true where no calls are asked for.
 fn are_known(sets: &[Names], calls: &Option<Vec<&str>>) -> bool
     ensures { result
         ≡ are_known sets.now (option_map (λ v. map (λ t. t.now) v.items) calls.now) }
@@ -163,7 +164,8 @@ pub fn known_calls<'a>(
     Ok(calls)
 }
 
-/// The first name in a text that can't be that of a call, or that stands twice; none where each can be and stands once.
+/// The first name in a text that can't be that of a call, or that stands more than once; `None` where each name can be
+/// that of a call and stands once.
 fn wrong_name(text: &str) -> Option<&str> {
     if text.is_empty() {
         return None;
@@ -171,8 +173,8 @@ fn wrong_name(text: &str) -> Option<&str> {
     text.split(',').find(|name| !is_name_once(text, name))
 }
 
-/// Adds the lines that say what is wrong with the calls that are asked for: `calls_fit` is false. An error where an
-/// allocation is refused.
+/// Adds the lines that say what is wrong with the calls that are asked for. The caller has seen that `calls_fit` is
+/// false. An error where an allocation is refused.
 pub(crate) fn push_wrong_calls(
     text: &mut String,
     found: &ArgMatches<'_>,
@@ -193,8 +195,9 @@ pub(crate) fn push_wrong_calls(
     )
 }
 
-/// Adds the lines that say what is wrong with the options about the rows of a comparison: `rows_fit` is false. An error
-/// where an allocation is refused.
+/// Adds the lines that say what is wrong with the options about the rows of a comparison. The caller has seen that
+/// `rows_fit` is false. So where `--only` is missing or names a relation, `--rows` is missing. An error where an
+/// allocation is refused.
 pub(crate) fn push_wrong_rows(text: &mut String, found: &ArgMatches<'_>) -> Result<(), AllocError> {
     let only = found.get_str("only").unwrap_or("different");
     if is_relation(only) {

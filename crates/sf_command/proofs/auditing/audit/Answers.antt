@@ -17,14 +17,14 @@ returns-clause-written g c = record {
   expected = c.in_ok-outcome.expected;
   is_found = rw c.deref.ensures.value at c.in_ok-outcome.ensures.found;
   remarks = map string_bytes c.in_ok-remarks.remarks.items;
-  remarked = c.in_ok-remarks.ensures.told;
+  remarked = c.in_ok-remarks.ensures.shown;
   written = rw (
     c.is_expecting.ensures,
     c.deref-3.ensures.value,
     c.deref-4.ensures.value,
     c.in_ok-outcome.ensures.placed,
   ) at c.in_ok-write_audit.ensures.written;
-  told = c.status_of_audit-status.ensures.told;
+  status_is = c.status_of_audit-status.ensures.status;
 }
 
 pub returns-in_err-read-clause-refused : goal.returns-in_err-read-clause-refused

@@ -6,4 +6,4 @@ pub loop-reply-preserved : goal.loop-reply-preserved
 loop-reply-preserved c =
     more_remarks string_bytes c.args.names.now c.args.stack.now c.args.replies.now c.loop-reply.reply-index _ _ _ _
     (omega arith)
-    c.in_ok-push.ensures.items c.loop-reply.invariant c.in_ok-remark.ensures.told
+    c.in_ok-push.ensures.items c.loop-reply.invariant c.in_ok-remark.ensures.shown

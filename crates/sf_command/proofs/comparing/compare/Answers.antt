@@ -13,7 +13,7 @@ returns-clause-written g c = record {
   found = c.in_ok-comparison.comparison;
   comparison = rw c.deref.ensures.value at c.in_ok-comparison.ensures.found;
   written = c.in_ok-write_compared.ensures.written;
-  told = rw c.change.ensures at c.status_of_change-status.ensures;
+  status_is = rw c.change.ensures at c.status_of_change-status.ensures;
 }
 
 pub returns-in_err-comparison-clause-refused : goal.returns-in_err-comparison-clause-refused

@@ -56,7 +56,8 @@ returns-in-profile-clause-done g c = IfOk-weaker c.profile.result _ _
     (λ s done small. (
       (_, _),
       joined _ _ _ _ _ c.in-Some.ensures.name c.in-Some.ensures.rows,
-      inr (inr (inr (inr (inr (inr (c.in-profile.is, record { written = (done small).1; told = (done small).0 })))))),
+      inr (inr (inr
+          (inr (inr (inr (c.in-profile.is, record { written = (done small).1; status_is = (done small).0 })))))),
     )) (profile_ran _ c.profile.result c.profile.ensures.status c.profile.ensures.done)
 
 pub returns-in-profile-clause-usage : goal.returns-in-profile-clause-usage

@@ -23,7 +23,7 @@ returns-clause-done g c = record {
   input = c.in_ok-input.input;
   asked = rw c.deref.ensures.value at c.in_ok-input.ensures.asked;
   evaluated = rw (c.deref-2.ensures.value, fun_ext c.names_of.ensures.same) at c.in_ok-evaluate.ensures.written;
-  told = refl;
+  status_is = refl;
 }
 
 pub returns-in_err-input-clause-refused : goal.returns-in_err-input-clause-refused

@@ -13,7 +13,7 @@ returns-clause-written g c = record {
   found = c.in_ok-listing.listing;
   listing = rw c.deref.ensures.value at c.in_ok-listing.ensures.found;
   written = c.in_ok-whole.ensures.written;
-  told = rw c.in_ok-whole.ensures.whole at c.status_of_listing-status.ensures;
+  status_is = rw c.in_ok-whole.ensures.whole at c.status_of_listing-status.ensures;
 }
 
 pub returns-in_err-listing-clause-refused : goal.returns-in_err-listing-clause-refused

@@ -18,7 +18,7 @@ returns-clause-written g c = record {
     path = rw c.deref.ensures.value at c.in_ok-needs.ensures.path;
   };
   written = c.in_ok-write_needs.ensures.written;
-  told = c.status_of_needs.ensures;
+  status_is = c.status_of_needs.ensures;
 }
 
 pub returns-in_err-needs-clause-refused : goal.returns-in_err-needs-clause-refused

@@ -10,7 +10,7 @@ pub returns : goal.returns
 returns c = on_ok_weaker c.write-2.result
     (λ e. return_parts (string_bytes c.args.text.now) (string_bytes c.write.new.self)
     (string_bytes c.push_action.new.text) (string_bytes c.write-2.new.self) (decimal c.args.number)
-    (action_text c.args.action) (decimal c.args.info) (decimal c.args.place) c.mark_of-mark.result.now
+    (action_text c.args.action) (decimal c.args.info) (decimal c.args.place) c.stands_word-mark.result.now
     (stands_text c.args.stands)
-    c.in_ok-write.ensures.bytes c.in_ok-push_action.ensures c.mark_of-mark.ensures e)
+    c.in_ok-write.ensures.bytes c.in_ok-push_action.ensures c.stands_word-mark.ensures e)
     c.write-2.ensures.bytes
