@@ -11,7 +11,7 @@ use Rattle.sf_dom.specs.Facts.{FactsView, Covers, known_at, AreNarrower, AreConf
 use Rattle.sf_dom.specs.FactsLaws.{narrower-admits, agreeing-word, some-input, some-such}
 use Rattle.sf_ask.specs.QuestionData.{QuestionData, range_at, mask_at, is_whole}
 use Rattle.sf_ask.specs.Breaking.{IsNumberOf, IsInQuestion}
-use Rattle.sf_ask.specs.Searches.{IsInRange, HasMaskBits, IsInBefore, IsOutside}
+use Rattle.sf_ask.specs.Searches.{IsInWordRange, HasMaskBits, IsInBefore, IsOutside}
 use Rattle.sf_ask.specs.Trying.{IsNumberBefore}
 
 pub of-true : {A : Type 0} (B : Type 0) (b : Bool) → b ≡ true → MatchBool b A B → A
@@ -76,14 +76,14 @@ none-again f g ns one two both first a none to_one to_two = grind (arith, common
 
 -- a range of all numbers, and a mask of no bits, leave a word as it is
 pub range-stays : (q : QuestionData) (at : ℕ) (r : ℕ × ℕ) (f : FactsView) (ns : List Node) → r ≡ range_at q at
-    → is_whole r ≡ true → Covers f ns → ConfinesWord f f ns at (IsInRange q at)
+    → is_whole r ≡ true → Covers f ns → ConfinesWord f f ns at (IsInWordRange q at)
 range-stays q at r f ns e whole of =
     let parts = and_parts (r.0 == 0) (r.1 == 4294967295) whole in
     let low : r.0 ≡ 0 = eqb-true _ _ parts.0 in
     let high : r.1 ≡ 4294967295 = eqb-true _ _ parts.1 in
-    let all : (n : ℕ) → n < 2 ^ 32 → IsInRange q at n
+    let all : (n : ℕ) → n < 2 ^ 32 → IsInWordRange q at n
     = λ n small. subst (λ (x : ℕ × ℕ). LiesIn x.0 x.1 n) e (omega arith, omega arith) in
-    stays f ns (HasIn at (IsInRange q at)) (λ word n. word ≡ at → IsInRange q at n) of
+    stays f ns (HasIn at (IsInWordRange q at)) (λ word n. word ≡ at → IsInWordRange q at n) of
     (λ d i. all (slice_index d.words at) (i.each at)) (λ word n w small same. all n small)
 
 pub mask-stays : (q : QuestionData) (at : ℕ) (m : ℕ × ℕ) (f : FactsView) (ns : List Node) → m ≡ mask_at q at → m.0 ≡ 0
@@ -97,16 +97,16 @@ mask-stays q at m f ns e zero inside of =
 
 -- a word that is confined to its range, and then to the bits of its mask
 pub word-confines : (b : Bool) (q : QuestionData) (at : ℕ) (f g h : FactsView) (ns : List Node) → Covers f ns
-    → ConfinesWord f g ns at (IsInRange q at)
+    → ConfinesWord f g ns at (IsInWordRange q at)
     → MatchBool b (ConfinesWord g h ns at (HasMaskBits q at)) (NoInput g ns (HasIn at (HasMaskBits q at)))
     → MatchBool b (ConfinesWord f h ns at (IsNumberOf q at)) (NoInput f ns (HasIn at (IsNumberOf q at)))
-word-confines true q at f g h ns of a b = again f g h ns (HasIn at (IsInRange q at)) (HasIn at (HasMaskBits q at))
-    (HasIn at (IsNumberOf q at)) (λ word n. word ≡ at → IsInRange q at n) (λ word n. word ≡ at → HasMaskBits q at n)
+word-confines true q at f g h ns of a b = again f g h ns (HasIn at (IsInWordRange q at)) (HasIn at (HasMaskBits q at))
+    (HasIn at (IsNumberOf q at)) (λ word n. word ≡ at → IsInWordRange q at n) (λ word n. word ≡ at → HasMaskBits q at n)
     (λ word n. word ≡ at → IsNumberOf q at n) of a b (λ d n. (n.above, n.below)) (λ d n. n.masked)
     (λ d r m. record { above = r.0; below = r.1; masked = m })
     (λ word n w r m same. let l = r same in record { above = l.0; below = l.1; masked = m same })
-word-confines false q at f g h ns of a none = none-again f g ns (HasIn at (IsInRange q at))
-    (HasIn at (HasMaskBits q at)) (HasIn at (IsNumberOf q at)) (λ word n. word ≡ at → IsInRange q at n) a none
+word-confines false q at f g h ns of a none = none-again f g ns (HasIn at (IsInWordRange q at))
+    (HasIn at (HasMaskBits q at)) (HasIn at (IsNumberOf q at)) (λ word n. word ≡ at → IsInWordRange q at n) a none
     (λ d n. (n.above, n.below)) (λ d n. n.masked)
 
 -- where what is known of a word leaves no number of its range, no input is in the question

@@ -11,7 +11,7 @@ use Rattle.sf_ask.specs.declared.verdict.Verdict.{Verdict}
 use Rattle.sf_ask.specs.Judging.{HasVerdictAt}
 use Rattle.sf_ask.specs.OneResult.{HaveOneVerdict}
 use Rattle.sf_ask.specs.QuestionData.{QuestionData}
-use Rattle.sf_book.specs.Unfoldings.{AreSameRegions, HaveOneResult, HaveSameElements, IsFringe, IsRegionOf, IsSameRegion}
+use Rattle.sf_book.specs.Unfoldings.{AreSameRegions, HaveOneOutcome, HaveSameElements, IsFringe, IsRegionOf, IsSameRegion}
 
 -- there are as many regions
 pub same_length : (rs ss : List RegionData) → AreSameRegions rs ss → length rs ≡ length ss
@@ -70,7 +70,7 @@ as_many : (xs ys : List (List Bool)) → HaveSameElements xs ys → length xs �
 as_many xs ys same = sym (weighs xs) ∙ same (λ x. 1) ∙ weighs ys
 
 -- the counts are the same
-pub same_counts : (b c : BookData) → HaveOneResult b c → b.outstanding ≡ [] → c.outstanding ≡ []
+pub same_counts : (b c : BookData) → HaveOneOutcome b c → b.outstanding ≡ [] → c.outstanding ≡ []
     → counts_of b ≡ counts_of c
 same_counts b c one none none' =
     let left = ap length (none ∙ sym none') in

@@ -17,8 +17,8 @@ use Rattle.sf_ask.specs.Trying.{IsTried}
 use Rattle.sf_ask.specs.Verdicts.{IsLowInput}
 
 -- a number lies in the range of a word
-abbrev pub IsInRange : QuestionData → ℕ → ℕ → Type 0
-IsInRange q word n = LiesIn (range_at q word).0 (range_at q word).1 n
+abbrev pub IsInWordRange : QuestionData → ℕ → ℕ → Type 0
+IsInWordRange q word n = LiesIn (range_at q word).0 (range_at q word).1 n
 
 -- a number has the bits of the mask of a word
 abbrev pub HasMaskBits : QuestionData → ℕ → ℕ → Type 0

@@ -6,7 +6,7 @@ ghost use Rattle.sf_ask.specs.Breaking.{IsNumberOf, IsInQuestion};
 ghost use Rattle.sf_ask.specs.QuestionData.{is_whole};
 ghost use Rattle.sf_ask.specs.Judging.{TakeInRange, TakeInMask, TakeInWord, TakeInQuestion, CantTakeInQuestion};
 ghost use Rattle.sf_ask.specs.Probing.{IsRuledOut};
-ghost use Rattle.sf_ask.specs.Searches.{IsInRange, HasMaskBits, IsOutside, CantTakeInRange, CantTakeInMask, CantTakeInWord};
+ghost use Rattle.sf_ask.specs.Searches.{IsInWordRange, HasMaskBits, IsOutside, CantTakeInRange, CantTakeInMask, CantTakeInWord};
 ghost use Rattle.sf_ask.specs.Trying.{IsNumberBefore};
 ghost use Rattle.sf_ask.specs.declared.fault.Fault.TheVariants.{Memory};
 
@@ -63,8 +63,8 @@ fn confine_range(
     requires covers { Covers facts.old pool.now }
     requires word { word < 16 }
     ensures confined { IfOk result (λ b. MatchBool b
-        (ConfinesWord facts.old facts.new pool.now word (IsInRange question.now word))
-        (NoInput facts.old pool.now (HasIn word (IsInRange question.now word)))) }
+        (ConfinesWord facts.old facts.new pool.now word (IsInWordRange question.now word))
+        (NoInput facts.old pool.now (HasIn word (IsInWordRange question.now word)))) }
     ensures rule { IfOk result (λ b. MatchBool b
         (TakeInRange question.now word pool.now facts.old facts.new)
         (CantTakeInRange question.now word pool.now facts.old)) }

@@ -14,7 +14,7 @@ use Rattle.sf_book.specs.PrefixCounts.{bit, prefix_bit}
 use Rattle.sf_book.proofs.Names.{prefix-append}
 use Rattle.sf_book.proofs.MapLemmas.{some_inj}
 use Rattle.sf_piece.specs.Pieces.{PieceData, WorkData, is_prefix, IsTrulyNamed, IsRightSplit, IsRightAnswer, HasNoMember, IsRoot}
-use Rattle.sf_book.specs.Books.{OutstandingData, BookData, IsLawfulBook, IsKept, fresh}
+use Rattle.sf_book.specs.Books.{OutstandingData, BookData, IsLawfulBook, IsKeptBook, fresh}
 use Rattle.sf_book.specs.Changes.{outstanding_at, without, MayCommit, Refuses}
 use Rattle.sf_book.specs.declared.fault.Fault.{Fault}
 use Rattle.sf_book.specs.declared.fault.Fault.TheVariants.{Memory}
@@ -30,8 +30,8 @@ pub record IsPlace (es : List OutstandingData) (id : ℕ) (w : WorkData) (place 
 
 pub kept_marks : (b : BookData) (next : ℕ) (g : OutstandingData → OutstandingData)
     → ((e : OutstandingData) → (g e).id ≡ e.id)
-    → ((e : OutstandingData) → (g e).piece ≡ e.piece) → IsKept b next
-    → IsKept (record b { outstanding = map g b.outstanding }) next
+    → ((e : OutstandingData) → (g e).piece ≡ e.piece) → IsKeptBook b next
+    → IsKeptBook (record b { outstanding = map g b.outstanding }) next
 kept_marks b next g ids pieces h = record {
   lawful = marks_lawful b g ids pieces h.lawful;
   below = All-map (λ e. e.id < next) g b.outstanding (λ k d l. let o = h.below k d l in
@@ -39,10 +39,11 @@ kept_marks b next g ids pieces h = record {
   few = h.few;
 }
 
-pub kept_split : (b : BookData) (p f t : PieceData) (i next : ℕ) (e : OutstandingData) → IsKept b next
+pub kept_split : (b : BookData) (p f t : PieceData) (i next : ℕ) (e : OutstandingData) → IsKeptBook b next
     → IsReplaced b p i e
     → IsRightSplit p f t
-    → IsKept (after_split b ((remove b.outstanding i ++ leased_piece next f ∷ []) ++ leased_piece (next + 1) t ∷ []))
+    → IsKeptBook (after_split b ((remove b.outstanding i ++ leased_piece next f ∷ [])
+    ++ leased_piece (next + 1) t ∷ []))
     (next + 2)
 kept_split b p f t i next e h r s =
     let few = h.few in
@@ -57,19 +58,19 @@ kept_split b p f t i next e h r s =
       few = omega arith;
     }
 
-below_less : (b : BookData) (i next : ℕ) (e : OutstandingData) → IsKept b next → i < length b.outstanding
+below_less : (b : BookData) (i next : ℕ) (e : OutstandingData) → IsKeptBook b next → i < length b.outstanding
     → All (λ x. x.id < next) (remove b.outstanding i)
 below_less b i next e h l = rw (remove_without b.outstanding i e h.lawful.ids l)
     (All-filter _ (λ x. x.id < next) b.outstanding h.below)
 
 pub kept_answer : (b : BookData) (p : PieceData) (n : List Bool) (a : Answer) (i next : ℕ) (e : OutstandingData)
-    → IsKept b next → IsReplaced b p i e → IsRightAnswer p n a
-    → IsKept (after_answer b (remove b.outstanding i) (record { piece = p; name = n; answer = a })) next
+    → IsKeptBook b next → IsReplaced b p i e → IsRightAnswer p n a
+    → IsKeptBook (after_answer b (remove b.outstanding i) (record { piece = p; name = n; answer = a })) next
 kept_answer b p n a i next e h r s = search (arith, answer_lawful, below_less)
 
-pub kept_empty : (b : BookData) (p : PieceData) (i next : ℕ) (e : OutstandingData) → IsKept b next
+pub kept_empty : (b : BookData) (p : PieceData) (i next : ℕ) (e : OutstandingData) → IsKeptBook b next
     → IsReplaced b p i e → HasNoMember p
-    → IsKept (after_empty b (remove b.outstanding i) p.name) next
+    → IsKeptBook (after_empty b (remove b.outstanding i) p.name) next
 kept_empty b p i next e h r s = search (arith, empty_lawful, below_less)
 
 two_places : (m : OutstandingData → ℕ) (es : List OutstandingData) (i j : ℕ) (d e : OutstandingData)
@@ -141,7 +142,7 @@ pub may_place : (b : BookData) (id : ℕ) (w : WorkData) → MayCommit b id w �
 may_place b id w m = grind (arith, common_steps, find_place, get_or_default)
 
 -- the id of an outstanding piece is below the next one
-pub low_id : (b : BookData) (next id : ℕ) (w : WorkData) → IsKept b next → MayCommit b id w → id < next
+pub low_id : (b : BookData) (next id : ℕ) (w : WorkData) → IsKeptBook b next → MayCommit b id w → id < next
 low_id b next id w h m =
     let r = may_place b id w m in
     let low : (get_or b.outstanding r.0 m.under_id).id < next = h.below r.0 m.under_id r.1.there in
@@ -160,27 +161,30 @@ left_over b id w i d h p = search (arith, remove_without)
 
 -- ---- what a commit leaves, where it may
 
-pub split_kept : (b : BookData) (next id : ℕ) (w : WorkData) (f t : PieceData) → IsKept b next → MayCommit b id w
+pub split_kept : (b : BookData) (next id : ℕ) (w : WorkData) (f t : PieceData) → IsKeptBook b next → MayCommit b id w
     → b.commits < b.budget → IsTrulyNamed w.piece → IsRightSplit w.piece f t
-    → IsKept (after_split b ((without id b.outstanding ++ leased_piece next f ∷ []) ++ leased_piece (next + 1) t ∷ []))
+    → IsKeptBook (after_split b ((without id b.outstanding ++ leased_piece next f ∷ [])
+    ++ leased_piece (next + 1) t ∷ []))
     (next + 2)
 split_kept b next id w f t h m room named right =
     let r = may_place b id w m in
     rw (← left_over b id w r.0 m.under_id h.lawful r.1)
     (kept_split b w.piece f t r.0 next m.under_id h (replaced b id w r.0 m.under_id r.1 m.same_stack room named) right)
 
-pub answer_kept : (b : BookData) (next id : ℕ) (w : WorkData) (a : Answer) → IsKept b next → MayCommit b id w
+pub answer_kept : (b : BookData) (next id : ℕ) (w : WorkData) (a : Answer) → IsKeptBook b next → MayCommit b id w
     → b.commits < b.budget → IsTrulyNamed w.piece → IsRightAnswer w.piece w.name a
-    → IsKept (after_answer b (without id b.outstanding) (record { piece = w.piece; name = w.name; answer = a })) next
+    → IsKeptBook (after_answer b (without id b.outstanding)
+    (record { piece = w.piece; name = w.name; answer = a })) next
 answer_kept b next id w a h m room named right =
     let r = may_place b id w m in
     rw (← left_over b id w r.0 m.under_id h.lawful r.1)
     (kept_answer b w.piece w.name a r.0 next m.under_id h
     (replaced b id w r.0 m.under_id r.1 m.same_stack room named) right)
 
-pub empty_kept : (b : BookData) (next id : ℕ) (w : WorkData) → IsKept b next → MayCommit b id w → b.commits < b.budget
+pub empty_kept : (b : BookData) (next id : ℕ) (w : WorkData) → IsKeptBook b next → MayCommit b id w
+    → b.commits < b.budget
     → IsTrulyNamed w.piece → HasNoMember w.piece
-    → IsKept (after_empty b (without id b.outstanding) w.piece.name) next
+    → IsKeptBook (after_empty b (without id b.outstanding) w.piece.name) next
 empty_kept b next id w h m room named right =
     let r = may_place b id w m in
     rw (← left_over b id w r.0 m.under_id h.lawful r.1)
@@ -193,7 +197,7 @@ child_names b id w f t h m right =
     new_names b w.piece f t r.0 m.under_id h r.1.there (r.1.has_name m.under_id) right
 
 pub kept_fresh : (stack : List (List Insn)) (r : PieceData) (budget : ℕ) → IsLawfulStack stack → IsRoot stack r
-    → IsKept (fresh stack r budget) 1
+    → IsKeptBook (fresh stack r budget) 1
 kept_fresh stack r budget lawful h = grind (arith, common_steps, fresh_lawful)
 
 -- refused memory is a right reason to refuse what may be committed

@@ -13,7 +13,7 @@ use Rattle.sf_book.specs.Changes.{without, MayCommit, CommitsAs}
 use Rattle.sf_book.specs.PlainBooks.{IsBook}
 use Rattle.sf_book.specs.PlainLaws.{plain_fresh, plain_marks, split_plain, answer_plain, empty_plain}
 use Rattle.sf_book.proofs.Lawful.{leased_piece, after_split, after_answer, after_empty}
-use Rattle.sf_piece.specs.Execution.{HasStep, IsReached, IsFirst}
+use Rattle.sf_piece.specs.Execution.{HasStep, IsInTree, IsFirst}
 use Rattle.sf_piece.specs.OneExecution.{IsExecutionOne}
 use Rattle.sf_book.specs.Unfoldings.{IsPieceOf}
 use Rattle.sf_book.proofs.Growing.{fringe-fresh, fringe-marks, fringe-split, fringe-answer, fringe-empty}
@@ -50,7 +50,7 @@ pub record IsLawfulWork (w : WorkData) (step : StepData) : Type 0 where
   pub one : IsExecutionOne
   pub right : IsRightWork w
   pub rule : HasStep w.piece w.step w.name
-  pub reached : IsReached w.piece
+  pub reached : IsInTree w.piece
   pub plain : IsPlain w.piece.stack → IsPlainWork w
   pub is : w.step ≡ step
 

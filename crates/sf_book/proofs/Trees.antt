@@ -20,7 +20,7 @@ use Rattle.sf_book.specs.Books.{RegionData, OutstandingData, BookData, IsSettled
 use Rattle.sf_book.specs.NameOrderLaws.{strictly_in_order}
 use Rattle.sf_book.specs.PartitionLaws.{some_there, prefix-refl}
 use Rattle.sf_book.specs.PrefixCounts.{bit, prefix_bit}
-use Rattle.sf_book.specs.Unfoldings.{Unfolding, Outstanding, Region, Emptied, Fork, HaveSameElements, IsFringe, IsRegionOf, IsSameRegion, AreSameRegions, HaveOneResult, top_of, IsPieceOf, IsUnfolding, outstanding_in, emptied_in, regions_in, forks_in}
+use Rattle.sf_book.specs.Unfoldings.{Unfolding, Outstanding, Region, Emptied, Fork, HaveSameElements, IsFringe, IsRegionOf, IsSameRegion, AreSameRegions, HaveOneOutcome, top_of, IsPieceOf, IsUnfolding, outstanding_in, emptied_in, regions_in, forks_in}
 
 -- the same ends and forks
 pub record AreAlikeTrees (u v : Unfolding) : Type 0 where
@@ -235,7 +235,7 @@ none-in b h none = weighs-none (outstanding_in h.tree)
     (λ f. ap (λ es. sum_by f (map (λ (e : OutstandingData). e.piece.name) es)) (sym none) ∙ h.outstanding f)
 
 pub results-one : IsExecutionOne → (b c : BookData) → IsSettled b → IsSettled c → IsFringe b → IsFringe c
-    → b.stack ≡ c.stack → b.outstanding ≡ [] → c.outstanding ≡ [] → HaveOneResult b c
+    → b.stack ≡ c.stack → b.outstanding ≡ [] → c.outstanding ≡ [] → HaveOneOutcome b c
 results-one one b c s t h k e x y =
     let trees = trees-one one b.stack h.tree k.tree h.unfolds
     (subst (λ (z : List (List Insn)). IsUnfolding z k.tree) (sym e) k.unfolds) (h.first ∙ sym k.first)

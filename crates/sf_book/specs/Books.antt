@@ -101,7 +101,7 @@ fresh stack r budget = record {
 }
 
 -- what a book keeps: it is lawful, the next id is above all ids, and each commit has used up two ids at most
-pub record IsKept (b : BookData) (next : ℕ) : Type 0 where
+pub record IsKeptBook (b : BookData) (next : ℕ) : Type 0 where
   pub lawful : IsLawfulBook b
   pub below : All (λ e. e.id < next) b.outstanding
   pub few : next ≤ 2 * b.commits + 1

@@ -3,7 +3,7 @@
 use Rattle.std.specs.Prelude.{◌≡◌, ℕ, [], All}
 use Rattle.sf_check.specs.Stacks.{IsPlain}
 use Rattle.sf_piece.specs.PlainPieces.{IsPlainPiece}
-use Rattle.sf_book.specs.Books.{OutstandingData, RegionData, BookData, IsKept, IsSettled}
+use Rattle.sf_book.specs.Books.{OutstandingData, RegionData, BookData, IsKeptBook, IsSettled}
 use Rattle.sf_book.specs.Unfoldings.{IsFringe}
 
 -- the book of a plain stack: each outstanding piece and the piece of each region is plain, and none was emptied
@@ -19,13 +19,13 @@ pub record IsPlainWhereStackIs (b : BookData) : Type 0 where
 -- what the type of books keeps: the book is lawful and its ids are below the next one, it is plain where its stack is,
 -- and it is the fringe of an unfolding
 pub record IsBook (b : BookData) (next : ℕ) : Type 0 where
-  pub kept : IsKept b next
+  pub kept : IsKeptBook b next
   pub plain : IsPlainWhereStackIs b
   pub fringe : IsFringe b
 
 -- what the type of ended explorations keeps: the book is lawful with its regions in name order, it is plain where its
 -- stack is, and it is the fringe of an unfolding
-pub record IsClosed (b : BookData) : Type 0 where
+pub record IsEndedBook (b : BookData) : Type 0 where
   pub settled : IsSettled b
   pub plain : IsPlainWhereStackIs b
   pub fringe : IsFringe b

@@ -3,7 +3,7 @@ use Rattle.std.specs.Prelude.{◌≡◌, ℕ, ◌+◌, Bool, List, [], ◌∷◌
 use Rattle.sf_check.specs.declared.insn.Insn.{Insn}
 use Rattle.sf_run.specs.declared.action.Answer.{Answer}
 use Rattle.sf_piece.specs.Pieces.{PieceData, Split, Settled, Empty}
-use Rattle.sf_piece.specs.Execution.{HasStep, IsReached, AreSamePieces}
+use Rattle.sf_piece.specs.Execution.{HasStep, IsInTree, AreSamePieces}
 use Rattle.sf_book.specs.Books.{OutstandingData, RegionData, BookData, IsSettled}
 
 -- A part of an execution tree. A branch ends in a piece that is outstanding, in one that settled, with its whole name
@@ -23,7 +23,7 @@ top_of (Fork p f t) = p
 
 -- a piece of the stack that the rules reach
 pub record IsPieceOf (stack : List (List Insn)) (p : PieceData) : Type 0 where
-  pub reached : IsReached p
+  pub reached : IsInTree p
   pub of : p.stack ≡ stack
 
 -- the piece is split into these two, but for how excluded numbers are listed and which nodes are variables
@@ -106,7 +106,7 @@ AreSameRegions _ _ = ⊥
 
 -- Two explorations have one result: the same regions in the same order, the same emptied names, and the same numbers of
 -- splits and commits.
-pub record HaveOneResult (b c : BookData) : Type 0 where
+pub record HaveOneOutcome (b c : BookData) : Type 0 where
   pub regions : AreSameRegions b.regions c.regions
   pub emptied : HaveSameElements b.emptied c.emptied
   pub splits : b.splits ≡ c.splits
@@ -116,4 +116,4 @@ pub record HaveOneResult (b c : BookData) : Type 0 where
 -- outstanding have one result.
 abbrev pub ExplorationsHaveOneResult : Type 0
 ExplorationsHaveOneResult = (b c : BookData) → IsSettled b → IsSettled c → IsFringe b → IsFringe c → b.stack ≡ c.stack
-    → b.outstanding ≡ [] → c.outstanding ≡ [] → HaveOneResult b c
+    → b.outstanding ≡ [] → c.outstanding ≡ [] → HaveOneOutcome b c

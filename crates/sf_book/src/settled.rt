@@ -37,7 +37,7 @@ pub struct Settled {
 
 impl Model for Settled {
     ghost use Rattle.sf_book.specs.Books.{BookData};
-    ghost use Rattle.sf_book.specs.PlainBooks.{IsClosed};
+    ghost use Rattle.sf_book.specs.PlainBooks.{IsEndedBook};
 
     ghost Value = { BookData };
 
@@ -51,7 +51,7 @@ impl Model for Settled {
       budget = b.budget;
     } };
 
-    ghost invariant = { λ b. IsClosed (record {
+    ghost invariant = { λ b. IsEndedBook (record {
       stack = b.stack.value;
       outstanding = b.outstanding;
       regions = b.regions.items;

@@ -27,8 +27,8 @@ abbrev pub is_number : List ℕ → Bool
 is_number text = are_digits (radix_of text) (digits_of text)
 
 -- the number that the text is
-abbrev pub number_of : List ℕ → ℕ
-number_of text = digits_value (radix_of text) (digits_of text)
+abbrev pub number_in_text : List ℕ → ℕ
+number_in_text text = digits_value (radix_of text) (digits_of text)
 
 -- the number, if it has so many bits at most
 abbrev pub in_bits : ℕ → ℕ → Result ℕ Misread
@@ -36,26 +36,26 @@ in_bits bits n = if nat_lt n (2 ^ bits) then Ok n else Err Width
 
 -- what is read of a text, where a number of so many bits at most is wanted
 abbrev pub read_number : ℕ → List ℕ → Result ℕ Misread
-read_number bits text = if is_number text then in_bits bits (number_of text) else Err Form
+read_number bits text = if is_number text then in_bits bits (number_in_text text) else Err Form
 
 -- ---- the arguments of a call
 
 -- the parts of a text between its commas
-abbrev pub parts_of : List ℕ → List (List ℕ)
-parts_of text = slice_split (λ b. b == 44) text
+abbrev pub comma_parts : List ℕ → List (List ℕ)
+comma_parts text = slice_split (λ b. b == 44) text
 
 -- the text is one to six numbers with commas between them
 abbrev pub are_arguments : List ℕ → Bool
-are_arguments text = nat_le (length (parts_of text)) 6 && list_all is_number (parts_of text)
+are_arguments text = nat_le (length (comma_parts text)) 6 && list_all is_number (comma_parts text)
 
 -- the number of a part; 0 where there is none
 abbrev pub number_of_part : Option (List ℕ) → ℕ
-number_of_part (Some part) = number_of part
+number_of_part (Some part) = number_in_text part
 number_of_part None = 0
 
 -- the argument at a place, counted from 0; it is 0 where it isn't given
 abbrev pub argument_at : List ℕ → ℕ → ℕ
-argument_at text place = number_of_part (slice_get (parts_of text) place)
+argument_at text place = number_of_part (slice_get (comma_parts text) place)
 
 -- the six arguments of a call
 abbrev pub arguments_of : List ℕ → List ℕ

@@ -20,14 +20,14 @@ abbrev pub is_named : List NamesData → Input → Bool
 is_named names d = is_some (find (has_call (slice_index d.words 1) (slice_index d.words 0)) names)
 
 -- the name of a call; none where there is no call
-abbrev pub name_text : Option CallData → List ℕ
-name_text (Some c) = c.name
-name_text None = []
+abbrev pub call_name_text : Option CallData → List ℕ
+call_name_text (Some c) = c.name
+call_name_text None = []
 
 -- The names of the set and of its first call with this number; where there is no set, the number of the architecture,
 -- by eight hexadecimal digits, and that of the call.
 abbrev pub name_words : ℕ → ℕ → Option NamesData → List ℕ
-name_words arch nr (Some n) = n.set ++ 32 ∷ name_text (find (has_number nr) n.calls)
+name_words arch nr (Some n) = n.set ++ 32 ∷ call_name_text (find (has_number nr) n.calls)
 name_words arch nr None =
     codes "0x" ++ (padded_integral (format_spec 32 0 4 8 (2 ^ 64 - 1)) false [] (digits 16 true arch)
     ++ 32 ∷ decimal nr)
@@ -49,12 +49,12 @@ arguments_words place [] = []
 arguments_words place (n ∷ ns) = argument_words place n ++ arguments_words (place + 1) ns
 
 -- the arguments up to the last one that isn't 0, in parentheses
-abbrev pub shown_words : List ℕ → List ℕ
-shown_words arguments = 40 ∷ (arguments_words 0 (take (count_shown arguments) arguments) ++ 41 ∷ [])
+abbrev pub shown_arguments : List ℕ → List ℕ
+shown_arguments arguments = 40 ∷ (arguments_words 0 (take (count_shown arguments) arguments) ++ 41 ∷ [])
 
 -- The input as a call: the names of the first set that has it and of the call, or the two numbers; and its arguments.
 abbrev pub call_words : List NamesData → Input → List ℕ
 call_words names d =
     name_words (slice_index d.words 1) (slice_index d.words 0)
     (find (has_call (slice_index d.words 1) (slice_index d.words 0)) names)
-    ++ shown_words (arguments_in d)
+    ++ shown_arguments (arguments_in d)

@@ -5,7 +5,7 @@ ghost use Rattle.std.specs.Char.{is_digit};
 ghost use Rattle.std.specs.List.{list_all};
 ghost use Rattle.std.specs.Option.{option_map};
 ghost use Rattle.std.specs.Str.Parse.{digits_value};
-ghost use Rattle.sf_calls.specs.Numbers.{are_arguments, are_digits, argument_at, digits_of, in_bits, is_number, parts_of, radix_of, read_arguments, read_number};
+ghost use Rattle.sf_calls.specs.Numbers.{are_arguments, are_digits, argument_at, digits_of, in_bits, is_number, comma_parts, radix_of, read_arguments, read_number};
 
 /// Why a text isn't read as numbers.
 #[derive(Clone, Copy, Debug, PartialEq, Eq)]
@@ -95,14 +95,14 @@ pub fn read_word(text: &str) -> Result<u32, Misread>
 
 /// How many parts a text has between its commas. A text without a comma is one part, also where it is empty.
 fn count_parts(text: &str) -> usize
-    ensures { result ≡ length (parts_of text.now) }
+    ensures { result ≡ length (comma_parts text.now) }
 {
     text.split(',').count()
 }
 
 /// Whether each part of a text between its commas is a number.
 fn are_numbers(text: &str) -> bool
-    ensures { result ≡ list_all is_number (parts_of text.now) }
+    ensures { result ≡ list_all is_number (comma_parts text.now) }
 {
     text.split(',').all(|part| is_number(part))
 }
@@ -116,7 +116,7 @@ pub fn are_arguments(text: &str) -> bool
 
 /// The part of a text between its commas at a place, counted from 0; `None` where the text has too few parts.
 fn part_at(text: &str, place: usize) -> Option<&str>
-    ensures { option_map (λ part. part.now) result ≡ slice_get (parts_of text.now) place }
+    ensures { option_map (λ part. part.now) result ≡ slice_get (comma_parts text.now) place }
 {
     text.split(',').nth(place)
 }

@@ -2,7 +2,7 @@
 
 ghost use Rattle.std.specs.Prelude.{◌≡◌, ◌++◌, OnOk, find, string_bytes};
 ghost use Rattle.std.specs.Option.{option_map};
-ghost use Rattle.sf_calls.specs.Texts.{argument_words, arguments_words, call_words, has_call, has_number, is_named, name_text, name_words, separator, shown_words};
+ghost use Rattle.sf_calls.specs.Texts.{argument_words, arguments_words, call_words, has_call, has_number, is_named, call_name_text, name_words, separator, shown_arguments};
 
 use crate::call::{arguments_in, count_shown};
 use sf_insn::Input;
@@ -49,7 +49,7 @@ pub fn is_named(sets: &[Names], input: &Input) -> bool
 
 /// The name of the first call of this number; empty where there is none.
 fn name_of(calls: &[Call], nr: u32) -> &str
-    ensures { result.now ≡ name_text (find (has_number nr) calls.now) }
+    ensures { result.now ≡ call_name_text (find (has_number nr) calls.now) }
 {
     match call_numbered(calls, nr) {
         Some(call) => call.name(),
@@ -104,7 +104,7 @@ fn push_arguments(text: &mut String, arguments: &[u64]) -> Result<(), AllocError
 /// Adds the arguments up to the last one that isn't 0, in parentheses. An error where an allocation is refused.
 fn push_shown(text: &mut String, arguments: &[u64]) -> Result<(), AllocError>
     ensures { OnOk result (string_bytes text.new ≡ string_bytes text.old
-        ++ shown_words arguments.now) }
+        ++ shown_arguments arguments.now) }
 {
     let count = count_shown(arguments);
     text.push_str("(")?;

@@ -6,13 +6,13 @@ use Rattle.sf_policy.specs.declared.fault.Fault.TheVariants as faults
 use Rattle.sf_ask.specs.QuestionData.{QuestionData}
 use Rattle.sf_audit.specs.Audits.{IsAuditRefusal}
 use Rattle.sf_policy.specs.Filters.{SpellStack, IsFirstRefusal}
-use Rattle.sf_evaluate.specs.Files.{AreKept, AreRead}
+use Rattle.sf_evaluate.specs.Files.{AreKeptFiles, AreRead}
 use Rattle.sf_evaluate.specs.KeptLaws.{counted_of, few_are_all, kept_refusal, refusal_of_all, stack_is_few}
 use Rattle.sf_command.specs.Audits.{IsRefusedFor, ReadData}
 use Rattle.sf_command.specs.Comparisons.{AreBothKept, AreBothRead}
 
 module _ (holds : List ℕ → Option (List ℕ)) (paths : List (Bor (List ℕ))) (kept : List (List ℕ))
-    (all : AreKept holds paths kept) where
+    (all : AreKeptFiles holds paths kept) where
   -- where an audit of the kept files is refused, that of all is refused
   pub kept_audit_refusal : (questions : List QuestionData) (e : Fault) → IsAuditRefusal kept questions e
       → IsAuditRefusal all.files questions e

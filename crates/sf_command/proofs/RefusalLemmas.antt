@@ -6,7 +6,7 @@ use Rattle.sf_policy.specs.Filters.{IsFirstRefusal}
 use Rattle.sf_command.specs.Audits.{AskedData, IsAskedBy, IsRefusedFor, ReadData, RefusesAudit}
 use Rattle.sf_command.specs.Comparisons.{AreBothRead, RefusesComparison}
 use Rattle.sf_needed.specs.Needs.{IsRefusedLater}
-use Rattle.sf_evaluate.specs.Files.{AreKept, AreRead, HasUnknown}
+use Rattle.sf_evaluate.specs.Files.{AreKeptFiles, AreRead, HasUnknown}
 use Rattle.sf_evaluate.specs.FilesLaws.{still_unknown}
 use Rattle.sf_evaluate.specs.KeptLaws.{kept_refusal, kept_stack}
 use Rattle.sf_command.specs.Listings.{RefusesListing}
@@ -47,7 +47,7 @@ listing_why holds paths files e read (inr why) = inr (inr (inr (files, read, why
 
 -- where `needed` is refused for the files that are kept, it is for those that were read
 pub needs_why : (holds : List ℕ → Option (List ℕ)) (paths : List (Bor (List ℕ))) (kept : List (List ℕ)) (budget : ℕ)
-    (e : Fault) → AreKept holds paths kept → (e ≡ Memory) ⊎ (IsFirstRefusal kept e ⊎ IsRefusedLater kept budget e)
+    (e : Fault) → AreKeptFiles holds paths kept → (e ≡ Memory) ⊎ (IsFirstRefusal kept e ⊎ IsRefusedLater kept budget e)
     → RefusesNeeds holds paths budget e
 needs_why holds paths kept budget e all (inl memory) = inr (inr (inl memory))
 needs_why holds paths kept budget e all (inr (inl first)) =

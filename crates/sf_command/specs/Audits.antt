@@ -145,8 +145,8 @@ IsRefusedFor files read fault =
 
 -- Why an audit by what was read is refused: a filter file whose bytes aren't known can't be read; or all were read,
 -- and the audit of what they hold is refused.
-abbrev pub RefusesFiles : (List ℕ → Option (List ℕ)) → List (Bor (List ℕ)) → ReadData → Fault → Type 0
-RefusesFiles holds paths read fault =
+abbrev pub RefusesAuditOf : (List ℕ → Option (List ℕ)) → List (Bor (List ℕ)) → ReadData → Fault → Type 0
+RefusesAuditOf holds paths read fault =
     ((fault ≡ ReadFault) × HasUnknown holds paths)
     ⊎ ((files : List (List ℕ)) × AreRead holds paths files × IsRefusedFor files read fault)
 
@@ -155,4 +155,4 @@ RefusesFiles holds paths read fault =
 abbrev pub RefusesAudit : (List ℕ → Option (List ℕ)) → AskedData → List (Bor (List ℕ)) → Fault → Type 0
 RefusesAudit holds asked paths fault =
     (fault ≡ Write) ⊎ (fault ≡ Memory) ⊎ RefusesAsked holds asked fault
-    ⊎ ((read : ReadData) × IsAskedBy holds asked read × RefusesFiles holds paths read fault)
+    ⊎ ((read : ReadData) × IsAskedBy holds asked read × RefusesAuditOf holds paths read fault)

@@ -12,7 +12,7 @@ use Rattle.sf_compare.specs.Comparisons.{Compared, IsComparison, change_of, comp
 use Rattle.sf_compare.specs.Documents.{comparison_document}
 use Rattle.sf_list.specs.Differences.{AreDifferences, DifferencesData, ShownData, compared_text}
 use Rattle.sf_list.specs.Documents.{differences_document}
-use Rattle.sf_evaluate.specs.Files.{AreKept, AreRead, HasUnknown}
+use Rattle.sf_evaluate.specs.Files.{AreKeptFiles, AreRead, HasUnknown}
 use Rattle.sf_command.specs.Status.{change_status}
 
 -- a comparison: its text, or one JSON document
@@ -48,8 +48,8 @@ module _ (holds : List ℕ → Option (List ℕ)) (old_paths new_paths : List (B
   pub record AreBothKept (kept : List (List ℕ)) (older : ℕ) : Type 0 where
     pub olds : List (List ℕ)
     pub news : List (List ℕ)
-    pub read_old : AreKept holds old_paths olds
-    pub read_new : AreKept holds new_paths news
+    pub read_old : AreKeptFiles holds old_paths olds
+    pub read_new : AreKeptFiles holds new_paths news
     pub whole : kept ≡ olds ++ news
     pub parted : older ≡ length olds
 

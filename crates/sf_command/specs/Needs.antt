@@ -5,7 +5,7 @@ use Rattle.std.specs.Io.KnownBytes.{Appends}
 use Rattle.sf_policy.specs.declared.fault.Fault.{Fault}
 use Rattle.sf_policy.specs.declared.fault.Fault.TheVariants.{Memory, Read, Write}
 use Rattle.sf_policy.specs.Filters.{IsFirstRefusal}
-use Rattle.sf_needed.specs.Needs.{AnswerAlike, AreFindings, AreKept, IsLeft, IsPathOf, IsRefusedLater, NeedsData}
+use Rattle.sf_needed.specs.Needs.{AnswerAlike, AreFindings, AreKeptFilters, IsLeft, IsPathOf, IsRefusedLater, NeedsData}
 use Rattle.sf_needed.specs.Texts.{needs_text}
 use Rattle.sf_needed.specs.Documents.{needs_document}
 use Rattle.sf_json.specs.Documents.{document_line}
@@ -17,7 +17,7 @@ use Rattle.sf_command.specs.Status.{needs_status}
 pub record AreNeeds (files : List (List ℕ)) (budget : ℕ) (needs : NeedsData) : Type 0 where
   pub findings : AreFindings files budget needs.findings
   pub left : IsLeft files budget needs.kept
-  pub kept : AreKept files budget needs.kept
+  pub kept : AreKeptFilters files budget needs.kept
   pub alike : AnswerAlike files needs.kept
   pub path : IsPathOf files needs.path
 

@@ -26,7 +26,7 @@ use Rattle.sf_ask.specs.declared.members.Membership.TheVariants.{Empty, Member, 
 use Rattle.sf_compare.specs.declared.relation.Relation.TheVariants.{Looser, Tighter, Different}
 use Rattle.sf_compare.specs.Relations.{AreRelated}
 use Rattle.sf_compare.specs.Changes.{AreAnswersAt, AreAnswersOf, IsChange, IsChangeOf, IsUnchangedAt, IsWithoutExample, finding_of}
-use Rattle.sf_compare.specs.FoundSoFar.{AllTellBefore, Follows, IsClearAt, IsInDoubtAt, IsMembershipAt, IsSought, TellsBefore, with_membership}
+use Rattle.sf_compare.specs.FoundSoFar.{AllTellBefore, IsFoundAfter, IsClearAt, IsInDoubtAt, IsMembershipAt, IsSought, TellsBefore, with_membership}
 use Rattle.sf_compare.specs.Finding.{HasFindingAt, HasNoFindingAt, new_of, old_of}
 
 -- the two parts make the stack
@@ -262,7 +262,7 @@ sought s old_count relation place both m Unsettled told here is before =
 -- what is found after a region is right
 pub tells_after : (s : BookData) (old_count : ℕ) (relation : Relation) (place : ℕ) (both : PartAnswers) (m : Membership)
     (found next : Change) → AreAnswersAt s old_count place both → IsMembershipAt s place m
-    → Follows relation both m found next → TellsBefore s old_count place relation found
+    → IsFoundAfter relation both m found next → TellsBefore s old_count place relation found
     → TellsBefore s old_count (place + 1) relation next
 tells_after s old_count relation place both m found next told here follows before = elim follows [
   | inl is ↦ subst (λ (c : Change). TellsBefore s old_count (place + 1) relation c) (sym is.1)

@@ -6,7 +6,7 @@ use Rattle.sf_book.specs.Books.{BookData}
 use Rattle.sf_crew.specs.Explorations.{IsExactExploration, IsExplorationOf}
 use Rattle.sf_policy.specs.Filters.{SpellStack}
 use Rattle.sf_policy.specs.FiltersLaws.{as_many}
-use Rattle.sf_compare.specs.FoundSoFar.{AreFindings}
+use Rattle.sf_compare.specs.FoundSoFar.{AreFindingsByRule}
 use Rattle.sf_compare.specs.Comparisons.{Compared, IsComparison}
 
 -- the explored stack has a program for each file
@@ -22,7 +22,7 @@ within_explored files program stack budget s old_count count spelled is end coun
 pub compared : (files : List (List ℕ)) (program stack : List (List Insn)) (old_count budget : ℕ) (s : BookData)
     (c : Compared) → SpellStack files program → stack ≡ program → IsExplorationOf stack budget s
     → (IsPlain stack → IsExactExploration stack budget s) → c.settled ≡ s → c.old_count ≡ old_count
-    → AreFindings s old_count c.findings → IsComparison files old_count budget c
+    → AreFindingsByRule s old_count c.findings → IsComparison files old_count budget c
 compared files program stack old_count budget s c spelled is end plain same parted found =
     let at : c.settled.stack ≡ stack = ap (λ (b : BookData). b.stack) same ∙ end.of in
     record {

@@ -17,8 +17,8 @@ use Rattle.sf_compare.specs.Finding.{HasFindingAt}
 use Rattle.sf_compare.specs.Changes.{IsChangeOf, IsDoubtfulAt, IsUnchangedAt, finding_of}
 
 -- what is found of each relation is what the rules find; it is right, and on a plain stack it is exact
-abbrev pub AreFindings : BookData → ℕ → Findings → Type 0
-AreFindings s old_count f = (relation : Relation) → IsChangeOf s old_count relation (finding_of f relation)
+abbrev pub AreFindingsByRule : BookData → ℕ → Findings → Type 0
+AreFindingsByRule s old_count f = (relation : Relation) → IsChangeOf s old_count relation (finding_of f relation)
 
 -- no member of the region at a place is changed in the way of the relation, and by the rules none is found
 pub record IsClearAt (s : BookData) (old_count : ℕ) (relation : Relation) (place : ℕ) : Type 0 where
@@ -66,6 +66,6 @@ with_membership Doubt both found = Unsettled
 
 -- what is found of a relation after one more region: where an example is sought there, by what the search for a member
 -- finds, and else what was found before
-abbrev pub Follows : Relation → PartAnswers → Membership → (found next : Change) → Type 0
-Follows relation both m found next = (IsSought relation both found × (next ≡ with_membership m both found))
+abbrev pub IsFoundAfter : Relation → PartAnswers → Membership → (found next : Change) → Type 0
+IsFoundAfter relation both m found next = (IsSought relation both found × (next ≡ with_membership m both found))
     ⊎ ((IsSought relation both found → ⊥) × (next ≡ found))

@@ -4,7 +4,7 @@ ghost use Rattle.std.specs.Prelude.{◌≡◌, ◌<◌, ◌≤◌, ◌+◌, ◌�
 ghost use Rattle.sf_ask.specs.declared.fault.Fault.TheVariants.{Memory};
 ghost use Rattle.sf_compare.specs.declared.relation.Relation.{Relation as ARelation};
 ghost use Rattle.sf_compare.specs.Changes.{AreAnswersAt, AreAnswersOfRegions, IsChangeOf, finding_of};
-ghost use Rattle.sf_compare.specs.FoundSoFar.{AllTellBefore, AreFindings, Follows, IsSought, TellsBefore};
+ghost use Rattle.sf_compare.specs.FoundSoFar.{AllTellBefore, AreFindingsByRule, IsFoundAfter, IsSought, TellsBefore};
 
 use crate::relation::Relation;
 use sf_ask::{Fault, Membership, find_member};
@@ -130,7 +130,7 @@ fn change_after(
     membership: Membership,
     found: Change,
 ) -> Change
-    ensures { Follows relation both membership found result }
+    ensures { IsFoundAfter relation both membership found result }
 {
     if !is_sought(relation, both, found) {
         return found;
@@ -213,7 +213,7 @@ pub(crate) fn find_changes(
     answers: &[PartAnswers],
 ) -> Result<Findings, Fault>
     requires { AreAnswersOfRegions settled.now old_count answers.now }
-    ensures ok { IfOk result (AreFindings settled.now old_count) }
+    ensures ok { IfOk result (AreFindingsByRule settled.now old_count) }
     ensures err { IfErr result (λ f. f ≡ Memory) }
 {
     let mut found = Findings {

@@ -4,7 +4,7 @@ ghost use Rattle.std.specs.Prelude.{◌≡◌, ◌⊎◌, ◌<◌, ◌≤◌, le
 ghost use Rattle.sf_policy.specs.Filters.{IsFirstRefusal};
 ghost use Rattle.sf_compare.specs.Changes.{AreAnswersOfRegions};
 ghost use Rattle.sf_compare.specs.Comparisons.{change_of, IsComparison};
-ghost use Rattle.sf_compare.specs.FoundSoFar.{AreFindings};
+ghost use Rattle.sf_compare.specs.FoundSoFar.{AreFindingsByRule};
 
 use crate::changes::{Change, Findings, answers_of_regions, find_changes};
 use crate::relation::Relation;
@@ -90,7 +90,7 @@ fn comparison_of(
     requires { old_count ≤ length settled.stack }
     ensures same { IfOk result (λ c. c.settled ≡ settled) }
     ensures parted { IfOk result (λ c. c.old_count ≡ old_count) }
-    ensures found { IfOk result (λ c. AreFindings settled old_count c.findings) }
+    ensures found { IfOk result (λ c. AreFindingsByRule settled old_count c.findings) }
 {
     let answers = answers_of_regions(alloc, &settled, old_count)?;
     let findings = find_changes(alloc, &settled, old_count, answers.as_slice())?;

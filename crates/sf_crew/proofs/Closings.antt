@@ -17,7 +17,7 @@ use Rattle.sf_crew.specs.declared.board.Tally.{Tally}
 use Rattle.sf_ask.specs.QuestionBits.{bit_of}
 use Rattle.sf_crew.specs.Views.{entered_jobs, has, has_doubt, IsInDoubt, regions_of, questions_of, count_of_regions, jobs, owed_jobs, Noted, Covered, once_below, top, doubt_at}
 use Rattle.sf_crew.specs.BoardRule.{Kept, BoardKept, least_in, doubts_in}
-use Rattle.sf_crew.specs.Tallies.{RightTally, IsBelow, IsCleared}
+use Rattle.sf_crew.specs.Tallies.{RightTally, IsBelowLeast, IsCleared}
 use Rattle.sf_crew.specs.LeastWords.{LeastIs}
 use Rattle.sf_crew.proofs.Doubts.{bit_most, has_most}
 use Rattle.sf_crew.proofs.Totals.{times, total_at, total_only, top_at, top_only, times_append}
@@ -41,7 +41,7 @@ cleared_all : (k : BoardKey) (t : Tally) (words : List ℕ) (ns : List Note) (es
     → ((q r : ℕ) → Noted ns q r → slice_index words (q + 6) ≤ r)
     → LeastIs words (count_of_regions k) (length (questions_of k)) t.least
     → ((q : ℕ) → q < length (questions_of k) → has_doubt q es ≤ bit_of t.doubts q) → All (Covered k ns) es
-    → All (λ e. (q : ℕ) → q < length (questions_of k) → IsBelow t q e.job → IsCleared k t e q) es
+    → All (λ e. (q : ℕ) → q < length (questions_of k) → IsBelowLeast t q e.job → IsCleared k t e q) es
 cleared_all k t words ns es noted least masked h = λ i d there q lt below.
     let e : EnteredSheet = get_or es i d in let c : Covered k ns e = h i d there in
     ⊎_elim

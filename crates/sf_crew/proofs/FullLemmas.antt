@@ -16,7 +16,7 @@ use Rattle.sf_crew.specs.declared.board.Tally.{Tally}
 use Rattle.sf_ask.specs.QuestionBits.{bit_of}
 use Rattle.sf_crew.specs.Views.{regions_of, questions_of, count_of_regions, jobs, has, has_doubt, IsInDoubt, once_below}
 use Rattle.sf_crew.specs.BoardSteps.{HasAllJobs, Knows}
-use Rattle.sf_crew.specs.Tallies.{RightTally, IsBelow}
+use Rattle.sf_crew.specs.Tallies.{RightTally, IsBelowLeast}
 use Rattle.sf_crew.specs.Sweeps.{IsFullTally}
 use Rattle.sf_crew.proofs.Doubts.{has_most}
 use Rattle.sf_crew.proofs.Totals.{times, times_cons}
@@ -85,7 +85,7 @@ full_tally s qs k v t right is free whole past knows regions questions few =
           inl (subst (λ j. IsRightOn (regions_of k) (questions_of k) j q Clear) there.3 x))
           (λ (x : (has q e.doubts ≡ 1) × (bit_of t.doubts q ≡ 1)).
           inr (x.1, subst (λ j. IsInDoubt k j q) there.3 (right.doubts there.0 there.1 there.2 q x.0)))
-          (right.cleared there.0 there.1 there.2 q lt (subst (IsBelow t q) (sym there.3) under)));
+          (right.cleared there.0 there.1 there.2 q lt (subst (IsBelowLeast t q) (sym there.3) under)));
       doubts = λ q lt one.
           (let there = doubt_place q v.entered_sheets (sym (right.all_doubts whole q (omega arith)) ∙ one) in (
             (get_or v.entered_sheets there.0 there.1).job,

@@ -20,7 +20,7 @@ use Rattle.sf_ask.specs.Sheets.{IsRightOn, IsRightWhereGiven}
 use Rattle.sf_ask.specs.Judging.{HasVerdictAt}
 use Rattle.sf_crew.specs.declared.board.Tally.{Tally}
 use Rattle.sf_ask.specs.QuestionBits.{bit_of}
-use Rattle.sf_crew.specs.Tallies.{IsBelow}
+use Rattle.sf_crew.specs.Tallies.{IsBelowLeast}
 use Rattle.sf_crew.specs.Sweeps.{HasDoubt, IsUnbroken, IsReplyTo, IsFullTally}
 
 none_left : {X : Type 0} (xs : List X) → length xs ≡ 0 → xs ≡ []
@@ -145,7 +145,7 @@ marked_or_not n b is one = is ∙ ap (λ x. x == 1) one
 pub tally_unbroken : (s : BookData) (qs : List QuestionData) (t : Tally) (q : ℕ)
     (question : QuestionData) (doubt : Bool)
     → IsFullTally s qs t → q < length qs → slice_get qs q ≡ Some question
-    → doubt ≡ (bit_of t.doubts q == 1) → (r : ℕ) → r < length s.regions → IsBelow t q r
+    → doubt ≡ (bit_of t.doubts q == 1) → (r : ℕ) → r < length s.regions → IsBelowLeast t q r
     → IsUnbroken s question doubt r
 tally_unbroken s qs t q question doubt h lt asked is r within below = ⊎_elim
     (λ (x : IsRightOn s qs r q Clear). none_unbroken s qs q question doubt r asked x)
@@ -155,13 +155,13 @@ tally_unbroken s qs t q question doubt h lt asked is r within below = ⊎_elim
     (h.cleared q r lt within below)
 
 -- where there is no least place, every region lies below it
-pub below_none : (t : Tally) (q : ℕ) → get_or t.least q none_place ≡ None → (r : ℕ) → IsBelow t q r
+pub below_none : (t : Tally) (q : ℕ) → get_or t.least q none_place ≡ None → (r : ℕ) → IsBelowLeast t q r
 below_none t q none r = λ p found.
     let clash = sym (get_or_from_slice_get t.least q (Some p) none_place found) ∙ none in absurd cc
 
 -- a region below the least place
 pub below_place : (t : Tally) (q place : ℕ) → get_or t.least q none_place ≡ Some place → (r : ℕ) → r < place
-    → IsBelow t q r
+    → IsBelowLeast t q r
 below_place t q place least r less = λ p found.
     let same : Some p ≡ Some place = sym (get_or_from_slice_get t.least q (Some p) none_place found) ∙ least in
     subst (λ (n : ℕ). r < n) (sym (same_Some p place same)) less

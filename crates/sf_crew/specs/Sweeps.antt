@@ -11,7 +11,7 @@ use Rattle.sf_check.specs.Stacks.{IsPlain}
 use Rattle.sf_ask.specs.Sheets.{HasHit, IsRightOn, IsRightWhereGiven}
 use Rattle.sf_ask.specs.Judging.{HasVerdictAt, HasNoHitAt, HasReply}
 use Rattle.sf_ask.specs.declared.verdict.Verdict.TheVariants.{Clear, Doubt}
-use Rattle.sf_crew.specs.Tallies.{IsBelow}
+use Rattle.sf_crew.specs.Tallies.{IsBelowLeast}
 use Rattle.sf_crew.specs.declared.board.Board.{Board}
 use Rattle.sf_crew.specs.declared.board.Seat.{Seat}
 use Rattle.sf_crew.specs.declared.board.Tally.{Tally}
@@ -60,7 +60,7 @@ pub record IsFullTally (s : BookData) (qs : List QuestionData) (t : Tally) : Typ
   -- the verdict on the region at a least place is a hit
   pub breaks : (q r : ℕ) → slice_get t.least q ≡ Some (Some r) → (r < length s.regions) × HasHit s qs r q
   -- below it the verdict on each region is clear, or a doubt, and then the question's bit is set
-  pub cleared : (q r : ℕ) → q < length qs → r < length s.regions → IsBelow t q r → IsRightOn s qs r q Clear
+  pub cleared : (q r : ℕ) → q < length qs → r < length s.regions → IsBelowLeast t q r → IsRightOn s qs r q Clear
       ⊎ ((bit_of t.doubts q ≡ 1) × IsRightWhereGiven s qs r q (Some Doubt))
   -- a bit is set only where some region is in doubt
   pub doubts : (q : ℕ) → q < length qs → bit_of t.doubts q ≡ 1 → (r : ℕ) × (r < length s.regions)

@@ -10,8 +10,8 @@ use Rattle.sf_ask.specs.QuestionBits.{bit_of}
 use Rattle.sf_crew.specs.Views.{regions_of, questions_of, count_of_regions, entered_jobs, has, has_doubt, IsInDoubt, once_below}
 
 -- the region j lies below the question's least place, which may be none
-abbrev pub IsBelow : Tally → ℕ → ℕ → Type 0
-IsBelow t q j = (r : ℕ) → slice_get t.least q ≡ Some (Some r) → j < r
+abbrev pub IsBelowLeast : Tally → ℕ → ℕ → Type 0
+IsBelowLeast t q j = (r : ℕ) → slice_get t.least q ≡ Some (Some r) → j < r
 
 -- the verdict on the entered region is clear, or its sheet has a doubt for the question, and then the question's bit is
 -- set
@@ -27,7 +27,7 @@ pub record RightTally (k : BoardKey) (v : View) (t : Tally) : Type 0 where
   pub breaks : (q r : ℕ) → slice_get t.least q ≡ Some (Some r) → (r < count_of_regions k)
       × HasHit (regions_of k) (questions_of k) r q
   -- the entered regions below a least place are cleared, and all of them where there is none
-  pub cleared : All (λ e. (q : ℕ) → q < length (questions_of k) → IsBelow t q e.job
+  pub cleared : All (λ e. (q : ℕ) → q < length (questions_of k) → IsBelowLeast t q e.job
       → IsCleared k t e q) v.entered_sheets
   -- the doubts of the entered sheets are right
   pub doubts : All (λ e. (q : ℕ) → has q e.doubts ≡ 1 → IsInDoubt k e.job q) v.entered_sheets

@@ -7,7 +7,7 @@ use Rattle.sf_policy.specs.declared.fault.Fault.{Fault}
 use Rattle.sf_policy.specs.declared.fault.Fault.TheVariants as faults
 use Rattle.sf_names.specs.Names.{NamesData}
 use Rattle.sf_policy.specs.Filters.{IsFirstRefusal}
-use Rattle.sf_evaluate.specs.Files.{AreKept, AreKnownBytes, HasUnknown}
+use Rattle.sf_evaluate.specs.Files.{AreKeptFiles, AreKnownBytes, HasUnknown}
 use Rattle.sf_evaluate.specs.KeptLaws.{few_are_all, kept_refusal, kept_stack, many_of_many}
 use Rattle.sf_evaluate.specs.declared.checking.Manner.{Manner}
 use Rattle.sf_evaluate.specs.Outputs.{AnswersFiles, ChecksFiles, RefusesFiles, WritesAnswer, WritesCheck}
@@ -69,11 +69,11 @@ module _ (before after next : List ℕ → Option (List ℕ)) (paths : List (Bor
 -- once all files are read, the kept ones are those of the paths
 pub all_kept : (before after : List ℕ → Option (List ℕ)) (paths : List (Bor (List ℕ))) (place : ℕ)
     (kept : List (List ℕ)) → KeptSoFar before after paths place kept → length paths ≤ place → place ≤ length paths
-    → AreKept before paths kept
+    → AreKeptFiles before paths kept
 all_kept before after paths place kept so_far over under = search (arith, paired_all)
 
 module _ (holds : List ℕ → Option (List ℕ)) (paths : List (Bor (List ℕ))) (kept : List (List ℕ))
-    (all : AreKept holds paths kept) where
+    (all : AreKeptFiles holds paths kept) where
   pub kept_checks : (listed json : Bool) (old new : Option (List ℕ)) → WritesCheck listed json kept old new
       → ChecksFiles listed json holds paths old new
   kept_checks listed json old new (programs, text, spell, told, written) =

@@ -6,7 +6,7 @@ use Rattle.toml.specs.Parse.{parse_document}
 use Rattle.sf_ask.specs.QuestionData.{QuestionData}
 use Rattle.sf_policy.specs.declared.fault.Fault.{Fault}
 use Rattle.sf_policy.specs.declared.fault.Fault.TheVariants as faults
-use Rattle.sf_policy.specs.Faults.{Gives}
+use Rattle.sf_policy.specs.Faults.{IsDue}
 use Rattle.sf_policy.specs.Policies.{policy_of}
 use Rattle.sf_evaluate.specs.Policies.{IsPolicyFile}
 use Rattle.sf_evaluate.specs.Files.{AreKnownBytes}
@@ -17,7 +17,7 @@ option_cases (Some x) = inr (x, refl)
 
 pub policy_asked : {X : Type 0} (view : X → List QuestionData) (r : Result X Fault)
     (known : Option (List ℕ)) (text : List ℕ)
-    → ((tree : Members) → parse_document text ≡ Some tree → Gives view r (policy_of tree))
+    → ((tree : Members) → parse_document text ≡ Some tree → IsDue view r (policy_of tree))
     → (parse_document text ≡ None → (r ≡ Err faults.Syntax) ⊎ (r ≡ Err faults.Memory)) → AreKnownBytes known text
     → IfOk r (λ v. IsPolicyFile known (view v))
 policy_asked view (Ok x) known text read none agrees = elim (option_cases (parse_document text)) [

@@ -8,7 +8,7 @@ use Rattle.sf_profile.specs.Profiles.{version_of}
 use Rattle.sf_profile.specs.declared.rules.CallSet.TheVariants.{X64}
 use Rattle.sf_profile.specs.declared.rules.Reading.TheVariants.{Strictest}
 use Rattle.sf_profile.specs.declared.settings.Settings.{Settings}
-use Rattle.sf_evaluate.specs.Profiles.{AreSettings, is_capability, is_kernel, machine_named, reading_named, profile_words_fit}
+use Rattle.sf_evaluate.specs.Profiles.{AreSettings, is_capability, is_kernel_or_none, machine_named, reading_named, profile_words_fit}
 
 pub any_now : {X : Type 0} (f : X → Bool) (xs : List (Bor X))
     → list_any (λ (x : Bor X). f x.now) xs ≡ list_any f (map (λ (x : Bor X). x.now) xs)
@@ -40,7 +40,7 @@ pub settings_said : (rows : List Row) (s : Settings) (machine conflicts kernel :
     → AreSettings rows s
 settings_said rows s machine conflicts kernel fits m m_is r r_is k k_is caps newer =
     let hold = first_hold (is_some (machine_named (text_of (codes "machine") rows)))
-    (is_some (reading_named (text_of (codes "conflicts") rows))) (is_kernel (text_of (codes "kernel") rows))
+    (is_some (reading_named (text_of (codes "conflicts") rows))) (is_kernel_or_none (text_of (codes "kernel") rows))
     (list_all is_capability (paths_of (codes "cap") rows)) fits in
     record {
       machine = some_or (machine_named (text_of (codes "machine") rows)) X64 hold.0

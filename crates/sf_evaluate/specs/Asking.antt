@@ -28,13 +28,13 @@ has_arguments rows =
     is_given (codes "arch") rows && (is_given (codes "args") rows && are_arguments (text_of (codes "args") rows))
 
 -- there is a file of names
-abbrev pub has_names : List Row → Bool
-has_names rows = nat_lt 0 (length (paths_of (codes "names") rows))
+abbrev pub has_file_of_names : List Row → Bool
+has_file_of_names rows = nat_lt 0 (length (paths_of (codes "names") rows))
 
 -- a call is asked for by its name, in a set with a name, and there is a file of names
 abbrev pub call_fits : List Row → Bool
 call_fits rows =
-    (not (is_given (codes "nr") rows) && has_names rows)
+    (not (is_given (codes "nr") rows) && has_file_of_names rows)
     && (is_call_name (text_of (codes "call") rows) && is_call_name (text_of (codes "arch") rows))
 
 -- the number of an architecture, or the name of a set

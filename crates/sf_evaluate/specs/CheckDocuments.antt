@@ -7,9 +7,9 @@ use Rattle.sf_json.specs.Documents.{count, fields, list_of}
 use Rattle.sf_evaluate.specs.Instructions.{AreInsnLines}
 
 -- the lines of a filter's instructions as one text, if they are listed
-abbrev pub IsListing : (listed : Bool) → List Insn → Data → Type 0
-IsListing true code d = (lines : List ℕ) × AreInsnLines code lines × (d ≡ string lines)
-IsListing false code d = d ≡ null
+abbrev pub AreListedLines : (listed : Bool) → List Insn → Data → Type 0
+AreListedLines true code d = (lines : List ℕ) × AreInsnLines code lines × (d ≡ string lines)
+AreListedLines false code d = d ≡ null
 
 -- a filter: its number, how many instructions it has, and their listing
 abbrev pub filter_size_document : (number instructions : ℕ) → (listing : Data) → Data
@@ -21,7 +21,7 @@ filter_size_document number instructions listing = fields (
 -- a filter with this number, as `check` tells it
 abbrev pub IsFilterDocument : (listed : Bool) → (number : ℕ) → List Insn → Data → Type 0
 IsFilterDocument listed number code d =
-    (listing : Data) × IsListing listed code listing × (d ≡ filter_size_document number (length code) listing)
+    (listing : Data) × AreListedLines listed code listing × (d ≡ filter_size_document number (length code) listing)
 
 -- the filter at a place, counted from 0, as `check` tells it
 abbrev pub IsFilterAt : (listed : Bool) → List (List Insn) → (place : ℕ) → Data → Type 0

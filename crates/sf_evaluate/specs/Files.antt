@@ -13,7 +13,7 @@ abbrev pub AreRead : (List ℕ → Option (List ℕ)) → List (Bor (List ℕ)) 
 AreRead holds paths files = Pairwise (λ path file. AreKnownBytes (holds path.now) file) paths files
 
 -- The files at the paths were read, and the first of them are kept: at most 65, one more than a stack may have.
-pub record AreKept (holds : List ℕ → Option (List ℕ)) (paths : List (Bor (List ℕ)))
+pub record AreKeptFiles (holds : List ℕ → Option (List ℕ)) (paths : List (Bor (List ℕ)))
     (kept : List (List ℕ)) : Type 0 where
   pub files : List (List ℕ)
   pub read : AreRead holds paths files

@@ -2,14 +2,14 @@
 use Rattle.std.proofs.lemmas.Grind.{common_steps}
 use Rattle.std.proofs.Common.{arith, ◌≡◌, ℕ, List, Option, Bor, Result, Ok, Err, sym, subst}
 use Rattle.std.specs.Result.{IfErr, IsErrAnd}
-use Rattle.sf_evaluate.specs.Files.{AreKept, AreRead, HasUnknown}
+use Rattle.sf_evaluate.specs.Files.{AreKeptFiles, AreRead, HasUnknown}
 
 pub read_same : (before after : List ℕ → Option (List ℕ)) (paths : List (Bor (List ℕ))) (files : List (List ℕ))
     → ((p : List ℕ) → after p ≡ before p) → AreRead after paths files → AreRead before paths files
 read_same before after paths files same read = grind (arith, common_steps)
 
 pub kept_same : (before after : List ℕ → Option (List ℕ)) (paths : List (Bor (List ℕ))) (kept : List (List ℕ))
-    → ((p : List ℕ) → after p ≡ before p) → AreKept after paths kept → AreKept before paths kept
+    → ((p : List ℕ) → after p ≡ before p) → AreKeptFiles after paths kept → AreKeptFiles before paths kept
 kept_same before after paths kept same all = grind (arith, common_steps, read_same)
 
 -- a file whose bytes aren't known after others were read wasn't known before

@@ -5,7 +5,7 @@ use Rattle.sf_check.specs.declared.insn.Insn.{Insn}
 use Rattle.sf_policy.specs.declared.fault.Fault.{Fault}
 use Rattle.sf_policy.specs.declared.fault.Fault.TheVariants as faults
 use Rattle.sf_policy.specs.Filters.{SpellPrograms, SpellStack, IsFirstRefusal}
-use Rattle.sf_evaluate.specs.Files.{AreKept, AreRead}
+use Rattle.sf_evaluate.specs.Files.{AreKeptFiles, AreRead}
 
 -- there is a program for each file
 spelled_same : (files : List (List ℕ)) (programs : List (List Insn)) → SpellPrograms files programs
@@ -45,7 +45,7 @@ refusal_of_all kept files fault same more (few, refused) =
     subst (λ fs. IsFirstRefusal fs fault) (same few.few) (few, refused)
 
 module _ (holds : List ℕ → Option (List ℕ)) (paths : List (Bor (List ℕ))) (kept : List (List ℕ))
-    (all : AreKept holds paths kept) where
+    (all : AreKeptFiles holds paths kept) where
   -- where the kept files spell a lawful stack, they are all that were read
   pub kept_stack : (programs : List (List Insn)) → SpellStack kept programs → AreRead holds paths kept
   kept_stack programs spell = subst (λ fs. AreRead holds paths fs)

@@ -6,7 +6,7 @@ use Rattle.std.specs.Str.{IsUtf8}
 use Rattle.toml.specs.Data.{Members}
 use Rattle.toml.specs.Parse.{parse_document}
 use Rattle.sf_names.specs.declared.fault.Fault.{Fault as NamesFault}
-use Rattle.sf_names.specs.Names.{AreOrdered, NamesData, has_set, names_of}
+use Rattle.sf_names.specs.Names.{HaveOrderedCalls, NamesData, has_set, sets_of_file}
 use Rattle.sf_policy.specs.declared.fault.Fault.{Fault}
 use Rattle.sf_policy.specs.declared.fault.Fault.TheVariants.{Memory, NamesKey, Read, Syntax}
 use Rattle.sf_policy.specs.Faults.{of_names}
@@ -18,8 +18,8 @@ pub record AreNames (bytes : List ℕ) (sets : List NamesData) : Type 0 where
   pub tree : Members
   pub parsed : parse_document bytes ≡ Some tree
   pub files : List NamesData
-  pub meant : names_of tree ≡ Ok files
-  pub ordered : AreOrdered files sets
+  pub meant : sets_of_file tree ≡ Ok files
+  pub ordered : HaveOrderedCalls files sets
 
 -- the file, whose bytes may be known, has these sets
 abbrev pub IsNamesFile : Option (List ℕ) → List NamesData → Type 0
@@ -53,7 +53,7 @@ pub record AreNamesRead (holds : List ℕ → Option (List ℕ)) (paths : List (
 abbrev pub RefusesNames : List ℕ → Fault → Type 0
 RefusesNames bytes fault =
     ((fault ≡ Syntax) × ((IsUtf8 bytes → ⊥) ⊎ (parse_document bytes ≡ None)))
-    ⊎ ((tree : Members) × (why : NamesFault) × (parse_document bytes ≡ Some tree) × (names_of tree ≡ Err why)
+    ⊎ ((tree : Members) × (why : NamesFault) × (parse_document bytes ≡ Some tree) × (sets_of_file tree ≡ Err why)
     × (fault ≡ of_names why))
 
 -- the file, whose bytes may be known, is no file of names for this reason

@@ -62,16 +62,16 @@ abbrev pub is_capability : Text → Bool
 is_capability text = list_any (bytes_eq text) capabilities
 
 -- no kernel is named, or its version
-abbrev pub is_kernel : Text → Bool
-is_kernel [] = true
-is_kernel text = is_some (version_of text)
+abbrev pub is_kernel_or_none : Text → Bool
+is_kernel_or_none [] = true
+is_kernel_or_none text = is_some (version_of text)
 
 -- the words behind the options are among those that these take
 abbrev pub profile_words_fit : List Row → Bool
 profile_words_fit rows =
     (is_some (machine_named (text_of (codes "machine") rows)) && is_some (reading_named
     (text_of (codes "conflicts") rows)))
-    && (is_kernel (text_of (codes "kernel") rows) && list_all is_capability (paths_of (codes "cap") rows))
+    && (is_kernel_or_none (text_of (codes "kernel") rows) && list_all is_capability (paths_of (codes "cap") rows))
 
 -- what the words say that a profile is read for, where they are among those that the options take
 pub record AreSettings (rows : List Row) (s : Settings) : Type 0 where

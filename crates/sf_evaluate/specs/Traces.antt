@@ -89,8 +89,8 @@ truth_text true = codes "true"
 truth_text false = codes "false"
 
 -- how a word is compared, with which other one, and the result
-abbrev pub compared_text : List ℕ → ℕ → Bool → List ℕ
-compared_text sign other truth = 32 ∷ (sign ++ 32 ∷ (word_text other ++ 32 ∷ (truth_text truth ++ 10 ∷ [])))
+abbrev pub compared_word_text : List ℕ → ℕ → Bool → List ℕ
+compared_word_text sign other truth = 32 ∷ (sign ++ 32 ∷ (word_text other ++ 32 ∷ (truth_text truth ++ 10 ∷ [])))
 
 -- the name of a word of the input and a blank; nothing where there is no word
 abbrev pub named_text : Option ℕ → List ℕ
@@ -102,7 +102,7 @@ named_text None = []
 abbrev pub test_line : ℕ → ℕ → Option ℕ → ℕ → List ℕ → ℕ → Bool → List ℕ
 test_line number place word a sign other truth =
     codes "filter " ++ (decimal number ++ (codes " instruction "
-    ++ (decimal place ++ 32 ∷ (named_text word ++ (word_text a ++ compared_text sign other truth)))))
+    ++ (decimal place ++ 32 ∷ (named_text word ++ (word_text a ++ compared_word_text sign other truth)))))
 
 -- The line of what a filter meets: a test; at a division by X, whether X is 0; at a return of A, that A.
 abbrev pub meeting_line : ℕ → Meeting → List ℕ

@@ -4,15 +4,15 @@ use Rattle.std.specs.List.{list_all, list_any}
 use Rattle.std.specs.Option.{option_map_or}
 use Rattle.std.specs.Str.{bytes_eq}
 use Rattle.clap.specs.Words.{Row, Text, first_of}
-use Rattle.sf_calls.specs.Numbers.{parts_of}
+use Rattle.sf_calls.specs.Numbers.{comma_parts}
 use Rattle.sf_command_line.specs.Options.{text_of}
-use Rattle.sf_evaluate.specs.Asking.{has_names, is_given}
+use Rattle.sf_evaluate.specs.Asking.{has_file_of_names, is_given}
 use Rattle.sf_names.specs.Names.{NamesData, is_call_name, number_of_call}
 
 -- the names in a text, with commas between them; none where it is empty
 abbrev pub names_in_text : Text → List Text
 names_in_text [] = []
-names_in_text text = parts_of text
+names_in_text text = comma_parts text
 
 -- The calls that are asked for by their names, if calls are to be told one by one at all. Where no name is given, these
 -- are all calls.
@@ -20,13 +20,13 @@ abbrev pub calls_asked : List Row → Option (List Text)
 calls_asked rows = option_map names_in_text (first_of (codes "calls") rows)
 
 -- a name can be that of a call, and stands once among these
-abbrev pub is_name_once : List Text → Text → Bool
-is_name_once names name = is_call_name name && (count_by (bytes_eq name) names == 1)
+abbrev pub is_wanted_once : List Text → Text → Bool
+is_wanted_once names name = is_call_name name && (count_by (bytes_eq name) names == 1)
 
 -- Calls are told by files of names only; each name can be that of a call, and stands once.
 abbrev pub calls_fit : List Row → Bool
 calls_fit rows =
-    option_map_or (λ names. has_names rows && list_all (is_name_once names) names) (calls_asked rows) true
+    option_map_or (λ names. has_file_of_names rows && list_all (is_wanted_once names) names) (calls_asked rows) true
 
 -- a relation of answers, by its word
 abbrev pub is_relation : Text → Bool

@@ -6,7 +6,7 @@ mod origins;
 mod questions;
 
 ghost use Rattle.std.specs.Prelude.{◌≡◌, ◌⊎◌, ◌≤◌, ℕ, List, None, length, map, IfOk, IfErr};
-ghost use Rattle.sf_evaluate.specs.Files.{AreKept, AreKnownBytes, HasUnknown};
+ghost use Rattle.sf_evaluate.specs.Files.{AreKeptFiles, AreKnownBytes, HasUnknown};
 ghost use Rattle.sf_policy.specs.declared.fault.Fault.TheVariants.{Memory, Read};
 
 use crate::explaining::Notes;
@@ -61,7 +61,7 @@ pub fn read_all<F: Files>(
     files: &mut F,
     notes: &mut Notes,
 ) -> Result<Vec<Vec<u8>>, Fault>
-    ensures read { IfOk result (λ v. AreKept (F.holds files.old) paths.now
+    ensures read { IfOk result (λ v. AreKeptFiles (F.holds files.old) paths.now
         (map (λ f. f.items) v.items)) }
     ensures refused { IfErr result (λ e. ((e ≡ Read)
         × HasUnknown (F.holds files.old) paths.now) ⊎ (e ≡ Memory)) }

@@ -24,7 +24,7 @@ use Rattle.sf_rows.specs.Documents.{calls_document, rows_document, total_documen
 use Rattle.sf_rows.specs.Rows.{listed_rows}
 use Rattle.sf_rows.specs.Written.{written_count, written_lines, written_undetermined}
 use Rattle.sf_list.specs.Documents.{listing_document}
-use Rattle.sf_list.specs.Listings.{IsDrawnWith, IsListing, IsListingByRule, Listed, listing_text, listing_title, stack_line, total_line}
+use Rattle.sf_list.specs.Listings.{IsDrawnWith, IsListing, IsListingByRule, Listed, listing_text, listing_title, stack_line, rows_total_line}
 
 -- ---- answers and labels
 
@@ -129,7 +129,7 @@ abbrev text : List NamesData → Option (List (List ℕ)) → List (List Insn) �
 text sets calls stack counts answers picture =
     (listing_title calls ++ (stack_line stack ++ counts_line counts))
     ++ (written_lines sets (map answer_words answers) calls (listed_rows picture)
-    ++ total_line calls (written_count sets calls (listed_rows picture))
+    ++ rows_total_line calls (written_count sets calls (listed_rows picture))
     (written_undetermined sets calls (listed_rows picture)))
 
 pub same-text : ExplorationsHaveOneResult → HaveOnePicture → (files others : List (List ℕ)) (m n leaves : ℕ)

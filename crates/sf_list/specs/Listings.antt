@@ -82,21 +82,21 @@ counted_words None = codes "rows"
 counted_words (Some wanted) = codes "lines"
 
 -- how many lines tell the rows, and how many of them have several answers
-abbrev pub total_line : Option (List (List ℕ)) → (count undetermined : ℕ) → List ℕ
-total_line calls count undetermined =
+abbrev pub rows_total_line : Option (List (List ℕ)) → (count undetermined : ℕ) → List ℕ
+rows_total_line calls count undetermined =
     line (codes "total" ∷ counted_words calls ∷ decimal count ∷ codes "undetermined" ∷ decimal undetermined ∷ [])
 
 -- the lines before the rows
-abbrev pub head_text : Option (List (List ℕ)) → BookData → List ℕ
-head_text calls b = listing_title calls ++ (stack_line b.stack ++ counts_line (counts_of b))
+abbrev pub list_head_text : Option (List (List ℕ)) → BookData → List ℕ
+list_head_text calls b = listing_title calls ++ (stack_line b.stack ++ counts_line (counts_of b))
 
 -- The whole text, with these sets of calls: the head, the rows, and the line that counts them. `calls` says how rows
 -- are told: each by a line, where it is `None`; else call by call, for the calls that it names, or for all calls where
 -- it names none.
 abbrev pub listing_text : List NamesData → Option (List (List ℕ)) → Listed → List ℕ
 listing_text sets calls l = let rows = listed_rows l.picture in
-    head_text calls l.settled ++ (written_lines sets (map answer_words l.answers) calls rows
-    ++ total_line calls (written_count sets calls rows) (written_undetermined sets calls rows))
+    list_head_text calls l.settled ++ (written_lines sets (map answer_words l.answers) calls rows
+    ++ rows_total_line calls (written_count sets calls rows) (written_undetermined sets calls rows))
 
 -- whether there is a picture, and none of its rows has several answers
 abbrev pub is_whole_listing : Option PictureData → Bool

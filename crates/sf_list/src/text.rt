@@ -4,7 +4,7 @@ ghost use Rattle.std.specs.Prelude.{◌≡◌, ◌⊎◌, ◌++◌, ◌≤◌, I
 ghost use Rattle.std.specs.Io.KnownBytes.{Appends};
 ghost use Rattle.sf_policy.specs.Texts.{AppendsFront};
 ghost use Rattle.sf_policy.specs.declared.fault.Fault.TheVariants.{Memory as MemoryFault, Write as WriteFault};
-ghost use Rattle.sf_list.specs.Listings.{counted_words, stack_line, head_text, total_line, listing_text, listing_title, is_whole_listing};
+ghost use Rattle.sf_list.specs.Listings.{counted_words, stack_line, list_head_text, rows_total_line, listing_text, listing_title, is_whole_listing};
 ghost use Rattle.sf_rows.specs.Lines.{is_undetermined};
 ghost use Rattle.sf_rows.specs.Rows.{listed_rows};
 
@@ -58,7 +58,7 @@ fn push_head(
     settled: &Settled,
 ) -> Result<(), AllocError>
     ensures { OnOk result (string_bytes text.new ≡ string_bytes text.old
-        ++ head_text (option_map (λ v. map (λ t. t.now) v.items) calls.now) settled.now) }
+        ++ list_head_text (option_map (λ v. map (λ t. t.now) v.items) calls.now) settled.now) }
 {
     text.push_str(title_of(calls))?;
     push_stack(text, settled.stack().programs())?;
@@ -68,7 +68,7 @@ fn push_head(
 /// Adds the line that says how many lines there are, and how many of them have several answers.
 fn push_total(text: &mut String, calls: &Option<Vec<&str>>, lines: Lines) -> Result<(), AllocError>
     ensures { OnOk result (string_bytes text.new ≡ string_bytes text.old
-        ++ total_line (option_map (λ v. map (λ t. t.now) v.items) calls.now)
+        ++ rows_total_line (option_map (λ v. map (λ t. t.now) v.items) calls.now)
         lines.count lines.undetermined) }
 {
     let counted = counted_of(calls);

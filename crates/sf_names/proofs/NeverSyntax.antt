@@ -4,7 +4,7 @@ use Rattle.std.proofs.lemmas.Bool.{false≢true}
 use Rattle.toml.specs.Data.{Data, string, integer, float, boolean, datetime, array, table, Members, no_members, member, get_member}
 use Rattle.sf_names.specs.declared.fault.Fault.{Fault}
 use Rattle.sf_names.specs.declared.fault.Fault.TheVariants as faults
-use Rattle.sf_names.specs.Names.{CallData, GivesNames, NamesData, arch_at, arch_of_value, arch_where_word, call_cons, call_of_value, call_where_word, calls_at, calls_of, calls_of_value, has_names_keys, is_call_name, names_of, set_cons, set_from, set_of_parts, set_of_value, sets_of, with_usual_set, word_in}
+use Rattle.sf_names.specs.Names.{CallData, GivesNames, NamesData, arch_at, arch_of_value, arch_where_word, call_cons, call_of_value, call_where_word, calls_at, calls_of, calls_of_value, has_names_keys, is_call_name, sets_of_file, set_cons, set_from, set_of_parts, set_of_value, sets_of_table, with_usual_set, word_in}
 
 -- the refusal is `Syntax`
 abbrev pub is_syntax : {X : Type 0} → Result X Fault → Bool
@@ -94,7 +94,7 @@ before_sets (Ok n) (Ok ns) p q = refl
 before_sets (Ok n) (Err fault) p q = q
 before_sets (Err fault) ns p q = p
 
-of_sets : (ms : Members) → is_syntax (sets_of ms) ≡ false
+of_sets : (ms : Members) → is_syntax (sets_of_table ms) ≡ false
 of_sets no_members = refl
 of_sets (member set d rest) = before_sets _ _ (choice (is_call_name set) _ _ (set_in set d) refl) (of_sets rest)
 
@@ -102,10 +102,10 @@ named : (n : Result NamesData Fault) → is_syntax n ≡ false → is_syntax (wi
 named (Ok n) p = refl
 named (Err fault) p = p
 
-of_tree : (ms : Members) → is_syntax (names_of ms) ≡ false
+of_tree : (ms : Members) → is_syntax (sets_of_file ms) ≡ false
 of_tree ms = choice (has_names_keys ms) _ _ (before_sets _ (Ok []) (named _ (from_table [] ms)) refl) (of_sets ms)
 
 -- a function that gives the sets of a tree never answers `Syntax`
 pub no_syntax : {X : Type 0} (view : X → List NamesData) (r : Result X Fault) (ms : Members)
-    → GivesNames view r (names_of ms) → r ≡ Err faults.Syntax → ⊥
+    → GivesNames view r (sets_of_file ms) → r ≡ Err faults.Syntax → ⊥
 no_syntax view r ms gives e = false≢true (sym (of_tree ms) ∙ ap (λ l. is_syntax l) (rw e at gives))

@@ -5,7 +5,7 @@ use Rattle.std.specs.Map.{keys_of}
 use Rattle.toml.specs.View.{members_view}
 use Rattle.toml.specs.declared.value.Value.{Value}
 use Rattle.sf_names.specs.declared.fault.Fault.{Fault}
-use Rattle.sf_names.specs.Names.{AreOrdered, CallData, GivesSet, IsOrdered, NamesData, has_names_keys, is_names_key, list_of_one_set, set_cons}
+use Rattle.sf_names.specs.Names.{HaveOrderedCalls, CallData, GivesSet, IsOrdered, NamesData, has_names_keys, is_names_key, list_of_one_set, set_cons}
 
 -- the keys of a set, at the list that the code goes through
 pub keys_view : (es : List (String Global × Value))
@@ -28,15 +28,16 @@ pub record SetsSoFar (whole : Result (List NamesData) Fault) (sets : List NamesD
     (rest : Result (List NamesData) Fault) : Type 0 where
   pub files : List NamesData
   pub due : whole ≡ with_sets files rest
-  pub ordered : AreOrdered files sets
+  pub ordered : HaveOrderedCalls files sets
 
 with_sets_cons : (front : List NamesData) (n : NamesData) (r : Result (List NamesData) Fault)
     → with_sets front (set_cons (Ok n) r) ≡ with_sets (front ++ n ∷ []) r
 with_sets_cons front n (Ok rest) = ap Ok (sym (append_assoc front (n ∷ []) rest))
 with_sets_cons front n (Err fault) = refl
 
-ordered_more : (files sets : List NamesData) (file names : NamesData) → AreOrdered files sets → IsOrdered file names
-    → AreOrdered (files ++ file ∷ []) (sets ++ names ∷ [])
+ordered_more : (files sets : List NamesData) (file names : NamesData) → HaveOrderedCalls files sets
+    → IsOrdered file names
+    → HaveOrderedCalls (files ++ file ∷ []) (sets ++ names ∷ [])
 ordered_more [] [] file names before one = (one, tt)
 ordered_more (f ∷ files) (n ∷ sets) file names before one = (before.0, ordered_more files sets file names before.1 one)
 ordered_more [] (n ∷ sets) file names before one = absurd before
@@ -55,6 +56,6 @@ one_set_more whole sets more due rest names so_far gives pushed = record {
 
 -- a set alone
 pub alone : (due : Result NamesData Fault) (names : NamesData) (sets : List NamesData) → GivesSet (Ok names) due
-    → sets ≡ names ∷ [] → (files : List NamesData) × (list_of_one_set due ≡ Ok files) × AreOrdered files sets
+    → sets ≡ names ∷ [] → (files : List NamesData) × (list_of_one_set due ≡ Ok files) × HaveOrderedCalls files sets
 alone due names sets gives same =
     (gives.0 ∷ [], ap list_of_one_set gives.1, rw same (gives.2, tt))

@@ -144,8 +144,8 @@ set_of_value set (table ms) = set_of_table set ms
 set_of_value set _ = Err faults.Key
 
 -- the set of a key and its value, or what is wrong with it: the key, or its value
-abbrev pub set_of : List ℕ → Data → Result NamesData Fault
-set_of set d = if is_call_name set then set_of_value set d else Err faults.Key
+abbrev pub set_of_key : List ℕ → Data → Result NamesData Fault
+set_of_key set d = if is_call_name set then set_of_value set d else Err faults.Key
 
 -- a set before the others, or the first refusal among them
 abbrev pub set_cons : Result NamesData Fault → Result (List NamesData) Fault → Result (List NamesData) Fault
@@ -154,9 +154,9 @@ set_cons (Ok n) (Err fault) = Err fault
 set_cons (Err fault) _ = Err fault
 
 -- the sets of a table, in the order of its keys, or the first refusal among them
-abbrev pub sets_of : Members → Result (List NamesData) Fault
-sets_of no_members = Ok []
-sets_of (member set d rest) = set_cons (set_of set d) (sets_of rest)
+abbrev pub sets_of_table : Members → Result (List NamesData) Fault
+sets_of_table no_members = Ok []
+sets_of_table (member set d rest) = set_cons (set_of_key set d) (sets_of_table rest)
 
 -- a number below those of x32, which have bit 30 set
 abbrev pub is_low_call : CallData → Bool
@@ -193,8 +193,8 @@ list_of_one_set n = set_cons n (Ok [])
 
 -- The sets of a file, or its first refusal. A file whose top has only keys of a set is one set; another one has a set
 -- at each key.
-abbrev pub names_of : Members → Result (List NamesData) Fault
-names_of ms = if has_names_keys ms then list_of_one_set (only_set ms) else sets_of ms
+abbrev pub sets_of_file : Members → Result (List NamesData) Fault
+sets_of_file ms = if has_names_keys ms then list_of_one_set (only_set ms) else sets_of_table ms
 
 -- these calls, by their numbers: those with one number keep their order
 pub record AreByNumber (file calls : List CallData) : Type 0 where
@@ -209,10 +209,10 @@ pub record IsOrdered (file names : NamesData) : Type 0 where
   pub calls : AreByNumber file.calls names.calls
 
 -- these sets, one by one, with the calls of each by their numbers
-abbrev pub AreOrdered : List NamesData → List NamesData → Type 0
-AreOrdered [] [] = Unit {0}
-AreOrdered (file ∷ files) (names ∷ more) = IsOrdered file names × AreOrdered files more
-AreOrdered _ _ = ⊥
+abbrev pub HaveOrderedCalls : List NamesData → List NamesData → Type 0
+HaveOrderedCalls [] [] = Unit {0}
+HaveOrderedCalls (file ∷ files) (names ∷ more) = IsOrdered file names × HaveOrderedCalls files more
+HaveOrderedCalls _ _ = ⊥
 
 -- What a function answered is the set that is due, with the calls by their numbers, unless memory is refused.
 abbrev pub GivesSet : Result NamesData Fault → Result NamesData Fault → Type 0
@@ -222,7 +222,7 @@ GivesSet (Err fault) due = Fails fault due
 -- What a function answered, seen by `view`, are the sets that are due, with the calls of each by their numbers, unless
 -- memory is refused.
 abbrev pub GivesNames : {X : Type 0} → (X → List NamesData) → Result X Fault → Result (List NamesData) Fault → Type 0
-GivesNames view (Ok x) due = (files : List NamesData) × (due ≡ Ok files) × AreOrdered files (view x)
+GivesNames view (Ok x) due = (files : List NamesData) × (due ≡ Ok files) × HaveOrderedCalls files (view x)
 GivesNames view (Err fault) due = Fails fault due
 
 -- ---- names as text
@@ -249,8 +249,8 @@ count_after count [] = count
 count_after count (name ∷ names) = count_after (count_more count) names
 
 -- what is written of a name, where so many were told before it
-abbrev pub name_words : ℕ → List ℕ → List ℕ
-name_words count name =
+abbrev pub next_name_words : ℕ → List ℕ → List ℕ
+next_name_words count name =
     if count == 0 then codes " # " ++ name
     else if nat_lt count 8 then 44 ∷ name
     else if count == 8 then codes ",.." else []
@@ -258,4 +258,4 @@ name_words count name =
 -- names with commas between them, after ` # `, where so many were told before: at most eight, and then `..`
 abbrev pub names_words : ℕ → List (List ℕ) → List ℕ
 names_words count [] = []
-names_words count (name ∷ names) = name_words count name ++ names_words (count_more count) names
+names_words count (name ∷ names) = next_name_words count name ++ names_words (count_more count) names

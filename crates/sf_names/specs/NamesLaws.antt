@@ -3,15 +3,15 @@ use Rattle.std.proofs.Common.{◌≡◌, ℕ, ◌<◌, ◌+◌, List, [], ◌∷
 use Rattle.std.specs.List.{flat_map}
 use Rattle.std.proofs.lemmas.List.{take_more}
 use Rattle.std.proofs.lemmas.List.Concat.{flat_map-append}
-use Rattle.sf_names.specs.Names.{count_after, count_more, name_words, names_words}
+use Rattle.sf_names.specs.Names.{count_after, count_more, next_name_words, names_words}
 
 -- the words of names, and then those of more names
 pub words_append : (count : ℕ) (xs ys : List (List ℕ))
     → names_words count (xs ++ ys) ≡ names_words count xs ++ names_words (count_after count xs) ys
 words_append count [] ys = refl
 words_append count (x ∷ xs) ys =
-    ap (λ l. name_words count x ++ l) (words_append (count_more count) xs ys)
-    ∙ sym (append_assoc (name_words count x) (names_words (count_more count) xs)
+    ap (λ l. next_name_words count x ++ l) (words_append (count_more count) xs ys)
+    ∙ sym (append_assoc (next_name_words count x) (names_words (count_more count) xs)
     (names_words (count_after (count_more count) xs) ys))
 
 -- how many were told after names, and then after more names

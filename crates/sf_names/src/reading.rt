@@ -7,7 +7,7 @@ ghost use Rattle.toml.specs.Data.{Members, get_member};
 ghost use Rattle.toml.specs.Parse.{parse_document};
 ghost use Rattle.toml.specs.View.{table_view, view};
 ghost use Rattle.sf_names.specs.declared.fault.Fault.TheVariants.{Memory as MemoryFault};
-ghost use Rattle.sf_names.specs.Names.{AreByNumber, Gives, GivesNames, GivesSet, IsOrdered, arch_at, arch_of_value, arch_where_word, call_of, call_where_word, calls_at, calls_of, calls_of_value, has_names_keys, is_low_call, is_names_key, known_set, names_of, list_of_one_set, only_set, set_from, set_of, set_of_table, set_of_value, sets_of, usual_set, word_in};
+ghost use Rattle.sf_names.specs.Names.{AreByNumber, Gives, GivesNames, GivesSet, IsOrdered, arch_at, arch_of_value, arch_where_word, call_of, call_where_word, calls_at, calls_of, calls_of_value, has_names_keys, is_low_call, is_names_key, known_set, sets_of_file, list_of_one_set, only_set, set_from, set_of_key, set_of_table, set_of_value, sets_of_table, usual_set, word_in};
 
 use crate::fault::Fault;
 use crate::names::{Call, Names, is_call_name};
@@ -169,7 +169,7 @@ fn set_of_value(alloc: Global, set: &str, value: &Value) -> Result<Names, Fault>
 
 /// The set of a key and its value. `Key` where the key can't be the name of a set; then what `set_of_value` refuses.
 fn set_of(alloc: Global, set: &str, value: &Value) -> Result<Names, Fault>
-    ensures { Gives (λ n. n) result (set_of set.now (view value.now)) }
+    ensures { Gives (λ n. n) result (set_of_key set.now (view value.now)) }
 {
     if !is_call_name(set) {
         return Err(Fault::Key);
@@ -251,7 +251,7 @@ fn put_in_order(names: Names) -> Result<Names, Fault>
 
 /// The set of a key and its value, with the calls in the order of their numbers. The refusals are those of `set_of`.
 fn ordered_set(alloc: Global, set: &str, value: &Value) -> Result<Names, Fault>
-    ensures { GivesSet result (set_of set.now (view value.now)) }
+    ensures { GivesSet result (set_of_key set.now (view value.now)) }
 {
     let names = set_of(alloc, set, value)?;
     put_in_order(names)
@@ -269,7 +269,7 @@ fn ordered_only_set(alloc: Global, table: &Table) -> Result<Names, Fault>
 /// The sets of a table, in the order of its keys, the calls of each in the order of their numbers. The refusal is that
 /// of the first set that is refused, or `Memory` where an allocation is refused.
 fn sets_of(alloc: Global, table: &Table) -> Result<Vec<Names>, Fault>
-    ensures { GivesNames (λ v. v.items) result (sets_of (table_view table.now)) }
+    ensures { GivesNames (λ v. v.items) result (sets_of_table (table_view table.now)) }
 {
     let mut sets = Vec::new(alloc);
     for (set, value) in table.iter() {
@@ -295,7 +295,7 @@ fn list_of_one_set(alloc: Global, table: &Table) -> Result<Vec<Names>, Fault>
 /// and `calls` is itself one set; any other table has a set at each key. The refusals are those of `list_of_one_set` or
 /// of `sets_of`.
 fn names_of(alloc: Global, table: &Table) -> Result<Vec<Names>, Fault>
-    ensures { GivesNames (λ v. v.items) result (names_of (table_view table.now)) }
+    ensures { GivesNames (λ v. v.items) result (sets_of_file (table_view table.now)) }
 {
     if has_names_keys(table) {
         list_of_one_set(alloc, table)
@@ -320,7 +320,7 @@ fn names_of(alloc: Global, table: &Table) -> Result<Vec<Names>, Fault>
 pub fn read_names(alloc: Global, text: &str) -> Result<Vec<Names>, Fault>
     // Where the text is TOML, the sets or the refusal are those of its tree.
     ensures read { (tree : Members) → parse_document text.now ≡ Some tree
-        → GivesNames (λ v. v.items) result (names_of tree) }
+        → GivesNames (λ v. v.items) result (sets_of_file tree) }
 
     // `Syntax` comes exactly where it is no TOML, unless memory ran out.
     ensures syntax { result ≡ Err Fault.Syntax → parse_document text.now ≡ None }

@@ -2,7 +2,7 @@
 
 ghost use Rattle.std.specs.Prelude.{◌≡◌, ◌++◌, IfOk, OnOk, string_bytes};
 ghost use Rattle.std.specs.List.{flat_map};
-ghost use Rattle.sf_names.specs.Names.{count_after, count_more, name_between, name_words, names_between, names_in, names_words};
+ghost use Rattle.sf_names.specs.Names.{count_after, count_more, name_between, next_name_words, names_between, names_in, names_words};
 
 use crate::names::{Call, Names};
 use std::alloc::AllocError;
@@ -16,7 +16,7 @@ const MOST_NAMES: usize = 8;
 /// stand in the text then.
 fn push_name(text: &mut String, count: usize, name: &str) -> Result<usize, AllocError>
     ensures text { OnOk result (string_bytes text.new ≡ string_bytes text.old
-        ++ name_words count name.now) }
+        ++ next_name_words count name.now) }
     ensures count { IfOk result (λ n. n ≡ count_more count) }
 {
     if count > MOST_NAMES {

@@ -15,7 +15,7 @@ use Rattle.sf_compare.specs.declared.relation.Relation.TheVariants.{Looser, Diff
 use Rattle.sf_compare.specs.declared.changes.Change.{Change}
 use Rattle.sf_compare.specs.declared.changes.Change.TheVariants.{Never}
 use Rattle.sf_needed.specs.declared.trial.Trial.{Trial}
-use Rattle.sf_needed.specs.Needs.{AreTrials, IsFoundWithout, IsKept, IsLeft, AreRefusedTogether, IsTrialOf, at_places, dropped, whole, with_rest}
+use Rattle.sf_needed.specs.Needs.{AreTrials, IsFoundWithout, IsKeptFilter, IsLeft, AreRefusedTogether, IsTrialOf, at_places, dropped, whole, with_rest}
 use Rattle.sf_needed.proofs.PlaceLemmas.{all_places}
 
 -- all of them are places of filters
@@ -80,7 +80,7 @@ looser_of_trial files place budget t of = record { comparison = of.comparison; i
 
 -- a filter that is tried and not dropped
 pub kept_by : (files : List (List ℕ)) (budget : ℕ) (places : List ℕ) (place : ℕ) (t : Trial)
-    → IsTrialOf (at_places files places) place budget t → t.different ≢ Never → IsKept files budget places place
+    → IsTrialOf (at_places files places) place budget t → t.different ≢ Never → IsKeptFilter files budget places place
 kept_by files budget places place t of other =
     record {
       change = t.different;

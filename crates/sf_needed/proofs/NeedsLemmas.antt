@@ -12,7 +12,7 @@ use Rattle.sf_policy.specs.FiltersLaws.{as_many}
 use Rattle.sf_compare.specs.declared.relation.Relation.TheVariants.{Looser}
 use Rattle.sf_compare.specs.declared.changes.Change.{Change}
 use Rattle.sf_needed.specs.declared.trial.Trial.{Trial}
-use Rattle.sf_needed.specs.Needs.{AreFew, AreFindings, AreRefusedTogether, AreTrials, ArePlaces, IsFoundWithout, IsLeft, IsRefusedLater, IsTrialOf, NeedsData, at_places, whole}
+use Rattle.sf_needed.specs.Needs.{AreFewFilters, AreFindings, AreRefusedTogether, AreTrials, ArePlaces, IsFoundWithout, IsLeft, IsRefusedLater, IsTrialOf, NeedsData, at_places, whole}
 use Rattle.sf_needed.proofs.PlaceLemmas.{all_places}
 use Rattle.sf_needed.proofs.LeftLemmas.{left_below, left_rising, looser_of_trial, one_pushed}
 
@@ -69,7 +69,7 @@ places_told files budget count places many left = record {
 
 -- they are few
 pub few_told : (files : List (List ℕ)) (budget : ℕ) (programs : List (List Insn)) (n : NeedsData)
-    → SpellStack files programs → AreFindings files budget n.findings → IsLeft files budget n.kept → AreFew n
+    → SpellStack files programs → AreFindings files budget n.findings → IsLeft files budget n.kept → AreFewFilters n
 few_told files budget programs n spelled are left = record {
   filters = omega (arith, are.count, as_many files programs spelled.spelled, spelled.lawful.few);
   kept = subst (λ (m : ℕ). All (λ p. p < m) n.kept) (sym are.count) (left_below files budget n.kept left);

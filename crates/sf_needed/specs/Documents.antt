@@ -6,7 +6,7 @@ use Rattle.sf_compare.specs.declared.changes.Change.{Change}
 use Rattle.sf_compare.specs.declared.changes.Change.TheVariants.{Never, Found, Unsettled}
 use Rattle.sf_json.specs.Documents.{count, fields, input_document, list_of}
 use Rattle.sf_needed.specs.Needs.{NeedsData}
-use Rattle.sf_needed.specs.Texts.{is_needed, is_spare, is_unsettled}
+use Rattle.sf_needed.specs.Texts.{is_needed, is_spare, is_unsettled_finding}
 
 -- a filter's number, what was found of it, and an example
 abbrev pub found_document : (number : ℕ) → (result : List ℕ) → (example : Data) → Data
@@ -37,12 +37,12 @@ size_document n =
     fields ((codes "filters", count (length n.findings)) ∷ (codes "path", count n.path) ∷ [])
 
 -- how many filters are kept, and of how many each result was found
-abbrev pub totals_document : NeedsData → Data
-totals_document n = fields (
+abbrev pub needed_totals_document : NeedsData → Data
+needed_totals_document n = fields (
     (codes "kept", count (length n.kept))
     ∷ (codes "needed", count (count_by is_needed n.findings))
     ∷ (codes "spare", count (count_by is_spare n.findings))
-    ∷ (codes "unsettled", count (count_by is_unsettled n.findings)) ∷ [])
+    ∷ (codes "unsettled", count (count_by is_unsettled_finding n.findings)) ∷ [])
 
 -- the size of the stack, what was found of each filter, the numbers of the filters that are kept, and the totals
 abbrev pub needs_document : NeedsData → Data
@@ -51,5 +51,5 @@ needs_document n = fields (
     ∷ (codes "kept", list_of (map (λ p. count (p + 1)) n.kept))
     ∷ (codes "seccomp_audit", string (codes "needed"))
     ∷ (codes "stack", size_document n)
-    ∷ (codes "totals", totals_document n)
+    ∷ (codes "totals", needed_totals_document n)
     ∷ (codes "version", count 1) ∷ [])

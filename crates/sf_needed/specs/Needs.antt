@@ -25,7 +25,7 @@ pub record NeedsData : Type 0 where
   pub path : ℕ
 
 -- at most 64 filters, and the places are some of theirs
-pub record AreFew (n : NeedsData) : Type 0 where
+pub record AreFewFilters (n : NeedsData) : Type 0 where
   pub filters : length n.findings ≤ 64
   pub kept : All (λ p. p < length n.findings) n.kept
 
@@ -88,14 +88,14 @@ pub data IsLeft (files : List (List ℕ)) (budget : ℕ) : List ℕ → Type 0 w
 
 -- of the filters at some places, the one at this place of the list is kept: a comparison doesn't find that the others
 -- answer each input as all of them do
-pub record IsKept (files : List (List ℕ)) (budget : ℕ) (places : List ℕ) (place : ℕ) : Type 0 where
+pub record IsKeptFilter (files : List (List ℕ)) (budget : ℕ) (places : List ℕ) (place : ℕ) : Type 0 where
   pub change : Change
   pub found : IsFoundWithout (at_places files places) place budget Different change
   pub other : change ≢ Never
 
 -- each of the filters at these places is kept, as `IsKept` says
-abbrev pub AreKept : List (List ℕ) → ℕ → List ℕ → Type 0
-AreKept files budget places = (place : ℕ) → place < length places → IsKept files budget places place
+abbrev pub AreKeptFilters : List (List ℕ) → ℕ → List ℕ → Type 0
+AreKeptFilters files budget places = (place : ℕ) → place < length places → IsKeptFilter files budget places place
 
 -- places below `count`, in rising order
 pub record ArePlaces (count : ℕ) (places : List ℕ) : Type 0 where

@@ -17,21 +17,21 @@ is_spare Never = true
 is_spare _ = false
 
 -- it is unsettled whether some input gets further without the filter
-abbrev pub is_unsettled : Change → Bool
-is_unsettled Unsettled = true
-is_unsettled _ = false
+abbrev pub is_unsettled_finding : Change → Bool
+is_unsettled_finding Unsettled = true
+is_unsettled_finding _ = false
 
 -- what each such text begins with, and the number of its form
-abbrev pub title_line : List ℕ
-title_line = line (codes "seccomp_audit" ∷ codes "needed" ∷ codes "1" ∷ [])
+abbrev pub needed_title_line : List ℕ
+needed_title_line = line (codes "seccomp_audit" ∷ codes "needed" ∷ codes "1" ∷ [])
 
 -- how many filters there are, and the length of the path through them
-abbrev pub size_line : ℕ → ℕ → List ℕ
-size_line filters path = line (codes "filters" ∷ decimal filters ∷ codes "path" ∷ decimal path ∷ [])
+abbrev pub needed_size_line : ℕ → ℕ → List ℕ
+needed_size_line filters path = line (codes "filters" ∷ decimal filters ∷ codes "path" ∷ decimal path ∷ [])
 
 -- the lines above those of the filters
-abbrev pub head_text : NeedsData → List ℕ
-head_text n = title_line ++ size_line (length n.findings) n.path
+abbrev pub needed_head_text : NeedsData → List ℕ
+needed_head_text n = needed_title_line ++ needed_size_line (length n.findings) n.path
 
 -- a filter's number and what was found of it, with the example where it is needed
 abbrev pub finding_line : ℕ → Change → List ℕ
@@ -55,12 +55,12 @@ abbrev pub kept_line : List ℕ → List ℕ
 kept_line kept = codes "kept" ++ (kept_words kept ++ 10 ∷ [])
 
 -- of how many filters each result was found, and how many are kept
-abbrev pub total_line : NeedsData → List ℕ
-total_line n =
+abbrev pub needed_total_line : NeedsData → List ℕ
+needed_total_line n =
     line (codes "total" ∷ codes "needed" ∷ decimal (count_by is_needed n.findings) ∷ codes "spare"
-    ∷ decimal (count_by is_spare n.findings) ∷ codes "unsettled" ∷ decimal (count_by is_unsettled n.findings)
+    ∷ decimal (count_by is_spare n.findings) ∷ codes "unsettled" ∷ decimal (count_by is_unsettled_finding n.findings)
     ∷ codes "kept" ∷ decimal (length n.kept) ∷ [])
 
 -- the whole text
 abbrev pub needs_text : NeedsData → List ℕ
-needs_text n = head_text n ++ (finding_lines 1 n.findings ++ (kept_line n.kept ++ total_line n))
+needs_text n = needed_head_text n ++ (finding_lines 1 n.findings ++ (kept_line n.kept ++ needed_total_line n))

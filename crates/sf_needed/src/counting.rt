@@ -1,7 +1,7 @@
 //! Findings, counted.
 
 ghost use Rattle.std.specs.Prelude.{◌≡◌, count_by};
-ghost use Rattle.sf_needed.specs.Texts.{is_needed, is_spare, is_unsettled};
+ghost use Rattle.sf_needed.specs.Texts.{is_needed, is_spare, is_unsettled_finding};
 
 use sf_compare::Change;
 
@@ -27,7 +27,7 @@ pub(crate) fn count_spare(findings: &[Change]) -> usize
 
 /// How many filters are unsettled: found neither needed nor spare.
 pub(crate) fn count_unsettled(findings: &[Change]) -> usize
-    ensures { result ≡ count_by is_unsettled findings.now }
+    ensures { result ≡ count_by is_unsettled_finding findings.now }
 {
     findings
         .iter()

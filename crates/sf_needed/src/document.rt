@@ -3,7 +3,7 @@
 ghost use Rattle.std.specs.Prelude.{◌≡◌, ◌<◌, ◌+◌, All, map, IfOk};
 ghost use Rattle.serde_json.specs.View.{view};
 ghost use Rattle.sf_json.specs.Documents.{count};
-ghost use Rattle.sf_needed.specs.Documents.{finding_document, finding_documents, found_document, needed_document, needs_document, size_document, totals_document};
+ghost use Rattle.sf_needed.specs.Documents.{finding_document, finding_documents, found_document, needed_document, needs_document, size_document, needed_totals_document};
 
 use crate::needs::Needs;
 use sf_compare::Change;
@@ -82,7 +82,7 @@ fn size_document(alloc: Global, needs: &Needs) -> Result<Document, AllocError>
 
 /// How many filters were found needed, spare and unsettled, and how many are kept.
 fn totals_document(alloc: Global, needs: &Needs) -> Result<Document, AllocError>
-    ensures { IfOk result (λ d. view d ≡ totals_document needs.now) }
+    ensures { IfOk result (λ d. view d ≡ needed_totals_document needs.now) }
 {
     let fields = Fields::new(alloc)
         .with("needed", Document::count(needs.count_needed()))?

@@ -2,7 +2,7 @@
 
 ghost use Rattle.std.specs.Prelude.{◌≡◌, ◌≢◌, ◌⊎◌, ◌<◌, ◌≤◌, false, true, length, IfOk, IfErr, OnOk};
 ghost use Rattle.sf_compare.specs.declared.changes.Change.TheVariants.{Never as NeverChange};
-ghost use Rattle.sf_needed.specs.Needs.{AreKept, AreTrials, IsDroppable, IsKept, IsLeft, AreRefusedTogether, IsTrialOf, at_places};
+ghost use Rattle.sf_needed.specs.Needs.{AreKeptFilters, AreTrials, IsDroppable, IsKeptFilter, IsLeft, AreRefusedTogether, IsTrialOf, at_places};
 ghost use Rattle.sf_policy.specs.declared.fault.Fault.TheVariants.{Memory as MemoryFault};
 
 use crate::trial::{Task, Trial, try_without};
@@ -63,7 +63,7 @@ fn is_droppable<R: Threads + Wait + Sync, G: Gate>(
     ensures droppable { IfOk result (λ b. b ≡ true
         → IsDroppable task.now.files task.now.budget kept.now place) }
     ensures kept { IfOk result (λ b. b ≡ false
-        → IsKept task.now.files task.now.budget kept.now place) }
+        → IsKeptFilter task.now.files task.now.budget kept.now place) }
     ensures refused { IfErr result (λ e. (e ≡ MemoryFault)
         ⊎ AreRefusedTogether task.now.files task.now.budget e) }
 {
@@ -96,7 +96,7 @@ pub(crate) fn drop_while_alike<R: Threads + Wait + Sync, G: Gate>(
     requires kept { IsLeft task.now.files task.now.budget kept.old.items }
     ensures left { OnOk result (IsLeft task.now.files task.now.budget
         kept.new.items) }
-    ensures kept { OnOk result (AreKept task.now.files task.now.budget
+    ensures kept { OnOk result (AreKeptFilters task.now.files task.now.budget
         kept.new.items) }
     ensures refused { IfErr result (λ e. (e ≡ MemoryFault) ⊎ AreRefusedTogether
         task.now.files task.now.budget e) }

@@ -4,8 +4,8 @@ ghost use Rattle.std.specs.Prelude.{◌≡◌, ◌⊎◌, ◌<◌, ◌≤◌, le
 ghost use Rattle.std.specs.List.{range_with_len};
 ghost use Rattle.sf_policy.specs.Filters.{IsFirstRefusal};
 ghost use Rattle.sf_policy.specs.declared.fault.Fault.TheVariants.{Memory as MemoryFault};
-ghost use Rattle.sf_needed.specs.Needs.{AreFew, AreFindings, AreKept, ArePlaces, AreRefusedTogether, AreTrials, AnswerAlike, DescribeFilters, IsLeft, IsPathOf, IsRefusedLater, at_places};
-ghost use Rattle.sf_needed.specs.Texts.{is_needed, is_spare, is_unsettled};
+ghost use Rattle.sf_needed.specs.Needs.{AreFewFilters, AreFindings, AreKeptFilters, ArePlaces, AreRefusedTogether, AreTrials, AnswerAlike, DescribeFilters, IsLeft, IsPathOf, IsRefusedLater, at_places};
+ghost use Rattle.sf_needed.specs.Texts.{is_needed, is_spare, is_unsettled_finding};
 
 use crate::counting;
 use crate::dropping::drop_while_alike;
@@ -28,7 +28,7 @@ pub struct Needs {
 }
 
 impl Model for Needs {
-    ghost use Rattle.sf_needed.specs.Needs.{NeedsData, AreFew};
+    ghost use Rattle.sf_needed.specs.Needs.{NeedsData, AreFewFilters};
 
     ghost Value = { NeedsData };
 
@@ -38,7 +38,7 @@ impl Model for Needs {
       path = n.path;
     } };
 
-    ghost invariant = { λ n. AreFew (record {
+    ghost invariant = { λ n. AreFewFilters (record {
       findings = n.findings.items;
       kept = n.kept.items;
       path = n.path;
@@ -58,7 +58,7 @@ impl Needs {
     /// The places, from 0, of the filters that are kept, in rising order.
     pub fn kept(&self) -> &[usize]
         ensures same { result.now ≡ self.now.kept }
-        ensures few { AreFew self.now }
+        ensures few { AreFewFilters self.now }
     {
         self.kept.as_slice()
     }
@@ -86,7 +86,7 @@ impl Needs {
 
     /// How many filters are unsettled.
     pub fn count_unsettled(&self) -> usize
-        ensures { result ≡ count_by is_unsettled self.now.findings }
+        ensures { result ≡ count_by is_unsettled_finding self.now.findings }
     {
         counting::count_unsettled(&self.findings)
     }
@@ -169,7 +169,8 @@ pub fn needed<R: Threads + Wait + Sync, G: Gate>(
 
     // Each drop rests on a comparison, and none of the kept filters can be dropped.
     ensures left { IfOk result (λ n. IsLeft (map (λ f. f.items) filters.now) budget n.kept) }
-    ensures kept { IfOk result (λ n. AreKept (map (λ f. f.items) filters.now) budget n.kept) }
+    ensures kept { IfOk result (λ n. AreKeptFilters
+        (map (λ f. f.items) filters.now) budget n.kept) }
     ensures places { IfOk result (λ n. ArePlaces (length filters.now) n.kept) }
 
     // The kept filters answer each input as the whole stack does.

@@ -4,7 +4,7 @@ ghost use Rattle.std.specs.Prelude.{◌≡◌, ◌⊎◌, ◌++◌, ◌<◌, ◌
 ghost use Rattle.std.specs.Io.KnownBytes.{Appends};
 ghost use Rattle.sf_policy.specs.Texts.{AppendsFront};
 ghost use Rattle.sf_policy.specs.declared.fault.Fault.TheVariants.{Memory as MemoryFault, Write as WriteFault};
-ghost use Rattle.sf_needed.specs.Texts.{finding_line, finding_lines, head_text, kept_line, kept_words, needs_text, size_line, total_line};
+ghost use Rattle.sf_needed.specs.Texts.{finding_line, finding_lines, needed_head_text, kept_line, kept_words, needs_text, needed_size_line, needed_total_line};
 
 use crate::needs::Needs;
 use sf_compare::Change;
@@ -71,14 +71,15 @@ fn push_kept(text: &mut String, kept: &[usize]) -> Result<(), AllocError>
 /// Adds the line with the size of the stack: how many filters it has, and the length of the path through them.
 fn push_size(text: &mut String, filters: usize, path: usize) -> Result<(), AllocError>
     ensures { OnOk result (string_bytes text.new ≡ string_bytes text.old
-        ++ size_line filters path) }
+        ++ needed_size_line filters path) }
 {
     write!(text, "filters {filters} path {path}\n")
 }
 
 /// Adds what stands above the filters: the version of the text and the size of the stack.
 fn push_head(text: &mut String, needs: &Needs) -> Result<(), AllocError>
-    ensures { OnOk result (string_bytes text.new ≡ string_bytes text.old ++ head_text needs.now) }
+    ensures { OnOk result (string_bytes text.new ≡ string_bytes text.old
+        ++ needed_head_text needs.now) }
 {
     text.push_str("seccomp_audit needed 1\n")?;
     push_size(text, needs.findings().len(), needs.path_length())
@@ -87,7 +88,7 @@ fn push_head(text: &mut String, needs: &Needs) -> Result<(), AllocError>
 /// Adds the last line: how many filters were found needed, spare and unsettled, and how many are kept.
 fn push_total(text: &mut String, needs: &Needs) -> Result<(), AllocError>
     ensures { OnOk result (string_bytes text.new ≡ string_bytes text.old
-        ++ total_line needs.now) }
+        ++ needed_total_line needs.now) }
 {
     let needed = needs.count_needed();
     let spare = needs.count_spare();

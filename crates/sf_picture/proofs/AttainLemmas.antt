@@ -11,7 +11,7 @@ use Rattle.sf_picture.specs.declared.axis.Axis.{Axis}
 use Rattle.sf_picture.specs.declared.picture.Branch.{Branch}
 use Rattle.sf_picture.specs.declared.picture.Run.{Run}
 use Rattle.sf_picture.specs.PictureData.{PictureData}
-use Rattle.sf_picture.specs.Pictures.{number_on, next_of, IsBelow, AreRightForks, IsAttained}
+use Rattle.sf_picture.specs.Pictures.{number_on, next_of, LeadsBelow, AreRightForks, IsAttained}
 use Rattle.sf_picture.specs.Spans.{Span, IsExactSpan}
 use Rattle.sf_picture.specs.Holding.{HeldData, IsHeldBy, IsFromSome}
 use Rattle.sf_picture.specs.PlainHolding.{IsPlainHeld}
@@ -137,7 +137,7 @@ member-of-span held inside axis first last k d from exact there member = grind (
 -- a span was drawn
 pub attained-added : (from : ℕ) (s t : SketchData) (axis : Axis) (runs more : List Run) (first last : ℕ) (next : Branch)
     (held inside : List HeldData) → Grows s t → AreRightForks (length s.leaves) s.forks → first ≤ last
-    → AddsRun runs more first last next → IsBelow (length t.leaves) (length t.forks) next
+    → AddsRun runs more first last next → LeadsBelow (length t.leaves) (length t.forks) next
     → All (IsFromSome held axis first last) inside → IsExactSpan axis first last
     → AreAttainedAt (length s.leaves) t inside (Some next) → AreAttainedBelow from s axis runs first held
     → AreAttainedBelow from t axis more (last + 1) held

@@ -12,7 +12,7 @@ use Rattle.sf_picture.specs.declared.picture.Run.{Run}
 use Rattle.sf_picture.specs.Holding.{HeldData, AreOneLabel}
 use Rattle.sf_picture.specs.Drawing.{SketchData, IsOneHeldMore}
 use Rattle.sf_picture.specs.Narrowing.{AreNarrowedTo}
-use Rattle.sf_picture.specs.DrawnBy.{Drawing, DrawsBy, DrawsSpans, DrawsOn, DrawsEarly, DrawsLeafOf, AddsRunTo, AddsSpanTo, AreClosed, IsHeldOf}
+use Rattle.sf_picture.specs.DrawnBy.{Drawing, DrawsBy, DrawsSpans, DrawsOn, DrawsEarly, DrawsLeafOf, AddsRunTo, AddsSpanTo, EndAt, IsHeldOf}
 
 -- ---- runs
 
@@ -33,7 +33,7 @@ run-raised rs k last next d e same =
 
 -- to the end
 pub run-closed : (rs : List Run) (k last : ℕ) (d : Run) (next : Branch) → suc k ≡ length rs
-    → (get_or rs k d).next ≡ next → AreClosed rs last (set rs k (record { last = last; next = next }))
+    → (get_or rs k d).next ≡ next → EndAt rs last (set rs k (record { last = last; next = next }))
 run-closed rs k last d next e same = inr (
   take k rs,
   get_or rs k d,

@@ -23,7 +23,7 @@ use Rattle.sf_book.specs.Books.{RegionData, BookData}
 use Rattle.sf_picture.specs.declared.axis.Axis.{Axis}
 use Rattle.sf_picture.specs.declared.ends.Ends.{Ends}
 use Rattle.sf_picture.specs.Spans.{NoneInSpan, KeepsSpan, KeepsOnlySpan, IsExactSpan}
-use Rattle.sf_picture.specs.Holding.{HeldData, IsHeldBy, KeepsMembers, NoMemberAgrees, NoneIsHeldIn, IsHeldIn, IsKeptIn, IsHeldAt, IsNarrowed, IsFromSome, AreOneLabel, AreAtMost, AreEndsOf}
+use Rattle.sf_picture.specs.Holding.{HeldData, IsHeldBy, KeepsMembers, NoMemberAgrees, NoneIsHeldIn, IsHeldIn, IsKeptIn, IsHeldAt, IsHeldWithin, IsFromSome, AreOneLabel, AreAtMost, AreEndsOf}
 
 -- a condition that isn't met leaves no member
 not-met : (p : Cond → Bool) (cs : List Cond) (i : ℕ) (c : Cond) → slice_get cs i ≡ Some c → p c ≡ false
@@ -168,17 +168,17 @@ ends-more held axis ends n h e count is here before lt i k x less =
 
 -- the same again, where the ends lie in the span
 pub narrowed-same : (h k : HeldData) (axis : Axis) (e : Ends) (first last : ℕ) → k ≡ h → Covers h.facts h.piece.pool
-    → AreEndsOf h axis e → (first ≤ e.low) × (e.high ≤ last) → IsNarrowed h axis first last k
+    → AreEndsOf h axis e → (first ≤ e.low) × (e.high ≤ last) → IsHeldWithin h axis first last k
 narrowed-same h k axis e first last is covers ends within = grind (arith, common_steps)
 
 -- the same with other facts
 pub narrowed-facts : (h k : HeldData) (ns : List Node) (f : FactsView) (axis : Axis) (first last : ℕ)
     → ns ≡ h.piece.pool → k ≡ record h { facts = f } → Covers f ns
-    → (IsExactSpan axis first last → KeepsOnlySpan h.facts ns axis first last f) → IsNarrowed h axis first last k
+    → (IsExactSpan axis first last → KeepsOnlySpan h.facts ns axis first last f) → IsHeldWithin h axis first last k
 narrowed-facts h k ns f axis first last same is covers only = grind (arith, common_steps)
 
 pub from-push : (held : List HeldData) (one k : HeldData) (axis : Axis) (first last : ℕ) (inside : List HeldData)
-    → Contains held one → IsNarrowed one axis first last k → All (IsFromSome held axis first last) inside
+    → Contains held one → IsHeldWithin one axis first last k → All (IsFromSome held axis first last) inside
     → All (IsFromSome held axis first last) (inside ++ k ∷ [])
 from-push held one k axis first last inside there narrowed all =
     All-push (IsFromSome held axis first last) inside k all

@@ -8,7 +8,7 @@ use Rattle.std.proofs.lemmas.List.Elements.{All-contains, Contains-get_or, Conta
 use Rattle.std.proofs.lemmas.Option.{get_or_from_slice_get, slice_get_within}
 use Rattle.sf_picture.specs.declared.labels.Which.{Which}
 use Rattle.sf_picture.specs.Holding.{HeldData, AreOneLabel}
-use Rattle.sf_picture.specs.Narrowing.{IsGathered, IsLabelOf, AreLabelsOf}
+use Rattle.sf_picture.specs.Narrowing.{IsGathered, IsHeldLabel, AreLabelsOf}
 use Rattle.std.specs.Ordering.{nat_cmp}
 use Rattle.std.specs.BTreeSet.{BTreeSet, contains, Updates}
 use Rattle.std.proofs.lemmas.Cmp.{nat_cmp_total}
@@ -67,12 +67,12 @@ gathered-more which h old new is more n = (
 pub label-one : (which : Which) (held : List HeldData) (i : ℕ) (h : HeldData) (old new : List ℕ) → i < length held
     → h ≡ get_or held i h
     → ((n : ℕ) → Contains new n ↔ (Contains old n ⊎ ((n ≡ h.label) × IsGathered which h)))
-    → ((n : ℕ) → Contains old n ↔ IsLabelOf which (take i held) n)
-    → (n : ℕ) → Contains new n ↔ IsLabelOf which (take (i + 1) held) n
+    → ((n : ℕ) → Contains old n ↔ IsHeldLabel which (take i held) n)
+    → (n : ℕ) → Contains new n ↔ IsHeldLabel which (take (i + 1) held) n
 label-one which held i h old new l is more before n =
     let whole : take (i + 1) held ≡ take i held ++ h ∷ [] =
     take_more held i h l ∙ ap (λ (k : HeldData). take i held ++ k ∷ []) (sym is) in
-    subst (λ (hs : List HeldData). Contains new n ↔ IsLabelOf which hs n) (sym whole) (
+    subst (λ (hs : List HeldData). Contains new n ↔ IsHeldLabel which hs n) (sym whole) (
       λ there. elim ((more n).0 there) [
         | inl was ↦ (let of = (before n).0 was in record {
           held_one = of.held_one;
@@ -103,11 +103,11 @@ label-one which held i h old new l is more before n =
 
 -- and all
 pub labels-exact : (which : Which) (held : List HeldData) (keys list : List ℕ) (n : ℕ) → length held ≤ n → list ≡ keys
-    → IsStrictlyIncreasing list → ((m : ℕ) → Contains keys m ↔ IsLabelOf which (take n held) m)
+    → IsStrictlyIncreasing list → ((m : ℕ) → Contains keys m ↔ IsHeldLabel which (take n held) m)
     → AreLabelsOf which held list
 labels-exact which held keys list n le same rising each = record {
-  each = λ m. subst (λ (l : List ℕ). Contains l m ↔ IsLabelOf which held m) (sym same)
-      (subst (λ (hs : List HeldData). Contains keys m ↔ IsLabelOf which hs m) (take_all n held le) (each m));
+  each = λ m. subst (λ (l : List ℕ). Contains l m ↔ IsHeldLabel which held m) (sym same)
+      (subst (λ (hs : List HeldData). Contains keys m ↔ IsHeldLabel which hs m) (take_all n held le) (each m));
   rising = rising;
 }
 

@@ -21,7 +21,7 @@ use Rattle.sf_picture.specs.declared.picture.Run.{Run}
 use Rattle.sf_picture.specs.PictureData.{ForkData, PictureData}
 use Rattle.sf_picture.specs.Holding.{HeldData}
 use Rattle.sf_picture.specs.Drawing.{SketchData, EndsElsewhere}
-use Rattle.sf_picture.specs.DrawnBy.{IsFirstAt, IsKeptOnce, DrawsLeaf, DrawsLabels, DrawsLeafOf, AddsRunTo, AddsSpanTo, AreClosed, DrawsFork, LeadRunsTo, ClosesTo, Drawing, DrawsSpans, DrawsOn, DrawsBy, BeginsAt, DrawsRoot, IsHeldOf, HasPicture, empty_sketch}
+use Rattle.sf_picture.specs.DrawnBy.{IsFirstAt, IsKeptOnce, DrawsLeaf, DrawsLabels, DrawsLeafOf, AddsRunTo, AddsSpanTo, EndAt, DrawsFork, LeadRunsTo, ClosesTo, Drawing, DrawsSpans, DrawsOn, DrawsBy, BeginsAt, DrawsRoot, IsHeldOf, HasPicture, empty_sketch}
 use Rattle.sf_picture.proofs.OneCutting.{same-cuts, small-cuts}
 use Rattle.sf_picture.proofs.NarrowLemmas.{equal-back}
 use Rattle.sf_picture.proofs.OneNarrowing.{AreSameHeld, AreAllSame, all-back, same-axes, same-lasts, same-labels, one-label-as, same-inside}
@@ -135,7 +135,7 @@ not-empty : (before old : List Run) (r : Run) → old ≡ [] → old ≡ before 
 not-empty before old r none some =
     let a = ap length none in let b = ap length some in let long = length_push before r in omega arith
 
-one-closing : (old : List Run) (last : ℕ) (new more : List Run) → AreClosed old last new → AreClosed old last more
+one-closing : (old : List Run) (last : ℕ) (new more : List Run) → EndAt old last new → EndAt old last more
     → new ≡ more
 one-closing old last new more (inl x) (inl y) = x.1 ∙ sym y.1
 one-closing old last new more (inl x) (inr y) = absurd (not-empty y.0 old y.1 x.0 y.2)

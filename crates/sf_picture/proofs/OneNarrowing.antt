@@ -22,7 +22,7 @@ use Rattle.sf_picture.specs.declared.labels.Which.TheVariants.{All as AllOf, Lef
 use Rattle.sf_picture.specs.Axes.{axis_places, axis_order}
 use Rattle.sf_picture.specs.Drawing.{IsLastOfCut}
 use Rattle.sf_picture.specs.Holding.{HeldData, AreOneLabel}
-use Rattle.sf_picture.specs.Narrowing.{IsCutAxis, AreAxes, AreLastNumbers, ends_on, ends_of, lie_in, miss, learnt_in_span, TakeInSpan, CantTakeInSpan, IsConfined, IsKeptOf, IsNarrowedTo, AreNarrowedTo, CanLearnAgain, IsGathered, IsLabelOf, AreLabelsOf}
+use Rattle.sf_picture.specs.Narrowing.{IsCutAxis, AreAxes, AreLastNumbers, ends_on, ends_of, lie_in, miss, learnt_in_span, TakeInSpan, CantTakeInSpan, IsConfined, IsKeptOf, IsNarrowedTo, AreNarrowedTo, CanLearnAgain, IsGathered, IsHeldLabel, AreLabelsOf}
 use Rattle.sf_picture.specs.Pictures.{AreEachOnce}
 use Rattle.sf_picture.proofs.NarrowLemmas.{equal-back}
 
@@ -287,8 +287,8 @@ gathered-as : (which : Which) (h k : HeldData) → AreSameHeld h k → IsGathere
 gathered-as AllOf h k e is = tt
 gathered-as Left h k e is = again-as h k e is
 
-label-to : (which : Which) (held others : List HeldData) (n : ℕ) → AreAllSame held others → IsLabelOf which held n
-    → IsLabelOf which others n
+label-to : (which : Which) (held others : List HeldData) (n : ℕ) → AreAllSame held others → IsHeldLabel which held n
+    → IsHeldLabel which others n
 label-to which held others n same is =
     let o = other-one held others is.held_one same is.there in
     record {

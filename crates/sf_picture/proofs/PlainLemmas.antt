@@ -20,7 +20,7 @@ use Rattle.sf_picture.specs.declared.cuts.Cut.{Cut}
 use Rattle.sf_picture.specs.Pictures.{number_on}
 use Rattle.sf_picture.specs.Spans.{Span, IsInSpan, IsExactSpan}
 use Rattle.sf_picture.specs.Cuts.{LiesBetween, IsPlainCut, AreCutsOf}
-use Rattle.sf_picture.specs.Holding.{HeldData, IsHeldBy, IsNarrowed, IsFromSome, AreOneLabel}
+use Rattle.sf_picture.specs.Holding.{HeldData, IsHeldBy, IsHeldWithin, IsFromSome, AreOneLabel}
 use Rattle.sf_picture.specs.PlainHolding.{IsPlainHeld, IsUncut, IsCutOn, IsPlainTask, IsUncutIn, IsPlainSpan}
 use Rattle.sf_picture.specs.Drawing.{IsLastOfCut, EndSpans}
 use Rattle.sf_picture.proofs.LastLemmas.{HasAxes}
@@ -72,7 +72,7 @@ one-label s labels box held axes at task le h k ih ik =
 -- ---- from axis to axis
 
 child-held : (s : BookData) (labels : List ℕ) (box : List Span) (span : Span) (h k : HeldData)
-    → IsPlainHeld s labels box h → IsNarrowed h span.axis span.first span.last k
+    → IsPlainHeld s labels box h → IsHeldWithin h span.axis span.first span.last k
     → IsExactSpan span.axis span.first span.last → IsPlainHeld s labels (span ∷ box) k
 child-held s labels box span h k p n exact = grind (arith, common_steps)
 

@@ -4,7 +4,7 @@ use Rattle.std.proofs.Common.{◌≡◌, ◌≢◌, ℕ, zero, suc, ◌<◌, ◌
 use Rattle.std.proofs.lemmas.Bool.{cases_lt}
 use Rattle.sf_picture.specs.declared.picture.Branch.{Branch}
 use Rattle.sf_picture.specs.declared.picture.Run.{Run}
-use Rattle.sf_picture.specs.Pictures.{next_of, RiseFrom, AreApart, LeadBelow, IsBelow, end_of}
+use Rattle.sf_picture.specs.Pictures.{next_of, RiseFrom, LeadApart, LeadBelow, LeadsBelow, end_of}
 use Rattle.sf_picture.specs.PictureLaws.{next-here, next-later}
 use Rattle.sf_picture.specs.Drawing.{EndBelow, EndsElsewhere, AreRuns, AddsRun, ClosesRuns}
 
@@ -42,19 +42,19 @@ ends-push : (rs : List Run) (r : Run) (first : ℕ) → EndBelow first rs → fi
 ends-push [] r first h above = (omega arith, tt)
 ends-push (x ∷ xs) r first h above = let end = h.0 in (omega arith, ends-push xs r first h.1 above)
 
-lead-push : (leaves place : ℕ) (rs : List Run) (r : Run) → LeadBelow leaves place rs → IsBelow leaves place r.next
+lead-push : (leaves place : ℕ) (rs : List Run) (r : Run) → LeadBelow leaves place rs → LeadsBelow leaves place r.next
     → LeadBelow leaves place (rs ++ r ∷ [])
 lead-push leaves place [] r h below = (below, tt)
 lead-push leaves place (x ∷ xs) r h below = (h.0, lead-push leaves place xs r h.1 below)
 
-apart-push : (rs : List Run) (r : Run) → AreApart rs → EndsElsewhere rs r.next → AreApart (rs ++ r ∷ [])
+apart-push : (rs : List Run) (r : Run) → LeadApart rs → EndsElsewhere rs r.next → LeadApart (rs ++ r ∷ [])
 apart-push [] r h other = tt
 apart-push (x ∷ []) r h other = (other 0 x refl, tt)
 apart-push (x ∷ y ∷ ys) r h other = (h.0, apart-push (y ∷ ys) r h.1 (λ i d e. other (suc i) d (ap suc e)))
 
 -- another run is added, which leads elsewhere than the last one
 pub adds-push : (leaves forks first : ℕ) (rs : List Run) (r : Run) → first ≤ r.last → EndsElsewhere rs r.next
-    → AreRuns leaves forks first rs → IsBelow leaves forks r.next
+    → AreRuns leaves forks first rs → LeadsBelow leaves forks r.next
     → AreRuns leaves forks (r.last + 1) (rs ++ r ∷ []) × AddsRun rs (rs ++ r ∷ []) first r.last r.next
 adds-push leaves forks first rs r le other h below =
     grind (arith, common_steps, rise-push, apart-push, lead-push, ends-push, next-push, next-added)
@@ -110,15 +110,15 @@ raise-ends (x ∷ xs) (suc k) y first e h le =
     let end = h.0 in (omega arith, raise-ends xs k y first (omega arith) h.1 le)
 
 raise-lead : (leaves place : ℕ) (rs : List Run) (k : ℕ) (y : Run) → LeadBelow leaves place rs
-    → IsBelow leaves place y.next → LeadBelow leaves place (set rs k y)
+    → LeadsBelow leaves place y.next → LeadBelow leaves place (set rs k y)
 raise-lead leaves place [] k y h below = tt
 raise-lead leaves place (x ∷ xs) zero y h below = (below, h.1)
 raise-lead leaves place (x ∷ xs) (suc k) y h below = (h.0, raise-lead leaves place xs k y h.1 below)
 
 raise-apart : (rs : List Run) (k : ℕ) (d y : Run) → suc k ≡ length rs → (get_or rs k d).next ≡ y.next
-    → AreApart rs → AreApart (set rs k y)
+    → LeadApart rs → LeadApart (set rs k y)
 raise-apart [] k d y e same h = absurd (omega arith)
-raise-apart (x ∷ xs) zero d y e same h = subst (λ (ys : List Run). AreApart (y ∷ ys)) (sym (only-one xs e)) tt
+raise-apart (x ∷ xs) zero d y e same h = subst (λ (ys : List Run). LeadApart (y ∷ ys)) (sym (only-one xs e)) tt
 raise-apart (x ∷ []) (suc k) d y e same h = absurd (omega arith)
 raise-apart (x ∷ z ∷ zs) (suc zero) d y e same h =
     let here : z.next ≡ y.next = same in
@@ -129,7 +129,7 @@ raise-apart (x ∷ z ∷ zs) (suc (suc k)) d y e same h =
 -- the last run goes on to a higher number
 pub adds-raise : (leaves forks first : ℕ) (rs : List Run) (k : ℕ) (d y : Run) → suc k ≡ length rs → first ≤ y.last
     → (get_or rs k d).next ≡ y.next → (get_or rs k d).last < first → AreRuns leaves forks first rs
-    → IsBelow leaves forks y.next
+    → LeadsBelow leaves forks y.next
     → AreRuns leaves forks (y.last + 1) (set rs k y) × AddsRun rs (set rs k y) first y.last y.next
 adds-raise leaves forks first rs k d y e le same end h below =
     search (arith, raise-rise, raise-apart, raise-lead, raise-ends, raise-next, raise-added)
@@ -143,7 +143,7 @@ end-at (x ∷ xs) (suc k) d first lt h = end-at xs k d first (omega arith) h.1
 
 -- where a run leads is below
 pub lead-at : (leaves place : ℕ) (rs : List Run) (k : ℕ) (d : Run) → k < length rs → LeadBelow leaves place rs
-    → IsBelow leaves place (get_or rs k d).next
+    → LeadsBelow leaves place (get_or rs k d).next
 lead-at leaves place [] k d lt h = absurd (omega arith)
 lead-at leaves place (x ∷ xs) zero d lt h = h.0
 lead-at leaves place (x ∷ xs) (suc k) d lt h = lead-at leaves place xs k d (omega arith) h.1

@@ -11,13 +11,13 @@ use Rattle.sf_picture.specs.declared.picture.Branch.{Branch}
 use Rattle.sf_picture.specs.declared.picture.Branch.TheVariants.{Leaf, Fork}
 use Rattle.sf_picture.specs.declared.picture.Run.{Run}
 use Rattle.sf_picture.specs.PictureData.{ForkData}
-use Rattle.sf_picture.specs.Pictures.{number_on, next_of, fork_at, labels_along, LeadBelow, IsBelow, AreEachOnce, AreRightForks, IsRightFork}
+use Rattle.sf_picture.specs.Pictures.{number_on, next_of, fork_at, labels_along, LeadBelow, LeadsBelow, AreEachOnce, AreRightForks, IsRightFork}
 use Rattle.sf_picture.specs.Drawing.{SketchData, Grows, shown_at, IsForkOf, LeadsAs, ClosesRuns, IsRightSketch}
 use Rattle.sf_picture.specs.PictureLaws.{lead-next, next-here, next-later}
 
 -- a branch leads below more
-pub below-more : (leaves leaves' n n' : ℕ) (b : Branch) → leaves ≤ leaves' → n ≤ n' → IsBelow leaves n b
-    → IsBelow leaves' n' b
+pub below-more : (leaves leaves' n n' : ℕ) (b : Branch) → leaves ≤ leaves' → n ≤ n' → LeadsBelow leaves n b
+    → LeadsBelow leaves' n' b
 below-more leaves leaves' n n' (Leaf i) le le' h = omega arith
 below-more leaves leaves' n n' (Fork i) le le' h = omega arith
 
@@ -31,7 +31,7 @@ lead-more leaves leaves' n n' (r ∷ rs) le le' h =
 pub same-along : (ls ls' : List (List ℕ)) (fs fs' : List ForkData) (d : Input)
     → ((i : ℕ) → i < length ls → slice_index_or ls' i [] ≡ slice_index_or ls i [])
     → ((i : ℕ) → i < length fs → fork_at fs' i ≡ fork_at fs i) → AreRightForks (length ls) fs
-    → (n m : ℕ) (b : Branch) → IsBelow (length ls) n b → n ≤ length fs → n ≤ m
+    → (n m : ℕ) (b : Branch) → LeadsBelow (length ls) n b → n ≤ length fs → n ≤ m
     → labels_along ls' fs' m (Some b) d ≡ labels_along ls fs n (Some b) d
 same-along ls ls' fs fs' d same-leaves same-forks right n m (Leaf i) below in' le = same-leaves i below
 same-along ls ls' fs fs' d same-leaves same-forks right zero m (Fork i) below in' le = absurd (omega arith)
@@ -44,7 +44,8 @@ same-along ls ls' fs fs' d same-leaves same-forks right (suc n) (suc m) (Fork i)
     (below-more (length ls) (length ls) i n c (omega arith) (omega arith) lower) (omega arith) (omega arith))
   where
     by : (o : Option Branch) → next_of (fork_at fs i).runs (number_on (fork_at fs i).axis d) ≡ o
-        → ((c : Branch) → IsBelow (length ls) i c → labels_along ls' fs' m (Some c) d ≡ labels_along ls fs n (Some c) d)
+        → ((c : Branch) → LeadsBelow (length ls) i c → labels_along ls' fs' m (Some c) d
+        ≡ labels_along ls fs n (Some c) d)
         → labels_along ls' fs' m o d ≡ labels_along ls fs n o d
     by None e rest = refl
     by (Some c) e rest = let within : i < length fs = omega arith in
@@ -66,8 +67,8 @@ pub longer : {X : Type 0} (a b more : List X) → b ≡ a ++ more → length a �
 longer {X = X} a b more e = omega (arith, ap length e, length-append a more)
 
 -- a branch that led into it leads into it still
-pub grows-below : (s t : SketchData) (b : Branch) → Grows s t → IsBelow (length s.leaves) (length s.forks) b
-    → IsBelow (length t.leaves) (length t.forks) b
+pub grows-below : (s t : SketchData) (b : Branch) → Grows s t → LeadsBelow (length s.leaves) (length s.forks) b
+    → LeadsBelow (length t.leaves) (length t.forks) b
 grows-below s t b g h = grind (arith, common_steps, below-more, longer)
 
 pub grows-lead : (s t : SketchData) (rs : List Run) → Grows s t → LeadBelow (length s.leaves) (length s.forks) rs
@@ -76,7 +77,7 @@ grows-lead s t rs g h = grind (arith, common_steps, lead-more, longer)
 
 -- and shows the same
 pub grows-shown : (s t : SketchData) (b : Branch) (d : Input) → Grows s t → AreRightForks (length s.leaves) s.forks
-    → IsBelow (length s.leaves) (length s.forks) b → shown_at t (Some b) d ≡ shown_at s (Some b) d
+    → LeadsBelow (length s.leaves) (length s.forks) b → shown_at t (Some b) d ≡ shown_at s (Some b) d
 grows-shown s t b d g right h = grind (arith, common_steps, same-along, get_or_append_left, longer)
 
 -- from a fork on, an input is shown what it is shown from where its number leads
@@ -92,7 +93,7 @@ fork-shown s axis runs i d c right lt is found = by (length s.forks) refl
     here : next_of (fork_at s.forks i).runs (number_on (fork_at s.forks i).axis d) ≡ Some c
     here = rw is found
 
-    lower : IsBelow (length s.leaves) i c
+    lower : LeadsBelow (length s.leaves) i c
     lower = lead-next (length s.leaves) i (fork_at s.forks i).runs (number_on (fork_at s.forks i).axis d) c
         (right i lt).below here
 

@@ -134,18 +134,18 @@ pub record IsCutBy (axis : Axis) (test : Test) (number : ℕ) (c : Cut) : Type 0
 -- ---- windows
 
 -- with these bits fixed besides, to 0 and to 1
-abbrev pub with_bits : FixedBits → ℕ → ℕ → FixedBits
-with_bits f zeros ones = record { zeros = bit_or f.zeros zeros; ones = bit_or f.ones ones }
+abbrev pub with_fixed_bits : FixedBits → ℕ → ℕ → FixedBits
+with_fixed_bits f zeros ones = record { zeros = bit_or f.zeros zeros; ones = bit_or f.ones ones }
 
 -- The bits that are fixed besides by a test with this result. Where a test of bits fails, all bits for which it asks
 -- are 0. Where it is passed, and asks for only one bit, this is 1. Where a part of a word equals a number, its bits are
 -- those of the number. Nothing else fixes a bit, not even that a whole word equals a number.
 abbrev pub fixed_by : FixedBits → Axis → Test → ℕ → Bool → FixedBits
-fixed_by f axis AnyBit number false = with_bits f (bit_and axis.mask number) 0
+fixed_by f axis AnyBit number false = with_fixed_bits f (bit_and axis.mask number) 0
 fixed_by f axis AnyBit number true =
-    if is_power_of_two (bit_and axis.mask number) then with_bits f 0 (bit_and axis.mask number) else f
+    if is_power_of_two (bit_and axis.mask number) then with_fixed_bits f 0 (bit_and axis.mask number) else f
 fixed_by f axis Equal number true = if axis.mask == 4294967295 then f
-    else with_bits f (bit_and axis.mask (4294967295 - number)) (bit_and axis.mask number)
+    else with_fixed_bits f (bit_and axis.mask (4294967295 - number)) (bit_and axis.mask number)
 fixed_by f axis _ number _ = f
 
 -- the fixed bits of a word, with those that a test fixes, if it is of this word

@@ -9,7 +9,7 @@ use Rattle.sf_picture.specs.declared.picture.Branch.{Branch}
 use Rattle.sf_picture.specs.declared.picture.Branch.TheVariants.{Leaf, Fork}
 use Rattle.sf_picture.specs.declared.picture.Run.{Run}
 use Rattle.sf_picture.specs.PictureData.{ForkData}
-use Rattle.sf_picture.specs.Pictures.{number_on, next_of, fork_at, labels_along, AreRightForks, IsBelow, RiseFrom, AreApart, LeadBelow, end_of}
+use Rattle.sf_picture.specs.Pictures.{number_on, next_of, fork_at, labels_along, AreRightForks, LeadsBelow, RiseFrom, LeadApart, LeadBelow, end_of}
 pub use Rattle.sf_picture.specs.HeldData.{SketchData}
 pub use Rattle.sf_picture.specs.Narrowing.{IsLastOfCut}
 pub use Rattle.sf_picture.specs.DrawnBy.{EndsElsewhere}
@@ -47,7 +47,7 @@ shown_at s b d = labels_along s.leaves s.forks (length s.forks) b d
 
 -- a branch leads into the sketch, and each member is shown its label from there on
 pub record IsShownAt (s : SketchData) (b : Branch) (held : List HeldData) : Type 0 where
-  pub below : IsBelow (length s.leaves) (length s.forks) b
+  pub below : LeadsBelow (length s.leaves) (length s.forks) b
   pub shows : All (λ (h : HeldData). (d : Input) → IsHeldBy h d → Contains (shown_at s (Some b) d) h.label) held
 
 -- none of what is held has a member
@@ -73,7 +73,7 @@ EndBelow first (r ∷ rs) = (r.last < first) × EndBelow first rs
 -- they lead into a sketch with so many leaves and forks.
 pub record AreRuns (leaves forks first : ℕ) (rs : List Run) : Type 0 where
   pub rising : RiseFrom 0 rs
-  pub apart : AreApart rs
+  pub apart : LeadApart rs
   pub lead : LeadBelow leaves forks rs
   pub ends : EndBelow first rs
 
@@ -86,12 +86,12 @@ pub record AddsRun (old new : List Run) (first last : ℕ) (next : Branch) : Typ
 -- `last` leads to the branch.
 abbrev pub AreRunsTo : List Run → List Run → ℕ → Branch → Type 0
 AreRunsTo old new last next = (leaves forks first : ℕ) → first ≤ last → AreRuns leaves forks first old
-    → IsBelow leaves forks next → AreRuns leaves forks (last + 1) new × AddsRun old new first last next
+    → LeadsBelow leaves forks next → AreRuns leaves forks (last + 1) new × AddsRun old new first last next
 
 -- the same runs, of which the last one goes on to a number
 pub record ClosesRuns (leaves forks last : ℕ) (old new : List Run) : Type 0 where
   pub rising : RiseFrom 0 new
-  pub apart : AreApart new
+  pub apart : LeadApart new
   pub lead : LeadBelow leaves forks new
   pub ends : 0 < length new → end_of new ≡ last
   pub keeps : (n : ℕ) (b : Branch) → next_of old n ≡ Some b → next_of new n ≡ Some b
@@ -99,7 +99,7 @@ pub record ClosesRuns (leaves forks last : ℕ) (old new : List Run) : Type 0 wh
 -- The branch stands for the runs: it leads into the sketch, and each input whose number of the axis is found by the
 -- runs is shown from the branch on what it is shown from where its run leads.
 pub record LeadsAs (s : SketchData) (axis : Axis) (runs : List Run) (b : Branch) : Type 0 where
-  pub below : IsBelow (length s.leaves) (length s.forks) b
+  pub below : LeadsBelow (length s.leaves) (length s.forks) b
   pub shows : (d : Input) (c : Branch) → next_of runs (number_on axis d) ≡ Some c
       → shown_at s (Some b) d ≡ shown_at s (Some c) d
 
@@ -107,7 +107,7 @@ pub record LeadsAs (s : SketchData) (axis : Axis) (runs : List Run) (b : Branch)
 -- sketch, and from there on the member is shown its label
 abbrev pub IsFoundBelow : SketchData → Axis → List Run → ℕ → HeldData → Type 0
 IsFoundBelow s axis runs first h = (d : Input) → IsHeldBy h d → number_on axis d < first
-    → (b : Branch) × (next_of runs (number_on axis d) ≡ Some b) × IsBelow (length s.leaves) (length s.forks) b
+    → (b : Branch) × (next_of runs (number_on axis d) ≡ Some b) × LeadsBelow (length s.leaves) (length s.forks) b
     × Contains (shown_at s (Some b) d) h.label
 
 -- The last numbers of the spans into which what is held cuts an axis: those of all cuts, in ascending order, and then
@@ -145,7 +145,7 @@ pub record IsAttainedBelow (s : SketchData) (axis : Axis) (runs : List Run) (fir
   pub before : number_on axis input < first
   pub next : Branch
   pub found : next_of runs (number_on axis input) ≡ Some next
-  pub below : IsBelow (length s.leaves) (length s.forks) next
+  pub below : LeadsBelow (length s.leaves) (length s.forks) next
   pub shown : shown_at s (Some next) input ≡ slice_index_or s.leaves place []
 
 -- the same for each leaf from a place on

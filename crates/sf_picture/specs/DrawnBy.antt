@@ -73,8 +73,8 @@ AddsSpanTo old last None new = new ≡ old
 AddsSpanTo old last (Some next) new = AddsRunTo old last next new
 
 -- the last run goes on to the number `last`; where there is no run, none is added
-abbrev pub AreClosed : List Run → ℕ → List Run → Type 0
-AreClosed old last new = ((old ≡ []) × (new ≡ []))
+abbrev pub EndAt : List Run → ℕ → List Run → Type 0
+EndAt old last new = ((old ≡ []) × (new ≡ []))
     ⊎ ((before : List Run) × (r : Run) × (old ≡ before ++ r ∷ [])
     × (new ≡ before ++ run_to last r.next ∷ []))
 
@@ -95,7 +95,7 @@ LeadRunsTo axis (r ∷ q ∷ runs) s t b =
 
 -- the last run of an axis goes on to the axis's greatest number, and this is the branch for the runs then
 abbrev pub ClosesTo : Axis → List Run → SketchData → SketchData → Option Branch → Type 0
-ClosesTo axis runs s t b = (closed : List Run) × AreClosed runs axis.mask closed × LeadRunsTo axis closed s t b
+ClosesTo axis runs s t b = (closed : List Run) × EndAt runs axis.mask closed × LeadRunsTo axis closed s t b
 
 -- ---- drawing
 

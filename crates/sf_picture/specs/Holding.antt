@@ -61,7 +61,7 @@ IsKeptIn inside axis first last h = (d : Input) → IsHeldBy h d → IsInSpan ax
 -- k is held of the same region as h, under the same label and with the same cuts. Where the span is one to which facts
 -- are confined exactly, each input that agrees with the facts of k agrees with those of h, and has a number of the
 -- span.
-pub record IsNarrowed (h : HeldData) (axis : Axis) (first last : ℕ) (k : HeldData) : Type 0 where
+pub record IsHeldWithin (h : HeldData) (axis : Axis) (first last : ℕ) (k : HeldData) : Type 0 where
   pub piece : k.piece ≡ h.piece
   pub label : k.label ≡ h.label
   pub cuts : k.cuts ≡ h.cuts
@@ -73,7 +73,7 @@ pub record IsNarrowed (h : HeldData) (axis : Axis) (first last : ℕ) (k : HeldD
 pub record IsFromSome (held : List HeldData) (axis : Axis) (first last : ℕ) (k : HeldData) : Type 0 where
   pub held_one : HeldData
   pub there : Contains held held_one
-  pub narrowed : IsNarrowed held_one axis first last k
+  pub narrowed : IsHeldWithin held_one axis first last k
 
 -- no label but this one, and that at most once
 abbrev pub AreAtMost : ℕ → List ℕ → Type 0

@@ -149,7 +149,7 @@ IsGathered All h = ⊤
 IsGathered Left h = CanLearnAgain h
 
 -- something held has this label, and it is gathered
-pub record IsLabelOf (which : Which) (held : List HeldData) (label : ℕ) : Type 0 where
+pub record IsHeldLabel (which : Which) (held : List HeldData) (label : ℕ) : Type 0 where
   pub held_one : HeldData
   pub there : Contains held held_one
   pub label_is : held_one.label ≡ label
@@ -157,5 +157,5 @@ pub record IsLabelOf (which : Which) (held : List HeldData) (label : ℕ) : Type
 
 -- the labels that are gathered, each once, in rising order
 pub record AreLabelsOf (which : Which) (held : List HeldData) (labels : List ℕ) : Type 0 where
-  pub each : (label : ℕ) → Contains labels label ↔ IsLabelOf which held label
+  pub each : (label : ℕ) → Contains labels label ↔ IsHeldLabel which held label
   pub rising : IsStrictlyIncreasing labels

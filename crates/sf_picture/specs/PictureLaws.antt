@@ -12,7 +12,7 @@ use Rattle.sf_picture.specs.declared.picture.Branch.{Branch}
 use Rattle.sf_picture.specs.declared.picture.Branch.TheVariants.{Leaf, Fork}
 use Rattle.sf_picture.specs.declared.picture.Run.{Run}
 use Rattle.sf_picture.specs.PictureData.{ForkData, PictureData}
-use Rattle.sf_picture.specs.Pictures.{number_on, next_of, fork_at, labels_along, labels_at, leaf_along, end_of, IsBelow, LeadBelow, IsRightFork, AreRightForks, IsPicture, LiesAtLeaf, ShowsLabels}
+use Rattle.sf_picture.specs.Pictures.{number_on, next_of, fork_at, labels_along, labels_at, leaf_along, end_of, LeadsBelow, LeadBelow, IsRightFork, AreRightForks, IsPicture, LiesAtLeaf, ShowsLabels}
 
 -- the first run of a list, by whether the number is in it
 pub next-here : (r : Run) (rs : List Run) (n : ℕ) → n ≤ r.last → next_of (r ∷ rs) n ≡ Some r.next
@@ -23,12 +23,12 @@ next-later r rs n lt = rw (lt-leb n r.last lt) refl
 
 -- where a number is found leads below
 pub lead-next : (leaves place : ℕ) (rs : List Run) (n : ℕ) (b : Branch) → LeadBelow leaves place rs
-    → next_of rs n ≡ Some b → IsBelow leaves place b
+    → next_of rs n ≡ Some b → LeadsBelow leaves place b
 lead-next leaves place [] n b h found = absurd (cc)
 lead-next leaves place (x ∷ xs) n b h found = elim (cases_lt x.last n) [
   | inl lt ↦ lead-next leaves place xs n b h.1 (sym (next-later x xs n lt) ∙ found)
   | inr le ↦ (let same : x.next ≡ b = cc (next-here x xs n le, found) in
-      subst (IsBelow leaves place) same h.0)
+      subst (LeadsBelow leaves place) same h.0)
 ]
 
 -- a number that isn't above the last number of all runs is found
@@ -42,7 +42,7 @@ next-some (r ∷ s ∷ rs) n some le = elim (cases_lt r.last n) [
 
 -- the leaf at which an input lies, from a branch on
 lies-along : (ls : List (List ℕ)) (fs : List ForkData) (d : Input) → AreRightForks (length ls) fs → (n : ℕ) (b : Branch)
-    → n ≤ length fs → IsBelow (length ls) n b
+    → n ≤ length fs → LeadsBelow (length ls) n b
     → (place : ℕ) × (leaf_along fs n (Some b) d ≡ Some place) × (place < length ls)
     × (labels_along ls fs n (Some b) d ≡ slice_index_or ls place [])
 lies-along ls fs d right n (Leaf i) le below = (i, refl, below, refl)
@@ -55,7 +55,7 @@ lies-along ls fs d right (suc n) (Fork i) le below =
     let most : number_on f.axis d ≤ f.axis.mask = and_le_r (slice_index d.words f.axis.word) f.axis.mask in
     let whole = r.whole in
     let found = next-some f.runs (number_on f.axis d) (omega arith) (omega arith) in
-    let lower : IsBelow (length ls) i found.0 =
+    let lower : LeadsBelow (length ls) i found.0 =
     lead-next (length ls) i f.runs (number_on f.axis d) found.0 r.below found.1 in
     let rest = lies-along ls fs d right n found.0 (omega arith)
     (below-suc (length ls) i n found.0 (omega arith) lower) in (
@@ -65,7 +65,7 @@ lies-along ls fs d right (suc n) (Fork i) le below =
       ap (λ (o : Option Branch). labels_along ls fs n o d) found.1 ∙ rest.3,
     )
   where
-    below-suc : (leaves i n : ℕ) (b : Branch) → i ≤ n → IsBelow leaves i b → IsBelow leaves n b
+    below-suc : (leaves i n : ℕ) (b : Branch) → i ≤ n → LeadsBelow leaves i b → LeadsBelow leaves n b
     below-suc leaves i n (Leaf j) le h = h
     below-suc leaves i n (Fork j) le h = omega arith
 

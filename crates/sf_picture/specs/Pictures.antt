@@ -37,9 +37,9 @@ abbrev pub labels_at : PictureData → Input → List ℕ
 labels_at p d = labels_along p.leaves p.forks (length p.forks) (Some p.root) d
 
 -- a branch leads to one of this many leaves, or to a fork at a place below
-abbrev pub IsBelow : ℕ → ℕ → Branch → Type 0
-IsBelow leaves place (Leaf i) = i < leaves
-IsBelow leaves place (Fork i) = i < place
+abbrev pub LeadsBelow : ℕ → ℕ → Branch → Type 0
+LeadsBelow leaves place (Leaf i) = i < leaves
+LeadsBelow leaves place (Fork i) = i < place
 
 -- the last numbers of runs rise, and the first of them is at least this number
 abbrev pub RiseFrom : ℕ → List Run → Type 0
@@ -47,10 +47,10 @@ RiseFrom low [] = Unit {0}
 RiseFrom low (r ∷ rs) = (low ≤ r.last) × RiseFrom (r.last + 1) rs
 
 -- no two neighbours among runs lead to the same branch
-abbrev pub AreApart : List Run → Type 0
-AreApart [] = Unit {0}
-AreApart (r ∷ []) = Unit {0}
-AreApart (r ∷ s ∷ rs) = (r.next ≢ s.next) × AreApart (s ∷ rs)
+abbrev pub LeadApart : List Run → Type 0
+LeadApart [] = Unit {0}
+LeadApart (r ∷ []) = Unit {0}
+LeadApart (r ∷ s ∷ rs) = (r.next ≢ s.next) × LeadApart (s ∷ rs)
 
 -- the last number of the last run
 abbrev pub end_of : List Run → ℕ
@@ -61,7 +61,7 @@ end_of (r ∷ s ∷ rs) = end_of (s ∷ rs)
 -- each run leads to one of this many leaves, or to a fork at a place below
 abbrev pub LeadBelow : ℕ → ℕ → List Run → Type 0
 LeadBelow leaves place [] = Unit {0}
-LeadBelow leaves place (r ∷ rs) = IsBelow leaves place r.next × LeadBelow leaves place rs
+LeadBelow leaves place (r ∷ rs) = LeadsBelow leaves place r.next × LeadBelow leaves place rs
 
 -- The fork at a place is right: its axis is of a word of the input, its runs are at least two, their last numbers rise
 -- to the greatest number of the axis, no two neighbours lead to the same, and each leads to a leaf or to a fork at a
@@ -71,7 +71,7 @@ pub record IsRightFork (leaves place : ℕ) (f : ForkData) : Type 0 where
   pub several : 2 ≤ length f.runs
   pub rising : RiseFrom 0 f.runs
   pub whole : end_of f.runs ≡ f.axis.mask
-  pub apart : AreApart f.runs
+  pub apart : LeadApart f.runs
   pub below : LeadBelow leaves place f.runs
 
 -- each fork is right at its place, in a picture with this many leaves
@@ -86,7 +86,7 @@ AreEachOnce xs = AllPairs (λ x y. x ≢ y) xs
 -- and no two forks: branches that lead to equal ones are the same. Each leaf has each of its labels once, in
 -- rising order.
 pub record IsPicture (p : PictureData) : Type 0 where
-  pub root : IsBelow (length p.leaves) (length p.forks) p.root
+  pub root : LeadsBelow (length p.leaves) (length p.forks) p.root
   pub forks : AreRightForks (length p.leaves) p.forks
   pub leaves_once : AreEachOnce p.leaves
   pub forks_once : AreEachOnce p.forks

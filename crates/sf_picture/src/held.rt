@@ -9,7 +9,7 @@ ghost use Rattle.sf_insn.specs.declared.input.Input.{Input as AnInput};
 ghost use Rattle.sf_picture.specs.Cuts.{AreCutsOf};
 ghost use Rattle.sf_picture.specs.Cutting.{AreCutsBy};
 ghost use Rattle.sf_picture.specs.Narrowing.{ends_on, CanLearnAll, CanLearnAgain, IsKeptOf, AreNarrowedTo};
-ghost use Rattle.sf_picture.specs.Holding.{HeldData, IsHeldBy, NoneIsHeldIn, IsHeldIn, IsKeptIn, NoMemberAgrees, IsNarrowed, IsFromSome, AreEndsOf, AreAllEnds, CantLearnAll, IsAddedBy};
+ghost use Rattle.sf_picture.specs.Holding.{HeldData, IsHeldBy, NoneIsHeldIn, IsHeldIn, IsKeptIn, NoMemberAgrees, IsHeldWithin, IsFromSome, AreEndsOf, AreAllEnds, CantLearnAll, IsAddedBy};
 ghost use Rattle.sf_picture.specs.declared.fault.Fault.TheVariants.{Memory};
 
 use crate::axis::Axis;
@@ -223,7 +223,7 @@ fn confine_held(
     requires { axis.word < 16 }
     ensures confined { IfOk result (λ o. MatchOption o (NoneIsHeldIn one.now axis first last)
         (IsHeldIn one.now axis first last)) }
-    ensures narrowed { IfOk result (λ o. IfSome o (IsNarrowed one.now axis first last)) }
+    ensures narrowed { IfOk result (λ o. IfSome o (IsHeldWithin one.now axis first last)) }
     ensures rule { IfOk result (IsKeptOf one.now axis first last) }
     ensures err { IfErr result (λ f. f ≡ Memory) }
 {

@@ -2,7 +2,7 @@
 
 ghost use Rattle.std.specs.Prelude.{◌≡◌, ◌<◌, ◌≤◌, ◌+◌, ◌-◌, ℕ, true, false, length, slice_index_or, IfOk, IfErr, MatchOption};
 ghost use Rattle.sf_picture.specs.declared.picture.Run.{Run as ARun};
-ghost use Rattle.sf_picture.specs.DrawnBy.{AddsRunTo, AddsSpanTo, AreClosed};
+ghost use Rattle.sf_picture.specs.DrawnBy.{AddsRunTo, AddsSpanTo, EndAt};
 ghost use Rattle.sf_picture.specs.Drawing.{AreRuns, AreRunsTo, ClosesRuns, EndsElsewhere};
 ghost use Rattle.sf_picture.specs.declared.fault.Fault.TheVariants.{Memory};
 
@@ -69,7 +69,7 @@ pub(crate) fn close_runs(runs: &mut Vec<Run>, last: u32)
     ensures count { length runs.new.items ≡ length runs.old.items }
     ensures closed { (leaves forks : ℕ) → AreRuns leaves forks (last + 1) runs.old.items
         → ClosesRuns leaves forks last runs.old.items runs.new.items }
-    ensures rule { AreClosed runs.old.items last runs.new.items }
+    ensures rule { EndAt runs.old.items last runs.new.items }
 {
     let count = runs.len();
     if count > 0 {

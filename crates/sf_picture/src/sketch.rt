@@ -76,7 +76,7 @@ fn are_same_runs(a: &[Run], b: &[Run]) -> bool
 
 impl Sketch {
     ghost use Rattle.std.specs.List.Sorted.{IsStrictlyIncreasing};
-    ghost use Rattle.sf_picture.specs.Pictures.{AreRightForks, IsRightFork, IsBelow, fork_at};
+    ghost use Rattle.sf_picture.specs.Pictures.{AreRightForks, IsRightFork, LeadsBelow, fork_at};
     ghost use Rattle.sf_picture.specs.DrawnBy.{IsFirstAt, DrawsLeaf, DrawsFork, empty_sketch};
     ghost use Rattle.sf_picture.specs.Drawing.{Grows, AddsLeaf, IsLeafOf, IsForkOf, IsRightSketch};
 
@@ -194,7 +194,7 @@ impl Sketch {
 
     /// The picture that begins at a branch. The caller's condition: this is a leaf or a fork of the sketch.
     pub(crate) fn picture_from(self, root: Branch) -> Picture
-        requires { IsBelow (length self.leaves) (length self.forks) root }
+        requires { LeadsBelow (length self.leaves) (length self.forks) root }
         ensures picture { result ≡ record {
           leaves = self.leaves;
           forks = self.forks;

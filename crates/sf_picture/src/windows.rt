@@ -2,7 +2,7 @@
 
 ghost use Rattle.std.specs.Prelude.{◌≡◌, ◌<◌, ◌≤◌, ◌⊎◌, min, max};
 ghost use Rattle.sf_picture.specs.Cuts.{IsWindow};
-ghost use Rattle.sf_picture.specs.Cutting.{with_bits, fixed_by, has_fixed, window_first, window_last, window_of};
+ghost use Rattle.sf_picture.specs.Cutting.{with_fixed_bits, fixed_by, has_fixed, window_first, window_last, window_of};
 
 use crate::axis::Axis;
 use sf_dom::Known;
@@ -26,7 +26,7 @@ impl FixedBits {
 
     /// These bits, and further ones.
     fn and(self, zeros: u32, ones: u32) -> FixedBits
-        ensures { result ≡ with_bits self zeros ones }
+        ensures { result ≡ with_fixed_bits self zeros ones }
     {
         FixedBits {
             zeros: self.zeros | zeros,

@@ -2,12 +2,12 @@
 use Rattle.std.proofs.Common.{◌+◌, refl, sym, subst}
 use Rattle.sf_piece.specs.declared.deciding.SmallStep.TheVariants as small
 use Rattle.sf_piece.specs.Pieces.{PieceData, Split, Settled, Empty}
-use Rattle.sf_piece.specs.Execution.{HasStep, IsReached, SplitsInto, IsEmptied}
+use Rattle.sf_piece.specs.Execution.{HasStep, IsInTree, SplitsInto, IsEmptied}
 use Rattle.sf_piece.specs.SmallSteps.{IsTidy, HasGoneFor, IsExecuted}
 use Rattle.sf_piece.proofs.FailingSteps.{goes_more}
 use Rattle.sf_piece.proofs.Tidy.{tidy_on, tidy_reached}
 
-pub gone_tidy : (p q : PieceData) → IsReached p → HasGoneFor p q → IsTidy q
+pub gone_tidy : (p q : PieceData) → IsInTree p → HasGoneFor p q → IsTidy q
 gone_tidy p q reached g = tidy_on g.0 p q (tidy_reached p reached) g.1
 
 pub gone_more : (p q r : PieceData) → HasGoneFor p q → IsExecuted q r small.On → HasGoneFor p r

@@ -20,7 +20,7 @@ use Rattle.sf_dom.specs.Learning.{CantLearn, GrowsBy, CantGrow}
 use Rattle.sf_dom.specs.SoundRules.{HaveOneResult}
 use Rattle.sf_piece.specs.declared.machine.SymbolicMachine.{SymbolicMachine}
 use Rattle.sf_piece.specs.Pieces.{PieceData}
-use Rattle.sf_piece.specs.Execution.{IsNodeAt, IsPutIn, HasNoTwins, IsGiven, Gets, GetsOperand, with_a, with_x, LoadsA, LoadsX, Computes, query, HasQuery, with_sense, AfterTruthValue, CanLearn, LeavesOnly, IsSide, IsNamedOn, AreSamePieces}
+use Rattle.sf_piece.specs.Execution.{IsNodeAt, IsPutIn, HasNoTwins, IsGiven, Gets, GetsOperand, piece_with_a, piece_with_x, LoadsA, LoadsX, Computes, query, HasQuery, with_sense, AfterTruthValue, CanLearn, LeavesOnly, IsSide, IsNamedOn, AreSamePieces}
 
 pub equal_back : (f g : FactsView) → AreEqualFacts f g → AreEqualFacts g f
 equal_back f g h = record { known = sym h.known; excluded = λ w l. ((h.excluded w l).1, (h.excluded w l).0) }
@@ -141,22 +141,24 @@ next_alike make keeps (Some a) (Some b) m n g h k =
 next_alike make keeps None (Some b) m n g h k = absurd g
 next_alike make keeps (Some a) None m n g h k = absurd g
 
-pub with_a_alike : (a b : PieceData × NodeId) → AreAlike a.0 b.0 → a.1 ≡ b.1 → AreAlike (with_a a) (with_a b)
+pub with_a_alike : (a b : PieceData × NodeId) → AreAlike a.0 b.0 → a.1 ≡ b.1
+    → AreAlike (piece_with_a a) (piece_with_a b)
 with_a_alike a b alike e = record {
   same = record {
-    rest = ap (λ (q : PieceData). with_a (q, b.1)) alike.same.rest
-        ∙ ap (λ (id : NodeId). with_a (with_facts a.0 b.0.facts, id)) (sym e);
+    rest = ap (λ (q : PieceData). piece_with_a (q, b.1)) alike.same.rest
+        ∙ ap (λ (id : NodeId). piece_with_a (with_facts a.0 b.0.facts, id)) (sym e);
     facts = alike.same.facts;
   };
   pool = alike.pool;
   twins = alike.twins;
 }
 
-pub with_x_alike : (a b : PieceData × NodeId) → AreAlike a.0 b.0 → a.1 ≡ b.1 → AreAlike (with_x a) (with_x b)
+pub with_x_alike : (a b : PieceData × NodeId) → AreAlike a.0 b.0 → a.1 ≡ b.1
+    → AreAlike (piece_with_x a) (piece_with_x b)
 with_x_alike a b alike e = record {
   same = record {
-    rest = ap (λ (q : PieceData). with_x (q, b.1)) alike.same.rest
-        ∙ ap (λ (id : NodeId). with_x (with_facts a.0 b.0.facts, id)) (sym e);
+    rest = ap (λ (q : PieceData). piece_with_x (q, b.1)) alike.same.rest
+        ∙ ap (λ (id : NodeId). piece_with_x (with_facts a.0 b.0.facts, id)) (sym e);
     facts = alike.same.facts;
   };
   pool = alike.pool;
@@ -166,12 +168,12 @@ with_x_alike a b alike e = record {
 pub loads_alike : (laws : HaveOneResult) (p : PieceData) (f : FactsView) (node : Node) (m n : Option PieceData)
     → AreAlike p (with_facts p f) → LoadsA p node m → LoadsA (with_facts p f) node n → NextAlike m n
 loads_alike laws p f node m n alike h k =
-    next_alike with_a with_a_alike h.0 k.0 m n (gets_alike laws p f node h.0 k.0 alike h.1 k.1) h.2 k.2
+    next_alike piece_with_a with_a_alike h.0 k.0 m n (gets_alike laws p f node h.0 k.0 alike h.1 k.1) h.2 k.2
 
 pub loads_x_alike : (laws : HaveOneResult) (p : PieceData) (f : FactsView) (c : ℕ) (m n : Option PieceData)
     → AreAlike p (with_facts p f) → LoadsX p c m → LoadsX (with_facts p f) c n → NextAlike m n
 loads_x_alike laws p f c m n alike h k =
-    next_alike with_x with_x_alike h.0 k.0 m n (gets_alike laws p f (Const c) h.0 k.0 alike h.1 k.1) h.2 k.2
+    next_alike piece_with_x with_x_alike h.0 k.0 m n (gets_alike laws p f (Const c) h.0 k.0 alike h.1 k.1) h.2 k.2
 
 -- an operation on operands that are alike
 pub operates_alike : (laws : HaveOneResult) (node : NodeId → Node) (o r : Option (PieceData × NodeId))

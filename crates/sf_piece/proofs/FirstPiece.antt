@@ -10,7 +10,7 @@ use Rattle.sf_sym.specs.Pool.{IsPool, node_at, Extends}
 use Rattle.sf_dom.specs.Facts.{FactsView}
 use Rattle.sf_dom.specs.Learning.{StartsBy}
 use Rattle.sf_piece.specs.Pieces.{PieceData}
-use Rattle.sf_piece.specs.Execution.{IsFirst, IsReached}
+use Rattle.sf_piece.specs.Execution.{IsFirst, IsInTree}
 use Rattle.sf_piece.proofs.AtHand.{first_piece}
 use Rattle.sf_piece.proofs.OnePiece.{word_clash}
 
@@ -51,7 +51,7 @@ first_rule stack old new id fs count lawful extends within here added starts =
     }
 
 -- the first piece is in the tree
-pub first_reached : (stack : List (List Insn)) (p : PieceData) → IsFirst stack p → IsReached p
+pub first_reached : (stack : List (List Insn)) (p : PieceData) → IsFirst stack p → IsInTree p
 first_reached stack p h = record {
   first = p;
   starts = subst (λ (s : List (List Insn)). IsFirst s p) (sym h.stack_is) h;

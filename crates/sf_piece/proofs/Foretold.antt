@@ -27,7 +27,7 @@ use Rattle.sf_piece.specs.Pieces.{PieceData}
 use Rattle.sf_piece.specs.Execution.{HasNoTwins, Gets, query, with_sense, LeavesOnly}
 use Rattle.sf_piece.specs.SymbolicRun.{IsPiece}
 use Rattle.sf_piece.specs.Works.{IsOperandNumber, PassesAlways}
-use Rattle.sf_piece.specs.Foresight.{IsNumberOf, IsForetold}
+use Rattle.sf_piece.specs.Foresight.{IsTestedNumber, IsForetold}
 
 -- where no node stands twice, each word stands at its own place
 pub words_first : (ns : List Node) → IsPool ns → HasNoTwins ns → (i w : ℕ) → i < length ns → node_at ns i ≡ Word w
@@ -162,7 +162,7 @@ gets_told laws p test k b h told = elim (find p.pool k (length p.pool)) [
 -- what is told of a test of A against an operand
 foretold : (laws : ForcedIsLearnt) (p : PieceData) (test : Test) (other : Operand) (number : ℕ) (b : Bool)
     → Covers p.facts p.pool → IsForcedTest p.facts p.pool p.machine.a test number b → p.machine.x.0 < length p.pool
-    → IsNumberOf p other number → IsForetold p test other b
+    → IsTestedNumber p other number → IsForetold p test other b
 foretold laws p test (Constant k) number b h told l is = gets_told laws p test k b h (rw is at told)
 foretold laws p test X number b h told l is =
     let forced : IsForcedCondition p.facts p.pool (query p.machine.a test p.machine.x) number b = record {
@@ -199,7 +199,7 @@ forced_test p test number b h twins fits forced back = record {
 
 -- what is told of a test of A is foretold
 pub told_foretold : (laws : ForcedIsLearnt) (p : PieceData) (test : Test) (other : Operand) (number : ℕ)
-    (o : Option Bool) → IsPiece p → HasNoTwins p.pool → number < 2 ^ 32 → IsNumberOf p other number
+    (o : Option Bool) → IsPiece p → HasNoTwins p.pool → number < 2 ^ 32 → IsTestedNumber p other number
     → (((w : ℕ) → node_at p.pool p.machine.a.0 ≡ Word w → p.machine.a.0 ≡ w) → IfSome o (λ b.
     IsForcedBy (IsClosedAt p.facts.excluded p.machine.a.0) (known_at p.facts.known p.machine.a.0) test number b))
     → IfSome o (λ b. (n : ℕ) → IsPropagatedBack n p.facts.known p.pool p.machine.a.0)

@@ -13,7 +13,7 @@ use Rattle.sf_dom.specs.Facts.{FactsView, Covers}
 use Rattle.sf_dom.specs.Learning.{GrowsBy}
 use Rattle.sf_piece.specs.declared.machine.SymbolicMachine.{SymbolicMachine}
 use Rattle.sf_piece.specs.Pieces.{PieceData}
-use Rattle.sf_piece.specs.Execution.{IsNodeAt, IsPutIn, IsGiven, CantBeGiven, LoadsA, LoadsX, with_a, with_x, AfterTruthValue, IsSide, IsNamedOn}
+use Rattle.sf_piece.specs.Execution.{IsNodeAt, IsPutIn, IsGiven, CantBeGiven, LoadsA, LoadsX, piece_with_a, piece_with_x, AfterTruthValue, IsSide, IsNamedOn}
 use Rattle.sf_piece.specs.Works.{AreChildFacts}
 use Rattle.sf_piece.proofs.Children.{child_of, taken_on}
 
@@ -48,11 +48,11 @@ pub given : (p : PieceData) (node : Node) (pool : List Node) (id : NodeId) (fs :
 given p node pool id fs put lawful grows = record { pool = put; lawful = lawful; facts = grows; rest = refl }
 
 pub loads_a : (p : PieceData) (node : Node) (q : PieceData) (id : NodeId) → IsGiven p node q id
-    → LoadsA p node (Some (with_a (q, id)))
+    → LoadsA p node (Some (piece_with_a (q, id)))
 loads_a p node q id h = (Some (q, id), h, refl)
 
 pub loads_x : (p : PieceData) (k : ℕ) (q : PieceData) (id : NodeId) → IsGiven p (Const k) q id
-    → LoadsX p k (Some (with_x (q, id)))
+    → LoadsX p k (Some (piece_with_x (q, id)))
 loads_x p k q id h = (Some (q, id), h, refl)
 
 pub loads_none : (p : PieceData) (node : Node) → CantBeGiven p node → LoadsA p node None

@@ -19,7 +19,7 @@ use Rattle.sf_dom.specs.Learning.{StartsBy}
 use Rattle.sf_dom.specs.SoundRules.{HaveOneResult}
 use Rattle.sf_piece.specs.declared.machine.SymbolicMachine.{SymbolicMachine}
 use Rattle.sf_piece.specs.Pieces.{PieceData, Split}
-use Rattle.sf_piece.specs.Execution.{HasNoTwins, Gets, GetsOperand, with_a, with_x, on, LoadsA, LoadsX, Computes, query, HasQuery, MakesOf, GoesOnFor, HasStep, AreSamePieces, IsFirst, IsBelow, IsReached}
+use Rattle.sf_piece.specs.Execution.{HasNoTwins, Gets, GetsOperand, piece_with_a, piece_with_x, on, LoadsA, LoadsX, Computes, query, HasQuery, MakesOf, GoesOnFor, HasStep, AreSamePieces, IsFirst, IsBelow, IsInTree}
 use Rattle.sf_piece.specs.Machines.{first_machine}
 use Rattle.sf_piece.proofs.Alike.{AreAlike, alike_back, same_id}
 use Rattle.sf_piece.proofs.OneStep.{alike_step}
@@ -31,11 +31,11 @@ pub loads_keep : (p q : PieceData) (node : Node) → LoadsA p node (Some q) → 
 loads_keep p q node h = by h.0 h.1 h.2
   where
     by : (o : Option (PieceData × NodeId)) → Gets p node o
-        → MatchOption o (Some q ≡ None) (λ given. Some q ≡ Some (with_a given)) → (q.name ≡ p.name)
+        → MatchOption o (Some q ≡ None) (λ given. Some q ≡ Some (piece_with_a given)) → (q.name ≡ p.name)
         × (q.stack ≡ p.stack)
     by None got made = let clash : Some q ≡ None = made in absurd cc
     by (Some given) got made =
-        let same : q ≡ with_a given = same_Some q (with_a given) made in (
+        let same : q ≡ piece_with_a given = same_Some q (piece_with_a given) made in (
           ap (λ (r : PieceData). r.name) same ∙ ap (λ (r : PieceData). r.name) got.rest,
           ap (λ (r : PieceData). r.stack) same ∙ ap (λ (r : PieceData). r.stack) got.rest,
         )
@@ -44,11 +44,11 @@ pub loads_x_keep : (p q : PieceData) (c : ℕ) → LoadsX p c (Some q) → (q.na
 loads_x_keep p q c h = by h.0 h.1 h.2
   where
     by : (o : Option (PieceData × NodeId)) → Gets p (Const c) o
-        → MatchOption o (Some q ≡ None) (λ given. Some q ≡ Some (with_x given)) → (q.name ≡ p.name)
+        → MatchOption o (Some q ≡ None) (λ given. Some q ≡ Some (piece_with_x given)) → (q.name ≡ p.name)
         × (q.stack ≡ p.stack)
     by None got made = let clash : Some q ≡ None = made in absurd cc
     by (Some given) got made =
-        let same : q ≡ with_x given = same_Some q (with_x given) made in (
+        let same : q ≡ piece_with_x given = same_Some q (piece_with_x given) made in (
           ap (λ (r : PieceData). r.name) same ∙ ap (λ (r : PieceData). r.name) got.rest,
           ap (λ (r : PieceData). r.stack) same ∙ ap (λ (r : PieceData). r.stack) got.rest,
         )
@@ -339,7 +339,7 @@ first_alike laws stack p q h k =
     by i (inr x) (inl y) = absurd (let last = x.0 in let less = y.0 in omega arith)
 
 -- The rules reach one piece of a name at most.
-pub one_piece : (laws : HaveOneResult) (p q : PieceData) → IsReached p → IsReached q → p.stack ≡ q.stack
+pub one_piece : (laws : HaveOneResult) (p q : PieceData) → IsInTree p → IsInTree q → p.stack ≡ q.stack
     → p.name ≡ q.name → AreSamePieces p q
 one_piece laws p q h k of e =
     let starts : IsFirst p.stack k.first = subst (λ (s : List (List Insn)). IsFirst s k.first) (sym of) k.starts in
@@ -356,7 +356,7 @@ below_alike laws (false ∷ bs) r p alike h =
     let both = alike_step laws r r (Split h.0 h.1) (Split h.0 h.1) r.name r.name alike h.2 h.2 in
     below_alike laws bs h.0 p both.0.0 h.3
 
-pub reached_pool : (laws : HaveOneResult) (p : PieceData) → IsReached p → IsPool p.pool × HasNoTwins p.pool
+pub reached_pool : (laws : HaveOneResult) (p : PieceData) → IsInTree p → IsPool p.pool × HasNoTwins p.pool
 reached_pool laws p h =
     let first = first_alike laws p.stack h.first h.first h.starts h.starts in
     let alike = below_alike laws h.sides h.first p first h.below in
@@ -370,7 +370,7 @@ below_more [] b r p f t h k =
 below_more (c ∷ bs) b r p f t h k = (h.0, h.1, h.2, below_more bs b (if c then h.1 else h.0) p f t h.3 k)
 
 -- the pieces of a split are reached
-pub sides_reached : (p f t : PieceData) → IsReached p → HasStep p (Split f t) p.name → IsReached f × IsReached t
+pub sides_reached : (p f t : PieceData) → IsInTree p → HasStep p (Split f t) p.name → IsInTree f × IsInTree t
 sides_reached p f t h k =
     let sides = sides_named p f t p.name k in (
       record {

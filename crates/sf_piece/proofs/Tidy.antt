@@ -15,7 +15,7 @@ use Rattle.sf_sym.specs.declared.pool.NodeId.{NodeId}
 use Rattle.sf_sym.specs.Pool.{node_at, folded_node}
 use Rattle.sf_piece.specs.declared.machine.SymbolicMachine.{SymbolicMachine}
 use Rattle.sf_piece.specs.Pieces.{PieceData, Split}
-use Rattle.sf_piece.specs.Execution.{IsNodeAt, IsPutIn, IsGiven, GetsOperand, with_machine, with_a, with_x, LoadsA, LoadsX, Computes, MovesTo, AfterTruthValue, MakesOf, GoesOnFor, IsFirst, query, HasQuery, IsSide, HasStep, IsBelow, IsReached}
+use Rattle.sf_piece.specs.Execution.{IsNodeAt, IsPutIn, IsGiven, GetsOperand, with_machine, piece_with_a, piece_with_x, LoadsA, LoadsX, Computes, MovesTo, AfterTruthValue, MakesOf, GoesOnFor, IsFirst, query, HasQuery, IsSide, HasStep, IsBelow, IsInTree}
 use Rattle.sf_piece.specs.SmallSteps.{IsTidy}
 use Rattle.sf_piece.proofs.Alike.{no_twins_put}
 use Rattle.sf_piece.proofs.OnePiece.{first_twins}
@@ -44,13 +44,13 @@ tidy_with p m tidy e = record {
 
 tidy_loads_a : (p : PieceData) (node : Node) (q : PieceData) → IsTidy p → LoadsA p node (Some q) → IsTidy q
 tidy_loads_a p node q tidy (None, h, e) = absurd cc
-tidy_loads_a p node q tidy (Some a, h, e) = subst IsTidy (sym (same_Some q (with_a a) e))
-    (tidy_with a.0 (with_a a).machine (tidy_given p node a.0 a.1 tidy h) refl)
+tidy_loads_a p node q tidy (Some a, h, e) = subst IsTidy (sym (same_Some q (piece_with_a a) e))
+    (tidy_with a.0 (piece_with_a a).machine (tidy_given p node a.0 a.1 tidy h) refl)
 
 tidy_loads_x : (p : PieceData) (k : ℕ) (q : PieceData) → IsTidy p → LoadsX p k (Some q) → IsTidy q
 tidy_loads_x p k q tidy (None, h, e) = absurd cc
-tidy_loads_x p k q tidy (Some a, h, e) = subst IsTidy (sym (same_Some q (with_x a) e))
-    (tidy_with a.0 (with_x a).machine (tidy_given p (Const k) a.0 a.1 tidy h) refl)
+tidy_loads_x p k q tidy (Some a, h, e) = subst IsTidy (sym (same_Some q (piece_with_x a) e))
+    (tidy_with a.0 (piece_with_x a).machine (tidy_given p (Const k) a.0 a.1 tidy h) refl)
 
 tidy_operand : (p : PieceData) (other : Operand) (a : PieceData × NodeId) → IsTidy p → GetsOperand p other (Some a)
     → IsTidy a.0
@@ -149,5 +149,5 @@ tidy_below (true ∷ bs) r p tidy h = tidy_below bs h.1 p (tidy_split r h.0 h.1 
 tidy_below (false ∷ bs) r p tidy h = tidy_below bs h.0 p (tidy_split r h.0 h.1 r.name tidy h.2).0 h.3
 
 -- each piece of an execution tree is tidy
-pub tidy_reached : (p : PieceData) → IsReached p → IsTidy p
+pub tidy_reached : (p : PieceData) → IsInTree p → IsTidy p
 tidy_reached p h = tidy_below h.sides h.first p (tidy_first p.stack h.first h.starts) h.below

@@ -76,20 +76,20 @@ abbrev pub with_machine : PieceData → SymbolicMachine → PieceData
 with_machine p m = record p { machine = m }
 
 -- the piece at the next instruction, with the word that it was given in A
-abbrev pub with_a : PieceData × NodeId → PieceData
-with_a given = with_machine given.0 (record (on given.0.machine) { a = given.1 })
+abbrev pub piece_with_a : PieceData × NodeId → PieceData
+piece_with_a given = with_machine given.0 (record (on given.0.machine) { a = given.1 })
 
 -- the piece at the next instruction, with the word that it was given in X
-abbrev pub with_x : PieceData × NodeId → PieceData
-with_x given = with_machine given.0 (record (on given.0.machine) { x = given.1 })
+abbrev pub piece_with_x : PieceData × NodeId → PieceData
+piece_with_x given = with_machine given.0 (record (on given.0.machine) { x = given.1 })
 
 -- the piece gets a word and has it in A at the next instruction; none where the word contradicts
 abbrev pub LoadsA : PieceData → Node → Option PieceData → Type 0
-LoadsA p node = Then (Gets p node) (λ given next. next ≡ Some (with_a given))
+LoadsA p node = Then (Gets p node) (λ given next. next ≡ Some (piece_with_a given))
 
 -- the piece gets a constant and has it in X at the next instruction; none where the constant contradicts
 abbrev pub LoadsX : PieceData → ℕ → Option PieceData → Type 0
-LoadsX p k = Then (Gets p (Const k)) (λ given next. next ≡ Some (with_x given))
+LoadsX p k = Then (Gets p (Const k)) (λ given next. next ≡ Some (piece_with_x given))
 
 -- whether an operation asks first whether X is 0
 abbrev pub divides_at : BinOp → Operand → ℕ → Bool
@@ -257,7 +257,7 @@ IsBelow (b ∷ bs) r p = (f : PieceData) × (t : PieceData) × HasStep r (Split 
     × IsBelow bs (if b then t else f) p
 
 -- a piece of the tree of its stack
-pub record IsReached (p : PieceData) : Type 0 where
+pub record IsInTree (p : PieceData) : Type 0 where
   pub first : PieceData
   pub starts : IsFirst p.stack first
   pub sides : List Bool

@@ -12,9 +12,9 @@ use Rattle.sf_piece.specs.Execution.{GetsOperand, query, LeavesOnly}
 
 -- the operand is the constant of this number; or it is X, which is known to be this number, and from which no bits
 -- would go back
-abbrev pub IsNumberOf : PieceData → Operand → ℕ → Type 0
-IsNumberOf p (Constant k) n = n ≡ k
-IsNumberOf p X n = (known_at p.facts.known p.machine.x.0 ≡ number_known n)
+abbrev pub IsTestedNumber : PieceData → Operand → ℕ → Type 0
+IsTestedNumber p (Constant k) n = n ≡ k
+IsTestedNumber p X n = (known_at p.facts.known p.machine.x.0 ≡ number_known n)
     × ((m : ℕ) → IsPropagatedBack m p.facts.known p.pool p.machine.x.0)
 
 -- the piece can get the operand of a test of A, and with that the rules leave only this result

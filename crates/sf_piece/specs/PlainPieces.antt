@@ -9,7 +9,7 @@ use Rattle.sf_run.specs.Machine.{trace_of}
 use Rattle.sf_sym.specs.Pool.{ArePlainNodes}
 use Rattle.sf_dom.specs.Facts.{Agrees}
 use Rattle.sf_dom.specs.Facts.{IsPlainCondition}
-use Rattle.sf_piece.specs.Execution.{HasStep, IsReached}
+use Rattle.sf_piece.specs.Execution.{HasStep, IsInTree}
 use Rattle.sf_piece.specs.Pieces.{PieceData, StepData, Split, Settled, Empty, WorkData, is_member, IsRightWork}
 
 -- The pool has only words of the input and constants. Each path condition compares one of these with a constant, by a
@@ -38,4 +38,4 @@ pub record IsLawfulWork (w : WorkData) : Type 0 where
   pub right : IsRightWork w
   pub plain : IsPlain w.piece.stack → IsPlainWork w
   pub rule : HasStep w.piece w.step w.name
-  pub reached : IsReached w.piece
+  pub reached : IsInTree w.piece

@@ -24,7 +24,7 @@ use Rattle.sf_dom.specs.Facts.{Covers, Agrees}
 use Rattle.sf_piece.specs.declared.machine.SymbolicMachine.{SymbolicMachine}
 use Rattle.sf_piece.specs.PlainPieces.{IsPlainPiece}
 use Rattle.sf_piece.specs.Pieces.{PieceData, is_member, is_prefix, IsTrulyNamed}
-use Rattle.sf_piece.specs.Execution.{IsReached}
+use Rattle.sf_piece.specs.Execution.{IsInTree}
 
 -- the concrete state for which a symbolic one stands, on an input
 abbrev pub concrete_state : List Node → SymbolicMachine → Input → State
@@ -134,4 +134,4 @@ pub record IsLawfulPiece (p : PieceData) : Type 0 where
 -- what the type of pieces keeps: the piece is lawful, and by the rules it is in the execution tree of its stack
 pub record IsPieceOfTree (p : PieceData) : Type 0 where
   pub lawful : IsLawfulPiece p
-  pub reached : IsReached p
+  pub reached : IsInTree p

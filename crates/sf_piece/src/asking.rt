@@ -5,7 +5,7 @@ ghost use Rattle.sf_piece.specs.SymbolicRun.{IsLawfulPiece};
 ghost use Rattle.sf_piece.specs.Works.{HasAtHand, IsOperandNumber, NothingGoesBack, IsAPropagatedBack, PassesAlways, divides_at};
 ghost use Rattle.sf_dom.specs.SoundRules.{ForcedIsLearnt};
 ghost use Rattle.sf_piece.specs.Execution.{HasNoTwins, IsAtHand};
-ghost use Rattle.sf_piece.specs.Foresight.{IsNumberOf, IsForetold};
+ghost use Rattle.sf_piece.specs.Foresight.{IsTestedNumber, IsForetold};
 ghost use Rattle.sf_piece.specs.SmallSteps.{IsSmallStep, IsTidy, IsExecuted};
 
 use crate::chains::take_failing;
@@ -38,7 +38,7 @@ fn number_against(run: &Run, other: Operand) -> Option<u32>
     ensures value { IfSome result (IsOperandNumber run.now other) }
     ensures back { IfSome result (λ n. other ≡ Operand.X
         → NothingGoesBack run.now run.now.machine.x) }
-    ensures rule { IfSome result (λ n. IsNumberOf run.now other n) }
+    ensures rule { IfSome result (λ n. IsTestedNumber run.now other n) }
     ensures fits { IfSome result (λ n. n < 2 ^ 32) }
 {
     match other {

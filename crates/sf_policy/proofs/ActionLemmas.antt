@@ -6,10 +6,10 @@ use Rattle.toml.specs.View.{view}
 use Rattle.toml.specs.declared.value.Value.{Value}
 use Rattle.std.proofs.Math.Dec.{eqb-suc-zero}
 use Rattle.std.proofs.lemmas.List.Folds.{list_all-map}
-use Rattle.sf_policy.specs.Actions.{is_action, are_actions, is_named}
+use Rattle.sf_policy.specs.Actions.{is_action, are_actions, is_text_among}
 use Rattle.sf_policy.specs.Encoding.{text_or_empty}
 
-pub is_named_view : (name : List ℕ) (vs : List Value) → is_named (map (λ v. text_or_empty (view v)) vs) name
+pub is_named_view : (name : List ℕ) (vs : List Value) → is_text_among (map (λ v. text_or_empty (view v)) vs) name
     ≡ list_any (λ v. bytes_eq (text_or_empty (view v)) name) vs
 is_named_view name [] = refl
 is_named_view name (v ∷ vs) = ap (λ b. bytes_eq (text_or_empty (view v)) name || b) (is_named_view name vs)

@@ -18,7 +18,7 @@ use Rattle.sf_ask.specs.declared.actions.ActionSet.{ActionSet}
 use Rattle.sf_policy.specs.declared.policy.Version.{Version}
 use Rattle.sf_policy.specs.Keys.{has_only, question_keys, word_keys}
 use Rattle.sf_policy.specs.Trees.{each_of, text_at}
-use Rattle.sf_policy.specs.Actions.{is_action, are_actions, is_named, set_of, names_at}
+use Rattle.sf_policy.specs.Actions.{is_action, are_actions, is_text_among, set_of, names_at}
 use Rattle.sf_policy.specs.Encoding.{no_actions, ranges_and_masks, encoded_set, numbered_fault, with_number, question_of_parts}
 use Rattle.sf_policy.specs.Policies.{Entry, question_entry_of_parts, question_of_entry, question_where_read, question_of_table}
 
@@ -62,7 +62,7 @@ some_action : (texts : List (List ℕ)) → are_actions texts ≡ true → is_no
 some_action [] h = cc
 some_action (text ∷ texts) h =
     let is = λ (name : List ℕ). bytes_eq text name in
-    let named = λ (name : List ℕ). is_named texts name in
+    let named = λ (name : List ℕ). is_text_among texts name in
     some_of_nine
     (is (codes "KILL_PROCESS")) (is (codes "KILL_THREAD")) (is (codes "TRAP")) (is (codes "ERRNO"))
     (is (codes "USER_NOTIF"))

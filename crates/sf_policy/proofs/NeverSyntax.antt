@@ -9,8 +9,8 @@ use Rattle.sf_policy.specs.declared.fault.Fault.TheVariants as faults
 use Rattle.sf_policy.specs.declared.policy.Version.{Version}
 use Rattle.sf_policy.specs.Keys.{top_keys, has_only}
 use Rattle.sf_policy.specs.Trees.{number_at}
-use Rattle.sf_policy.specs.Faults.{Gives}
-use Rattle.sf_policy.specs.Policies.{Entry, question_of_entry, question_where_read, entry_of_question, question_cons, questions_from, questions_where_tables, tables_at, version_of, policy_where_version, policy_of}
+use Rattle.sf_policy.specs.Faults.{IsDue}
+use Rattle.sf_policy.specs.Policies.{Entry, question_of_entry, question_where_read, entry_of_question, question_cons, questions_from, questions_where_tables, tables_at, version_numbered, policy_where_version, policy_of}
 
 abbrev pub is_syntax : {X : Type 0} → Result X Fault → Bool
 is_syntax (Ok x) = false
@@ -55,7 +55,7 @@ where_version None ms = refl
 
 -- a function that gives what a tree means never answers `Syntax`
 pub not_syntax : {X : Type 0} (view : X → List QuestionData) (r : Result X Fault) (ms : Members)
-    → Gives view r (policy_of ms)
+    → IsDue view r (policy_of ms)
     → r ≡ Err faults.Syntax → ⊥
-not_syntax view r ms gives e = false≢true (sym (where_version (version_of (number_at (codes "version") ms)) ms)
+not_syntax view r ms gives e = false≢true (sym (where_version (version_numbered (number_at (codes "version") ms)) ms)
     ∙ ap (λ l. is_syntax l) (rw e at gives))

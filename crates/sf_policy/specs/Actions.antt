@@ -22,21 +22,21 @@ are_actions [] = false
 are_actions (text ∷ texts) = list_all is_action (text ∷ texts)
 
 -- the name is among the texts
-abbrev pub is_named : List (List ℕ) → List ℕ → Bool
-is_named texts name = list_any (λ text. bytes_eq text name) texts
+abbrev pub is_text_among : List (List ℕ) → List ℕ → Bool
+is_text_among texts name = list_any (λ text. bytes_eq text name) texts
 
 -- the set of the actions that are named; it doesn't matter how often
 abbrev pub set_of : List (List ℕ) → ActionSet
 set_of texts = record {
-  kill_process = is_named texts (codes "KILL_PROCESS");
-  kill_thread = is_named texts (codes "KILL_THREAD");
-  trap = is_named texts (codes "TRAP");
-  errno = is_named texts (codes "ERRNO");
-  user_notif = is_named texts (codes "USER_NOTIF");
-  trace = is_named texts (codes "TRACE");
-  log = is_named texts (codes "LOG");
-  allow = is_named texts (codes "ALLOW");
-  other = is_named texts (codes "OTHER");
+  kill_process = is_text_among texts (codes "KILL_PROCESS");
+  kill_thread = is_text_among texts (codes "KILL_THREAD");
+  trap = is_text_among texts (codes "TRAP");
+  errno = is_text_among texts (codes "ERRNO");
+  user_notif = is_text_among texts (codes "USER_NOTIF");
+  trace = is_text_among texts (codes "TRACE");
+  log = is_text_among texts (codes "LOG");
+  allow = is_text_among texts (codes "ALLOW");
+  other = is_text_among texts (codes "OTHER");
 }
 
 -- the texts of an array; nothing where the value is of another kind, or an item is no text

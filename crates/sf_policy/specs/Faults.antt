@@ -54,14 +54,14 @@ fault_number faults.Write = 51
 fault_number faults.Memory = 60
 
 -- a fault other than refused memory is the one that is due
-abbrev pub Fails : {X : Type 0} → Fault → Result X Fault → Type 0
-Fails faults.Memory due = Unit {0}
-Fails fault due = due ≡ Err fault
+abbrev pub IsFaultDue : {X : Type 0} → Fault → Result X Fault → Type 0
+IsFaultDue faults.Memory due = Unit {0}
+IsFaultDue fault due = due ≡ Err fault
 
 -- what a function answered, seen by `view`, is what is due, unless memory is refused
-abbrev pub Gives : {X Y : Type 0} → (X → Y) → Result X Fault → Result Y Fault → Type 0
-Gives view (Ok x) due = due ≡ Ok (view x)
-Gives view (Err fault) due = Fails fault due
+abbrev pub IsDue : {X Y : Type 0} → (X → Y) → Result X Fault → Result Y Fault → Type 0
+IsDue view (Ok x) due = due ≡ Ok (view x)
+IsDue view (Err fault) due = IsFaultDue fault due
 
 -- what was read, or only the fault of a refusal
 abbrev pub without_place : {X : Type 0} → Result X Refusal → Result X Fault

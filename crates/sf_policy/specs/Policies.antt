@@ -93,9 +93,9 @@ questions_where_tables version (Some mss) = questions_counted version mss
 questions_where_tables version None = Err faults.TopKey
 
 -- the version with this number, where there is one
-abbrev pub version_of : Option ℤ → Option Version
-version_of (Some (pos n)) = if nat_eq n 1 then Some One else if nat_eq n 2 then Some Two else None
-version_of _ = None
+abbrev pub version_numbered : Option ℤ → Option Version
+version_numbered (Some (pos n)) = if nat_eq n 1 then Some One else if nat_eq n 2 then Some Two else None
+version_numbered _ = None
 
 -- the questions of a file of a known version without unknown keys; else it is refused
 abbrev pub policy_where_version : Option Version → Members → Result (List QuestionData) Fault
@@ -106,4 +106,4 @@ policy_where_version None ms = Err faults.Version
 
 -- the questions of a file, or its first refusal
 abbrev pub policy_of : Members → Result (List QuestionData) Fault
-policy_of ms = policy_where_version (version_of (number_at (codes "version") ms)) ms
+policy_of ms = policy_where_version (version_numbered (number_at (codes "version") ms)) ms

@@ -13,16 +13,16 @@ abbrev pub most : ℤ
 most = pos (2 ^ 32 - 1)
 
 -- only a range: no bit is under a mask
-abbrev pub between : ℤ → ℤ → WordEntry
-between low high = record { low = low; high = high; mask = pos 0; value = pos 0 }
+abbrev pub only_between : ℤ → ℤ → WordEntry
+only_between low high = record { low = low; high = high; mask = pos 0; value = pos 0 }
 
 -- what an absent word says
 abbrev pub any_number : WordEntry
-any_number = between (pos 0) most
+any_number = only_between (pos 0) most
 
 -- the range of two ends, where both are whole numbers
 abbrev pub entry_between : Option ℤ → Option ℤ → Option WordEntry
-entry_between (Some low) (Some high) = Some (between low high)
+entry_between (Some low) (Some high) = Some (only_between low high)
 entry_between _ _ = None
 
 -- an array of exactly two whole numbers
@@ -51,7 +51,7 @@ entry_of_versioned Two ms = entry_of_table ms
 
 -- what a word's value says; nothing where it is of another kind
 abbrev pub entry_of : Version → Data → Option WordEntry
-entry_of version (integer z) = Some (between z z)
+entry_of version (integer z) = Some (only_between z z)
 entry_of version (array ds) = entry_of_array ds
 entry_of version (table ms) = entry_of_versioned version ms
 entry_of version _ = None
@@ -67,17 +67,17 @@ is_word (pos n) = nat_lt n (2 ^ 32)
 is_word (negsuc n) = false
 
 -- the number that isn't below 0
-abbrev pub word_of : ℤ → ℕ
-word_of (pos n) = n
-word_of (negsuc n) = 0
+abbrev pub number_or_zero : ℤ → ℕ
+number_or_zero (pos n) = n
+number_or_zero (negsuc n) = 0
 
 -- the ends between which a question lets the word lie
 abbrev pub range_of : WordEntry → ℕ × ℕ
-range_of w = (word_of w.low, word_of w.high)
+range_of w = (number_or_zero w.low, number_or_zero w.high)
 
 -- the bits that a question looks at in the word, and what they have to be
 abbrev pub mask_of : WordEntry → ℕ × ℕ
-mask_of w = (word_of w.mask, word_of w.value)
+mask_of w = (number_or_zero w.mask, number_or_zero w.value)
 
 -- all numbers of the entry are of 32 bits
 abbrev pub has_words : WordEntry → Bool
@@ -85,7 +85,7 @@ has_words w = is_word w.low && is_word w.high && is_word w.mask && is_word w.val
 
 -- all numbers of the entry are of 32 bits, and the low end isn't above the high end
 abbrev pub has_range : WordEntry → Bool
-has_range w = has_words w && nat_le (word_of w.low) (word_of w.high)
+has_range w = has_words w && nat_le (number_or_zero w.low) (number_or_zero w.high)
 
 -- the entry's value has no bit outside its mask
 abbrev pub has_mask : WordEntry → Bool

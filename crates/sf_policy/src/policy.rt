@@ -11,10 +11,10 @@ ghost use Rattle.std.specs.List.{list_all};
 ghost use Rattle.toml.specs.Data.{Members, as_table};
 ghost use Rattle.toml.specs.Parse.{parse_document};
 ghost use Rattle.toml.specs.View.{view, table_view};
-ghost use Rattle.sf_policy.specs.Faults.{Gives, without_place};
+ghost use Rattle.sf_policy.specs.Faults.{IsDue, without_place};
 ghost use Rattle.sf_policy.specs.Encoding.{table_or_empty};
 ghost use Rattle.sf_policy.specs.Trees.{number_at};
-ghost use Rattle.sf_policy.specs.Policies.{version_of, tables_of_value, policy_of};
+ghost use Rattle.sf_policy.specs.Policies.{version_numbered, tables_of_value, policy_of};
 
 use crate::MOST_QUESTIONS;
 use crate::fault::Fault;
@@ -36,7 +36,7 @@ enum Version {
 /// The version that a policy names at its key `version`; `None` where the key is missing or has another value than 1 or
 /// 2.
 fn version_in(table: &Table) -> Option<Version>
-    ensures { result ≡ version_of (number_at (codes "version") (table_view table.now)) }
+    ensures { result ≡ version_numbered (number_at (codes "version") (table_view table.now)) }
 {
     match number_in(table, "version") {
         Some(1) => Some(Version::One),
@@ -67,7 +67,7 @@ fn tables_in(value: &Value) -> Option<&[Value]>
 /// questions are missing; `TopKey` where they are no array of tables; `Count` where there is none or more than 256;
 /// then what `questions_in` refuses.
 fn policy_of_table(alloc: Global, table: &Table) -> Result<Vec<Question>, Fault>
-    ensures { Gives (λ v. v.items) result (policy_of (table_view table.now)) }
+    ensures { IsDue (λ v. v.items) result (policy_of (table_view table.now)) }
 {
     let version = version_in(table).ok_or(Fault::Version)?;
     if !has_top_keys(table) {
@@ -87,7 +87,7 @@ fn policy_of_table(alloc: Global, table: &Table) -> Result<Vec<Question>, Fault>
 pub fn read_policy_at(alloc: Global, text: &str) -> Result<Vec<Question>, Refusal>
     // Where the text is TOML, the questions or the refusal are those of its tree.
     ensures read { (tree : Members) → parse_document text.now ≡ Some tree
-        → Gives (λ v. v.items) (without_place result) (policy_of tree) }
+        → IsDue (λ v. v.items) (without_place result) (policy_of tree) }
 
     // `Syntax` comes exactly where it is no TOML, unless memory ran out.
     ensures syntax { without_place result ≡ Err Fault.Syntax
@@ -125,7 +125,7 @@ pub fn read_policy_at(alloc: Global, text: &str) -> Result<Vec<Question>, Refusa
 pub fn read_policy(alloc: Global, text: &str) -> Result<Vec<Question>, Fault>
     // Where the text is TOML, the questions or the refusal are those of its tree.
     ensures read { (tree : Members) → parse_document text.now ≡ Some tree
-        → Gives (λ v. v.items) result (policy_of tree) }
+        → IsDue (λ v. v.items) result (policy_of tree) }
 
     // `Syntax` comes exactly where it is no TOML, unless memory ran out.
     ensures syntax { result ≡ Err Fault.Syntax → parse_document text.now ≡ None }

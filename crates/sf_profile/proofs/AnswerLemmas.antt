@@ -8,8 +8,8 @@ use Rattle.sf_run.specs.declared.action.Action.TheVariants as actions
 use Rattle.sf_run.specs.declared.action.Answer.{Answer}
 use Rattle.sf_profile.specs.declared.rules.Response.{Response}
 use Rattle.sf_profile.specs.declared.rules.Response.TheVariants.{KillProcess, KillThread, Trap, Errno, Notify, Tracer, Log, Allow}
-use Rattle.sf_profile.specs.Meaning.{answer_of}
-use Rattle.sf_profile.specs.Form.{value_of}
+use Rattle.sf_profile.specs.Meaning.{answer_of_response}
+use Rattle.sf_profile.specs.Form.{returned_value_of}
 
 abbrev allow : Answer
 allow = record { action = actions.Allow; info = 0 }
@@ -24,7 +24,7 @@ data_is : (h n : ℕ) → n < 2 ^ 16 → bit_and (h * 2 ^ 16 + n) 0xffff ≡ n
 data_is h n lt =
     and_mask (h * 2 ^ 16 + n) 16 ∙ omega arith
 
-folded_is : (response : Response) → folded_answer allow (value_of response) ≡ answer_of response
+folded_is : (response : Response) → folded_answer allow (returned_value_of response) ≡ answer_of_response response
 folded_is KillProcess = refl
 folded_is KillThread = refl
 folded_is Trap = refl
@@ -43,7 +43,7 @@ folded_is Log = refl
 folded_is Allow = refl
 
 -- a filter that returns the value of a response answers it
-pub answers : (response : Response) → IsAnswer (value_of response ∷ []) (answer_of response)
+pub answers : (response : Response) → IsAnswer (returned_value_of response ∷ []) (answer_of_response response)
 answers response =
-    subst (λ a. IsAnswer (value_of response ∷ []) a) (folded_is response)
-    (answer_more [] allow (value_of response) answer_none)
+    subst (λ a. IsAnswer (returned_value_of response ∷ []) a) (folded_is response)
+    (answer_more [] allow (returned_value_of response) answer_none)

@@ -13,10 +13,10 @@ use Rattle.sf_profile.specs.declared.rules.Response.{Response}
 use Rattle.sf_profile.specs.declared.rules.Response.TheVariants.{Errno}
 use Rattle.sf_profile.specs.declared.instruction.Instruction.{Instruction}
 use Rattle.sf_profile.specs.declared.instruction.Instruction.TheVariants.{Load, Branch, Skip, Return}
-use Rattle.sf_profile.specs.Data.{RuleData, PartData, PlanData}
-use Rattle.sf_profile.specs.Meaning.{number_in, arch_in, arch_of, is_wide, is_x64_number, is_of_set, says, pick, is_newer, refuses_newer, response_of, response_in, response_at, answer_of, meaning}
+use Rattle.sf_profile.specs.Data.{RuleData, SetRulesData, PlanData}
+use Rattle.sf_profile.specs.Meaning.{number_in, arch_in, arch_of, is_wide, is_x64_number, is_of_set, says, pick, is_newer, refuses_newer, response_of, response_in, response_of_part, answer_of_response, meaning}
 use Rattle.sf_insn.specs.Spelling.{AreInsns}
-use Rattle.sf_profile.specs.Form.{newer_where, round_code, places, body_code, set_code, part_code, form, value_of, raw_of}
+use Rattle.sf_profile.specs.Form.{newer_where, round_code, places, body_code, set_code, part_code, form, returned_value_of, raw_of}
 use Rattle.sf_profile.proofs.Returns.{returned, skip_all}
 use Rattle.sf_profile.proofs.ComparisonLemmas.{Goes, choose}
 use Rattle.sf_profile.proofs.RuleLemmas.{after_rule, passes_go}
@@ -28,25 +28,25 @@ use Rattle.sf_profile.proofs.LawfulLemmas.{form_lawful}
 
 -- ---- an input of a set
 
-default_after : (default : Response) (o : Option RuleData) → after_rule o (Some (value_of default))
-    ≡ Some (value_of (response_of default o))
+default_after : (default : Response) (o : Option RuleData) → after_rule o (Some (returned_value_of default))
+    ≡ Some (returned_value_of (response_of default o))
 default_after default None = refl
 default_after default (Some rule) = refl
 
-chosen : (b : Bool) (r s : Response) → choose b (Some (value_of r)) (Some (value_of s))
-    ≡ Some (value_of (if b then r else s))
+chosen : (b : Bool) (r s : Response) → choose b (Some (returned_value_of r)) (Some (returned_value_of s))
+    ≡ Some (returned_value_of (if b then r else s))
 chosen true r s = refl
 chosen false r s = refl
 
-body_goes : (plan : PlanData) (part : PartData) (d : Input) (more : List Instruction) → IsInput d
-    → Goes (body_code plan part ++ more) d 0 (Some (value_of (response_in plan d part)))
+body_goes : (plan : PlanData) (part : SetRulesData) (d : Input) (more : List Instruction) → IsInput d
+    → Goes (body_code plan part ++ more) d 0 (Some (returned_value_of (response_in plan d part)))
 body_goes plan part d more input = λ a.
-    ap (λ l. returned l d 0 number) (append_assoc (newer ++ passes) (Return (value_of plan.default) ∷ []) more
+    ap (λ l. returned l d 0 number) (append_assoc (newer ++ passes) (Return (returned_value_of plan.default) ∷ []) more
     ∙ append_assoc newer passes rest)
     ∙ newer_goes asked d part.rules (passes ++ rest) input
-    ∙ ap (choose (asked && is_newer number part.rules) (Some (value_of (Errno 38))))
+    ∙ ap (choose (asked && is_newer number part.rules) (Some (returned_value_of (Errno 38))))
     (passes_go plan.reading (is_wide part.set) d part.rules places rest input
-    ∙ ap (λ o. after_rule o (Some (value_of plan.default)))
+    ∙ ap (λ o. after_rule o (Some (returned_value_of plan.default)))
     (pick_is plan.reading (filter (says (is_wide part.set) d) part.rules))
     ∙ default_after plan.default (pick plan.reading (filter (says (is_wide part.set) d) part.rules)))
     ∙ chosen (asked && is_newer number part.rules) (Errno 38)
@@ -65,7 +65,7 @@ body_goes plan part d more input = λ a.
     passes = flat_map (round_code plan.reading (is_wide part.set) part.rules) places
 
     rest : List Instruction
-    rest = Return (value_of plan.default) ∷ more
+    rest = Return (returned_value_of plan.default) ∷ more
 
 -- ---- sets
 
@@ -154,9 +154,9 @@ set_goes set d body more r s p q = λ a. by a set
 
 -- ---- the whole
 
-parts_go : (plan : PlanData) (d : Input) (parts : List PartData) → IsInput d
+parts_go : (plan : PlanData) (d : Input) (parts : List SetRulesData) → IsInput d
     → Goes (flat_map (part_code plan) parts ++ Return 0 ∷ []) d 0
-    (Some (value_of (response_at plan d (find (λ (part : PartData). is_of_set part.set d) parts))))
+    (Some (returned_value_of (response_of_part plan d (find (λ (part : SetRulesData). is_of_set part.set d) parts))))
 parts_go plan d [] input = λ a. refl
 parts_go plan d (part ∷ parts) input =
     let others = flat_map (part_code plan) parts ++ Return 0 ∷ [] in
@@ -164,22 +164,23 @@ parts_go plan d (part ∷ parts) input =
     λ a.
     ap (λ l. returned l d 0 a) (append_assoc (part_code plan part) (flat_map (part_code plan) parts) (Return 0 ∷ [])
     ∙ append_assoc (set_code part.set (length body)) body others)
-    ∙ set_goes part.set d body others (Some (value_of (response_in plan d part)))
-    (Some (value_of (response_at plan d (find (λ (part : PartData). is_of_set part.set d) parts))))
+    ∙ set_goes part.set d body others (Some (returned_value_of (response_in plan d part)))
+    (Some (returned_value_of (response_of_part plan d (find (λ (part : SetRulesData). is_of_set part.set d) parts))))
     (body_goes plan part d others input) (parts_go plan d parts input) a
     ∙ by (is_of_set part.set d)
   where
-    by : (b : Bool) → choose b (Some (value_of (response_in plan d part)))
-        (Some (value_of (response_at plan d (find (λ (part : PartData). is_of_set part.set d) parts))))
-        ≡ Some (value_of (response_at plan d (if b then Some part
-        else find (λ (part : PartData). is_of_set part.set d) parts)))
+    by : (b : Bool) → choose b (Some (returned_value_of (response_in plan d part)))
+        (Some (returned_value_of (response_of_part plan d
+        (find (λ (part : SetRulesData). is_of_set part.set d) parts))))
+        ≡ Some (returned_value_of (response_of_part plan d (if b then Some part
+        else find (λ (part : SetRulesData). is_of_set part.set d) parts)))
     by true = refl
     by false = refl
 
 pub form_answers : (plan : PlanData) (d : Input) → length (form plan) ≤ 4096 → AreInsns (map raw_of (form plan))
     → IsInput d → Answers (map insn_of (form plan) ∷ []) d (meaning plan d)
 form_answers plan d short fields input =
-    let response = response_at plan d (find (λ (part : PartData). is_of_set part.set d) plan.parts) in
-    let value = return_is (form plan) d (value_of response) (form_lawful plan short fields)
+    let response = response_of_part plan d (find (λ (part : SetRulesData). is_of_set part.set d) plan.parts) in
+    let value = return_is (form plan) d (returned_value_of response) (form_lawful plan short fields)
     (parts_go plan d plan.parts input 0) in
-    subst (λ v. IsAnswer (v ∷ []) (answer_of response)) (sym value) (answers response)
+    subst (λ v. IsAnswer (v ∷ []) (answer_of_response response)) (sym value) (answers response)

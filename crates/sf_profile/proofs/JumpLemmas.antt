@@ -14,9 +14,9 @@ use Rattle.sf_profile.specs.declared.rules.Comparison.{Comparison}
 use Rattle.sf_profile.specs.declared.rules.Reading.{Reading}
 use Rattle.sf_profile.specs.declared.instruction.Instruction.{Instruction}
 use Rattle.sf_profile.specs.declared.instruction.Instruction.TheVariants.{Load, Mask, Branch, Skip, Return}
-use Rattle.sf_profile.specs.Data.{RuleData, PartData, PlanData}
+use Rattle.sf_profile.specs.Data.{RuleData, SetRulesData, PlanData}
 use Rattle.sf_profile.specs.Meaning.{is_wide, word_of, order, refuses_newer}
-use Rattle.sf_profile.specs.Form.{test_code, wide_code, masked_code, comparing_code, comparison_code, comparisons_code, return_code, direct_code, through_code, operation_code, call_code, rule_code, rule_at, round_code, places, newer_where, above_rules, body_code, set_code, part_code, form, value_of}
+use Rattle.sf_profile.specs.Form.{test_code, wide_code, masked_code, comparing_code, comparison_code, comparisons_code, return_code, direct_code, through_code, operation_code, call_code, rule_code, rule_at, round_code, places, newer_where, above_rules, body_code, set_code, part_code, form, returned_value_of}
 
 -- an instruction is in range, and goes on inside, where so many instructions follow it
 abbrev pub Leads : Instruction → ℕ → Type 0
@@ -157,8 +157,8 @@ operation_leads code value number (Some operation) h = through_leads code value 
 
 rule_leads : (wide : Bool) (rule : RuleData) → AllLead 1 (rule_code wide rule)
 rule_leads wide rule =
-    all_flat (call_code (comparisons_code wide rule.comparisons) (value_of rule.response)) rule.calls
-    (λ call. operation_leads (comparisons_code wide rule.comparisons) (value_of rule.response) call.number
+    all_flat (call_code (comparisons_code wide rule.comparisons) (returned_value_of rule.response)) rule.calls
+    (λ call. operation_leads (comparisons_code wide rule.comparisons) (returned_value_of rule.response) call.number
     call.operation (comparisons_lead wide rule.comparisons))
 
 where_leads : (b : Bool) (code : List Instruction) → AllLead 1 code → AllLead 1 (if b then code else [])
@@ -179,12 +179,12 @@ newer_leads true rules =
     ∷ Return (0x00050000 + 38) ∷ []) ((omega arith, omega arith), (tt, tt))
 newer_leads false rules = tt
 
-body_leads : (plan : PlanData) (part : PartData) → AllLead 1 (body_code plan part)
+body_leads : (plan : PlanData) (part : SetRulesData) → AllLead 1 (body_code plan part)
 body_leads plan part =
     let newer = newer_where (plan.newer && refuses_newer plan.default) part.rules in
     let passes = flat_map (round_code plan.reading (is_wide part.set) part.rules) places in (
       omega arith,
-      all_append (newer ++ passes) (Return (value_of plan.default) ∷ []) 1 1 (omega arith)
+      all_append (newer ++ passes) (Return (returned_value_of plan.default) ∷ []) 1 1 (omega arith)
           (all_append newer passes 1 1 (omega arith)
           (newer_leads (plan.newer && refuses_newer plan.default) part.rules)
           (all_flat (round_code plan.reading (is_wide part.set) part.rules) places
@@ -229,7 +229,7 @@ set_leads I386 size = (omega arith, ((omega arith, omega arith), (omega arith, t
 set_leads Aarch64 size = (omega arith, ((omega arith, omega arith), (omega arith, tt)))
 set_leads Arm size = (omega arith, ((omega arith, omega arith), (omega arith, tt)))
 
-part_leads : (plan : PlanData) (part : PartData) → AllLead 1 (part_code plan part)
+part_leads : (plan : PlanData) (part : SetRulesData) → AllLead 1 (part_code plan part)
 part_leads plan part =
     let body = body_code plan part in
     all_append (set_code part.set (length body)) body (length body + 1) 1 (omega arith)

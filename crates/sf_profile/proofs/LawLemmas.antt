@@ -12,12 +12,12 @@ use Rattle.sf_profile.specs.declared.rules.Reading.TheVariants.{Strictest, Milde
 use Rattle.sf_profile.specs.declared.rules.Response.{Response}
 use Rattle.sf_profile.specs.declared.rules.Response.TheVariants.{KillProcess, KillThread, Trap, Errno, Notify, Tracer, Log, Allow}
 use Rattle.sf_profile.specs.declared.settings.Settings.{Settings}
-use Rattle.sf_profile.specs.Data.{RuleData, PartData, PlanData}
+use Rattle.sf_profile.specs.Data.{RuleData, SetRulesData, PlanData}
 use Rattle.sf_profile.specs.Plans.{applies}
-use Rattle.sf_profile.specs.Meaning.{answer_of, number_in, is_wide, says, response_of, refuses_newer, is_newer, response_in, order, preferred, pick, strictness}
+use Rattle.sf_profile.specs.Meaning.{answer_of_response, number_in, is_wide, says, response_of, refuses_newer, is_newer, response_in, order, preferred, pick, strictness}
 use Rattle.sf_profile.proofs.PickLemmas.{strictness_small}
 
-pub only_newer : (plan : PlanData) (d : Input) (part : PartData) → is_newer (number_in d) part.rules ≡ false
+pub only_newer : (plan : PlanData) (d : Input) (part : SetRulesData) → is_newer (number_in d) part.rules ≡ false
     → response_in plan d part ≡ response_in (record plan { newer = false }) d part
 only_newer plan d part none = rw none (by (plan.newer && refuses_newer plan.default))
   where
@@ -136,7 +136,7 @@ applied_by_words s t rule machine caps kernel = rw (machine, caps, kernel) refl
 -- the rank of each action, by the place of a response
 abbrev IsRanked : Response → Type 0
 IsRanked r =
-    let n = rank (action_number (answer_of r).action) in
+    let n = rank (action_number (answer_of_response r).action) in
     ((strictness r ≡ 0) × (n ≡ 0)) ⊎ ((strictness r ≡ 1) × (n ≡ 0x80000000))
     ⊎ ((strictness r ≡ 2) × (n ≡ 0x80030000)) ⊎ ((strictness r ≡ 3) × (n ≡ 0x80050000))
     ⊎ ((strictness r ≡ 4) × (n ≡ 0xffc00000)) ⊎ ((strictness r ≡ 5) × (n ≡ 0xfff00000))
@@ -153,5 +153,5 @@ ranked Log = inr (inr (inr (inr (inr (inr (inl (refl, refl)))))))
 ranked Allow = inr (inr (inr (inr (inr (inr (inr (refl, refl)))))))
 
 pub before_by_rank : (a b : Response) → strictness a < strictness b
-    → rank (action_number (answer_of a).action) < rank (action_number (answer_of b).action)
+    → rank (action_number (answer_of_response a).action) < rank (action_number (answer_of_response b).action)
 before_by_rank a b h = grind (arith, h, ranked a, ranked b)

@@ -12,7 +12,7 @@ use Rattle.sf_profile.specs.declared.instruction.Instruction.{Instruction}
 use Rattle.sf_profile.specs.declared.instruction.Instruction.TheVariants.{Return}
 use Rattle.sf_profile.specs.Data.{RuleData}
 use Rattle.sf_profile.specs.Meaning.{number_in, is_newer}
-use Rattle.sf_profile.specs.Form.{above_calls, above_rules, newer_code, newer_where, value_of}
+use Rattle.sf_profile.specs.Form.{above_calls, above_rules, newer_code, newer_where, returned_value_of}
 use Rattle.sf_profile.proofs.Returns.{returned}
 use Rattle.sf_profile.proofs.ComparisonLemmas.{choose}
 
@@ -59,19 +59,19 @@ newer_is number rules =
 
 code_goes : (d : Input) (least : ℕ) (more : List Instruction) → IsInput d
     → returned (newer_code least ++ more) d 0 (number_in d)
-    ≡ choose (nat_le least (number_in d)) (Some (value_of (Errno 38))) (returned more d 0 (number_in d))
+    ≡ choose (nat_le least (number_in d)) (Some (returned_value_of (Errno 38))) (returned more d 0 (number_in d))
 code_goes d least more input = by (cases_lt least (2 ^ 32))
   where
     small : number_in d < 2 ^ 32
     small = input.each 0
 
     here : (b : Bool) → returned (Return (0x00050000 + 38) ∷ more) d (if b then 0 else 1) (number_in d)
-        ≡ choose b (Some (value_of (Errno 38))) (returned more d 0 (number_in d))
+        ≡ choose b (Some (returned_value_of (Errno 38))) (returned more d 0 (number_in d))
     here true = refl
     here false = refl
 
     by : (least < 2 ^ 32) ⊎ (2 ^ 32 ≤ least) → returned (newer_code least ++ more) d 0 (number_in d)
-        ≡ choose (nat_le least (number_in d)) (Some (value_of (Errno 38))) (returned more d 0 (number_in d))
+        ≡ choose (nat_le least (number_in d)) (Some (returned_value_of (Errno 38))) (returned more d 0 (number_in d))
     by (inl lt) = rw (lt-ltb least (2 ^ 32) lt) (here (nat_le least (number_in d)))
     by (inr le) =
         let above : nat_le least (number_in d) ≡ false = grind (arith, nat_tests) in
@@ -80,8 +80,10 @@ code_goes d least more input = by (cases_lt least (2 ^ 32))
 -- newer calls fail where that is asked for
 pub newer_goes : (asked : Bool) (d : Input) (rules : List RuleData) (more : List Instruction) → IsInput d
     → returned (newer_where asked rules ++ more) d 0 (number_in d)
-    ≡ choose (asked && is_newer (number_in d) rules) (Some (value_of (Errno 38))) (returned more d 0 (number_in d))
+    ≡ choose (asked && is_newer (number_in d) rules) (Some (returned_value_of (Errno 38)))
+    (returned more d 0 (number_in d))
 newer_goes true d rules more input =
     code_goes d (above_rules rules) more input
-    ∙ ap (λ b. choose b (Some (value_of (Errno 38))) (returned more d 0 (number_in d))) (newer_is (number_in d) rules)
+    ∙ ap (λ b. choose b (Some (returned_value_of (Errno 38))) (returned more d 0 (number_in d)))
+    (newer_is (number_in d) rules)
 newer_goes false d rules more input = refl

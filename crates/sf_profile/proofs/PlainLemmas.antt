@@ -14,9 +14,9 @@ use Rattle.sf_profile.specs.declared.rules.Call.{Call}
 use Rattle.sf_profile.specs.declared.rules.Reading.{Reading}
 use Rattle.sf_profile.specs.declared.instruction.Instruction.{Instruction}
 use Rattle.sf_profile.specs.declared.instruction.Instruction.TheVariants.{Load, Mask, Branch, Skip, Return}
-use Rattle.sf_profile.specs.Data.{RuleData, PartData, PlanData}
+use Rattle.sf_profile.specs.Data.{RuleData, SetRulesData, PlanData}
 use Rattle.sf_profile.specs.Meaning.{is_wide, word_of, order, refuses_newer}
-use Rattle.sf_profile.specs.Form.{test_code, comparing_code, comparisons_code, operation_code, call_code, rule_code, rule_at, round_code, places, newer_where, above_rules, body_code, set_code, part_code, form, value_of}
+use Rattle.sf_profile.specs.Form.{test_code, comparing_code, comparisons_code, operation_code, call_code, rule_code, rule_at, round_code, places, newer_where, above_rules, body_code, set_code, part_code, form, returned_value_of}
 use Rattle.sf_profile.specs.Filters.{HasNoMask, IsUnmasked}
 use Rattle.sf_profile.proofs.RunLemmas.{insn_of}
 
@@ -113,8 +113,8 @@ call_simple code value call h = by code call.operation h
 
 rule_simple : (wide : Bool) (rule : RuleData) → All IsUnmasked rule.comparisons → AreSimple (rule_code wide rule)
 rule_simple wide rule h =
-    each (call_code (comparisons_code wide rule.comparisons) (value_of rule.response)) rule.calls
-    (λ call. call_simple (comparisons_code wide rule.comparisons) (value_of rule.response) call
+    each (call_code (comparisons_code wide rule.comparisons) (returned_value_of rule.response)) rule.calls
+    (λ call. call_simple (comparisons_code wide rule.comparisons) (returned_value_of rule.response) call
     (comparisons_simple wide rule.comparisons h))
 
 at_simple : (reading : Reading) (wide : Bool) (place : ℕ) (rule : RuleData) → All IsUnmasked rule.comparisons
@@ -134,12 +134,12 @@ newer_simple true rules = by (nat_lt (above_rules rules) (2 ^ 32))
     by true = (tt, (tt, tt))
     by false = tt
 
-body_simple : (plan : PlanData) (part : PartData) → All (λ (r : RuleData). All IsUnmasked r.comparisons) part.rules
+body_simple : (plan : PlanData) (part : SetRulesData) → All (λ (r : RuleData). All IsUnmasked r.comparisons) part.rules
     → AreSimple (body_code plan part)
 body_simple plan part h = (
   tt,
   both (newer_where (plan.newer && refuses_newer plan.default) part.rules ++ rounds)
-      (Return (value_of plan.default) ∷ [])
+      (Return (returned_value_of plan.default) ∷ [])
       (both (newer_where (plan.newer && refuses_newer plan.default) part.rules) rounds
       (newer_simple (plan.newer && refuses_newer plan.default) part.rules)
       (each (round_code plan.reading (is_wide part.set) part.rules) places
@@ -162,7 +162,7 @@ pub form_plain : (plan : PlanData) → HasNoMask plan → IsPlain (map insn_of (
 form_plain plan h =
     All-cons (λ p. All IsPlainInsn p) (map insn_of (form plan)) [] (become_plain (form plan)
     (both (flat_map (part_code plan) plan.parts) (Return 0 ∷ [])
-    (each_where (λ (part : PartData). All (λ (r : RuleData). All IsUnmasked r.comparisons) part.rules)
+    (each_where (λ (part : SetRulesData). All (λ (r : RuleData). All IsUnmasked r.comparisons) part.rules)
     (part_code plan) plan.parts
     (λ part p. both _ (body_code plan part) (set_simple part.set _) (body_simple plan part p)) h) (tt, tt)))
     (All-nil (λ p. All IsPlainInsn p))

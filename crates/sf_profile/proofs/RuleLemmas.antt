@@ -11,7 +11,7 @@ use Rattle.sf_profile.specs.declared.instruction.Instruction.{Instruction}
 use Rattle.sf_profile.specs.declared.instruction.Instruction.TheVariants.{Load, Branch, Return}
 use Rattle.sf_profile.specs.Data.{RuleData}
 use Rattle.sf_profile.specs.Meaning.{number_in, is_operation, is_call, holds, says, order}
-use Rattle.sf_profile.specs.Form.{comparisons_code, return_code, direct_code, through_code, operation_code, call_code, rule_code, rule_at, round_code, value_of}
+use Rattle.sf_profile.specs.Form.{comparisons_code, return_code, direct_code, through_code, operation_code, call_code, rule_code, rule_at, round_code, returned_value_of}
 use Rattle.sf_profile.proofs.Returns.{returned, skip_more}
 use Rattle.sf_profile.proofs.ComparisonLemmas.{Goes, choose, comparisons_go}
 
@@ -110,16 +110,16 @@ calls_go code d asked v (c ∷ cs) more h =
 
 rule_goes : (wide : Bool) (d : Input) (rule : RuleData) (more : List Instruction) → IsInput d
     → returned (rule_code wide rule ++ more) d 0 (number_in d)
-    ≡ choose (says wide d rule) (Some (value_of rule.response)) (returned more d 0 (number_in d))
+    ≡ choose (says wide d rule) (Some (returned_value_of rule.response)) (returned more d 0 (number_in d))
 rule_goes wide d rule more input =
     calls_go (comparisons_code wide rule.comparisons) d (list_all (holds wide d) rule.comparisons)
-    (value_of rule.response) rule.calls more
+    (returned_value_of rule.response) rule.calls more
     (λ more r s p q a. comparisons_go wide d rule.comparisons more r s input p q a)
 
 -- what a rule returns, if there is one, and else what comes next
 abbrev pub after_rule : Option RuleData → Option ℕ → Option ℕ
 after_rule None s = s
-after_rule (Some rule) s = Some (value_of rule.response)
+after_rule (Some rule) s = Some (returned_value_of rule.response)
 
 -- the first of some rules with a place
 abbrev pub first_at : Reading → ℕ → List RuleData → Option RuleData
@@ -139,7 +139,7 @@ pass_goes reading wide d place (rule ∷ rules) more input =
     next = returned more d 0 (number_in d)
 
     said : (b : Bool) → (order reading rule == place) ≡ true
-        → choose b (Some (value_of rule.response))
+        → choose b (Some (returned_value_of rule.response))
         (after_rule (first_at reading place (filter (says wide d) rules)) next)
         ≡ after_rule (first_at reading place (if b then rule ∷ filter (says wide d) rules
         else filter (says wide d) rules))
@@ -163,7 +163,7 @@ pass_goes reading wide d place (rule ∷ rules) more input =
         ≡ after_rule (first_at reading place (filter (says wide d) (rule ∷ rules))) next
     at rest true e =
         rule_goes wide d rule (round_code reading wide rules place ++ more) input
-        ∙ ap (choose (says wide d rule) (Some (value_of rule.response))) rest
+        ∙ ap (choose (says wide d rule) (Some (returned_value_of rule.response))) rest
         ∙ said (says wide d rule) e
     at rest false e = rest ∙ other (says wide d rule) e
 

@@ -16,11 +16,11 @@ use Rattle.sf_profile.specs.declared.rules.Call.{Call}
 use Rattle.sf_profile.specs.declared.rules.Reading.{Reading}
 use Rattle.sf_profile.specs.declared.instruction.Instruction.{Instruction}
 use Rattle.sf_profile.specs.declared.instruction.Instruction.TheVariants.{Load, Mask, Branch, Skip, Return}
-use Rattle.sf_profile.specs.Data.{RuleData, PartData, PlanData}
+use Rattle.sf_profile.specs.Data.{RuleData, SetRulesData, PlanData}
 use Rattle.sf_profile.specs.declared.settings.Settings.{Settings}
 use Rattle.sf_profile.specs.Meaning.{is_wide, word_of, order, refuses_newer}
-use Rattle.sf_profile.specs.Form.{test_code, wide_code, masked_code, comparing_code, comparison_code, comparisons_code, return_code, direct_code, operation_code, call_code, rule_code, rule_at, round_code, places, newer_where, above_rules, body_code, set_code, part_code, form, fits, is_short, value_of}
-use Rattle.sf_profile.specs.Plans.{applies, alternatives, compares_twice, comparison_of, rule_of, rules_of, part_of, sets_of, plan_of}
+use Rattle.sf_profile.specs.Form.{test_code, wide_code, masked_code, comparing_code, comparison_code, comparisons_code, return_code, direct_code, operation_code, call_code, rule_code, rule_at, round_code, places, newer_where, above_rules, body_code, set_code, part_code, form, fits, is_short, returned_value_of}
+use Rattle.sf_profile.specs.Plans.{applies, alternatives, compares_twice, comparison_of, rule_of, rules_of, rules_of_set, sets_of, plan_of}
 use Rattle.sf_profile.specs.Trees.{at, listed}
 
 -- an instruction whose jumps have their widths
@@ -154,7 +154,7 @@ calls_short code value (c ∷ cs) s h =
 
 rule_short : (wide : Bool) (rule : RuleData) → length rule.comparisons ≤ 6 → AllShort (rule_code wide rule)
 rule_short wide rule h =
-    calls_short (comparisons_code wide rule.comparisons) (value_of rule.response) rule.calls
+    calls_short (comparisons_code wide rule.comparisons) (returned_value_of rule.response) rule.calls
     (omega (arith, comparisons_size wide rule.comparisons)) (comparisons_short wide rule.comparisons h)
 
 where_short : (b : Bool) (code : List Instruction) → AllShort code → AllShort (if b then code else [])
@@ -189,12 +189,12 @@ newer_short false rules = tt
 
 -- ---- the whole
 
-body_short : (plan : PlanData) (part : PartData) → HaveFew part.rules → AllShort (body_code plan part)
+body_short : (plan : PlanData) (part : SetRulesData) → HaveFew part.rules → AllShort (body_code plan part)
 body_short plan part h =
     let newer = newer_where (plan.newer && refuses_newer plan.default) part.rules in
     let passes = flat_map (round_code plan.reading (is_wide part.set) part.rules) places in (
       tt,
-      short_append (newer ++ passes) (Return (value_of plan.default) ∷ [])
+      short_append (newer ++ passes) (Return (returned_value_of plan.default) ∷ [])
           (short_append newer passes (newer_short (plan.newer && refuses_newer plan.default) part.rules)
           (passes_short plan.reading (is_wide part.set) part.rules places h)) (tt, tt),
     )
@@ -208,11 +208,11 @@ set_short I386 size h = (tt, ((omega arith, omega arith), (h, tt)))
 set_short Aarch64 size h = (tt, ((omega arith, omega arith), (h, tt)))
 set_short Arm size h = (tt, ((omega arith, omega arith), (h, tt)))
 
-abbrev PartsHaveFew : List PartData → Type 0
+abbrev PartsHaveFew : List SetRulesData → Type 0
 PartsHaveFew [] = Unit {0}
 PartsHaveFew (part ∷ parts) = HaveFew part.rules × PartsHaveFew parts
 
-parts_short : (plan : PlanData) (parts : List PartData) → PartsHaveFew parts
+parts_short : (plan : PlanData) (parts : List SetRulesData) → PartsHaveFew parts
     → length (flat_map (part_code plan) parts) ≤ 4096 → AllShort (flat_map (part_code plan) parts)
 parts_short plan [] h size = tt
 parts_short plan (part ∷ parts) h size =
@@ -269,7 +269,7 @@ rules_few s set (d ∷ ds) =
     by true = alternatives_few s set d (map comparison_of (listed (at (codes "args") d)))
     by false = tt
 
-parts_few : (s : Settings) (d : Data) (sets : List CallSet) → PartsHaveFew (map (part_of s d) sets)
+parts_few : (s : Settings) (d : Data) (sets : List CallSet) → PartsHaveFew (map (rules_of_set s d) sets)
 parts_few s d [] = tt
 parts_few s d (set ∷ sets) = (rules_few s set (listed (at (codes "syscalls") d)), parts_few s d sets)
 

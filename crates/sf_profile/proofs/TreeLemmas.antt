@@ -6,7 +6,7 @@ use Rattle.std.specs.Str.{bytes_eq}
 use Rattle.serde_json.specs.Data.{Data}
 use Rattle.serde_json.specs.View.{view, items_view, members_view}
 use Rattle.serde_json.specs.declared.value.Value.{Value}
-use Rattle.sf_profile.specs.Trees.{item_list, keys_are_among}
+use Rattle.sf_profile.specs.Trees.{items_in, keys_are_among}
 
 pub any_now : (text : List ℕ) (known : List (Bor (List ℕ)))
     → list_any (bytes_eq text) (map (λ k. k.now) known) ≡ list_any (λ k. bytes_eq text k.now) known
@@ -19,7 +19,7 @@ pub only_view : (known : List (Bor (List ℕ))) (es : List (String Global × Val
 only_view known [] = refl
 only_view known (e ∷ es) = rw (any_now (string_bytes e.0) known, only_view known es) refl
 
-pub listed_view : (vs : List Value) → item_list (items_view vs) ≡ map view vs
+pub listed_view : (vs : List Value) → items_in (items_view vs) ≡ map view vs
 listed_view [] = refl
 listed_view (v ∷ vs) = ap (λ ds. view v ∷ ds) (listed_view vs)
 
@@ -28,5 +28,5 @@ all_map test [] = refl
 all_map test (v ∷ vs) = ap (λ b. test (view v) && b) (all_map test vs)
 
 pub all_view : (test : Data → Bool) (vs : List Value)
-    → list_all test (item_list (items_view vs)) ≡ list_all (λ v. test (view v)) vs
+    → list_all test (items_in (items_view vs)) ≡ list_all (λ v. test (view v)) vs
 all_view test vs = ap (list_all test) (listed_view vs) ∙ all_map test vs

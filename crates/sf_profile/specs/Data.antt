@@ -13,14 +13,14 @@ pub record RuleData : Type 0 where
   pub response : Response
 
 -- the rules of a set of calls, in the profile's order
-pub record PartData : Type 0 where
+pub record SetRulesData : Type 0 where
   pub set : CallSet
   pub rules : List RuleData
 
 -- the sets of calls, what becomes of a call that no rule speaks of, which of several rules counts, and whether calls
 -- that are newer than the profile fail with ENOSYS
 pub record PlanData : Type 0 where
-  pub parts : List PartData
+  pub parts : List SetRulesData
   pub default : Response
   pub reading : Reading
   pub newer : Bool

@@ -13,7 +13,7 @@ use Rattle.sf_profile.specs.declared.fault.Fault.{Fault}
 use Rattle.sf_profile.specs.declared.fault.Fault.TheVariants as faults
 use Rattle.sf_profile.specs.declared.rules.Comparing.TheVariants.{MaskedEqual}
 use Rattle.sf_profile.specs.declared.rules.Comparison.{Comparison}
-use Rattle.sf_profile.specs.Data.{PartData, PlanData, RuleData}
+use Rattle.sf_profile.specs.Data.{SetRulesData, PlanData, RuleData}
 use Rattle.sf_profile.specs.Meaning.{meaning}
 use Rattle.sf_profile.specs.Form.{form}
 use Rattle.sf_profile.specs.declared.settings.Settings.{Settings}
@@ -27,7 +27,7 @@ IsUnmasked c = c.comparing ≢ MaskedEqual
 -- no rule compares under a mask
 abbrev pub HasNoMask : PlanData → Type 0
 HasNoMask plan =
-    All (λ (part : PartData). All (λ (rule : RuleData). All IsUnmasked rule.comparisons) part.rules) plan.parts
+    All (λ (part : SetRulesData). All (λ (rule : RuleData). All IsUnmasked rule.comparisons) part.rules) plan.parts
 
 -- The bytes spell a lawful program, which answers each input as the profile means. Where no rule compares under a mask,
 -- it is plain, so that what is explored of it is exact.

@@ -16,19 +16,19 @@ use Rattle.sf_profile.specs.declared.rules.Call.{Call}
 use Rattle.sf_profile.specs.declared.rules.Reading.{Reading}
 use Rattle.sf_profile.specs.declared.instruction.Instruction.{Instruction}
 use Rattle.sf_profile.specs.declared.instruction.Instruction.TheVariants.{Load, Mask, Branch, Skip, Return}
-use Rattle.sf_profile.specs.Data.{RuleData, PartData, PlanData}
+use Rattle.sf_profile.specs.Data.{RuleData, SetRulesData, PlanData}
 use Rattle.sf_profile.specs.Meaning.{arch_of, is_wide, word_of, order, refuses_newer}
 
 -- the value that a filter returns for a response: the number of its action, with its data of 16 bits
-abbrev pub value_of : Response → ℕ
-value_of KillProcess = 0x80000000
-value_of KillThread = 0
-value_of Trap = 0x00030000
-value_of (Errno number) = 0x00050000 + number % 2 ^ 16
-value_of Notify = 0x7fc00000
-value_of (Tracer number) = 0x7ff00000 + number % 2 ^ 16
-value_of Log = 0x7ffc0000
-value_of Allow = 0x7fff0000
+abbrev pub returned_value_of : Response → ℕ
+returned_value_of KillProcess = 0x80000000
+returned_value_of KillThread = 0
+returned_value_of Trap = 0x00030000
+returned_value_of (Errno number) = 0x00050000 + number % 2 ^ 16
+returned_value_of Notify = 0x7fc00000
+returned_value_of (Tracer number) = 0x7ff00000 + number % 2 ^ 16
+returned_value_of Log = 0x7ffc0000
+returned_value_of Allow = 0x7fff0000
 
 -- ---- comparisons
 
@@ -121,7 +121,8 @@ call_code code value call = operation_code code value call.number call.operation
 
 -- what is done by a rule, call after call
 abbrev pub rule_code : Bool → RuleData → List Instruction
-rule_code wide rule = flat_map (call_code (comparisons_code wide rule.comparisons) (value_of rule.response)) rule.calls
+rule_code wide rule =
+    flat_map (call_code (comparisons_code wide rule.comparisons) (returned_value_of rule.response)) rule.calls
 
 -- the code of a rule, if this is its place
 abbrev pub rule_at : Reading → Bool → ℕ → RuleData → List Instruction
@@ -158,10 +159,11 @@ newer_where false rules = []
 -- ---- the whole
 
 -- what is done at an input of a set
-abbrev pub body_code : PlanData → PartData → List Instruction
+abbrev pub body_code : PlanData → SetRulesData → List Instruction
 body_code plan part =
     Load 0 ∷ newer_where (plan.newer && refuses_newer plan.default) part.rules
-    ++ flat_map (round_code plan.reading (is_wide part.set) part.rules) places ++ Return (value_of plan.default) ∷ []
+    ++ flat_map (round_code plan.reading (is_wide part.set) part.rules) places
+    ++ Return (returned_value_of plan.default) ∷ []
 
 -- skips so many instructions where the input isn't of the set
 abbrev pub set_code : CallSet → ℕ → List Instruction
@@ -174,7 +176,7 @@ set_code X32 size =
 set_code set size = Load 1 ∷ Branch tests.Equal (arch_of set) 1 0 ∷ Skip size ∷ []
 
 -- what is done for a set
-abbrev pub part_code : PlanData → PartData → List Instruction
+abbrev pub part_code : PlanData → SetRulesData → List Instruction
 part_code plan part = set_code part.set (length (body_code plan part)) ++ body_code plan part
 
 -- the whole filter: at an input of no set the thread is killed

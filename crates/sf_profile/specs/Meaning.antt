@@ -16,20 +16,20 @@ use Rattle.sf_profile.specs.declared.rules.Response.TheVariants.{KillProcess, Ki
 use Rattle.sf_profile.specs.declared.rules.Call.{Call}
 use Rattle.sf_profile.specs.declared.rules.Reading.{Reading}
 use Rattle.sf_profile.specs.declared.rules.Reading.TheVariants.{Strictest, Mildest, First}
-use Rattle.sf_profile.specs.Data.{RuleData, PartData, PlanData}
+use Rattle.sf_profile.specs.Data.{RuleData, SetRulesData, PlanData}
 
 -- ---- answers
 
 -- the answer that a response stands for; its data has 16 bits
-abbrev pub answer_of : Response → Answer
-answer_of KillProcess = record { action = actions.KillProcess; info = 0 }
-answer_of KillThread = record { action = actions.KillThread; info = 0 }
-answer_of Trap = record { action = actions.Trap; info = 0 }
-answer_of (Errno number) = record { action = actions.Errno; info = number % 2 ^ 16 }
-answer_of Notify = record { action = actions.UserNotif; info = 0 }
-answer_of (Tracer number) = record { action = actions.Trace; info = number % 2 ^ 16 }
-answer_of Log = record { action = actions.Log; info = 0 }
-answer_of Allow = record { action = actions.Allow; info = 0 }
+abbrev pub answer_of_response : Response → Answer
+answer_of_response KillProcess = record { action = actions.KillProcess; info = 0 }
+answer_of_response KillThread = record { action = actions.KillThread; info = 0 }
+answer_of_response Trap = record { action = actions.Trap; info = 0 }
+answer_of_response (Errno number) = record { action = actions.Errno; info = number % 2 ^ 16 }
+answer_of_response Notify = record { action = actions.UserNotif; info = 0 }
+answer_of_response (Tracer number) = record { action = actions.Trace; info = number % 2 ^ 16 }
+answer_of_response Log = record { action = actions.Log; info = 0 }
+answer_of_response Allow = record { action = actions.Allow; info = 0 }
 
 -- ---- sets of calls
 
@@ -62,16 +62,16 @@ abbrev pub arch_in : Input → ℕ
 arch_in d = slice_index d.words 1
 
 -- the numbers of a set, where its architecture has several
-abbrev pub has_number : CallSet → ℕ → Bool
-has_number X64 number = is_x64_number number
-has_number X32 number = not (is_x64_number number)
-has_number I386 number = true
-has_number Aarch64 number = true
-has_number Arm number = true
+abbrev pub is_number_of_set : CallSet → ℕ → Bool
+is_number_of_set X64 number = is_x64_number number
+is_number_of_set X32 number = not (is_x64_number number)
+is_number_of_set I386 number = true
+is_number_of_set Aarch64 number = true
+is_number_of_set Arm number = true
 
 -- the input is a call of this set
 abbrev pub is_of_set : CallSet → Input → Bool
-is_of_set set d = (arch_in d == arch_of set) && has_number set (number_in d)
+is_of_set set d = (arch_in d == arch_of set) && is_number_of_set set (number_in d)
 
 -- ---- comparisons
 
@@ -175,16 +175,17 @@ response_of default None = default
 response_of default (Some rule) = rule.response
 
 -- what becomes of an input of a set
-abbrev pub response_in : PlanData → Input → PartData → Response
+abbrev pub response_in : PlanData → Input → SetRulesData → Response
 response_in plan d part =
     if (plan.newer && refuses_newer plan.default) && is_newer (number_in d) part.rules then Errno 38
     else response_of plan.default (pick plan.reading (filter (says (is_wide part.set) d) part.rules))
 
 -- what becomes of an input of the set that is found; where none is, its thread is killed
-abbrev pub response_at : PlanData → Input → Option PartData → Response
-response_at plan d None = KillThread
-response_at plan d (Some part) = response_in plan d part
+abbrev pub response_of_part : PlanData → Input → Option SetRulesData → Response
+response_of_part plan d None = KillThread
+response_of_part plan d (Some part) = response_in plan d part
 
 -- the profile's answer to an input
 abbrev pub meaning : PlanData → Input → Answer
-meaning plan d = answer_of (response_at plan d (find (λ (part : PartData). is_of_set part.set d) plan.parts))
+meaning plan d =
+    answer_of_response (response_of_part plan d (find (λ (part : SetRulesData). is_of_set part.set d) plan.parts))

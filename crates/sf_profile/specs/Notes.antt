@@ -12,19 +12,19 @@ use Rattle.sf_profile.specs.declared.settings.Calls.{Calls}
 use Rattle.sf_profile.specs.declared.settings.Settings.{Settings}
 use Rattle.sf_profile.specs.Trees.{at, listed}
 use Rattle.sf_profile.specs.Settings.{number_where}
-use Rattle.sf_profile.specs.Plans.{applies, names_of, response_at, sets_of, plan_of}
+use Rattle.sf_profile.specs.Plans.{applies, rule_names, response_at, sets_of, plan_of}
 use Rattle.sf_profile.specs.Refusals.{profile_in, profile_refusal}
 use Rattle.sf_profile.specs.Filters.{IsFilterOf, IsTree}
 
 -- the parts of a line one blank apart, and a line feed
-abbrev pub line : List (List ℕ) → List ℕ
-line [] = 10 ∷ []
-line (part ∷ []) = part ++ 10 ∷ []
-line (part ∷ next ∷ parts) = part ++ 32 ∷ line (next ∷ parts)
+abbrev pub note_line : List (List ℕ) → List ℕ
+note_line [] = 10 ∷ []
+note_line (part ∷ []) = part ++ 10 ∷ []
+note_line (part ∷ next ∷ parts) = part ++ 32 ∷ note_line (next ∷ parts)
 
 -- the names of a rule, if it applies
 abbrev pub names_where : Settings → Data → List (List ℕ)
-names_where s d = if applies s d then names_of d else []
+names_where s d = if applies s d then rule_names d else []
 
 -- a name more, if it isn't there yet
 unfoldable pub with_name : List (List ℕ) → List ℕ → List (List ℕ)
@@ -74,7 +74,7 @@ response_data _ = 0
 
 abbrev pub default_line : Response → List ℕ
 default_line response =
-    line (codes "default" ∷ response_name response ∷ decimal (response_data response) ∷ [])
+    note_line (codes "default" ∷ response_name response ∷ decimal (response_data response) ∷ [])
 
 -- the sets, one blank before each
 abbrev pub set_words : CallSet → List ℕ
@@ -84,27 +84,27 @@ abbrev pub sets_line : List CallSet → List ℕ
 sets_line sets = codes "sets" ++ flat_map set_words sets ++ 10 ∷ []
 
 -- how many rules there are and apply, and how many names they have and no file has
-abbrev pub counts_line : ℕ → ℕ → ℕ → ℕ → List ℕ
-counts_line rules applied names unknown =
-    line (codes "rules" ∷ decimal rules ∷ codes "applied" ∷ decimal applied ∷ codes "names" ∷ decimal names
+abbrev pub rules_line : ℕ → ℕ → ℕ → ℕ → List ℕ
+rules_line rules applied names unknown =
+    note_line (codes "rules" ∷ decimal rules ∷ codes "applied" ∷ decimal applied ∷ codes "names" ∷ decimal names
     ∷ codes "unknown" ∷ decimal unknown ∷ [])
 
 abbrev pub unknown_line : List ℕ → List ℕ
-unknown_line name = line (codes "unknown" ∷ name ∷ [])
+unknown_line name = note_line (codes "unknown" ∷ name ∷ [])
 
-abbrev pub total_line : ℕ → List ℕ
-total_line size = line (codes "total" ∷ codes "instructions" ∷ decimal size ∷ [])
+abbrev pub instructions_line : ℕ → List ℕ
+instructions_line size = note_line (codes "total" ∷ codes "instructions" ∷ decimal size ∷ [])
 
 -- what is told of a profile whose filter has so many instructions
 abbrev pub notes_text : Settings → Data → ℕ → List ℕ
 notes_text s d size =
-    line (codes "seccomp_audit" ∷ codes "profile" ∷ codes "1" ∷ [])
+    note_line (codes "seccomp_audit" ∷ codes "profile" ∷ codes "1" ∷ [])
     ++ default_line (response_at (codes "defaultAction") (codes "defaultErrnoRet") d)
     ++ sets_line (sets_of s d)
-    ++ counts_line (length (listed (at (codes "syscalls") d))) (applied_count s (listed (at (codes "syscalls") d)))
+    ++ rules_line (length (listed (at (codes "syscalls") d))) (applied_count s (listed (at (codes "syscalls") d)))
     (length (applied_names s d)) (length (unknown_names s d))
     ++ flat_map unknown_line (unknown_names s d)
-    ++ total_line size
+    ++ instructions_line size
 
 -- the notes of a profile's tree, with its filter
 pub record AreNotesOf (s : Settings) (profile : Data) (notes : List ℕ) : Type 0 where

@@ -11,9 +11,9 @@ use Rattle.sf_profile.specs.declared.rules.Response.{Response}
 use Rattle.sf_profile.specs.declared.rules.Response.TheVariants.{KillThread}
 use Rattle.sf_profile.specs.declared.rules.Call.{Call}
 use Rattle.sf_profile.specs.declared.names.Version.{Version}
-use Rattle.sf_profile.specs.Data.{RuleData, PartData, PlanData}
+use Rattle.sf_profile.specs.Data.{RuleData, SetRulesData, PlanData}
 use Rattle.sf_profile.specs.Meaning.{word_of}
-use Rattle.sf_profile.specs.Trees.{at, listed, text_of, text_where, whole_where}
+use Rattle.sf_profile.specs.Trees.{at, listed, text_in, text_where, whole_where}
 use Rattle.sf_profile.specs.Profiles.{set_named, arch_name_of_set, response_named, comparing_named, up_to_or, argument_numbered, version_of, is_at_least}
 use Rattle.sf_profile.specs.declared.settings.Settings.{Settings}
 use Rattle.sf_profile.specs.Settings.{is_same_set, number_of, has_cap}
@@ -23,7 +23,7 @@ use Rattle.sf_profile.specs.Refusals.{is_own_item}
 
 -- the texts at a key
 abbrev pub texts_at : List ℕ → Data → List (List ℕ)
-texts_at key d = map text_of (listed (at key d))
+texts_at key d = map text_in (listed (at key d))
 
 -- the machine is one of those that a condition names
 abbrev pub names_machine : Settings → Data → Bool
@@ -40,7 +40,7 @@ is_new_enough (Some kernel) (Some least) = is_at_least kernel least
 is_new_enough _ _ = false
 
 abbrev pub has_kernel : Settings → Data → Bool
-has_kernel s d = is_new_enough s.kernel (version_of (text_of d))
+has_kernel s d = is_new_enough s.kernel (version_of (text_in d))
 
 -- the kernel is new enough, where a condition asks for one; else as it is said
 abbrev pub fits_kernel : Bool → Settings → Option Data → Bool
@@ -146,10 +146,10 @@ calls_named s set alone name =
 -- the names of a rule
 abbrev pub one_name : Option Data → List (List ℕ)
 one_name None = []
-one_name (Some d) = text_of d ∷ []
+one_name (Some d) = text_in d ∷ []
 
-abbrev pub names_of : Data → List (List ℕ)
-names_of d = texts_at (codes "names") d ++ one_name (at (codes "name") d)
+abbrev pub rule_names : Data → List (List ℕ)
+rule_names d = texts_at (codes "names") d ++ one_name (at (codes "name") d)
 
 -- there are no comparisons
 abbrev pub is_alone : List Comparison → Bool
@@ -159,7 +159,7 @@ is_alone (c ∷ cs) = false
 -- the rule of some comparisons in a set
 abbrev pub rule_of : Settings → CallSet → Data → List Comparison → RuleData
 rule_of s set d cs = record {
-  calls = flat_map (calls_named s set (is_alone cs)) (names_of d);
+  calls = flat_map (calls_named s set (is_alone cs)) (rule_names d);
   comparisons = cs;
   response = response_at (codes "action") (codes "errnoRet") d;
 }
@@ -189,13 +189,13 @@ abbrev pub sets_of : Settings → Data → List CallSet
 sets_of s d = fold (λ sets name. with_set sets (set_named name)) (s.machine ∷ []) (set_names s d)
 
 -- the rules of a set
-abbrev pub part_of : Settings → Data → CallSet → PartData
-part_of s d set = record { set = set; rules = flat_map (rules_of s set) (listed (at (codes "syscalls") d)) }
+abbrev pub rules_of_set : Settings → Data → CallSet → SetRulesData
+rules_of_set s d set = record { set = set; rules = flat_map (rules_of s set) (listed (at (codes "syscalls") d)) }
 
 -- what a profile says
 abbrev pub plan_of : Settings → Data → PlanData
 plan_of s d = record {
-  parts = map (part_of s d) (sets_of s d);
+  parts = map (rules_of_set s d) (sets_of s d);
   default = response_at (codes "defaultAction") (codes "defaultErrnoRet") d;
   reading = s.conflicts;
   newer = s.newer;

@@ -9,7 +9,7 @@ use Rattle.sf_profile.specs.declared.fault.Fault.{Fault}
 use Rattle.sf_profile.specs.declared.fault.Fault.TheVariants as faults
 use Rattle.sf_profile.specs.declared.rules.CallSet.{CallSet}
 use Rattle.sf_profile.specs.declared.rules.Response.{Response}
-use Rattle.sf_profile.specs.Trees.{at, listed, absent_or, present, is_text, is_list_of, is_whole, text_of, text_where, whole_where, has_only}
+use Rattle.sf_profile.specs.Trees.{at, listed, absent_or, present, is_text, is_list_of, is_whole_number, text_in, text_where, whole_where, is_object_of}
 use Rattle.sf_profile.specs.Profiles.{profile_keys, map_keys, rule_keys, argument_keys, condition_keys, set_named, name_of_set, response_named, has_data, comparing_named, up_to_or, version_of}
 use Rattle.sf_profile.specs.declared.settings.Settings.{Settings}
 use Rattle.sf_profile.specs.Settings.{has_calls}
@@ -34,47 +34,49 @@ fits_action action number d = is_absent number d || takes_number (response_named
 
 -- a kernel's version, where a rule may ask for one
 abbrev pub is_kernel : Settings → Data → Bool
-is_kernel s d = is_some s.kernel && is_some (version_of (text_of d))
+is_kernel s d = is_some s.kernel && is_some (version_of (text_in d))
 
 -- what a rule includes or excludes
 abbrev pub is_condition : Settings → Data → Bool
 is_condition s d =
-    has_only condition_keys d && absent_or (is_list_of is_text) (at (codes "arches") d)
+    is_object_of condition_keys d && absent_or (is_list_of is_text) (at (codes "arches") d)
     && absent_or (is_list_of is_text) (at (codes "caps") d) && absent_or (is_kernel s) (at (codes "minKernel") d)
 
 -- a comparison
 abbrev pub is_comparison : Data → Bool
 is_comparison d =
-    has_only argument_keys d && present is_whole (at (codes "index") d) && present is_whole (at (codes "value") d)
-    && absent_or is_whole (at (codes "valueTwo") d) && present is_text (at (codes "op") d)
+    is_object_of argument_keys d && present is_whole_number (at (codes "index") d)
+    && present is_whole_number (at (codes "value") d)
+    && absent_or is_whole_number (at (codes "valueTwo") d) && present is_text (at (codes "op") d)
 
 -- either names, or one name
-abbrev pub is_named : Data → Bool
-is_named d =
+abbrev pub has_names_or_name : Data → Bool
+has_names_or_name d =
     (present (is_list_of is_text) (at (codes "names") d) && is_absent (codes "name") d)
     || (present is_text (at (codes "name") d) && is_absent (codes "names") d)
 
 -- what a rule does
-abbrev pub is_action : List ℕ → List ℕ → List ℕ → Data → Bool
-is_action action number name d =
-    present is_text (at action d) && absent_or is_whole (at number d) && names_number name number d
+abbrev pub is_action_of_rule : List ℕ → List ℕ → List ℕ → Data → Bool
+is_action_of_rule action number name d =
+    present is_text (at action d) && absent_or is_whole_number (at number d) && names_number name number d
     && fits_action action number d
 
 -- a rule whose keys are all known and of their kinds
 abbrev pub is_rule : Settings → Data → Bool
 is_rule s d =
-    has_only rule_keys d && is_named d && is_action (codes "action") (codes "errnoRet") (codes "errno") d
+    is_object_of rule_keys d && has_names_or_name d && is_action_of_rule (codes "action") (codes "errnoRet")
+    (codes "errno") d
     && absent_or (is_list_of is_comparison) (at (codes "args") d)
     && absent_or (is_condition s) (at (codes "includes") d)
     && absent_or (is_condition s) (at (codes "excludes") d)
 
 -- a value that can be the name of a call
-abbrev pub has_name : Data → Bool
-has_name d = is_call_name (text_of d)
+abbrev pub can_be_name : Data → Bool
+can_be_name d = is_call_name (text_in d)
 
 -- all names of a rule can be names of calls
 abbrev pub has_names : Data → Bool
-has_names d = list_all has_name (listed (at (codes "names") d)) && absent_or has_name (at (codes "name") d)
+has_names d = list_all can_be_name (listed (at (codes "names") d)) && absent_or can_be_name (at (codes "name") d)
 
 -- an action that is known
 abbrev pub knows_action : List ℕ → Data → Bool
@@ -128,7 +130,7 @@ rules_refusal s n (d ∷ ds) = or_later (rule_refusal s n d) (rules_refusal s (n
 -- an entry of `archMap`
 abbrev pub is_map_item : Data → Bool
 is_map_item d =
-    has_only map_keys d && present is_text (at (codes "architecture") d)
+    is_object_of map_keys d && present is_text (at (codes "architecture") d)
     && absent_or (is_list_of is_text) (at (codes "subArchitectures") d)
 
 abbrev pub is_array : Data → Bool
@@ -144,7 +146,8 @@ has_sets d =
 -- a profile whose keys are all known and of their kinds
 abbrev pub is_profile : Data → Bool
 is_profile d =
-    has_only profile_keys d && is_action (codes "defaultAction") (codes "defaultErrnoRet") (codes "defaultErrno") d
+    is_object_of profile_keys d && is_action_of_rule (codes "defaultAction") (codes "defaultErrnoRet")
+    (codes "defaultErrno") d
     && has_sets d && absent_or is_array (at (codes "syscalls") d)
 
 -- the set of a name is known, and its calls are given
@@ -153,7 +156,7 @@ knows_set s None = false
 knows_set s (Some set) = has_calls s set
 
 abbrev pub is_set : Settings → Data → Bool
-is_set s d = knows_set s (set_named (text_of d))
+is_set s d = knows_set s (set_named (text_in d))
 
 -- the entry of `archMap` is the machine's
 abbrev pub is_own_item : Settings → Data → Bool

@@ -15,13 +15,13 @@ abbrev pub at : List ℕ → Data → Option Data
 at key d = given (get key d)
 
 -- the items of an array
-abbrev pub item_list : Items → List Data
-item_list no_items = []
-item_list (item d ds) = d ∷ item_list ds
+abbrev pub items_in : Items → List Data
+items_in no_items = []
+items_in (item d ds) = d ∷ items_in ds
 
 -- the items at a key, none where there is no array
 abbrev pub listed : Option Data → List Data
-listed (Some (array ds)) = item_list ds
+listed (Some (array ds)) = items_in ds
 listed _ = []
 
 -- the key is absent, or its value passes
@@ -39,29 +39,29 @@ is_text d = is_some (as_str d)
 
 -- an array whose items all pass
 abbrev pub is_list_of : (Data → Bool) → Data → Bool
-is_list_of test (array ds) = list_all test (item_list ds)
+is_list_of test (array ds) = list_all test (items_in ds)
 is_list_of test _ = false
 
 -- a whole number, where the value is one: none with a point, with an exponent, or beyond 64 bits
-abbrev pub whole_of : Data → Option ℤ
-whole_of d = option_and_then as_integer (as_number d)
+abbrev pub whole_in : Data → Option ℤ
+whole_in d = option_and_then as_integer (as_number d)
 
-abbrev pub is_whole : Data → Bool
-is_whole d = is_some (whole_of d)
+abbrev pub is_whole_number : Data → Bool
+is_whole_number d = is_some (whole_in d)
 
 -- the text of a value, empty where it is none
-abbrev pub text_of : Data → List ℕ
-text_of d = unwrap_or (as_str d) []
+abbrev pub text_in : Data → List ℕ
+text_in d = unwrap_or (as_str d) []
 
 -- the text at a key, empty where there is none
 abbrev pub text_where : Option Data → List ℕ
 text_where None = []
-text_where (Some d) = text_of d
+text_where (Some d) = text_in d
 
 -- the whole number at a key, where there is one
 abbrev pub whole_where : Option Data → Option ℤ
 whole_where None = None
-whole_where (Some d) = whole_of d
+whole_where (Some d) = whole_in d
 
 -- each key of the members is one of these
 abbrev pub keys_are_among : List (List ℕ) → Members → Bool
@@ -69,6 +69,6 @@ keys_are_among keys no_members = true
 keys_are_among keys (member key d rest) = list_any (bytes_eq key) keys && keys_are_among keys rest
 
 -- an object that has only these keys
-abbrev pub has_only : List (List ℕ) → Data → Bool
-has_only keys (object ms) = keys_are_among keys ms
-has_only keys _ = false
+abbrev pub is_object_of : List (List ℕ) → Data → Bool
+is_object_of keys (object ms) = keys_are_among keys ms
+is_object_of keys _ = false

@@ -4,7 +4,7 @@ ghost use Rattle.std.specs.Prelude.{◌≡◌, codes, map};
 ghost use Rattle.std.specs.List.{list_any, list_all};
 ghost use Rattle.std.specs.Str.{bytes_eq};
 ghost use Rattle.serde_json.specs.View.{view};
-ghost use Rattle.sf_profile.specs.Trees.{at, text_of};
+ghost use Rattle.sf_profile.specs.Trees.{at, text_in};
 ghost use Rattle.sf_profile.specs.Settings.{has_cap};
 ghost use Rattle.sf_profile.specs.Plans.{applies, is_excluded, is_included, is_new_enough, is_none, names_machine, fits_kernel, texts_at};
 
@@ -15,14 +15,14 @@ use serde_json::Value;
 
 /// Whether at least one of the values is this text. A value that is no text counts as the empty one.
 fn is_text_among(items: &[Value], text: &str) -> bool
-    ensures { result ≡ list_any (λ v. bytes_eq text.now (text_of (view v))) items.now }
+    ensures { result ≡ list_any (λ v. bytes_eq text.now (text_in (view v))) items.now }
 {
     items.iter().any(|value| text == text_of(value))
 }
 
 /// The same as `is_text_among`. For the prover: its clause speaks of the texts of the values, as the definitions do.
 fn has_text(items: &[Value], text: &str) -> bool
-    ensures { result ≡ list_any (bytes_eq text.now) (map text_of (map view items.now)) }
+    ensures { result ≡ list_any (bytes_eq text.now) (map text_in (map view items.now)) }
 {
     is_text_among(items, text)
 }
@@ -46,28 +46,28 @@ fn names_none(value: &Value) -> bool
 
 /// Whether the container has all capabilities that values name. True where there are no values.
 fn has_each_cap(settings: &Settings, items: &[Value]) -> bool
-    ensures { result ≡ list_all (λ v. has_cap settings.now (text_of (view v))) items.now }
+    ensures { result ≡ list_all (λ v. has_cap settings.now (text_in (view v))) items.now }
 {
     items.iter().all(|value| settings.has_cap(text_of(value)))
 }
 
 /// The same as `has_each_cap`. For the prover: its clause speaks of the texts of the values, as the definitions do.
 fn has_caps(settings: &Settings, items: &[Value]) -> bool
-    ensures { result ≡ list_all (has_cap settings.now) (map text_of (map view items.now)) }
+    ensures { result ≡ list_all (has_cap settings.now) (map text_in (map view items.now)) }
 {
     has_each_cap(settings, items)
 }
 
 /// Whether the container has at least one of the capabilities that values name.
 fn has_some_cap(settings: &Settings, items: &[Value]) -> bool
-    ensures { result ≡ list_any (λ v. has_cap settings.now (text_of (view v))) items.now }
+    ensures { result ≡ list_any (λ v. has_cap settings.now (text_in (view v))) items.now }
 {
     items.iter().any(|value| settings.has_cap(text_of(value)))
 }
 
 /// The same as `has_some_cap`. For the prover: its clause speaks of the texts of the values, as the definitions do.
 fn has_a_cap(settings: &Settings, items: &[Value]) -> bool
-    ensures { result ≡ list_any (has_cap settings.now) (map text_of (map view items.now)) }
+    ensures { result ≡ list_any (has_cap settings.now) (map text_in (map view items.now)) }
 {
     has_some_cap(settings, items)
 }

@@ -3,8 +3,8 @@
 ghost use Rattle.std.specs.Prelude.{◌≡◌, codes};
 ghost use Rattle.std.specs.List.{list_all};
 ghost use Rattle.serde_json.specs.View.{items_view, view};
-ghost use Rattle.sf_profile.specs.Refusals.{fits_action, has_sets, is_absent, is_action, is_comparison, is_array, is_condition, is_kernel, is_map_item, is_named, is_profile, is_rule, names_number, takes_number};
-ghost use Rattle.sf_profile.specs.Trees.{absent_or, at, has_only, is_list_of, item_list};
+ghost use Rattle.sf_profile.specs.Refusals.{fits_action, has_sets, is_absent, is_action_of_rule, is_comparison, is_array, is_condition, is_kernel, is_map_item, has_names_or_name, is_profile, is_rule, names_number, takes_number};
+ghost use Rattle.sf_profile.specs.Trees.{absent_or, at, is_object_of, is_list_of, items_in};
 ghost use Rattle.sf_profile.specs.Profiles.{argument_keys, condition_keys, map_keys, profile_keys, rule_keys};
 
 use crate::names::{has_data, response_named, version_of};
@@ -46,35 +46,35 @@ const CONDITION_KEYS: [&str; 3] = ["arches", "caps", "minKernel"];
 
 /// Whether a value is an object that has only keys of a profile.
 fn has_profile_keys(value: &Value) -> bool
-    ensures { result ≡ has_only profile_keys (view value.now) }
+    ensures { result ≡ is_object_of profile_keys (view value.now) }
 {
     has_only(value, PROFILE_KEYS.as_slice())
 }
 
 /// Whether a value is an object that has only keys of an entry of `archMap`.
 fn has_map_keys(value: &Value) -> bool
-    ensures { result ≡ has_only map_keys (view value.now) }
+    ensures { result ≡ is_object_of map_keys (view value.now) }
 {
     has_only(value, MAP_KEYS.as_slice())
 }
 
 /// Whether a value is an object that has only keys of a rule.
 fn has_rule_keys(value: &Value) -> bool
-    ensures { result ≡ has_only rule_keys (view value.now) }
+    ensures { result ≡ is_object_of rule_keys (view value.now) }
 {
     has_only(value, RULE_KEYS.as_slice())
 }
 
 /// Whether a value is an object that has only keys of a comparison.
 fn has_argument_keys(value: &Value) -> bool
-    ensures { result ≡ has_only argument_keys (view value.now) }
+    ensures { result ≡ is_object_of argument_keys (view value.now) }
 {
     has_only(value, ARGUMENT_KEYS.as_slice())
 }
 
 /// Whether a value is an object that has only keys of what a rule includes or excludes.
 fn has_condition_keys(value: &Value) -> bool
-    ensures { result ≡ has_only condition_keys (view value.now) }
+    ensures { result ≡ is_object_of condition_keys (view value.now) }
 {
     has_only(value, CONDITION_KEYS.as_slice())
 }
@@ -172,7 +172,7 @@ fn are_each_comparisons(items: &[Value]) -> bool
 
 /// The same as `are_each_comparisons`. For the prover: its clause speaks of the list of the values' JSON trees.
 fn are_comparisons(items: &[Value]) -> bool
-    ensures { result ≡ list_all is_comparison (item_list (items_view items.now)) }
+    ensures { result ≡ list_all is_comparison (items_in (items_view items.now)) }
 {
     are_each_comparisons(items)
 }
@@ -199,7 +199,7 @@ pub(crate) fn has_comparisons(value: &Value) -> bool
 
 /// Whether a rule has either an array of texts at `names`, or a text at `name`, and not both keys.
 pub(crate) fn is_named(value: &Value) -> bool
-    ensures { result ≡ is_named (view value.now) }
+    ensures { result ≡ has_names_or_name (view value.now) }
 {
     (has_texts(value, "names") && is_absent(value, "name"))
         || (has_text(value, "name") && is_absent(value, "names"))
@@ -209,7 +209,7 @@ pub(crate) fn is_named(value: &Value) -> bool
 /// number or nothing; there is one if the key `name`, of the number's name, is there; and if there is one, the action
 /// takes it. An action that isn't known is refused elsewhere.
 pub(crate) fn is_action(value: &Value, action: &str, number: &str, name: &str) -> bool
-    ensures { result ≡ is_action action.now number.now name.now (view value.now) }
+    ensures { result ≡ is_action_of_rule action.now number.now name.now (view value.now) }
 {
     has_text(value, action)
         && has_whole_or_none(value, number)
@@ -247,7 +247,7 @@ fn are_each_map_items(items: &[Value]) -> bool
 
 /// The same as `are_each_map_items`. For the prover: its clause speaks of the list of the values' JSON trees.
 fn are_map_items(items: &[Value]) -> bool
-    ensures { result ≡ list_all is_map_item (item_list (items_view items.now)) }
+    ensures { result ≡ list_all is_map_item (items_in (items_view items.now)) }
 {
     are_each_map_items(items)
 }

@@ -10,8 +10,8 @@ ghost use Rattle.sf_profile.specs.declared.rules.Reading.{Reading};
 ghost use Rattle.sf_profile.specs.declared.rules.Reading.TheVariants.{Strictest, Mildest};
 ghost use Rattle.sf_profile.specs.declared.rules.Response.{Response};
 ghost use Rattle.sf_profile.specs.declared.settings.Settings.{Settings as ASettings};
-ghost use Rattle.sf_profile.specs.Data.{PartData, PlanData, RuleData};
-ghost use Rattle.sf_profile.specs.Meaning.{answer_of, is_newer, number_in, pick, response_in, response_of, strictness};
+ghost use Rattle.sf_profile.specs.Data.{SetRulesData, PlanData, RuleData};
+ghost use Rattle.sf_profile.specs.Meaning.{answer_of_response, is_newer, number_in, pick, response_in, response_of, strictness};
 ghost use Rattle.sf_profile.specs.Plans.{applies, calls_named, through_calls};
 ghost use Rattle.sf_profile.specs.Settings.{is_same_set, number_of};
 
@@ -25,7 +25,7 @@ pub fn unknown_names_say_nothing()
 
 /// A law for the prover: asking for ENOSYS at newer calls changes nothing at calls that aren't newer than the profile.
 pub fn newer_changes_only_newer()
-    ensures { (plan : PlanData) (d : Input) (part : PartData) →
+    ensures { (plan : PlanData) (d : Input) (part : SetRulesData) →
         is_newer (number_in d) part.rules ≡ false
         → response_in plan d part ≡ response_in (record plan { newer = false }) d part }
 {}
@@ -58,5 +58,6 @@ pub fn rules_apply_by_words()
 /// A law for the prover: the order of the actions by `strictness` is that in which the kernel prefers them.
 pub fn strictness_is_precedence()
     ensures { (a b : Response) → strictness a < strictness b
-        → rank (action_number (answer_of a).action) < rank (action_number (answer_of b).action) }
+        → rank (action_number (answer_of_response a).action)
+        < rank (action_number (answer_of_response b).action) }
 {}

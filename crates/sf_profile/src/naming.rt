@@ -3,8 +3,8 @@
 ghost use Rattle.std.specs.Prelude.{◌≡◌, ◌++◌, ◌<◌, codes, map, length, IfOk, IfSome, OnOk};
 ghost use Rattle.std.specs.List.{flat_map};
 ghost use Rattle.serde_json.specs.View.{view};
-ghost use Rattle.sf_profile.specs.Trees.{at, text_of};
-ghost use Rattle.sf_profile.specs.Plans.{calls_named, direct_call, ipc_call, ipc_calls, names_of, one_name, place_from, socket_call, socket_calls, through_calls};
+ghost use Rattle.sf_profile.specs.Trees.{at, text_in};
+ghost use Rattle.sf_profile.specs.Plans.{calls_named, direct_call, ipc_call, ipc_calls, rule_names, one_name, place_from, socket_call, socket_calls, through_calls};
 
 use crate::rules::{Call, CallSet};
 use crate::settings::Settings;
@@ -172,7 +172,7 @@ fn push_all_named(
 ) -> Result<(), AllocError>
     ensures { OnOk result (calls.new.items ≡ calls.old.items
         ++ flat_map (calls_named settings.now place.set place.alone)
-        (map text_of (map view items.now))) }
+        (map text_in (map view items.now))) }
 {
     for value in items {
         push_named(calls, settings, place, text_of(value))?;
@@ -206,7 +206,8 @@ pub(crate) fn calls_of(
     value: &Value,
 ) -> Result<Vec<Call>, AllocError>
     ensures { IfOk result (λ v. v.items
-        ≡ flat_map (calls_named settings.now place.set place.alone) (names_of (view value.now))) }
+        ≡ flat_map (calls_named settings.now place.set place.alone)
+        (rule_names (view value.now))) }
 {
     let mut calls = Vec::new(alloc);
     push_all_named(&mut calls, settings, place, items_at(value, "names"))?;

@@ -3,10 +3,10 @@
 ghost use Rattle.std.specs.Prelude.{◌≡◌, ◌∷◌, [], ◌++◌, map, fold, IfOk, OnOk, unwrap_or};
 ghost use Rattle.std.specs.List.{flat_map, list_any};
 ghost use Rattle.serde_json.specs.View.{view};
-ghost use Rattle.sf_profile.specs.Trees.{at, text_of, whole_where};
+ghost use Rattle.sf_profile.specs.Trees.{at, text_in, whole_where};
 ghost use Rattle.sf_profile.specs.Profiles.{set_named, up_to_or};
 ghost use Rattle.sf_profile.specs.Settings.{is_same_set};
-ghost use Rattle.sf_profile.specs.Plans.{alternatives, comparison_of, compares_twice, item_sets, is_of_same, part_of, plan_of, response_at, rule_of, rules_of, sets_of, with_set};
+ghost use Rattle.sf_profile.specs.Plans.{alternatives, comparison_of, compares_twice, item_sets, is_of_same, rules_of_set, plan_of, response_at, rule_of, rules_of, sets_of, with_set};
 
 use crate::applying::applies;
 use crate::comparing::word_of;
@@ -202,7 +202,7 @@ fn part_of(
     value: &Value,
     set: CallSet,
 ) -> Result<Part, AllocError>
-    ensures { IfOk result (λ p. p ≡ part_of settings.now (view value.now) set) }
+    ensures { IfOk result (λ p. p ≡ rules_of_set settings.now (view value.now) set) }
 {
     Ok(Part {
         set,
@@ -238,7 +238,7 @@ fn push_set(sets: &mut Vec<CallSet>, name: &str) -> Result<(), AllocError>
 fn push_sets(sets: &mut Vec<CallSet>, items: &[Value]) -> Result<(), AllocError>
     ensures { OnOk result (sets.new.items
         ≡ fold (λ sets name. with_set sets (set_named name)) sets.old.items
-        (map text_of (map view items.now))) }
+        (map text_in (map view items.now))) }
 {
     for value in items {
         push_set(sets, text_of(value))?;
@@ -305,7 +305,7 @@ fn parts_of(
     sets: &[CallSet],
 ) -> Result<Vec<Part>, AllocError>
     ensures { IfOk result (λ v. v.items
-        ≡ map (part_of settings.now (view value.now)) sets.now) }
+        ≡ map (rules_of_set settings.now (view value.now)) sets.now) }
 {
     let mut parts = Vec::new(alloc);
     for set in sets {

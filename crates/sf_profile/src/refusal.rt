@@ -3,7 +3,7 @@
 ghost use Rattle.std.specs.Prelude.{◌≡◌, codes, map, option_map};
 ghost use Rattle.std.specs.List.{list_all};
 ghost use Rattle.serde_json.specs.View.{view};
-ghost use Rattle.sf_profile.specs.Refusals.{knows_actions, has_argument_range, has_error_number_or_none, has_name, has_names, has_ranges, is_own_item, is_set, knows_sets_of_item, knows_action, knows_comparison, knows_set, knows_sets, profile_in, profile_refusal, rule_refusal, rules_refusal};
+ghost use Rattle.sf_profile.specs.Refusals.{knows_actions, has_argument_range, has_error_number_or_none, can_be_name, has_names, has_ranges, is_own_item, is_set, knows_sets_of_item, knows_action, knows_comparison, knows_set, knows_sets, profile_in, profile_refusal, rule_refusal, rules_refusal};
 ghost use Rattle.sf_profile.specs.Trees.{absent_or, at};
 
 use crate::fault::Fault;
@@ -17,28 +17,28 @@ use sf_names::is_call_name;
 
 /// Whether a value is a text that can be the name of a call: 1 to 64 letters, digits and `_`.
 fn has_name(value: &Value) -> bool
-    ensures { result ≡ has_name (view value.now) }
+    ensures { result ≡ can_be_name (view value.now) }
 {
     is_call_name(text_of(value))
 }
 
 /// Whether each value can be the name of a call.
 fn are_each_names(items: &[Value]) -> bool
-    ensures { result ≡ list_all (λ v. has_name (view v)) items.now }
+    ensures { result ≡ list_all (λ v. can_be_name (view v)) items.now }
 {
     items.iter().all(|value| has_name(value))
 }
 
 /// The same as `are_each_names`. For the prover: its clause speaks of the list of the values' JSON trees.
 fn are_names(items: &[Value]) -> bool
-    ensures { result ≡ list_all has_name (map view items.now) }
+    ensures { result ≡ list_all can_be_name (map view items.now) }
 {
     are_each_names(items)
 }
 
 /// Whether the key `name` of a rule is absent, or has a text that can be the name of a call.
 pub(crate) fn has_one_name_or_none(value: &Value) -> bool
-    ensures { result ≡ absent_or has_name (at (codes "name") (view value.now)) }
+    ensures { result ≡ absent_or can_be_name (at (codes "name") (view value.now)) }
 {
     match at(value, "name") {
         Some(name) => has_name(name),

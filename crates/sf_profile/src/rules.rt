@@ -1,7 +1,7 @@
 //! What a profile says, set by set, with the numbers of its calls.
 
 ghost use Rattle.std.specs.Prelude.{◌≡◌};
-ghost use Rattle.sf_profile.specs.Form.{value_of};
+ghost use Rattle.sf_profile.specs.Form.{returned_value_of};
 ghost use Rattle.sf_profile.specs.Meaning.{arch_of, is_wide, order, strictness};
 
 use std::marker::Model;
@@ -122,9 +122,9 @@ pub(crate) struct Part {
 }
 
 impl Model for Part {
-    ghost use Rattle.sf_profile.specs.Data.{PartData};
+    ghost use Rattle.sf_profile.specs.Data.{SetRulesData};
 
-    ghost Value = { PartData };
+    ghost Value = { SetRulesData };
 
     ghost view = { λ p. record { set = p.set; rules = p.rules.items } };
 }
@@ -194,7 +194,7 @@ impl Response {
     /// The value that a filter returns: the action in the high 16 bits, and in the low ones the number that goes with
     /// it.
     pub(crate) fn value(self) -> u32
-        ensures { result ≡ value_of self }
+        ensures { result ≡ returned_value_of self }
     {
         match self {
             Response::KillProcess => 0x80000000,

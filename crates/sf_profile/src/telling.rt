@@ -3,11 +3,11 @@
 ghost use Rattle.std.specs.Prelude.{◌≡◌, ◌++◌, Some, codes, filter, fold, is_some, map, IfOk, OnOk, string_bytes};
 ghost use Rattle.std.specs.List.{flat_map, list_any};
 ghost use Rattle.serde_json.specs.View.{view};
-ghost use Rattle.sf_profile.specs.Notes.{applied_count, applied_names, counts_line, default_line, is_unknown, name_word, names_where, notes_text, response_data, response_name, set_name_in_notes, set_words, sets_line, unknown_line, unknown_names, with_name};
-ghost use Rattle.sf_profile.specs.Plans.{names_of, one_name};
+ghost use Rattle.sf_profile.specs.Notes.{applied_count, applied_names, rules_line, default_line, is_unknown, name_word, names_where, notes_text, response_data, response_name, set_name_in_notes, set_words, sets_line, unknown_line, unknown_names, with_name};
+ghost use Rattle.sf_profile.specs.Plans.{rule_names, one_name};
 ghost use Rattle.sf_profile.specs.Settings.{number_where};
 ghost use Rattle.sf_profile.specs.declared.settings.Calls.{Calls as ACalls};
-ghost use Rattle.sf_profile.specs.Trees.{at, text_of};
+ghost use Rattle.sf_profile.specs.Trees.{at, text_in};
 
 use crate::applying::applies;
 use crate::plan::{response_at, sets_of};
@@ -71,7 +71,7 @@ fn push_name<'a>(names: &mut Vec<&'a str>, name: &'a str) -> Result<(), AllocErr
 /// Adds those of the names that aren't there yet, each once. An error where an allocation is refused.
 fn push_names<'a>(names: &mut Vec<&'a str>, items: &'a [Value]) -> Result<(), AllocError>
     ensures { OnOk result (map (λ n. n.now) names.new.items
-        ≡ fold with_name (map (λ n. n.now) names.old.items) (map text_of (map view items.now))) }
+        ≡ fold with_name (map (λ n. n.now) names.old.items) (map text_in (map view items.now))) }
 {
     for value in items {
         push_name(names, text_of(value))?;
@@ -96,7 +96,7 @@ fn push_one_name<'a>(names: &mut Vec<&'a str>, value: &'a Value) -> Result<(), A
 #[tactic(auto, using(crate::proofs::PlanLemmas::fold_both))]
 fn push_names_of<'a>(names: &mut Vec<&'a str>, value: &'a Value) -> Result<(), AllocError>
     ensures { OnOk result (map (λ n. n.now) names.new.items
-        ≡ fold with_name (map (λ n. n.now) names.old.items) (names_of (view value.now))) }
+        ≡ fold with_name (map (λ n. n.now) names.old.items) (rule_names (view value.now))) }
 {
     push_names(names, items_at(value, "names"))?;
     push_one_name(names, value)
@@ -233,7 +233,7 @@ fn push_counts(
     unknown: usize,
 ) -> Result<(), AllocError>
     ensures { OnOk result (string_bytes text.new ≡ string_bytes text.old
-        ++ counts_line rules applied names unknown) }
+        ++ rules_line rules applied names unknown) }
 {
     write!(
         text,

@@ -5,7 +5,7 @@ ghost use Rattle.std.specs.BTreeMap.{keys};
 ghost use Rattle.std.specs.List.{list_any, list_all};
 ghost use Rattle.std.specs.Str.{bytes_eq};
 ghost use Rattle.serde_json.specs.View.{items_view, members_view, view};
-ghost use Rattle.sf_profile.specs.Trees.{absent_or, at, has_only, is_list_of, is_text, is_whole, item_list, listed, keys_are_among, present, text_of, text_where, whole_of, whole_where};
+ghost use Rattle.sf_profile.specs.Trees.{absent_or, at, is_object_of, is_list_of, is_text, is_whole_number, items_in, listed, keys_are_among, present, text_in, text_where, whole_in, whole_where};
 
 use serde_json::{Map, Value};
 
@@ -20,7 +20,7 @@ pub(crate) fn at<'a>(value: &'a Value, key: &str) -> Option<&'a Value>
 
 /// The same items. For the prover: seen as those of an array.
 fn array_items(items: &[Value]) -> &[Value]
-    ensures { map view result.now ≡ item_list (items_view items.now) }
+    ensures { map view result.now ≡ items_in (items_view items.now) }
 {
     items
 }
@@ -47,7 +47,7 @@ pub(crate) fn items_at<'a>(value: &'a Value, key: &str) -> &'a [Value]
 
 /// The text that a value is; the empty text where it is no text.
 pub(crate) fn text_of(value: &Value) -> &str
-    ensures { result.now ≡ text_of (view value.now) }
+    ensures { result.now ≡ text_in (view value.now) }
 {
     value.as_str().unwrap_or("")
 }
@@ -64,7 +64,7 @@ pub(crate) fn text_at<'a>(value: &'a Value, key: &str) -> &'a str
 
 /// The whole number that a value is; `None` where it isn't one, or fits 64 bits neither with nor without a sign.
 fn whole_of(value: &Value) -> Option<i128>
-    ensures { result ≡ whole_of (view value.now) }
+    ensures { result ≡ whole_in (view value.now) }
 {
     value.as_number()?.as_i128()
 }
@@ -101,7 +101,7 @@ fn keys_are_among(object: &Map<String, Value>, known: &[&str]) -> bool
 
 /// Whether a value is an object that has only these keys.
 pub(crate) fn has_only(value: &Value, known: &[&str]) -> bool
-    ensures { result ≡ has_only (map (λ k. k.now) known.now) (view value.now) }
+    ensures { result ≡ is_object_of (map (λ k. k.now) known.now) (view value.now) }
 {
     match value {
         Value::Object(object) => keys_are_among(object, known),
@@ -118,7 +118,7 @@ fn are_each_texts(items: &[Value]) -> bool
 
 /// The same as `are_each_texts`. For the prover: its clause speaks of the list of the values' JSON trees.
 fn are_texts(items: &[Value]) -> bool
-    ensures { result ≡ list_all is_text (item_list (items_view items.now)) }
+    ensures { result ≡ list_all is_text (items_in (items_view items.now)) }
 {
     are_each_texts(items)
 }
@@ -165,7 +165,7 @@ pub(crate) fn has_text(value: &Value, key: &str) -> bool
 
 /// Whether there is a whole number at a key.
 pub(crate) fn has_whole(value: &Value, key: &str) -> bool
-    ensures { result ≡ present is_whole (at key.now (view value.now)) }
+    ensures { result ≡ present is_whole_number (at key.now (view value.now)) }
 {
     match at(value, key) {
         Some(found) => whole_of(found).is_some(),
@@ -175,7 +175,7 @@ pub(crate) fn has_whole(value: &Value, key: &str) -> bool
 
 /// Whether a key is absent, or has a whole number.
 pub(crate) fn has_whole_or_none(value: &Value, key: &str) -> bool
-    ensures { result ≡ absent_or is_whole (at key.now (view value.now)) }
+    ensures { result ≡ absent_or is_whole_number (at key.now (view value.now)) }
 {
     match at(value, key) {
         Some(found) => whole_of(found).is_some(),

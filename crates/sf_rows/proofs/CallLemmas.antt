@@ -8,13 +8,13 @@ use Rattle.std.proofs.lemmas.Bool.Decides.{nat_tests}
 use Rattle.sf_insn.specs.declared.input.Input.{Input}
 use Rattle.sf_names.specs.Names.{CallData, NamesData}
 use Rattle.sf_picture.specs.Pictures.{number_on}
-use Rattle.sf_rows.specs.Calls.{IsOfCall, call_meets, call_row, is_about_call, is_in_line, is_on_call, meets_further, number_of_call, rows_of_call}
+use Rattle.sf_rows.specs.Calls.{IsOfCall, call_meets, call_row, is_about_call, is_in_line, is_on_call, meets_further, number_on_axis, rows_of_call}
 use Rattle.sf_rows.specs.Rows.{ConditionData, RowData, ScopeData, is_in_part, is_in_scope, meets_all, meets_part}
 use Rattle.sf_rows.proofs.ForkLemmas.{count-cons, one-if}
 
 -- on an axis of its number or its architecture an input of a call has the call's number
 number_there : (arch number : ℕ) (c : ConditionData) (d : Input) → slice_index d.words 1 ≡ arch
-    → slice_index d.words 0 ≡ number → is_on_call c ≡ true → number_on c.axis d ≡ number_of_call arch number c.axis
+    → slice_index d.words 0 ≡ number → is_on_call c ≡ true → number_on c.axis d ≡ number_on_axis arch number c.axis
 number_there arch number c d a n on = grind (arith, common_steps, nat_tests)
 
 -- a condition is one on the call or a further one
@@ -40,7 +40,7 @@ conditions_part arch number [] d a n = refl
 conditions_part arch number (c ∷ cs) d a n =
     ap (λ (b : Bool). is_in_part c.part (number_on c.axis d) && b) (conditions_part arch number cs d a n)
     ∙ one_condition (is_on_call c) (is_in_part c.part (number_on c.axis d))
-    (is_in_part c.part (number_of_call arch number c.axis))
+    (is_in_part c.part (number_on_axis arch number c.axis))
     (λ on. ap (is_in_part c.part) (number_there arch number c d a n on))
     (list_all (call_meets arch number) cs) (meets_further cs d)
 

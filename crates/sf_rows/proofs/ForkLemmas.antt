@@ -8,7 +8,7 @@ use Rattle.std.proofs.lemmas.List.Sums.{sum_by-cons}
 use Rattle.sf_picture.specs.declared.picture.Branch.{Branch}
 use Rattle.sf_picture.specs.declared.picture.Run.{Run}
 use Rattle.sf_picture.specs.PictureData.{ForkData}
-use Rattle.sf_picture.specs.Pictures.{next_of, RiseFrom, end_of, IsBelow, LeadBelow}
+use Rattle.sf_picture.specs.Pictures.{next_of, RiseFrom, end_of, LeadsBelow, LeadBelow}
 use Rattle.sf_rows.specs.Parts.{PartData, same_branch, span_of, has_branch, branches_after, largest_of, part_to, parts_but, parts_to, run_parts}
 use Rattle.sf_rows.specs.Rows.{is_in_spans, is_in_part, parts_at}
 use Rattle.sf_rows.proofs.SpanLemmas.{in-part, same-is, same-self}
@@ -301,7 +301,7 @@ leads-on (r ∷ s ∷ rs) n some le = elim (cases_lt r.last n) [
 
 -- and that is below
 pub leads-below : (leaves place : ℕ) (rs : List Run) (n : ℕ) (c : Branch) → LeadBelow leaves place rs
-    → next_of rs n ≡ Some c → IsBelow leaves place c
+    → next_of rs n ≡ Some c → LeadsBelow leaves place c
 leads-below leaves place [] n c h e = absurd (cc)
 leads-below leaves place (r ∷ rs) n c h e = elim (cases_lt r.last n) [
   | inl lt ↦ (
@@ -309,7 +309,7 @@ leads-below leaves place (r ∷ rs) n c h e = elim (cases_lt r.last n) [
       leads-below leaves place rs n c h.1 (sym later ∙ e))
   | inr inside ↦ (
       let here : next_of (r ∷ rs) n ≡ Some r.next = rw (le-leb n r.last inside) refl in
-      subst (IsBelow leaves place) (some-is r.next c (sym here ∙ e)) h.0)
+      subst (LeadsBelow leaves place) (some-is r.next c (sym here ∙ e)) h.0)
 ]
   where
     some-is : (x y : Branch) → Some x ≡ Some y → x ≡ y

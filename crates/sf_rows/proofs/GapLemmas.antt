@@ -8,7 +8,7 @@ use Rattle.sf_names.specs.Names.{CallData, NamesData}
 use Rattle.sf_rows.specs.declared.parts.Span.{Span}
 use Rattle.sf_rows.specs.Parts.{span_of}
 use Rattle.sf_rows.specs.Rows.{is_in_spans}
-use Rattle.sf_rows.specs.Unnamed.{archs_after, gaps_of, has_call_number, has_number, is_named_call, span_meet, span_without, spans_of_numbers, spans_without, without_calls, without_numbers, without_sets}
+use Rattle.sf_rows.specs.Unnamed.{archs_after, gaps_of, has_call_number, is_one_of, is_named_call, span_meet, span_without, spans_of_numbers, spans_without, without_calls, without_numbers, without_sets}
 use Rattle.sf_rows.proofs.ForkLemmas.{count-cons, one-if}
 
 -- how often elements of two lists pass
@@ -156,24 +156,24 @@ abbrev pub stands : ℕ → List ℕ → ℕ
 stands a ns = count_by (λ m. m == a) ns
 
 -- a number stands once at most among some
-pub stands-once : (ns : List ℕ) (a : ℕ) → stands a ns ≤ 1 → stands a ns ≡ one-if (has_number ns a)
+pub stands-once : (ns : List ℕ) (a : ℕ) → stands a ns ≤ 1 → stands a ns ≡ one-if (is_one_of ns a)
 stands-once [] a le = refl
 stands-once (m ∷ ms) a le = by-test (m == a) refl (λ l. stands-once ms a l)
   where
     step : stands a (m ∷ ms) ≡ one-if (m == a) + stands a ms
     step = count-cons (λ k. k == a) m ms
 
-    by-test : (t : Bool) → (m == a) ≡ t → (stands a ms ≤ 1 → stands a ms ≡ one-if (has_number ms a))
-        → stands a (m ∷ ms) ≡ one-if (if m == a then true else has_number ms a)
+    by-test : (t : Bool) → (m == a) ≡ t → (stands a ms ≤ 1 → stands a ms ≡ one-if (is_one_of ms a))
+        → stands a (m ∷ ms) ≡ one-if (if m == a then true else is_one_of ms a)
     by-test true t more =
         let one : one-if (m == a) ≡ 1 = ap one-if t in
         let all : stands a (m ∷ ms) ≡ 1 = omega (arith, step, one, le) in
-        all ∙ sym (ap (λ (b : Bool). one-if (if b then true else has_number ms a)) t)
+        all ∙ sym (ap (λ (b : Bool). one-if (if b then true else is_one_of ms a)) t)
     by-test false t more =
         let none : one-if (m == a) ≡ 0 = ap one-if t in
         let same : stands a (m ∷ ms) ≡ stands a ms = omega (arith, step, none) in
         let few : stands a ms ≤ 1 = omega (arith, same, le) in
-        same ∙ more few ∙ sym (ap (λ (b : Bool). one-if (if b then true else has_number ms a)) t)
+        same ∙ more few ∙ sym (ap (λ (b : Bool). one-if (if b then true else is_one_of ms a)) t)
 
 -- one more number behind others
 stands-push : (a : ℕ) (ns : List ℕ) (m : ℕ) → stands a (ns ++ m ∷ []) ≡ stands a ns + one-if (m == a)
@@ -183,30 +183,30 @@ stands-push a ns m =
     omega (arith, both, one)
 
 -- a number that isn't there doesn't stand there
-not-there : (ns : List ℕ) (a : ℕ) → has_number ns a ≡ false → stands a ns ≡ 0
+not-there : (ns : List ℕ) (a : ℕ) → is_one_of ns a ≡ false → stands a ns ≡ 0
 not-there [] a h = refl
 not-there (m ∷ ms) a h = by-test (m == a) refl (λ l. not-there ms a l)
   where
     step : stands a (m ∷ ms) ≡ one-if (m == a) + stands a ms
     step = count-cons (λ k. k == a) m ms
 
-    by-test : (t : Bool) → (m == a) ≡ t → (has_number ms a ≡ false → stands a ms ≡ 0) → stands a (m ∷ ms) ≡ 0
-    by-test true t more = absurd (true≢false (sym (ap (λ (b : Bool). if b then true else has_number ms a) t) ∙ h))
+    by-test : (t : Bool) → (m == a) ≡ t → (is_one_of ms a ≡ false → stands a ms ≡ 0) → stands a (m ∷ ms) ≡ 0
+    by-test true t more = absurd (true≢false (sym (ap (λ (b : Bool). if b then true else is_one_of ms a) t) ∙ h))
     by-test false t more =
         let none : one-if (m == a) ≡ 0 = ap one-if t in
-        let rest : stands a ms ≡ 0 = more (sym (ap (λ (b : Bool). if b then true else has_number ms a) t) ∙ h) in
+        let rest : stands a ms ≡ 0 = more (sym (ap (λ (b : Bool). if b then true else is_one_of ms a) t) ∙ h) in
         omega (arith, step, none, rest)
 
 -- each architecture stands once at most
 pub archs-once : (before : List ℕ) (ns : List NamesData) (a : ℕ) → ((b : ℕ) → stands b before ≤ 1)
     → stands a (archs_after before ns) ≤ 1
 archs-once before [] a few = few a
-archs-once before (n ∷ ns) a few = by-test (has_number before n.arch) refl
+archs-once before (n ∷ ns) a few = by-test (is_one_of before n.arch) refl
     (λ more l. archs-once more ns a l)
   where
-    by-test : (t : Bool) → has_number before n.arch ≡ t
+    by-test : (t : Bool) → is_one_of before n.arch ≡ t
         → ((more : List ℕ) → ((b : ℕ) → stands b more ≤ 1) → stands a (archs_after more ns) ≤ 1)
-        → stands a (archs_after (if has_number before n.arch then before else before ++ n.arch ∷ []) ns) ≤ 1
+        → stands a (archs_after (if is_one_of before n.arch then before else before ++ n.arch ∷ []) ns) ≤ 1
     by-test true t go = rw t (go before few)
     by-test false t go = rw t (go (before ++ n.arch ∷ []) (λ b. one-more b (n.arch == b) refl))
       where
@@ -246,11 +246,11 @@ in-spans x (s ∷ ss) = by-test (has x s) refl (in-spans x ss)
 
 -- spans without some numbers have all others
 without-all : (x : ℕ) (ns : List ℕ) (ss : List Span)
-    → times x (without_numbers ns ss) ≡ (if has_number ns x then 0 else times x ss)
+    → times x (without_numbers ns ss) ≡ (if is_one_of ns x then 0 else times x ss)
 without-all x [] ss = refl
 without-all x (n ∷ ns) ss =
-    without-all x ns (spans_without n ss) ∙ ap (λ k. if has_number ns x then 0 else k) (without-number n x ss)
-    ∙ go (x == n) (n == x) (has_number ns x) (times x ss) (turned x n)
+    without-all x ns (spans_without n ss) ∙ ap (λ k. if is_one_of ns x then 0 else k) (without-number n x ss)
+    ∙ go (x == n) (n == x) (is_one_of ns x) (times x ss) (turned x n)
   where
     turned : (x n : ℕ) → (x == n) ≡ (n == x)
     turned x n = grind (arith, nat_tests)
@@ -268,15 +268,15 @@ above-none true m = grind (arith, nat_tests)
 above-none false m = grind (arith, nat_tests)
 
 pub in-left : (x : ℕ) (ns : List ℕ) (ss : List Span)
-    → is_in_spans (without_numbers ns ss) x ≡ (is_in_spans ss x && not (has_number ns x))
+    → is_in_spans (without_numbers ns ss) x ≡ (is_in_spans ss x && not (is_one_of ns x))
 in-left x ns ss =
     in-spans x (without_numbers ns ss) ∙ ap (nat_lt 0) (without-all x ns ss)
-    ∙ above-none (has_number ns x) (times x ss) ∙ ap (λ (b : Bool). b && not (has_number ns x)) (sym (in-spans x ss))
+    ∙ above-none (is_one_of ns x) (times x ss) ∙ ap (λ (b : Bool). b && not (is_one_of ns x)) (sym (in-spans x ss))
 
 -- spans of one number each have these numbers
-pub in-numbers : (x : ℕ) (ns : List ℕ) → is_in_spans (spans_of_numbers ns) x ≡ has_number ns x
+pub in-numbers : (x : ℕ) (ns : List ℕ) → is_in_spans (spans_of_numbers ns) x ≡ is_one_of ns x
 in-numbers x [] = refl
-in-numbers x (n ∷ ns) = ap (λ (b : Bool). (nat_le n x && nat_le x n) || b) (in-numbers x ns) ∙ go (has_number ns x)
+in-numbers x (n ∷ ns) = ap (λ (b : Bool). (nat_le n x && nat_le x n) || b) (in-numbers x ns) ∙ go (is_one_of ns x)
   where
     go : (b : Bool) → ((nat_le n x && nat_le x n) || b) ≡ (if n == x then true else b)
     go b = grind (arith, common_steps, nat_tests)

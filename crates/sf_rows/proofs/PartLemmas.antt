@@ -9,9 +9,9 @@ use Rattle.sf_picture.specs.declared.picture.Branch.{Branch}
 use Rattle.sf_picture.specs.declared.picture.Run.{Run}
 use Rattle.sf_picture.specs.declared.picture.Branch.TheVariants.{Leaf, Fork}
 use Rattle.sf_picture.specs.PictureData.{ForkData, PictureData}
-use Rattle.sf_picture.specs.Pictures.{IsBelow, LeadBelow, fork_at}
+use Rattle.sf_picture.specs.Pictures.{LeadsBelow, LeadBelow, fork_at}
 use Rattle.sf_rows.specs.declared.parts.Span.{Span}
-use Rattle.sf_rows.specs.Parts.{EndsApart, PartData, same_branch, span_of, with_span, spans_after, count_after, has_branch, branches_after, largest_of, part_to, parts_but, parts_to, fork_parts, run_parts}
+use Rattle.sf_rows.specs.Parts.{EndsApart, PartData, same_branch, span_of, with_span, spans_after, count_to_branch, has_branch, branches_after, largest_of, part_to, parts_but, parts_to, fork_parts, run_parts}
 use Rattle.sf_rows.specs.Rows.{ScopeData, parts_at, rows_along, scope_within}
 
 -- ---- runs that rise
@@ -55,21 +55,21 @@ spans_more w before first rs i d lt = rw (drop_more rs i d lt) refl
 -- each branch leads below
 abbrev pub BranchesBelow : ℕ → ℕ → List Branch → Type 0
 BranchesBelow leaves place [] = Unit {0}
-BranchesBelow leaves place (b ∷ bs) = IsBelow leaves place b × BranchesBelow leaves place bs
+BranchesBelow leaves place (b ∷ bs) = LeadsBelow leaves place b × BranchesBelow leaves place bs
 
 -- each part leads below
 abbrev pub PartsBelow : ℕ → ℕ → List PartData → Type 0
 PartsBelow leaves place [] = Unit {0}
-PartsBelow leaves place (p ∷ ps) = IsBelow leaves place p.next × PartsBelow leaves place ps
+PartsBelow leaves place (p ∷ ps) = LeadsBelow leaves place p.next × PartsBelow leaves place ps
 
 branches-push : (leaves place : ℕ) (bs : List Branch) (b : Branch) → BranchesBelow leaves place bs
-    → IsBelow leaves place b
+    → LeadsBelow leaves place b
     → BranchesBelow leaves place (bs ++ b ∷ [])
 branches-push leaves place [] b h below = (below, tt)
 branches-push leaves place (c ∷ cs) b h below = (h.0, branches-push leaves place cs b h.1 below)
 
 branches-with : (leaves place : ℕ) (there : Bool) (bs : List Branch) (b : Branch) → BranchesBelow leaves place bs
-    → IsBelow leaves place b → BranchesBelow leaves place (if there then bs else bs ++ b ∷ [])
+    → LeadsBelow leaves place b → BranchesBelow leaves place (if there then bs else bs ++ b ∷ [])
 branches-with leaves place true bs b h below = h
 branches-with leaves place false bs b h below = branches-push leaves place bs b h below
 
@@ -80,8 +80,8 @@ branches-below leaves place bs (r ∷ rs) h lead =
     branches-below leaves place (if has_branch bs r.next then bs else bs ++ r.next ∷ []) rs
     (branches-with leaves place (has_branch bs r.next) bs r.next h lead.0) lead.1
 
-larger-below : (leaves place : ℕ) (less : Bool) (b c : Branch) → IsBelow leaves place b → IsBelow leaves place c
-    → IsBelow leaves place (if less then c else b)
+larger-below : (leaves place : ℕ) (less : Bool) (b c : Branch) → LeadsBelow leaves place b → LeadsBelow leaves place c
+    → LeadsBelow leaves place (if less then c else b)
 larger-below leaves place true b c hb hc = hc
 larger-below leaves place false b c hb hc = hb
 
@@ -90,21 +90,21 @@ largest-step : (runs : List Run) (less : Bool) (b c : Branch) (cs : List Branch)
 largest-step runs true b c cs = refl
 largest-step runs false b c cs = refl
 
-largest-below : (leaves place : ℕ) (runs : List Run) (b : Branch) (bs : List Branch) → IsBelow leaves place b
-    → BranchesBelow leaves place bs → IsBelow leaves place (largest_of runs b bs)
+largest-below : (leaves place : ℕ) (runs : List Run) (b : Branch) (bs : List Branch) → LeadsBelow leaves place b
+    → BranchesBelow leaves place bs → LeadsBelow leaves place (largest_of runs b bs)
 largest-below leaves place runs b [] below h = below
 largest-below leaves place runs b (c ∷ cs) below h =
-    let less = nat_lt (count_after b 0 runs) (count_after c 0 runs) in
+    let less = nat_lt (count_to_branch b 0 runs) (count_to_branch c 0 runs) in
     rw (largest-step runs less b c cs) (largest-below leaves place runs (if less then c else b) cs
     (larger-below leaves place less b c below h.0) h.1)
 
 parts-push : (leaves place : ℕ) (ps : List PartData) (p : PartData) → PartsBelow leaves place ps
-    → IsBelow leaves place p.next → PartsBelow leaves place (ps ++ p ∷ [])
+    → LeadsBelow leaves place p.next → PartsBelow leaves place (ps ++ p ∷ [])
 parts-push leaves place [] p h below = (below, tt)
 parts-push leaves place (q ∷ qs) p h below = (h.0, parts-push leaves place qs p h.1 below)
 
 but-step : (leaves place : ℕ) (runs : List Run) (is_rest : Bool) (b : Branch) (ps : List PartData)
-    → IsBelow leaves place b → PartsBelow leaves place ps
+    → LeadsBelow leaves place b → PartsBelow leaves place ps
     → PartsBelow leaves place (if is_rest then ps else part_to runs false b ∷ ps)
 but-step leaves place runs true b ps below h = h
 but-step leaves place runs false b ps below h = (below, h)
@@ -136,18 +136,18 @@ either-below leaves place false runs h =
     to-below leaves place runs (branches_after [] runs) (branches-below leaves place [] runs tt h)
 
 below-at : (leaves place : ℕ) (ps : List PartData) (i : ℕ) (d : PartData) → PartsBelow leaves place ps → i < length ps
-    → IsBelow leaves place (get_or ps i d).next
+    → LeadsBelow leaves place (get_or ps i d).next
 below-at leaves place [] i d h lt = absurd (omega arith)
 below-at leaves place (p ∷ ps) zero d h lt = h.0
 below-at leaves place (p ∷ ps) (suc i) d h lt = below-at leaves place ps i d h.1 (omega arith)
 
-below-more : (leaves place n : ℕ) (b : Branch) → place ≤ n → IsBelow leaves place b → IsBelow leaves n b
+below-more : (leaves place n : ℕ) (b : Branch) → place ≤ n → LeadsBelow leaves place b → LeadsBelow leaves n b
 below-more leaves place n (Leaf i) le h = h
 below-more leaves place n (Fork i) le h = omega (arith, h)
 
 -- a part of a fork leads below each number that isn't less than the fork's place
 pub part_below : (leaves place n : ℕ) (f : ForkData) (i : ℕ) (d : PartData) → LeadBelow leaves place f.runs
-    → place ≤ n → i < length (parts_at f) → IsBelow leaves n (get_or (parts_at f) i d).next
+    → place ≤ n → i < length (parts_at f) → LeadsBelow leaves n (get_or (parts_at f) i d).next
 part_below leaves place n f i d lead le lt = grind (arith, common_steps, below-more, below-at, either-below)
 
 -- the rows from a fork on are those of its parts

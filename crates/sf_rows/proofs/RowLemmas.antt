@@ -11,9 +11,9 @@ use Rattle.sf_picture.specs.declared.axis.Axis.{Axis}
 use Rattle.sf_picture.specs.declared.picture.Branch.{Branch}
 use Rattle.sf_picture.specs.declared.picture.Branch.TheVariants.{Leaf, Fork}
 use Rattle.sf_picture.specs.PictureData.{PictureData}
-use Rattle.sf_picture.specs.Pictures.{fork_at, labels_along, number_on, IsBelow, IsPicture, IsRightFork}
+use Rattle.sf_picture.specs.Pictures.{fork_at, labels_along, number_on, LeadsBelow, IsPicture, IsRightFork}
 use Rattle.sf_rows.specs.Parts.{PartData}
-use Rattle.sf_rows.specs.Rows.{ConditionData, ScopeData, RowData, whole_scope, is_whole, is_any, scope_within, parts_at, rows_along, is_in_part, meets_part, meets_all, is_in_scope}
+use Rattle.sf_rows.specs.Rows.{ConditionData, ScopeData, RowData, whole_scope, is_of_whole_word, is_any, scope_within, parts_at, rows_along, is_in_part, meets_part, meets_all, is_in_scope}
 use Rattle.sf_rows.proofs.ForkLemmas.{LeadTo, count-cons, one-if, fork-leads, fork-one, leads-below, leads-on}
 
 -- ---- a scope that is narrowed
@@ -98,7 +98,8 @@ and-both false b e = absurd (true≢false (sym e))
 is-number : (m n : ℕ) → (m == n) ≡ true → m ≡ n
 is-number m n e = grind (arith, nat_tests)
 
-whole-word : (a : Axis) (w : ℕ) (d : Input) → IsInput d → is_whole a w ≡ true → number_on a d ≡ slice_index d.words w
+whole-word : (a : Axis) (w : ℕ) (d : Input) → IsInput d → is_of_whole_word a w ≡ true
+    → number_on a d ≡ slice_index d.words w
 whole-word a w d input e = grind (arith, common_steps, and-both, is-number, whole-number)
 
 -- an input is in a narrowed scope where it is in the scope and has its number in the part
@@ -238,12 +239,12 @@ parts-labels p n a c (q ∷ qs) scope d input on leads each =
         (rows_along p n q.next (scope_within scope a q))
         (outside p n q.next (scope_within scope a q) d input (into ∙ t))
 
-below-more : (leaves place n : ℕ) (c : Branch) → place ≤ n → IsBelow leaves place c → IsBelow leaves n c
+below-more : (leaves place n : ℕ) (c : Branch) → place ≤ n → LeadsBelow leaves place c → LeadsBelow leaves n c
 below-more leaves place n (Leaf i) le h = h
 below-more leaves place n (Fork i) le h = omega (arith, h)
 
 pub in-one-row : (p : PictureData) (d : Input) → IsPicture p → IsInput d → (n : ℕ) (b : Branch) (scope : ScopeData)
-    → n ≤ length p.forks → IsBelow (length p.leaves) n b → is_in_scope scope d ≡ true → IsInOne p n b scope d
+    → n ≤ length p.forks → LeadsBelow (length p.leaves) n b → is_in_scope scope d ≡ true → IsInOne p n b scope d
 in-one-row p d h input n (Leaf i) scope few below on = record { one = rw on refl; labels = (λ e. refl, tt) }
 in-one-row p d h input zero (Fork i) scope few below on = absurd (omega (arith, below))
 in-one-row p d h input (suc n) (Fork i) scope few below on =
@@ -254,7 +255,7 @@ in-one-row p d h input (suc n) (Fork i) scope few below on =
     let on' = leads-on f.runs number (omega (arith, right.several)) (omega (arith, right.whole)) in
     let c = on'.0 in
     let leads = fork-leads f number c right.rising on'.1 in
-    let there : IsBelow (length p.leaves) n c = below-more (length p.leaves) i n c (omega (arith, below))
+    let there : LeadsBelow (length p.leaves) n c = below-more (length p.leaves) i n c (omega (arith, below))
     (leads-below (length p.leaves) i f.runs number c right.below on'.1) in
     let each : (longer : ScopeData) → is_in_scope longer d ≡ true → IsInOne p n c longer d =
     λ longer e. in-one-row p d h input n c longer (omega arith) there e in

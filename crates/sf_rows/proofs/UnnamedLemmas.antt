@@ -11,7 +11,7 @@ use Rattle.sf_picture.specs.Pictures.{number_on}
 use Rattle.sf_rows.specs.declared.parts.Span.{Span}
 use Rattle.sf_rows.specs.Parts.{PartData}
 use Rattle.sf_rows.specs.Rows.{ConditionData, RowData, is_in_part, is_in_scope, is_in_spans, meets_all, meets_part}
-use Rattle.sf_rows.specs.Unnamed.{GapsData, all_gaps, archs_after, archs_met, gaps_at, gaps_of, has_call_number, has_number, is_named_call, kept_nr, nr_axis, part_of, row_at, row_on, rows_at, rows_beyond, rows_elsewhere, spans_of_numbers, unnamed_of, unnamed_rows, with_arch, within_nr, without_numbers}
+use Rattle.sf_rows.specs.Unnamed.{GapsData, all_gaps, archs_after, archs_met, gaps_at, gaps_of, has_call_number, is_one_of, is_named_call, kept_nr, nr_axis, part_of, row_at, row_on, rows_at, rows_beyond, rows_elsewhere, spans_of_numbers, unnamed_of, unnamed_rows, with_arch, within_nr, without_numbers}
 use Rattle.sf_rows.proofs.ForkLemmas.{count-cons, one-if}
 use Rattle.sf_rows.proofs.GapLemmas.{archs-once, count-both, gaps-once, has, in-both, in-left, in-numbers, meets, stands, stands-once, times}
 
@@ -235,42 +235,42 @@ and-not false h other = refl
 beyond-part : (p : PartData) (rest : Bool) → p.is_rest ≡ rest → (r : RowData) (archs : List ℕ) (d : Input)
     → lies d (rows_beyond r archs (Some p))
     ≡ one-if ((is_in_part p (slice_index d.words 1) && (meets_part r.scope.nr (slice_index d.words 0)
-    && meets_all r.scope.conditions d)) && not (has_number archs (slice_index d.words 1)))
+    && meets_all r.scope.conditions d)) && not (is_one_of archs (slice_index d.words 1)))
 beyond-part p true e r archs d =
     let x = slice_index d.words 1 in
     let other = meets_part r.scope.nr (slice_index d.words 0) && meets_all r.scope.conditions d in
     rw e (one-row (with_arch r (part_of true (p.spans ++ spans_of_numbers archs))) d
     ∙ ap (λ (b : Bool). one-if (not b && other)) (in-both x p.spans (spans_of_numbers archs)
     ∙ ap (λ (b : Bool). is_in_spans p.spans x || b) (in-numbers x archs))
-    ∙ ap one-if (not-either (is_in_spans p.spans x) (has_number archs x) other))
+    ∙ ap one-if (not-either (is_in_spans p.spans x) (is_one_of archs x) other))
 beyond-part p false e r archs d =
     let x = slice_index d.words 1 in
     let other = meets_part r.scope.nr (slice_index d.words 0) && meets_all r.scope.conditions d in
     rw e (on-spans r (without_numbers archs p.spans) d
     ∙ ap (λ (b : Bool). one-if (b && other)) (in-left x archs p.spans)
-    ∙ ap one-if (and-not (is_in_spans p.spans x) (has_number archs x) other))
+    ∙ ap one-if (and-not (is_in_spans p.spans x) (is_one_of archs x) other))
 
 beyond : (part : Option PartData) (r : RowData) (archs : List ℕ) (d : Input)
     → lies d (rows_beyond r archs part)
     ≡ one-if ((meets_part part (slice_index d.words 1) && (meets_part r.scope.nr (slice_index d.words 0)
-    && meets_all r.scope.conditions d)) && not (has_number archs (slice_index d.words 1)))
+    && meets_all r.scope.conditions d)) && not (is_one_of archs (slice_index d.words 1)))
 beyond None r archs d =
     let x = slice_index d.words 1 in
     let other = meets_part r.scope.nr (slice_index d.words 0) && meets_all r.scope.conditions d in
     one-row (with_arch r (part_of true (spans_of_numbers archs))) d
     ∙ ap (λ (b : Bool). one-if (not b && other)) (in-numbers x archs)
-    ∙ ap one-if (not-either false (has_number archs x) other)
+    ∙ ap one-if (not-either false (is_one_of archs x) other)
 beyond (Some p) r archs d = beyond-part p p.is_rest refl r archs d
 
 elsewhere : (r : RowData) (archs : List ℕ) (d : Input)
     → lies d (rows_elsewhere r archs)
-    ≡ one-if (is_in_scope r.scope d && not (has_number archs (slice_index d.words 1)))
+    ≡ one-if (is_in_scope r.scope d && not (is_one_of archs (slice_index d.words 1)))
 elsewhere r [] d = one-row r d ∙ ap one-if (sym (and-true (is_in_scope r.scope d)))
 elsewhere r (a ∷ more) d = beyond r.scope.arch r (a ∷ more) d
 
 -- of the architectures those that a row is about
 met-some : (part : Option PartData) (sets : List NamesData) (archs : List ℕ) (x : ℕ)
-    → has_number (archs_met part (map (gaps_at sets) archs)) x ≡ (meets_part part x && has_number archs x)
+    → is_one_of (archs_met part (map (gaps_at sets) archs)) x ≡ (meets_part part x && is_one_of archs x)
 met-some part sets [] x = sym (go (meets_part part x))
   where
     go : (b : Bool) → (b && false) ≡ false
@@ -279,14 +279,14 @@ met-some part sets [] x = sym (go (meets_part part x))
 met-some part sets (a ∷ more) x = by-test (meets_part part a) refl (met-some part sets more x)
   where
     by-test : (t : Bool) → meets_part part a ≡ t
-        → has_number (archs_met part (map (gaps_at sets) more)) x ≡ (meets_part part x && has_number more x)
-        → has_number ((if meets_part part a then a ∷ [] else []) ++ archs_met part (map (gaps_at sets) more)) x
-        ≡ (meets_part part x && (if a == x then true else has_number more x))
+        → is_one_of (archs_met part (map (gaps_at sets) more)) x ≡ (meets_part part x && is_one_of more x)
+        → is_one_of ((if meets_part part a then a ∷ [] else []) ++ archs_met part (map (gaps_at sets) more)) x
+        ≡ (meets_part part x && (if a == x then true else is_one_of more x))
     by-test true t rest = rw t (rw rest (by-number (a == x) refl))
       where
         by-number : (u : Bool) → (a == x) ≡ u
-            → (if a == x then true else (meets_part part x && has_number more x))
-            ≡ (meets_part part x && (if a == x then true else has_number more x))
+            → (if a == x then true else (meets_part part x && is_one_of more x))
+            ≡ (meets_part part x && (if a == x then true else is_one_of more x))
         by-number true u =
             let met : meets_part part x ≡ true = sym (same-arch part a x u) ∙ t in
             rw u (rw met refl)
@@ -294,8 +294,8 @@ met-some part sets (a ∷ more) x = by-test (meets_part part a) refl (met-some p
     by-test false t rest = rw t (rest ∙ by-number (a == x) refl)
       where
         by-number : (u : Bool) → (a == x) ≡ u
-            → (meets_part part x && has_number more x)
-            ≡ (meets_part part x && (if a == x then true else has_number more x))
+            → (meets_part part x && is_one_of more x)
+            ≡ (meets_part part x && (if a == x then true else is_one_of more x))
         by-number true u =
             let met : meets_part part x ≡ false = sym (same-arch part a x u) ∙ t in
             rw met refl
@@ -309,43 +309,43 @@ arch-of-set x n = n.arch == x
 
 -- the architectures of sets are those that are collected
 collected : (before : List ℕ) (ns : List NamesData) (x : ℕ)
-    → has_number (archs_after before ns) x ≡ (has_number before x || list_any (arch-of-set x) ns)
-collected before [] x = sym (or-false (has_number before x))
-collected before (n ∷ ns) x = by-test (has_number before n.arch) refl (λ more. collected more ns x)
+    → is_one_of (archs_after before ns) x ≡ (is_one_of before x || list_any (arch-of-set x) ns)
+collected before [] x = sym (or-false (is_one_of before x))
+collected before (n ∷ ns) x = by-test (is_one_of before n.arch) refl (λ more. collected more ns x)
   where
-    pushed : (ms : List ℕ) → has_number (ms ++ n.arch ∷ []) x ≡ (has_number ms x || (n.arch == x))
+    pushed : (ms : List ℕ) → is_one_of (ms ++ n.arch ∷ []) x ≡ (is_one_of ms x || (n.arch == x))
     pushed [] = go (n.arch == x)
       where
         go : (b : Bool) → (if b then true else false) ≡ b
         go true = refl
         go false = refl
-    pushed (m ∷ ms) = ap (λ (b : Bool). if m == x then true else b) (pushed ms) ∙ go (m == x) (has_number ms x)
+    pushed (m ∷ ms) = ap (λ (b : Bool). if m == x then true else b) (pushed ms) ∙ go (m == x) (is_one_of ms x)
       where
         go : (b c : Bool) → (if b then true else (c || (n.arch == x))) ≡ ((if b then true else c) || (n.arch == x))
         go true c = refl
         go false c = refl
 
-    there : (ms : List ℕ) → has_number ms n.arch ≡ true → (n.arch == x) ≡ true → has_number ms x ≡ true
-    there ms h e = let is : n.arch ≡ x = grind (arith, nat_tests) in sym (ap (has_number ms) is) ∙ h
+    there : (ms : List ℕ) → is_one_of ms n.arch ≡ true → (n.arch == x) ≡ true → is_one_of ms x ≡ true
+    there ms h e = let is : n.arch ≡ x = grind (arith, nat_tests) in sym (ap (is_one_of ms) is) ∙ h
 
     or-assoc : (a b c : Bool) → ((a || b) || c) ≡ (a || (b || c))
     or-assoc true b c = refl
     or-assoc false b c = refl
 
-    by-test : (t : Bool) → has_number before n.arch ≡ t
-        → ((more : List ℕ) → has_number (archs_after more ns) x ≡ (has_number more x || list_any (arch-of-set x) ns))
-        → has_number (archs_after (if has_number before n.arch then before else before ++ n.arch ∷ []) ns) x
-        ≡ (has_number before x || ((n.arch == x) || list_any (arch-of-set x) ns))
+    by-test : (t : Bool) → is_one_of before n.arch ≡ t
+        → ((more : List ℕ) → is_one_of (archs_after more ns) x ≡ (is_one_of more x || list_any (arch-of-set x) ns))
+        → is_one_of (archs_after (if is_one_of before n.arch then before else before ++ n.arch ∷ []) ns) x
+        ≡ (is_one_of before x || ((n.arch == x) || list_any (arch-of-set x) ns))
     by-test true t go = rw t (go before ∙ by-number (n.arch == x) refl)
       where
         by-number : (u : Bool) → (n.arch == x) ≡ u
-            → (has_number before x || list_any (arch-of-set x) ns)
-            ≡ (has_number before x || ((n.arch == x) || list_any (arch-of-set x) ns))
+            → (is_one_of before x || list_any (arch-of-set x) ns)
+            ≡ (is_one_of before x || ((n.arch == x) || list_any (arch-of-set x) ns))
         by-number true u = rw (there before t u) refl
         by-number false u = rw u refl
     by-test false t go =
         rw t (go (before ++ n.arch ∷ []) ∙ ap (λ (b : Bool). b || list_any (arch-of-set x) ns) (pushed before)
-        ∙ or-assoc (has_number before x) (n.arch == x) (list_any (arch-of-set x) ns))
+        ∙ or-assoc (is_one_of before x) (n.arch == x) (list_any (arch-of-set x) ns))
 
 -- a call with a name is one of a set of its architecture
 named-there : (sets : List NamesData) (x n : ℕ) → is_named_call sets x n ≡ true → list_any (arch-of-set x) sets ≡ true
@@ -388,17 +388,17 @@ unnamed-row sets r d lt =
     let named = is_named_call sets x n in
     let once = stands-once archs x (archs-once [] sets x (λ a. omega arith)) in
     let small : n < 4294967296 = omega (arith, lt) in
-    let found : (named ≡ true → has_number archs x ≡ true) = λ e. collected [] sets x ∙ named-there sets x n e in
+    let found : (named ≡ true → is_one_of archs x ≡ true) = λ e. collected [] sets x ∙ named-there sets x n e in
     count-both (λ (q : RowData). is_in_scope q.scope d) (flat_map (rows_at r) (all_gaps sets))
     (rows_elsewhere r (archs_met r.scope.arch (all_gaps sets)))
     ∙ ap (λ (k : ℕ). k + lies d (rows_elsewhere r (archs_met r.scope.arch (all_gaps sets))))
     (at-archs sets r archs d lt
     ∙ ap (λ (k : ℕ). k * (if b then times n (gaps_of sets x) else 0)) once
-    ∙ ap (λ (k : ℕ). one-if (has_number archs x) * (if b then k else 0)) (gaps-once sets x n small))
-    ∙ ap (λ (k : ℕ). one-if (has_number archs x) * (if b then (if named then 0 else 1) else 0) + k)
+    ∙ ap (λ (k : ℕ). one-if (is_one_of archs x) * (if b then k else 0)) (gaps-once sets x n small))
+    ∙ ap (λ (k : ℕ). one-if (is_one_of archs x) * (if b then (if named then 0 else 1) else 0) + k)
     (elsewhere r (archs_met r.scope.arch (all_gaps sets)) d
     ∙ ap (λ (c : Bool). one-if (b && not c)) (met-some r.scope.arch sets archs x))
-    ∙ in-all b (has_number archs x) named found (meets_part r.scope.arch x)
+    ∙ in-all b (is_one_of archs x) named found (meets_part r.scope.arch x)
     (first-of-and (meets_part r.scope.arch x) (meets_part r.scope.nr n && meets_all r.scope.conditions d))
 
 sum-when : (t : Bool) (j k : ℕ) → (if t then 0 else j) + (if t then 0 else k) ≡ (if t then 0 else (j + k))

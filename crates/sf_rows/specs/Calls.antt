@@ -10,8 +10,8 @@ use Rattle.sf_rows.specs.Lines.{condition_words, labels_words}
 use Rattle.sf_rows.specs.Rows.{ConditionData, RowData, ScopeData, is_in_part, meets_part}
 
 -- the number that all inputs of a call have on an axis of its number or its architecture
-abbrev pub number_of_call : (arch number : ℕ) → Axis → ℕ
-number_of_call arch number a = bit_and (if a.word == 0 then number else arch) a.mask
+abbrev pub number_on_axis : (arch number : ℕ) → Axis → ℕ
+number_on_axis arch number a = bit_and (if a.word == 0 then number else arch) a.mask
 
 -- a condition on the call's number or its architecture
 abbrev pub is_on_call : ConditionData → Bool
@@ -19,7 +19,7 @@ is_on_call c = (c.axis.word == 0) || (c.axis.word == 1)
 
 -- whether the inputs of a call meet a condition on the call's number or its architecture; true for other conditions
 abbrev pub call_meets : (arch number : ℕ) → ConditionData → Bool
-call_meets arch number c = not (is_on_call c) || is_in_part c.part (number_of_call arch number c.axis)
+call_meets arch number c = not (is_on_call c) || is_in_part c.part (number_on_axis arch number c.axis)
 
 -- a row is about a call: as far as number and architecture tell, the call's inputs may lie in it
 abbrev pub is_about_call : (arch number : ℕ) → ScopeData → Bool
@@ -70,8 +70,8 @@ call_rows wanted rows sets = flat_map (rows_of_set wanted rows) sets
 
 -- The line of a row of a call: the set, the call, the words of the row's labels, and its conditions on other words than
 -- the call's number and its architecture.
-abbrev pub call_line : List (List ℕ) → CallRowData → List ℕ
-call_line words r = r.set ++ 32 ∷ (r.name ++ 32 ∷ (labels_words words r.row.labels
+abbrev pub call_row_line : List (List ℕ) → CallRowData → List ℕ
+call_row_line words r = r.set ++ 32 ∷ (r.name ++ 32 ∷ (labels_words words r.row.labels
     ++ (further_words (codes " if ") r.row.scope.conditions ++ 10 ∷ [])))
 
 -- ---- which inputs a line is about

@@ -20,14 +20,14 @@ abbrev pub long_words : ℕ → List ℕ
 long_words n = codes "0x" ++ padded_integral (format_spec 32 0 4 8 (2 ^ 64 - 1)) false [] (digits 16 true n)
 
 -- the number of a call: below 65,536 in decimal
-abbrev pub call_words : ℕ → List ℕ
-call_words n = if nat_lt n 65536 then decimal n else short_words n
+abbrev pub call_number_words : ℕ → List ℕ
+call_number_words n = if nat_lt n 65536 then decimal n else short_words n
 
 -- a number
 abbrev pub number_words : Style → ℕ → List ℕ
 number_words Short n = short_words n
 number_words Long n = long_words n
-number_words Call n = call_words n
+number_words Call n = call_number_words n
 
 -- a span: its number, or its two ends
 abbrev pub span_words : Style → Span → List ℕ
@@ -114,14 +114,14 @@ names_in_part names arch None = []
 names_in_part names arch (Some p) = if p.is_rest then [] else names_in_spans names arch p.spans
 
 -- the names of the calls of an architecture whose numbers are in a part; none where several architectures are meant
-abbrev pub names_at : List NamesData → Option ℕ → Option PartData → List (List ℕ)
-names_at names None nr = []
-names_at names (Some arch) nr = names_in_part names arch nr
+abbrev pub part_names : List NamesData → Option ℕ → Option PartData → List (List ℕ)
+part_names names None nr = []
+part_names names (Some arch) nr = names_in_part names arch nr
 
 -- The names of the calls that a row is about. There are none where it is about several architectures, since one number
 -- stands for different calls there; and none where it is about all numbers.
 abbrev pub row_names : List NamesData → ScopeData → List (List ℕ)
-row_names names s = names_at names (only_arch s.arch) s.nr
+row_names names s = part_names names (only_arch s.arch) s.nr
 
 -- the line of a row, by the names of calls and the words of labels
 abbrev pub row_line : List NamesData → List (List ℕ) → RowData → List ℕ

@@ -33,10 +33,10 @@ spans_after wanted before first (r ∷ rs) =
     spans_after wanted (if wanted r.next then with_span before (span_of first r.last) else before) (r.last + 1) rs
 
 -- how many numbers lead to a branch; the first run begins with the number `first`
-abbrev pub count_after : Branch → ℕ → List Run → ℕ
-count_after b first [] = 0
-count_after b first (r ∷ rs) =
-    (if same_branch r.next b then r.last + 1 - first else 0) + count_after b (r.last + 1) rs
+abbrev pub count_to_branch : Branch → ℕ → List Run → ℕ
+count_to_branch b first [] = 0
+count_to_branch b first (r ∷ rs) =
+    (if same_branch r.next b then r.last + 1 - first else 0) + count_to_branch b (r.last + 1) rs
 
 -- whether a branch is among others
 abbrev pub has_branch : List Branch → Branch → Bool
@@ -53,7 +53,7 @@ branches_after before (r ∷ rs) =
 abbrev pub largest_of : List Run → Branch → List Branch → Branch
 largest_of runs b [] = b
 largest_of runs b (c ∷ cs) =
-    if nat_lt (count_after b 0 runs) (count_after c 0 runs) then largest_of runs c cs else largest_of runs b cs
+    if nat_lt (count_to_branch b 0 runs) (count_to_branch c 0 runs) then largest_of runs c cs else largest_of runs b cs
 
 -- A part of a fork: the branch to which its numbers lead; whether it is the rest, the part that is named by what it
 -- isn't; and spans: its own numbers, or for the rest all numbers that aren't its own.

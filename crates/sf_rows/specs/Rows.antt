@@ -32,8 +32,8 @@ abbrev pub whole_scope : ScopeData
 whole_scope = record { arch = None; nr = None; conditions = [] }
 
 -- whether an axis is the whole of this word
-abbrev pub is_whole : Axis → ℕ → Bool
-is_whole a word = (a.word == word) && (a.mask == 4294967295)
+abbrev pub is_of_whole_word : Axis → ℕ → Bool
+is_of_whole_word a word = (a.word == word) && (a.mask == 4294967295)
 
 -- whether no part of a word's numbers is given: all are meant
 abbrev pub is_any : Option PartData → Bool
@@ -45,13 +45,13 @@ is_any (Some p) = false
 -- condition.
 abbrev pub scope_within : ScopeData → Axis → PartData → ScopeData
 scope_within scope a p =
-    if is_whole a 1 && is_any scope.arch then record scope { arch = Some p } else
-    if is_whole a 0 && is_any scope.nr then record scope { nr = Some p } else
+    if is_of_whole_word a 1 && is_any scope.arch then record scope { arch = Some p } else
+    if is_of_whole_word a 0 && is_any scope.nr then record scope { nr = Some p } else
     record scope { conditions = scope.conditions ++ record { axis = a; part = p } ∷ [] }
 
 -- the parts of a fork; on the axis of call numbers each run is a part by itself
 abbrev pub parts_at : ForkData → List PartData
-parts_at f = if is_whole f.axis 0 then run_parts 0 f.runs else fork_parts f.runs
+parts_at f = if is_of_whole_word f.axis 0 then run_parts 0 f.runs else fork_parts f.runs
 
 -- the rows from a branch on, through at most so many forks
 abbrev pub rows_along : PictureData → ℕ → Branch → ScopeData → List RowData

@@ -53,14 +53,14 @@ without_numbers (n ∷ ns) ss = without_numbers ns (spans_without n ss)
 -- ---- architectures
 
 -- whether a number is among others
-abbrev pub has_number : List ℕ → ℕ → Bool
-has_number [] n = false
-has_number (m ∷ ms) n = if m == n then true else has_number ms n
+abbrev pub is_one_of : List ℕ → ℕ → Bool
+is_one_of [] n = false
+is_one_of (m ∷ ms) n = if m == n then true else is_one_of ms n
 
 -- the architectures of sets, each once, in their order, after those before
 abbrev pub archs_after : List ℕ → List NamesData → List ℕ
 archs_after before [] = before
-archs_after before (n ∷ ns) = archs_after (if has_number before n.arch then before else before ++ n.arch ∷ []) ns
+archs_after before (n ∷ ns) = archs_after (if is_one_of before n.arch then before else before ++ n.arch ∷ []) ns
 
 -- ---- rows
 
@@ -178,5 +178,5 @@ is_named_call sets arch number =
     list_any (λ (n : NamesData). (n.arch == arch) && list_any (has_call_number number) n.calls) sets
 
 -- an input belongs to a call that has a name
-abbrev pub is_named : List NamesData → Input → Bool
-is_named sets d = is_named_call sets (slice_index d.words 1) (slice_index d.words 0)
+abbrev pub is_in_named_call : List NamesData → Input → Bool
+is_in_named_call sets d = is_named_call sets (slice_index d.words 1) (slice_index d.words 0)

@@ -2,7 +2,7 @@
 use Rattle.std.specs.Prelude.{ℕ, ◌+◌, List, [], ◌∷◌, ◌++◌, count_by, length, Option, Some, None}
 use Rattle.std.specs.List.{flat_map}
 use Rattle.sf_names.specs.Names.{NamesData}
-use Rattle.sf_rows.specs.Calls.{CallRowData, call_line, call_rows}
+use Rattle.sf_rows.specs.Calls.{CallRowData, call_row_line, call_rows}
 use Rattle.sf_rows.specs.Lines.{is_undetermined, row_line}
 use Rattle.sf_rows.specs.Rows.{RowData}
 use Rattle.sf_rows.specs.Unnamed.{unnamed_rows}
@@ -18,7 +18,7 @@ other_rows (w ∷ ws) sets rows = []
 abbrev pub written_lines : List NamesData → List (List ℕ) → Option (List (List ℕ)) → List RowData → List ℕ
 written_lines sets words None rows = flat_map (row_line sets words) rows
 written_lines sets words (Some wanted) rows =
-    flat_map (call_line words) (call_rows wanted rows sets)
+    flat_map (call_row_line words) (call_rows wanted rows sets)
     ++ flat_map (row_line sets words) (other_rows wanted sets rows)
 
 -- how many lines these are

@@ -4,7 +4,7 @@ ghost use Rattle.std.specs.Prelude.{◌≡◌, ◌++◌, IfOk, OnOk, count_by, m
 ghost use Rattle.std.specs.List.{flat_map, list_all, list_any};
 ghost use Rattle.std.specs.Str.{bytes_eq};
 ghost use Rattle.sf_names.specs.Names.{CallData};
-ghost use Rattle.sf_rows.specs.Calls.{call_line, call_meets, call_rows, is_about_call, is_on_call, is_wanted, number_of_call, row_if_about, rows_if_wanted, rows_of_call, rows_of_set};
+ghost use Rattle.sf_rows.specs.Calls.{call_row_line, call_meets, call_rows, is_about_call, is_on_call, is_wanted, number_on_axis, row_if_about, rows_if_wanted, rows_of_call, rows_of_set};
 ghost use Rattle.sf_rows.specs.Lines.{is_undetermined};
 
 use crate::conditions::push_further;
@@ -65,7 +65,7 @@ impl<'a> CallRow<'a> {
 /// The number that all inputs of a call have on an axis of its number, which is the word 0, or of its architecture. The
 /// axis is taken as one of the architecture where its word isn't 0.
 fn number_of_call(arch: u32, number: u32, axis: Axis) -> u32
-    ensures { result ≡ number_of_call arch number axis }
+    ensures { result ≡ number_on_axis arch number axis }
 {
     let word = if axis.word == 0 { number } else { arch };
     word & axis.mask
@@ -216,7 +216,7 @@ pub(crate) fn count_undetermined(rows: &[CallRow<'_>]) -> usize
 /// Adds the line of a row of a call. `words` are the words of the labels, each at its label's place.
 fn push_call_row(text: &mut String, words: &[String], row: &CallRow<'_>) -> Result<(), AllocError>
     ensures { OnOk result (string_bytes text.new ≡ string_bytes text.old
-        ++ call_line (map string_bytes words.now) row.now) }
+        ++ call_row_line (map string_bytes words.now) row.now) }
 {
     let set = row.names.set();
     let name = row.call.name();
@@ -234,7 +234,7 @@ pub(crate) fn push_call_rows(
     rows: &[CallRow<'_>],
 ) -> Result<(), AllocError>
     ensures { OnOk result (string_bytes text.new ≡ string_bytes text.old
-        ++ flat_map (call_line (map string_bytes words.now)) rows.now) }
+        ++ flat_map (call_row_line (map string_bytes words.now)) rows.now) }
 {
     for row in rows {
         push_call_row(text, words, row)?;

@@ -3,7 +3,7 @@
 ghost use Rattle.std.specs.Prelude.{◌≡◌, ◌++◌, [], OnOk, codes, slice_index_or, string_bytes};
 ghost use Rattle.sf_policy.specs.Keys.{word_keys};
 ghost use Rattle.sf_rows.specs.Calls.{further_words};
-ghost use Rattle.sf_rows.specs.Lines.{call_words, long_words, short_words, number_words, span_words, spans_words, is_one_number, arch_start, arch_words, nr_words, part_start, axis_words, condition_words, conditions_words};
+ghost use Rattle.sf_rows.specs.Lines.{call_number_words, long_words, short_words, number_words, span_words, spans_words, is_one_number, arch_start, arch_words, nr_words, part_start, axis_words, condition_words, conditions_words};
 
 use crate::parts::{Part, Span};
 use crate::rows::Condition;
@@ -38,7 +38,8 @@ fn push_long(text: &mut String, number: u32) -> Result<(), AllocError>
 
 /// Adds the number of a call: below 65,536 in decimal, else in hexadecimal.
 fn push_call(text: &mut String, number: u32) -> Result<(), AllocError>
-    ensures { OnOk result (string_bytes text.new ≡ string_bytes text.old ++ call_words number) }
+    ensures { OnOk result (string_bytes text.new ≡ string_bytes text.old
+        ++ call_number_words number) }
 {
     if number < 65536 {
         return write!(text, "{number}");

@@ -8,7 +8,7 @@ ghost use Rattle.sf_picture.specs.PictureData.{PictureData};
 ghost use Rattle.sf_picture.specs.Pictures.{IsPicture, labels_at};
 ghost use Rattle.sf_rows.specs.Calls.{IsOfCall, is_in_line, rows_of_call};
 ghost use Rattle.sf_rows.specs.Rows.{RowData, rows_of, is_in_scope};
-ghost use Rattle.sf_rows.specs.Unnamed.{is_named, unnamed_rows};
+ghost use Rattle.sf_rows.specs.Unnamed.{is_in_named_call, unnamed_rows};
 
 /// Each input lies in exactly one row of a picture, and this row has the labels that the picture shows.
 pub fn each_input_lies_in_one_row()
@@ -33,7 +33,7 @@ pub fn each_input_of_a_call_lies_in_one_line()
 pub fn each_other_input_lies_in_one_row()
     ensures { (p : PictureData) (sets : List NamesData) (d : Input) → IsPicture p → IsInput d
         → count_by (λ r. is_in_scope r.scope d) (unnamed_rows sets (rows_of p))
-        ≡ (if is_named sets d then 0 else 1) }
+        ≡ (if is_in_named_call sets d then 0 else 1) }
 {
     each_input_lies_in_one_row();
 }

@@ -4,7 +4,7 @@ ghost use Rattle.std.specs.Prelude.{◌≡◌, ◌<◌, ◌≤◌, ◌+◌, ◌-
 ghost use Rattle.sf_policy.specs.declared.fault.Fault.TheVariants.{Memory as MemoryFault};
 ghost use Rattle.sf_picture.specs.Pictures.{RiseFrom};
 ghost use Rattle.sf_rows.specs.declared.parts.Span.{Span as ASpan};
-ghost use Rattle.sf_rows.specs.Parts.{EndsApart, same_branch, with_span, names_part, count_after, has_branch, branches_after, largest_of, part_to, parts_but, parts_to, fork_parts, run_parts, span_of};
+ghost use Rattle.sf_rows.specs.Parts.{EndsApart, same_branch, with_span, names_part, count_to_branch, has_branch, branches_after, largest_of, part_to, parts_but, parts_to, fork_parts, run_parts, span_of};
 ghost use Rattle.sf_rows.specs.Rows.{is_in_part, is_in_spans, meets_part};
 
 use sf_picture::{Branch, Run};
@@ -262,7 +262,7 @@ fn count_in(run: Run, first: u64, branch: Branch) -> u64
 /// How many numbers of the runs lead to a branch. The caller's condition: the last numbers of the runs rise.
 fn count_of(runs: &[Run], branch: Branch) -> u64
     requires { RiseFrom 0 runs.now }
-    ensures { result ≡ count_after branch 0 runs.now }
+    ensures { result ≡ count_to_branch branch 0 runs.now }
 {
     let mut count = 0;
     let mut first = 0;

@@ -2,10 +2,10 @@
 
 ghost use Rattle.std.specs.Prelude.{◌≡◌, ◌++◌, ◌∷◌, ◌≤◌, [], count_by, length, option_map, IfErr, IfOk};
 ghost use Rattle.sf_policy.specs.declared.fault.Fault.TheVariants.{Memory as MemoryFault};
-ghost use Rattle.sf_picture.specs.Pictures.{IsBelow, RiseFrom};
+ghost use Rattle.sf_picture.specs.Pictures.{LeadsBelow, RiseFrom};
 ghost use Rattle.sf_rows.specs.Calls.{is_on_call};
 ghost use Rattle.sf_rows.specs.Lines.{is_undetermined};
-ghost use Rattle.sf_rows.specs.Rows.{is_whole, listed_rows, scope_within, whole_scope, rows_along, rows_of, parts_at};
+ghost use Rattle.sf_rows.specs.Rows.{is_of_whole_word, listed_rows, scope_within, whole_scope, rows_along, rows_of, parts_at};
 
 use crate::parts::{Part, parts_of, runs_apart};
 use sf_picture::{Axis, Branch, Fork, Picture};
@@ -121,7 +121,7 @@ pub(crate) fn clone_conditions(
 
 /// Whether an axis is this word with all its bits.
 fn is_whole_word(axis: Axis, word: usize) -> bool
-    ensures { result ≡ is_whole axis word }
+    ensures { result ≡ is_of_whole_word axis word }
 {
     axis.word == word && axis.mask == u32::MAX
 }
@@ -304,7 +304,7 @@ fn push_rows(
     scope: &Scope,
 ) -> Result<(), Fault>
     requires forks { most ≤ length picture.now.forks }
-    requires below { IsBelow (length picture.now.leaves) most branch }
+    requires below { LeadsBelow (length picture.now.leaves) most branch }
     ensures added { IfOk result (λ _. rows.new.items ≡ rows.old.items
         ++ rows_along picture.now most branch scope.now) }
     ensures refused { IfErr result (λ e. e ≡ MemoryFault) }

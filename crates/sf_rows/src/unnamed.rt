@@ -3,7 +3,7 @@
 ghost use Rattle.std.specs.Prelude.{◌≡◌, ◌==◌, ◌++◌, ◌∷◌, [], true, false, if◌then◌else◌, IfErr, IfOk, OnOk, map};
 ghost use Rattle.std.specs.List.{flat_map};
 ghost use Rattle.sf_policy.specs.declared.fault.Fault.TheVariants.{Memory as MemoryFault};
-ghost use Rattle.sf_rows.specs.Unnamed.{all_gaps, arch_if_met, archs_after, archs_met, gaps_at, has_number, kept_nr, part_of, row_at, row_on, rows_at, rows_beyond, rows_elsewhere, run_of, spans_of_numbers, unnamed_of, unnamed_rows, with_arch, within_nr, within_run};
+ghost use Rattle.sf_rows.specs.Unnamed.{all_gaps, arch_if_met, archs_after, archs_met, gaps_at, is_one_of, kept_nr, part_of, row_at, row_on, rows_at, rows_beyond, rows_elsewhere, run_of, spans_of_numbers, unnamed_of, unnamed_rows, with_arch, within_nr, within_run};
 
 use crate::parts::{Part, Span, meets_part};
 use crate::rows::{Condition, Row, Scope, clone_conditions, clone_part, push_scope};
@@ -31,7 +31,7 @@ impl Model for Gaps {
 
 /// Whether a number is among others.
 fn has_number(numbers: &[u32], number: u32) -> bool
-    ensures { result ≡ has_number numbers.now number }
+    ensures { result ≡ is_one_of numbers.now number }
 {
     for one in numbers {
         if *one == number {
@@ -43,7 +43,7 @@ fn has_number(numbers: &[u32], number: u32) -> bool
 
 /// Adds a number, unless it is there.
 fn push_once(numbers: &mut Vec<u32>, number: u32) -> Result<(), AllocError>
-    ensures { OnOk result (numbers.new.items ≡ (if has_number numbers.old.items number
+    ensures { OnOk result (numbers.new.items ≡ (if is_one_of numbers.old.items number
         then numbers.old.items else numbers.old.items ++ number ∷ [])) }
 {
     if has_number(numbers.as_slice(), number) {

@@ -10,7 +10,7 @@ use Rattle.sf_check.specs.Insns.{successors}
 use Rattle.sf_check.specs.Programs.{AllBelow, IsAt, IsLawfulProgram, IsPath, Leads}
 use Rattle.sf_check.specs.ContainsLaws.{contains_cons, contains_nil}
 use Rattle.sf_check.specs.ProgramLaws.{successor_after, successors_inside}
-use Rattle.sf_warnings.specs.Reaching.{AreReached, IsReached, with_found}
+use Rattle.sf_warnings.specs.Reaching.{AreReached, IsOnSomePath, with_found}
 
 -- the instruction at a place was found
 abbrev pub IsFound : List Bool → ℕ → Type 0
@@ -67,7 +67,7 @@ set_only (q ∷ qs) found k h = elim (set_only qs (set found q true) k h) [
 pub record Passes (code : List Insn) (place : ℕ) (found : List Bool) : Type 0 where
   pub size : length found ≡ length code
   pub first : IsFound found 0
-  pub right : (at : ℕ) → IsFound found at → IsReached code at
+  pub right : (at : ℕ) → IsFound found at → IsOnSomePath code at
   pub passed : (at next : ℕ) → at < place → IsFound found at → Leads code at next → IsFound found next
 
 -- at first only the first instruction is found

@@ -7,5 +7,5 @@ AreSame files earlier later =
     (earlier < later) × (later < length files) × (slice_index_or files earlier [] ≡ slice_index_or files later [])
 
 -- no two files have the same bytes
-abbrev pub AreApart : List (List ℕ) → Type 0
-AreApart files = (earlier later : ℕ) → ¬ AreSame files earlier later
+abbrev pub HaveOtherBytes : List (List ℕ) → Type 0
+HaveOtherBytes files = (earlier later : ℕ) → ¬ AreSame files earlier later

@@ -4,13 +4,13 @@ use Rattle.sf_check.specs.declared.insn.Insn.{Insn}
 use Rattle.sf_check.specs.Programs.{IsPath}
 
 -- some path through the program comes to the instruction at a place
-abbrev pub IsReached : List Insn → ℕ → Type 0
-IsReached code at = (earlier : List ℕ) × IsPath code (at ∷ earlier)
+abbrev pub IsOnSomePath : List Insn → ℕ → Type 0
+IsOnSomePath code at = (earlier : List ℕ) × IsPath code (at ∷ earlier)
 
 -- just the instructions are found to which some path comes
 pub record AreReached (code : List Insn) (found : List Bool) : Type 0 where
   pub count : length found ≡ length code
-  pub reached : (at : ℕ) → (slice_index_or found at false ≡ true) ↔ IsReached code at
+  pub reached : (at : ℕ) → (slice_index_or found at false ≡ true) ↔ IsOnSomePath code at
 
 -- what is found after each of some places was found
 abbrev pub with_found : List ℕ → List Bool → List Bool

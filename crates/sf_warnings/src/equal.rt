@@ -1,7 +1,7 @@
 //! Filters that are there twice.
 
 ghost use Rattle.std.specs.Prelude.{◌≡◌, ◌↔◌, ℕ, ◌<◌, length, map, IfSome, IfNone, IsTrue};
-ghost use Rattle.sf_warnings.specs.Equal.{AreApart, AreSame};
+ghost use Rattle.sf_warnings.specs.Equal.{HaveOtherBytes, AreSame};
 
 /// Whether two files have the same bytes.
 fn have_same_bytes(left: &[u8], right: &[u8]) -> bool
@@ -31,7 +31,7 @@ fn same_before(files: &[Vec<u8>], later: usize) -> Option<usize>
 /// that equals one before it. `None` where all files are different.
 pub fn first_same(files: &[Vec<u8>]) -> Option<(usize, usize)>
     ensures same { IfSome result (λ r. AreSame (map (λ f. f.items) files.now) r.0 r.1) }
-    ensures apart { IfNone result (AreApart (map (λ f. f.items) files.now)) }
+    ensures apart { IfNone result (HaveOtherBytes (map (λ f. f.items) files.now)) }
 {
     for later in 0..files.len() {
         if let Some(earlier) = same_before(files, later) {

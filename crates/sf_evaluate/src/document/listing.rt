@@ -2,7 +2,7 @@
 
 ghost use Rattle.std.specs.Prelude.{◌≡◌, length, map, IfOk};
 ghost use Rattle.serde_json.specs.View.{view};
-ghost use Rattle.sf_evaluate.specs.CheckDocuments.{AreFilterDocuments, IsCheckDocument, IsFilterDocument, IsListing, filter_size_document};
+ghost use Rattle.sf_evaluate.specs.CheckDocuments.{AreFilterDocuments, IsCheckDocument, IsFilterDocument, AreListedLines, filter_size_document};
 
 use crate::texts::push_instructions;
 use sf_check::{Program, Stack};
@@ -11,7 +11,7 @@ use std::alloc::{AllocError, Global};
 
 /// The text of a filter's instructions, if `listed`; else the document `null`. An error where an allocation is refused.
 fn listing_of(alloc: Global, listed: bool, program: &Program) -> Result<Document, AllocError>
-    ensures { IfOk result (λ d. IsListing listed program.now (view d)) }
+    ensures { IfOk result (λ d. AreListedLines listed program.now (view d)) }
 {
     if !listed {
         return Ok(Document::null());

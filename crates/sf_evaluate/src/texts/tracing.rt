@@ -2,7 +2,7 @@
 ghost use Rattle.std.specs.Prelude.{◌≡◌, ◌<◌, ◌++◌, ◌==◌, ◌&&◌, ◌||◌, not, false, OnOk, IfOk, Some, length, string_bytes};
 ghost use Rattle.sf_run.specs.Answers.{action_bits, action_number};
 ghost use Rattle.sf_run.specs.Walks.{CourseData, walk_of};
-ghost use Rattle.sf_evaluate.specs.Traces.{call_line, call_text, compared_text, field_line, fields_text, filters_text, first_arguments, input_text, is_false, last_arguments, stands_text, meeting_line, meeting_lines, named_line, named_text, nr_line, returned_line, shown_line, sign_text, test_line, trace_text, truth_text, walk_text, word_text};
+ghost use Rattle.sf_evaluate.specs.Traces.{call_line, call_text, compared_word_text, field_line, fields_text, filters_text, first_arguments, input_text, is_false, last_arguments, stands_text, meeting_line, meeting_lines, named_line, named_text, nr_line, returned_line, shown_line, sign_text, test_line, trace_text, truth_text, walk_text, word_text};
 
 use crate::comparisons::{Comparison, is_false, sign_of};
 use sf_calls::{is_named, push_call_words};
@@ -133,7 +133,7 @@ fn truth_of(truth: bool) -> &'static str
 /// refused.
 fn push_compared(text: &mut String, sign: &str, other: u32, truth: bool) -> Result<(), AllocError>
     ensures { OnOk result (string_bytes text.new ≡ string_bytes text.old
-        ++ compared_text sign.now other truth) }
+        ++ compared_word_text sign.now other truth) }
 {
     let truth = truth_of(truth);
     write!(text, " {sign} 0x{other:08X} {truth}\n")

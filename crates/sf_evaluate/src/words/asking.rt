@@ -6,7 +6,7 @@ ghost use Rattle.clap.specs.Words.{found_of, rows_of};
 ghost use Rattle.sf_command_line.specs.Options.{text_of};
 ghost use Rattle.sf_calls.specs.Numbers.{read_arguments, read_number};
 ghost use Rattle.sf_policy.specs.declared.fault.Fault.TheVariants.{Input as InputFault, UnknownName as NameFault};
-ghost use Rattle.sf_evaluate.specs.Asking.{AsksInput, IsCallInput, LacksName, arch_named, asked_arch, asked_nr, call_fits, eval_words_fit, has_arguments, has_names, is_arch, is_arch_number, is_given, has_only_input, is_narrow, is_nr_narrow, nr_fits, nr_named, numbers_fit};
+ghost use Rattle.sf_evaluate.specs.Asking.{AsksInput, IsCallInput, LacksName, arch_named, asked_arch, asked_nr, call_fits, eval_words_fit, has_arguments, has_file_of_names, is_arch, is_arch_number, is_given, has_only_input, is_narrow, is_nr_narrow, nr_fits, nr_named, numbers_fit};
 
 use crate::checking::input_of;
 use crate::explaining::Notes;
@@ -43,7 +43,7 @@ fn has_arguments(found: &ArgMatches<'_>) -> bool
 
 /// Whether `--names` gives a file of names.
 pub(crate) fn has_names(found: &ArgMatches<'_>) -> bool
-    ensures { result ≡ has_names (rows_of (found_of found.now)) }
+    ensures { result ≡ has_file_of_names (rows_of (found_of found.now)) }
 {
     !found.get_strs("names").unwrap_or(&[]).is_empty()
 }

@@ -6,7 +6,7 @@ ghost use Rattle.std.specs.Str.{bytes_eq};
 ghost use Rattle.clap.specs.Words.{found_of, rows_of};
 ghost use Rattle.sf_command_line.specs.Options.{paths_of};
 ghost use Rattle.sf_policy.specs.declared.fault.Fault.TheVariants.{Memory as MemoryFault};
-ghost use Rattle.sf_evaluate.specs.Profiles.{AreSettings, capabilities, is_capability, is_kernel, machine_named, reading_named, profile_words_fit};
+ghost use Rattle.sf_evaluate.specs.Profiles.{AreSettings, capabilities, is_capability, is_kernel_or_none, machine_named, reading_named, profile_words_fit};
 
 use clap::ArgMatches;
 use sf_command_line::{text_of, wants_newer};
@@ -125,7 +125,7 @@ fn caps_fit(found: &ArgMatches<'_>) -> bool
 
 /// Whether a text is empty, as where no version is given, or the version of a kernel, such as 6.12.
 fn is_kernel(text: &str) -> bool
-    ensures { result ≡ is_kernel text.now }
+    ensures { result ≡ is_kernel_or_none text.now }
 {
     text.is_empty() || version_of(text).is_some()
 }

@@ -5,9 +5,9 @@ ghost use Rattle.std.specs.List.{list_all};
 ghost use Rattle.std.specs.Str.{bytes_eq};
 ghost use Rattle.std.specs.Option.{option_map_or};
 ghost use Rattle.clap.specs.Words.{first_of, found_of, rows_of};
-ghost use Rattle.sf_calls.specs.Numbers.{parts_of};
+ghost use Rattle.sf_calls.specs.Numbers.{comma_parts};
 ghost use Rattle.sf_policy.specs.declared.fault.Fault.TheVariants.{Memory as MemoryFault, UnknownName as UnknownNameFault};
-ghost use Rattle.sf_evaluate.specs.Wanted.{are_known, calls_asked, calls_fit, has_rows_if_wanted, is_known_call, is_name_once, is_relation, names_in_text, rows_fit};
+ghost use Rattle.sf_evaluate.specs.Wanted.{are_known, calls_asked, calls_fit, has_rows_if_wanted, is_known_call, is_wanted_once, is_relation, names_in_text, rows_fit};
 
 use super::asking::{has_names, is_given};
 use crate::explaining::Notes;
@@ -20,21 +20,22 @@ use std::io::Write;
 
 /// How many of the names in a text, which commas separate, are this one.
 fn count_of(text: &str, name: &str) -> usize
-    ensures { result ≡ count_by (bytes_eq name.now) (parts_of text.now) }
+    ensures { result ≡ count_by (bytes_eq name.now) (comma_parts text.now) }
 {
     text.split(',').filter(|part| name == *part).count()
 }
 
 /// Whether a name can be that of a call, and stands once in a text.
 fn is_name_once(text: &str, name: &str) -> bool
-    ensures { result ≡ is_name_once (parts_of text.now) name.now }
+    ensures { result ≡ is_wanted_once (comma_parts text.now) name.now }
 {
     is_call_name(name) && count_of(text, name) == 1
 }
 
 /// Whether each name in a text can be that of a call, and stands once. An empty text has no names.
 fn are_names(text: &str) -> bool
-    ensures { result ≡ list_all (is_name_once (names_in_text text.now)) (names_in_text text.now) }
+    ensures { result ≡ list_all (is_wanted_once (names_in_text text.now))
+        (names_in_text text.now) }
 {
     text.is_empty() || text.split(',').all(|name| is_name_once(text, name))
 }

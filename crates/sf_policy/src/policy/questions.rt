@@ -2,7 +2,7 @@
 
 ghost use Rattle.std.specs.Prelude.{◌≡◌, ◌≤◌, length, map};
 ghost use Rattle.toml.specs.View.{view, table_view};
-ghost use Rattle.sf_policy.specs.Faults.{Gives};
+ghost use Rattle.sf_policy.specs.Faults.{IsDue};
 ghost use Rattle.sf_policy.specs.Encoding.{ranges_and_masks, table_or_empty, numbered_fault, fault_of_wide_number, question_of_parts};
 ghost use Rattle.sf_policy.specs.Policies.{question_of_table, questions_from};
 
@@ -49,7 +49,7 @@ fn question_of_parts(
     entries: &[WordEntry; 16],
     actions: ActionSet,
 ) -> Result<Question, Fault>
-    ensures { Gives (λ q. q) result (question_of_parts number name.now
+    ensures { IsDue (λ q. q) result (question_of_parts number name.now
         (ranges_and_masks entries.now) actions) }
 {
     let Some(words) = words_of(entries) else {
@@ -70,7 +70,7 @@ pub(super) fn question_of_table(
     number: usize,
     table: &Table,
 ) -> Result<Question, Fault>
-    ensures { Gives (λ q. q) result (question_of_table version number (table_view table.now)) }
+    ensures { IsDue (λ q. q) result (question_of_table version number (table_view table.now)) }
 {
     let key = Fault::Key { question: number };
     if !has_question_keys(table) {
@@ -91,7 +91,7 @@ pub(super) fn questions_in(
     items: &[Value],
 ) -> Result<Vec<Question>, Fault>
     requires { length items.now ≤ 256 }
-    ensures { Gives (λ v. v.items) result (questions_from version 1
+    ensures { IsDue (λ v. v.items) result (questions_from version 1
         (map (λ v. table_or_empty (view v)) items.now)) }
 {
     let mut questions = Vec::new(alloc);

@@ -5,7 +5,7 @@ ghost use Rattle.toml.specs.Data.{get_member};
 ghost use Rattle.toml.specs.View.{view, items_view, table_view};
 ghost use Rattle.sf_policy.specs.Keys.{word_keys};
 ghost use Rattle.sf_policy.specs.Trees.{each_of};
-ghost use Rattle.sf_policy.specs.Words.{between, entry_of_array, entry_of_table, entry_of, entry_at};
+ghost use Rattle.sf_policy.specs.Words.{only_between, entry_of_array, entry_of_table, entry_of, entry_at};
 ghost use Rattle.sf_policy.specs.Encoding.{numbers_in, ranges_and_masks};
 
 use super::Version;
@@ -38,7 +38,7 @@ const ANY_NUMBER: WordEntry = WordEntry {
 
 /// The entry of a range, without a mask.
 fn range_entry(low: i64, high: i64) -> WordEntry
-    ensures { result ≡ between low high }
+    ensures { result ≡ only_between low high }
 {
     WordEntry {
         low,

@@ -1,8 +1,8 @@
 use Rattle.toml.specs.View.{members_view, table_view}
-use Rattle.sf_names.specs.Names.{sets_of}
+use Rattle.sf_names.specs.Names.{sets_of_table}
 use Rattle.sf_names.proofs.SetLemmas.{SetsSoFar}
 use Rattle.sf_names.proofs.reading.sets_of.Given as goal
 
 abbrev pub invariant-loop-set : goal.invariant-loop-set
 invariant-loop-set l =
-    SetsSoFar (sets_of (table_view l.table)) l.sets.items (sets_of (members_view l.set-iterator))
+    SetsSoFar (sets_of_table (table_view l.table)) l.sets.items (sets_of_table (members_view l.set-iterator))

@@ -1,5 +1,5 @@
 use Rattle.std.proofs.Common.{ℕ, ◌+◌, ◌-◌, ◌*◌, ◌<◌, ◌≤◌, length}
-use Rattle.sf_needed.specs.Needs.{IsKept, IsLeft}
+use Rattle.sf_needed.specs.Needs.{IsKeptFilter, IsLeft}
 use Rattle.sf_needed.proofs.LeftLemmas.{WasTried}
 use Rattle.sf_needed.proofs.dropping.drop_while_alike.Given as goal
 
@@ -9,7 +9,7 @@ invariant-loop-tried g l = record {
   few : l.tried ≤ length l.kept.items;
   next : l.next ≤ length l.kept.items;
   each : (place : ℕ) → place < length l.kept.items → WasTried l.next l.tried (length l.kept.items) place
-      → IsKept l.task.files l.task.budget l.kept.items place;
+      → IsKeptFilter l.task.files l.task.budget l.kept.items place;
 }
 
 abbrev pub decreases-loop-tried : goal.decreases-loop-tried

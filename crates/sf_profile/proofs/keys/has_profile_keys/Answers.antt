@@ -1,9 +1,9 @@
 use Rattle.std.proofs.Common.{ℕ, List, Bor, map, ap, ◌∙◌}
 use Rattle.serde_json.specs.View.{view}
-use Rattle.sf_profile.specs.Trees.{has_only}
+use Rattle.sf_profile.specs.Trees.{is_object_of}
 use Rattle.sf_profile.proofs.keys.has_profile_keys.Goals as goal
 
 pub returns : goal.returns
 returns c =
     c.has_only.ensures
-    ∙ ap (λ (ks : List (Bor (List ℕ))). has_only (map (λ k. k.now) ks) (view c.args.value.now)) c.as_slice.ensures
+    ∙ ap (λ (ks : List (Bor (List ℕ))). is_object_of (map (λ k. k.now) ks) (view c.args.value.now)) c.as_slice.ensures

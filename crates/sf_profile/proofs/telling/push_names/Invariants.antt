@@ -1,10 +1,10 @@
 use Rattle.std.proofs.Common.{◌≡◌, take, map, fold}
 use Rattle.serde_json.specs.View.{view}
-use Rattle.sf_profile.specs.Trees.{text_of}
+use Rattle.sf_profile.specs.Trees.{text_in}
 use Rattle.sf_profile.specs.Notes.{with_name}
 use Rattle.sf_profile.proofs.telling.push_names.Given as goal
 
 abbrev pub invariant-loop-value : goal.invariant-loop-value
 invariant-loop-value l =
     map (λ n. n.now) l.names.items ≡ fold with_name (map (λ n. n.now) l.initial.names.items)
-    (map text_of (map view (take l.value-index l.items)))
+    (map text_in (map view (take l.value-index l.items)))

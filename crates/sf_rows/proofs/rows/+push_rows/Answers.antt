@@ -4,7 +4,7 @@ use Rattle.std.proofs.lemmas.List.{take_all}
 use Rattle.std.proofs.lemmas.Option.{get_or_from_slice_get}
 use Rattle.sf_picture.specs.declared.picture.Branch.TheVariants.{Fork}
 use Rattle.sf_picture.specs.PictureData.{ForkData}
-use Rattle.sf_picture.specs.Pictures.{IsBelow, IsRightFork, LeadBelow, fork_at}
+use Rattle.sf_picture.specs.Pictures.{LeadsBelow, IsRightFork, LeadBelow, fork_at}
 use Rattle.sf_rows.specs.Parts.{PartData}
 use Rattle.sf_rows.specs.Rows.{RowData, parts_at, rows_along, scope_within}
 use Rattle.sf_rows.proofs.PartLemmas.{part_below, rows_at_fork}
@@ -23,14 +23,14 @@ push_rows-requires t c =
     subst (λ (g : ForkData). LeadBelow (length p.leaves) place g.runs) is right.below in
     let parts = c.as_slice-each.ensures.value ∙ c.in_ok-parts.ensures.made in
     let lt : c.loop-part.part-index < length (parts_at f) = omega (arith, ap length parts) in
-    let there : IsBelow (length p.leaves) (c.args.most - 1)
+    let there : LeadsBelow (length p.leaves) (c.args.most - 1)
     (get_or (parts_at f) c.loop-part.part-index c.part-item.result).next =
     part_below (length p.leaves) place (c.args.most - 1) f c.loop-part.part-index c.part-item.result lead
     (omega arith) lt in (
       omega arith,
       (
         omega (arith, c.requires.forks),
-        rw c.next.ensures (subst (λ (q : PartData). IsBelow (length p.leaves) (c.args.most - 1) q.next)
+        rw c.next.ensures (subst (λ (q : PartData). LeadsBelow (length p.leaves) (c.args.most - 1) q.next)
             (sym (c.part-item.is ∙ ap (λ (ps : List PartData).
             get_or ps c.loop-part.part-index c.part-item.result) parts))
             there),

@@ -1,7 +1,7 @@
 use Rattle.std.proofs.Common.{string_bytes}
 use Rattle.std.specs.Fmt.{decimal}
 use Rattle.std.proofs.lemmas.Result.{on_ok_weaker}
-use Rattle.sf_evaluate.specs.Traces.{compared_text, named_text, word_text}
+use Rattle.sf_evaluate.specs.Traces.{compared_word_text, named_text, word_text}
 use Rattle.sf_evaluate.proofs.TraceLemmas.{test_parts}
 use Rattle.sf_evaluate.proofs.texts.tracing.push_test.Goals as goal
 
@@ -13,7 +13,7 @@ returns c =
     (string_bytes c.push_word.new.text)
     (string_bytes c.push_compared.new.text) (decimal c.args.number) (decimal compared.place)
     (named_text compared.word) (word_text compared.value)
-    (compared_text compared.sign.now compared.other compared.truth)
+    (compared_word_text compared.sign.now compared.other compared.truth)
     c.in_ok-write.ensures.bytes
     c.in_ok-push_name.ensures c.in_ok-push_word.ensures e)
     c.push_compared.ensures

@@ -3,7 +3,7 @@ use Rattle.std.specs.Str.{bytes_eq}
 use Rattle.std.proofs.lemmas.Iterator.Consumers.{YieldsList-at, YieldsList-from_filter, count_from_yields_List}
 use Rattle.std.proofs.lemmas.Iterator.Splits.{YieldsList-from_str_split}
 use Rattle.std.proofs.lemmas.List.Sums.{length-filter}
-use Rattle.sf_calls.specs.Numbers.{parts_of}
+use Rattle.sf_calls.specs.Numbers.{comma_parts}
 use Rattle.sf_evaluate.proofs.words.wanted.count_of.Goals as goal
 
 pub returns : goal.returns
@@ -12,4 +12,4 @@ returns c =
     (YieldsList-from_filter _ (bytes_eq c.args.name.now)
     (YieldsList-at c.filter.ensures.source (YieldsList-from_str_split 44 c.args.text.now (lit< tt) c.split.ensures.text
     c.split.ensures.has_more c.split.ensures.pattern)) c.filter.ensures.closure (λ x r q k. search (rules, tests)))
-    ∙ length-filter (bytes_eq c.args.name.now) (parts_of c.args.text.now)
+    ∙ length-filter (bytes_eq c.args.name.now) (comma_parts c.args.text.now)
