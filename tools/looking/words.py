@@ -1,4 +1,5 @@
-"""Whether words of docs/ARCHITECTURE.md, and some others, stand only in names of crates where they have their meaning.
+"""Whether words of docs/ARCHITECTURE.md, and some others, stand only in names of crates where they have their meaning, and
+whether each definition has a name of its own.
 
     tools/look words [CRATE ..]
 
@@ -10,11 +11,15 @@ Names are those of functions, types, fields, variants, parameters, constants and
 and the definitions of `specs/` with their fields. A name is taken apart at underscores and at capital letters. Names of
 lemmas and of local values aren't looked at, nor are the toolchain's own.
 
+Two definitions in `specs/` have one name only where their types read alike: then each of two crates says the same of a
+type of its own, as each that has faults does by `fault_number : Fault → ℕ`.
+
 Names are counted.
 """
 import re
+from collections import defaultdict
 
-from looking.rattle import names_declared, names_defined
+from looking.rattle import definitions_in, names_declared, names_defined
 from looking.tree import ROOT, crates, shown, sources
 
 def stands_on():
@@ -140,8 +145,33 @@ def faults(crate):
     return found, len(here)
 
 
+def types_of_definitions(crate):
+    """The name of each definition of the crate's `specs/`, with how its type reads and the file."""
+    for path in sorted((crate / "specs").rglob("*.antt")):
+        if path.stem.endswith("Laws"):
+            continue
+        for name, definition in definitions_in(path.read_text(), path).items():
+            if name == definition.name:
+                head = next(line for line in definition.text.splitlines() if re.search(rf"(?<!\S){re.escape(name)}(?!\S)", line))
+                yield name, head, path
+
+
+def defined_twice(every):
+    """Names that two definitions of these crates have, though their types read differently."""
+    found = defaultdict(list)
+    for crate in every:
+        for name, head, path in types_of_definitions(crate):
+            found[name].append((head, path))
+    return [
+        f"{name} is defined in {shown(first)} and in {shown(path)}"
+        for name, ((head, first), *others) in sorted(found.items())
+        for other, path in others
+        if path != first and other != head
+    ]
+
+
 def look(named):
     """The faults of the crates that are named, or of all, and how many names are right."""
     every = [faults(crate) for crate in crates(named)]
-    wrong = [fault for found, _ in every for fault in found]
+    wrong = [fault for found, _ in every for fault in found] + defined_twice(crates(named))
     return wrong, sum(count for _, count in every) - len(wrong)

@@ -9,7 +9,7 @@ use Rattle.crossbeam_deque.specs.Tasks.{Pushes, Takes, Finds, FindsFew, Forks}
 use Rattle.sf_crew.specs.declared.benches.history.Event.{Event}
 use Rattle.sf_crew.specs.declared.benches.history.Event.TheVariants.{Put, Got}
 use Rattle.sf_crew.specs.declared.benches.history.HandleView.{HandleView}
-use Rattle.sf_crew.specs.History.{handle_view, handle_of, OfOthers, HasNoThief, put_items, got_count, first_left, IsLawfulFrom, IsLawfulHistory, HasHistory, Gets, AllGot}
+use Rattle.sf_crew.specs.History.{handle_view, handle_of, OfOthers, HasNoThief, put_items, got_count, first_left, IsLawfulFrom, IsLawfulHistory, HasHistory, GetsFirst, AllGot}
 use Rattle.sf_crew.specs.BenchRule.{Fits, BenchKept, PutsAll, GetsAll, owner_with_thief, new_thief_view}
 
 module _ {T : Type 0} where
@@ -264,7 +264,7 @@ module _ {T : Type 0} where
       let all : got_count g.1 ≡ length (put_items g.1) = g.3 in
       ap first_left (sym (known_whole v g.0 g.1 one g.2)) ∙ slice_get_past (put_items g.1) (got_count g.1) (omega arith)
 
-  first_got : (v w : HandleView T) (x : T) → HasNoThief v → Gets v x w → first_left v.events ≡ Some x
+  first_got : (v w : HandleView T) (x : T) → HasNoThief v → GetsFirst v x w → first_left v.events ≡ Some x
   first_got v w x one g = ap first_left (sym (known_whole v g.0 g.1 one g.2)) ∙ g.3
 
   -- what a take finds on a bench without thieves

@@ -12,7 +12,7 @@ use Rattle.sf_piece.specs.Pieces.{PieceData, StepData, Split, Settled, Empty, ch
 use Rattle.sf_book.specs.declared.book.Lease.{Lease}
 use Rattle.sf_crew.specs.declared.benches.history.HandleView.{HandleView}
 use Rattle.sf_crew.specs.declared.benches.handles.Thief.{Thief}
-use Rattle.sf_crew.specs.History.{Gets, AllGot}
+use Rattle.sf_crew.specs.History.{GetsFirst, AllGot}
 use Rattle.sf_crew.specs.Benches.{thief_view}
 use Rattle.sf_crew.specs.Workers.{thief_views, GetsOne, PutsOrNot, PutsChildren}
 
@@ -29,7 +29,7 @@ both_put Empty x y v u w e a b = absurd cc
 
 -- a thief that got nothing knows what it knew
 pub got_nothing : (v w : HandleView Lease) (r : Steal Lease) → (r ≡ steal.Empty) ⊎ (r ≡ steal.Retry)
-    → MatchSteal r ((w ≡ v) × AllGot v) (w ≡ v) (λ x. Gets v x w) → w ≡ v
+    → MatchSteal r ((w ≡ v) × AllGot v) (w ≡ v) (λ x. GetsFirst v x w) → w ≡ v
 got_nothing v w steal.Empty e h = h.0
 got_nothing v w steal.Retry e h = h
 got_nothing v w (steal.Success x) e h = ⊎_elim (λ (k : steal.Success x ≡ steal.Empty). absurd cc)
@@ -47,5 +47,5 @@ slice_get_map (t ∷ ts) (suc i) d lt = slice_get_map ts i d (omega arith)
 
 -- one thief got a lease, and the others did nothing
 pub one_stolen : (ts : List (Thief Lease)) (i : ℕ) (t d : Thief Lease) (x : Lease) → i < length ts
-    → Gets (thief_view (get_or ts i d)) x (thief_view t) → GetsOne (thief_views ts) x (thief_views (set ts i t))
+    → GetsFirst (thief_view (get_or ts i d)) x (thief_view t) → GetsOne (thief_views ts) x (thief_views (set ts i t))
 one_stolen ts i t d x lt got = grind (arith, common_steps, slice_get_map, map-set)

@@ -4,7 +4,7 @@ use mathlib.Core.Option.{some}
 use lib.ListN.{get_elem?}
 use Rattle.sf_crew.specs.declared.benches.history.Event.{Event}
 use Rattle.sf_crew.specs.declared.benches.history.HandleView.{HandleView}
-use Rattle.sf_crew.specs.History.{handle_view, handle_of, put_items, got_count, IsLawfulHistory, Puts, Gets}
+use Rattle.sf_crew.specs.History.{handle_view, handle_of, put_items, got_count, IsLawfulHistory, Puts, GetsFirst}
 
 module _ {T : Type 0} where
   -- what the handle with this number knows is a beginning of the history, and it has made no step after that
@@ -28,7 +28,7 @@ module _ {T : Type 0} where
 
   -- if exactly one item left the bench, the handle got it
   abbrev pub GetsAll : HandleView T → List T → HandleView T → Type 0
-  GetsAll v xs w = (x : T) → xs ≡ x ∷ [] → Gets v x w
+  GetsAll v xs w = (x : T) → xs ≡ x ∷ [] → GetsFirst v x w
 
   -- what the owner knows after it made one more thief
   abbrev pub owner_with_thief : HandleView T → HandleView T

@@ -59,8 +59,8 @@ module _ {T : Type 0} where
       × (w ≡ handle_view v.me v.made (h ++ Put x ∷ []))
 
   -- at some moment the handle got the item: the first one that no handle had got
-  abbrev pub Gets : HandleView T → T → HandleView T → Type 0
-  Gets v x w = (between : List (Event T)) × (h : List (Event T)) × HasHistory v between h × (first_left h ≡ Some x)
+  abbrev pub GetsFirst : HandleView T → T → HandleView T → Type 0
+  GetsFirst v x w = (between : List (Event T)) × (h : List (Event T)) × HasHistory v between h × (first_left h ≡ Some x)
       × (w ≡ handle_view v.me v.made (h ++ Got v.me ∷ []))
 
   -- At some moment each item that was put had been got. Of steps of other handles a handle knows only that the history

@@ -11,7 +11,7 @@ use Rattle.sf_crew.specs.declared.benches.history.HandleView.{HandleView}
 use Rattle.sf_crew.specs.declared.benches.handles.Thief.{Thief}
 use Rattle.sf_crew.specs.declared.workers.hands.Made.{Made}
 use Rattle.sf_crew.specs.declared.workers.Worker.{Worker}
-use Rattle.sf_crew.specs.History.{Puts, Gets, AllGot}
+use Rattle.sf_crew.specs.History.{Puts, GetsFirst, AllGot}
 use Rattle.sf_crew.specs.Benches.{owner_view, thief_view}
 
 -- the book with the piece under the id off lease
@@ -55,7 +55,7 @@ pub record GetsOne (vs : List (HandleView Lease)) (x : Lease) (ws : List (Handle
   pub before : HandleView Lease
   pub after : HandleView Lease
   pub there : slice_get vs place ≡ Some before
-  pub gets : Gets before x after
+  pub gets : GetsFirst before x after
   pub rest : ws ≡ set vs place after
 
 -- one of the thieves got the lease, or none did anything
@@ -72,7 +72,7 @@ IsIdle v w = (own_view w ≡ own_view v) × (other_views w ≡ other_views v)
 -- the book, which isn't said here, since other workers have the book next.
 abbrev pub Finds : {N : Type 0} → Worker N → Lease → Worker N → Type 0
 Finds v x w =
-    (Gets (own_view v) x (own_view w) × (other_views w ≡ other_views v))
+    (GetsFirst (own_view v) x (own_view w) × (other_views w ≡ other_views v))
     ⊎ (AllGot (own_view v) × (own_view w ≡ own_view v) × GetsOne (other_views v) x (other_views w))
     ⊎ (AllGot (own_view v) × IsIdle v w)
 

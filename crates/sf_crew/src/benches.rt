@@ -6,7 +6,7 @@ mod history;
 
 ghost use Rattle.std.specs.Prelude.{◌≡◌, ℕ, ◌+◌, ◌<◌, [], All, IfOk, IfErr, MatchResult, MatchOption, vec_len};
 ghost use Rattle.crossbeam_deque.specs.Steals.{MatchSteal};
-ghost use Rattle.sf_crew.specs.History.{Puts, Gets, AllGot, HasNoThief, first_left, handle_view};
+ghost use Rattle.sf_crew.specs.History.{Puts, GetsFirst, AllGot, HasNoThief, first_left, handle_view};
 ghost use Rattle.sf_crew.specs.Benches.{owner_view, thief_view, AreThieves, IsOnBench, IsSameBench, IsSameThief};
 ghost use Rattle.sf_crew.specs.declared.fault.Fault.TheVariants.{Memory};
 
@@ -99,7 +99,7 @@ impl<T> Owner<T> {
     pub fn take(&mut self) -> Option<T>
         ensures got { MatchOption result ((owner_view self.new ≡ owner_view self.old)
             × AllGot (owner_view self.old))
-            (λ l. Gets (owner_view self.old) l (owner_view self.new)) }
+            (λ l. GetsFirst (owner_view self.old) l (owner_view self.new)) }
         ensures alone { HasNoThief (owner_view self.old) → result
             ≡ first_left (owner_view self.old).events }
         ensures same { IsSameBench self.old self.new }
@@ -115,7 +115,7 @@ impl<T> Thief<T> {
     pub fn steal(&mut self) -> Steal<T>
         ensures got { MatchSteal result ((thief_view self.new ≡ thief_view self.old)
             × AllGot (thief_view self.old)) (thief_view self.new ≡ thief_view self.old)
-            (λ l. Gets (thief_view self.old) l (thief_view self.new)) }
+            (λ l. GetsFirst (thief_view self.old) l (thief_view self.new)) }
         ensures same { IsSameThief self.old self.new }
     {
         self.stealer.steal_as::<Getting>(&mut self.pass)

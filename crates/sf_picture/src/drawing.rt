@@ -129,8 +129,9 @@ fn fork_of(sketch: &mut Sketch, axis: Axis, mut runs: Vec<Run>) -> Result<Option
 
 /// Draws held regions by the axes from the place `at` on. They get one leaf where they have only one label, where no
 /// axis is left, or where as many leaves were drawn as are allowed. Else the next axis that they cut is parted by the
-/// cuts, and each span of it is drawn by the axes behind it. None: no held region has a member. The caller's condition:
-/// `at` is at most the number of axes. `Memory` where an allocation is refused.
+/// cuts, and each span of it is drawn by the axes behind it. None: no held region has a member. The caller's
+/// conditions: `at` is at most the number of axes, and each axis's word is one of the 16. `Memory` where an allocation
+/// is refused.
 fn draw(
     alloc: Global,
     sketch: &mut Sketch,

@@ -29,6 +29,7 @@ pub(crate) fn order_of(answer: Answer) -> u64
 impl Labelled for Answer {
     ghost number = { answer_order };
 
+    /// The number of `order_of`.
     fn order(self) -> u128 {
         order_of(self) as u128
     }

@@ -21,7 +21,7 @@ fn is_same(both: PartAnswers) -> bool
 impl Labelled for PartAnswers {
     ghost number = { pair_order };
 
-    /// By the old stack's answers, and then by those of the new one.
+    /// A number by which pairs are put in order: by the old stack's answers, and then by those of the new one.
     fn order(self) -> u128 {
         order_of(self.older) as u128 * 0x1_0000_0000_0000 + order_of(self.newer) as u128
     }

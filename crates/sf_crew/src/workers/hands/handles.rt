@@ -44,7 +44,7 @@ impl<N: Naming> NewBench<N> {
 
 impl<N: Naming> Bench<N> {
     ghost use Rattle.std.specs.Prelude.{MatchOption, MatchResult};
-    ghost use Rattle.sf_crew.specs.History.{Puts, Gets, AllGot};
+    ghost use Rattle.sf_crew.specs.History.{Puts, GetsFirst, AllGot};
 
     /// Puts a lease on the bench, or hands it back and changes nothing, where the bench can't grow.
     pub(crate) fn put(&mut self, held: Held<N>) -> Result<(), Held<N>>
@@ -64,7 +64,7 @@ impl<N: Naming> Bench<N> {
     pub(crate) fn take(&mut self) -> Option<Held<N>>
         ensures { MatchOption result ((owner_view self.new.owner ≡ owner_view self.old.owner)
             × AllGot (owner_view self.old.owner))
-            (λ h. Gets (owner_view self.old.owner) h (owner_view self.new.owner)) }
+            (λ h. GetsFirst (owner_view self.old.owner) h (owner_view self.new.owner)) }
     {
         let lease = self.owner.take()?;
         Some(Held { lease })
