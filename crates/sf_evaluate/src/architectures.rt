@@ -12,9 +12,9 @@ fn is_strange(question: &Question, sets: &[Names]) -> bool {
     low == high && !sets.iter().any(|names| names.arch() == low)
 }
 
-/// Adds a warning about the first strange question, as `is_strange` says it, with the question's number, from 1, and
-/// its name. Adds nothing where no question is strange. An error where an allocation is refused; a part of the warning
-/// may stand in the text then.
+/// Adds a warning about the first question for which `is_strange` is true. The warning has the question's number, from
+/// 1, and its name. Adds nothing where no question is strange. An error where an allocation is refused; a part of the
+/// warning may stand in the text then.
 fn push_warning(
     text: &mut String,
     questions: &[Question],

@@ -86,9 +86,9 @@ fn machine_after(run: &Run, insn: Insn, sense: bool) -> SymbolicMachine
 }
 
 /// Takes a truth value that is the same on every member: it is added to the name, the machine goes on, and nothing is
-/// learnt from it. `Memory` where an allocation is refused, or where the name would get 2^32 falses in a row: the run
-/// is as it was then. The caller's condition: `insn` stands at the machine's place, and on every member the next truth
-/// value that it meets is `sense`.
+/// learnt from it. `Memory` where an allocation is refused, or where the name would get too long (`Name::push`). The
+/// run then stays as it was. The caller's condition: `insn` stands at the machine's place, and on every member the next
+/// truth value that it meets is `sense`.
 pub(crate) fn take(run: &mut Run, insn: Insn, sense: bool) -> Result<(), Fault>
     requires lawful { IsLawfulPiece run.old }
     requires standing { HasAtHand run.old insn }

@@ -71,8 +71,8 @@ impl Name {
         })
     }
 
-    /// The name with one truth value more. `AllocError` where an allocation is refused, or where 2^32 falses would
-    /// stand in a run.
+    /// The name with one truth value more. `AllocError` where an allocation is refused, or where the name would get
+    /// too long (`push`).
     pub(crate) fn with_truth(&self, value: bool) -> Result<Name, AllocError>
         ensures { IfOk result (λ n. n ≡ self.now ++ value ∷ []) }
     {
@@ -81,8 +81,8 @@ impl Name {
         Ok(longer)
     }
 
-    /// Adds a truth value at the end. `AllocError` where an allocation is refused, or where 2^32 falses would stand in
-    /// a run: the name is as it was then.
+    /// Adds a truth value at the end. `AllocError` where an allocation is refused, or where the name would get too
+    /// long, with 2^32 falses in a run or more than 2^31 + 16 trues. The name then stays as it was.
     pub(crate) fn push(&mut self, value: bool) -> Result<(), AllocError>
         ensures ok { OnOk result (self.new ≡ self.old ++ value ∷ []) }
         ensures err { OnErr result (self.new ≡ self.old) }
@@ -94,8 +94,8 @@ impl Name {
         }
     }
 
-    /// Adds a true at the end, which ends the last run. `AllocError` where an allocation is refused: the name is as it
-    /// was then.
+    /// Adds a true at the end, which ends the last run. `AllocError` where an allocation is refused, or where the name
+    /// has 2^31 + 16 trues already. The name then stays as it was.
     fn push_true(&mut self) -> Result<(), AllocError>
         ensures ok { OnOk result (self.new ≡ self.old ++ true ∷ []) }
         ensures err { OnErr result (self.new ≡ self.old) }

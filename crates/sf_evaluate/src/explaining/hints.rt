@@ -183,7 +183,8 @@ fn hint_of_top_key(key: &str) -> Hint {
     }
 }
 
-/// What is said where the value at `key`, which is the key of a word of the input, is of a wrong kind.
+/// The sentence of the hint for a value that is refused with the fault `Key`. `key` is its key, that of a word of the
+/// input. The value is of a wrong kind, or it is an array or a table whose parts are wrong; version 1 has no tables.
 fn sentence_of_word(refusal: &Refusal, key: &str, value: &Value) -> &'static str {
     match value {
         Value::Table(_) if has_version_1(refusal) => {

@@ -53,7 +53,8 @@ fn are_all_actions(items: &[Value]) -> bool
     items.iter().all(|value| is_action(value))
 }
 
-/// Whether one of the values is this text.
+/// Whether one of the values is the text `name`. No caller gives an empty `name`: a value that is no text counts as the
+/// empty text here.
 fn has_text(items: &[Value], name: &str) -> bool
     ensures { result ≡ list_any (λ v. bytes_eq (text_or_empty (view v)) name.now) items.now }
 {

@@ -30,10 +30,10 @@ returns-clause-rule c = λ laws twins.
     → IfSome o (λ b. IsForcedBy (IsClosedAt q.facts.excluded q.machine.a.0) (known_at q.facts.known q.machine.a.0)
     c.args.test n b)) c.run.view_is c.tell.ensures.rule in
     let back = subst (λ (q : PieceData). IfSome o (λ b. (m : ℕ)
-    → IsPropagatedBack m q.facts.known q.pool q.machine.a.0)) c.run.view_is c.tell.ensures.walked in
+    → IsPropagatedBack m q.facts.known q.pool q.machine.a.0)) c.run.view_is c.tell.ensures.goes_back in
     told_foretold laws c.args.run.now c.args.test c.args.other n o c.requires.run twins c.in_ok-number.ensures.fits
     c.in_ok-number.ensures.rule forced back
 
 pub returns-clause-propagated : goal.returns-clause-propagated
 returns-clause-propagated c =
-    subst (λ (q : PieceData). IfSome c.tell.result (λ b. IsAPropagatedBack q)) c.run.view_is c.tell.ensures.walked
+    subst (λ (q : PieceData). IfSome c.tell.result (λ b. IsAPropagatedBack q)) c.run.view_is c.tell.ensures.goes_back

@@ -20,7 +20,7 @@ returns-in_ok-tell-in-X-clause-rule c =
     == (known_at q.facts.known q.machine.x.0).high then Some (known_at q.facts.known q.machine.x.0).low else None))
     c.run.view_is c.in_ok-number-in-X.ensures.ends in
     let back = subst (λ (q : PieceData). (m : ℕ) → IsPropagatedBack m q.facts.known q.pool q.machine.x.0) c.run.view_is
-    c.in_ok-tell-in-X.ensures.walked in
+    c.in_ok-tell-in-X.ensures.goes_back in
     rw c.in-X.is (
       decided_number (known_at p.facts.known p.machine.x.0) n ends (h.covers.lawful.consistent p.machine.x.0 within),
       back,
