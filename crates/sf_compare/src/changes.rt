@@ -31,16 +31,21 @@ pub enum Change {
     Never,
     /// This input is changed in this way.
     Found(Example),
-    /// No input was found, but there may be one: a piece is outstanding or a region is in doubt. It is in doubt where
-    /// its two answers have the relation, and the search for a member neither finds one nor shows that there is none.
+    /// No input was found, but there may be one: a piece is outstanding or a region is in doubt. A region is in doubt
+    /// where its two answers have the relation, and the search for a member of the region neither finds one nor shows
+    /// that there is none.
     Unsettled,
 }
 
-/// What is found of each relation: in the end, or in the regions that were looked at so far.
+/// What is found of each relation: in the end, or in the regions that were looked at so far. Until the end `Never`
+/// means that no member of these regions is changed in this way, and `Unsettled` that one of them is in doubt.
 #[derive(Clone, Copy, Debug, PartialEq, Eq)]
 pub(crate) struct Findings {
+    /// What is found of `Relation::Looser`.
     pub(crate) looser: Change,
+    /// What is found of `Relation::Tighter`.
     pub(crate) tighter: Change,
+    /// What is found of `Relation::Different`.
     pub(crate) different: Change,
 }
 
@@ -122,8 +127,9 @@ fn is_sought(relation: Relation, both: PartAnswers, found: Change) -> bool
 }
 
 /// What is found of a relation after one more region, whose members get these two answers. `found` is what was found
-/// before it, and `membership` what a search for a member of the region found. Where no example is sought in the
-/// region, what was found before stays.
+/// before this region, and `membership` what a search for a member of it found. Where no example is sought in the
+/// region, or it has no member, `found` stays. A member becomes the example; where the search is in doubt, the result
+/// is `Unsettled`.
 fn change_after(
     relation: Relation,
     both: PartAnswers,
@@ -146,9 +152,10 @@ fn change_after(
     }
 }
 
-/// What is found of each relation after the region at a place. A member of it is looked for once for all relations, and
-/// only where an example of one is sought. The caller's conditions: `both` are the answers to the region's members, and
-/// `found` is what is found in the regions before it. `Memory` where an allocation is refused.
+/// What is found of each relation after the region at a place. A member of the region is looked for once for all
+/// relations, and only where an example of one is sought. `old_count` is there for the prover. The caller's conditions:
+/// a region stands at the place, `both` are the answers to its members, and `found` is what is found in the regions
+/// before it. `Memory` where an allocation is refused.
 fn findings_after(
     alloc: Global,
     settled: &Settled,
@@ -163,7 +170,7 @@ fn findings_after(
     ensures ok { IfOk result (AllTellBefore settled.now old_count (place + 1)) }
     ensures err { IfErr result (λ f. f ≡ Memory) }
 {
-    // For the prover: only clauses speak of it.
+    // For the prover: only clauses speak of `old_count`.
     let _of = old_count;
     let region = settled.region(place);
     if !found.seeks_example(both) {
@@ -180,8 +187,9 @@ fn findings_after(
     })
 }
 
-/// What is found of a relation in the end, by what was found of it in all regions, `found`: `Never` becomes `Unsettled`
-/// where a piece is outstanding, and all else stays.
+/// What is found of a relation in the end: `Never` becomes `Unsettled` where a piece is outstanding, and all else
+/// stays. `old_count` and `relation` are there for the prover. The caller's condition: `found` is what was found of
+/// this relation in all regions.
 fn change_at_end(settled: &Settled, old_count: usize, relation: Relation, found: Change) -> Change
     requires { TellsBefore settled.now old_count (length settled.now.regions) relation found }
     ensures { IsChangeOf settled.now old_count relation result }
@@ -202,10 +210,11 @@ fn change_at_end(settled: &Settled, old_count: usize, relation: Relation, found:
 /// condition: `answers` are those of `answers_of_regions`.
 ///
 /// Regions are searched in their order, for members whose two answers have the relation. `Found` has the member of the
-/// first region where the search finds one. A region is in doubt where the search neither finds a member nor shows that
-/// there is none. Without an example it is `Unsettled` where a region is in doubt or a piece is outstanding, and else
-/// `Never`: then no input is changed in this way. On a plain stack no region is in doubt, and the example is the least
-/// one of the first region that has any. `Memory` where an allocation is refused.
+/// first region where the search finds one. A region whose answers have the relation is in doubt where the search
+/// neither finds a member nor shows that there is none. Without an example the result is `Unsettled` where a region is
+/// in doubt or a piece is outstanding. Else it is `Never`: no input is changed in this way. On a plain stack no region
+/// is in doubt, and the example is the least member of the first region whose answers have the relation: no member of
+/// this region has a smaller number in any word. `Memory` where an allocation is refused.
 pub(crate) fn find_changes(
     alloc: Global,
     settled: &Settled,

@@ -55,7 +55,7 @@ impl Comparison {
         &self.settled
     }
 
-    /// How many of the programs are those of the old stack.
+    /// How many of the explored stack's programs are those of the old stack. They stand first.
     pub fn old_count(&self) -> usize
         ensures same { result ≡ self.now.old_count }
         ensures part { self.now.old_count ≤ length self.now.settled.stack }
@@ -79,9 +79,9 @@ impl Comparison {
     }
 }
 
-/// What an exploration of both stacks as one tells of them: its first `old_count` programs are the old stack, and the
-/// others the new one. The caller's condition: the stack has at least `old_count` programs. `Memory` where an
-/// allocation is refused.
+/// What an exploration of both stacks as one tells of them. The first `old_count` programs of the explored stack are
+/// the old stack, and the others the new one. The caller's condition: the explored stack has at least `old_count`
+/// programs. `Memory` where an allocation is refused.
 fn comparison_of(
     alloc: Global,
     settled: Settled,
@@ -104,11 +104,12 @@ fn comparison_of(
 
 /// Compares two stacks, for all inputs. The first `old_count` filter files are those of the old stack, and the others
 /// those of the new one. The files of each stack stand in order of installation, the newest last. Both stacks are
-/// explored as one, by at most `budget` works. The gate sees each work before it is committed.
+/// explored as one, by at most `budget` works; where these aren't enough, pieces stay outstanding. The gate sees each
+/// work before it is committed.
 ///
 /// The caller's conditions: at least `old_count` files, a budget from 1 to 1,000,000, and 1 to 64 workers (where there
-/// are more than one, each gets a thread, if it can be started). Refusals: those of `stack_of` for all files together.
-/// `Memory` can come anywhere. Waits for the workers.
+/// are more than one, each gets a thread, if it can be started). Waits for the workers. Refusals: those of `stack_of`
+/// for the files of both stacks together, as if they were one stack. `Memory` can come anywhere.
 pub fn compare<R: Threads + Wait + Sync, G: Gate>(
     rt: &R,
     alloc: Global,

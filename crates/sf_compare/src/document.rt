@@ -16,8 +16,9 @@ use sf_json::{Document, Fields, answer_document, counts_document, input_document
 use sf_names::Names;
 use std::alloc::{AllocError, Global};
 
-/// What is found of a relation: the word for it, an example, and the answers of both stacks to this input. Without an
-/// example all three are null.
+/// The object with what is found of a relation: the word for it (`result`), an example (`example`), and the answers of
+/// the old stack and of the new one to this input (`old` and `new`). Without an example the caller gives null for all
+/// three. An error where an allocation is refused.
 fn result_document(
     alloc: Global,
     word: &str,
@@ -36,7 +37,8 @@ fn result_document(
     Ok(Document::object(fields))
 }
 
-/// What is found of a relation where there is no example: the word for it.
+/// What is found of a relation where there is no example: the object with the word for it, and null in the other
+/// fields. An error where an allocation is refused.
 fn bare_document(alloc: Global, word: &str) -> Result<Document, AllocError>
     ensures { IfOk result (λ d. view d ≡ result_document word.now null null null) }
 {
@@ -49,7 +51,8 @@ fn bare_document(alloc: Global, word: &str) -> Result<Document, AllocError>
     )
 }
 
-/// What is found of a relation where there is an example. Its input is shown with these names of calls.
+/// What is found of a relation where there is an example: the object with the word `found`, the example, and both
+/// answers. The input is shown with these names of calls. An error where an allocation is refused.
 fn found_document(alloc: Global, names: &[Names], example: &Example) -> Result<Document, AllocError>
     ensures { IfOk result (λ d. view d ≡ change_document names.now (Found example.now)) }
 {
@@ -59,7 +62,8 @@ fn found_document(alloc: Global, names: &[Names], example: &Example) -> Result<D
     result_document(alloc, "found", input, old, new)
 }
 
-/// What is found of a relation. Inputs are shown with these names of calls.
+/// What is found of a relation, as an object: the word is `never`, `unsettled`, or `found` with an example. Its input
+/// is shown with these names of calls. An error where an allocation is refused.
 fn change_document(alloc: Global, names: &[Names], change: Change) -> Result<Document, AllocError>
     ensures { IfOk result (λ d. view d ≡ change_document names.now change) }
 {
@@ -70,7 +74,8 @@ fn change_document(alloc: Global, names: &[Names], change: Change) -> Result<Doc
     }
 }
 
-/// The size of the old stack, the first `old_count` programs. The caller's condition: the explored stack has as many.
+/// The size of the old stack, the first `old_count` programs. The caller's condition: the explored stack has at least
+/// `old_count` programs. An error where an allocation is refused.
 fn old_sizes(alloc: Global, settled: &Settled, old_count: usize) -> Result<Document, AllocError>
     requires { old_count ≤ length settled.now.stack }
     ensures { IfOk result (λ d. view d ≡ sizes_document (old_of settled.now old_count)) }
@@ -78,8 +83,8 @@ fn old_sizes(alloc: Global, settled: &Settled, old_count: usize) -> Result<Docum
     sizes_document(alloc, &settled.stack().programs()[..old_count])
 }
 
-/// The size of the new stack, all but the first `old_count` programs. The caller's condition: the explored stack has as
-/// many.
+/// The size of the new stack, all but the first `old_count` programs. The caller's condition: the explored stack has at
+/// least `old_count` programs. An error where an allocation is refused.
 fn new_sizes(alloc: Global, settled: &Settled, old_count: usize) -> Result<Document, AllocError>
     requires { old_count ≤ length settled.now.stack }
     ensures { IfOk result (λ d. view d ≡ sizes_document (new_of settled.now old_count)) }
@@ -87,9 +92,9 @@ fn new_sizes(alloc: Global, settled: &Settled, old_count: usize) -> Result<Docum
     sizes_document(alloc, &settled.stack().programs()[old_count..])
 }
 
-/// The fields of a comparison as JSON: the sizes of both stacks, the counts of the exploration, and what is found of
-/// each relation, with an example where there is one. Inputs are shown with these names of calls. An error where an
-/// allocation is refused.
+/// The fields of a comparison as JSON: the name of the command (`compare`, in the field `seccomp_audit`), the version
+/// of the form, the sizes of both stacks, the counts of the exploration, and what is found of each relation, with an
+/// example where there is one. Inputs are shown with these names of calls. An error where an allocation is refused.
 pub fn comparison_fields(
     alloc: Global,
     comparison: &Comparison,

@@ -1,4 +1,4 @@
-//! Laws of the definitions, each the contract of a function that does nothing.
+//! Laws of the definitions, each the contract of a function that does nothing, or only calls other laws.
 
 ghost use Rattle.std.specs.Prelude.{◌≡◌, ℕ, List, codes, ◌∷◌, []};
 ghost use Rattle.sf_insn.specs.declared.input.Input.{Input};
@@ -21,8 +21,9 @@ use sf_book::laws::explorations_have_one_result;
 use sf_piece::laws::execution_has_one_result;
 
 /// Where no input gets further under the new stack, each input that breaks a question under the new stack also breaks
-/// it under the old one, if the question asks about all actions that let a call get as far as one that it asks about.
-/// So where the reply to such a question is `never` for the old stack, it holds for the new one too.
+/// it under the old one. The condition on the question: with each of its actions, it asks about all actions that let a
+/// call get as far or further. So where the reply to such a question is `never` for the old stack, `never` holds for
+/// the new one too.
 pub fn never_looser_breaks_no_more()
     ensures { (s : BookData) (old_count : ℕ) (q : QuestionData) (d : Input) →
         IsSettled s → IsRightChange s old_count Looser Never → IsUpward q.actions → IsInput d

@@ -5,7 +5,8 @@ ghost use Rattle.sf_compare.specs.Relations.{reach_of, AreRelated};
 
 use sf_run::{Action, Answer};
 
-/// How the answer of the new stack to an input is related to that of the old one.
+/// How the answer of the new stack to an input is related to that of the old one. Answers that are looser or tighter
+/// are different too.
 #[derive(Clone, Copy, Debug, PartialEq, Eq)]
 pub enum Relation {
     /// The call gets further than before.
@@ -17,7 +18,7 @@ pub enum Relation {
 }
 
 /// How far an action lets a call get, as seccomp(2) has it: 2 where the kernel carries the call out, 1 where another
-/// process decides, and 0 for all other actions, under which the call isn't carried out.
+/// process decides, and 0 for all other actions, under which the kernel doesn't carry the call out.
 fn reach(action: Action) -> u8
     ensures { result ≡ reach_of action }
 {

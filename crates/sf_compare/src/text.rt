@@ -16,7 +16,8 @@ use sf_run::Answer;
 use std::alloc::{AllocError, Global};
 use std::io::Write;
 
-/// An action and its data.
+/// An answer as text: the name of its action as `push_action` writes it, a space, and its data as a decimal number. An
+/// error where an allocation is refused.
 fn words_of(alloc: Global, answer: Answer) -> Result<String, AllocError>
     ensures { IfOk result (λ text. string_bytes text ≡ answer_words answer) }
 {
@@ -27,8 +28,9 @@ fn words_of(alloc: Global, answer: Answer) -> Result<String, AllocError>
     Ok(text)
 }
 
-/// Adds the line of a relation, which is given by its word: what was found of it, and the example with the answers of
-/// the old stack and of the new one, if there is one.
+/// Adds the line of a relation: the word `relation`, and `never`, `unsettled` or `found`. Behind `found` the line has
+/// the example's bytes in hexadecimal digits, and the answers of the old stack and of the new one to it. An error where
+/// an allocation is refused.
 fn push_change(
     alloc: Global,
     text: &mut String,
@@ -50,7 +52,8 @@ fn push_change(
     }
 }
 
-/// Adds the lines of the relations.
+/// Adds the lines of the relations: `looser`, `tighter` and `different`, in this order. An error where an allocation is
+/// refused.
 fn push_changes(alloc: Global, text: &mut String, comparison: &Comparison) -> Result<(), AllocError>
     ensures { OnOk result (string_bytes text.new ≡ string_bytes text.old
         ++ changes_text comparison.now) }
@@ -65,8 +68,9 @@ fn push_changes(alloc: Global, text: &mut String, comparison: &Comparison) -> Re
     )
 }
 
-/// Adds the line with the size of one of the two stacks. `which` says which one it is: `old` or `new`. The caller's
-/// condition: it has at most 64 programs.
+/// Adds the line with the size of one of the two stacks: how many filters it has, and the length of the path through
+/// them. `which` says which stack it is: `old` or `new`. The caller's condition: there are at most 64 programs. An
+/// error where an allocation is refused.
 fn push_part(text: &mut String, which: &str, programs: &[Program]) -> Result<(), AllocError>
     requires { length programs.now ≤ 64 }
     ensures { OnOk result (string_bytes text.new ≡ string_bytes text.old
@@ -78,7 +82,8 @@ fn push_part(text: &mut String, which: &str, programs: &[Program]) -> Result<(),
 }
 
 /// Adds what stands above the relations: the version of the text, the sizes of both stacks, and the counts of the
-/// exploration. The caller's condition: the explored stack has at least `old_count` programs.
+/// exploration. The first `old_count` programs are the old stack, and the others the new one. The caller's condition:
+/// the explored stack has at least `old_count` programs. An error where an allocation is refused.
 fn push_sizes(text: &mut String, settled: &Settled, old_count: usize) -> Result<(), AllocError>
     requires { old_count ≤ length settled.now.stack }
     ensures { OnOk result (string_bytes text.new ≡ string_bytes text.old

@@ -45,7 +45,8 @@ fn push_axis(axes: &mut Vec<Axis>, axis: Axis) -> Result<(), Fault>
     Ok(())
 }
 
-/// Adds the axes on which a held region has cuts, each that isn't there yet. `Memory` where an allocation is refused.
+/// Adds the axes of a held region's cuts, each as `push_axis` does: those that aren't there yet and whose word is one
+/// of the 16. `Memory` where an allocation is refused.
 fn push_axes(axes: &mut Vec<Axis>, one: &Held) -> Result<(), Fault>
     ensures has { IfOk result (λ _. (c : ACut) → Contains one.now.cuts c → c.axis.word < 16
         → Contains axes.new.items c.axis) }

@@ -8,7 +8,8 @@ ghost use Rattle.sf_sym.specs.Pool.{node_at};
 
 use sf_sym::{MaskedWord, NodeId, Pool, masked_word};
 
-/// A word of the input under a mask. The whole word has the mask 0xffffffff.
+/// A word of the input under a mask. The number that an input has on the axis is its word ANDed with the mask, so the
+/// mask is also the greatest number of the axis. The whole word has the mask 0xffffffff.
 #[derive(Clone, Copy, Debug, PartialEq, Eq)]
 pub struct Axis {
     /// The word, 0 to 15.
@@ -17,13 +18,14 @@ pub struct Axis {
     pub mask: u32,
 }
 
-/// The place of each word of the input in the order of axes: the architecture comes first, then the call's number, then
-/// the arguments, the high half of each before its low half, and last the instruction pointer.
+/// The place of each word of the input in the order of axes. The architecture comes first, then the call's number, then
+/// the arguments, and last the instruction pointer. Of each argument, and of the instruction pointer, the high half
+/// comes before the low half.
 const PLACES: [u8; 16] = [1, 0, 15, 14, 3, 2, 5, 4, 7, 6, 9, 8, 11, 10, 13, 12];
 
 impl Axis {
-    /// A number by which axes are put in order: by the places of their words, and of one word those with greater masks
-    /// first. A word that is none of the 16 comes last.
+    /// A number by which axes are put in order, the least first: by the places of their words, which stand in its upper
+    /// 32 bits, and of one word those with greater masks first. A word that is none of the 16 comes last.
     pub(crate) fn order(self) -> u64
         ensures { result ≡ axis_order self }
     {
@@ -35,8 +37,8 @@ impl Axis {
     }
 }
 
-/// The axis that a node stands for; none where the node isn't a word of the input, or such a word ANDed with constants.
-/// The caller's condition: the node is one of the pool.
+/// The axis that a node stands for, where the node is a word of the input, or such a word ANDed with constants. None
+/// for any other node. The caller's condition: the node is one of the pool.
 pub(crate) fn axis_of(pool: &Pool, id: NodeId) -> Option<Axis>
     requires { id.0 < length pool.now }
     ensures inside { IfSome result (λ a. a.word < 16) }

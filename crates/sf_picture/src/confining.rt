@@ -22,9 +22,10 @@ fn is_one_bit(mask: u32) -> bool
     mask.is_power_of_two()
 }
 
-/// The only number of the axis that can lie in the span from `first` to `last`, where it is seen at once: the span is
-/// one number (which needn't be one of the axis), or the axis is one bit and the span is without 0. None in all other
-/// cases.
+/// The only number that an input can have on the axis if its number lies in the span from `first` to `last`, where this
+/// is seen at once. It is `first` where the span is only this number, and the mask where the mask is one bit and the
+/// span is without 0. It needn't be a number of the axis in the first case, nor lie in the span in the second: then no
+/// input has a number of the span. None in all other cases.
 fn number_in(axis: Axis, first: u32, last: u32) -> Option<u32>
     ensures one { IfSome result (λ v. (n : ℕ) → first ≤ bit_and n axis.mask
         → bit_and n axis.mask ≤ last → bit_and n axis.mask ≡ v) }
@@ -44,9 +45,9 @@ fn number_in(axis: Axis, first: u32, last: u32) -> Option<u32>
     None
 }
 
-/// Confines facts to the numbers from `first` to `last` of a whole word. False: no input that agrees with the facts has
-/// one of them. The facts are unchanged then, and where an allocation is refused, which is `Memory`. The caller's
-/// condition: the facts are about the nodes of this pool.
+/// Confines facts to the numbers from `first` to `last` of a whole word. False where no input that agrees with the
+/// facts has one of them; `Memory` where an allocation is refused. In both cases the facts are unchanged. The caller's
+/// conditions: the facts are about the nodes of this pool, and the axis is a whole word, one of the 16.
 fn confine_whole(
     alloc: Global,
     facts: &mut Facts,
@@ -72,10 +73,11 @@ fn confine_whole(
     Ok(facts.confine(alloc, pool, axis.word, first, last)?)
 }
 
-/// Confines facts to the span from `first` to `last` of a word under a mask, where `number_in` gives the only number
-/// that can lie in it, and this is a number of the axis. Else nothing is learnt. False: no input that agrees with the
-/// facts has a number of the span. The facts are unchanged then, and where an allocation is refused, which is `Memory`.
-/// The caller's condition: the facts are about the nodes of this pool.
+/// Confines facts to the inputs that have on an axis the number that `number_in` gives for the span from `first` to
+/// `last`. Where it gives none, or one that isn't a number of the axis, nothing is learnt: the result is true, and the
+/// facts are unchanged. False where no input that agrees with the facts has a number of the span; `Memory` where an
+/// allocation is refused. In both cases the facts are unchanged. The caller's conditions: the facts are about the nodes
+/// of this pool, and the axis's word is one of the 16.
 fn confine_masked(
     alloc: Global,
     facts: &mut Facts,
@@ -106,9 +108,10 @@ fn confine_masked(
     Ok(facts.confine_bits(alloc, pool, axis.word, axis.mask, number)?)
 }
 
-/// Confines facts to the span from `first` to `last` of an axis. False: no input that agrees with the facts has a
-/// number of the span. The facts are unchanged then, and where an allocation is refused, which is `Memory`. The
-/// caller's condition: the facts are about the nodes of this pool.
+/// Confines facts to the span from `first` to `last` of an axis: wholly where the axis is a whole word, and else as far
+/// as `confine_masked` does. False where no input that agrees with the facts has a number of the span; `Memory` where
+/// an allocation is refused. In both cases the facts are unchanged. The caller's conditions: the facts are about the
+/// nodes of this pool, and the axis's word is one of the 16.
 fn confine(
     alloc: Global,
     facts: &mut Facts,
@@ -136,9 +139,10 @@ fn confine(
     confine_masked(alloc, facts, pool, axis, first, last)
 }
 
-/// A copy of facts, confined to the span from `first` to `last` of an axis. None: no input that agrees with the facts
-/// has a number of the span. The caller's condition: the facts are about the nodes of this pool. `Memory` where an
-/// allocation is refused.
+/// A copy of facts, confined to the span from `first` to `last` of an axis: wholly where the axis is a whole word, and
+/// else as far as `confine_masked` does. None where no input that agrees with the facts has a number of the span. The
+/// caller's conditions: the facts are about the nodes of this pool, and the axis's word is one of the 16. `Memory`
+/// where an allocation is refused, or where the facts have too many owners.
 pub(crate) fn facts_within(
     alloc: Global,
     facts: &Facts,

@@ -21,7 +21,8 @@ use sf_piece::Piece;
 use sf_sym::{Cond, Node, NodeId, Pool, constant_of};
 use std::alloc::Global;
 
-/// A cut of an axis: it lies between the numbers `last` and `last + 1`.
+/// A cut of an axis: it lies between the numbers `last` and `last + 1`, and parts the axis's numbers up to `last` from
+/// the greater ones. Under a mask `last` needn't be a number of the axis.
 #[derive(Clone, Copy, Debug, PartialEq, Eq)]
 pub(crate) struct Cut {
     /// The axis that is cut.
@@ -33,8 +34,11 @@ pub(crate) struct Cut {
 /// A test of a node against a number.
 #[derive(Clone, Copy)]
 struct NumberTest {
+    /// The node that is tested.
     node: NodeId,
+    /// The test.
     test: Test,
+    /// The number against which the node is tested.
     number: u32,
 }
 
@@ -106,8 +110,9 @@ fn push_cuts_beside(cuts: &mut Vec<Cut>, axis: Axis, number: u32) -> Result<(), 
     Ok(())
 }
 
-/// Adds the cuts at which a test of an axis against a number changes its result. For a test of bits this is one cut, on
-/// the axis of the bits that are tested: right above its number 0. `Memory` where an allocation is refused.
+/// Adds the cuts at which a test of an axis against a number changes its result, each as `push_cut` does. A test of
+/// bits has one cut, right above the number 0 of another axis: this has the same word, and as its mask the bits that
+/// are tested. `Memory` where an allocation is refused.
 fn push_cuts_of(cuts: &mut Vec<Cut>, axis: Axis, test: Test, number: u32) -> Result<(), Fault>
     ensures between { IfOk result (λ _. axis.mask ≡ 4294967295 → (m n : ℕ) → m < 2 ^ 32
         → n < 2 ^ 32 → passes test m number ≡ true → passes test n number ≡ false
@@ -135,9 +140,10 @@ fn push_cuts_of(cuts: &mut Vec<Cut>, axis: Axis, test: Test, number: u32) -> Res
     }
 }
 
-/// A test of equality without a constant in its node: where the node is an operand plus or minus a constant, the test
-/// of the operand against the number that it has to have then, modulo 2 ^ 32. Where it isn't, the test stays. The
-/// caller's conditions: the test is one of equality, and its node is one of the pool.
+/// Drops a constant from the node of a test of equality. Where the node is an operand plus or minus a constant, which
+/// stands second, the result is the test of this operand against the number that it has to have then, modulo 2 ^ 32.
+/// Any other test stays as it is. The caller's conditions: the test is one of equality, and its node is one of the
+/// pool.
 fn drop_constant(pool: &Pool, tested: NumberTest) -> NumberTest
     requires { tested.node.0 < length pool.now }
     ensures node { result.node.0 < length pool.now }
@@ -165,9 +171,9 @@ fn drop_constant(pool: &Pool, tested: NumberTest) -> NumberTest
     }
 }
 
-/// The test of a condition against a number; none where the condition's other side isn't a constant. A sum or a
-/// difference with a constant that is compared for equality is a test of the other operand. The caller's condition: the
-/// two nodes of the condition are of the pool.
+/// The test of a condition against a number; none where the condition's other side isn't a constant. Whether the
+/// condition wants the test to be true or false isn't part of it. From a test of equality a constant is dropped, as
+/// `drop_constant` does. The caller's condition: the two nodes of the condition are of the pool.
 fn number_test(pool: &Pool, cond: &Cond) -> Option<NumberTest>
     requires node { cond.now.node.0 < length pool.now }
     requires other { cond.now.other.0 < length pool.now }
@@ -190,9 +196,10 @@ fn number_test(pool: &Pool, cond: &Cond) -> Option<NumberTest>
     Some(tested)
 }
 
-/// Adds the cuts of a condition, and to `bits`, which has an entry for each of the 16 words, the bits that it fixes.
-/// Nothing is added where the condition isn't a test of an axis against a number. The caller's condition: the two nodes
-/// of the condition are of the pool. `Memory` where an allocation is refused.
+/// Adds the cuts of a condition to `cuts`, and the bits that the condition fixes to `bits`. Nothing is added where the
+/// condition isn't a test of an axis against a number. The caller's conditions: the two nodes of the condition are of
+/// the pool, and `bits` has an entry for each of the 16 words. `Memory` where an allocation is refused; `bits` may be
+/// changed then.
 fn push_cuts_of_cond(
     cuts: &mut Vec<Cut>,
     bits: &mut [FixedBits],
@@ -228,16 +235,16 @@ fn push_cuts_of_cond(
 
 /// Whether a condition needs no cut of its own. It needs none where it is about `single`, a word of which newer
 /// conditions leave only one number: the cuts on both sides of that number are enough. A test of bits always needs one,
-/// since it has an axis of its own.
+/// since it has an axis of its own. Without a `single` each condition counts as needing one.
 fn needs_no_cut(single: Option<NodeId>, cond: &Cond) -> bool
     ensures { IsTrue result ↔ NeedsNoCut single cond.now }
 {
     single == Some(cond.node) && cond.test != Test::AnyBit
 }
 
-/// The place of the newest condition before `end` that needs a cut, as `needs_no_cut` says; none where none needs one.
-/// Paths can be long, so this loop does nothing else. The caller's condition: `end` is at most the number of
-/// conditions.
+/// The place of the newest condition at a place below `end` that needs a cut, as `needs_no_cut` says; none where none
+/// needs one. Newer conditions stand at higher places. Paths can be long, so this loop does nothing else. The caller's
+/// condition: `end` is at most the number of conditions.
 fn newest_to_cut(piece: &Piece, single: Option<NodeId>, end: usize) -> Option<usize>
     requires { end ≤ length piece.now.conditions }
     ensures found { MatchOption result (AreAboutSingle piece.now single 0 end)
@@ -255,9 +262,10 @@ fn newest_to_cut(piece: &Piece, single: Option<NodeId>, end: usize) -> Option<us
     None
 }
 
-/// The word of which only one number is left after one more condition: the condition's own word, if it says that this
-/// equals a constant; else `newer`, the word that newer conditions gave, if any. (The first 16 nodes of each pool are
-/// the input's words.) The caller's condition: the condition's other node is of the pool.
+/// The word of which only one number is left once `cond` is taken too, which is older than those taken before: the word
+/// of `cond`, where `cond` says that this word equals a constant; else `newer`, the word that the newer conditions
+/// gave, if any. (The first 16 nodes of each pool are the input's words.) The caller's condition: the condition's other
+/// node is of the pool.
 fn single_after(newer: Option<NodeId>, pool: &Pool, cond: &Cond) -> Option<NodeId>
     requires { cond.now.other.0 < length pool.now }
     ensures said { IfSome result (λ n. (newer ≡ Some n)
@@ -300,7 +308,7 @@ fn has(cuts: &[Cut], cut: Cut) -> bool
     cuts.contains(&cut)
 }
 
-/// Whether a cut is one of the last two.
+/// Whether a cut is one of the last two of `cuts`, or of all where there are fewer.
 fn is_among_newest(cuts: &Vec<Cut>, cut: Cut) -> bool
     ensures { result ≡ true → Contains cuts.now.items cut }
 {
@@ -309,10 +317,11 @@ fn is_among_newest(cuts: &Vec<Cut>, cut: Cut) -> bool
     has(&all[newest..], cut)
 }
 
-/// Adds a cut of a piece, moved into the window of its word, unless it then equals one of the last two that were added,
-/// or no number of its axis lies above it. The comparison keeps many out that were moved to the same end of a window.
-/// `bits` are the bits of each of the 16 words that the piece's conditions fix. `Memory` where an allocation is
-/// refused.
+/// Adds a cut of a piece, as `cut_within` moves it into the window of its word. It isn't added where it then equals one
+/// of the last two that were added, or where no number of its axis lies above it. The comparison is with two cuts since
+/// a window has two ends: it keeps many out that were moved to the same end. `bits` has for each of the 16 words the
+/// bits that conditions of the piece fix. The caller's condition: the cut's word is one of the 16. `Memory` where an
+/// allocation is refused.
 fn push_moved(cuts: &mut Vec<Cut>, piece: &Piece, bits: &[FixedBits], cut: Cut) -> Result<(), Fault>
     requires bits { length bits.now ≡ 16 }
     requires word { cut.axis.word < 16 }
@@ -335,9 +344,9 @@ fn push_moved(cuts: &mut Vec<Cut>, piece: &Piece, bits: &[FixedBits], cut: Cut) 
     Ok(())
 }
 
-/// Cuts of a piece, each moved into the window of its word: of many that lie before or behind a window few are left.
-/// `bits` are the bits of each of the 16 words that the piece's conditions fix. `Memory` where an allocation is
-/// refused.
+/// The cuts `tested` of a piece, each moved and added as `push_moved` does: of many that lie before or behind a window
+/// few are left. `bits` has for each of the 16 words the bits that conditions of the piece fix. The caller's condition:
+/// the word of each cut is one of the 16. `Memory` where an allocation is refused.
 fn moved_cuts(
     alloc: Global,
     piece: &Piece,
@@ -360,8 +369,10 @@ fn moved_cuts(
 }
 
 /// The cuts of a piece, by its conditions on axes, each moved into the window of its word. The newest condition is
-/// taken first: once one leaves only one number of a word, older conditions on the word aren't needed. On a plain stack
-/// some cut lies between each member and each input that is no member. `Memory` where an allocation is refused.
+/// taken first. Once a condition leaves only one number of a word, older ones that compare this word itself, not under
+/// a mask, give no cuts. (Tests of its bits still do.) This ends where an older condition leaves only one number of
+/// another word, since only one word is remembered. On a plain stack some cut lies between each member and each input
+/// that is no member. `Memory` where an allocation is refused.
 pub(crate) fn cuts_of(alloc: Global, piece: &Piece) -> Result<Vec<Cut>, Fault>
     ensures plain { IfOk result (λ v. IsPlainPiece piece.now → AreCutsOf piece.now v.items) }
     ensures rule { IfOk result (λ v. AreCutsBy piece.now v.items) }

@@ -26,8 +26,8 @@ use sf_book::Settled;
 use std::alloc::Global;
 use std::sync::Arc;
 
-/// The leaf with these labels; none where there is no label. The caller's condition: the labels are in rising order,
-/// each once. `Memory` where an allocation is refused.
+/// The leaf with these labels, which counts as drawn; none where there is no label. The caller's condition: the labels
+/// are in rising order, each once. `Memory` where an allocation is refused.
 fn leaf_of(sketch: &mut Sketch, labels: Vec<usize>) -> Result<Option<Branch>, Fault>
     requires right { IsRightSketch sketch.old }
     requires rising { IsStrictlyIncreasing labels.items }
@@ -48,8 +48,8 @@ fn leaf_of(sketch: &mut Sketch, labels: Vec<usize>) -> Result<Option<Branch>, Fa
     Ok(Some(leaf))
 }
 
-/// The leaf with the labels of held regions: of all, or of those that are left, as `which` says. None where there is no
-/// label. `Memory` where an allocation is refused.
+/// The leaf with the labels of held regions, each once: of all, or of those that are left, as `which` says. None where
+/// there is no label. `Memory` where an allocation is refused, or something that is shared has too many owners.
 fn leaf_of_held(
     alloc: Global,
     sketch: &mut Sketch,
@@ -76,8 +76,8 @@ fn leaf_of_held(
 }
 
 /// A leaf with the labels of all held regions, which is drawn early, since as many leaves were drawn as are allowed
-/// (the caller's condition). The sketch is spent from then on. None where no region is held. `Memory` where an
-/// allocation is refused.
+/// (the caller's condition). None where no region is held. The sketch is spent from then on, in each case. `Memory`
+/// where an allocation is refused.
 fn early_leaf_of(alloc: Global, sketch: &mut Sketch, held: &[Held]) -> Result<Option<Branch>, Fault>
     requires right { IsRightSketch sketch.old }
     requires full { sketch.old.most ≤ sketch.old.drawn }
@@ -98,9 +98,9 @@ fn early_leaf_of(alloc: Global, sketch: &mut Sketch, held: &[Held]) -> Result<Op
 
 /// The branch for these runs of an axis, once the last run is made to go on to the axis's greatest number. It is a
 /// fork, or, where there is only one run, the branch to which this run leads. None where there is no run. The caller's
-/// conditions: the axis's word is one of the 16; the runs are in the order of their numbers, which are numbers of the
-/// axis; and each leads to what is in the sketch, and not to where the next one leads. `Memory` where an allocation is
-/// refused.
+/// conditions: the axis's word is one of the 16; the last numbers of the runs rise, and are at most the axis's greatest
+/// number; and each run leads to what is in the sketch, and not to where the next one leads. `Memory` where an
+/// allocation is refused.
 fn fork_of(sketch: &mut Sketch, axis: Axis, mut runs: Vec<Run>) -> Result<Option<Branch>, Fault>
     requires word { axis.word < 16 }
     requires right { IsRightSketch sketch.old }
@@ -127,11 +127,13 @@ fn fork_of(sketch: &mut Sketch, axis: Axis, mut runs: Vec<Run>) -> Result<Option
     Ok(Some(fork))
 }
 
-/// Draws held regions by the axes from the place `at` on. They get one leaf where they have only one label, where no
-/// axis is left, or where as many leaves were drawn as are allowed. Else the next axis that they cut is parted by the
-/// cuts, and each span of it is drawn by the axes behind it. None: no held region has a member. The caller's
-/// conditions: `at` is at most the number of axes, and each axis's word is one of the 16. `Memory` where an allocation
-/// is refused.
+/// Draws held regions by the axes from the place `at` on, and returns the branch that shows them. They get one leaf in
+/// three cases: where they have only one label; where no axis is left, and then the leaf has only the labels of regions
+/// that `Which::Left` keeps; or where as many leaves were drawn as are allowed, which spends the sketch. Else the next
+/// axis that they cut is parted by the cuts, and each span of it is drawn by the axes behind it. None: no held region
+/// has a member that agrees with its confined facts. The caller's conditions: `at` is at most the number of axes, and
+/// each axis's word is one of the 16. `Memory` where an allocation is refused, or something that is shared has too many
+/// owners.
 fn draw(
     alloc: Global,
     sketch: &mut Sketch,
@@ -170,7 +172,7 @@ fn draw(
     }
     let ends = all_ends(alloc, held, axis)?;
     let mut runs: Vec<Run> = Vec::new(alloc);
-    // The first number of the next span. Behind the last span of a whole word it is 2 ^ 32.
+    // The first number of the next span. It has 64 bits, since behind the last span of a whole word it is 2 ^ 32.
     let mut first = 0u64;
     for last in last_numbers.as_slice() {
         let last = *last;
@@ -183,8 +185,9 @@ fn draw(
     Ok(drawn)
 }
 
-/// Adds the region at a place of an exploration, with its label, not confined to any span yet. The caller's condition:
-/// there is a region at the place. `Memory` where an allocation is refused.
+/// Adds the region at a place of an exploration as a held region with this label, not confined to any span yet. The
+/// caller's condition: there is a region at the place. `Memory` where an allocation is refused, or something that is
+/// shared has too many owners.
 fn push_held(
     alloc: Global,
     held: &mut Vec<Held>,
@@ -215,8 +218,9 @@ fn push_held(
     Ok(())
 }
 
-/// The regions of an exploration, each with its label, not confined to any span yet. The caller's condition: there is a
-/// label for each region. `Memory` where an allocation is refused.
+/// The regions of an exploration as held regions, in their order, not confined to any span yet. `labels` are their
+/// labels. The caller's condition: there are as many labels as regions, in the order of the regions. `Memory` where an
+/// allocation is refused, or something that is shared has too many owners.
 fn held_of(alloc: Global, settled: &Settled, labels: &[usize]) -> Result<Vec<Held>, Fault>
     requires { length labels.now ≡ length settled.now.regions }
     ensures held { IfOk result (λ v. (place : ℕ) → place < length settled.now.regions
@@ -237,7 +241,7 @@ fn held_of(alloc: Global, settled: &Settled, labels: &[usize]) -> Result<Vec<Hel
 
 /// Draws held regions by all axes that they cut, and returns where the picture begins. That is a leaf without labels
 /// where nothing was drawn, since no region has a member. The caller's condition: the sketch has no leaf yet. `Memory`
-/// where an allocation is refused.
+/// where an allocation is refused, or something that is shared has too many owners.
 fn root_of(alloc: Global, sketch: &mut Sketch, held: &[Held]) -> Result<Branch, Fault>
     requires right { IsRightSketch sketch.old }
     requires empty { sketch.old.leaves ≡ [] }
@@ -266,13 +270,15 @@ fn root_of(alloc: Global, sketch: &mut Sketch, held: &[Held]) -> Result<Branch, 
 ///
 /// Axes come in a fixed order, each cut where the regions' conditions change their results. Once `leaves` leaves are
 /// drawn, equal ones counted again, no fork is begun any more: a branch with several labels that has axes left gets a
-/// leaf with all these labels, and the picture is spent. It is spent only in this case.
+/// leaf with all these labels, and the picture is spent. It is spent only in this case. Forks that were begun before
+/// are still finished, so more than `leaves` leaves may be drawn.
 ///
 /// On a plain stack no leaf of a picture that isn't spent has two labels; and if there are regions, some member of one
 /// lies at each leaf, also of a spent picture. On another stack a leaf has several labels also where what is known of
 /// regions doesn't separate them.
 ///
-/// The caller's condition: there is a label for each region. `Memory` where an allocation is refused.
+/// The caller's condition: there are as many labels as regions, in the order of the regions. `Memory` where an
+/// allocation is refused, or something that is shared has too many owners.
 pub fn picture_of(
     alloc: Global,
     settled: &Settled,

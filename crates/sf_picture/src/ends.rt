@@ -10,7 +10,9 @@ use sf_dom::Known;
 /// An interval of numbers of an axis: from `low` to `high`, both included.
 #[derive(Clone, Copy)]
 pub(crate) struct Ends {
+    /// The least number.
     low: u32,
+    /// The greatest number.
     high: u32,
 }
 
@@ -30,8 +32,8 @@ fn ends_of_bits(zeros: u32, ones: u32, mask: u32) -> Ends
 }
 
 impl Ends {
-    /// The numbers between which an axis lies, where this is known of its word. Of a whole word the interval is taken,
-    /// and under another mask the known bits.
+    /// The numbers between which an input's number on an axis lies, where this is known of the axis's word. For a whole
+    /// word they are the known interval; under another mask they come from the known bits alone.
     pub(crate) fn of(known: Known, axis: Axis) -> Ends
         ensures between { (n : ℕ) → n < 2 ^ 32 → Admits known n
             → (result.low ≤ bit_and n axis.mask) × (bit_and n axis.mask ≤ result.high) }

@@ -9,7 +9,7 @@ use thiserror::Error;
 /// Why there is no picture.
 #[derive(Clone, Copy, Debug, PartialEq, Eq, Error)]
 pub enum Fault {
-    /// An allocation was refused.
+    /// An allocation was refused, or something that is shared has too many owners.
     #[error("out of memory")]
     Memory,
 }

@@ -24,11 +24,15 @@ use std::alloc::Global;
 use std::marker::Model;
 use std::sync::Arc;
 
-/// A region of which a picture is drawn: its piece, its label, and its cuts.
+/// What stays the same of a region while a picture is drawn: its piece, its label, and its cuts. All held regions that
+/// come of one region share it.
 #[derive(Drop)]
 pub(crate) struct Source {
+    /// The region's piece.
     piece: Arc<Piece>,
+    /// The region's label, a number that the picture shows to its members.
     label: usize,
+    /// The places on axes where the results of the region's conditions may change.
     cuts: Vec<Cut>,
 }
 
@@ -71,7 +75,9 @@ impl Source {
 /// picture to the branch that is drawn.
 #[derive(Drop)]
 pub(crate) struct Held {
+    /// The region.
     source: Arc<Source>,
+    /// What is known of its members that lie in these spans.
     facts: Arc<Facts>,
 }
 
@@ -92,8 +98,8 @@ impl Model for Held {
 }
 
 impl Held {
-    /// The region of a piece, with the piece's own facts, which aren't confined to any span yet. `Memory` where an
-    /// allocation is refused.
+    /// The held region of a piece, under this label, with the piece's cuts and its own facts, which aren't confined to
+    /// any span yet. `Memory` where an allocation is refused, or where the facts have too many owners.
     pub(crate) fn of(alloc: Global, piece: Arc<Piece>, label: usize) -> Result<Held, Fault>
         ensures held { IfOk result (λ h. h ≡ record {
           piece = arc_value piece;
@@ -113,8 +119,8 @@ impl Held {
         Ok(Held { source, facts })
     }
 
-    /// The same region with other facts. The caller's condition: they are about the nodes of the piece's pool. `Memory`
-    /// where an allocation is refused.
+    /// The same region with these facts in place of its own. The caller's condition: they are about the nodes of the
+    /// piece's pool. `Memory` where an allocation is refused, or where the region has too many owners.
     fn with_facts(&self, alloc: Global, facts: Facts) -> Result<Held, Fault>
         requires { Covers facts self.now.piece.pool }
         ensures held { IfOk result (λ h. h ≡ record self.now { facts = facts }) }
@@ -150,8 +156,8 @@ impl Held {
         &self.facts
     }
 
-    /// The numbers between which those members lie on an axis that may come to the branch that is drawn. The caller's
-    /// condition: the axis's word is one of the 16.
+    /// The numbers between which the region's members lie on an axis, but only those members that may come to the
+    /// branch that is drawn. The caller's condition: the axis's word is one of the 16.
     pub(crate) fn ends_on(&self, axis: Axis) -> Ends
         requires { axis.word < 16 }
         ensures ends { AreEndsOf self.now axis result }
@@ -177,8 +183,9 @@ impl Held {
     }
 }
 
-/// Whether the conditions of a piece, learnt once more from these facts about its nodes, show that no member agrees
-/// with the facts. `Memory` where an allocation is refused.
+/// Whether the conditions of a piece, learnt once more from these facts, show that no member agrees with the facts.
+/// False doesn't mean that one agrees. The facts stay as they are. The caller's condition: they are about the nodes of
+/// the piece's pool. `Memory` where an allocation is refused, or where the facts have too many owners.
 fn rules_out(alloc: Global, piece: &Piece, facts: &Facts) -> Result<bool, Fault>
     requires { Covers facts.now piece.now.pool }
     ensures none { IfOk result (λ b. b ≡ true → NoMemberAgrees piece.now facts.now) }
@@ -198,8 +205,8 @@ fn rules_out(alloc: Global, piece: &Piece, facts: &Facts) -> Result<bool, Fault>
     Ok(false)
 }
 
-/// Whether the region's conditions, learnt once more, show that no member agrees with its confined facts. `Memory`
-/// where an allocation is refused.
+/// Whether the region's conditions, learnt once more, show that no member agrees with its confined facts. False doesn't
+/// mean that one agrees. `Memory` where an allocation is refused, or where the facts have too many owners.
 pub(crate) fn is_ruled_out(alloc: Global, one: &Held) -> Result<bool, Fault>
     ensures none { IfOk result (λ b. b ≡ true → (d : AnInput) → IsHeldBy one.now d → ⊥) }
     ensures rule { IfOk result (λ b. MatchBool b (¬ CanLearnAgain one.now)
@@ -210,9 +217,10 @@ pub(crate) fn is_ruled_out(alloc: Global, one: &Held) -> Result<bool, Fault>
     Ok(ruled)
 }
 
-/// The same region, confined to the span from `first` to `last` of an axis. None where its facts show that no member
-/// has a number of the span. The caller's condition: the axis's word is one of the 16. `Memory` where an allocation is
-/// refused.
+/// The same region, with its facts confined to the span from `first` to `last` of an axis, as far as `facts_within`
+/// does. Where all its numbers on the axis lie in the span anyway, it is only shared. None where its facts show that no
+/// member that agrees with them has a number of the span. The caller's condition: the axis's word is one of the 16.
+/// `Memory` where an allocation is refused, or something that is shared has too many owners.
 fn confine_held(
     alloc: Global,
     one: &Held,
@@ -239,9 +247,10 @@ fn confine_held(
     Ok(Some(inside))
 }
 
-/// Adds a held region, confined to the span from `first` to `last` of an axis, unless its facts show that no member has
-/// a number of the span. The caller's condition: the axis's word is one of the 16. `Memory` where an allocation is
-/// refused.
+/// Adds a held region to `inside`, as `confine_held` confines it to the span from `first` to `last` of an axis. Nothing
+/// is added where its facts show that no member that agrees with them has a number of the span. The caller's condition:
+/// the axis's word is one of the 16. `Memory` where an allocation is refused, or something that is shared has too many
+/// owners.
 fn push_within(
     alloc: Global,
     inside: &mut Vec<Held>,
@@ -269,8 +278,9 @@ fn push_within(
     Ok(())
 }
 
-/// For each held region, in their order, the numbers between which its members lie on an axis. The caller's condition:
-/// the axis's word is one of the 16. `Memory` where an allocation is refused.
+/// For each held region, in their order, what `ends_on` gives: between which numbers of an axis its members lie, but
+/// only those members that may come to the branch that is drawn. The caller's condition: the axis's word is one of the
+/// 16. `Memory` where an allocation is refused.
 pub(crate) fn all_ends(alloc: Global, held: &[Held], axis: Axis) -> Result<Vec<Ends>, Fault>
     requires { axis.word < 16 }
     ensures ends { IfOk result (λ v. AreAllEnds held.now axis v.items) }
@@ -284,10 +294,11 @@ pub(crate) fn all_ends(alloc: Global, held: &[Held], axis: Axis) -> Result<Vec<E
     Ok(ends)
 }
 
-/// The held regions that may have members with a number in the span from `first` to `last` of an axis, each confined to
-/// the span. `ends` are what `all_ends` gives for the regions and the axis: a region whose ends miss the span is left
-/// out at once, without a copy of its facts. The caller's condition: the axis's word is one of the 16. `Memory` where
-/// an allocation is refused.
+/// The held regions that may have members with a number in the span from `first` to `last` of an axis, in their order,
+/// each as `confine_held` confines it to the span. A region whose ends miss the span is left out at once, without a
+/// copy of its facts. The caller's conditions: the axis's word is one of the 16, and `ends` are what `all_ends` gives
+/// for these regions and this axis. `Memory` where an allocation is refused, or something that is shared has too many
+/// owners.
 pub(crate) fn held_within(
     alloc: Global,
     held: &[Held],

@@ -15,7 +15,7 @@ use std::collections::BTreeSet;
 /// The held regions whose labels are gathered.
 #[derive(Clone, Copy, Debug, PartialEq, Eq)]
 pub(crate) enum Which {
-    /// All.
+    /// All held regions.
     All,
     /// Those that are left: their conditions, learnt once more, don't contradict their confined facts.
     Left,
@@ -44,7 +44,8 @@ fn insert_label(labels: &mut BTreeSet<usize>, label: usize) -> Result<(), Fault>
     Ok(())
 }
 
-/// Whether `which` leaves out the label of a held region. `Memory` where an allocation is refused.
+/// Whether `which` leaves out the label of a held region: never with `All`, and with `Left` where `is_ruled_out` says
+/// that no member is left. `Memory` where an allocation is refused, or where the facts have too many owners.
 fn is_left_out(alloc: Global, one: &Held, which: Which) -> Result<bool, Fault>
     ensures none { IfOk result (λ b. b ≡ true → (d : AnInput) → IsHeldBy one.now d → ⊥) }
     ensures rule { IfOk result (λ b. MatchBool b (¬ IsGathered which one.now)
@@ -58,7 +59,7 @@ fn is_left_out(alloc: Global, one: &Held, which: Which) -> Result<bool, Fault>
 }
 
 /// Adds the label of a held region, unless the label is there already or `which` leaves it out. `Memory` where an
-/// allocation is refused.
+/// allocation is refused, or where the facts have too many owners.
 fn insert_label_of(
     alloc: Global,
     labels: &mut BTreeSet<usize>,
@@ -113,8 +114,8 @@ fn list_of(alloc: Global, labels: BTreeSet<usize>) -> Result<Vec<usize>, Fault>
     Ok(labels.into_iter().collect(alloc)?)
 }
 
-/// The labels of held regions, of all or of those that are left, each once, in rising order. `Memory` where an
-/// allocation is refused.
+/// The labels of held regions, of all or of those that are left, as `which` says; each once, in rising order. `Memory`
+/// where an allocation is refused, or where a region's facts have too many owners.
 pub(crate) fn labels_of(alloc: Global, held: &[Held], which: Which) -> Result<Vec<usize>, Fault>
     ensures labels { IfOk result (λ v. All (λ (h : HeldData). (d : AnInput) → IsHeldBy h d
         → Contains v.items h.label) held.now) }

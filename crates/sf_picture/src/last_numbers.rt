@@ -39,7 +39,8 @@ fn push_last_number(last_numbers: &mut Vec<u32>, cut: Cut, axis: Axis) -> Result
     Ok(())
 }
 
-/// Adds the numbers right below the cuts that a held region has on the axis. `Memory` where an allocation is refused.
+/// Adds the numbers right below the cuts that a held region has on the axis, where numbers of the axis lie above the
+/// cut. A number can come several times. `Memory` where an allocation is refused.
 fn push_last_numbers(last_numbers: &mut Vec<u32>, one: &Held, axis: Axis) -> Result<(), Fault>
     ensures has { IfOk result (λ _. (c : ACut) → Contains one.now.cuts c → c.axis ≡ axis
         → c.last < axis.mask → Contains last_numbers.new.items c.last) }
@@ -57,7 +58,8 @@ fn push_last_numbers(last_numbers: &mut Vec<u32>, one: &Held, axis: Axis) -> Res
 }
 
 /// The last numbers of the spans into which held regions cut an axis, each once, in rising order. The greatest number
-/// of the axis is the last one of all. `Memory` where an allocation is refused.
+/// of the axis is the last one of all, and the only one where no region cuts the axis. Under a mask the others needn't
+/// be numbers of the axis. `Memory` where an allocation is refused.
 pub(crate) fn last_numbers_of(alloc: Global, held: &[Held], axis: Axis) -> Result<Vec<u32>, Fault>
     ensures last_numbers { IfOk result (λ v. EndSpans held.now axis v.items) }
     ensures rule { IfOk result (λ v. AreLastNumbers held.now axis v.items) }

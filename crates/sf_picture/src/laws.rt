@@ -1,4 +1,4 @@
-//! Laws of pictures, each the contract of a function that does nothing.
+//! Laws of pictures, each the contract of a function that does nothing, or only calls other laws.
 
 ghost use Rattle.std.specs.Prelude.{◌≡◌, ◌≤◌, ℕ, true, [], ◌∷◌, List, length, Some, Contains, slice_get, slice_index};
 ghost use Rattle.sf_insn.specs.declared.input.Input.{Input};
@@ -47,11 +47,13 @@ pub fn one_picture_has_one_meaning()
         → (a : Answer) × Answers s.stack d a × Answers t.stack d a }
 {}
 
-/// By the rules a stack whose exploration ended with nothing outstanding has one picture, whatever the exploration's
-/// budget was, and in whatever order the works came: the labels of its regions and the limit of leaves decide it.
+/// A stack has one picture, by the rules by which `picture_of` draws, where its exploration ended with nothing
+/// outstanding. The labels of its regions and the limit of leaves decide this picture, whatever the exploration's
+/// budget was, and in whatever order the works came.
 pub fn pictures_have_one_result()
     ensures { HaveOnePicture }
 {
+    // For the prover: three laws from which this one follows.
     explorations_have_one_result();
     execution_has_one_result();
     rules_have_one_result();

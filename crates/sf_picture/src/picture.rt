@@ -26,7 +26,9 @@ pub struct Run {
 /// A fork: the number that an input has on the axis lies in one run, and the run leads on.
 #[derive(Drop)]
 pub struct Fork {
+    /// The axis.
     axis: Axis,
+    /// The runs, in the order of their numbers. The last one ends with the axis's greatest number.
     runs: Vec<Run>,
 }
 
@@ -39,7 +41,7 @@ impl Model for Fork {
 }
 
 impl Fork {
-    /// A fork of these runs.
+    /// A fork of these runs of an axis.
     pub(crate) fn of(axis: Axis, runs: Vec<Run>) -> Fork
         ensures { result ≡ record { axis = axis; runs = runs.items } }
     {
@@ -53,7 +55,7 @@ impl Fork {
         self.axis
     }
 
-    /// The runs, in the order of their numbers.
+    /// The runs, in the order of their numbers. The last one ends with the axis's greatest number.
     pub fn runs(&self) -> &[Run]
         ensures { result.now ≡ self.now.runs }
     {
@@ -64,6 +66,7 @@ impl Fork {
 /// The labels of a leaf.
 #[derive(Drop)]
 pub(crate) struct Labels {
+    /// The labels, in rising order, each once.
     pub(crate) numbers: Vec<usize>,
 }
 
@@ -75,13 +78,19 @@ impl Model for Labels {
     ghost view = { λ l. l.numbers.items };
 }
 
-/// A picture of a stack. Each fork leads only to leaves and to forks at lower places.
+/// A picture of a stack. Each fork leads only to leaves and to forks at lower places. No two leaves are equal, and no
+/// two forks.
 #[derive(Drop)]
 pub struct Picture {
+    /// The labels of each leaf.
     pub(crate) leaves: Vec<Labels>,
+    /// The forks.
     pub(crate) forks: Vec<Fork>,
+    /// Where the picture begins.
     pub(crate) root: Branch,
+    /// Whether leaves were drawn early, since as many leaves were drawn as are allowed.
     pub(crate) spent: bool,
+    /// How many leaves were drawn, those that are equal to others counted again.
     pub(crate) drawn: usize,
 }
 
@@ -119,8 +128,8 @@ impl Picture {
         self.root
     }
 
-    /// Whether leaves were drawn early, since as many leaves were drawn as are allowed. Such a leaf has all labels that
-    /// may come there, although axes were left that might have parted them.
+    /// Whether leaves were drawn early, since as many leaves were drawn as are allowed. Such a leaf has the labels of
+    /// all regions that may have members there, although axes were left that might have parted them.
     pub fn is_spent(&self) -> bool
         ensures value { result ≡ self.now.spent }
         ensures lawful { IsPicture self.now }
@@ -128,7 +137,7 @@ impl Picture {
         self.spent
     }
 
-    /// How many leaves were drawn, those that are equal to others counted again.
+    /// How many leaves were drawn, those that are equal to others counted again. The count ends at 2 ^ 64 - 1.
     pub fn drawn_count(&self) -> usize
         ensures value { result ≡ self.now.drawn }
         ensures lawful { IsPicture self.now }
@@ -136,7 +145,7 @@ impl Picture {
         self.drawn
     }
 
-    /// How many leaves there are.
+    /// How many leaves there are, equal ones counted once.
     pub fn leaf_count(&self) -> usize
         ensures value { result ≡ length self.now.leaves }
         ensures lawful { IsPicture self.now }
@@ -154,7 +163,7 @@ impl Picture {
         self.leaves[place].numbers.as_slice()
     }
 
-    /// How many forks there are.
+    /// How many forks there are, equal ones counted once.
     pub fn fork_count(&self) -> usize
         ensures value { result ≡ length self.now.forks }
         ensures lawful { IsPicture self.now }

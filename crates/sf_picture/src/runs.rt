@@ -49,9 +49,10 @@ fn push_run(runs: &mut Vec<Run>, last: u32, next: Branch) -> Result<(), Fault>
     Ok(())
 }
 
-/// Adds a run for a span of an axis that ends with `last`, and for which the branch `next` was drawn. Where none was
-/// drawn, since no region has a member there, no run is added: the next run, or else the last one, takes in the numbers
-/// of the span. `Memory` where an allocation is refused.
+/// Adds a run for a span of an axis that ends with `last`, and for which the branch `next` was drawn, as `push_run`
+/// does. Where no branch was drawn, since no region has a member there, nothing is changed: the run of the next span
+/// that has a branch takes in the numbers of this span. Where no such span follows, `close_runs` makes the last run
+/// take them in. `Memory` where an allocation is refused.
 pub(crate) fn push_span(runs: &mut Vec<Run>, last: u32, next: Option<Branch>) -> Result<(), Fault>
     ensures added { IfOk result (λ _. MatchOption next (runs.new.items ≡ runs.old.items)
         (AreRunsTo runs.old.items runs.new.items last)) }

@@ -12,13 +12,15 @@ use std::marker::Model;
 /// What was drawn so far. Equal leaves and equal forks are kept once, so branches that lead to the same are equal.
 #[derive(Drop)]
 pub(crate) struct Sketch {
+    // The labels of each leaf.
     leaves: Vec<Labels>,
+    // The forks. Each leads only to leaves and to forks at lower places.
     forks: Vec<Fork>,
     // How many leaves may be drawn before no fork is begun any more.
     most: usize,
     // How many leaves were drawn. Those that are equal to others count too.
     drawn: usize,
-    // Whether a leaf was drawn early, since the budget of leaves was spent.
+    // Whether a leaf was drawn early, since as many leaves were drawn as are allowed.
     spent: bool,
 }
 
@@ -97,14 +99,15 @@ impl Sketch {
         }
     }
 
-    /// Whether as many leaves were drawn as are allowed. The caller then begins no fork any more.
+    /// Whether at least as many leaves were drawn as are allowed. The caller then begins no fork any more.
     pub(crate) fn is_full(&self) -> bool
         ensures { IsTrue result ↔ (self.now.most ≤ self.now.drawn) }
     {
         self.most <= self.drawn
     }
 
-    /// Marks the sketch as spent: a leaf is drawn early, since as many leaves were drawn as are allowed.
+    /// Marks the sketch as spent: a leaf is drawn early. The caller's condition: at least as many leaves were drawn as
+    /// are allowed.
     pub(crate) fn spend(&mut self)
         requires { self.old.most ≤ self.old.drawn }
         ensures { self.new ≡ record self.old { spent = true } }
@@ -168,9 +171,9 @@ impl Sketch {
     }
 
     /// The fork on this axis with these runs: one that is there already, or else a new one. The caller's conditions:
-    /// the axis's word is one of the 16; the runs are at least two, in the order of their numbers, and go to the axis's
-    /// greatest number; and each leads to what is in the sketch, and not to where the next one leads. `Memory` where an
-    /// allocation is refused.
+    /// the axis's word is one of the 16; the runs are at least two, their last numbers rise, and the last run ends with
+    /// the axis's greatest number; and each run leads to what is in the sketch, and not to where the next one leads.
+    /// `Memory` where an allocation is refused.
     pub(crate) fn fork(&mut self, axis: Axis, runs: Vec<Run>) -> Result<Branch, Fault>
         requires { IsRightFork (length self.old.leaves) (length self.old.forks)
             (record { axis = axis; runs = runs.items }) }

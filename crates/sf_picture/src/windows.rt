@@ -8,23 +8,24 @@ use crate::axis::Axis;
 use sf_dom::Known;
 use sf_insn::Test;
 
-/// The bits of a word that tests under masks fix: on each member of a piece those of `zeros` are 0, and those of `ones`
-/// 1.
+/// The bits of a word that are fixed by tests of bits, and by tests of equality under masks.
 #[derive(Clone, Copy)]
 pub(crate) struct FixedBits {
+    /// The bits that are 0 on each member of a piece.
     zeros: u32,
+    /// The bits that are 1 on each member of a piece.
     ones: u32,
 }
 
 impl FixedBits {
-    /// No bit.
+    /// No bit is fixed.
     pub(crate) fn none() -> FixedBits
         ensures { result ≡ record { zeros = 0; ones = 0 } }
     {
         FixedBits { zeros: 0, ones: 0 }
     }
 
-    /// These bits, and further ones.
+    /// These fixed bits, and further ones: those in `zeros` are fixed to 0, and those in `ones` to 1.
     fn and(self, zeros: u32, ones: u32) -> FixedBits
         ensures { result ≡ with_fixed_bits self zeros ones }
     {
@@ -34,8 +35,10 @@ impl FixedBits {
         }
     }
 
-    /// These bits, and those that are fixed by the result `sense` of a test of an axis of the word against a number. An
-    /// equality with a whole word fixes none here: it leaves only one number of the word, so no bits are asked for.
+    /// These bits, and those that are fixed where a test of an axis of the word against a number has the result
+    /// `sense`. Three cases fix bits. A test of bits that is false fixes all bits that are tested to 0. One that is
+    /// true fixes a bit to 1 where only this bit is tested. An equality that is true fixes all bits of the axis's mask,
+    /// but none where the axis is the whole word: it then leaves only one number of the word, so no bits are asked for.
     pub(crate) fn and_by_test(self, axis: Axis, test: Test, number: u32, sense: bool) -> FixedBits
         ensures { result ≡ fixed_by self axis test number sense }
     {
@@ -59,17 +62,20 @@ impl FixedBits {
 /// A window of a word, for a piece. The piece's cuts of the word that lie in it stay where they are. A cut before it is
 /// moved to its first number, and one behind it to its last, which leaves fewer cuts to draw.
 ///
-/// The window goes from the number right below those of the piece to the greatest number of the piece: at these two the
-/// piece has cuts anyway. But where tests of bits rule out the number next to the piece on a side, the piece may have
-/// its cut anywhere beyond: on this side the window goes on to the end of all numbers.
+/// The numbers of the piece are those between which the word is known to lie. The window goes from the number right
+/// below them to the greatest of them: at these two the piece has cuts anyway. But where fixed bits rule out the number
+/// next to them on a side, the piece may have its cut anywhere beyond: on this side the window goes on to the end of
+/// all numbers.
 #[derive(Clone, Copy)]
 pub(crate) struct Window {
+    /// The first number.
     first: u32,
+    /// The last number.
     last: u32,
 }
 
-/// Where the window of a word begins whose numbers are at least `low`: right below `low`; or at 0, where there is no
-/// number below, or the fixed bits rule it out.
+/// Where a window begins, of a word whose numbers are at least `low`: right below `low`; or at 0, where there is no
+/// number below `low`, or the fixed bits rule out the number right below.
 fn first_of(low: u32, bits: FixedBits) -> u32
     ensures below { (result ≡ 0) ⊎ (result < low) }
     ensures rule { result ≡ window_first low bits }
@@ -81,8 +87,8 @@ fn first_of(low: u32, bits: FixedBits) -> u32
     }
 }
 
-/// Where the window of a word ends whose numbers are at most `high`: at `high`; or at the greatest number of all, where
-/// there is no number above `high`, or the fixed bits rule it out.
+/// Where a window ends, of a word whose numbers are at most `high`: at `high`; or at the greatest number of all, where
+/// there is no number above `high`, or the fixed bits rule out the number right above.
 fn last_of(high: u32, bits: FixedBits) -> u32
     ensures above { high ≤ result }
     ensures rule { result ≡ window_last high bits }
@@ -95,7 +101,7 @@ fn last_of(high: u32, bits: FixedBits) -> u32
 }
 
 impl Window {
-    /// The window of a word, where this is known of it and tests fix these bits of it.
+    /// The window of a word of which `known` is known, and of which tests fix the bits `bits`.
     pub(crate) fn of(known: Known, bits: FixedBits) -> Window
         ensures around { IsWindow result known.low known.high }
         ensures rule { result ≡ window_of known bits }
@@ -106,7 +112,7 @@ impl Window {
         }
     }
 
-    /// The number of the window that is nearest to one.
+    /// The number of the window that is nearest to this number.
     pub(crate) fn nearest(self, number: u32) -> u32
         ensures { result ≡ min (max number self.first) self.last }
     {
