@@ -15,9 +15,10 @@ use sf_policy::push_action;
 use sf_run::Answer;
 use std::alloc::{AllocError, Global};
 
-/// A number by which answers are put in order: by the precedence of their actions, and then by their data, which are 16
-/// bits. Of two actions the one with the lower number, taken as signed, has precedence; with 0x80000000 added, the
-/// numbers stand in this order as unsigned ones.
+/// A number by which answers are put in order: the higher the precedence of the action, the lower the number; and of
+/// one action it rises with the data, which are its lowest 16 bits. It has 48 bits. The action with the lowest number,
+/// taken as signed, has the highest precedence. Adding 0x80000000, with wrapping, makes of these numbers unsigned ones
+/// in the same order.
 pub(crate) fn order_of(answer: Answer) -> u64
     ensures order { result ≡ answer_order answer }
     ensures few { result < 2 ^ 48 }
@@ -37,8 +38,8 @@ impl Labelled for Answer {
     ghost same = { Prim.search rules };
 }
 
-/// The answers of all regions, each once, by precedence and then by data. A label is a place among them. An error where
-/// an allocation is refused.
+/// The answers of all regions, each once: from the action with the highest precedence to the one with the lowest, and
+/// those of one action by rising data. A label is a place among them. An error where an allocation is refused.
 pub fn answers_of(alloc: Global, settled: &Settled) -> Result<Vec<Answer>, AllocError>
     ensures each { IfOk result (λ v. All (λ (r : RegionData). Contains v.items r.answer)
         settled.now.regions) }
@@ -54,8 +55,9 @@ pub fn answers_of(alloc: Global, settled: &Settled) -> Result<Vec<Answer>, Alloc
     Ok(answers)
 }
 
-/// The label of each region: the first place of its answer among `answers`. The caller's conditions: the answers of all
-/// regions are there, and they are in order, as `answers_of` gives them. An error where an allocation is refused.
+/// The label of each region, in the order of the regions: the first place of its answer among `answers`. The caller's
+/// conditions: `answers` has the answers of all regions, and is in the order of `answers_of`. An error where an
+/// allocation is refused.
 pub fn labels_of(
     alloc: Global,
     settled: &Settled,
@@ -76,7 +78,7 @@ pub fn labels_of(
     Ok(labels)
 }
 
-/// Adds an answer: its action and its data.
+/// Adds an answer: its action as `push_action` writes it, a space, and its data in decimal.
 pub(crate) fn push_answer(text: &mut String, answer: Answer) -> Result<(), AllocError>
     ensures { OnOk result (string_bytes text.new ≡ string_bytes text.old ++ answer_words answer) }
 {
@@ -85,7 +87,7 @@ pub(crate) fn push_answer(text: &mut String, answer: Answer) -> Result<(), Alloc
     write!(text, " {info}")
 }
 
-/// The words of an answer.
+/// The words of an answer, as `push_answer` adds them.
 fn words_of(alloc: Global, answer: Answer) -> Result<String, AllocError>
     ensures { IfOk result (λ text. string_bytes text ≡ answer_words answer) }
 {

@@ -7,7 +7,7 @@ ghost use Rattle.sf_names.specs.Names.{CallData};
 ghost use Rattle.sf_rows.specs.Calls.{call_row_line, call_meets, call_rows, is_about_call, is_on_call, is_wanted, number_on_axis, row_if_about, rows_if_wanted, rows_of_call, rows_of_set};
 ghost use Rattle.sf_rows.specs.Lines.{is_undetermined};
 
-use crate::conditions::push_further;
+use crate::conditions::push_conditions_beyond_call;
 use crate::lines::push_labels;
 use crate::parts::{has_part, meets_part};
 use crate::rows::{Condition, Row, Scope};
@@ -19,8 +19,11 @@ use std::marker::Model;
 /// A row that is about a call which has a name.
 #[derive(Drop)]
 pub(crate) struct CallRow<'a> {
+    /// The call's set.
     names: &'a Names,
+    /// The call.
     call: &'a Call,
+    /// The row.
     row: &'a Row,
 }
 
@@ -62,8 +65,8 @@ impl<'a> CallRow<'a> {
     }
 }
 
-/// The number that all inputs of a call have on an axis of its number, which is the word 0, or of its architecture. The
-/// axis is taken as one of the architecture where its word isn't 0.
+/// The number that all inputs of the call with this architecture and this number have on an axis of the word 0, which
+/// is the call's number, or of the word 1, which is the architecture. Any other word is taken for the word 1.
 fn number_of_call(arch: u32, number: u32, axis: Axis) -> u32
     ensures { result ≡ number_on_axis arch number axis }
 {
@@ -92,7 +95,8 @@ fn call_meets_all(arch: u32, number: u32, conditions: &[Condition]) -> bool
         .all(|condition| call_meets(arch, number, condition))
 }
 
-/// Whether a row is about a call: by the call's number and architecture, its inputs may lie in the row.
+/// Whether a row with this scope is about a call: as far as the call's number and architecture tell, its inputs may lie
+/// in the row.
 fn is_about_call(arch: u32, number: u32, scope: &Scope) -> bool
     ensures { result ≡ is_about_call arch number scope.now }
 {
@@ -101,7 +105,7 @@ fn is_about_call(arch: u32, number: u32, scope: &Scope) -> bool
         && call_meets_all(arch, number, scope.conditions())
 }
 
-/// Adds a row of a call, if the row is about this call.
+/// Adds a row as one of this call, if the row is about the call. `names` is the call's set.
 fn push_if_about<'a>(
     into: &mut Vec<CallRow<'a>>,
     names: &'a Names,
@@ -117,7 +121,7 @@ fn push_if_about<'a>(
     Ok(())
 }
 
-/// Adds the rows that are about a call, in their order.
+/// Adds the rows that are about a call, in their order. `names` is the call's set.
 fn push_rows_of_call<'a>(
     into: &mut Vec<CallRow<'a>>,
     rows: &'a [Row],
@@ -154,7 +158,7 @@ fn is_wanted(wanted: &[&str], call: &Call) -> bool
     wanted.is_empty() || is_among(wanted, call.name())
 }
 
-/// Adds the rows of a call, if it is asked for.
+/// Adds the rows of a call, if the call is asked for. `names` is the call's set.
 fn push_rows_if_wanted<'a>(
     into: &mut Vec<CallRow<'a>>,
     wanted: &[&str],
@@ -171,7 +175,7 @@ fn push_rows_if_wanted<'a>(
     Ok(())
 }
 
-/// Adds the rows of the calls of a set that are asked for.
+/// Adds, call after call, the rows of those calls of a set that are asked for.
 fn push_rows_of_set<'a>(
     into: &mut Vec<CallRow<'a>>,
     wanted: &[&str],
@@ -188,8 +192,9 @@ fn push_rows_of_set<'a>(
     Ok(())
 }
 
-/// The rows of the calls that are asked for, of all calls where `wanted` is empty: set after set, in a set by the
-/// calls' numbers, and of a call in the order of the rows. An error where an allocation is refused.
+/// The rows of the calls whose names are in `wanted`, or of all calls where `wanted` is empty: set after set, in a set
+/// in the order of its calls, and of a call in the order of the rows. A row stands there once for each of these calls
+/// that it is about. An error where an allocation is refused.
 pub(crate) fn call_rows<'a>(
     alloc: Global,
     wanted: &[&str],
@@ -213,7 +218,9 @@ pub(crate) fn count_undetermined(rows: &[CallRow<'_>]) -> usize
     rows.iter().filter(|row| row.is_undetermined()).count()
 }
 
-/// Adds the line of a row of a call. `words` are the words of the labels, each at its label's place.
+/// Adds the line of a row of a call: the set of calls, the call's name, the words of the row's labels, and the row's
+/// conditions on other words than the call's number and its architecture. `words` are the words of the labels, each at
+/// its label's place.
 fn push_call_row(text: &mut String, words: &[String], row: &CallRow<'_>) -> Result<(), AllocError>
     ensures { OnOk result (string_bytes text.new ≡ string_bytes text.old
         ++ call_row_line (map string_bytes words.now) row.now) }
@@ -222,12 +229,12 @@ fn push_call_row(text: &mut String, words: &[String], row: &CallRow<'_>) -> Resu
     let name = row.call.name();
     write!(text, "{set} {name} ")?;
     push_labels(text, words, row.row.labels())?;
-    push_further(text, row.row.scope().conditions())?;
+    push_conditions_beyond_call(text, row.row.scope().conditions())?;
     text.push_str("\n")?;
     Ok(())
 }
 
-/// Adds a line for each row of a call. `words` are the words of the labels, each at its label's place.
+/// Adds the line of each of these rows of calls. `words` are the words of the labels, each at its label's place.
 pub(crate) fn push_call_rows(
     text: &mut String,
     words: &[String],

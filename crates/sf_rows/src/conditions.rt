@@ -14,29 +14,29 @@ use std::alloc::AllocError;
 /// How the numbers of a word are written.
 #[derive(Clone, Copy)]
 pub(crate) enum Style {
-    /// In hexadecimal, as short as it goes.
+    /// In hexadecimal, without leading zeros.
     Short,
     /// In hexadecimal, with eight digits.
     Long,
-    /// Below 65,536 in decimal, else in hexadecimal.
+    /// Below 65,536 in decimal, else in hexadecimal without leading zeros.
     Call,
 }
 
-/// Adds a number in hexadecimal, as short as it goes.
+/// Adds `0x` and a number in hexadecimal, without leading zeros and with capital letters.
 fn push_short(text: &mut String, number: u32) -> Result<(), AllocError>
     ensures { OnOk result (string_bytes text.new ≡ string_bytes text.old ++ short_words number) }
 {
     write!(text, "0x{number:X}")
 }
 
-/// Adds a number in hexadecimal, with eight digits.
+/// Adds `0x` and a number in hexadecimal, with eight digits and with capital letters.
 fn push_long(text: &mut String, number: u32) -> Result<(), AllocError>
     ensures { OnOk result (string_bytes text.new ≡ string_bytes text.old ++ long_words number) }
 {
     write!(text, "0x{number:08X}")
 }
 
-/// Adds the number of a call: below 65,536 in decimal, else in hexadecimal.
+/// Adds the number of a call: below 65,536 in decimal, else in hexadecimal as `push_short` does.
 fn push_call(text: &mut String, number: u32) -> Result<(), AllocError>
     ensures { OnOk result (string_bytes text.new ≡ string_bytes text.old
         ++ call_number_words number) }
@@ -86,7 +86,7 @@ pub(crate) fn push_spans(text: &mut String, style: Style, spans: &[Span]) -> Res
     Ok(())
 }
 
-/// Whether there is only one span, and this is one number.
+/// Whether there is only one span, and this has only one number.
 fn is_one(spans: &[Span]) -> bool
     ensures { result ≡ is_one_number spans.now }
 {
@@ -96,7 +96,8 @@ fn is_one(spans: &[Span]) -> bool
     }
 }
 
-/// What stands before the numbers of a part of the architectures.
+/// What stands before the numbers that name a part of the architectures: nothing where it is one number, `in ` where
+/// they are several; for a rest `!= ` or `not in `.
 fn words_before(part: &Part) -> &'static str
     ensures { result.now ≡ arch_start part.now }
 {
@@ -108,7 +109,8 @@ fn words_before(part: &Part) -> &'static str
     }
 }
 
-/// Adds the architectures, or `any` where all are meant.
+/// Adds the architectures of a row: `any` where `arch` is `None`, since all are meant. Else adds what `words_before`
+/// gives, and then the numbers that name the part, in hexadecimal with eight digits.
 pub(crate) fn push_arch(text: &mut String, arch: &Option<Part>) -> Result<(), AllocError>
     ensures { OnOk result (string_bytes text.new ≡ string_bytes text.old ++ arch_words arch.now) }
 {
@@ -121,8 +123,9 @@ pub(crate) fn push_arch(text: &mut String, arch: &Option<Part>) -> Result<(), Al
     }
 }
 
-/// Adds the call numbers, or `any` where all are meant. Their part is never a rest, since each run of call numbers is a
-/// part by itself.
+/// Adds the call numbers of a row: `any` where `nr` is `None`, since all are meant; else the spans of the part. A rest
+/// would be written as the numbers that it hasn't. But a row's part of call numbers is never a rest, since each run of
+/// call numbers is a part by itself.
 pub(crate) fn push_nr(text: &mut String, nr: &Option<Part>) -> Result<(), AllocError>
     ensures { OnOk result (string_bytes text.new ≡ string_bytes text.old ++ nr_words nr.now) }
 {
@@ -132,7 +135,8 @@ pub(crate) fn push_nr(text: &mut String, nr: &Option<Part>) -> Result<(), AllocE
     }
 }
 
-/// What stands between an axis and the numbers of a part.
+/// What stands between an axis and the numbers that name a part: ` = ` where it is one number, ` in ` where they are
+/// several; for a rest ` != ` or ` not in `.
 fn words_between(part: &Part) -> &'static str
     ensures { result.now ≡ part_start part.now }
 {
@@ -154,7 +158,7 @@ fn name_of(word: usize) -> &'static str
     ""
 }
 
-/// Adds the name of an axis: its word, and its mask where that leaves bits out.
+/// Adds the name of an axis: that of its word, and then ` & ` and its mask, if the mask leaves bits out.
 fn push_axis(text: &mut String, axis: Axis) -> Result<(), AllocError>
     ensures { OnOk result (string_bytes text.new ≡ string_bytes text.old ++ axis_words axis) }
 {
@@ -166,7 +170,8 @@ fn push_axis(text: &mut String, axis: Axis) -> Result<(), AllocError>
     push_short(text, axis.mask)
 }
 
-/// Adds a condition: its axis, and the numbers of its part.
+/// Adds a condition: its axis, what `words_between` gives, and the numbers that name its part, which for a rest are
+/// those that it hasn't.
 pub(crate) fn push_condition(text: &mut String, condition: &Condition) -> Result<(), AllocError>
     ensures { OnOk result (string_bytes text.new ≡ string_bytes text.old
         ++ condition_words condition.now) }
@@ -177,8 +182,7 @@ pub(crate) fn push_condition(text: &mut String, condition: &Condition) -> Result
     push_spans(text, Style::Short, part.spans())
 }
 
-/// Adds conditions: ` if ` before the first one, and ` and ` before each further one. Adds nothing where there are
-/// none.
+/// Adds conditions: ` if ` before the first one, and ` and ` before each later one. Adds nothing where there are none.
 pub(crate) fn push_conditions(text: &mut String, conditions: &[Condition]) -> Result<(), AllocError>
     ensures { OnOk result (string_bytes text.new ≡ string_bytes text.old
         ++ conditions_words (codes " if ") conditions.now) }
@@ -192,8 +196,12 @@ pub(crate) fn push_conditions(text: &mut String, conditions: &[Condition]) -> Re
     Ok(())
 }
 
-/// Adds the conditions on other words than the call's number and its architecture, as `push_conditions` does.
-pub(crate) fn push_further(text: &mut String, conditions: &[Condition]) -> Result<(), AllocError>
+/// Adds those of the conditions that are on other words than the call's number and its architecture, in the same form
+/// as `push_conditions`. The others are left out.
+pub(crate) fn push_conditions_beyond_call(
+    text: &mut String,
+    conditions: &[Condition],
+) -> Result<(), AllocError>
     ensures { OnOk result (string_bytes text.new ≡ string_bytes text.old
         ++ further_words (codes " if ") conditions.now) }
 {

@@ -23,15 +23,18 @@ use std::alloc::{AllocError, Global};
 /// Rows as JSON, and their counts.
 #[derive(Drop)]
 pub struct RowDocuments {
-    /// Those of calls, call by call; `null` where this isn't asked for.
+    /// The array of the rows of calls, call by call; `null` where no calls are asked for.
     pub calls: Document,
-    /// Those that are shown each by itself.
+    /// The array of the rows that are shown each by itself: all rows where `calls` is `null`, else those of the inputs
+    /// that belong to no call with a name. It is empty where calls are asked for by their names.
     pub rows: Document,
-    /// How many rows there are in `calls` and `rows`, and how many of them have several answers.
+    /// An object: `rows` is how many rows there are in `calls` and `rows`, and `undetermined` how many of these have
+    /// several labels.
     pub total: Document,
 }
 
-/// How many rows are shown, and how many of them have several answers.
+/// The object that counts rows: its field `rows` is how many are shown, and `undetermined` how many of these have
+/// several labels.
 fn total_of(alloc: Global, rows: usize, undetermined: usize) -> Result<Document, AllocError>
     ensures { IfOk result (λ d. view d ≡ fields ((codes "rows", count rows)
         ∷ (codes "undetermined", count undetermined) ∷ [])) }
@@ -42,7 +45,8 @@ fn total_of(alloc: Global, rows: usize, undetermined: usize) -> Result<Document,
     Ok(Document::object(fields))
 }
 
-/// Rows as JSON, each by itself: none of them is shown call by call.
+/// Rows as JSON, each by itself, and none call by call. `sets` give the names of the calls in a row, and `answers` are
+/// what labels stand for, each at its label's place.
 fn single_rows(
     alloc: Global,
     sets: &[Names],
@@ -64,8 +68,10 @@ fn single_rows(
     })
 }
 
-/// The rows of the calls in `wanted`. Where it is empty, the rows of all calls, and beside them those of the inputs
-/// that belong to no call with a name. `Memory` where an allocation is refused.
+/// Rows as JSON, call by call: the rows of the calls whose names are in `wanted`. Where it is empty, the rows of all
+/// calls, and beside them those of the inputs that belong to no call with a name. `sets` give the names of calls, and
+/// `answers` are what labels stand for, each at its label's place. `Memory` where an allocation is refused, or where a
+/// part's spans have too many owners.
 fn rows_by_call(
     alloc: Global,
     sets: &[Names],
@@ -95,9 +101,10 @@ fn rows_by_call(
     })
 }
 
-/// Rows as JSON, by the sets of calls and what labels stand for. Without `calls` each row is shown by itself. Where
-/// `calls` names some, the rows of these calls are shown. Where it names none, the rows of all calls are shown, and
-/// beside them those of the inputs that belong to no call with a name. `Memory` where an allocation is refused.
+/// Rows as JSON. `sets` give the names of calls, and `answers` are what labels stand for, each at its label's place.
+/// Without `calls` each row is shown by itself. Where `calls` names some, the rows of these calls are shown. Where it
+/// names none, the rows of all calls are shown, and beside them those of the inputs that belong to no call with a name.
+/// `Memory` where an allocation is refused, or where a part's spans have too many owners.
 pub fn documents_of_rows(
     alloc: Global,
     sets: &[Names],

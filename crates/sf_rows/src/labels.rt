@@ -1,4 +1,5 @@
-//! Labels: the places of answers, or of pairs of answers, in a list in order that has each of them once.
+//! Labels: each is the place of an answer, or of a pair of answers, in a list that is in order and has each of these
+//! once.
 
 ghost use Rattle.std.specs.Prelude.{◌≡◌, ◌≢◌, ◌<◌, ◌≤◌, ◌↔◌, ℕ, Bool, Contains, OnOk, Some, length, slice_get, true};
 ghost use Rattle.std.specs.List.Sorted.{IsNonDecreasingBy};
@@ -10,15 +11,18 @@ use std::alloc::AllocError;
 pub(crate) trait Labelled: Copy + PartialEq + Drop {
     ghost number: { Self → ℕ };
 
-    /// A number by which lists are put in order. Those that differ may have the same number.
+    /// The number by which a list is put in order: it never falls from an element to the next one. Elements that differ
+    /// may have the same number.
     fn order(self) -> u128
         ensures { result ≡ number self };
 
-    // For the prover: those that are equal are the same.
+    // For the prover: two elements are equal exactly where they are the same.
     ghost same: { (a b : Self) → (Self.eq a b ≡ true) ↔ (a ≡ b) };
 }
 
-/// Puts a list in order, in place, and leaves each element only once. An error where an allocation is refused.
+/// Puts a list in order, in place: by the numbers of `order`, and those with the same number as they stood. Of equal
+/// neighbours it then leaves only one. So each element stands there once, if no two that differ have the same number.
+/// An error where an allocation is refused.
 pub(crate) fn put_in_order<T: Labelled>(list: &mut Vec<T>) -> Result<(), AllocError>
     ensures keeps { OnOk result ((one : T) → Contains list.old.items one
         → Contains list.new.items one) }
@@ -32,7 +36,8 @@ pub(crate) fn put_in_order<T: Labelled>(list: &mut Vec<T>) -> Result<(), AllocEr
     Ok(())
 }
 
-/// How many elements of a list have a number below `order`. The caller's condition: the list is in order.
+/// How many elements of a list have a number below `order`. The caller's condition: the list is in order, so these
+/// elements stand first.
 fn count_before<T: Labelled>(list: &[T], order: u128) -> usize
     requires { IsNonDecreasingBy T.number list.now }
     ensures bound { result ≤ length list.now }
@@ -55,6 +60,7 @@ pub(crate) fn place_of<T: Labelled>(list: &[T], one: T) -> usize
             return place;
         }
     }
+    // Never comes here: the list has the element, and no element before `first` has its number.
     prove!(false);
     0
 }

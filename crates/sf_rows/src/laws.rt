@@ -19,7 +19,8 @@ pub fn each_input_lies_in_one_row()
         → r.labels ≡ labels_at p d }
 {}
 
-/// The lines of a call have each of its inputs once: the input lies in one row of the call, as the row's line says.
+/// Each input of a call meets the conditions in the line of exactly one row of the call. These are the row's conditions
+/// on other words than the call's number and its architecture.
 pub fn each_input_of_a_call_lies_in_one_line()
     ensures { (p : PictureData) (n : NamesData) (c : CallData) (d : Input)
         → IsPicture p → IsInput d → IsOfCall n c d
@@ -28,8 +29,8 @@ pub fn each_input_of_a_call_lies_in_one_line()
     each_input_lies_in_one_row();
 }
 
-/// Where calls are shown one by one, each input that belongs to no call with a name lies in one row of those that
-/// follow, and an input of a call with a name lies in none.
+/// Where all calls are shown one by one, the rows of `unnamed_rows` follow. Each input that belongs to no call with a
+/// name lies in exactly one of these, and an input of a call with a name lies in none.
 pub fn each_other_input_lies_in_one_row()
     ensures { (p : PictureData) (sets : List NamesData) (d : Input) → IsPicture p → IsInput d
         → count_by (λ r. is_in_scope r.scope d) (unnamed_rows sets (rows_of p))

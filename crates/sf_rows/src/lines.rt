@@ -10,7 +10,7 @@ use crate::rows::{Row, Scope};
 use sf_names::Names;
 use std::alloc::AllocError;
 
-/// The words of a label; an empty text where it has none.
+/// The words of a label, which stand at its place in `words`; an empty text where the label is behind all places.
 fn words_at(words: &[String], label: usize) -> &str
     ensures { result.now ≡ slice_index_or (map string_bytes words.now) label [] }
 {
@@ -20,7 +20,7 @@ fn words_at(words: &[String], label: usize) -> &str
     }
 }
 
-/// Adds the words of labels, with ` | ` between them.
+/// Adds the words of labels, with ` | ` between them. `words` are the words of the labels, each at its label's place.
 pub(crate) fn push_labels(
     text: &mut String,
     words: &[String],
@@ -38,7 +38,7 @@ pub(crate) fn push_labels(
     Ok(())
 }
 
-/// Adds the architectures and the call numbers of a row.
+/// Adds `arch ` and the architectures of a row, ` nr ` and its call numbers, and a space.
 fn push_place(text: &mut String, scope: &Scope) -> Result<(), AllocError>
     ensures { OnOk result (string_bytes text.new ≡ string_bytes text.old
         ++ place_words scope.now) }
@@ -51,7 +51,9 @@ fn push_place(text: &mut String, scope: &Scope) -> Result<(), AllocError>
     Ok(())
 }
 
-/// Adds the line of a row, by the names of calls and the words of labels.
+/// Adds the line of a row: its architectures and call numbers, the words of its labels, its other conditions, and the
+/// names that `push_row_names` gives. `names` are the sets of calls, and `words` the words of the labels, each at its
+/// label's place.
 fn push_row(
     text: &mut String,
     names: &[Names],
@@ -69,7 +71,8 @@ fn push_row(
     Ok(())
 }
 
-/// Adds a line for each row, by the names of calls and the words of labels.
+/// Adds a line for each row. `names` are the sets of calls, and `words` the words of the labels, each at its label's
+/// place.
 pub(crate) fn push_rows(
     text: &mut String,
     names: &[Names],

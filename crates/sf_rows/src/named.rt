@@ -1,4 +1,4 @@
-//! The names of the calls that a row is about, as text.
+//! The names of the calls that have a row's architecture and one of its call numbers, as text.
 
 ghost use Rattle.std.specs.Prelude.{◌≡◌, ◌++◌, OnOk, string_bytes};
 ghost use Rattle.sf_names.specs.Names.{names_words};
@@ -9,8 +9,7 @@ use crate::rows::Scope;
 use sf_names::{Names, push_names_between};
 use std::alloc::AllocError;
 
-/// The only number that spans have; none where they have several numbers or no number, or where there are several
-/// spans.
+/// The number of the only span. `None` where there isn't exactly one span, or where it hasn't exactly one number.
 fn single_number(spans: &[Span]) -> Option<u32>
     ensures { result ≡ single_number spans.now }
 {
@@ -26,7 +25,7 @@ fn single_number(spans: &[Span]) -> Option<u32>
     }
 }
 
-/// The architecture that is meant, where it is only one; none where it is several, all, or all but some.
+/// The architecture that is meant, where it is only one. `None` where several are meant, all, or all but some.
 pub(crate) fn only_arch(arch: &Option<Part>) -> Option<u32>
     ensures { result ≡ only_arch arch.now }
 {
@@ -41,7 +40,8 @@ pub(crate) fn only_arch(arch: &Option<Part>) -> Option<u32>
     }
 }
 
-/// Adds the names of the calls of an architecture whose numbers are in these spans.
+/// Adds the names of the calls of an architecture whose numbers are in these spans: ` # ` and then at most eight names
+/// with commas between them, and `..` where there are more. Adds nothing where there are none.
 fn push_names_in_spans(
     text: &mut String,
     names: &[Names],
@@ -58,8 +58,8 @@ fn push_names_in_spans(
     Ok(())
 }
 
-/// Adds the names of the calls of an architecture whose numbers are in a part; none for a rest, or where all numbers
-/// are meant.
+/// Adds the names of the calls of an architecture whose numbers are in the part `nr`, as `push_names_in_spans` does.
+/// Adds nothing for a rest, or where `nr` is `None`, since all numbers are meant.
 fn push_names_in_part(
     text: &mut String,
     names: &[Names],
@@ -80,8 +80,9 @@ fn push_names_in_part(
     }
 }
 
-/// Adds the names of the calls that a row is about. There are none where it is about several architectures, since one
-/// number stands for different calls there; and none where it is about all numbers.
+/// Adds the names of the calls that have a row's architecture and one of its call numbers, as `push_names_in_spans`
+/// does; the row's other conditions aren't looked at. Adds nothing where the row is about several architectures, since
+/// one number stands for different calls there; and nothing where it is about all numbers.
 pub(crate) fn push_row_names(
     text: &mut String,
     names: &[Names],

@@ -21,7 +21,8 @@ fn is_same(both: PartAnswers) -> bool
 impl Labelled for PartAnswers {
     ghost number = { pair_order };
 
-    /// A number by which pairs are put in order: by the old stack's answers, and then by those of the new one.
+    /// A number by which pairs are put in order: by the old stack's answers, and then by those of the new one, both as
+    /// `order_of` orders them. Since that gives numbers of 48 bits, the old stack's is multiplied by 2^48.
     fn order(self) -> u128 {
         order_of(self.older) as u128 * 0x1_0000_0000_0000 + order_of(self.newer) as u128
     }
@@ -29,7 +30,8 @@ impl Labelled for PartAnswers {
     ghost same = { same-pairs };
 }
 
-/// Adds a pair, unless its two answers are the same.
+/// Adds a pair, unless its two answers are the same. The caller's condition: the two answers of each pair in the list
+/// differ.
 fn push_changed(pairs: &mut Vec<PartAnswers>, both: PartAnswers) -> Result<(), AllocError>
     requires { All Differ pairs.old.items }
     ensures has { IfOk result (λ _. Differ both → Contains pairs.new.items both) }
@@ -45,9 +47,10 @@ fn push_changed(pairs: &mut Vec<PartAnswers>, both: PartAnswers) -> Result<(), A
     Ok(())
 }
 
-/// The pairs of answers that differ, each once, by the old stack's answers and then by those of the new one. A label is
-/// a place among them; the number of pairs is the label of two answers that are the same. An error where an allocation
-/// is refused.
+/// Those pairs whose two answers differ, each once, by the old stack's answers and then by those of the new one. The
+/// order of answers is that of `answers_of`: the action with the highest precedence comes first. A label is a place
+/// among the pairs that are returned; their number is the label of two answers that are the same. An error where an
+/// allocation is refused.
 pub fn pairs_of(alloc: Global, answers: &[PartAnswers]) -> Result<Vec<PartAnswers>, AllocError>
     ensures each { IfOk result (λ v. All (λ (p : APair). Differ p
         → Contains v.items p) answers.now) }
@@ -63,8 +66,9 @@ pub fn pairs_of(alloc: Global, answers: &[PartAnswers]) -> Result<Vec<PartAnswer
     Ok(pairs)
 }
 
-/// The label of two answers: their first place among the pairs, or the number of pairs where they are the same. The
-/// caller's conditions: if they differ, they are among the pairs; and the pairs are in order.
+/// The label of two answers: the first place of `both` among the pairs, or the number of pairs where the two answers
+/// are the same. The caller's conditions: if the two answers differ, `both` is among the pairs; and the pairs are in
+/// the order of `pairs_of`.
 fn label_of(pairs: &[PartAnswers], both: PartAnswers) -> usize
     requires there { Differ both → Contains pairs.now both }
     requires order { IsNonDecreasingBy pair_order pairs.now }
@@ -76,8 +80,9 @@ fn label_of(pairs: &[PartAnswers], both: PartAnswers) -> usize
     place_of(pairs, both)
 }
 
-/// The labels of pairs of answers, in their order. The caller's conditions: those that differ are among `pairs`, and
-/// these are in order, as `pairs_of` gives them. An error where an allocation is refused.
+/// The label of each pair in `answers`, in their order: its first place among `pairs`, or the number of `pairs` where
+/// its two answers are the same. The caller's conditions: each pair in `answers` whose two answers differ is among
+/// `pairs`, and `pairs` are in the order of `pairs_of`. An error where an allocation is refused.
 pub fn labels_of(
     alloc: Global,
     answers: &[PartAnswers],
@@ -97,7 +102,7 @@ pub fn labels_of(
     Ok(labels)
 }
 
-/// The words of two answers, with ` -> ` between them.
+/// The words of two answers, the old stack's first, with ` -> ` between them.
 fn words_of(alloc: Global, both: PartAnswers) -> Result<String, AllocError>
     ensures { IfOk result (λ text. string_bytes text ≡ pair_words both) }
 {
@@ -108,8 +113,8 @@ fn words_of(alloc: Global, both: PartAnswers) -> Result<String, AllocError>
     Ok(text)
 }
 
-/// The words of all labels: those of each pair, and last `unchanged`, for two answers that are the same. An error where
-/// an allocation is refused.
+/// The words of all labels, each at its label's place: those of each pair, and last `unchanged`, for two answers that
+/// are the same. An error where an allocation is refused.
 pub fn all_words(alloc: Global, pairs: &[PartAnswers]) -> Result<Vec<String>, AllocError>
     ensures { IfOk result (λ v. map string_bytes v.items ≡ pairs_words pairs.now) }
 {

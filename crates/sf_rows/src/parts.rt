@@ -1,4 +1,4 @@
-//! Parts of forks: the numbers that lead to the same.
+//! Parts of forks: numbers that lead to the same branch.
 
 ghost use Rattle.std.specs.Prelude.{◌≡◌, ◌<◌, ◌≤◌, ◌+◌, ◌-◌, ◌++◌, ◌∷◌, [], true, false, if◌then◌else◌, length, slice_index_or, OnOk, IfErr, IfOk};
 ghost use Rattle.sf_policy.specs.declared.fault.Fault.TheVariants.{Memory as MemoryFault};
@@ -20,12 +20,15 @@ pub(crate) struct Span {
     pub(crate) last: u32,
 }
 
-/// The numbers of a fork that lead to a branch. They are those of the spans, or, where the part is the rest, all
-/// numbers but those.
+/// Numbers of a fork that lead to one branch. They are those of the spans, or, where the part is the rest, all numbers
+/// but those.
 #[derive(Drop)]
 pub(crate) struct Part {
+    /// Where the numbers lead. It means nothing in a part that belongs to no fork.
     next: Branch,
+    /// Whether the part is the rest.
     is_rest: bool,
+    /// The spans that name the part. They are shared with its copies.
     spans: Arc<Vec<Span>>,
 }
 
@@ -75,21 +78,21 @@ impl Part {
         })
     }
 
-    /// Where its numbers lead.
+    /// Where its numbers lead. This means nothing where the part belongs to no fork.
     pub(crate) fn next(&self) -> Branch
         ensures { result ≡ self.now.next }
     {
         self.next
     }
 
-    /// Whether it is named by what it isn't.
+    /// Whether it is the rest: then its spans are the numbers that it hasn't.
     pub(crate) fn is_rest(&self) -> bool
         ensures { result ≡ self.now.is_rest }
     {
         self.is_rest
     }
 
-    /// The spans that name it.
+    /// The spans that name it: its own numbers, or, where it is the rest, all that it hasn't.
     pub(crate) fn spans(&self) -> &[Span]
         ensures { result.now ≡ self.now.spans }
     {
@@ -120,7 +123,7 @@ pub(crate) fn has_part(part: &Part, number: u32) -> bool
     }
 }
 
-/// Whether a number is one of a part. Without a part all numbers are meant.
+/// Whether a number is one of a part. `None` stands for all numbers.
 pub(crate) fn meets_part(part: &Option<Part>, number: u32) -> bool
     ensures { result ≡ meets_part part.now number }
 {
@@ -142,7 +145,7 @@ fn is_same(left: Branch, right: Branch) -> bool
 }
 
 /// Whether the last of some spans ends right below the number `first`. False where there is no span.
-fn is_touched(spans: &Vec<Span>, first: u32) -> bool
+fn ends_right_below(spans: &Vec<Span>, first: u32) -> bool
     ensures some { result ≡ true → 0 < length spans.now.items }
     ensures touched { result ≡ true → (d : ASpan)
         → (slice_index_or spans.now.items (length spans.now.items - 1) d).last + 1 ≡ first }
@@ -156,12 +159,12 @@ fn is_touched(spans: &Vec<Span>, first: u32) -> bool
     newest.last as u64 + 1 == first as u64
 }
 
-/// Adds a span behind others. Where the last of these ends right below it, that one is made to go on to its end
-/// instead.
+/// Adds a span behind others. Where the last of the others ends right below the new span, nothing is added: the two
+/// become one, which ends where the new one does.
 fn push_span(spans: &mut Vec<Span>, span: Span) -> Result<(), AllocError>
     ensures { OnOk result (spans.new.items ≡ with_span spans.old.items span) }
 {
-    if is_touched(spans, span.first) {
+    if ends_right_below(spans, span.first) {
         let count = spans.len();
         let first = spans[count - 1].first;
         let last = span.last;
@@ -215,8 +218,8 @@ fn push_named(
     Ok(())
 }
 
-/// The spans of the runs that name the part of a branch; those that touch are joined. The caller's condition: the last
-/// numbers of the runs rise.
+/// The spans of the runs that name the part of a branch, as the rest where `is_rest` is true. Spans that touch are
+/// joined. The caller's condition: the last numbers of the runs rise.
 fn spans_of(
     alloc: Global,
     runs: &[Run],
@@ -235,8 +238,8 @@ fn spans_of(
     Ok(spans)
 }
 
-/// The part that leads to a branch, as the rest or not. The caller's condition: the last numbers of the runs rise.
-/// `Memory` where an allocation is refused.
+/// The part of all numbers that lead to a branch; it is the rest where `is_rest` is true. The caller's condition: the
+/// last numbers of the runs rise. `Memory` where an allocation is refused.
 fn part_of(alloc: Global, runs: &[Run], is_rest: bool, branch: Branch) -> Result<Part, Fault>
     requires { RiseFrom 0 runs.now }
     ensures made { IfOk result (λ p. p ≡ part_to runs.now is_rest branch) }
@@ -297,7 +300,7 @@ fn push_once(branches: &mut Vec<Branch>, branch: Branch) -> Result<(), AllocErro
     Ok(())
 }
 
-/// The branches that runs lead to, each once, by their least numbers.
+/// The branches that runs lead to, each once, in the order of the first run that leads to each.
 fn branches_of(alloc: Global, runs: &[Run]) -> Result<Vec<Branch>, AllocError>
     ensures { IfOk result (λ v. v.items ≡ branches_after [] runs.now) }
 {
@@ -308,8 +311,8 @@ fn branches_of(alloc: Global, runs: &[Run]) -> Result<Vec<Branch>, AllocError>
     Ok(branches)
 }
 
-/// The branch to which most numbers lead, among a branch and others. Where several have equally many, the first of
-/// them. The caller's condition: the last numbers of the runs rise.
+/// The branch to which most numbers lead, among `branch` and `others`. Where equally many lead to several, this is the
+/// first of them; `branch` stands before `others`. The caller's condition: the last numbers of the runs rise.
 fn largest(runs: &[Run], branch: Branch, others: &[Branch]) -> Branch
     requires { RiseFrom 0 runs.now }
     ensures { result ≡ largest_of runs.now branch others.now }
@@ -326,8 +329,8 @@ fn largest(runs: &[Run], branch: Branch, others: &[Branch]) -> Branch
     largest
 }
 
-/// Adds the part that leads to a branch, unless this is `rest`, the one to which the rest leads. The caller's
-/// condition: the last numbers of the runs rise. `Memory` where an allocation is refused.
+/// Adds the part that leads to `branch`; adds nothing where this is `rest`, the branch to which the rest leads. The
+/// caller's condition: the last numbers of the runs rise. `Memory` where an allocation is refused.
 fn push_part(
     alloc: Global,
     parts: &mut Vec<Part>,
@@ -348,8 +351,8 @@ fn push_part(
     Ok(())
 }
 
-/// A part for each branch but `rest`, the one to which the rest leads. The caller's condition: the last numbers of the
-/// runs rise. `Memory` where an allocation is refused.
+/// A part for each of `branches` but `rest`, the branch to which the rest leads, in their order. The caller's
+/// condition: the last numbers of the runs rise. `Memory` where an allocation is refused.
 fn parts_without(
     alloc: Global,
     runs: &[Run],
@@ -367,8 +370,9 @@ fn parts_without(
     Ok(parts)
 }
 
-/// A part for each of some branches, the one to which most numbers lead last, as the rest. No part where there is no
-/// branch. The caller's condition: the last numbers of the runs rise. `Memory` where an allocation is refused.
+/// A part for each of some branches, in their order, except that the part with most numbers comes last, as the rest.
+/// Where several parts have equally many, this is the first of them. There is no part where there is no branch. The
+/// caller's condition: the last numbers of the runs rise. `Memory` where an allocation is refused.
 fn parts_of_branches(alloc: Global, runs: &[Run], branches: &[Branch]) -> Result<Vec<Part>, Fault>
     requires { RiseFrom 0 runs.now }
     ensures made { IfOk result (λ v. v.items ≡ parts_to runs.now branches.now) }
@@ -384,8 +388,9 @@ fn parts_of_branches(alloc: Global, runs: &[Run], branches: &[Branch]) -> Result
     Ok(parts)
 }
 
-/// The parts of a fork, in the order of their least numbers. Only the rest, which is the part with most numbers, stands
-/// last. The caller's condition: the last numbers of the runs rise. `Memory` where an allocation is refused.
+/// The parts of the fork with these runs. The part with most numbers comes last, as the rest; where several have as
+/// many, this is the one with the least number. The others stand in the order of their least numbers. The caller's
+/// condition: the last numbers of the runs rise. `Memory` where an allocation is refused.
 pub(crate) fn parts_of(alloc: Global, runs: &[Run]) -> Result<Vec<Part>, Fault>
     requires { RiseFrom 0 runs.now }
     ensures made { IfOk result (λ v. v.items ≡ fork_parts runs.now) }
@@ -411,8 +416,8 @@ fn part_of_run(alloc: Global, first: u64, run: Run) -> Result<Part, Fault>
     Part::of(alloc, run.next, false, spans)
 }
 
-/// Each run of a fork as a part. The caller's condition: the last numbers of the runs rise. `Memory` where an
-/// allocation is refused.
+/// Each run of a fork as a part, in their order. Several of these may lead to one branch, and none is the rest. The
+/// caller's condition: the last numbers of the runs rise. `Memory` where an allocation is refused.
 pub(crate) fn runs_apart(alloc: Global, runs: &[Run]) -> Result<Vec<Part>, Fault>
     requires { RiseFrom 0 runs.now }
     ensures made { IfOk result (λ v. v.items ≡ run_parts 0 runs.now) }

@@ -16,7 +16,9 @@ use std::marker::Model;
 /// A condition of a row: the numbers of its inputs on an axis lie in a part.
 #[derive(Drop)]
 pub(crate) struct Condition {
+    /// The axis.
     axis: Axis,
+    /// The part in which the numbers on the axis lie.
     part: Part,
 }
 
@@ -57,7 +59,7 @@ impl Condition {
         self.axis.word == 0 || self.axis.word == 1
     }
 
-    /// A copy, which shares the part. `Memory` where the part has too many owners.
+    /// A copy, which shares the spans of the part. `Memory` where these have too many owners.
     fn try_clone(&self) -> Result<Condition, Fault>
         ensures same { IfOk result (λ c. c ≡ self.now) }
         ensures refused { IfErr result (λ e. e ≡ MemoryFault) }
@@ -68,12 +70,14 @@ impl Condition {
     }
 }
 
-/// Which inputs a row is about: the architectures and the call numbers that they have, where not all are meant, and
-/// further conditions.
+/// Which inputs a row is about: those with these architectures and these call numbers that meet the other conditions.
 #[derive(Drop)]
 pub(crate) struct Scope {
+    /// The architectures; `None` where all are meant.
     arch: Option<Part>,
+    /// The call numbers; `None` where all are meant.
     nr: Option<Part>,
+    /// The other conditions. Some of these may be on the architecture or the call number too, as those under a mask.
     conditions: Vec<Condition>,
 }
 
@@ -103,7 +107,8 @@ pub(crate) fn clone_part(part: &Option<Part>) -> Result<Option<Part>, Fault>
     }
 }
 
-/// Copies of conditions. `Memory` where an allocation is refused.
+/// Copies of conditions, in their order. `Memory` where an allocation is refused, or where a part's spans have too many
+/// owners.
 pub(crate) fn clone_conditions(
     alloc: Global,
     conditions: &[Condition],
@@ -140,8 +145,8 @@ impl Scope {
         }
     }
 
-    /// The scope of the inputs with these architectures and call numbers, where not all are meant, that meet the
-    /// further conditions.
+    /// The scope of the inputs with these architectures and call numbers that meet the other conditions. `None` stands
+    /// for all architectures, or for all call numbers.
     pub(crate) fn of(arch: Option<Part>, nr: Option<Part>, conditions: Vec<Condition>) -> Scope
         ensures { result ≡ record { arch = arch; nr = nr; conditions = conditions.items } }
     {
@@ -166,14 +171,14 @@ impl Scope {
         &self.nr
     }
 
-    /// The further conditions.
+    /// The other conditions. Some of these may be on the architecture or the call number too.
     pub(crate) fn conditions(&self) -> &[Condition]
         ensures { result.now ≡ self.now.conditions }
     {
         self.conditions.as_slice()
     }
 
-    /// A copy. `Memory` where an allocation is refused.
+    /// A copy. `Memory` where an allocation is refused, or where a part's spans have too many owners.
     pub(crate) fn try_clone(&self, alloc: Global) -> Result<Scope, Fault>
         ensures same { IfOk result (λ p. p ≡ self.now) }
         ensures refused { IfErr result (λ e. e ≡ MemoryFault) }
@@ -188,9 +193,10 @@ impl Scope {
         })
     }
 
-    /// Leaves only inputs with their numbers in a part of an axis. The first part of the architecture's word and of the
-    /// call number's, taken whole, have places of their own; each other one becomes a condition. `Memory` where an
-    /// allocation is refused.
+    /// Leaves only those inputs whose numbers on an axis lie in a part. Where the axis is the whole word of the
+    /// architecture or of the call number, and the scope has no part of it yet, the part becomes that of the
+    /// architectures or of the call numbers. Else it becomes one more condition. `Memory` where an allocation is
+    /// refused.
     fn narrow(&mut self, axis: Axis, part: Part) -> Result<(), Fault>
         ensures within { IfOk result (λ _. self.new ≡ scope_within self.old axis part) }
         ensures refused { IfErr result (λ e. e ≡ MemoryFault) }
@@ -209,7 +215,9 @@ impl Scope {
 /// A row: which inputs it is about, and the labels of its answers.
 #[derive(Drop)]
 pub struct Row {
+    /// Which inputs the row is about.
     scope: Scope,
+    /// The labels of the leaf at which these inputs lie, in rising order.
     labels: Vec<usize>,
 }
 
@@ -222,14 +230,14 @@ impl Model for Row {
 }
 
 impl Row {
-    /// Which inputs it is about.
+    /// Which inputs the row is about.
     pub(crate) fn scope(&self) -> &Scope
         ensures { result.now ≡ self.now.scope }
     {
         &self.scope
     }
 
-    /// The labels of its answers.
+    /// The labels of the row's answers, or of its pairs of answers where two stacks are compared.
     pub fn labels(&self) -> &[usize]
         ensures { result.now ≡ self.now.labels }
     {
@@ -237,8 +245,9 @@ impl Row {
     }
 }
 
-/// The parts of a fork; in a fork on call numbers each run is a part by itself. The caller's condition: the last
-/// numbers of the fork's runs rise. `Memory` where an allocation is refused.
+/// The parts of a fork, as `parts_of` gives them. In a fork on the whole word of the call number each run is a part by
+/// itself, so none is the rest. The caller's condition: the last numbers of the fork's runs rise. `Memory` where an
+/// allocation is refused.
 fn parts_in(alloc: Global, fork: &Fork) -> Result<Vec<Part>, Fault>
     requires { RiseFrom 0 fork.now.runs }
     ensures made { IfOk result (λ v. v.items ≡ parts_at fork.now) }
@@ -250,7 +259,7 @@ fn parts_in(alloc: Global, fork: &Fork) -> Result<Vec<Part>, Fault>
     parts_of(alloc, fork.runs())
 }
 
-/// Adds a row with a scope and labels. `Memory` where an allocation is refused.
+/// Adds a row with this scope and a copy of the labels. `Memory` where an allocation is refused.
 pub(crate) fn push_scope(
     alloc: Global,
     rows: &mut Vec<Row>,
@@ -266,7 +275,8 @@ pub(crate) fn push_scope(
     Ok(())
 }
 
-/// Adds the row of a leaf. `Memory` where an allocation is refused.
+/// Adds the row of a leaf with these labels: a row with copies of the scope and of the labels. `Memory` where an
+/// allocation is refused, or where a part's spans have too many owners.
 fn push_row(
     alloc: Global,
     rows: &mut Vec<Row>,
@@ -281,7 +291,8 @@ fn push_row(
     push_scope(alloc, rows, labels, scope)
 }
 
-/// Those inputs of a scope that have their numbers in a part of an axis. `Memory` where an allocation is refused.
+/// The scope of those inputs of a scope whose numbers on an axis lie in a part. `Memory` where an allocation is
+/// refused, or where a part's spans have too many owners.
 fn scope_with(alloc: Global, scope: &Scope, axis: Axis, part: &Part) -> Result<Scope, Fault>
     ensures within { IfOk result (λ p. p ≡ scope_within scope.now axis part.now) }
     ensures refused { IfErr result (λ e. e ≡ MemoryFault) }
@@ -292,9 +303,10 @@ fn scope_with(alloc: Global, scope: &Scope, axis: Axis, part: &Part) -> Result<S
     Ok(narrower)
 }
 
-/// Adds the rows of the inputs in a scope, from a branch on: one for each way to a leaf. The caller's conditions: the
-/// branch is a leaf, or a fork at a place below `most`, which is at most the number of forks. `Memory` where an
-/// allocation is refused.
+/// Adds the rows of the inputs in a scope, from a branch on: one for each way through parts to a leaf. The caller's
+/// conditions: the branch is a leaf of the picture, or a fork at a place below `most`, which is at most the number of
+/// forks. Each fork leads only to leaves and to forks at lower places, so `most` falls with each step, and the steps
+/// end. `Memory` where an allocation is refused, or where a part's spans have too many owners.
 fn push_rows(
     alloc: Global,
     rows: &mut Vec<Row>,
@@ -323,7 +335,7 @@ fn push_rows(
     Ok(())
 }
 
-/// All rows of a picture. `Memory` where an allocation is refused.
+/// All rows of a picture. `Memory` where an allocation is refused, or where a part's spans have too many owners.
 pub(crate) fn all_rows(alloc: Global, picture: &Picture) -> Result<Vec<Row>, Fault>
     ensures all { IfOk result (λ v. v.items ≡ rows_of picture.now) }
     ensures refused { IfErr result (λ e. e ≡ MemoryFault) }
@@ -335,7 +347,8 @@ pub(crate) fn all_rows(alloc: Global, picture: &Picture) -> Result<Vec<Row>, Fau
     Ok(rows)
 }
 
-/// The rows that are listed: all rows of a picture, if there is one. `Memory` where an allocation is refused.
+/// The rows that are listed: all rows of the picture, or no row where there is none. `Memory` where an allocation is
+/// refused, or where a part's spans have too many owners.
 pub fn rows_in(alloc: Global, picture: Option<&Picture>) -> Result<Vec<Row>, Fault>
     ensures all { IfOk result (λ v. v.items ≡ listed_rows
         (option_map (λ p. p.now) picture.entry)) }

@@ -8,7 +8,8 @@ use crate::parts::Span;
 use sf_names::{Call, Names};
 use std::alloc::{AllocError, Global};
 
-/// Adds a span without a number: what lies below the number, and what lies above it, each where there is something.
+/// Adds a span without a number: what of it lies below the number, and what of it lies above, each as a span if there
+/// is something.
 fn push_without(spans: &mut Vec<Span>, number: u32, span: Span) -> Result<(), AllocError>
     ensures { OnOk result (spans.new.items ≡ spans.old.items ++ span_without number span) }
 {
@@ -66,7 +67,7 @@ fn without_calls(alloc: Global, calls: &[Call], spans: Vec<Span>) -> Result<Vec<
     Ok(left)
 }
 
-/// Spans without the numbers of the calls of a set, if this is one of the architecture.
+/// Spans without the numbers of the calls of a set, if it is a set of this architecture; else the spans as they are.
 fn without_set(
     alloc: Global,
     names: &Names,
@@ -83,7 +84,8 @@ fn without_set(
     Ok(spans)
 }
 
-/// The numbers of an architecture that no call with a name has, as spans. An error where an allocation is refused.
+/// The numbers that no call of the sets of an architecture has, as spans in rising order. Where no set is one of the
+/// architecture, these are all numbers. An error where an allocation is refused.
 pub(crate) fn gaps_of(alloc: Global, sets: &[Names], arch: u32) -> Result<Vec<Span>, AllocError>
     ensures { IfOk result (λ v. v.items ≡ gaps_of sets.now arch) }
 {
@@ -110,7 +112,7 @@ fn push_meet(spans: &mut Vec<Span>, one: Span, other: Span) -> Result<(), AllocE
     Ok(())
 }
 
-/// The numbers that spans share with one span.
+/// The numbers that spans share with `one`, as spans, in the order of `spans`.
 pub(crate) fn spans_within(
     alloc: Global,
     one: Span,

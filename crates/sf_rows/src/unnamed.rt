@@ -17,7 +17,9 @@ use std::marker::Model;
 /// An architecture, and the call numbers that no call with a name has there.
 #[derive(Drop)]
 struct Gaps {
+    /// The architecture.
     arch: u32,
+    /// The call numbers, as spans in rising order.
     gaps: Vec<Span>,
 }
 
@@ -53,7 +55,7 @@ fn push_once(numbers: &mut Vec<u32>, number: u32) -> Result<(), AllocError>
     Ok(())
 }
 
-/// The architectures of sets, each once, in their order.
+/// The architectures of sets, each once, in the order of the first set of each.
 fn archs_of(alloc: Global, sets: &[Names]) -> Result<Vec<u32>, AllocError>
     ensures { IfOk result (λ v. v.items ≡ archs_after [] sets.now) }
 {
@@ -105,8 +107,7 @@ fn part_of_span(alloc: Global, span: Span) -> Result<Part, Fault>
     part_of(alloc, false, spans)
 }
 
-/// The only span of a part of call numbers, which is a run of a fork. None for a rest, or where there are several
-/// spans.
+/// The run that a part of call numbers is: its only span. `None` for a rest, or where there isn't exactly one span.
 fn run_of(part: &Part) -> Option<Span>
     ensures { result ≡ run_of part.now }
 {
@@ -119,7 +120,8 @@ fn run_of(part: &Part) -> Option<Span>
     }
 }
 
-/// The numbers that spans share with a run; all of theirs where there is none. `Memory` where an allocation is refused.
+/// The numbers that spans share with a run, as spans; the spans as they are where `run` is `None`. An error where an
+/// allocation is refused.
 fn within_run(alloc: Global, run: Option<Span>, spans: &[Span]) -> Result<Vec<Span>, AllocError>
     ensures { IfOk result (λ v. v.items ≡ within_run run spans.now) }
 {
@@ -129,8 +131,8 @@ fn within_run(alloc: Global, run: Option<Span>, spans: &[Span]) -> Result<Vec<Sp
     }
 }
 
-/// The numbers that spans share with a row's run of call numbers; all of theirs where it has none. An error where an
-/// allocation is refused.
+/// The numbers that spans share with a row's call numbers, if these are one run. The spans as they are where all call
+/// numbers are meant (`nr` is `None`), or where they aren't one run. An error where an allocation is refused.
 fn within_nr(alloc: Global, nr: &Option<Part>, spans: &[Span]) -> Result<Vec<Span>, AllocError>
     ensures { IfOk result (λ v. v.items ≡ within_nr nr.now spans.now) }
 {
@@ -140,8 +142,9 @@ fn within_nr(alloc: Global, nr: &Option<Part>, spans: &[Span]) -> Result<Vec<Spa
     }
 }
 
-/// Adds a part of call numbers as a condition, if it isn't one run: `within_nr` then doesn't cut spans down to it.
-/// `Memory` where an allocation is refused.
+/// Adds a part of call numbers as a condition, if it isn't one run: `within_nr` then doesn't cut spans down to it. Adds
+/// nothing where `nr` is `None`. `Memory` where an allocation is refused, or where the part's spans have too many
+/// owners.
 fn push_kept(conditions: &mut Vec<Condition>, nr: &Option<Part>) -> Result<(), Fault>
     ensures added { IfOk result (λ _. conditions.new.items
         ≡ conditions.old.items ++ kept_nr nr.now) }
@@ -160,7 +163,10 @@ fn push_kept(conditions: &mut Vec<Condition>, nr: &Option<Part>) -> Result<(), F
     Ok(())
 }
 
-/// Adds a row's inputs of an architecture with these call numbers. `Memory` where an allocation is refused.
+/// Adds a row as it is, but with this architecture and with the numbers of `span` as its call numbers. A part of call
+/// numbers that isn't one run stays as a condition. The new row has only inputs of the old one, since each caller
+/// sees to two things: the row is about the architecture, and `span` lies in its run of call numbers, if it has one.
+/// `Memory` where an allocation is refused, or where a part's spans have too many owners.
 fn push_row_at(
     alloc: Global,
     rows: &mut Vec<Row>,
@@ -184,7 +190,8 @@ fn push_row_at(
     push_scope(alloc, rows, row.labels(), Scope::of(arch, nr, conditions))
 }
 
-/// Adds a row's inputs of an architecture with call numbers of these spans. `Memory` where an allocation is refused.
+/// Adds, for each of these spans, the row that `push_row_at` adds; the caller sees to the same two things. `Memory`
+/// where an allocation is refused, or where a part's spans have too many owners.
 fn push_rows_in(
     alloc: Global,
     rows: &mut Vec<Row>,
@@ -202,8 +209,8 @@ fn push_rows_in(
     Ok(())
 }
 
-/// Adds rows for those inputs of a row that have the architecture of gaps and call numbers in them. `Memory` where an
-/// allocation is refused.
+/// Adds rows for those inputs of a row that have the architecture of `gaps` and a call number in these gaps. `Memory`
+/// where an allocation is refused, or where a part's spans have too many owners.
 fn push_rows_at(alloc: Global, rows: &mut Vec<Row>, row: &Row, gaps: &Gaps) -> Result<(), Fault>
     ensures added { IfOk result (λ _. rows.new.items
         ≡ rows.old.items ++ rows_at row.now gaps.now) }
@@ -216,8 +223,9 @@ fn push_rows_at(alloc: Global, rows: &mut Vec<Row>, row: &Row, gaps: &Gaps) -> R
     Ok(())
 }
 
-/// Adds rows for those inputs of a row that have an architecture of the gaps and belong to no call with a name there.
-/// `Memory` where an allocation is refused.
+/// Adds rows for those inputs of a row that have an architecture of the gaps and belong to no call with a name there:
+/// architecture after architecture. `Memory` where an allocation is refused, or where a part's spans have too many
+/// owners.
 fn push_rows_at_all(
     alloc: Global,
     rows: &mut Vec<Row>,
@@ -234,7 +242,7 @@ fn push_rows_at_all(
     Ok(())
 }
 
-/// Adds the architecture of gaps, if a row is about it whose architectures are this part (all, where it is none).
+/// Adds the architecture of gaps, if it is one of a row's architectures. These are `part`; `None` stands for all.
 fn push_if_met(archs: &mut Vec<u32>, part: &Option<Part>, gaps: &Gaps) -> Result<(), AllocError>
     ensures { OnOk result (archs.new.items ≡ archs.old.items ++ arch_if_met part.now gaps.now) }
 {
@@ -244,7 +252,8 @@ fn push_if_met(archs: &mut Vec<u32>, part: &Option<Part>, gaps: &Gaps) -> Result
     Ok(())
 }
 
-/// The architectures of gaps that a row is about whose architectures are this part (all, where it is none).
+/// Those architectures of gaps that are among a row's architectures, in the order of the gaps. The row's architectures
+/// are `part`; `None` stands for all.
 fn archs_met(alloc: Global, part: &Option<Part>, all: &[Gaps]) -> Result<Vec<u32>, AllocError>
     ensures { IfOk result (λ v. v.items ≡ archs_met part.now all.now) }
 {
@@ -255,7 +264,8 @@ fn archs_met(alloc: Global, part: &Option<Part>, all: &[Gaps]) -> Result<Vec<u32
     Ok(archs)
 }
 
-/// Adds a row as it is, but with this part as its architectures. `Memory` where an allocation is refused.
+/// Adds a row as it is, but with this part as its architectures. `Memory` where an allocation is refused, or where a
+/// part's spans have too many owners.
 fn push_with_arch(alloc: Global, rows: &mut Vec<Row>, row: &Row, part: Part) -> Result<(), Fault>
     ensures added { IfOk result (λ _. rows.new.items
         ≡ rows.old.items ++ with_arch row.now part ∷ []) }
@@ -272,8 +282,8 @@ fn push_with_arch(alloc: Global, rows: &mut Vec<Row>, row: &Row, part: Part) -> 
     )
 }
 
-/// Adds a row about the architectures of some spans; none where there are none. `Memory` where an allocation is
-/// refused.
+/// Adds a row as it is, but with the numbers of these spans as its architectures. Adds nothing where there is no span.
+/// `Memory` where an allocation is refused, or where a part's spans have too many owners.
 fn push_row_on(alloc: Global, rows: &mut Vec<Row>, row: &Row, spans: Vec<Span>) -> Result<(), Fault>
     ensures added { IfOk result (λ _. rows.new.items
         ≡ rows.old.items ++ row_on row.now spans.items) }
@@ -286,8 +296,9 @@ fn push_row_on(alloc: Global, rows: &mut Vec<Row>, row: &Row, spans: Vec<Span>) 
     push_with_arch(alloc, rows, row, part)
 }
 
-/// Adds a row's inputs of other architectures than these and those of some spans. `Memory` where an allocation is
-/// refused.
+/// Adds a row as it is, but with all architectures except `archs` and the numbers of `spans`. The new row has only
+/// inputs of the old one, since each caller sees to it that the row is about all architectures except the numbers of
+/// `spans`. `Memory` where an allocation is refused, or where a part's spans have too many owners.
 fn push_row_but(
     alloc: Global,
     rows: &mut Vec<Row>,
@@ -305,8 +316,9 @@ fn push_row_but(
     push_with_arch(alloc, rows, row, part)
 }
 
-/// Adds a row's inputs of other architectures than these. Where the row's own architectures are all or a rest, the new
-/// part is a rest too; else it is the row's spans without these numbers. `Memory` where an allocation is refused.
+/// Adds a row for those inputs of a row that have other architectures than `archs`. Where the row is about all
+/// architectures or a rest, the new part is a rest too. Else it is the row's spans without these numbers, and nothing
+/// is added where none is left. `Memory` where an allocation is refused, or where a part's spans have too many owners.
 fn push_beyond(alloc: Global, rows: &mut Vec<Row>, row: &Row, archs: &[u32]) -> Result<(), Fault>
     ensures added { IfOk result (λ _. rows.new.items
         ≡ rows.old.items ++ rows_beyond row.now archs.now row.now.scope.arch) }
@@ -323,8 +335,9 @@ fn push_beyond(alloc: Global, rows: &mut Vec<Row>, row: &Row, archs: &[u32]) -> 
     push_row_on(alloc, rows, row, left)
 }
 
-/// Adds a row's inputs of other architectures than these, which are those of the sets that it is about. Where it is
-/// about none of them, the whole row is added. `Memory` where an allocation is refused.
+/// Adds a row for those inputs of a row whose architecture isn't one of the sets' architectures. `archs` are those of
+/// the sets' architectures that the row is about; where there are none, the row is added as it is. `Memory` where an
+/// allocation is refused, or where a part's spans have too many owners.
 fn push_elsewhere(alloc: Global, rows: &mut Vec<Row>, row: &Row, archs: &[u32]) -> Result<(), Fault>
     ensures added { IfOk result (λ _. rows.new.items
         ≡ rows.old.items ++ rows_elsewhere row.now archs.now) }
@@ -337,7 +350,9 @@ fn push_elsewhere(alloc: Global, rows: &mut Vec<Row>, row: &Row, archs: &[u32]) 
     push_beyond(alloc, rows, row, archs)
 }
 
-/// Adds a row's inputs that belong to no call with a name. `Memory` where an allocation is refused.
+/// Adds rows for those inputs of a row that belong to no call with a name: first those of each architecture in `all`,
+/// and then those of all other architectures. `all` are the gaps that `all_gaps` gives. `Memory` where an allocation is
+/// refused, or where a part's spans have too many owners.
 fn push_unnamed(alloc: Global, rows: &mut Vec<Row>, row: &Row, all: &[Gaps]) -> Result<(), Fault>
     ensures added { IfOk result (λ _. rows.new.items
         ≡ rows.old.items ++ unnamed_of all.now row.now) }
@@ -348,8 +363,10 @@ fn push_unnamed(alloc: Global, rows: &mut Vec<Row>, row: &Row, all: &[Gaps]) -> 
     push_elsewhere(alloc, rows, row, archs.as_slice())
 }
 
-/// Rows, cut down to the inputs that belong to no call with a name: each row is parted by the architectures of the
-/// sets, and for each of these by the runs of numbers that no call has. `Memory` where an allocation is refused.
+/// Rows, each cut down to the inputs that belong to no call with a name. In the place of a row come the rows of these
+/// inputs. For each of the sets' architectures that the row is about, there is one for each span of its call numbers
+/// that no call has there. One more is for the row's other architectures, if it has any. `Memory` where an allocation
+/// is refused, or where a part's spans have too many owners.
 pub(crate) fn unnamed_rows(alloc: Global, sets: &[Names], rows: &[Row]) -> Result<Vec<Row>, Fault>
     ensures all { IfOk result (λ v. v.items ≡ unnamed_rows sets.now rows.now) }
     ensures refused { IfErr result (λ e. e ≡ MemoryFault) }

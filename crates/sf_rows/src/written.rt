@@ -21,8 +21,9 @@ pub struct Lines {
     pub undetermined: usize,
 }
 
-/// The rows that are shown beside those of calls. Where no call is asked for by its name, these are the rows of the
-/// inputs that belong to no call with a name; else there are none. `Memory` where an allocation is refused.
+/// The rows that are shown beside those of calls. Where `wanted` is empty, these are the rows of the inputs that belong
+/// to no call with a name. Where it has the names of calls, there are none. `Memory` where an allocation is refused, or
+/// where a part's spans have too many owners.
 pub(crate) fn other_rows(
     alloc: Global,
     sets: &[Names],
@@ -39,8 +40,10 @@ pub(crate) fn other_rows(
     Ok(Vec::new(alloc))
 }
 
-/// Adds the lines of the calls in `wanted`. Where it is empty, adds the lines of all calls, and then those of the
-/// inputs that belong to no call with a name. `Memory` where an allocation is refused.
+/// Adds the lines of the calls whose names are in `wanted`. Where it is empty, adds the lines of all calls, and then
+/// those of the inputs that belong to no call with a name. Returns how many lines were added, and how many of these
+/// have several labels. `Memory` where an allocation is refused, or where a part's spans have too many owners; some
+/// lines may have been added then.
 fn push_calls(
     alloc: Global,
     text: &mut String,
@@ -68,10 +71,11 @@ fn push_calls(
     })
 }
 
-/// Adds the lines of rows, by the sets of calls and the words of labels. Without `calls` these are a line for each row.
-/// Where `calls` names some, they are the lines of these calls. Where it names none, they are the lines of all calls,
-/// and then those of the inputs that belong to no call with a name. Returns how many lines were added. `Memory` where
-/// an allocation is refused.
+/// Adds the lines of rows. `sets` give the names of calls, and `words` are the words of the labels, each at its label's
+/// place. Without `calls` there is a line for each row. Where `calls` names some, the lines are those of these calls.
+/// Where it names none, they are the lines of all calls, and then those of the inputs that belong to no call with a
+/// name. Returns how many lines were added, and how many of these have several labels. `Memory` where an allocation is
+/// refused, or where a part's spans have too many owners; some lines may have been added then.
 pub fn push_lines(
     alloc: Global,
     text: &mut String,

@@ -10,8 +10,12 @@ use crate::rows::Condition;
 use sf_json::{Document, Fields};
 use std::alloc::{AllocError, Global};
 
-/// Conditions on other words than the call's number and its architecture, one by one.
-fn further_documents(alloc: Global, conditions: &[Condition]) -> Result<Vec<Document>, AllocError>
+/// Those of the conditions that are on other words than the call's number and its architecture, each as a text, in
+/// their order.
+fn condition_documents_beyond_call(
+    alloc: Global,
+    conditions: &[Condition],
+) -> Result<Vec<Document>, AllocError>
     ensures { IfOk result (λ v. map view v.items
         ≡ map condition_document (further_of conditions.now)) }
 {
@@ -25,7 +29,9 @@ fn further_documents(alloc: Global, conditions: &[Condition]) -> Result<Vec<Docu
     Ok(documents)
 }
 
-/// A row of a call.
+/// A row of a call as an object: `set` and `call` are the names of the call's set and of the call, `conditions` the
+/// row's conditions on other words than the call's number and its architecture, and `answers` what the row's labels
+/// stand for. The parameter `answers` has what each label stands for at the label's place.
 fn call_row_document(
     alloc: Global,
     answers: &[Document],
@@ -34,7 +40,7 @@ fn call_row_document(
     ensures { IfOk result (λ d. view d ≡ call_row_document (map view answers.now) row.now) }
 {
     let labels = label_documents(alloc, answers, row.row().labels())?;
-    let conditions = further_documents(alloc, row.row().scope().conditions())?;
+    let conditions = condition_documents_beyond_call(alloc, row.row().scope().conditions())?;
     let fields = Fields::new(alloc)
         .with("set", Document::copy_of(alloc, row.set())?)?
         .with("call", Document::copy_of(alloc, row.name())?)?
@@ -43,7 +49,8 @@ fn call_row_document(
     Ok(Document::object(fields))
 }
 
-/// Rows of calls, one by one. An error where an allocation is refused.
+/// Rows of calls, each as an object, in their order. `answers` are what labels stand for, each at its label's place. An
+/// error where an allocation is refused.
 pub(super) fn call_row_documents(
     alloc: Global,
     answers: &[Document],

@@ -1,4 +1,4 @@
-//! The names of the calls that a row is about, as JSON.
+//! The names of the calls that have a row's architecture and one of its call numbers, as JSON.
 
 ghost use Rattle.std.specs.Prelude.{◌≡◌, ◌++◌, map, OnOk, IfOk};
 ghost use Rattle.std.specs.List.{flat_map};
@@ -64,7 +64,7 @@ fn push_set(
     push_calls(alloc, documents, names.calls(), span)
 }
 
-/// Adds the names of the calls of an architecture whose numbers are in a span.
+/// Adds, set after set, the names of the calls of an architecture whose numbers are in a span.
 fn push_span(
     alloc: Global,
     documents: &mut Vec<Document>,
@@ -81,7 +81,7 @@ fn push_span(
     Ok(())
 }
 
-/// The names of the calls of an architecture whose numbers are in these spans.
+/// The names of the calls of an architecture whose numbers are in these spans, span after span, each as a text.
 fn names_in_spans(
     alloc: Global,
     sets: &[Names],
@@ -98,8 +98,8 @@ fn names_in_spans(
     Ok(documents)
 }
 
-/// The names of the calls of an architecture whose numbers are in a part; none for a rest, or where all numbers are
-/// meant.
+/// The names of the calls of an architecture whose numbers are in the part `nr`, each as a text. There are none for a
+/// rest, or where `nr` is `None`, since all numbers are meant.
 fn names_in_part(
     alloc: Global,
     sets: &[Names],
@@ -120,7 +120,8 @@ fn names_in_part(
     }
 }
 
-/// The names of the calls that a row is about, one by one.
+/// The names of the calls that have a row's architecture and one of its call numbers, each as a text; the row's other
+/// conditions aren't looked at. There are none where the row is about several architectures, or about all numbers.
 fn row_names(alloc: Global, sets: &[Names], scope: &Scope) -> Result<Vec<Document>, AllocError>
     ensures { IfOk result (λ v. map view v.items ≡ map string (row_names sets.now scope.now)) }
 {
@@ -130,7 +131,7 @@ fn row_names(alloc: Global, sets: &[Names], scope: &Scope) -> Result<Vec<Documen
     }
 }
 
-/// The names of the calls that a row is about. An error where an allocation is refused.
+/// The array of the names that `row_names` gives for a row with this scope. An error where an allocation is refused.
 pub(super) fn names_document(
     alloc: Global,
     sets: &[Names],

@@ -13,7 +13,7 @@ use sf_json::{Document, Fields};
 use sf_names::Names;
 use std::alloc::{AllocError, Global};
 
-/// The architectures; `null` where all are meant.
+/// The architectures of a row as a text, as `push_arch` writes them; `null` where all are meant.
 fn arch_document(alloc: Global, arch: &Option<Part>) -> Result<Document, AllocError>
     ensures { IfOk result (λ d. view d ≡ arch_document arch.now) }
 {
@@ -25,7 +25,8 @@ fn arch_document(alloc: Global, arch: &Option<Part>) -> Result<Document, AllocEr
     Ok(Document::text(text))
 }
 
-/// The call numbers; `null` where all are meant.
+/// The call numbers of a row as a text, as `push_nr` writes them; `null` where all are meant. Their part is never a
+/// rest.
 fn nr_document(alloc: Global, nr: &Option<Part>) -> Result<Document, AllocError>
     ensures { IfOk result (λ d. view d ≡ nr_document nr.now) }
 {
@@ -37,7 +38,7 @@ fn nr_document(alloc: Global, nr: &Option<Part>) -> Result<Document, AllocError>
     Ok(Document::text(text))
 }
 
-/// A condition.
+/// A condition as a text, as `push_condition` writes it. An error where an allocation is refused.
 pub(super) fn condition_document(
     alloc: Global,
     condition: &Condition,
@@ -49,7 +50,7 @@ pub(super) fn condition_document(
     Ok(Document::text(text))
 }
 
-/// Conditions, one by one.
+/// Conditions, each as a text, in their order.
 fn condition_documents(alloc: Global, conditions: &[Condition]) -> Result<Vec<Document>, AllocError>
     ensures { IfOk result (λ v. map view v.items ≡ map condition_document conditions.now) }
 {
@@ -60,7 +61,8 @@ fn condition_documents(alloc: Global, conditions: &[Condition]) -> Result<Vec<Do
     Ok(documents)
 }
 
-/// What a label stands for; `null` where it stands for no answer.
+/// What a label stands for: a copy of what stands at its place in `answers`; `null` where the label is behind all
+/// places, as that of two answers that are the same is.
 fn label_document(answers: &[Document], label: usize) -> Result<Document, AllocError>
     ensures { IfOk result (λ d. view d ≡ label_document (map view answers.now) label) }
 {
@@ -70,7 +72,8 @@ fn label_document(answers: &[Document], label: usize) -> Result<Document, AllocE
     }
 }
 
-/// What labels stand for, one by one.
+/// What each of some labels stands for, in their order, as `label_document` gives it. An error where an allocation is
+/// refused.
 pub(super) fn label_documents(
     alloc: Global,
     answers: &[Document],
@@ -86,7 +89,9 @@ pub(super) fn label_documents(
     Ok(documents)
 }
 
-/// A row.
+/// A row as an object: `arch` and `nr` are its architectures and call numbers, `conditions` its other conditions,
+/// `answers` what its labels stand for, and `calls` the names that `row_names` gives. The parameter `answers` has what
+/// each label stands for at the label's place.
 fn row_document(
     alloc: Global,
     sets: &[Names],
@@ -107,7 +112,8 @@ fn row_document(
     Ok(Document::object(fields))
 }
 
-/// Rows, one by one. An error where an allocation is refused.
+/// Rows, each as an object, in their order. `sets` give the names of calls, and `answers` are what labels stand for,
+/// each at its label's place. An error where an allocation is refused.
 pub(super) fn row_documents(
     alloc: Global,
     sets: &[Names],

@@ -1,6 +1,6 @@
 use Rattle.std.proofs.Common.{[], ◌∷◌, arith, refl, string_bytes}
 use Rattle.sf_rows.proofs.TextLemmas.{further_more}
-use Rattle.sf_rows.proofs.conditions.push_further.Goals as goal
+use Rattle.sf_rows.proofs.conditions.push_conditions_beyond_call.Goals as goal
 
 pub loop-condition-preserved : goal.loop-condition-preserved
 unfolding lib.Utf8.encode

@@ -3,7 +3,7 @@ use denote.Text.{Utf8}
 use Rattle.std.proofs.Common.{◌≡◌, ◌++◌, drop, string_bytes}
 use Rattle.std.specs.Prelude.{codes}
 use Rattle.sf_rows.specs.Calls.{further_words}
-use Rattle.sf_rows.proofs.conditions.push_further.Given as goal
+use Rattle.sf_rows.proofs.conditions.push_conditions_beyond_call.Given as goal
 
 abbrev pub invariant-loop-condition : goal.invariant-loop-condition
 invariant-loop-condition l = record {
