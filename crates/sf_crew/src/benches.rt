@@ -17,7 +17,7 @@ pub use history::{Event, HandleView};
 use history::{AddingThief, Getting, Putting};
 use std::alloc::{AllocError, Global};
 
-/// How many items a new bench has room for. It makes more room where it needs it.
+/// How many items a new bench has room for. A bench makes more room where it needs it.
 const ROOM: usize = 64;
 
 /// A new bench without items: its owner, and this many thieves, 0 to 63. `Memory` where an allocation is refused.
@@ -43,8 +43,8 @@ fn open_bench<T: Drop>(alloc: Global) -> Result<Owner<T>, Fault>
     })
 }
 
-/// Makes the thieves of a bench, this many. `Memory` where an allocation is refused. The caller's conditions: the bench
-/// has no thief yet, nothing was put on it, and fewer than 64 thieves are asked for.
+/// Makes this many thieves of a bench. `Memory` where an allocation is refused. The caller's conditions: the bench has
+/// no thief yet, nothing was put on it, and fewer than 64 thieves are asked for.
 fn make_thieves<T: Drop>(
     alloc: Global,
     owner: &mut Owner<T>,
@@ -93,9 +93,9 @@ impl<T> Owner<T> {
     }
 
     /// Takes the first item that no handle has got, at one moment of the call. `None` where each item that was put had
-    /// been got, by this handle or by the thieves that were made with it. The owner doesn't know what thieves got: with
-    /// thieves the contract says only that the result is that of some lawful history. Without thieves it says exactly
-    /// what is got.
+    /// been got, by the owner or by a thief of the bench. The owner doesn't know what thieves got. So where there are
+    /// thieves, the contract says only that some gets of theirs lead to this result. Where there are none, it says
+    /// exactly what is got.
     pub fn take(&mut self) -> Option<T>
         ensures got { MatchOption result ((owner_view self.new ≡ owner_view self.old)
             × AllGot (owner_view self.old))
@@ -109,9 +109,10 @@ impl<T> Owner<T> {
 }
 
 impl<T> Thief<T> {
-    /// Takes the first item that no handle has got, at one moment of the call. `Empty` where each item that was put had
-    /// been got, which the contract says only of some lawful history, since a thief doesn't know what others did.
-    /// `Retry` where another handle came first, and this one got nothing.
+    /// Tries to take the first item that no handle has got, at one moment of the call: `Success` has it. `Empty` where
+    /// each item that was put had been got. `Retry` where another handle came first, and this one got nothing. A thief
+    /// doesn't know what other handles put and got, so the contract says only that some steps of theirs lead to this
+    /// result.
     pub fn steal(&mut self) -> Steal<T>
         ensures got { MatchSteal result ((thief_view self.new ≡ thief_view self.old)
             × AllGot (thief_view self.old)) (thief_view self.new ≡ thief_view self.old)

@@ -56,10 +56,10 @@ pub struct Seat {
 /// What the words of a board say at its end.
 #[derive(Drop)]
 pub struct Tally {
-    /// For each question the least place of a region with a member that breaks it, as far as sheets say; `None` where
-    /// no sheet has a hit on it, and past the last question.
+    /// For each question, at its place from 0, the least place of a region with a member that breaks it, as far as
+    /// sheets say; `None` where no sheet has a hit on it, and past the last question.
     pub least: [Option<usize>; 256],
-    /// Question q has bit q % 64 of word q / 64: some sheet has a doubt for it.
+    /// Bit q % 64 of word q / 64 is set where some sheet has a doubt for question q, counted from 0.
     pub doubts: [u64; 4],
     /// How many sheets were entered.
     pub entered: usize,

@@ -1,8 +1,9 @@
 //! Gates, which see each call of each worker.
 
-/// Sees each call of each worker, outside of every lock. A test counts calls by it, or holds a worker back.
+/// Sees each call of each worker, outside of every lock. A call is the making of one work or sheet. A test counts calls
+/// by a gate, or holds a worker back.
 pub trait Gate: Sync {
-    /// Is called when the worker has made a work or a sheet that is ready to be handed in. Workers are numbered from 0,
+    /// A worker calls this when it has made a work or a sheet, before it hands this in. Workers are numbered from 0,
     /// and the calls of each worker from 1.
     fn pass(&self, worker: usize, call: usize);
 }

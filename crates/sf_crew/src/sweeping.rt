@@ -64,9 +64,9 @@ fn look_at_word(board: &Board, seat: &mut Seat, job: usize, word: usize, to_judg
     wanted
 }
 
-/// Looks on the board for hits on the questions that are to be judged. Returns all bits set, but those of the questions
-/// with a hit at a place below the job. On most regions few questions are to be judged, so few are looked at. The
-/// caller's condition: the seat is of this board.
+/// Looks on the board for hits on the questions that are to be judged, whose bits are set in `to_judge`. Returns all
+/// bits set, but those of the questions among them with a hit at a place below the job. On most regions few questions
+/// are to be judged, so few are looked at. The caller's condition: the seat is of this board.
 fn look_at(board: &Board, seat: &mut Seat, job: usize, to_judge: &[u64; 4]) -> [u64; 4]
     requires seat { IsSeatOf board.now seat.old }
     ensures same { IsSeatOf board.now seat.new }
@@ -82,7 +82,8 @@ fn look_at(board: &Board, seat: &mut Seat, job: usize, to_judge: &[u64; 4]) -> [
     wanted
 }
 
-/// What the workers of a sweep share: a board, and the regions and questions that they judge by it.
+/// What the workers of a sweep share: a board, the regions and questions that they judge by it, and the probes of these
+/// questions.
 #[derive(Drop)]
 pub(crate) struct SharedSweep<'a> {
     board: &'a Board,
@@ -114,7 +115,7 @@ impl<'a> Model for SharedSweep<'a> {
 /// Judges the region of the job that the seat owes, and enters the sheet. A question is skipped where the board has a
 /// hit on it at a place below the job. The gate sees the sheet before it is entered; `pass` has the numbers of the
 /// worker and of its call, for the gate. `Memory` where an allocation is refused: the seat still owes the sheet then.
-/// The caller's conditions: the seat is of this board, and `job` is what it owes.
+/// The caller's conditions: the seat is of the sweep's board, and `job` is what it owes.
 fn enter_job<G: Gate>(
     alloc: Global,
     sweep: &SharedSweep<'_>,
@@ -148,9 +149,9 @@ fn enter_job<G: Gate>(
     Ok(())
 }
 
-/// Draws jobs and enters their sheets until all jobs are drawn. Returns the seat, with true then, and with false where
-/// memory ran out before that: the seat owes a sheet then. The caller's conditions: the seat is of the sweep's board
-/// and owes no sheet.
+/// Draws jobs and enters their sheets until all jobs are drawn. Returns the seat, and whether this end was reached.
+/// With `false` memory ran out before, and the seat owes a sheet. `worker` is the worker's number, for the gate. The
+/// caller's conditions: the seat is of the sweep's board and owes no sheet.
 fn work<G: Gate>(
     alloc: Global,
     sweep: &SharedSweep<'_>,
@@ -175,9 +176,10 @@ fn work<G: Gate>(
     (seat, true)
 }
 
-/// Joins every seat of the list into the first one. `None` where false stands beside a seat: its worker ran out of
-/// memory. The caller's conditions: all are seats of this board; the first one, and each one beside which true stands,
-/// owes no sheet.
+/// Joins the seats of `others`, as `work` returned them, into `first`. `None` where `false` stands beside one of them:
+/// its worker ran out of memory. The caller's conditions: all are seats of this board; `first` owes no sheet; each of
+/// `others` is the seat of one worker; and each beside which `true` stands owes no sheet, and has found that no job is
+/// left.
 fn join_all(board: &Board, first: Seat, mut others: Vec<(Seat, bool)>) -> Option<Seat>
     requires first { IsSeatOf board.now first × ((seat_view first).owes ≡ None) }
     requires others { All (λ s. IsWorked board.now s) others.items }
@@ -202,8 +204,8 @@ pub(crate) struct NumberedSeat {
     seat: Seat,
 }
 
-/// The seats with their places in the list, from 0, as numbers; the last one comes first. `Memory` where an allocation
-/// is refused.
+/// The seats, each with its place in the list, from 0, as its number; their order is reversed. The caller's condition:
+/// all are seats of this board that have done nothing. `Memory` where an allocation is refused.
 fn number_seats(
     alloc: Global,
     board: &Board,
@@ -225,9 +227,9 @@ fn number_seats(
 }
 
 /// The tally of all regions, by this many workers, each of which has a seat. They share the probes of the questions,
-/// which are made before. When the workers have ended, the calling thread draws the jobs that are left, if there are
-/// any, with a seat of its own, under the next number. `Memory` where an allocation is refused, also to a worker. The
-/// caller's conditions: 1 to 64 workers, and at most 256 questions.
+/// which are made before. When the workers have ended, the calling thread works too, with a seat of its own, under the
+/// next number. Jobs are left for it only where each worker ran out of memory. `Memory` where an allocation is refused,
+/// also to one of the workers. The caller's conditions: 1 to 64 workers, and at most 256 questions.
 pub(crate) fn tally<R: Threads + Sync, G: Gate>(
     rt: &R,
     alloc: Global,

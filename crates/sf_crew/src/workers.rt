@@ -51,7 +51,7 @@ pub(crate) struct Worker<N: Naming> {
 }
 
 impl<N: Naming> NewWorker<N> {
-    /// The worker at its first turn.
+    /// The worker as it begins: it has made no call, and leases may be put on its bench.
     fn begin(self) -> Worker<N> {
         Worker {
             number: self.number,
@@ -65,7 +65,8 @@ impl<N: Naming> NewWorker<N> {
 impl<N: Naming> Worker<N> {
     /// A lease from the worker's own bench. Where nothing is left there, a stolen one, from the next worker's bench
     /// first. Where none is got, one from the book. `None` where the book hasn't one either: all its pieces are on
-    /// lease, or none is outstanding. Fails where the book's `lease` does.
+    /// lease, or none is outstanding. `Memory` only where too many owners would share the piece that the book leases
+    /// out.
     fn next_lease<R: Wait>(
         &mut self,
         rt: &R,
@@ -85,7 +86,7 @@ impl<N: Naming> Worker<N> {
     }
 
     /// Makes the work of a piece, with the children of a split, and lets the gate see it. `Memory` where an allocation
-    /// is refused: the gate sees nothing then.
+    /// is refused, or too many owners would share a child: the gate sees nothing then.
     fn make<G: Gate>(
         &self,
         alloc: Global,
@@ -104,8 +105,9 @@ impl<N: Naming> Worker<N> {
     }
 
     /// Works the piece of the lease, lets the gate see the work, and hands it in. The children of a split are put on
-    /// the worker's own bench, the false one first. Fails where memory is refused, or the book refuses the work: the
-    /// lease is given back then, and nothing is put on the bench.
+    /// the worker's own bench, the false one first; where the bench can't grow, they are given back to the book. Fails
+    /// where memory is refused, or the book refuses the work: the lease is given back then, and nothing is put on the
+    /// bench.
     fn work<R: Wait, G: Gate>(
         &mut self,
         rt: &R,
@@ -144,7 +146,7 @@ impl<N: Naming> Worker<N> {
         }
     }
 
-    /// Takes all leases off the worker's own bench, and gives each back to the book.
+    /// Takes leases off the worker's own bench until nothing is left there, and gives each back to the book.
     fn empty<R: Wait>(&mut self, rt: &R, book: &Mutex<SharedBook<N>>)
         ensures { AllGot (own_view self.new) }
     {
@@ -158,8 +160,9 @@ impl<N: Naming> Worker<N> {
     }
 }
 
-/// The turns of one worker, until nothing is left to do. Where memory is refused or the budget is spent, the worker
-/// gives its leases back and ends. Returns the owner of the worker's bench, which is empty then.
+/// The turns of one worker: until nothing is outstanding or the budget is spent, or until memory or a work is refused
+/// to it. Then it gives the leases on its bench back to the book, and ends. Where all outstanding pieces are on lease,
+/// it waits for more by asking again. Returns the owner of its bench, on which nothing is left.
 fn run<N: Naming, R: Wait, G: Gate>(
     rt: &R,
     alloc: Global,
@@ -197,7 +200,8 @@ fn run<N: Naming, R: Wait, G: Gate>(
 }
 
 /// Lets the workers work on a book, each on a thread, and ends when they have ended. Where a thread can't be started,
-/// the others do the work; none is started once nothing is left to do.
+/// the other workers do the work; where none can, no work is done. None is started once nothing is outstanding or the
+/// budget is spent.
 fn run_each<'a, N: Naming, R: Threads + Wait + Sync, G: Gate>(
     rt: &'a R,
     alloc: Global,
@@ -217,8 +221,9 @@ fn run_each<'a, N: Naming, R: Threads + Wait + Sync, G: Gate>(
     });
 }
 
-/// Lets this many workers, 1 to 64, work on a book, and returns the book when they have ended. `Memory` where an
-/// allocation is refused as the workers are made. The caller's condition: the type N names the book's stack and budget.
+/// Lets this many workers, 1 to 64, work on a book, and returns the book when they have ended. Pieces may be
+/// outstanding then though the budget isn't spent. `Memory` where an allocation is refused as the workers are made. The
+/// caller's condition: the type N names the book's stack and budget.
 fn run_all<N: Naming, R: Threads + Wait + Sync, G: Gate>(
     rt: &R,
     alloc: Global,
@@ -237,12 +242,16 @@ fn run_all<N: Naming, R: Threads + Wait + Sync, G: Gate>(
     Ok(book.into_inner().into_book())
 }
 
-/// Explores a stack: works at most `budget` pieces, and gives what is settled and what is left. The gate sees each work
-/// between its making and its commit. With 1 worker no thread is started. With more, each gets a thread, unless it
-/// can't be started or nothing is left to do. They have the numbers from 0. When they have ended, the calling thread
-/// takes all pieces off lease and works off what is outstanding, under the next number. The caller's conditions: 1 to
-/// 64 workers, and a budget from 1 to 1,000,000; the contract holds for other budgets too. `Memory` where an allocation
-/// is refused to the calling thread.
+/// Explores a stack: works at most `budget` pieces, and returns what is settled and what is left. The gate sees each
+/// work between its making and its commit.
+///
+/// With 1 worker no thread is started. With more, each gets a thread, unless it can't be started or nothing is left to
+/// do. They have the numbers from 0. A worker that is refused memory ends. When all have ended, the calling thread
+/// takes all pieces off lease and works off what is outstanding, under the next number.
+///
+/// The caller's conditions: 1 to 64 workers, and a budget from 1 to 1,000,000; the contract holds for other budgets
+/// too. `Memory` where an allocation is refused to the calling thread, or the stack has too many owners. Waits for the
+/// workers.
 pub fn explore<R: Threads + Wait + Sync, G: Gate>(
     rt: &R,
     alloc: Global,

@@ -19,9 +19,9 @@ use std::alloc::{AllocError, Global};
 use std::io::Write;
 use std::marker::Model;
 
-/// Whether these labels are those of a row without a difference. `count` is the number of the pairs of answers that
-/// differ: labels below it are places of pairs, and `count` itself stands for equal answers. It is the only label of
-/// such a row.
+/// Whether these are the labels of a row without a difference: `count` is the only one. `count` is the number of the
+/// pairs of answers that differ. A label below it is the place of a pair, and the label `count` stands for equal
+/// answers.
 fn is_unchanged(count: usize, labels: &[usize]) -> bool
     ensures { result ≡ is_unchanged count labels.now }
 {
@@ -45,8 +45,8 @@ fn keep_changed(rows: &mut Vec<Row>, count: usize)
     rows.retain(|row| is_changed(count, row));
 }
 
-/// Whether the new answer of a pair has this relation to the old one. The caller's pairs differ, so each has the
-/// relation `Different`.
+/// Whether the new answer of a pair has this relation to the old one. The two answers of each pair differ, so
+/// `Different` isn't tested.
 fn is_so_related(relation: Relation, pair: &PartAnswers) -> bool
     ensures { result ≡ is_so_related relation pair.now }
 {
@@ -56,8 +56,8 @@ fn is_so_related(relation: Relation, pair: &PartAnswers) -> bool
     }
 }
 
-/// Whether a label stands for a pair of answers with this relation. A label is a place of the pairs; that of equal
-/// answers is their number, and stands for no pair.
+/// Whether a label stands for a pair of answers with this relation. A label is the place of a pair, or the number of
+/// the pairs: this one stands for equal answers, and `false` is returned.
 fn is_label_related(relation: Relation, pairs: &[PartAnswers], label: usize) -> bool
     ensures { result ≡ is_label_related relation pairs.now label }
 {
@@ -83,14 +83,14 @@ fn keep_related(rows: &mut Vec<Row>, relation: Relation, pairs: &[PartAnswers])
     rows.retain(|row| is_related(relation, pairs, row));
 }
 
-/// Which of the rows in which answers differ are shown, and how.
+/// Which of the rows with a difference are shown, and how.
 #[derive(Drop)]
 pub struct Shown<'a> {
-    /// The relation that some answers of a row must have for the row to be shown. Without it all rows with a difference
-    /// are shown.
+    /// The relation that some pair of a row's answers must have for the row to be shown. `None`: all rows with a
+    /// difference are shown.
     pub only: Option<Relation>,
-    /// The names of the calls that are shown one by one, or an empty list for all calls. Without it each row has a line
-    /// of its own.
+    /// The names of the calls whose rows are shown, call by call. An empty list stands for all calls; the rows of the
+    /// inputs that belong to no call with a name then come after these. `None`: each row is shown by itself.
     pub calls: Option<Vec<&'a str>>,
 }
 
@@ -106,8 +106,9 @@ impl<'a> Model for Shown<'a> {
     } };
 }
 
-/// The rows that are shown: those with a difference, and of these only those that have the relation `only`, if one is
-/// given. There are no rows where a piece is outstanding. `Memory` where an allocation is refused.
+/// The rows that are shown: those with a difference, and where `only` is given, of these only the rows of which some
+/// pair of answers has this relation. There are no rows where a piece is outstanding, since there is no picture then.
+/// `Memory` where an allocation is refused.
 pub(crate) fn rows_of(
     alloc: Global,
     differences: &Differences,
@@ -124,7 +125,7 @@ pub(crate) fn rows_of(
     Ok(rows)
 }
 
-/// The word for what the rows that are shown have in common: the relation, or that they show a difference.
+/// The word for what the rows that are shown have in common: the relation `only`, or `changed` where none is given.
 pub(crate) fn words_of(only: Option<Relation>) -> &'static str
     ensures { result.now ≡ shown_words only }
 {
@@ -136,7 +137,8 @@ pub(crate) fn words_of(only: Option<Relation>) -> &'static str
     }
 }
 
-/// Adds the line that says how many lines tell the rows, and how many of them have several labels.
+/// Adds the line that counts the lines of the rows: the word of `words_of` for `only`, how many lines there are, and
+/// how many of them have several labels.
 fn push_total(text: &mut String, only: Option<Relation>, lines: Lines) -> Result<(), AllocError>
     ensures { OnOk result (string_bytes text.new ≡ string_bytes text.old
         ++ changed_line only lines.count lines.undetermined) }
@@ -147,7 +149,7 @@ fn push_total(text: &mut String, only: Option<Relation>, lines: Lines) -> Result
     write!(text, "total {shown} {count} undetermined {undetermined}\n")
 }
 
-/// Adds the line that counts the rows. Where there is no picture, since a piece is outstanding, there is no such line.
+/// Adds the line of `push_total`. Adds nothing where there is no picture, since a piece is outstanding.
 fn push_drawn(
     text: &mut String,
     picture: Option<&Picture>,
@@ -164,8 +166,9 @@ fn push_drawn(
     }
 }
 
-/// Adds the rows and the line that counts them, with these sets of calls. The caller's condition: `rows` are those of
-/// the differences that are shown. `Memory` where an allocation is refused; some lines may have been added then.
+/// Adds the lines of the rows, with the names of calls from these sets, and the line that counts them, unless a piece
+/// is outstanding. The caller's condition: `rows` are those of `rows_of` for `shown.only`. `Memory` where an allocation
+/// is refused; some lines may have been added then.
 fn push_differences(
     alloc: Global,
     text: &mut String,
@@ -185,8 +188,8 @@ fn push_differences(
     Ok(())
 }
 
-/// The whole text: that of the comparison, and then the rows, with these sets of calls. The caller's condition: `rows`
-/// are those of the differences that are shown. `Memory` where an allocation is refused.
+/// The whole text: that of the comparison, and then what `push_differences` adds. The caller's condition: `rows` are
+/// those of `rows_of` for `shown.only`. `Memory` where an allocation is refused.
 fn text_of(
     alloc: Global,
     comparison: &Comparison,
@@ -205,10 +208,10 @@ fn text_of(
     Ok(text)
 }
 
-/// Writes the text of a comparison, then the rows in which the answers of the two stacks differ, with these sets of
-/// calls, and a line that counts them: how many lines there are, and how many of them have several labels. `shown` says
-/// what is shown of the rows, and how. Where a piece is outstanding, there are no rows and no such line. `differences`
-/// are meant to be those of `draw_differences` for this comparison.
+/// Writes the text of a comparison, then the rows in which the answers of the two stacks differ, with the names of
+/// calls from these sets, and a line that counts them: how many lines they have, and how many of these lines have
+/// several labels. `shown` says which of the rows are shown, and how. Where a piece is outstanding, there are no rows
+/// and no such line. `differences` are meant to be those of `draw_differences` for this comparison.
 ///
 /// `Write` where a write fails or takes no byte: a beginning of the text was written then. `Memory` where the text
 /// can't be built: nothing was written then.

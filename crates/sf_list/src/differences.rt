@@ -34,16 +34,17 @@ impl Model for Differences {
 }
 
 impl Differences {
-    /// The pairs of answers that differ, the old stack's answer first: by the precedence and the data of the old
-    /// stack's answers, and then of the new one's.
+    /// The pairs of answers that differ, each once; `older` is the old stack's answer. They stand in the order of the
+    /// old stack's answers, and where these are equal, in that of the new one's: from the action with the highest
+    /// precedence to the one with the lowest, and those of one action by rising data.
     pub fn pairs(&self) -> &[PartAnswers]
         ensures { result.now ≡ self.now.pairs }
     {
         self.pairs.as_slice()
     }
 
-    /// The picture; `None` where a piece is outstanding. Its labels are places of the pairs, or their number for
-    /// answers that are equal.
+    /// The picture; `None` where a piece is outstanding. A label is the place of a pair, or the number of the pairs,
+    /// for answers that are equal.
     pub fn picture(&self) -> Option<&Picture>
         ensures { option_map (λ p. p.now) result ≡ self.now.picture }
     {
@@ -51,10 +52,11 @@ impl Differences {
     }
 }
 
-/// The picture of an exploration of two stacks, by their answers to each region. The label of a region is the place of
-/// its two answers among `pairs`, or the number of the pairs where the answers are equal. Once `leaves` leaves are
-/// drawn, no fork is begun any more. The caller's conditions: `pairs` are the answers that differ, in order, and no
-/// piece is outstanding. `Memory` where an allocation is refused.
+/// The picture of two stacks that were explored as one. `answers` are those of both stacks to each region, in the order
+/// of the regions. The label of a region is the place of its two answers among `pairs`, or the number of the pairs
+/// where the two are equal. Once `leaves` leaves are drawn, no fork is begun any more. The caller's conditions: the
+/// first `old_count` programs are the old stack; `pairs` are those of the answers that differ, in the order of
+/// `pairs_of`; and no piece is outstanding. `Memory` where an allocation is refused.
 fn picture_by(
     alloc: Global,
     settled: &Settled,
@@ -81,9 +83,10 @@ fn picture_by(
     }
 }
 
-/// What differs between the answers of two stacks, by those to each region, in the order of the regions. The first
-/// `old_count` programs are the old stack. Without a picture where a piece is outstanding; once `leaves` leaves of it
-/// are drawn, no fork is begun any more. `Memory` where an allocation is refused.
+/// What differs between the answers of two stacks that were explored as one. There is no picture where a piece is
+/// outstanding; once `leaves` leaves of it are drawn, no fork is begun any more. The caller's conditions: the first
+/// `old_count` programs are the old stack, and `answers` are those of both stacks to each region, in the order of the
+/// regions. `Memory` where an allocation is refused.
 fn differences_by(
     alloc: Global,
     settled: &Settled,
@@ -111,7 +114,8 @@ fn differences_by(
 }
 
 /// The pairs of answers in which the two stacks of a comparison differ, and a picture of both, unless a piece is
-/// outstanding. Once `leaves` leaves are drawn, no fork is begun any more. `Memory` where an allocation is refused.
+/// outstanding. Once `leaves` leaves are drawn, no fork is begun any more, so a leaf may have several labels. `Memory`
+/// where an allocation is refused.
 pub fn draw_differences(
     alloc: Global,
     comparison: &Comparison,

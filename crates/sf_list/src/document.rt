@@ -40,8 +40,9 @@ fn answer_documents(alloc: Global, answers: &[Answer]) -> Result<Vec<Document>, 
     Ok(documents)
 }
 
-/// A listing as JSON with these sets of calls, where its answers are given as JSON, and its rows. `Memory` where an
-/// allocation is refused.
+/// A listing as JSON, with the names of calls from these sets: the fields of `listing_document`. `answers` are meant to
+/// be those of the listing, as JSON, and `rows` those of its picture. `calls` says how these are shown. `Memory` where
+/// an allocation is refused.
 fn rows_listed(
     alloc: Global,
     listing: &Listing,
@@ -69,9 +70,11 @@ fn rows_listed(
 }
 
 /// A listing as JSON, with the names of calls from these sets: the size of the stack, the counts of its exploration,
-/// and its rows. Where `calls` is given, these are the rows of each call that it names. Where it names none, they are
-/// the rows of all calls, and then those of the inputs that belong to no call with a name. `Memory` where an allocation
-/// is refused.
+/// its rows, and how many these are. Beside the document it is said whether each input lies in a row with one answer.
+///
+/// Without `calls` each row is shown by itself. Where `calls` names some, the rows of these calls are shown. Where it
+/// names none, the rows of all calls are shown, and then those of the inputs that belong to no call with a name. There
+/// are no rows where a piece is outstanding. `Memory` where an allocation is refused.
 pub fn listing_document(
     alloc: Global,
     listing: &Listing,
@@ -122,8 +125,8 @@ fn drawn_document(picture: Option<&Picture>, total: Document) -> Document
     }
 }
 
-/// A comparison as JSON with these rows, which are those of the differences that are shown, and with these sets of
-/// calls. `Memory` where an allocation is refused.
+/// A comparison as JSON, with the names of calls from these sets: the fields of `differences_document`. `rows` are
+/// meant to be those of `rows_of` for `shown.only`. `Memory` where an allocation is refused.
 fn rows_compared(
     alloc: Global,
     comparison: &Comparison,
@@ -148,10 +151,11 @@ fn rows_compared(
     Ok(Document::object(fields))
 }
 
-/// A comparison and the rows in which the answers of the two stacks differ as JSON, with these sets of calls: the
-/// fields of `comparison_fields`, what the rows have in common, the rows, and how many they are. `shown` says what is
-/// shown of the rows, and how. Where a piece is outstanding, there are no rows and they aren't counted. `Memory` where
-/// an allocation is refused.
+/// A comparison as JSON, and the rows in which the answers of its two stacks differ, with the names of calls from these
+/// sets: the fields of `comparison_fields`, the word for what the rows have in common, the rows, and how many they are.
+/// `shown` says which of the rows are shown, and how. Where a piece is outstanding, there are no rows, and `null`
+/// stands for their count. `differences` are meant to be those of `draw_differences` for this comparison. `Memory`
+/// where an allocation is refused.
 pub fn differences_document(
     alloc: Global,
     comparison: &Comparison,

@@ -24,8 +24,8 @@ use sf_book::laws::explorations_have_one_result;
 use sf_picture::laws::{each_input_is_shown_its_answer, pictures_have_one_result};
 use sf_rows::laws::each_input_lies_in_one_row;
 
-/// What the stack answers to an input is among the answers of the row in which the input lies, if its listing has a
-/// picture.
+/// What a stack answers to an input is among the answers of the row in which the input lies, if the stack's listing has
+/// a picture.
 pub fn each_row_has_its_answers()
     ensures { (files : List (List ℕ)) (budget : ℕ) (l : Listed) (p : PictureData) (d : Input)
         (r : RowData) → IsListing files budget l → l.picture ≡ Some p → IsInput d
@@ -63,8 +63,8 @@ pub fn each_row_has_its_differences()
     each_input_lies_in_one_row();
 }
 
-/// On plain stacks, where the picture isn't spent, a row that is shown has one pair of answers. They differ, and the
-/// two stacks give them to each input of the row.
+/// On plain stacks, where the picture isn't spent, a row that shows a difference has one pair of answers. The two
+/// answers differ, and the two stacks give them to each input of the row.
 pub fn each_plain_row_has_one_difference()
     ensures { (s : BookData) (old_count : ℕ) (x : DifferencesData) (p : PictureData) (d : Input)
         (r : RowData) → IsSettled s → AreDifferences s old_count x → x.picture ≡ Some p
@@ -77,8 +77,8 @@ pub fn each_plain_row_has_one_difference()
     each_input_lies_in_one_row();
 }
 
-/// Two listings of one stack have the same text, where both leave nothing outstanding and as many leaves are allowed:
-/// whatever their budgets, whoever worked and in whatever order.
+/// Two listings of one stack have the same text, where both leave nothing outstanding, and both were allowed the same
+/// number of leaves: whatever their budgets, whoever worked and in whatever order.
 pub fn one_text()
     ensures { (files others : List (List ℕ)) (b c leaves : ℕ) (o p : Listed) →
         IsListing files b o → IsListing others c p →
@@ -106,8 +106,8 @@ pub fn one_document()
     pictures_have_one_result();
 }
 
-/// Two comparisons of the same stacks have the same text with their rows, where both leave nothing outstanding and as
-/// many leaves are allowed.
+/// Two comparisons of the same stacks have the same text with their rows, where both leave nothing outstanding, and
+/// both were allowed the same number of leaves.
 pub fn one_text_with_rows()
     ensures { (files others : List (List ℕ)) (old_count b c leaves : ℕ) (o p : Compared)
         (x y : DifferencesData) → IsComparisonWithRows files old_count b leaves o x

@@ -58,7 +58,8 @@ impl Listing {
         self.picture.as_ref()
     }
 
-    /// The answers of the regions, each once, in order of precedence and then of data.
+    /// The answers of the regions, each once: from the action with the highest precedence to the one with the lowest,
+    /// and those of one action by rising data.
     pub fn answers(&self) -> &[Answer]
         ensures { result.now ≡ self.now.answers }
     {
@@ -68,7 +69,8 @@ impl Listing {
 
 /// The picture of an exploration, in which the label of a region is the first place of its answer among `answers`.
 /// `None` where a piece is outstanding. Once `leaves` leaves are drawn, no fork is begun any more. The caller's
-/// conditions: `answers` has the answer of each region, and is in order. `Memory` where an allocation is refused.
+/// conditions: `answers` has the answer of each region, and is in the order of `answers_of`. `Memory` where an
+/// allocation is refused.
 fn picture_by(
     alloc: Global,
     settled: &Settled,
@@ -94,8 +96,8 @@ fn picture_by(
     }
 }
 
-/// The listing of an exploration. Once `leaves` leaves of its picture are drawn, no fork is begun any more. `Memory`
-/// where an allocation is refused.
+/// The listing of an exploration; it has no picture where a piece is outstanding. Once `leaves` leaves of the picture
+/// are drawn, no fork is begun any more. `Memory` where an allocation is refused.
 fn listing_of(alloc: Global, settled: Settled, leaves: usize) -> Result<Listing, Fault>
     ensures same { IfOk result (λ l. l.settled ≡ settled) }
     ensures picture { IfOk result (λ l. MatchOption l.picture (0 < length settled.outstanding)
@@ -114,8 +116,8 @@ fn listing_of(alloc: Global, settled: Settled, leaves: usize) -> Result<Listing,
 }
 
 /// Explores the stack that filter files spell, by at most `budget` works, and draws its picture, unless a piece is
-/// outstanding. Once `leaves` leaves are drawn, no fork is begun any more. The gate sees each work before it is
-/// committed.
+/// outstanding. The files stand in order of installation, the newest last. Once `leaves` leaves are drawn, no fork is
+/// begun any more, so a leaf may have several labels. The gate sees each work before it is committed.
 ///
 /// The caller's conditions: a budget from 1 to 1,000,000, and 1 to 64 workers (where there are more than one, each gets
 /// a thread, if it can be started). Refusals: those of `stack_of`. `Memory` can come anywhere. Waits for the workers.

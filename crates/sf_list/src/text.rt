@@ -18,7 +18,8 @@ use sf_rows::{Lines, Row, count_undetermined, push_lines, rows_in};
 use std::alloc::{AllocError, Global};
 use std::io::Write;
 
-/// Adds the line with the size of the stack. The caller's condition: it has at most 64 programs.
+/// Adds the line with the size of the stack: how many filters it has, and the length of the path through them. The
+/// caller's condition: there are at most 64 programs.
 fn push_stack(text: &mut String, programs: &[Program]) -> Result<(), AllocError>
     requires { length programs.now ≤ 64 }
     ensures { OnOk result (string_bytes text.new ≡ string_bytes text.old
@@ -42,8 +43,8 @@ fn title_of(calls: &Option<Vec<&str>>) -> &'static str
     }
 }
 
-/// The word for what is counted at the end: lines, where `calls` is given and each call has lines of its own; else
-/// rows.
+/// The word for what the last line counts: `lines` where `calls` is given, since each call has lines of its own then;
+/// else `rows`.
 fn counted_of(calls: &Option<Vec<&str>>) -> &'static str
     ensures { result.now
         ≡ counted_words (option_map (λ v. map (λ t. t.now) v.items) calls.now) }
@@ -51,7 +52,7 @@ fn counted_of(calls: &Option<Vec<&str>>) -> &'static str
     if calls.is_some() { "lines" } else { "rows" }
 }
 
-/// Adds what stands above the rows: the version of the text, the size of the stack, and the counts of the exploration.
+/// Adds what stands above the rows: the line of `title_of`, the size of the stack, and the counts of the exploration.
 fn push_head(
     text: &mut String,
     calls: &Option<Vec<&str>>,
@@ -65,7 +66,7 @@ fn push_head(
     push_counts(text, settled.counts())
 }
 
-/// Adds the line that says how many lines there are, and how many of them have several answers.
+/// Adds the last line: the word of `counted_of`, how many lines show rows, and how many of them have several answers.
 fn push_total(text: &mut String, calls: &Option<Vec<&str>>, lines: Lines) -> Result<(), AllocError>
     ensures { OnOk result (string_bytes text.new ≡ string_bytes text.old
         ++ rows_total_line (option_map (λ v. map (λ t. t.now) v.items) calls.now)
@@ -80,7 +81,8 @@ fn push_total(text: &mut String, calls: &Option<Vec<&str>>, lines: Lines) -> Res
     )
 }
 
-/// The whole text of a listing, with these sets of calls. The caller's condition: `rows` are those of its picture.
+/// The whole text of a listing, with the names of calls from these sets. `calls` says how the rows are shown, as at
+/// `write_listing`. The caller's condition: `rows` are those of the listing's picture; none where it has no picture.
 /// `Memory` where an allocation is refused.
 fn text_of(
     alloc: Global,
@@ -111,11 +113,12 @@ pub(crate) fn is_whole(listing: &Listing, undetermined: usize) -> bool
     listing.picture().is_some() && undetermined == 0
 }
 
-/// Writes the text of a listing, with the names of calls from these sets. Gives whether each input lies in a row with
+/// Writes the text of a listing, with the names of calls from these sets. Returns whether each input lies in a row with
 /// one answer: no piece is outstanding, and no row has several answers.
 ///
-/// Each row has a line. Where `calls` is given, each row of each call that it names has one. Where it names none, each
-/// row of all calls has one, and then each row of the inputs that belong to no call with a name.
+/// Without `calls` each row has a line. Where `calls` names some, each row of each of these calls has one. Where it
+/// names none, each row of all calls has one, and then each row of the inputs that belong to no call with a name. There
+/// are no rows where a piece is outstanding.
 ///
 /// `Write` where a write fails or takes no byte: a beginning of the text was written then. `Memory` where the text
 /// can't be built: nothing was written then.

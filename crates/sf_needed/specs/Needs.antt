@@ -93,7 +93,7 @@ pub record IsKeptFilter (files : List (List ℕ)) (budget : ℕ) (places : List 
   pub found : IsFoundWithout (at_places files places) place budget Different change
   pub other : change ≢ Never
 
--- each of the filters at these places is kept, as `IsKept` says
+-- each of the filters at these places is kept, as `IsKeptFilter` says
 abbrev pub AreKeptFilters : List (List ℕ) → ℕ → List ℕ → Type 0
 AreKeptFilters files budget places = (place : ℕ) → place < length places → IsKeptFilter files budget places place
 

@@ -5,7 +5,7 @@ ghost use Rattle.sf_needed.specs.Texts.{is_needed, is_spare, is_unsettled_findin
 
 use sf_compare::Change;
 
-/// How many filters were found needed: an input gets further without them.
+/// How many filters were found needed: some input gets further without this filter.
 pub(crate) fn count_needed(findings: &[Change]) -> usize
     ensures { result ≡ count_by is_needed findings.now }
 {
@@ -15,7 +15,7 @@ pub(crate) fn count_needed(findings: &[Change]) -> usize
         .count()
 }
 
-/// How many filters were found spare: no input gets further without them.
+/// How many filters were found spare: no input gets further without this filter.
 pub(crate) fn count_spare(findings: &[Change]) -> usize
     ensures { result ≡ count_by is_spare findings.now }
 {

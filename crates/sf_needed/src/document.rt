@@ -11,7 +11,8 @@ use sf_insn::Input;
 use sf_json::{Document, Fields, input_document};
 use std::alloc::{AllocError, Global};
 
-/// A filter as JSON: its number, the word for what was found of it, and an example, which is null where there is none.
+/// A filter as JSON: its number, from 1, the word for what was found of it, and an example; `example` is `null` where
+/// there is none.
 fn found_document(
     alloc: Global,
     number: usize,
@@ -27,7 +28,8 @@ fn found_document(
     Ok(Document::object(fields))
 }
 
-/// A filter that is needed, as JSON: this input, its example, gets further without it.
+/// A filter that is needed, as JSON: its number, the word `needed`, and as the example this input, which gets further
+/// without the filter. The call of the example isn't named.
 fn needed_document(alloc: Global, number: usize, input: &Input) -> Result<Document, AllocError>
     ensures { IfOk result (λ d. view d ≡ needed_document number input.now) }
 {
@@ -35,7 +37,7 @@ fn needed_document(alloc: Global, number: usize, input: &Input) -> Result<Docume
     found_document(alloc, number, "needed", example)
 }
 
-/// A filter as JSON: its number, and what was found of it.
+/// A filter as JSON: its number, what was found of it, and an example where it is needed.
 fn finding_document(alloc: Global, number: usize, finding: Change) -> Result<Document, AllocError>
     ensures { IfOk result (λ d. view d ≡ finding_document number finding) }
 {
@@ -58,7 +60,8 @@ fn finding_documents(alloc: Global, findings: &[Change]) -> Result<Vec<Document>
     Ok(documents)
 }
 
-/// The numbers, from 1, of the filters at the places that are kept. The caller's condition: each place is below 64.
+/// The numbers, from 1, of the filters at the places that are kept, each as JSON. The caller's condition: each place is
+/// below 64.
 fn kept_documents(alloc: Global, kept: &[usize]) -> Result<Vec<Document>, AllocError>
     requires { All (λ p. p < 64) kept.now }
     ensures { IfOk result (λ v. map view v.items ≡ map (λ p. count (p + 1)) kept.now) }
@@ -70,7 +73,7 @@ fn kept_documents(alloc: Global, kept: &[usize]) -> Result<Vec<Document>, AllocE
     Ok(documents)
 }
 
-/// How many filters the stack has, and the length of the path through them.
+/// The size of the stack as JSON: how many filters it has, and the length of the path through them.
 fn size_document(alloc: Global, needs: &Needs) -> Result<Document, AllocError>
     ensures { IfOk result (λ d. view d ≡ size_document needs.now) }
 {
@@ -80,7 +83,7 @@ fn size_document(alloc: Global, needs: &Needs) -> Result<Document, AllocError>
     Ok(Document::object(fields))
 }
 
-/// How many filters were found needed, spare and unsettled, and how many are kept.
+/// The totals as JSON: how many filters were found needed, spare and unsettled, and how many are kept.
 fn totals_document(alloc: Global, needs: &Needs) -> Result<Document, AllocError>
     ensures { IfOk result (λ d. view d ≡ needed_totals_document needs.now) }
 {
@@ -93,8 +96,8 @@ fn totals_document(alloc: Global, needs: &Needs) -> Result<Document, AllocError>
 }
 
 /// Which filters of a stack are needed, as JSON: the size of the stack, what was found of each filter with an example
-/// where it is needed, the numbers of the filters that are kept, and of how many filters each result was found. An
-/// error where an allocation is refused.
+/// where it is needed, the numbers of the filters that are kept, and how many filters are needed, spare, unsettled and
+/// kept. An error where an allocation is refused.
 pub fn needs_document(alloc: Global, needs: &Needs) -> Result<Document, AllocError>
     ensures { IfOk result (λ d. view d ≡ needs_document needs.now) }
 {

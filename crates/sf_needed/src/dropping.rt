@@ -12,10 +12,11 @@ use sf_policy::Fault;
 use std::sync::Wait;
 use std::thread::Threads;
 
-/// Compares the filters that `kept` still has with the same filters without one: the one at `place` of the list `kept`.
-/// While no filter has been dropped, the result is taken from `trials`, which has tried the whole stack without each
-/// filter. The caller's conditions: `kept` is what is left of the whole stack where filters are dropped one after
-/// another, and `place` is below its length. Refusals: as those of `try_without`.
+/// Compares the stack of the filters at the places `kept` with the same stack without one of them: the one at `place`
+/// of the list `kept`. While no filter has been dropped, the result is taken from `trials`. The caller's conditions:
+/// `trials` are those of `try_each` for the task; `kept` is what is left of the whole stack where filters are dropped
+/// one after another, as `drop_while_alike` does; and `place` is below the length of `kept`. Refusals: those of
+/// `try_without`.
 fn trial_of<R: Threads + Wait + Sync, G: Gate>(
     rt: &R,
     task: &Task<'_>,
@@ -38,7 +39,8 @@ fn trial_of<R: Threads + Wait + Sync, G: Gate>(
     try_without(rt, task, kept, place, gate)
 }
 
-/// Whether a comparison found that no input is changed.
+/// Whether `change` is `Never`: a comparison found that no input is changed. `false` also where the comparison is
+/// unsettled.
 fn is_never(change: Change) -> bool
     ensures never { result ≡ true → change ≡ NeverChange }
     ensures other { result ≡ false → change ≢ NeverChange }
@@ -71,8 +73,8 @@ fn is_droppable<R: Threads + Wait + Sync, G: Gate>(
     Ok(is_never(trial.different))
 }
 
-/// The place of a list of `count` filters that is tried next: `place` itself, or the first one if `place` is the end.
-/// The caller's conditions: there is a filter, and `place` is at most `count`.
+/// The place that is tried next in a list of `count` filters: `place` itself, or 0 where `place` is `count`, the end of
+/// the list. The caller's conditions: there is a filter, and `place` is at most `count`.
 fn place_to_try(place: usize, count: usize) -> usize
     requires { (0 < count) × (place ≤ count) }
     ensures { ((result ≡ place) × (place < count)) ⊎ ((result ≡ 0) × (place ≡ count)) }
@@ -80,11 +82,11 @@ fn place_to_try(place: usize, count: usize) -> usize
     if place == count { 0 } else { place }
 }
 
-/// Drops filters of `kept` one after another, each where a comparison finds that the others answer as before. Tries
-/// them in order, and after the last one begins again, until each filter that is left has been tried since the last
-/// drop. The caller's conditions: `kept` has the places of all filters, or what is left of them by such drops, and
-/// `trials` has tried the whole stack without each filter. Refusals: those of `try_without`; `kept` lacks the filters
-/// that were dropped until then.
+/// Drops filters of `kept` one after another, each where a comparison finds that the others that are left answer each
+/// input as before. Tries them in order, and after the last one begins again, until each filter that is left has been
+/// tried since the last drop. The caller's conditions: `kept` has the places of all filters, or what is left of them by
+/// such drops, and `trials` are those of `try_each` for the task. Refusals: those of `try_without`; `kept` lacks the
+/// filters that were dropped until then.
 pub(crate) fn drop_while_alike<R: Threads + Wait + Sync, G: Gate>(
     rt: &R,
     task: &Task<'_>,

@@ -17,8 +17,8 @@ pub fn dropping_changes_no_answer()
     one_program_of_a_file();
 }
 
-/// What a comparison finds of a stack without one of its filters says what it should: of a spare filter, that no input
-/// gets further without it; of a needed one, that its example does.
+/// What a comparison of a stack with the stack without one of its filters finds of this filter is true. Where it is
+/// found spare, no input gets further without it; where it is found needed, its example does.
 pub fn a_finding_describes_its_filter()
     ensures { (files : List (List ℕ)) (place budget : ℕ) (finding : Change)
         (programs : List (List Insn)) → IsFoundWithout files place budget Looser finding

@@ -46,9 +46,9 @@ impl Model for Needs {
 }
 
 impl Needs {
-    /// What was found of each filter, in the order of the filters: how the answers change where it is left out. With
-    /// `Found` it is needed: that input gets further without it. With `Never` it is spare: no input gets further
-    /// without it. With `Unsettled` neither was found.
+    /// What was found of each filter, in the order of the filters. `Found`: the filter is needed, since this input gets
+    /// further without it. `Never`: it is spare, since no input gets further without it. `Unsettled`: neither was
+    /// found.
     pub fn findings(&self) -> &[Change]
         ensures same { result.now ≡ self.now.findings }
     {
@@ -92,7 +92,7 @@ impl Needs {
     }
 }
 
-/// The places of this many filters: the numbers from 0 to below `count`.
+/// The places of this many filters: the numbers from 0 on that are below `count`, in rising order.
 fn places_of(alloc: Global, count: usize) -> Result<Vec<usize>, AllocError>
     ensures { IfOk result (λ v. v.items ≡ range_with_len 0 count) }
 {
@@ -103,8 +103,9 @@ fn places_of(alloc: Global, count: usize) -> Result<Vec<usize>, AllocError>
     Ok(places)
 }
 
-/// Compares the whole stack with the stack without each of its filters, in their order. The caller's condition: `all`
-/// has the places of all filters of the task. Refusals: those of `try_without`.
+/// For each filter of the task, in their order, compares the whole stack with the stack without this filter. The
+/// caller's condition: `all` has the places of all filters of the task, in rising order. Refusals: those of
+/// `try_without`.
 fn try_each<R: Threads + Wait + Sync, G: Gate>(
     rt: &R,
     task: &Task<'_>,
@@ -135,15 +136,17 @@ fn findings_of(alloc: Global, trials: &[Trial]) -> Result<Vec<Change>, AllocErro
     Ok(findings)
 }
 
-/// Finds which filters of a stack are needed, for all inputs, and keeps a set of filters that answers each input as the
-/// whole stack does, and of which none can be dropped. The filter files stand in order of installation, the newest
-/// last.
+/// Finds which filters of a stack are needed, for all inputs, and which filters are kept: together these answer each
+/// input as the whole stack does, and none of them can be dropped. A filter can be dropped where a comparison finds
+/// that the others that are left answer each input as before. The filter files stand in order of installation, the
+/// newest last.
 ///
-/// A filter is needed where some input gets further without it, and spare where none does; unsettled where neither is
-/// found. Then filters are dropped one after another, in order and again from the first, where what is left answers as
-/// before; one that is unsettled is kept. A stack without its only filter is that of the filter that allows all.
+/// A filter is needed where some input gets further without it, and spare where none does; it is unsettled where
+/// neither is found. Then filters that can be dropped are dropped one after another, in order and again from the first,
+/// until no filter that is left can be dropped. Where the comparison doesn't settle whether a filter can be dropped, it
+/// is kept. Where the only filter of a stack is left out, a filter that allows all stands in its place.
 ///
-/// The caller's conditions: a budget of works, for each comparison, from 1 to 1,000,000 and 1 to 64 workers (where
+/// The caller's conditions: a budget of works, for each comparison, from 1 to 1,000,000, and 1 to 64 workers (where
 /// there are more than one, each gets a thread, if it can be started). The gate sees each work before it is committed.
 ///
 /// Refusals, tried in this order: those of `stack_of` for the files; `TooMany` where the stack and the stack without

@@ -12,7 +12,8 @@ use sf_policy::{Fault, hex_of, write_bytes};
 use std::alloc::{AllocError, Global};
 use std::io::Write;
 
-/// Adds the line of a filter: its number and what was found of it, and the example where it is needed.
+/// Adds the line of a filter: its number, from 1, what was found of it, and where it is needed the hexadecimal digits
+/// of its example's bytes.
 fn push_finding(
     alloc: Global,
     text: &mut String,
@@ -32,7 +33,7 @@ fn push_finding(
     }
 }
 
-/// Adds the lines of all filters, in their order.
+/// Adds the lines of all filters, in their order, with numbers from 1.
 fn push_findings(alloc: Global, text: &mut String, findings: &[Change]) -> Result<(), AllocError>
     ensures { OnOk result (string_bytes text.new ≡ string_bytes text.old
         ++ finding_lines 1 findings.now) }
@@ -43,8 +44,8 @@ fn push_findings(alloc: Global, text: &mut String, findings: &[Change]) -> Resul
     Ok(())
 }
 
-/// Adds the numbers, from 1, of the filters at the places that are kept, each after a blank; a dash where there are
-/// none. The caller's condition: each place is below 64.
+/// Adds the numbers, from 1, of the filters at the places that are kept, each after a blank. Where there are none, adds
+/// a blank and a dash. The caller's condition: each place is below 64.
 fn push_numbers(text: &mut String, kept: &[usize]) -> Result<(), AllocError>
     requires { All (λ p. p < 64) kept.now }
     ensures { OnOk result (string_bytes text.new ≡ string_bytes text.old ++ kept_words kept.now) }
@@ -58,7 +59,8 @@ fn push_numbers(text: &mut String, kept: &[usize]) -> Result<(), AllocError>
     Ok(())
 }
 
-/// Adds the line of the filters that are kept. The caller's condition: each place is below 64.
+/// Adds the line of the filters that are kept: the word `kept` and their numbers. The caller's condition: each place is
+/// below 64.
 fn push_kept(text: &mut String, kept: &[usize]) -> Result<(), AllocError>
     requires { All (λ p. p < 64) kept.now }
     ensures { OnOk result (string_bytes text.new ≡ string_bytes text.old ++ kept_line kept.now) }
@@ -76,7 +78,7 @@ fn push_size(text: &mut String, filters: usize, path: usize) -> Result<(), Alloc
     write!(text, "filters {filters} path {path}\n")
 }
 
-/// Adds what stands above the filters: the version of the text and the size of the stack.
+/// Adds what stands above the lines of the filters: the version of the text, and the size of the stack.
 fn push_head(text: &mut String, needs: &Needs) -> Result<(), AllocError>
     ensures { OnOk result (string_bytes text.new ≡ string_bytes text.old
         ++ needed_head_text needs.now) }
@@ -100,7 +102,8 @@ fn push_total(text: &mut String, needs: &Needs) -> Result<(), AllocError>
     )
 }
 
-/// The whole text that says which filters are needed. An error where an allocation is refused.
+/// The whole text that says which filters are needed: the size of the stack, a line for each filter, the filters that
+/// are kept, and the totals. An error where an allocation is refused.
 pub fn text_of_needs(alloc: Global, needs: &Needs) -> Result<String, AllocError>
     ensures { IfOk result (λ text. string_bytes text ≡ needs_text needs.now) }
 {

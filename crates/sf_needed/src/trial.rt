@@ -13,7 +13,7 @@ use std::marker::Model;
 use std::sync::Wait;
 use std::thread::Threads;
 
-/// The filter that allows all: one instruction, `ret ALLOW`.
+/// The file of the filter that allows all: one instruction, `ret ALLOW`, in little-endian bytes.
 const ALLOW_ALL: [u8; 8] = [0x06, 0x00, 0x00, 0x00, 0x00, 0x00, 0xff, 0x7f];
 
 /// The filter files of the whole stack, and how each comparison is done.
@@ -65,8 +65,8 @@ fn copy_of(filter: &Vec<u8>) -> Result<Vec<u8>, AllocError>
     Ok(copy)
 }
 
-/// Adds copies of the filter files at these places, in their order. The caller's condition: each place is that of a
-/// filter file. `files` has some of the copies where an allocation is refused.
+/// Adds copies of the filter files at these places, in the order of the places. The caller's condition: each place is
+/// that of a filter file. Where an allocation is refused, `files` has got some of the copies.
 fn push_filters(
     files: &mut Vec<Vec<u8>>,
     filters: &[Vec<u8>],
@@ -84,10 +84,10 @@ fn push_filters(
     Ok(())
 }
 
-/// Adds copies of the filter files at these places, without the one at `place` of the list `places`. Where it is the
+/// Adds copies of the filter files at these places, without the one at `place` of the list `places`. Where this is the
 /// only one, adds the filter that allows all, since a stack has at least one filter. The caller's conditions: each
-/// place is that of a filter file, and `place` is below the length of `places`. `files` has some of the copies where an
-/// allocation is refused.
+/// place is that of a filter file, and `place` is below the length of `places`. Where an allocation is refused, `files`
+/// may have got some of the copies.
 fn push_rest(
     alloc: Global,
     files: &mut Vec<Vec<u8>>,
@@ -109,8 +109,9 @@ fn push_rest(
     push_filters(files, filters, &places[place + 1..])
 }
 
-/// Copies of the filter files at these places, and then those of the stack without the one at `place` of the list
-/// `places`. The caller's conditions: each place is that of a filter file, and `place` is below the length of `places`.
+/// Copies of the files of two stacks, one after the other: first the filter files at these places, and then what
+/// `push_rest` adds, the stack without the one at `place` of the list `places`. The caller's conditions: each place is
+/// that of a filter file, and `place` is below the length of `places`.
 fn files_of_both(
     alloc: Global,
     filters: &[Vec<u8>],
@@ -128,10 +129,10 @@ fn files_of_both(
     Ok(files)
 }
 
-/// Compares the stack of the filters at these places with the stack without the one at `place` of the list `places`.
-/// The caller's conditions: each place is that of a filter of the task, and `place` is below the length of `places`.
-/// Refusals: those of `stack_of` for the files of both stacks together. `Memory` can come anywhere. Waits for the
-/// workers.
+/// Compares the stack of the filters at these places, as the old one, with the stack without the one at `place` of the
+/// list `places`; where this is the only one, a filter that allows all stands in its place. The caller's conditions:
+/// each place is that of a filter of the task, and `place` is below the length of `places`. Refusals: those of
+/// `stack_of` for the files of both stacks together. `Memory` can come anywhere. Waits for the workers.
 pub(crate) fn try_without<R: Threads + Wait + Sync, G: Gate>(
     rt: &R,
     task: &Task<'_>,

@@ -33,9 +33,10 @@ fn least_places(
 }
 
 impl Board {
-    /// Closes the board, and gives what its words say at the end. They are right about the sheets that this seat and
-    /// the seats joined into it have entered. These are the sheets of all regions only where all seats were joined into
-    /// it and all jobs were drawn. The caller's condition: the seat is of this board.
+    /// Closes the board, and returns what its words say at the end. There is a hit at each least place. All else is
+    /// sure only about the sheets that were entered by this seat and by the seats joined into it. These are the sheets
+    /// of all regions where all seats were joined into it, and for each job a sheet was entered. The caller's
+    /// condition: the seat is of this board.
     pub fn close(self, seat: Seat) -> Tally
         requires { IsSeatOf self seat }
         ensures { RightTally (about self) (seat_view seat) result }

@@ -48,8 +48,8 @@ impl Board {
         }
     }
 
-    /// The least place so far of a region with a hit on the question q; `None` where no sheet with a hit on it was
-    /// entered. The caller's conditions: the seat is of this board, and there is such a question.
+    /// The least place so far of a region with a hit on the question q, counted from 0; `None` where no hit on it was
+    /// entered yet. The caller's conditions: the seat is of this board, and there is such a question.
     pub fn look(&self, seat: &mut Seat, q: usize) -> Option<usize>
         requires seat { IsSeatOf self.now seat.old }
         requires there { q < length (questions_of (about self.now)) }
@@ -70,8 +70,8 @@ impl Board {
         }
     }
 
-    /// One seat with all that both have drawn, entered and seen. The caller's conditions: both are seats of this board
-    /// that owe no sheet.
+    /// One seat with all that both have drawn, entered and seen; it draws no more where one of them has found that no
+    /// job is left. The caller's conditions: both are seats of this board that owe no sheet.
     pub fn join(&self, first: Seat, second: Seat) -> Seat
         requires seats { IsSeatOf self.now first × IsSeatOf self.now second }
         requires free { ((seat_view first).owes ≡ None) × ((seat_view second).owes ≡ None) }

@@ -11,9 +11,9 @@ use crate::board::{Board, Seat};
 use sf_ask::Sheet;
 
 impl Board {
-    /// Enters the hits of a sheet, one step for each: the least place of the question becomes the sheet's job where
-    /// that is lower. The caller's conditions: the seat is of this board, and the sheet is about the board's regions
-    /// and questions.
+    /// Enters the hits of a sheet, one step for each: the sheet's job becomes the least place of the question, unless
+    /// the board has a lower one. The caller's conditions: the seat is of this board, and the sheet is about the
+    /// board's regions and questions.
     fn enter_hits(&self, seat: &mut atomic_table::Seat<u8, View>, sheet: &Sheet)
         requires table { seat.old.table_id ≡ board_id self.now }
         requires same { (sheet.now.settled ≡ regions_of (about self.now))
@@ -61,8 +61,8 @@ impl Board {
     }
 
     /// Enters the sheet that the seat owes. The caller's conditions: the seat is of this board; the sheet is about the
-    /// board's regions and questions and for the job that the seat owes; and it skips only questions for which the seat
-    /// has seen a place below the job.
+    /// board's regions and questions and for the job that the seat owes; and it skips only questions on which the seat
+    /// has seen a hit at a place below the job.
     pub fn enter(&self, seat: &mut Seat, sheet: Sheet)
         requires seat { IsSeatOf self.now seat.old }
         requires sheet { IsSheetFor (about self.now) (seat_view seat.old) sheet }

@@ -14,8 +14,8 @@ use sf_book::Settled;
 use std::alloc::Global;
 use std::snapshot::Snapshot;
 
-/// The words of a new board: no job drawn, no sheet entered, no doubt, and no least place, for which the number of
-/// regions stands. `Memory` where an allocation is refused.
+/// The words of a new board: for the next job, for how many sheets were entered, and for doubts, all 0; and then for
+/// each question the number of regions, which stands for no least place. `Memory` where an allocation is refused.
 fn first_words(alloc: Global, regions: usize, questions: usize) -> Result<Vec<u64>, Fault>
     ensures ok { IfOk result (λ v. v.items ≡ (0 ∷ 0 ∷ 0 ∷ 0 ∷ 0 ∷ 0 ∷ [])
         ++ replicate questions regions) }
@@ -32,8 +32,8 @@ fn first_words(alloc: Global, regions: usize, questions: usize) -> Result<Vec<u6
 }
 
 impl Board {
-    /// A board about these regions and at most 256 questions, with this many seats, 1 to 65. No job is drawn and no
-    /// sheet entered. `Memory` where an allocation is refused.
+    /// A board about these regions and at most 256 questions, with this many seats, 1 to 65: up to 64 workers and the
+    /// thread that calls them. No job is drawn and no sheet entered. `Memory` where an allocation is refused.
     pub fn new(
         alloc: Global,
         settled: &Settled,

@@ -8,7 +8,7 @@ pub(crate) const NEXT: usize = 0;
 pub(crate) const ENTERED: usize = 1;
 /// The first of the four words of doubts: question q has bit q % 64 of the word q / 64.
 pub(crate) const DOUBTS: usize = 2;
-/// The word of the first question's least place.
+/// The word of the first question's least place; those of the other questions follow.
 pub(crate) const LEAST: usize = 6;
 /// How many questions one word of doubts has bits for.
 pub(crate) const BITS: usize = 64;
@@ -45,7 +45,7 @@ impl Play<u8, View> for Look {
     ghost then = { λ st m n w. Looks m.0 (st.word - 6) n w.0 × (w.1 ≡ m.1) };
 }
 
-/// The step of a seat that enters a hit: the least place of the question becomes the job where that is lower.
+/// The step of a seat that enters a hit: the job becomes the least place of the question, unless there is a lower one.
 pub(crate) struct Hits;
 
 impl Play<u8, View> for Hits {
@@ -89,7 +89,7 @@ impl Play<u8, View> for Glance {
     ghost then = { λ st m n w. (w ≡ m) × Knows m.0 };
 }
 
-/// A seat is split: the new one has done nothing.
+/// The step that splits a seat: the new one has done nothing.
 pub(crate) struct Deal;
 
 impl Split<View> for Deal {
@@ -100,7 +100,7 @@ impl Split<View> for Deal {
     ghost right = { shared_view };
 }
 
-/// Two seats become one, which has all that both have drawn, entered and seen.
+/// The step that joins two seats into one, which has all that both have drawn, entered and seen.
 pub(crate) struct Merge;
 
 impl Join<View> for Merge {

@@ -33,18 +33,18 @@ pub struct Note {
 
 /// What a seat knows. For proofs only: no value of it is made.
 pub struct View {
-    /// What its board is about.
+    /// What the seat's board is about.
     pub about: Option<BoardKey>,
-    /// How many of the seats that the board began with are joined in it.
+    /// How many of the seats that the board began with are joined in this one, itself counted.
     pub joined_seats: usize,
-    /// How many of them found that all jobs are drawn.
+    /// How many of these seats have found that all jobs are drawn.
     pub exhausted_seats: usize,
-    /// The job that it has drawn and not entered.
+    /// The job that the seat has drawn, and whose sheet it hasn't entered yet.
     pub owes: Option<usize>,
-    /// The questions whose doubts it has marked for the sheet that it is entering.
+    /// The questions whose doubts the seat has marked for the sheet that it is entering.
     pub marked: LinkedList<usize>,
-    /// The sheets that it has entered.
+    /// The sheets that the seat has entered.
     pub entered_sheets: LinkedList<EnteredSheet>,
-    /// What it has seen and entered of least places.
+    /// What the seat has seen and entered of least places.
     pub notes: LinkedList<Note>,
 }

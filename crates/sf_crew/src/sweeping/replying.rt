@@ -37,10 +37,10 @@ fn reply_without_hit(settled: &Settled, _question: &Question, doubt: bool) -> Re
     }
 }
 
-/// The reply to the question q. Where it has a least place in the tally, the region there is judged once more for its
-/// example: by the rules this verdict is a hit again. Else no region is judged. `Memory` where an allocation is
-/// refused. The caller's conditions: there is such a question, q is below 256, and the tally is that of all regions and
-/// these questions.
+/// The reply to the question q, counted from 0. Where the question has a least place in the tally, the region there is
+/// judged once more for its example: by the rules this verdict is a hit again. Else no region is judged. `Memory` where
+/// an allocation is refused. The caller's conditions: there is such a question, q is below 256, and the tally is that
+/// of all regions and these questions.
 fn reply_of(
     alloc: Global,
     settled: &Settled,
@@ -68,9 +68,9 @@ fn reply_of(
     Ok(Reply::Allowed(input))
 }
 
-/// A reply to each question, by this many workers, which judge the regions by a board. The gate sees each sheet between
-/// its making and its entering. The caller's conditions: 1 to 64 workers, and at most 256 questions. `Memory` where an
-/// allocation is refused.
+/// The replies to the questions, in their order, by this many workers, which judge the regions by a board. The gate
+/// sees each sheet between its making and its entering. The caller's conditions: 1 to 64 workers, and at most 256
+/// questions. `Memory` where an allocation is refused, also to a worker. Waits for the workers.
 pub fn sweep<R: Threads + Wait + Sync, G: Gate>(
     rt: &R,
     alloc: Global,

@@ -16,8 +16,8 @@ use sf_piece::advance;
 use std::alloc::Global;
 use std::sync::Arc;
 
-/// A lease of the first piece in name order. `None` where no piece is left, or the budget is spent. `Memory` where the
-/// book's `lease` has it. The caller's condition: no piece is on lease.
+/// A lease of the first piece in name order. `None` where no piece is outstanding, or the budget is spent. `Memory`
+/// only where too many owners would share the piece. The caller's condition: no piece is on lease.
 fn next_lease(book: &mut Book) -> Result<Option<Lease>, Fault>
     requires { IsFree book.old.outstanding }
     ensures same { IsSameExploration book.old book.new }
@@ -34,9 +34,9 @@ fn next_lease(book: &mut Book) -> Result<Option<Lease>, Fault>
 
 /// One turn: the piece of the lease is worked and committed, and the children of a split are given back to the book.
 /// The gate sees the work before it is committed; `worker` and `call` are the numbers of the worker and of its call,
-/// for the gate. The worker has the book to itself from lease to commit, so `Memory` is the only fault. The work is
-/// known to be of the book's stack, so its stack isn't compared with the book's. The caller's conditions: the lease is
-/// of this book, no other piece is on lease, and the budget isn't spent.
+/// for the gate. The worker has the book to itself from lease to commit, so `Memory` is the only fault; the piece stays
+/// on lease then. The work is known to be of the book's stack, so its stack isn't compared with the book's. The
+/// caller's conditions: the lease is of this book, no other piece is on lease, and the budget isn't spent.
 fn turn<G: Gate>(
     alloc: Global,
     book: &mut Book,
@@ -88,8 +88,8 @@ pub(crate) fn work_off<G: Gate>(
     Ok(())
 }
 
-/// The end of an exploration: closes a book of this stack and budget, of which nothing is outstanding or whose budget
-/// is spent. `_budget` is there for the contract only.
+/// Closes a book, and returns what was explored. The caller's conditions: the book is of this stack and budget; nothing
+/// is outstanding, or the budget is spent. `_budget` is there for the contract only.
 pub(crate) fn finish_book(book: Book, stack: &Arc<Stack>, _budget: u32) -> Settled
     requires end { IsExhausted book }
     requires stack { book.stack ≡ arc_value stack.now }
@@ -106,7 +106,8 @@ pub(crate) fn finish_book(book: Book, stack: &Arc<Stack>, _budget: u32) -> Settl
     settled
 }
 
-/// Explores a stack by the calling thread only, as worker 0. `Memory` where an allocation is refused.
+/// Explores a stack by at most `budget` works, by the calling thread only, as worker 0. The gate sees each work before
+/// it is committed. `Memory` where an allocation is refused, or the stack has too many owners.
 pub(crate) fn explore_alone<G: Gate>(
     alloc: Global,
     stack: Arc<Stack>,

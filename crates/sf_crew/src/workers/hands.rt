@@ -39,7 +39,7 @@ impl<N: Naming> Held<N> {
     }
 }
 
-/// A work that is ready to be handed in, and its children, the false one first.
+/// A work that is ready to be handed in, and its children, the false one first; `None` where the work isn't a split.
 #[derive(Drop)]
 pub(crate) struct Made {
     work: Work,
@@ -47,8 +47,8 @@ pub(crate) struct Made {
 }
 
 impl Made {
-    /// A work with its children, which are still at hand when the book has taken the work. Takes no memory. `Memory`
-    /// only where too many owners would share a child.
+    /// A work with its children, if it is a split; they are still at hand when the book has taken the work. Takes no
+    /// memory. `Memory` only where too many owners would share a child.
     pub(crate) fn of(work: Work) -> Result<Made, Fault>
         ensures ok { IfOk result (λ made. (made.work ≡ work) × HasItsChildren made) }
         ensures err { IfErr result (λ f. f ≡ Memory) }
@@ -92,7 +92,7 @@ impl<N: Naming> SharedBook<N> {
         }
     }
 
-    /// The book, when the workers have ended.
+    /// The book itself, for use when the workers have ended.
     pub(crate) fn into_book(self) -> Book
         ensures same { result ≡ self }
         ensures named { (result.stack ≡ N.stack) × (result.budget ≡ N.budget) }
@@ -109,7 +109,7 @@ impl<N: Naming> SharedBook<N> {
     }
 
     /// A lease of the first piece, in name order, that isn't on lease; `None` where all are, or none is outstanding.
-    /// `Memory` where the book's `lease` has it: the book is unchanged then.
+    /// `Memory` only where too many owners would share the piece: the book is unchanged then.
     pub(crate) fn lease(&mut self) -> Result<Option<Held<N>>, Fault>
         ensures ok { IfOk result (λ found. MatchOption found ((self.new ≡ self.old)
             × All (λ e. e.leased ≡ true) self.old.outstanding)
@@ -126,7 +126,7 @@ impl<N: Naming> SharedBook<N> {
         }))
     }
 
-    /// Gives a lease back.
+    /// Gives a lease back to the book: its piece can be leased out again.
     pub(crate) fn give_back(&mut self, held: Held<N>)
         ensures { self.new ≡ given_back held.id self.old }
     {
@@ -135,9 +135,10 @@ impl<N: Naming> SharedBook<N> {
     }
 
     /// Commits the work of a lease, and returns the leases of the children of a split, the false one's first; `None`
-    /// for another step. Where the book refuses the work, with `Stale`, `Spent` or `Memory`, the lease is given back.
-    /// The work is of the book's stack, as the lease's type says, so its stack isn't compared with the book's. The
-    /// caller's conditions: the work is of the lease's piece, and the children are the work's.
+    /// for another step. Where the book refuses the work, the lease is given back: `Stale` where no piece is
+    /// outstanding under its id, or one with another name; `Spent` where the budget is spent; `Memory` where an
+    /// allocation is refused. The work is of the book's stack, as the lease's type says, so its stack isn't compared
+    /// with the book's. The caller's conditions: the work is of the lease's piece, and the children are the work's.
     pub(crate) fn hand_in(
         &mut self,
         held: Held<N>,

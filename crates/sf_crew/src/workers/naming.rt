@@ -3,7 +3,8 @@
 use sf_book::Lease;
 use std::marker::{Brand, Model, PhantomData};
 
-/// The stack and the budget of an exploration, for proofs only. `explore` picks it for its workers.
+/// The stack and the budget of an exploration, for proofs only. `explore` passes the type `Brand`, for which the proof
+/// of this call picks both.
 pub(crate) trait Naming: Send + Sync {
     ghost use Rattle.std.specs.Prelude.{ℕ, List};
     ghost use Rattle.sf_check.specs.declared.insn.Insn.{Insn};

@@ -15,7 +15,7 @@ pub(crate) struct NewBench<N: Naming> {
     ghost unused: { length (owner_view owner).events ≡ 0 },
 }
 
-/// A worker's own bench. It can't be dropped: it is closed when `take` found nothing on it.
+/// A worker's own bench. It can't be dropped: `close` ends it, once nothing is left on it.
 pub(crate) struct Bench<N: Naming> {
     owner: Owner<NamedLease<N>>,
 }
@@ -27,14 +27,14 @@ pub(crate) struct Thieves<N: Naming> {
 }
 
 impl<N: Naming> NewBench<N> {
-    /// The bench of this owner. The caller's condition: nothing was put on it.
+    /// The bench of this owner. The caller's condition: nothing was put on the bench yet.
     pub(crate) fn of(owner: Owner<NamedLease<N>>) -> NewBench<N>
         requires { length (owner_view owner).events ≡ 0 }
     {
         NewBench { owner }
     }
 
-    /// The bench on which leases may be put. From now on it can't be dropped.
+    /// Opens the bench: leases may be put on it, and it can't be dropped any more.
     pub(crate) fn open(self) -> Bench<N>
         ensures { result.owner ≡ self.owner }
     {
@@ -70,8 +70,9 @@ impl<N: Naming> Bench<N> {
         Some(Held { lease })
     }
 
-    /// The owner of a bench, which can be dropped again. The caller's condition: `take` has found nothing on the bench.
-    /// With thieves the clause doesn't say what they got.
+    /// Ends the bench and returns its owner, which may be dropped. The caller's condition: nothing is left on the
+    /// bench, since the last `take` found nothing and nothing was put later. Where there are thieves the clause doesn't
+    /// check this: as far as the owner knows, thieves may have got what is left.
     pub(crate) fn close(self) -> Owner<NamedLease<N>>
         requires { AllGot (owner_view self.owner) }
         ensures { result ≡ self.owner }
@@ -97,7 +98,8 @@ impl<N: Naming> Thieves<N> {
         Ok(())
     }
 
-    /// Tries each bench once, in order, and returns the first lease that it gets; `None` where it gets none.
+    /// Tries each bench once, in order, and returns the first lease that it gets. `None` where it gets none: on each
+    /// bench nothing was left, or another handle came first.
     pub(crate) fn steal(&mut self) -> Option<Held<N>>
         ensures { Steals (thief_views self.old.thieves.items) result
             (thief_views self.new.thieves.items) }

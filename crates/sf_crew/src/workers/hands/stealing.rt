@@ -7,8 +7,8 @@ use crate::workers::hands::Held;
 use crate::workers::naming::{NamedLease, Naming};
 use crossbeam_deque::Steal;
 
-/// Tries to steal a lease from the bench of the thief at this place. `None` where nothing is on it, or another handle
-/// came first.
+/// Tries to steal a lease from the bench of the thief at this place. `None` where nothing is left on the bench, or
+/// another handle came first. The caller's condition: there is a thief at this place.
 fn steal_at<N: Naming>(others: &mut [Thief<NamedLease<N>>], place: usize) -> Option<Held<N>>
     requires { place < length others.old }
     ensures { Steals (thief_views others.old) result (thief_views others.new) }
@@ -19,7 +19,8 @@ fn steal_at<N: Naming>(others: &mut [Thief<NamedLease<N>>], place: usize) -> Opt
     }
 }
 
-/// Tries each bench once, in order, and returns the first lease that it gets; `None` where it gets none.
+/// Tries the bench of each thief once, in order, and returns the first lease that it gets. `None` where it gets none:
+/// on each bench nothing was left, or another handle came first.
 pub(crate) fn steal_from<N: Naming>(others: &mut [Thief<NamedLease<N>>]) -> Option<Held<N>>
     ensures { Steals (thief_views others.old) result (thief_views others.new) }
 {
