@@ -162,7 +162,7 @@ pub(crate) fn arguments<'a>(alloc: Global) -> Arg<'a>
     )
 }
 
-/// `--trace`: whether an evaluation shows where its answer comes from.
+/// `--trace`: whether an evaluation also shows the input, and what each filter meets and returns.
 pub(crate) fn trace<'a>(alloc: Global) -> Arg<'a>
     ensures rule { rule_of result ≡ switch_rule (codes "trace") }
     ensures own { result.global ≡ false }
@@ -170,8 +170,8 @@ pub(crate) fn trace<'a>(alloc: Global) -> Arg<'a>
     switch(alloc, "trace").help("Show what each filter meets and returns too")
 }
 
-/// `--trace-true`: whether an evaluation shows where its answer comes from, without failed tests and divisions by an X
-/// that isn't 0.
+/// `--trace-true`: whether an evaluation shows the same as with `--trace`, but for failed tests and divisions by an X
+/// that isn't 0. It doesn't need `--trace`.
 pub(crate) fn trace_true<'a>(alloc: Global) -> Arg<'a>
     ensures rule { rule_of result ≡ switch_rule (codes "trace-true") }
     ensures own { result.global ≡ false }
@@ -210,8 +210,8 @@ pub(crate) fn filters<'a>(alloc: Global) -> Arg<'a>
         .help("Filter files, in order of installation")
 }
 
-/// `--old` or `--new`, as `name` says: the paths of the filter files of one of two stacks. `help` is what the help says
-/// of it.
+/// `--old` or `--new`, as `name` says: the paths of the filter files of one of two stacks, at least one. It must be
+/// given. `help` is what the help says of it.
 pub(crate) fn files<'a>(alloc: Global, name: &'a str, help: &'a str) -> Arg<'a>
     ensures rule { rule_of result ≡ files_rule name.entry.now }
     ensures own { result.global ≡ false }
@@ -223,7 +223,8 @@ pub(crate) fn files<'a>(alloc: Global, name: &'a str, help: &'a str) -> Arg<'a>
         .help(help)
 }
 
-/// `--same`: whether the exit status of a comparison is about `Different`, and not about `Looser`.
+/// `--same`: whether the exit status of a comparison tells whether answers differ at all, and not whether the new stack
+/// is looser.
 pub(crate) fn same_switch<'a>(alloc: Global) -> Arg<'a>
     ensures rule { rule_of result ≡ switch_rule (codes "same") }
     ensures own { result.global ≡ false }
@@ -250,7 +251,7 @@ pub(crate) fn names<'a>(alloc: Global) -> Arg<'a>
 }
 
 /// `--calls`: whether rows are shown call by call, and of which calls. Where no names follow it, its text is empty, and
-/// all calls are meant.
+/// all calls of `--names` are meant.
 pub(crate) fn calls<'a>(alloc: Global) -> Arg<'a>
     ensures rule { rule_of result ≡ choice_rule (codes "calls") }
     ensures own { result.global ≡ false }
@@ -310,7 +311,7 @@ pub(crate) fn cap<'a>(alloc: Global) -> Arg<'a>
     )
 }
 
-/// `--kernel`: the version of the kernel for which a profile is read.
+/// `--kernel`: the version of the kernel for which a profile is read. Whether its word is a version is seen later.
 pub(crate) fn kernel<'a>(alloc: Global) -> Arg<'a>
     ensures rule { rule_of result ≡ option_rule (codes "kernel") }
     ensures own { result.global ≡ false }
@@ -318,7 +319,8 @@ pub(crate) fn kernel<'a>(alloc: Global) -> Arg<'a>
     option(alloc, "kernel", "X.Y").help("The version of the kernel, such as 6.12")
 }
 
-/// `--conflicts`: which rule counts where several speak of one call; `strictest` where it isn't given.
+/// `--conflicts`: which rule of a profile counts where several speak of one call; `strictest` where it isn't given.
+/// Whether its word is one of the three is seen later.
 pub(crate) fn conflicts<'a>(alloc: Global) -> Arg<'a>
     ensures rule { rule_of result ≡ word_rule (codes "conflicts") (codes "strictest") }
     ensures own { result.global ≡ false }

@@ -5,16 +5,18 @@ ghost use Rattle.sf_command_line.specs.Options.{IsOptionNumber, IsSwitch, text_o
 
 use clap::ArgMatches;
 
-/// The text behind the option with this name, which has no dashes. Where the option isn't given, it is its usual value,
-/// or empty where it has none.
+/// The text of the option or other argument with this name, which has no dashes; the first one where there are several.
+/// Where it isn't given, this is its usual value, or the empty text if it has none. The text of a switch is `true` or
+/// `false`.
 pub fn text_of<'a>(found: &ArgMatches<'a>, name: &str) -> &'a str
     ensures { result.now ≡ text_of name.now (rows_of (found_of found.now)) }
 {
     found.get_str(name).unwrap_or("")
 }
 
-/// The text behind the option with this name, which has no dashes. Where the option isn't given, it is its usual value,
-/// or none where it has none.
+/// The text of the option or other argument with this name, which has no dashes; the first one where there are several.
+/// Where it isn't given, this is its usual value, or `None` if it has none. `--calls` without names behind it has the
+/// empty text.
 pub fn given_text<'a>(found: &ArgMatches<'a>, name: &str) -> Option<&'a str>
     ensures { option_map (λ t. t.now) result ≡ first_of name.now (rows_of (found_of found.now)) }
 {
@@ -30,15 +32,16 @@ pub fn budget_of(found: &ArgMatches<'_>) -> u32
     found.get_one::<u32>("budget").unwrap_or(100_000)
 }
 
-/// The number of workers that is asked for; 4 where it isn't given. The form of the command line lets only 1 to 64
-/// through, but the clause doesn't say so: `workers_of` looks.
+/// The number of workers, by `--workers`; 4 where it isn't given. The form of the command line lets only 1 to 64
+/// through, but that isn't proved of this result, so `workers_of` looks once more.
 fn asked_workers(found: &ArgMatches<'_>) -> u8
     ensures { IsOptionNumber (one_of (codes "workers") (rows_of (found_of found.now))) 64 4 result }
 {
     found.get_one::<u8>("workers").unwrap_or(4)
 }
 
-/// The number of workers, 1 to 64. Another number would become 4, but the form of the command line lets none through.
+/// The number of workers, by `--workers`, 1 to 64; 4 where it isn't given. Another number would become 4, but the form
+/// of the command line lets none through.
 pub fn workers_of(found: &ArgMatches<'_>) -> u8
     ensures number { IsOptionNumber (one_of (codes "workers")
         (rows_of (found_of found.now))) 64 4 result }
@@ -48,7 +51,8 @@ pub fn workers_of(found: &ArgMatches<'_>) -> u8
     if 0 < asked && asked <= 64 { asked } else { 4 }
 }
 
-/// Whether the switch with this name is given. A switch is an option without a value; the name has no dashes.
+/// Whether the switch with this name is given; false too where the subcommand has no such switch. A switch is an option
+/// without a value; the name has no dashes.
 fn is_on(found: &ArgMatches<'_>, name: &str) -> bool
     ensures { IsSwitch (one_of name.now (rows_of (found_of found.now))) result }
 {
@@ -62,21 +66,23 @@ pub fn wants_regions(found: &ArgMatches<'_>) -> bool
     is_on(found, "regions")
 }
 
-/// Whether an evaluation shows where its answer comes from.
+/// Whether `--trace` is given: an evaluation then also shows the input, and what each filter meets and returns.
 pub fn wants_trace(found: &ArgMatches<'_>) -> bool
     ensures { IsSwitch (one_of (codes "trace") (rows_of (found_of found.now))) result }
 {
     is_on(found, "trace")
 }
 
-/// Whether an evaluation shows where its answer comes from, without failed tests and divisions by an X that isn't 0.
+/// Whether `--trace-true` is given: an evaluation then shows the same as with `--trace`, but for failed tests and
+/// divisions by an X that isn't 0.
 pub fn wants_brief_trace(found: &ArgMatches<'_>) -> bool
     ensures { IsSwitch (one_of (codes "trace-true") (rows_of (found_of found.now))) result }
 {
     is_on(found, "trace-true")
 }
 
-/// Whether the exit status of a comparison is about `different`, and not about `looser`.
+/// Whether the exit status of a comparison tells whether answers differ at all, and not whether the new stack is
+/// looser.
 pub fn wants_same(found: &ArgMatches<'_>) -> bool
     ensures { IsSwitch (one_of (codes "same") (rows_of (found_of found.now))) result }
 {
@@ -90,7 +96,7 @@ pub fn wants_rows(found: &ArgMatches<'_>) -> bool
     is_on(found, "rows")
 }
 
-/// Whether a fault is explained under its line.
+/// Whether `--explain-errors` is given: a fault is then explained under its line.
 pub fn wants_explanation(found: &ArgMatches<'_>) -> bool
     ensures { IsSwitch (one_of (codes "explain-errors") (rows_of (found_of found.now))) result }
 {
@@ -118,15 +124,15 @@ pub fn wants_notes(found: &ArgMatches<'_>) -> bool
     is_on(found, "notes")
 }
 
-/// Whether warnings are left out.
+/// Whether warnings are left out. False where the subcommand has no `--quiet`.
 pub fn wants_quiet(found: &ArgMatches<'_>) -> bool
     ensures { IsSwitch (one_of (codes "quiet") (rows_of (found_of found.now))) result }
 {
     is_on(found, "quiet")
 }
 
-/// After how many leaves of a picture no further fork is begun; 20,000 where it isn't given. The form of the command
-/// line lets only 1 to 1,000,000 through.
+/// After how many leaves of a picture no further fork is begun, by `--leaves`; 20,000 where it isn't given. The form of
+/// the command line lets only 1 to 1,000,000 through.
 pub fn leaves_of(found: &ArgMatches<'_>) -> u32
     ensures { IsOptionNumber (one_of (codes "leaves") (rows_of (found_of found.now)))
         1000000 20000 result }

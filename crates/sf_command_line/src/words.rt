@@ -173,7 +173,8 @@ fn profile<'a>(alloc: Global) -> Result<Command<'a>, AllocError>
         .arg(profile_file(alloc))
 }
 
-/// The program without its subcommands. The words that are matched by it begin behind the program's name. An error
+/// The program without its subcommands. The words that are matched by it begin behind the program's name, and must name
+/// a subcommand. It has no subcommand `help`: `meant_words` of `sf_command` makes `--help` of that word first. An error
 /// where an allocation is refused.
 fn program<'a>(alloc: Global) -> Result<Command<'a>, AllocError>
     ensures { IfOk result (λ c. app_of c ≡ program_line) }

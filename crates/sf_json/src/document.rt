@@ -13,6 +13,7 @@ use std::marker::Model;
 /// A JSON value that has no float, so that contracts can say what its text is.
 #[derive(Drop)]
 pub struct Document {
+    /// The value, in which no float stands, however deep.
     value: Value,
 }
 
@@ -76,7 +77,7 @@ impl Document {
         }
     }
 
-    /// A text.
+    /// A text, which is written between quotation marks and escaped where JSON asks for it.
     pub fn text(text: String) -> Document
         ensures { view result ≡ string (string_bytes text) }
     {
@@ -85,7 +86,7 @@ impl Document {
         }
     }
 
-    /// A copy of a text. An error where an allocation is refused.
+    /// A copy of a text, as a document. An error where an allocation is refused.
     pub fn copy_of(alloc: Global, text: &str) -> Result<Document, AllocError>
         ensures { IfOk result (λ d. view d ≡ string text.now) }
     {
@@ -100,7 +101,7 @@ impl Document {
         Ok(Document { value })
     }
 
-    /// The array of these documents. An error where an allocation is refused.
+    /// The array of these documents, in the same order. An error where an allocation is refused.
     pub fn array(alloc: Global, documents: Vec<Document>) -> Result<Document, AllocError>
         ensures { IfOk result (λ d. view d ≡ array (items_view documents.items)) }
     {
@@ -120,7 +121,8 @@ impl Document {
     }
 }
 
-/// The values of documents, in the same order. An error where an allocation is refused.
+/// The values of documents, in the same order. For the prover: none of them has a float. An error where an allocation
+/// is refused.
 #[tactic(auto, using(crate::proofs::DocumentLemmas::no_float_behind))]
 fn values_of(alloc: Global, documents: Vec<Document>) -> Result<Vec<Value>, AllocError>
     ensures same { IfOk result (λ vs. vs.items ≡ documents.items) }
@@ -133,12 +135,13 @@ fn values_of(alloc: Global, documents: Vec<Document>) -> Result<Vec<Value>, Allo
     Ok(values)
 }
 
-/// The fields of an object, to which more may be added.
+/// The fields of an object, to which more may be added. An object is written with its fields in the order of their
+/// keys, whatever the order in which they were added.
 #[derive(Drop)]
 pub struct Fields {
     /// Where further fields are allocated.
     alloc: Global,
-    /// The values by their keys. They are written in the order of the keys.
+    /// The values by their keys. None has a float. They are written in the order of the keys' bytes.
     map: Map<String, Value>,
 }
 
@@ -160,7 +163,7 @@ impl Model for Fields {
 }
 
 impl Fields {
-    /// No fields.
+    /// No fields. Those that are added take their memory from `alloc`.
     pub fn new(alloc: Global) -> Fields
         ensures { view result ≡ object no_members }
     {

@@ -10,8 +10,8 @@ use sf_book::{Counts, Settled};
 use sf_check::{Program, path_length};
 use std::alloc::{AllocError, Global};
 
-/// The object with how many programs there are (`filters`), and the length of the path through them (`path`). The
-/// caller's condition: at most 64 programs. An error where an allocation is refused.
+/// The object with how many programs there are (`filters`), and the length of the path through them (`path`), as
+/// `path_length` counts it. The caller's condition: at most 64 programs. An error where an allocation is refused.
 pub fn sizes_document(alloc: Global, programs: &[Program]) -> Result<Document, AllocError>
     requires { length programs.now ≤ 64 }
     ensures { IfOk result (λ d. view d ≡ sizes_document programs.now) }
@@ -24,16 +24,16 @@ pub fn sizes_document(alloc: Global, programs: &[Program]) -> Result<Document, A
     Ok(Document::object(fields))
 }
 
-/// The same for the programs of the stack of an exploration, as `sizes_document` makes it. An error where an allocation
-/// is refused.
+/// The object that `sizes_document` makes of the stack of an exploration: how many programs it has, and the length of
+/// the path through them. An error where an allocation is refused.
 pub fn stack_document(alloc: Global, exploration: &Settled) -> Result<Document, AllocError>
     ensures { IfOk result (λ d. view d ≡ sizes_document exploration.now.stack) }
 {
     sizes_document(alloc, exploration.stack().programs())
 }
 
-/// The object with these counts: of regions, outstanding pieces (`open`), emptied names, splits and commits. An error
-/// where an allocation is refused.
+/// The object with these counts: of regions (`regions`), outstanding pieces (`open`), emptied names (`emptied`), splits
+/// (`splits`) and commits (`commits`). An error where an allocation is refused.
 fn document_of_counts(alloc: Global, counts: Counts) -> Result<Document, AllocError>
     ensures { IfOk result (λ d. view d ≡ counts_document counts) }
 {
@@ -46,7 +46,8 @@ fn document_of_counts(alloc: Global, counts: Counts) -> Result<Document, AllocEr
     Ok(Document::object(fields))
 }
 
-/// The object with the counts of an exploration. An error where an allocation is refused.
+/// The object with the counts of an exploration, as `document_of_counts` makes it. An error where an allocation is
+/// refused.
 pub fn counts_document(alloc: Global, exploration: &Settled) -> Result<Document, AllocError>
     ensures { IfOk result (λ d. view d ≡ counts_document (counts_of exploration.now)) }
 {

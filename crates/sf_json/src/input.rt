@@ -12,7 +12,8 @@ use sf_names::Names;
 use sf_policy::hex_of;
 use std::alloc::{AllocError, Global};
 
-/// A number of 32 bits as a text: `0x` and eight hexadecimal digits. An error where an allocation is refused.
+/// A number of 32 bits as a text: `0x` and eight hexadecimal digits in lower case. An error where an allocation is
+/// refused.
 pub fn word_document(alloc: Global, number: u32) -> Result<Document, AllocError>
     ensures { IfOk result (λ d. view d ≡ word number) }
 {
@@ -20,8 +21,8 @@ pub fn word_document(alloc: Global, number: u32) -> Result<Document, AllocError>
     Ok(Document::text(text))
 }
 
-/// A number of 64 bits from its halves, as a text: `0x` and sixteen hexadecimal digits. An error where an allocation is
-/// refused.
+/// A number of 64 bits from its low and its high 32 bits, as a text: `0x` and sixteen hexadecimal digits in lower case.
+/// An error where an allocation is refused.
 fn long_word(alloc: Global, low: u32, high: u32) -> Result<Document, AllocError>
     ensures { IfOk result (λ d. view d ≡ long_word (whole_of low high)) }
 {
@@ -43,7 +44,8 @@ fn call_document(alloc: Global, names: &[Names], input: &Input) -> Result<Docume
     Ok(Document::text(text))
 }
 
-/// The array of the six arguments of an input, each as `long_word` writes it. An error where an allocation is refused.
+/// The array of the six arguments of an input, each as `long_word` writes it. The low half of an argument is the word
+/// before its high half. An error where an allocation is refused.
 fn arguments(alloc: Global, input: &Input) -> Result<Document, AllocError>
     ensures { IfOk result (λ d. view d ≡ list_of (map long_word (arguments_in input.now))) }
 {
@@ -59,9 +61,10 @@ fn arguments(alloc: Global, input: &Input) -> Result<Document, AllocError>
     Document::array(alloc, arguments)
 }
 
-/// An input as an object: its 64 bytes in hexadecimal digits, the number of its call, its architecture, its instruction
-/// pointer and its arguments, and its call in words, or `null` where none of the sets of names has the call. An error
-/// where an allocation is refused.
+/// An input as an object. As texts of hexadecimal digits it has the 64 bytes (`bytes`), the architecture (`arch`), the
+/// instruction pointer (`instruction_pointer`) and the arguments, in an array (`args`). It has the number of the call
+/// as a number (`nr`), and the call in words (`call`), which is `null` where none of the sets of names has the call. An
+/// error where an allocation is refused.
 pub fn input_document(alloc: Global, names: &[Names], input: &Input) -> Result<Document, AllocError>
     ensures { IfOk result (λ d. view d ≡ input_document names.now input.now) }
 {

@@ -29,7 +29,7 @@ fn sets_of(alloc: Global, text: &str) -> Vec<Names> {
     }
 }
 
-/// Whether a document is written as this text.
+/// Whether a document is written as this text. Fails where an allocation is refused.
 fn is_written(alloc: Global, document: &Document, text: &str) -> Result<bool, Fail> {
     let mut out: Vec<u8> = Vec::new(alloc);
     write_document(alloc, document, &mut out)?;

@@ -12,7 +12,8 @@ use sf_policy::{Fault, write_bytes};
 use std::alloc::{AllocError, Global};
 use std::io::Write;
 
-/// A document on a line of its own, without blanks. An error where an allocation is refused.
+/// The text of a document on a line of its own: without blanks between its parts, and with a line feed at its end. An
+/// error where an allocation is refused.
 pub fn line_of(alloc: Global, document: &Document) -> Result<String, AllocError>
     ensures { IfOk result (λ text. string_bytes text ≡ document_line (view document.now)) }
 {
@@ -21,7 +22,7 @@ pub fn line_of(alloc: Global, document: &Document) -> Result<String, AllocError>
     Ok(text)
 }
 
-/// Writes a document on a line of its own, without blanks.
+/// Writes a document on a line of its own, as `line_of` gives it.
 ///
 /// `Write` where a write fails or takes no byte: a beginning of the line was written then. `Memory` where the text
 /// can't be built: nothing was written then.

@@ -9,7 +9,7 @@ use crate::fault::Fault;
 use sf_ask::Question;
 use std::alloc::{AllocError, Global};
 
-/// Whether a part of a line begins a comment: its first byte is `#`.
+/// Whether what stands between two spaces of a line begins a comment: its first byte is `#`. `false` where it is empty.
 fn is_comment(part: &str) -> bool
     ensures { result ≡ is_comment part.now }
 {
@@ -23,8 +23,8 @@ fn lines_of<'a>(alloc: Global, text: &'a str) -> Result<Vec<&'a str>, AllocError
     text.lines().collect(alloc)
 }
 
-/// The words of a line before its comment: what stands between spaces, without empty parts. An error where an
-/// allocation is refused.
+/// The words of a line before its comment: what stands between spaces, where it isn't empty. Only the byte 0x20 is a
+/// space, so a tab belongs to a word. An error where an allocation is refused.
 fn words_of_line<'a>(alloc: Global, line: &'a str) -> Result<Vec<&'a str>, AllocError>
     ensures { IfOk result (λ v. map (λ t. t.now) v.items ≡ words_of_line line.now) }
 {
@@ -42,8 +42,9 @@ fn is_name_once(questions: &[Question], name: &str) -> bool
     named.count() == 1
 }
 
-/// The names of the questions that may be allowed, by the text of their file: each line has one name or none, and a `#`
-/// at its beginning or after a space begins a comment.
+/// The names of the questions that may be allowed, by the text of their file, in the order of its lines: each line has
+/// one name or none, and a `#` at its beginning or after a space begins a comment. A name that two lines have comes
+/// twice.
 ///
 /// `Accepted`, with the number of the line from 1, at the first line that has more than one word, or a word that isn't
 /// the name of exactly one of the questions; `Memory` where an allocation is refused.

@@ -9,7 +9,8 @@ use thiserror::Error;
 
 /// Why a policy, a filter, a profile, a file of names, an input or a report was refused. Filters, questions and rules
 /// are numbered from 1 in the order in which they were given, instructions from 0. The text of a fault is its number,
-/// its name and its place.
+/// the name of that number, and its place, where it has one. Faults of one number have the same name in their texts:
+/// `TopKey` and `NamesKey` are written as `Key`.
 #[derive(Clone, Copy, Debug, PartialEq, Eq, Error)]
 pub enum Fault {
     /// The length of a filter's bytes is no multiple of 8.
@@ -24,7 +25,8 @@ pub enum Fault {
     /// An instruction's code isn't among the permitted ones.
     #[error("20 Code filter {filter} instruction {instruction}")]
     Code { filter: usize, instruction: usize },
-    /// A field of an instruction is out of its range.
+    /// The field k of an instruction is out of its range: no word of the input, no scratch word, a divisor of 0, or a
+    /// shift of 32 or more.
     #[error("21 Field filter {filter} instruction {instruction}")]
     Field { filter: usize, instruction: usize },
     /// A jump or a test leads outside the filter.
@@ -33,7 +35,7 @@ pub enum Fault {
     /// The last instruction of a filter is no return.
     #[error("23 Last filter {filter}")]
     Last { filter: usize },
-    /// A scratch word is loaded that some path has not stored.
+    /// An instruction loads a scratch word that some path from the start to it has not stored.
     #[error("24 Scratch filter {filter} instruction {instruction}")]
     Scratch { filter: usize, instruction: usize },
     /// There is no filter.
@@ -42,10 +44,11 @@ pub enum Fault {
     /// There are more than 64 filters.
     #[error("26 TooMany")]
     TooMany,
-    /// The path through all filters is longer than 32768.
+    /// The path through all filters is longer than 32768. It counts all their instructions, and 4 more for each filter
+    /// but the newest.
     #[error("27 PathLength")]
     PathLength,
-    /// The policy's version is missing, or isn't one of the known ones.
+    /// The policy's version is missing, or is neither 1 nor 2.
     #[error("40 Version")]
     Version,
     /// The policy has an unknown key at its top, or its questions aren't an array of tables.
@@ -57,7 +60,7 @@ pub enum Fault {
     /// A word of a question has a number outside 32 bits, or a range whose low end is above its high end.
     #[error("42 Range question {question}")]
     Range { question: usize },
-    /// A question names no action, or an unknown one.
+    /// A question has a key `actions` whose array names no action, or an unknown one.
     #[error("43 Actions question {question}")]
     Actions { question: usize },
     /// The name of a question isn't 1 to 64 bytes from 0x21 to 0x7e.
@@ -69,7 +72,8 @@ pub enum Fault {
     /// The policy, or the file of names, is no TOML.
     #[error("46 Syntax")]
     Syntax,
-    /// The input isn't 128 hexadecimal digits.
+    /// The input isn't 128 hexadecimal digits. Or it is given as a call, and the call's number isn't one of at most 32
+    /// bits, or the arguments aren't one to six numbers of at most 64 bits.
     #[error("47 Input")]
     Input,
     /// A word of a question has a value with a bit outside its mask.
@@ -89,10 +93,10 @@ pub enum Fault {
     /// more than one word. Lines are numbered from 1.
     #[error("44 Name line {line}")]
     Accepted { line: usize },
-    /// A profile is refused.
+    /// A profile is refused for this fault, which isn't `Memory`. Its text is that of the profile's fault.
     #[error("{0}")]
     Profile(sf_profile::Fault),
-    /// A file can't be read.
+    /// A file can't be read, or has more than 1 MiB.
     #[error("50 Read")]
     Read,
     /// A write failed, or took no byte.
@@ -140,6 +144,7 @@ impl Fault {
 impl From<AllocError> for Fault {
     ghost from_gives = { λ _ e. e ≡ Memory };
 
+    /// A refused allocation is the fault `Memory`.
     fn from(_e: AllocError) -> Fault {
         Fault::Memory
     }
@@ -148,6 +153,7 @@ impl From<AllocError> for Fault {
 impl<T: Drop> From<AllocFailed<T>> for Fault {
     ghost from_gives = { λ _ e. e ≡ Memory };
 
+    /// A refused allocation is the fault `Memory`. The value that should have been stored is dropped.
     fn from(_e: AllocFailed<T>) -> Fault {
         Fault::Memory
     }
@@ -167,8 +173,8 @@ impl From<sf_names::Fault> for Fault {
 
     ghost from_gives = { λ e f. f ≡ of_names e };
 
-    /// The same fault. `NamesKey` and `NamesRange` have other names, since `Key` and `Range` have the number of a
-    /// question.
+    /// The same fault. `Key` and `Range` become `NamesKey` and `NamesRange`, since the faults `Key` and `Range` of this
+    /// type have the number of a question.
     fn from(e: sf_names::Fault) -> Fault {
         match e {
             sf_names::Fault::Syntax => Fault::Syntax,

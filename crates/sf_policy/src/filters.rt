@@ -54,8 +54,10 @@ fn fault_of_checking(filter: usize, fault: sf_check::Fault) -> Fault
     }
 }
 
-/// The program that the bytes of a filter spell. `filter` is the filter's number, from 1, for the fault. The refusals
-/// are those of the bytes, and then those of the instructions; `Memory` can come anywhere.
+/// The program that the bytes of a filter spell. `filter` is the filter's number, from 1, for the fault.
+///
+/// Refusals, tried in this order: `Ragged`, `Empty` and `TooLong`, for the bytes; then the first of `Code`, `Field`,
+/// `Jump`, `Last` and `Scratch` that `check` finds, for the instructions. `Memory` can come anywhere.
 fn program_of(alloc: Global, filter: usize, bytes: &[u8]) -> Result<Program, Fault>
     ensures accepted { IfOk result (SpellsProgram bytes.now) }
     ensures refused { IfErr result (λ e. (e ≡ Fault.Memory) ⊎ IsRefusalOf filter bytes.now e) }
@@ -83,8 +85,9 @@ fn programs_of(alloc: Global, filters: &[Vec<u8>]) -> Result<Vec<Program>, Fault
 /// The stack that these filter files spell. They stand in order of installation, the newest last.
 ///
 /// Refusals, tried in this order: `NoFilter` where there is no file, `TooMany` where there are more than 64; then for
-/// each file in order `Ragged`, `Empty` and `TooLong`, then the first fault of its instructions; then `PathLength`
-/// where the path through all programs is longer than 32768. `Memory` can come anywhere.
+/// each file in order `Ragged`, `Empty` and `TooLong`, then the fault of its instructions that `check` finds first;
+/// then `PathLength` where the path through all programs, by `Stack::path_length`, is longer than 32768. `Memory` can
+/// come anywhere.
 pub fn stack_of(alloc: Global, filters: &[Vec<u8>]) -> Result<Stack, Fault>
     ensures accepted { IfOk result (SpellStack (map (λ f. f.items) filters.now)) }
     ensures refused { IfErr result (λ e. (e ≡ Fault.Memory)

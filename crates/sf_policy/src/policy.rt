@@ -63,9 +63,11 @@ fn tables_in(value: &Value) -> Option<&[Value]>
     if are_tables(items) { Some(items) } else { None }
 }
 
-/// The questions of a policy's tree. `Version`; then `TopKey` where a key at the top is unknown; `Count` where the
-/// questions are missing; `TopKey` where they are no array of tables; `Count` where there is none or more than 256;
-/// then what `questions_in` refuses.
+/// The questions of a policy's tree, in order.
+///
+/// Refusals, tried in this order: `Version` where the version is missing or neither 1 nor 2; `TopKey` where a key at
+/// the top is unknown; `Count` where the questions are missing; `TopKey` where they are no array of tables; `Count`
+/// where there are none or more than 256; then what `questions_in` refuses, which may be `Memory` too.
 fn policy_of_table(alloc: Global, table: &Table) -> Result<Vec<Question>, Fault>
     ensures { IsDue (λ v. v.items) result (policy_of (table_view table.now)) }
 {
@@ -116,12 +118,13 @@ pub fn read_policy_at(alloc: Global, text: &str) -> Result<Vec<Question>, Refusa
 }
 
 /// The questions of a policy file, which is TOML of version 1 or 2. A question names ranges of words and, in version 2,
-/// bits of them; a word that it doesn't name may have any number. A question without actions asks about ALLOW and LOG.
+/// bits of them; a word that it doesn't name may have any number. A question without a key `actions` asks about ALLOW
+/// and LOG.
 ///
 /// Refusals, tried in this order: `Syntax` where the text is no TOML; `Version` where the version is missing or neither
 /// 1 nor 2; `TopKey` where a key at the top is unknown or the questions are no array of tables; `Count` where there are
 /// none or more than 256; then, question after question, `Key`, `Name`, `Range`, `Mask` and `Actions`, with the number
-/// of the question from 1. `Memory` can come anywhere.
+/// of the question from 1 (`Fault` says when each comes). `Memory` can come anywhere.
 pub fn read_policy(alloc: Global, text: &str) -> Result<Vec<Question>, Fault>
     // Where the text is TOML, the questions or the refusal are those of its tree.
     ensures read { (tree : Members) → parse_document text.now ≡ Some tree

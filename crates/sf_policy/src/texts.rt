@@ -11,7 +11,7 @@ use sf_insn::{Input, bytes_of_input};
 use std::alloc::{AllocError, Global};
 use std::io::Write;
 
-/// The hexadecimal digits of an input's bytes. `AllocError` where an allocation is refused.
+/// The 64 bytes of an input as 128 hexadecimal digits in lower case. `AllocError` where an allocation is refused.
 pub fn hex_of(alloc: Global, input: &Input) -> Result<String, AllocError>
     ensures { IfOk result (λ digits. string_bytes digits ≡ hex_text input.now) }
 {

@@ -12,7 +12,7 @@ use super::keys::{is_among, value_at};
 use sf_ask::ActionSet;
 use toml::{Table, Value};
 
-/// The names that a policy has for the actions.
+/// The names that a policy has for the actions. `OTHER` stands for all actions without a name.
 const ACTION_NAMES: [&str; 9] = [
     "KILL_PROCESS",
     "KILL_THREAD",

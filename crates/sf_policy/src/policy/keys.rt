@@ -29,7 +29,7 @@ pub(crate) const TOP_KEYS: [&str; 2] = ["version", "question"];
 /// The keys that the table of a word may have.
 const MASK_KEYS: [&str; 4] = ["mask", "value", "low", "high"];
 
-/// The value at a key; none where the key is missing.
+/// The value at a key; `None` where the key is missing.
 #[tactic(auto, using(toml::proofs::Views::table_get))]
 pub(crate) fn value_at<'a>(table: &'a Table, key: &str) -> Option<&'a Value>
     ensures { option_map (λ v. view v.now) result ≡ get_member key.now (table_view table.now) }
@@ -37,14 +37,14 @@ pub(crate) fn value_at<'a>(table: &'a Table, key: &str) -> Option<&'a Value>
     table.get(key)
 }
 
-/// The whole number at a key; none where the key is missing or has another value.
+/// The whole number at a key; `None` where the key is missing, or its value is no whole number.
 pub(crate) fn number_in(table: &Table, key: &str) -> Option<i64>
     ensures { result ≡ number_at key.now (table_view table.now) }
 {
     value_at(table, key)?.as_integer()
 }
 
-/// The whole number at a key, and `absent` where the key is missing; `None` where the key has another value.
+/// The whole number at a key, and `absent` where the key is missing; `None` where its value is no whole number.
 pub(crate) fn number_in_or(table: &Table, key: &str, absent: i64) -> Option<i64>
     ensures { result ≡ number_or absent (get_member key.now (table_view table.now)) }
 {
@@ -54,7 +54,7 @@ pub(crate) fn number_in_or(table: &Table, key: &str, absent: i64) -> Option<i64>
     }
 }
 
-/// The text at a key; none where the key is missing or has another value.
+/// The text at a key; `None` where the key is missing, or its value is no text.
 pub(crate) fn text_in<'a>(table: &'a Table, key: &str) -> Option<&'a str>
     ensures { option_map (λ s. s.now) result ≡ text_at key.now (table_view table.now) }
 {

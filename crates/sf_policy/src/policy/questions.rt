@@ -40,8 +40,12 @@ fn fault_of_wide_number(number: usize, name: &str) -> Fault
     }
 }
 
-/// The question with this name, these entries for the sixteen words, and these actions. The refusals, in order: `Name`,
-/// `Range`, `Mask` and `Actions`; `number` is the question's, from 1. `Memory` can come anywhere.
+/// The question with this name, these entries for the sixteen words, and these actions. `number` is the question's,
+/// from 1, for the fault.
+///
+/// Refusals, tried in this order: `Name` where the name isn't 1 to 64 bytes from 0x21 to 0x7e; `Range` where a number
+/// of an entry is negative or has more than 32 bits, or a low end is above its high end; `Mask` where a value has a bit
+/// outside its mask; `Actions` where the set is empty; `Memory` where an allocation is refused.
 fn question_of_parts(
     alloc: Global,
     number: usize,
@@ -61,8 +65,9 @@ fn question_of_parts(
     question.map_err(|fault| fault_of_question(number, fault))
 }
 
-/// The question of a table. `Key` where a key is unknown, the name is missing, or a value is of a wrong kind; then what
-/// `question_of_parts` refuses. `number` is the question's, from 1.
+/// The question of a table, in a policy of this version: only in version 2 the value of a word may be a table. `number`
+/// is the question's, from 1, for the fault. Refusals: `Key` where a key is unknown, the name is missing, or a value is
+/// of a wrong kind; then what `question_of_parts` refuses.
 #[tactic(auto, using(crate::proofs::EntryLemmas::table_due))]
 pub(super) fn question_of_table(
     alloc: Global,

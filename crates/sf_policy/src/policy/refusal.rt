@@ -17,9 +17,10 @@ pub struct Refusal {
     pub read: Result<Table, Error>,
 }
 
-/// Whether a question that has only a right name and this key, with this value, is refused for this fault. The last
-/// argument is the number of the question that was refused, from 1, and its fault. An error where an allocation is
-/// refused.
+/// Whether a question that has only a right name and this key, with this value, is refused for this fault. Where the
+/// key is `name`, the value takes the place of the right name. The last argument is the number of the question that was
+/// refused, from 1, and its fault, which isn't `Memory`. An error where an allocation is refused; but `false` where
+/// `question_of_table` is refused one.
 fn is_refused_alone(
     alloc: Global,
     version: Version,
@@ -51,7 +52,7 @@ impl Refusal {
         }
     }
 
-    /// The values of the policy's array of questions; empty where it has none.
+    /// The values of the policy's array of questions; empty where it has no such array, or its text is no TOML.
     pub fn items(&self) -> &[Value] {
         match &self.read {
             Ok(table) => match value_at(table, "question") {
@@ -80,8 +81,8 @@ impl Refusal {
 
     /// The key that is refused. In a question it is the first key, in alphabetical order, for which a question of only
     /// a name and this key is refused for the same fault; where there is none, `name`, which must be there. Otherwise
-    /// it is a key at the top, as `top_key` finds it. Empty where `table` gives none. An error where an allocation is
-    /// refused.
+    /// it is a key at the top, as `top_key` finds it; where the fault is `Memory`, that key says nothing. Empty where
+    /// `table` gives none. An error where an allocation is refused.
     pub fn key(&self, alloc: Global) -> Result<&str, AllocError> {
         let (Some(table), Ok(tree)) = (self.table(), &self.read) else {
             return Ok("");
@@ -97,8 +98,8 @@ impl Refusal {
         Ok("name")
     }
 
-    /// The key at the top of the policy that is refused: `version` where the fault is `Version`, else the first unknown
-    /// key, and else `question`.
+    /// The key at the top of the policy that is refused: `version` where the fault is `Version`; else the first unknown
+    /// key, in alphabetical order; and `question` where all keys are known. `tree` is the policy's.
     fn top_key<'a>(&self, tree: &'a Table) -> &'a str {
         if self.fault == Fault::Version {
             return "version";

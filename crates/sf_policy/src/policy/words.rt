@@ -76,7 +76,9 @@ fn table_entry(table: &Table) -> Option<WordEntry>
     })
 }
 
-/// The entry of a word's value; none where it is of a wrong kind. Only a policy of version 2 may have tables.
+/// The entry of a word's value. A whole number is a range of only this number; an array is read by `array_entry`, and a
+/// table by `table_entry`, which only a policy of version 2 may have. `None` where the value is of another kind, or
+/// these give none.
 fn value_entry(version: Version, value: &Value) -> Option<WordEntry>
     ensures { result ≡ entry_of version (view value.now) }
 {
@@ -102,8 +104,8 @@ fn entry_in(version: Version, table: &Table, key: &str) -> Option<WordEntry>
     }
 }
 
-/// The entries of the words with these sixteen keys in a question's table; none where one of the values is of a wrong
-/// kind. For the prover: the keys are an argument, so that it doesn't compute with them.
+/// The entries of the words with these sixteen keys in a question's table, in the order of the keys; `None` where one
+/// of the values is of a wrong kind. For the prover: the keys are an argument, so that it doesn't compute with them.
 fn entries_at(version: Version, table: &Table, keys: &[&str; 16]) -> Option<[WordEntry; 16]>
     ensures { result ≡ each_of (λ key. entry_at version (get_member key (table_view table.now)))
         (map (λ key. key.now) keys.now) }
@@ -115,8 +117,8 @@ fn entries_at(version: Version, table: &Table, keys: &[&str; 16]) -> Option<[Wor
     Some(words)
 }
 
-/// The entries of the sixteen words of `struct seccomp_data` in a question's table; none where one of the values is of
-/// a wrong kind.
+/// The entries of the sixteen words in a question's table, in the order of `struct seccomp_data`; `None` where one of
+/// the values is of a wrong kind.
 pub(super) fn entries_in(version: Version, table: &Table) -> Option<[WordEntry; 16]>
     ensures { result ≡ each_of (λ key. entry_at version
         (get_member key (table_view table.now))) word_keys }
