@@ -15,7 +15,7 @@ use std::process::ExitCode;
 use std::rt::Files as FileSystem;
 use std::{env, io, mem};
 
-/// The most bytes of a reason that are kept.
+/// The most bytes of a reason that are kept. A longer reason is cut.
 const REASON: usize = 256;
 
 /// The variable of the environment that has `1` where each fault is to be explained.
@@ -25,7 +25,7 @@ const EXPLAIN: &str = "SECCOMP_AUDIT_EXPLAIN";
 struct Disk<'a, R> {
     /// What files are opened by.
     rt: &'a R,
-    /// Why the last file that was refused could not be read, in words for a person; empty before one is.
+    /// Why the last file that was refused could not be read, in words for a person; empty while no file was refused.
     reason: InlineText<REASON>,
     /// Whether the environment asks that each fault is explained.
     explains: bool,
@@ -69,8 +69,9 @@ impl<R: FileSystem + Input + AllocGlobal> Disk<'_, R> {
 }
 
 impl<R: FileSystem + Input + AllocGlobal> Files for Disk<'_, R> {
-    /// The bytes of the file at a path; `-` is standard input. `Read` where it can't be read, is too long, or is
-    /// standard input for a second time; `Memory` where an allocation is refused. After an error `reason` says why.
+    /// The bytes of the file at a path; `-` is standard input. `Read` where it can't be read, is longer than
+    /// `MOST_BYTES`, or is standard input for a second time; `Memory` where an allocation is refused. After an error
+    /// `reason` says why.
     fn read(&mut self, path: &str) -> Result<Vec<u8>, Fault> {
         if path == STANDARD_INPUT && self.is_input_read {
             self.reason = InlineText::of(format_args!("standard input is read only once"));
@@ -122,7 +123,8 @@ struct AfterName<'a, R> {
 
 impl<R: Env> Env for AfterName<'_, R> {
     /// Writes into `buf` the argument at the place `i`, from 0, of those behind the name, and gives what `arg` of `rt`
-    /// gives for it. `NotPresent` where the place after `i` is too large for a number.
+    /// gives for it: its length in bytes, or an error. `NotPresent` also where `i` is the greatest `usize`, so that no
+    /// place comes after it.
     fn arg(&self, i: usize, buf: &mut [u8]) -> Result<usize, FillError> {
         match i.checked_add(1) {
             Some(next) => self.rt.arg(next, buf),
@@ -166,7 +168,8 @@ fn no_words<E: Write>(error: &io::Error, err: &mut E) -> u8 {
     4
 }
 
-/// Runs the command line over the files, the streams and the clock of the system. Gives the exit status.
+/// Runs the command line over the files, the streams and the clock of the system. Gives the exit status, as `command`
+/// has it; or that of `no_words`, where the words after the program's name can't be had.
 fn main(rt: HostRuntime) -> ExitCode {
     let mut err = rt.stderr();
     let words = match words_of(&rt) {

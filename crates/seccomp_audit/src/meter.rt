@@ -7,25 +7,25 @@ use std::io::Write;
 use std::sync::atomic::{AtomicU64, Ordering};
 use std::time::{Clock, Instant};
 
-/// The most bytes of a line that says how far a run is.
+/// The most bytes of a line that says how far a run is. Even with three numbers of 20 digits a line has only 90.
 const LINE: usize = 96;
 
 /// After how many steps the clock is looked at again.
 const STEPS: u64 = 64;
 
 /// Counts steps, which are works and sheets of verdicts alike. Every `STEPS` steps it looks at the clock, and writes a
-/// line to standard error if the second is a new one.
+/// line to standard error if a second has begun since the last line. In the first second it writes none.
 #[derive(Drop)]
 pub struct Progress<'a, R> {
     /// What has the clock and standard error.
     rt: &'a R,
-    /// When this meter was made; none where the clock couldn't be read then.
+    /// When this meter was made; `None` where the clock couldn't be read then.
     started: Option<Instant>,
     /// The most works that are committed in each exploration; 0 before that is known.
     budget: AtomicU64,
     /// How many steps were counted.
     steps: AtomicU64,
-    /// The last second, since `started`, for which a line was written; 0 before there is one.
+    /// The second for which the last line was written, counted from `started`; 0 before there is a line.
     last: AtomicU64,
 }
 
@@ -41,7 +41,7 @@ impl<'a, R: Clock> Progress<'a, R> {
         }
     }
 
-    /// The whole seconds since the beginning; 0 where the clock can't be read.
+    /// The whole seconds since this meter was made; 0 where the clock can't be read, or couldn't be read then.
     fn seconds(&self) -> u64 {
         match &self.started {
             Some(started) => match started.elapsed(self.rt) {
@@ -54,8 +54,8 @@ impl<'a, R: Clock> Progress<'a, R> {
 }
 
 impl Progress<'_, HostRuntime> {
-    /// Writes to standard error how many steps were counted in how many seconds, and the budget. A line that can't be
-    /// written is left out.
+    /// Writes one line to standard error: this number of steps, the budget, and this number of seconds. It isn't looked
+    /// at whether the write succeeds.
     fn tell(&self, steps: u64, seconds: u64) {
         let budget = self.budget.load(Ordering::Relaxed);
         let line: InlineText<LINE> = InlineText::of(format_args!(
@@ -67,8 +67,8 @@ impl Progress<'_, HostRuntime> {
 }
 
 impl Gate for Progress<'_, HostRuntime> {
-    /// Counts a step, and at every `STEPS`th one looks at the clock. Several workers may see that a second has begun
-    /// since the last line. Only the one that sets `last` to it writes a line.
+    /// Counts a step, whichever worker makes it, and at every `STEPS`th one looks at the clock. Several workers may see
+    /// that a second has begun since the last line. Only the worker that sets `last` to this second writes a line.
     fn pass(&self, _worker: usize, _call: usize) {
         let steps = self.steps.fetch_add(1, Ordering::Relaxed).wrapping_add(1);
         if steps % STEPS != 0 {

@@ -49,7 +49,7 @@ pub struct Asked<'m, 'a> {
     pub policies: &'m [&'a str],
     /// The path of the policy file of the control, if there is one.
     pub control: Option<&'a str>,
-    /// The path of the file of the questions that may be allowed, if there is one.
+    /// The path of the file with the names of the questions that may be allowed, if there is one.
     pub accept: Option<&'a str>,
 }
 
@@ -83,7 +83,7 @@ pub struct AuditTask<'m, 'a> {
     pub asked: &'m Asked<'m, 'a>,
     /// The paths of the filter files, in order of installation.
     pub paths: &'m [&'a str],
-    /// The names of calls.
+    /// Sets of calls, by which calls are named.
     pub names: &'m [Names],
     /// How the audit is done, and what its report lists.
     pub options: Options,
@@ -94,7 +94,7 @@ pub struct AuditTask<'m, 'a> {
 struct Read {
     /// The questions of the policies.
     questions: Vec<Question>,
-    /// Where each of these questions stands.
+    /// For each of these questions, at its place, the policy file and the line where it stands, as an object.
     origins: Vec<Document>,
     /// The questions of the control; none where no control is given.
     control: Vec<Question>,
@@ -102,9 +102,9 @@ struct Read {
     accepted: Vec<String>,
 }
 
-/// Reads the policy files, then that of the control, and then that of the questions that may be allowed. The refusal is
-/// that of the first file that is refused, as `all_questions_in`, `control_in` or `accepted_in` refuses it. `Memory`
-/// can come anywhere.
+/// Reads the policy files, then that of the control, and then that of the questions that may be allowed. The notes get
+/// what the three functions keep in them. The refusal is that of the first file that is refused, as `all_questions_in`,
+/// `control_in` or `accepted_in` refuses it. `Memory` can come anywhere.
 fn read_questions<F: Files>(
     alloc: Global,
     asked: &Asked<'_, '_>,
@@ -126,9 +126,9 @@ fn read_questions<F: Files>(
     })
 }
 
-/// The replies to the questions of a control, by an exploration that has ended; an empty list where there are no
-/// questions. The caller's condition: 1 to 64 workers. `Count` where there are more than 256 questions, `Memory` where
-/// an allocation is refused.
+/// The replies to the questions of a control, in their order, by an exploration that has ended; an empty list where
+/// there are no questions. The gate sees each sheet of verdicts before it is entered. The caller's condition: 1 to 64
+/// workers. `Count` where there are more than 256 questions, `Memory` where an allocation is refused.
 fn replies_to<R: Threads + Wait + Sync, G: Gate>(
     means: &Means<'_, R, G>,
     settled: &Settled,
@@ -146,10 +146,11 @@ fn replies_to<R: Threads + Wait + Sync, G: Gate>(
     reply_to(means.rt, means.alloc, settled, control, workers, means.gate)
 }
 
-/// Audits the stack of these filters with the questions that were read, and asks the questions of the control of the
-/// same exploration. Gives the outcome, what is expected of it, and where each question stands. The caller's condition:
-/// 1 to 64 workers. Refusals: those of `audit` of `sf_audit`, and then `Count` where the control has more than 256
-/// questions. `Memory` can come anywhere.
+/// Audits the stack of these filters with the questions that were read, and finds by the same exploration the replies
+/// to the questions of the control. Gives the outcome; the control, its replies and the accepted names; and the origins
+/// that were read. Of the options only the budget and the number of workers count. The caller's condition: 1 to 64
+/// workers. Refusals: those of `audit` of `sf_audit`, and then `Count` where the control has more than 256 questions.
+/// `Memory` can come anywhere.
 fn find<R: Threads + Wait + Sync, G: Gate>(
     means: &Means<'_, R, G>,
     filters: &[Vec<u8>],
@@ -177,8 +178,8 @@ fn find<R: Threads + Wait + Sync, G: Gate>(
     Ok((outcome, expected, origins))
 }
 
-/// The lines behind a report, which say what isn't as expected; empty where nothing was expected, or all is as
-/// expected. An error where an allocation is refused.
+/// The lines behind a report, which say what isn't as expected; empty where `telling` doesn't ask for them, or all is
+/// as expected. An error where an allocation is refused.
 fn behind_of(
     alloc: Global,
     telling: &Telling<'_>,
@@ -247,8 +248,8 @@ fn asked_remarks(
 }
 
 /// Writes what an audit found: the report, and behind it what isn't as expected; or if `json` one JSON document.
-/// `Write` where that fails (a beginning may be written then). `Memory` where an allocation is refused; nothing is
-/// written then.
+/// `telling` says which parts of this are shown, and has the remarks. `Write` where writing fails (a beginning may be
+/// written then). `Memory` where an allocation is refused; nothing is written then.
 fn write_audit<O: Write>(
     alloc: Global,
     json: bool,
@@ -278,10 +279,11 @@ fn write_audit<O: Write>(
 }
 
 /// Reads the files that ask and then the filter files, which are named in order of installation. Audits the stack of
-/// the filters, writes the report, and behind it what isn't as expected, and gives the exit status. The options can ask
-/// for lines under each allowed question that say why the stack answers its example as it does, with the names of the
-/// task; and for one JSON document in place of all that text. The notes get the warnings. The gate sees each work
-/// before it is committed, and each sheet of verdicts before it is entered. The caller's condition: 1 to 64 workers.
+/// the filters, writes the report, and behind it what isn't as expected, and gives the exit status, as
+/// `status_of_audit` has it. The options can ask for a line for each settled region; for lines under each allowed
+/// question that say why the stack answers its example as it does, with the names of the task; and for one JSON
+/// document in place of all that text. The notes count the files, and get the warnings. The gate sees each work before
+/// it is committed, and each sheet of verdicts before it is entered. The caller's condition: 1 to 64 workers.
 ///
 /// Refusals, tried in this order: those of the policy files, then that of the control, then that of the file of
 /// questions that may be allowed, each of which is `Read` where the file can't be read, `Syntax` where it isn't UTF-8,

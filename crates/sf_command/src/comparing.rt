@@ -30,11 +30,13 @@ pub struct Terms {
     pub workers: u8,
     /// The relation that the exit status is about.
     pub asked: Relation,
-    /// Whether the rows in which the answers differ are written too.
+    /// Whether the rows in which the answers differ are written too; where `shown` of the task names a relation, only
+    /// rows that have it.
     pub rows: bool,
     /// Whether one JSON document is written in place of the text.
     pub json: bool,
-    /// After how many leaves no fork of their picture is begun any more, 1 to 1,000,000.
+    /// After how many leaves of the picture of these rows no further fork is begun, 1 to 1,000,000. It counts only
+    /// where `rows` is set.
     pub leaves: u32,
 }
 
@@ -49,12 +51,13 @@ pub struct ComparisonTask<'m, 'a> {
     pub sets: &'m [Names],
     /// How the comparison is done, and what is written of it.
     pub terms: Terms,
-    /// What is shown of the rows in which the answers differ.
+    /// Which of the rows in which the answers differ are shown, and how. It counts only where `terms.rows` is set.
     pub shown: &'m Shown<'a>,
 }
 
-/// The bytes of the old filter files and then those of the new ones, in one list, of each stack as many files as
-/// `read_all` keeps; and how many of the files in the list are old. The refusals are those of `read_all`.
+/// The bytes of the old filter files and then those of the new ones, in one list; and how many of the files in the list
+/// are old. Of each stack only the first 65 files are kept, as by `read_all`. The notes count the files that were read.
+/// The refusals are those of `read_all`, first for the old files.
 fn read_both<F: Files>(
     alloc: Global,
     old: &[&str],
@@ -76,9 +79,9 @@ fn read_both<F: Files>(
     Ok((filters, older))
 }
 
-/// Writes what is found of two stacks: a text, or if `json` one JSON document, in which `sets` names calls. `Write`
-/// where that fails (a beginning may be written then). `Memory` where an allocation is refused; nothing is written
-/// then.
+/// Writes what is found of two stacks: a text, or if `json` one JSON document. Only the document names calls, by the
+/// sets in `sets`. `Write` where writing fails (a beginning may be written then). `Memory` where an allocation is
+/// refused; nothing is written then.
 fn write_found<O: Write>(
     alloc: Global,
     comparison: &Comparison,
@@ -99,8 +102,9 @@ fn write_found<O: Write>(
 }
 
 /// Writes what is found of two stacks, and of the rows in which their answers differ those that the task asks for: a
-/// text, or one JSON document where the task asks for that. `Write` where that fails (a beginning may be written then).
-/// `Memory` where an allocation is refused; nothing is written then.
+/// text, or one JSON document where the task asks for that. `differences` are meant to be those of `draw_differences`
+/// for this comparison. `Write` where writing fails (a beginning may be written then). `Memory` where an allocation is
+/// refused; nothing is written then.
 fn write_rows<O: Write>(
     alloc: Global,
     comparison: &Comparison,
@@ -122,9 +126,9 @@ fn write_rows<O: Write>(
     write_document(alloc, &document, out)
 }
 
-/// Writes what is found of two stacks, and where the task asks for it the rows in which their answers differ, which are
-/// drawn only then. `Write` where that fails (a beginning may be written then). `Memory` where an allocation is
-/// refused; nothing is written then.
+/// Writes what is found of two stacks. Where the task asks for rows, these are drawn, and those that it asks for are
+/// written too. `Write` where writing fails (a beginning may be written then). `Memory` where an allocation is refused;
+/// nothing is written then.
 fn write_compared<O: Write>(
     alloc: Global,
     comparison: &Comparison,
@@ -145,9 +149,10 @@ fn write_compared<O: Write>(
     write_rows(alloc, comparison, &differences, task, out)
 }
 
-/// Reads the old filter files and then the new ones, each named in order of installation; compares their stacks, writes
-/// what is found, and gives the exit status of the relation that is asked for. The notes get the warnings. The gate
-/// sees each work before it is committed. The caller's condition: 1 to 64 workers.
+/// Reads the old filter files and then the new ones, each named in order of installation. Compares their stacks, writes
+/// what is found, and gives the exit status: what `status_of_change` has for the relation that is asked for. The notes
+/// count the files, and get the warnings. The gate sees each work before it is committed. The caller's condition: 1 to
+/// 64 workers.
 ///
 /// Refusals, tried in this order: `Read` where a file can't be read; what `compare` of `sf_compare` refuses; `Write`
 /// where standard output can't be written (a beginning of the text may be written then). `Memory` can come anywhere.

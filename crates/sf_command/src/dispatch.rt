@@ -58,7 +58,7 @@ fn names_of<F: Files>(
 }
 
 /// The gate of a run. Where `--progress` is given, it passes each call on to the meter, and the meter is given the
-/// budget here. Else it does nothing.
+/// budget here. Else the meter isn't called at all.
 fn watched<'a, M: Meter>(found: &ArgMatches<'_>, meter: &'a M) -> Watched<'a, M> {
     Watched::of(meter, wants_progress(found), budget_of(found))
 }
@@ -139,8 +139,8 @@ fn run_check<F: Files, O: Write>(
     Ok(0)
 }
 
-/// Runs `eval` on the input that the words of the subcommand ask for, and on the filter files that they name. The exit
-/// status is 0.
+/// Runs `eval` on the input that the words of the subcommand ask for, and on the filter files that they name. The
+/// caller has seen by `words_fit_for` that the words have the right form. The exit status is 0.
 ///
 /// Refusals, tried in this order: `Input` where no input is spelled, or a number is too wide; those of the files of
 /// names; `UnknownName` where a name that is given is none of theirs; and those of `evaluate`.
@@ -322,8 +322,9 @@ fn run_needed<R: Threads + Wait + Sync, F: Files, M: Meter, O: Write>(
     needed(&through(means, &gate), paths, manner, files, notes, out)
 }
 
-/// Whether the words of the subcommand with this name fit: each option has a word that it takes, and the options go
-/// together. `clap` has checked everything else. This is asked before any file is read.
+/// Whether the words of the subcommand with this name fit: each option has a word of a form that it takes, and the
+/// options go together. True for any other name: `clap` has checked everything else. This is asked before any file is
+/// read.
 fn words_fit_for(name: &str, found: &ArgMatches<'_>) -> bool
     ensures { result ≡ words_fit_for name.now (rows_of (found_of found.now)) }
 {
@@ -375,9 +376,10 @@ fn run<R: Threads + Wait + Sync, F: Files, M: Meter, O: Write>(
     }
 }
 
-/// Does what the words of the command line ask for, and gives the exit status, or the fault for which it could not be
-/// done. The lines that explain a fault are kept in the notes. Warnings of a run without a fault, and lines about words
-/// that are refused, are written to standard error.
+/// Does what the words of the command line ask for, and gives the exit status, or the fault for which that could not be
+/// done. The lines that explain a fault of a subcommand are kept in the notes. The warnings of a subcommand without a
+/// fault, and lines about words that don't fit, are written to standard error. Where `clap` gives no matches, as where
+/// help is asked for, `write_usage` writes its text and gives the status.
 fn run_words<R: Threads + Wait + Sync, F: Files, M: Meter, O: Write, E: Write>(
     means: &Means<'_, R, M>,
     words: &[String],
@@ -421,16 +423,17 @@ fn run_words<R: Threads + Wait + Sync, F: Files, M: Meter, O: Write, E: Write>(
 ///   asked for is found; or some filter is spare.
 /// - 2: the control of an audit doesn't hold; or nothing gives status 1, and some question, the relation or some filter
 ///   is unsettled; after a listing some row has several answers, or a piece is outstanding.
-/// - 3: the filters, a policy, a profile, a file of names, the file of `--accept` or the input are refused. Standard
-///   output is left as it was.
+/// - 3: the filters, a policy, a profile, a file of names, the file of `--accept`, a name behind `--calls` or the input
+///   are refused. Standard output is left as it was.
 /// - 4: the command line is refused. No file was read, standard output is left as it was, and standard error has the
 ///   text of `clap`, or of `tell_wrong_words`.
 /// - 5: reading, writing or memory failed. Standard output is left as it was, unless writing failed.
 ///
-/// The gate of the means sees each step where `--progress` is given.
+/// The gate of the means sees each work and each sheet of verdicts where `--progress` is given. Else it isn't called.
 ///
-/// At 3 and 5 one line on standard error names the fault: `error`, its number, its name and its place. With
-/// `--explain-errors`, or where `files` say so, lines for a person follow.
+/// At 0 to 2 standard error gets the warnings, unless `--quiet` is given. At 3 and 5 one line on standard error names
+/// the fault: `error`, its number, its name and its place. With `--explain-errors`, or where `files` say so, lines for
+/// a person follow.
 pub fn command<R: Threads + Wait + Sync, F: Files, M: Meter, O: Write, E: Write>(
     means: &Means<'_, R, M>,
     words: &[String],

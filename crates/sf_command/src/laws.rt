@@ -25,5 +25,6 @@ pub fn never_looser_keeps_the_profile()
         → change_of c Looser ≡ Never → IsInput d → Answers (new_of c.settled 1) d a
         → AreRelated Looser (meaning plan d) a → ⊥ }
 {
+    // For the prover: the bytes of a filter file spell at most one program.
     one_program_of_a_file();
 }

@@ -20,14 +20,14 @@ use std::io::Write;
 use std::sync::Wait;
 use std::thread::Threads;
 
-/// How a listing is done.
+/// How a listing is done and written.
 #[derive(Clone, Copy)]
 pub struct Limits {
     /// The most works that are committed, 1 to 1,000,000.
     pub budget: u32,
     /// The number of workers, 1 to 64.
     pub workers: u8,
-    /// After how many leaves no fork of the picture is begun any more, 1 to 1,000,000.
+    /// After how many leaves of the picture no further fork is begun, 1 to 1,000,000.
     pub leaves: u32,
     /// Whether one JSON document is written in place of the text.
     pub json: bool,
@@ -40,10 +40,10 @@ pub struct ListingTask<'m, 'a> {
     pub paths: &'m [&'a str],
     /// Sets of calls, by which calls are named.
     pub sets: &'m [Names],
-    /// The names of the calls whose rows are written call by call, or an empty list for all calls. Without it each row
-    /// has a line of its own.
+    /// The names of the calls whose rows are written, call by call. An empty list stands for all calls; the rows of the
+    /// inputs that belong to no call with a name then come after these. `None`: each row has a line of its own.
     pub calls: &'m Option<Vec<&'a str>>,
-    /// How the listing is done.
+    /// How the listing is done and written.
     pub limits: Limits,
 }
 
@@ -74,10 +74,9 @@ fn write_listed<O: Write>(
 }
 
 /// Reads the filter files, which are named in order of installation, explores their stack and writes its rows, with the
-/// names of calls from the sets. Where the task has `calls`, the rows are written call by call: those of the calls that
-/// it names, or of all calls where it names none. The exit status is 0 where each input lies in a row with one answer,
-/// and else 2. The notes get the warnings. The gate sees each work before it is committed. The caller's condition: 1 to
-/// 64 workers.
+/// names of calls from the sets. Where the task has `calls`, the rows are written call by call, as `ListingTask` says.
+/// The exit status is 0 where each input lies in a row with one answer, and else 2. The notes count the files, and get
+/// the warnings. The gate sees each work before it is committed. The caller's condition: 1 to 64 workers.
 ///
 /// Refusals, tried in this order: `Read` where a file can't be read; what `list` of `sf_list` refuses; `Write` where
 /// standard output can't be written (a beginning of the text may be written then). `Memory` can come anywhere. After

@@ -2,13 +2,14 @@
 
 use std::alloc::Global;
 
-/// What a run is done with: threads, memory, and what sees each of its steps.
+/// What a run is done with: threads, memory and a gate.
 #[derive(Drop)]
 pub struct Means<'a, R, G> {
     /// What starts threads.
     pub rt: &'a R,
     /// Where memory is allocated.
     pub alloc: Global,
-    /// The gate that sees each step before it is handed in.
+    /// The gate that sees each work before it is committed, and each sheet of verdicts before it is entered. For
+    /// `command` it is a `Meter`, which sees them only with `--progress`.
     pub gate: &'a G,
 }

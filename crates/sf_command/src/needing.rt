@@ -28,8 +28,9 @@ pub struct Manner {
     pub json: bool,
 }
 
-/// Writes which filters are needed: a text, or if `json` one JSON document. `Write` where that fails (a beginning may
-/// be written then). `Memory` where an allocation is refused; nothing is written then.
+/// Writes what was found of the filters, such as which are needed: a text, or if `json` one JSON document. `Write`
+/// where writing fails (a beginning may be written then). `Memory` where an allocation is refused; nothing is written
+/// then.
 fn write_needs<O: Write>(alloc: Global, needs: &Needs, json: bool, out: &mut O) -> Result<(), Fault>
     ensures written { OnOk result (Appends (O.contents out.old) (O.contents out.new)
         (needs_output json needs.now)) }
@@ -43,9 +44,10 @@ fn write_needs<O: Write>(alloc: Global, needs: &Needs, json: bool, out: &mut O) 
     write_document(alloc, &document, out)
 }
 
-/// Reads the filter files, which are named in order of installation. Finds which of the filters are needed, where each
-/// comparison commits at most `manner.budget` works, writes that, and gives the exit status. The gate sees each work
-/// before it is committed. The caller's condition: 1 to 64 workers.
+/// Reads the filter files, which are named in order of installation. Finds which of the filters are needed, by
+/// comparisons of which each commits at most `manner.budget` works. Writes what is found, and gives the exit status, as
+/// `status_of_needs` has it. The notes count the files. The gate sees each work before it is committed. The caller's
+/// condition: 1 to 64 workers.
 ///
 /// Refusals, tried in this order: `Read` where a file can't be read; what `needed` of `sf_needed` refuses; `Write`
 /// where standard output can't be written (a beginning of the text may be written then). `Memory` can come anywhere.

@@ -11,10 +11,11 @@ use sf_policy::Fault;
 use std::alloc::{AllocError, Global};
 use std::io::Write;
 
-/// Writes what `clap` says in place of matches. The help or the version, where that was asked for, goes to standard
-/// output, and the status is 0. Otherwise it says why the command line is refused, and goes to standard error, and the
-/// status is 4. `Memory` where an allocation was refused, to `clap` or here; nothing is written then. `Write` where
-/// standard output can't be written (a beginning of the text may be written then).
+/// Writes the text that `clap` has in place of matches, and gives the exit status. The help or the version, where that
+/// was asked for, goes to standard output, and the status is 0. Any other text says why the command line is refused. It
+/// goes to standard error, and the status is 4, also where standard error can't be written. `Memory` where an
+/// allocation was refused, to `clap` or here; nothing is written then. `Write` where standard output can't be written
+/// (a beginning of the text may be written then).
 pub(crate) fn write_usage<O: Write, E: Write>(
     alloc: Global,
     error: &clap::Error,

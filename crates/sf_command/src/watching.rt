@@ -2,8 +2,8 @@
 
 use sf_crew::{Gate, Open};
 
-/// A gate that can show how far a run is, for `--progress`. It is given the budget first, and then sees each work and
-/// each sheet of verdicts before it is handed in.
+/// A gate that can show how far a run is, for `--progress`. It is given the budget first. Then it sees each work before
+/// this is committed, and each sheet of verdicts before this is entered.
 pub trait Meter: Gate {
     /// Is called once, before the first exploration of a run that is to be shown. `budget` is the most works that are
     /// committed in each exploration: `needed` has one for each comparison.
@@ -36,7 +36,7 @@ impl<'a, M: Meter> Watched<'a, M> {
 }
 
 impl<M: Meter> Gate for Watched<'_, M> {
-    /// Passes the call on, where progress is to be shown.
+    /// Passes the call on, as it is, where progress is to be shown; else does nothing.
     fn pass(&self, worker: usize, call: usize) {
         if self.is_wanted {
             self.meter.pass(worker, call);

@@ -69,7 +69,7 @@ pub(crate) fn json<'a>(alloc: Global) -> Arg<'a>
     switch(alloc, "json").help("Write one JSON document in place of the text")
 }
 
-/// `--budget`: the most works that are committed, 1 to 1,000,000; 100,000 where it isn't given.
+/// `--budget`: the most works that are committed in each exploration, 1 to 1,000,000; 100,000 where it isn't given.
 pub(crate) fn budget<'a>(alloc: Global) -> Arg<'a>
     ensures rule { rule_of result ≡ number_rule (codes "budget") 1000000 (codes "100000") }
     ensures own { result.global ≡ false }
