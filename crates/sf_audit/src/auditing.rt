@@ -15,8 +15,10 @@ use std::sync::{Arc, Wait};
 use std::thread::Threads;
 
 /// The outcome for a stack and its questions: explores the stack by at most `budget` works, and judges the questions by
-/// what was found. The caller's condition: at most 256 questions, and 1 to 64 workers. An error where an allocation is
-/// refused.
+/// what was found. The gate sees each work before it is committed, and each sheet of verdicts before it is entered.
+///
+/// The caller's conditions: at most 256 questions, a budget from 1 to 1,000,000, and 1 to 64 workers. The only error is
+/// `Memory`, as it comes from `explore` and `sweep`. Waits for the workers.
 fn outcome_of<R: Threads + Wait + Sync, G: Gate>(
     rt: &R,
     alloc: Global,
@@ -49,8 +51,8 @@ fn is_wrong_count(questions: &[Question]) -> bool
     questions.is_empty() || questions.len() > MOST_QUESTIONS
 }
 
-/// The replies to further questions about an exploration that has ended, such as those of a control. The gate sees each
-/// sheet of verdicts before it is entered.
+/// The replies to further questions about an exploration that has ended, in the order of the questions: such as those
+/// of a control, which a build expects to be allowed. The gate sees each sheet of verdicts before it is entered.
 ///
 /// The caller's condition: 1 to 64 workers. Refusals: `Count` where there are no questions or more than 256. `Memory`
 /// can come anywhere. Waits for the workers.
@@ -77,12 +79,13 @@ pub fn reply_to<R: Threads + Wait + Sync, G: Gate>(
 }
 
 /// Audits the stack of these filter files, which stand in order of installation, the newest last: explores it by at
-/// most `budget` works, and replies to each question. The gate sees each work before it is committed, and each sheet of
-/// verdicts before it is entered.
+/// most `budget` works, and replies to each question. Where the budget doesn't suffice, pieces are left outstanding,
+/// and replies may be unsettled. The gate sees each work before it is committed, and each sheet of verdicts before it
+/// is entered.
 ///
-/// The caller's conditions: a budget from 1 to 1,000,000, and 1 to 64 workers (where there are more than one, each gets
-/// a thread, if it can be started). Refusals, tried in this order: those of `stack_of`; `Count` where there are no
-/// questions or more than 256. `Memory` can come anywhere. Waits for the workers.
+/// The caller's conditions: a budget from 1 to 1,000,000, and 1 to 64 workers. Where there are more than one, each gets
+/// a thread, unless it can't be started or nothing is left to do. Refusals, tried in this order: those of `stack_of`;
+/// `Count` where there are no questions or more than 256. `Memory` can come anywhere. Waits for the workers.
 pub fn audit<R: Threads + Wait + Sync, G: Gate>(
     rt: &R,
     alloc: Global,

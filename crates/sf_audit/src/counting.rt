@@ -32,7 +32,7 @@ pub fn count_allowed(replies: &[Reply]) -> usize
         .count()
 }
 
-/// How many replies are unsettled.
+/// How many replies are unsettled: they leave it open whether an input breaks the question.
 pub fn count_unsettled(replies: &[Reply]) -> usize
     ensures { result ≡ count_by is_unsettled replies.now }
 {

@@ -31,11 +31,13 @@ pub struct Telling<'m> {
     /// For each question, at its place, the policy file and the line where it stands, as an object. `null` is shown for
     /// a question behind the end of this list.
     pub origins: &'m [Document],
-    /// For each question, at its place, the remark on it: whole lines of text. Where there is none, `null` is shown.
+    /// For each question, at its place, the remark on it: whole lines of text that say why the stack answers its
+    /// example as it does. `null` is shown for an empty remark, and for a question behind the end of this list.
     pub remarks: &'m [String],
 }
 
-/// The object that says how many replies are of each kind. An error where an allocation is refused.
+/// The object that says how many replies are of each kind: `never`, `allowed` and `unsettled`. An error where an
+/// allocation is refused.
 fn totals_document(alloc: Global, replies: &[Reply]) -> Result<Document, AllocError>
     ensures { IfOk result (λ d. view d ≡ totals_document replies.now) }
 {
@@ -46,9 +48,10 @@ fn totals_document(alloc: Global, replies: &[Reply]) -> Result<Document, AllocEr
     Ok(Document::object(fields))
 }
 
-/// An audit as JSON: the size of the stack, the counts of its exploration, each question with its reply, what was
-/// expected and the regions, each where `telling` asks for it, and how many replies are of each kind. `version` is that
-/// of this form of the document. An error where an allocation is refused.
+/// An audit as a JSON object: the size of the stack (`stack`), the counts of its exploration (`counts`), each question
+/// with its reply (`questions`), what was expected (`expected`), the regions (`regions`), and how many replies are of
+/// each kind (`totals`). `expected` and `regions` are `null` where `telling` doesn't ask for them. `seccomp_audit` says
+/// what the document is, and `version` is that of its form. An error where an allocation is refused.
 pub fn audit_document(
     alloc: Global,
     outcome: &Outcome,

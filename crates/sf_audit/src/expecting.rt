@@ -17,7 +17,7 @@ use std::marker::Model;
 pub struct Expected {
     /// The questions of the control.
     control: Vec<Question>,
-    /// The replies to them, one for each.
+    /// The replies to them, one for each, in the same order.
     held: Vec<Reply>,
     /// The names of the questions that may be allowed.
     accepted: Vec<String>,
@@ -44,8 +44,8 @@ impl Model for Expected {
 
 impl Expected {
     /// What is expected: that each question of `control` is allowed, and that no question is allowed but those with a
-    /// name in `accepted`. `held` has the replies to the questions of the control. The caller's condition: it has one
-    /// for each.
+    /// name in `accepted`. The caller's condition: `held` has the replies to the questions of the control, one for
+    /// each, in the same order.
     pub fn of(control: Vec<Question>, held: Vec<Reply>, accepted: Vec<String>) -> Expected
         requires { length control.items ≡ length held.items }
         ensures { result ≡ record {
@@ -91,7 +91,7 @@ impl Expected {
         is_unexpected(&self.accepted, name, &reply)
     }
 
-    /// Whether the control holds: each of its questions is allowed.
+    /// Whether the control holds: each of its questions is allowed. `true` where it has no questions.
     pub fn does_hold(&self) -> bool
         ensures { result ≡ list_all is_allowed self.now.held }
     {
@@ -107,8 +107,8 @@ impl Expected {
     }
 }
 
-/// Adds the line of a question of the control with this name, where it isn't allowed; nothing where it is. An error
-/// where an allocation is refused.
+/// Adds the line of a question of the control with this name, where it isn't allowed: `control`, its name, and `never`
+/// or `unsettled`. Adds nothing where it is allowed. An error where an allocation is refused.
 fn push_control(text: &mut String, name: &str, reply: Reply) -> Result<(), AllocError>
     ensures { OnOk result (string_bytes text.new ≡ string_bytes text.old
         ++ control_line name.now reply) }
@@ -120,8 +120,8 @@ fn push_control(text: &mut String, name: &str, reply: Reply) -> Result<(), Alloc
     }
 }
 
-/// Adds the lines of the questions of the control that aren't allowed. The caller's condition: there is a reply to each
-/// question. An error where an allocation is refused.
+/// Adds the lines of the questions of the control that aren't allowed, in their order. The caller's condition:
+/// `replies` has the reply to each question, in the same order. An error where an allocation is refused.
 fn push_controls(
     text: &mut String,
     questions: &[Question],
@@ -144,8 +144,8 @@ fn is_accepted(accepted: &[String], name: &str) -> bool
     accepted.iter().any(|one| one.as_str() == name)
 }
 
-/// Adds the line of an accepted question, where its reply is never; else nothing. Such a question needn't be accepted
-/// any more. An error where an allocation is refused.
+/// Adds the line of an accepted question, where its reply is never: `accepted`, its name, and `never`. Such a question
+/// needn't be accepted any more. Adds nothing for another reply. An error where an allocation is refused.
 fn push_accepted(text: &mut String, name: &str, reply: Reply) -> Result<(), AllocError>
     ensures { OnOk result (string_bytes text.new ≡ string_bytes text.old
         ++ accepted_line name.now reply) }
@@ -156,8 +156,8 @@ fn push_accepted(text: &mut String, name: &str, reply: Reply) -> Result<(), Allo
     }
 }
 
-/// Adds the line of a question that isn't accepted, where it is allowed; else nothing. An error where an allocation is
-/// refused.
+/// Adds the line of a question that isn't accepted, where it is allowed: `unexpected` and its name. Adds nothing for
+/// another reply. An error where an allocation is refused.
 fn push_unexpected(text: &mut String, name: &str, reply: Reply) -> Result<(), AllocError>
     ensures { OnOk result (string_bytes text.new ≡ string_bytes text.old
         ++ unexpected_line name.now reply) }
@@ -186,8 +186,8 @@ fn push_expected(
     }
 }
 
-/// Adds the lines of the questions that aren't as expected. The caller's condition: there is a reply to each. An error
-/// where an allocation is refused.
+/// Adds the lines of the questions that aren't as expected, in their order, as `push_expected` adds each. The caller's
+/// condition: `replies` has the reply to each question, in the same order. An error where an allocation is refused.
 fn push_questions(
     text: &mut String,
     accepted: &[String],
@@ -204,9 +204,9 @@ fn push_questions(
     Ok(())
 }
 
-/// The lines behind a report that say what isn't as expected: questions of the control that aren't allowed, questions
-/// that are allowed and not accepted, and accepted ones whose reply is never. Empty where all is as expected. An error
-/// where an allocation is refused.
+/// The lines behind a report that say what isn't as expected: first the questions of the control that aren't allowed;
+/// then, in the order of the audit's questions, those that are allowed and not accepted, and those that are accepted
+/// and whose reply is never. Empty where all is as expected. An error where an allocation is refused.
 pub fn text_of_expected(
     alloc: Global,
     expected: &Expected,
@@ -232,7 +232,8 @@ fn is_unexpected(accepted: &[String], name: &str, reply: &Reply) -> bool
     is_allowed(reply) && !is_accepted(accepted, name)
 }
 
-/// Whether some question is allowed whose name isn't an accepted one. The caller's condition: there is a reply to each.
+/// Whether some question is allowed whose name isn't an accepted one. The caller's condition: `replies` has the reply
+/// to each question, in the same order.
 fn has_unexpected(accepted: &[String], questions: &[Question], replies: &[Reply]) -> bool
     requires { length questions.now ≡ length replies.now }
     ensures { result

@@ -5,8 +5,8 @@ use sf_ask::Question;
 use sf_names::Names;
 use std::alloc::AllocError;
 
-/// Whether a question asks about exactly one architecture (word 1 of an input), and no set is of that architecture. A
-/// question about several architectures isn't strange: its range is taken to be meant.
+/// Whether a question's range of architectures (word 1 of an input) is one number, and no set is of the architecture
+/// with that number. A question with a wider range isn't strange: the range is taken to be meant.
 fn is_strange(question: &Question, sets: &[Names]) -> bool {
     let (low, high) = question.range(1);
     low == high && !sets.iter().any(|names| names.arch() == low)
@@ -38,10 +38,10 @@ fn push_warning(
 }
 
 impl Notes {
-    /// Adds a warning to those in the notes, where a question asks about exactly one architecture, and no set is of
-    /// that architecture. Nothing changes where there are no sets, or where the notes say already that there was no
-    /// memory for warnings. Where there is no memory for this warning, the notes say so from then on, and keep no
-    /// warning.
+    /// Adds one warning to those in the notes, about the first question that asks about exactly one architecture where
+    /// no set is of that architecture. Nothing changes where there is no such question, where there are no sets, or
+    /// where the notes say already that there was no memory for warnings. Where there is no memory for this warning,
+    /// the notes say so from then on, and the warnings that they had are lost.
     pub fn warn_of_questions(&mut self, questions: &[Question], sets: &[Names]) {
         if sets.is_empty() {
             return;

@@ -12,7 +12,7 @@ use sf_profile::Calls;
 use std::alloc::Global;
 
 /// The calls of a set of names, as a profile needs them. The fault `Profile(Set)` where the set is none of the five of
-/// `CallSet`.
+/// `CallSet`, as `set_of_names` of `sf_profile` sees it: by the set's architecture and numbers, not by its name.
 fn calls_of_one(names: Names) -> Result<Calls, Fault>
     ensures meant { IfOk result (λ c. Some c ≡ calls_of_names names) }
     ensures refused { IfErr result (λ e. (e ≡ Profile UnknownSet)
@@ -25,7 +25,7 @@ fn calls_of_one(names: Names) -> Result<Calls, Fault>
 }
 
 /// The calls of each of these sets of names, in order. The fault `Profile(Set)` where one of the sets is none of the
-/// five of `CallSet`; `Memory` where an allocation is refused.
+/// five of `CallSet`, as by `calls_of_one`; `Memory` where an allocation is refused.
 pub(crate) fn calls_of(alloc: Global, names: Vec<Names>) -> Result<Vec<Calls>, Fault>
     ensures meant { IfOk result (λ v. AreCallsOf names.items v.items) }
     ensures refused { IfErr result (λ e. (e ≡ MemoryFault)

@@ -26,23 +26,24 @@ use sf_warnings::warnings_of_files;
 use std::alloc::{AllocError, Global};
 use std::io::Write;
 
-/// How what is found of a stack is shown.
+/// How `check` shows what it finds of a stack.
 #[derive(Clone, Copy)]
 pub struct CheckManner {
     /// Whether the instructions of each filter are shown too.
     pub listed: bool,
-    /// Whether all of it is one JSON document.
+    /// Whether all that is shown is one JSON document, and no text.
     pub json: bool,
 }
 
-/// How an answer is shown.
+/// How `eval` shows an answer.
 #[derive(Clone, Copy)]
 pub struct Manner {
-    /// Whether lines under the answer show the input, and how each filter comes to its return value.
+    /// Whether a trace is shown with the answer: how each filter comes to its return value. In a text, its lines stand
+    /// under the answer, with the input before them. A JSON document has the input in any case.
     pub traced: bool,
-    /// Whether these lines are shown in brief, without the comparisons that are false. `traced` needn't be set then.
+    /// Whether a trace is shown in brief, without the comparisons that are false. `traced` needn't be set then.
     pub brief: bool,
-    /// Whether all of it is one JSON document.
+    /// Whether all that is shown is one JSON document, and no text.
     pub json: bool,
 }
 
@@ -53,7 +54,7 @@ pub struct Evaluation<'a> {
     pub input: &'a Input,
     /// How the answer is shown.
     pub how: Manner,
-    /// Names of calls, which are shown beside their numbers.
+    /// Sets of names of calls. Where the input is shown, the names of its call are shown beside the call's number.
     pub names: &'a [Names],
 }
 
@@ -65,8 +66,8 @@ pub fn print<O: Write>(text: &str, out: &mut O) -> Result<(), Fault>
     write_bytes(text.as_bytes(), out)
 }
 
-/// The input that 128 hexadecimal digits spell, in lower or upper case: the 64 bytes of `struct seccomp_data`, in the
-/// order of seccomp(2). `Input` where the text is anything else.
+/// The input that 128 hexadecimal digits spell, in lower or upper case: two digits for each of the 64 bytes of
+/// `struct seccomp_data`, whose words are little-endian. `Input` where the text is anything else.
 pub fn input_of(text: &str) -> Result<Input, Fault>
     ensures spelled { IfOk result (λ d. decode_sized text.now 64 ≡ Ok (input_bytes d)) }
     ensures refused { IfErr result (λ e. (e ≡ InputFault)
@@ -94,10 +95,10 @@ fn check_output(
 }
 
 /// Writes how many instructions each filter has, and the path length of their stack, in the manner `how`. `filters` are
-/// the bytes of the filter files, in order of installation. The notes get the warnings about these files, or that there
-/// was no memory for the warnings, which is no refusal. Refusals: those of `stack_of`; `Write` where standard output
-/// can't be written (a beginning of the text may be written then). `Memory` can come anywhere. After any error but
-/// `Write` nothing is written.
+/// the bytes of the filter files, in order of installation. Unless `stack_of` refuses them, the notes get the warnings
+/// about these files, or that there was no memory for the warnings, which is no refusal. Refusals: those of `stack_of`;
+/// `Write` where standard output can't be written (a beginning of the text may be written then). `Memory` can come
+/// anywhere. After any error but `Write` nothing is written.
 fn check_filters<O: Write>(
     alloc: Global,
     filters: &[Vec<u8>],
@@ -118,8 +119,8 @@ fn check_filters<O: Write>(
 }
 
 /// The text of the stack's answer to the input. Where `traced` or `brief` is set, lines under the answer show the
-/// input, with the name of its call where `names` have it, and how each filter comes to its return value; with `brief`
-/// without the comparisons that are false. `Memory` where an allocation is refused.
+/// input, with the names of its call where `names` have any, and how each filter comes to its return value, newest
+/// first. With `brief`, the comparisons that are false are left out. `Memory` where an allocation is refused.
 fn eval_text(
     alloc: Global,
     stack: &Stack,
@@ -171,7 +172,8 @@ fn eval_output(
 }
 
 /// Writes what the stack of the filters answers to the input in `asked`, in the manner that `asked` has. `filters` are
-/// the bytes of the filter files, in order of installation. The refusals are those of `check_filters`.
+/// the bytes of the filter files, in order of installation. The refusals are those of `check_filters`, and as there,
+/// nothing is written after any error but `Write`.
 fn evaluate_filters<O: Write>(
     alloc: Global,
     asked: &Evaluation<'_>,
@@ -190,10 +192,11 @@ fn evaluate_filters<O: Write>(
     print(&text, out)
 }
 
-/// Reads the filter files, which are named in order of installation, and writes the number of instructions of each and
-/// the path length of their stack. Where `how.listed` asks for it, the instructions of each filter stand under its
-/// line, and those to which no path through the filter comes have a comment. Where `how.json` asks for it, all that is
-/// one JSON document. The notes count the files, and get the warnings about them.
+/// Reads the filter files at `paths`, which stand in order of installation, and writes the number of instructions of
+/// each and the path length of their stack. Where `how.listed` asks for it, the instructions of each filter are listed
+/// with it, and those to which no path through the filter comes are marked. Where `how.json` asks for it, all that is
+/// one JSON document. The notes count the files, and get the warnings about them, or that there was no memory for the
+/// warnings, which is no refusal.
 ///
 /// Refusals, tried in this order: `Read` where a file can't be read; what `stack_of` refuses; `Write` where standard
 /// output can't be written (a beginning of the text may be written then). `Memory` can come anywhere. After any error
@@ -215,8 +218,9 @@ pub fn check<F: Files, O: Write>(
     check_filters(alloc, &filters, how, notes, out)
 }
 
-/// Reads the filter files, which are named in order of installation, and writes what their stack answers to the input
-/// in `asked`, in the manner that `asked` has. The notes count the files. The refusals are those of `check`.
+/// Reads the filter files at `paths`, which stand in order of installation, and writes what their stack answers to the
+/// input in `asked`, in the manner that `asked` has. The notes count the files. The refusals are those of `check`, and
+/// as there, nothing is written after any error but `Write`.
 pub fn evaluate<F: Files, O: Write>(
     alloc: Global,
     asked: &Evaluation<'_>,

@@ -40,34 +40,35 @@ use std::alloc::{AllocError, Global};
 /// explains a fault.
 #[derive(Drop)]
 pub struct Notes {
-    /// The bytes of the policy file that was read last, and empty before one is.
+    /// The bytes of the policy file that was read last, which may be that of the control; empty before one is read.
     pub policy: Vec<u8>,
-    /// Why a policy is refused, if `read_policy` refuses it.
+    /// Why `read_policy_at` refused a policy, and what was read of the policy; `None` where it refused none.
     pub refusal: Option<Refusal>,
     /// The key for which a profile is refused; `Ok(None)` where none is known, and an error where there was no memory
     /// for it.
     pub key: Result<Option<String>, AllocError>,
-    /// The first set of names that is none of the five of `CallSet`, so that `profile` is refused; `Ok(None)` where
-    /// there is none, and an error where there was no memory for it.
+    /// The first set of names that is none of the five of `CallSet`, for which the subcommand `profile` is refused;
+    /// `Ok(None)` where there is none, and an error where there was no memory for it.
     pub(crate) other: Result<Option<OtherSet>, AllocError>,
     /// How many sets each file of names has, in the order in which these files were read. Where an allocation was
-    /// refused, the list ends before that file.
+    /// refused for the number of a file, the list ends before that file.
     sets: Vec<usize>,
     /// How many files were read, of whatever kind.
     pub files: usize,
-    /// What each of these files seems to hold, in the order in which they were read. Where an allocation was refused,
-    /// the list ends before that file.
+    /// What each of these files seems to hold, in the order in which they were read. Where an allocation was refused
+    /// for a file, the list ends before that file.
     kinds: Vec<Kind>,
-    /// Which of the policies is refused, where one is.
+    /// Which of the policies is refused, where one is. It is `Only` until `explain` is called.
     pub(crate) which: Which,
     /// The lines that explain the fault, where they are asked for and there is memory for them.
     pub explanation: Option<String>,
     /// The lines of warnings; an error where there was no memory for them.
     pub warnings: Result<String, AllocError>,
-    /// Whether the files of names have the set that `eval --arch` names. It is true until that is looked up.
+    /// Whether the files of names have a set with the name behind `eval --arch`. It is true until that is looked up.
+    /// Where the number of an architecture stands there, it means nothing.
     pub(crate) is_set_known: bool,
-    /// The place, from 0, of the first call behind `--calls` that no file of names has, once they were looked up and
-    /// one was unknown; 0 before that.
+    /// The place, from 0, of the first call behind `--calls` that no file of names has. It is 0 until the calls are
+    /// looked up, and stays 0 where each is known.
     pub(crate) unknown_call: usize,
 }
 
@@ -113,9 +114,9 @@ impl Notes {
         }
     }
 
-    /// The place of the file of names that has the set at `place`, and how many sets that file has; `None` where it
-    /// isn't known. Both places count from 0: that of the set among all sets that were read, that of the file among the
-    /// files of names.
+    /// The place of the file of names that has the set at `place`, and how many sets that file has; `None` where the
+    /// file isn't known. Both places count from 0: that of the set among all sets that were read, that of the file
+    /// among the files of names.
     pub(crate) fn file_of_set(&self, place: usize) -> Option<(usize, usize)> {
         let mut before = 0usize;
         for (file, count) in self.sets.iter().enumerate() {
@@ -136,8 +137,8 @@ impl Notes {
         }
     }
 
-    /// The questions, where `read` has them. Where it has the refusal of a policy, the notes keep that, and its fault
-    /// is the error.
+    /// The questions, where `read` has them; the notes are unchanged then. Where `read` has the refusal of a policy,
+    /// the notes keep the refusal, and its fault is the error.
     pub fn take_refusal(
         &mut self,
         read: Result<Vec<Question>, Refusal>,
@@ -154,10 +155,11 @@ impl Notes {
         }
     }
 
-    /// Where the run ended with a fault, keeps in the notes which of several policies is refused, and the lines that
-    /// explain the fault; else does nothing. `ran` is how the run ended. The lines are kept only where the matches ask
-    /// for them or `explains` is true, and where there is memory for them. `reason` says in words for a person why the
-    /// last file couldn't be read.
+    /// Where the run ended with a fault, keeps in the notes which of the policies is refused, where one is, and the
+    /// lines that explain the fault; else does nothing. `ran` is how the run ended. The lines are kept only where the
+    /// matches ask for them or `explains` is true, and where there is memory for them; else the notes have none.
+    /// `explains` and `reason` are what the methods of `Files` with these names give: whether each fault is explained,
+    /// and in words for a person why a file can't be read.
     pub fn explain(
         &mut self,
         alloc: Global,
@@ -198,7 +200,8 @@ fn role_of_last(found: &ArgMatches<'_>, notes: &Notes) -> Role {
     }
 }
 
-/// Adds the line of the file of names that was read last, which is refused. An error where an allocation is refused.
+/// Adds the line of the file of names that is refused. The caller has seen that it is the file that was read last. An
+/// error where an allocation is refused.
 fn push_names(text: &mut String, found: &ArgMatches<'_>, notes: &Notes) -> Result<(), AllocError> {
     let path = path_at(found, notes.files.saturating_sub(1));
     write!(text, "names {path:?}\n")
@@ -211,8 +214,9 @@ fn push_accept(text: &mut String, found: &ArgMatches<'_>) -> Result<(), AllocErr
     write!(text, "accept {path:?}\n")
 }
 
-/// Adds the lines of the file that was read last and is refused, where it is a policy, a file of names or one of
-/// questions that may be allowed; nothing for a filter or a profile. An error where an allocation is refused.
+/// Adds the lines of the file that was read last and is refused, where it is a policy (with the place in it that is
+/// refused), a file of names, or the file behind `--accept`; nothing for a filter or a profile. An error where an
+/// allocation is refused.
 fn push_asked(
     alloc: Global,
     text: &mut String,
@@ -230,8 +234,8 @@ fn push_asked(
     }
 }
 
-/// Adds the line of a file that can't be read, and the reason on it, unless this is empty. An error where an allocation
-/// is refused.
+/// Adds the line of a file that can't be read: its path, and the reason behind it, unless the reason is empty. An error
+/// where an allocation is refused.
 fn push_unread(text: &mut String, path: &str, reason: &str) -> Result<(), AllocError> {
     if reason.is_empty() {
         return write!(text, "file {path:?}\n");
@@ -239,8 +243,9 @@ fn push_unread(text: &mut String, path: &str, reason: &str) -> Result<(), AllocE
     write!(text, "file {path:?}: {reason}\n")
 }
 
-/// Adds the line that says why a text spells no input: which character, counted from 1, is no hexadecimal digit, or how
-/// many digits there are. The caller has seen that it spells none. An error where an allocation is refused.
+/// Adds the line that says why a text spells no input: the number, from 1, of its first character that is no
+/// hexadecimal digit; or where each is one, how many digits there are. The caller has seen that the text spells no
+/// input. An error where an allocation is refused.
 fn push_input(text: &mut String, input: &str) -> Result<(), AllocError> {
     match input.chars().position(|digit| !digit.is_ascii_hexdigit()) {
         Some(place) => {
@@ -255,7 +260,8 @@ fn push_input(text: &mut String, input: &str) -> Result<(), AllocError> {
 }
 
 /// Adds the line that says which number of a call is too wide: one behind `--args`, else that behind `--nr`, else that
-/// behind `--arch`. The caller has seen that one is. An error where an allocation is refused.
+/// behind `--arch`. The caller has seen by `eval_words_fit` that the words have the right form, and by `numbers_fit`
+/// that a number is too wide. An error where an allocation is refused.
 fn push_wide(text: &mut String, found: &ArgMatches<'_>) -> Result<(), AllocError> {
     let (args, nr) = (text_of(found, "args"), text_of(found, "nr"));
     if read_arguments(args).is_err() {
@@ -268,8 +274,8 @@ fn push_wide(text: &mut String, found: &ArgMatches<'_>) -> Result<(), AllocError
     write!(text, "arch {arch:?}: more than 32 bits\n")
 }
 
-/// Adds the line that says why the words of `eval` spell no input, as the caller has seen: by `push_input` where
-/// `--input` is given, else by `push_wide`. An error where an allocation is refused.
+/// Adds the line that says why the words of `eval` spell no input: by `push_input` where `--input` is given, else by
+/// `push_wide`. The caller has seen that they spell none. An error where an allocation is refused.
 fn push_misspelled(text: &mut String, found: &ArgMatches<'_>) -> Result<(), AllocError> {
     match found.get_str("input") {
         Some(input) => push_input(text, input),
@@ -277,9 +283,10 @@ fn push_misspelled(text: &mut String, found: &ArgMatches<'_>) -> Result<(), Allo
     }
 }
 
-/// Adds the line of the name that no file of names has. Where `--calls` is given, it is the call behind it that the
-/// notes know. Else it is the call behind `--call`, or where the notes say that the set behind `--arch` is unknown,
-/// that set. An error where an allocation is refused.
+/// Adds the line of the name that no file of names has. The caller has seen that there is one. Where `--calls` is
+/// given, the name is the one at the place `unknown_call` of the notes in its text. Else it is the set behind `--arch`
+/// where the notes say that this set is unknown; or else the call behind `--call`, which is shown with its set. An
+/// error where an allocation is refused.
 fn push_unknown(
     text: &mut String,
     found: &ArgMatches<'_>,
@@ -296,9 +303,9 @@ fn push_unknown(
     write!(text, "set {set:?}\n")
 }
 
-/// Adds the line of the policy file with this path, and lines that say where it is refused: where it isn't UTF-8, or
-/// what the notes know of its refusal. The caller has seen that the notes have the bytes of this file. An error where
-/// an allocation is refused.
+/// Adds the line of the policy file with this path, and lines that say where it is refused: the place at which it isn't
+/// UTF-8, or what the notes know of its refusal. The caller has seen that the notes have the bytes of this file. An
+/// error where an allocation is refused.
 fn push_policy(
     alloc: Global,
     text: &mut String,
@@ -307,6 +314,7 @@ fn push_policy(
 ) -> Result<(), AllocError> {
     write!(text, "policy {path:?}\n")?;
     let bytes = bytes_of_text(&notes.policy);
+    // The bytes of a byte order mark, which the place of a TOML error counts, and lines and columns here don't.
     let hidden = notes.policy.len().saturating_sub(bytes.len());
     match (std::str::from_utf8(bytes), &notes.refusal) {
         (Ok(policy), Some(refusal)) => Page {
@@ -323,7 +331,7 @@ fn push_policy(
     }
 }
 
-/// The number, from 1, of the filter that is refused for a fault; none where the fault isn't that of one filter.
+/// The number, from 1, of the filter that is refused for a fault; `None` where the fault isn't that of one filter.
 fn filter_of(fault: &Fault) -> Option<usize> {
     match fault {
         Fault::Ragged { filter }
@@ -357,8 +365,9 @@ fn is_of_policy_or_names(fault: &Fault) -> bool {
 }
 
 /// Adds the lines that say where a fault lies. The first one names the file that is refused or can't be read, if there
-/// is one; `reason` is why it can't be read. Nothing is added for a fault that lies in no file and no word. An error
-/// where an allocation is refused.
+/// is one; `reason` is why it can't be read. For a fault in the words of the command line there is one line, about the
+/// word. Nothing is added for a fault that lies neither in one file nor in a word. An error where an allocation is
+/// refused, or was before, so that the notes lack the set or the key for which `profile` is refused.
 fn push_place(
     alloc: Global,
     text: &mut String,
@@ -383,8 +392,8 @@ fn push_place(
 }
 
 /// The hint for a file that can't be read: what kind of file is wanted. `place` is the file's, from 0, among all files
-/// that are read, and `reason` says why it can't be read. `None` for a filter or a profile, where there is no such
-/// file, and where `hint_of_unread` gives `None`.
+/// that are read, and `reason` says why the file can't be read. `None` for a filter or a profile, where no file is at
+/// the place, and where `hint_of_unread` gives `None`.
 fn hint_of_read(found: &ArgMatches<'_>, place: usize, reason: &str) -> Option<Hint> {
     let (role, path) = file_at(found, place)?;
     let ready = match role {
@@ -397,9 +406,9 @@ fn hint_of_read(found: &ArgMatches<'_>, place: usize, reason: &str) -> Option<Hi
     hint_of_unread(path, reason, ready)
 }
 
-/// What may have been meant by what is refused; `None` where that isn't known. For a profile it is asked only where the
-/// profile itself is refused, and not a set of names. `reason` is why a file can't be read. An error where an
-/// allocation is refused.
+/// The hint at what may have been meant by what is refused; `None` where that isn't known. Where the subcommand
+/// `profile` refuses, there is a hint only if it refuses the profile itself, and not a set of names. `reason` is why a
+/// file can't be read. An error where an allocation is refused.
 fn hint_of(
     alloc: Global,
     found: &ArgMatches<'_>,
@@ -439,8 +448,8 @@ fn meaning_of_syntax(role: Role) -> &'static str {
     }
 }
 
-/// The lines that explain a fault: where it lies, what its number means, and a hint where there is one. An error where
-/// an allocation is refused.
+/// The lines that explain a fault: where it lies, what it means, and a hint where there is one. `reason` is why a file
+/// can't be read. An error where an allocation is refused, or `push_place` has an error.
 fn fault_text(
     alloc: Global,
     found: &ArgMatches<'_>,
@@ -462,8 +471,8 @@ fn fault_text(
     Ok(text)
 }
 
-/// The lines that explain a fault, where the matches ask for them or `explains` is true. None where neither is, where
-/// the matches name no subcommand, or where there is no memory for the lines.
+/// The lines that explain a fault, where the matches ask for them or `explains` is true. `None` where neither is so,
+/// where the matches name no subcommand, or where `fault_text` has an error: there is no memory for the lines.
 fn explanation(
     alloc: Global,
     matches: &ArgMatches<'_>,

@@ -21,7 +21,8 @@ use std::alloc::Global;
 /// refused too.
 pub const MOST_BYTES: usize = 0x100000;
 
-/// Where files are read by their paths. It also takes over what was found, when the program needs it no more.
+/// Where files are read by their paths. It also takes over what was found (`take_over`), when the program needs it no
+/// more.
 pub trait Files {
     ghost use Rattle.std.specs.Prelude.{List, ℕ, Option, None};
 
@@ -37,11 +38,12 @@ pub trait Files {
             ⊎ (e ≡ Memory)) }
         ensures same { (p : List ℕ) → holds self.new p ≡ holds self.old p };
 
-    /// Why the last file that was refused couldn't be read, in words for a person; empty where that isn't known. No
+    /// Why `read` refused the last file that it refused, in words for a person; empty where that isn't known. No
     /// contract speaks of it.
     fn reason(&self) -> &str;
 
-    /// Whether each fault is explained, also where the command line doesn't ask for it. By default it isn't.
+    /// Whether each fault is explained, also where the command line doesn't ask for it. By default `false`: then a
+    /// fault is explained only where the command line asks for it.
     fn explains(&self) -> bool {
         false
     }
@@ -54,7 +56,8 @@ pub trait Files {
 /// The bytes of the files at these paths, in order. All files are read, but only the first 65 are kept: one more than a
 /// stack may have, so that the stack is refused. The notes count the files that were read.
 ///
-/// `Read` comes at the first file that can't be read, `Memory` where an allocation is refused.
+/// `Read` comes at the first file that can't be read, `Memory` where an allocation is refused. The notes have counted
+/// the files that were read until then.
 pub fn read_all<F: Files>(
     alloc: Global,
     paths: &[&str],

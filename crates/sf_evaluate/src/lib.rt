@@ -1,5 +1,5 @@
-//! The subcommands `check`, `eval` and `profile`, which explore nothing; the files that all subcommands read; and how a
-//! fault is reported and explained.
+//! The subcommands `check`, `eval` and `profile`, which explore nothing; the files that all subcommands read; whether
+//! the words of the command line fit together; and how a fault is reported and explained.
 #![tactic(auto)]
 
 mod architectures;

@@ -20,8 +20,9 @@ use sf_profile::{
 use std::alloc::{AllocError, Global};
 use std::io::Write;
 
-/// The line that warns of names in the profile that no file of names has; empty where there are none. An error where an
-/// allocation is refused: the caller has made the filter of this profile before, so that no other fault is left.
+/// The line that warns of names that no file of names has, in the profile with these bytes; empty where there are none.
+/// Only rules of the profile that apply count. The caller has made the filter of this profile with these settings
+/// before: so an error comes only where an allocation is refused.
 fn warning_of(alloc: Global, settings: &Settings, bytes: &[u8]) -> Result<String, AllocError> {
     let names = unknown_names(alloc, settings, bytes).map_err(|_| AllocError)?;
     let mut text = String::new(alloc);
@@ -66,8 +67,9 @@ fn other_set(alloc: Global, names: &[Names]) -> Result<Option<OtherSet>, AllocEr
     Ok(None)
 }
 
-/// The settings for a profile: what the command line says, with the calls of the files of names. Keeps in the notes the
-/// first set that is none of the five of `CallSet`. The caller's condition: the words behind the options fit, as
+/// The settings for a profile: what the command line says, with the calls of the files of names. The notes get what
+/// `read_all_names` keeps in them, and the first set that is none of the five of `CallSet`, or that there was no memory
+/// to keep that set, which is no refusal. The caller's condition: the words behind the options fit, as
 /// `profile_words_fit` says. The refusals are those of `read_all_names`; then those of `calls_of`. `Memory` can come
 /// anywhere.
 fn read_settings<F: Files>(
@@ -89,8 +91,9 @@ fn read_settings<F: Files>(
     settings_of(alloc, found, calls)
 }
 
-/// Keeps in the notes the warning of names that no file of names has, after a filter was written. It keeps none with
-/// `--quiet`, nor with `--notes`, where no filter was written.
+/// Keeps in the notes the warning of names that no file of names has, or that there was no memory for it. The notes are
+/// unchanged with `--quiet`, and with `--notes`, which tell these names themselves. The caller has made the filter or
+/// the notes of the profile with these bytes.
 fn keep_warning(
     alloc: Global,
     found: &ArgMatches<'_>,
@@ -103,8 +106,9 @@ fn keep_warning(
     }
 }
 
-/// Keeps in the notes the key for which the profile is refused, where one is known, or that there is no memory for it.
-/// Does nothing where the fault isn't that of a profile.
+/// Keeps in the notes the key for which the profile with these bytes is refused, where one is known, or that there is
+/// no memory for it. `fault` is the one with which the profile was refused. Does nothing where the fault isn't that of
+/// a profile.
 fn keep_key(alloc: Global, settings: &Settings, bytes: &[u8], fault: &Fault, notes: &mut Notes) {
     if let Fault::Profile(refusal) = fault {
         notes.key = wrong_key(alloc, settings, bytes, *refusal);
@@ -113,8 +117,9 @@ fn keep_key(alloc: Global, settings: &Settings, bytes: &[u8], fault: &Fault, not
 
 /// Reads the files of names and then the profile that the matches of the subcommand name, and writes the filter that
 /// the profile means: a program that answers each input as the profile does. Where `--notes` asks for it, notes on the
-/// profile are written, and no filter. The status is 0; or 4 where a word isn't one that its option takes, before any
-/// file is read.
+/// profile are written, and no filter. The status is 0; or 4 where a word isn't one that its option takes: then no file
+/// is read, and nothing is written. `notes` count the files, and get the warning of names that no file of names has, or
+/// the set or the key for which a profile is refused.
 ///
 /// Refusals, tried in this order: what `read_all_names` refuses; `Profile(Set)` where one of the sets of names is none
 /// of the five sets of `CallSet`; `Read` where the profile can't be read; what `profile` of `sf_profile` refuses;

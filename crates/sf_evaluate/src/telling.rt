@@ -14,11 +14,13 @@ use std::alloc::{AllocError, Global};
 use std::fmt::InlineText;
 use std::io::Write;
 
-/// The most bytes of a fault's line: two numbers of at most 20 digits each, and words.
+/// The most bytes of a fault's line: words, the two digits of the fault's number, and at most two other numbers of at
+/// most 20 digits each.
 const LINE: usize = 96;
 
-/// The exit status of a fault: 3 where the filters, a policy, a profile, a file of names, the file of `--accept` or the
-/// input are refused, 5 where reading, writing or memory fails.
+/// The exit status of a fault. It is 3 where the filters, a policy, a profile, a file of names, the file of `--accept`,
+/// the input, or the name of a call or of a set of calls is refused. It is 5 where reading, writing or memory fails:
+/// these faults have the numbers from 50.
 fn status_of(fault: &Fault) -> u8
     ensures { result ≡ fault_status (fault_number fault.now) }
 {
@@ -31,7 +33,7 @@ fn line_of(fault: &Fault) -> InlineText<LINE> {
 }
 
 /// The line of a fault in one of several policies, or in that of the control. `policy` says which one it is, as
-/// `policy 2` or `control`, and stands before the question, or at the end where the fault has none.
+/// `policy 2` or `control`. It stands before the number of the question, or at the end where the fault has no question.
 fn line_in(fault: &Fault, policy: &str) -> InlineText<LINE> {
     let line: InlineText<LINE> = InlineText::of(format_args!("{fault}"));
     match line.as_str().split_once(" question ") {
@@ -42,7 +44,8 @@ fn line_in(fault: &Fault, policy: &str) -> InlineText<LINE> {
     }
 }
 
-/// The line of a fault, with the policy in which it lies: its number where there are several, or "control".
+/// The line of a fault. Where `which` says that the fault lies in one of several policies, or in that of the control,
+/// the line has the number of this policy, or the word `control`.
 fn placed_line(fault: &Fault, which: Which) -> InlineText<LINE> {
     match which {
         Which::Only => line_of(fault),
@@ -55,7 +58,7 @@ fn placed_line(fault: &Fault, which: Which) -> InlineText<LINE> {
 }
 
 /// Writes the line of a fault to standard error, with one write, so that it stays whole beside the lines of other
-/// programs. It isn't looked at whether the write succeeds. Gives the exit status.
+/// programs. It isn't looked at whether the write succeeds. Gives the exit status of the fault.
 fn tell_line<E: Write>(line: &InlineText<LINE>, fault: &Fault, err: &mut E) -> u8
     ensures { result ≡ fault_status (fault_number fault.now) }
 {
@@ -63,8 +66,8 @@ fn tell_line<E: Write>(line: &InlineText<LINE>, fault: &Fault, err: &mut E) -> u
     status_of(fault)
 }
 
-/// Writes the line of a fault to standard error, and gives the exit status. It allocates nothing, since memory may have
-/// run out.
+/// Writes the line of a fault, which names no policy, to standard error, as `tell_line` does, and gives the exit
+/// status of the fault. It allocates nothing, since memory may have run out.
 pub fn tell_fault<E: Write>(fault: &Fault, err: &mut E) -> u8
     ensures { result ≡ fault_status (fault_number fault.now) }
 {
@@ -80,8 +83,9 @@ fn with_more(alloc: Global, line: &str, more: &str) -> Result<String, AllocError
     Ok(text)
 }
 
-/// Writes the line of a fault to standard error, and under it the lines that explain the fault, if the notes have any
-/// and there is memory to join them. Both are written with one write, as in `tell_line`. Gives the exit status.
+/// Writes the line of a fault to standard error, with the policy that the notes name; and under it the lines that
+/// explain the fault, if the notes have any and there is memory to join them to the line. All is written with one
+/// write, and it isn't looked at whether that succeeds, as in `tell_line`. Gives the exit status of the fault.
 pub fn tell<E: Write>(alloc: Global, fault: &Fault, notes: &Notes, err: &mut E) -> u8
     ensures { result ≡ fault_status (fault_number fault.now) }
 {
@@ -95,7 +99,7 @@ pub fn tell<E: Write>(alloc: Global, fault: &Fault, notes: &Notes, err: &mut E) 
     tell_line(&line, fault, err)
 }
 
-/// Whether the matches of the command line ask for no warnings.
+/// Whether the matches of the command line ask for no warnings; `false` where they name no subcommand.
 fn is_quiet(matches: &ArgMatches<'_>) -> bool
     ensures { IsQuiet (subcommand_rows_of matches.now) → result ≡ true }
 {
@@ -105,8 +109,8 @@ fn is_quiet(matches: &ArgMatches<'_>) -> bool
     }
 }
 
-/// Writes the lines of warnings to standard error, unless the matches ask for none. Where there was no memory for them,
-/// one line says so.
+/// Writes the lines of warnings to standard error, unless there are none, or the matches ask for none. Where there was
+/// no memory for them (`warnings` is an error), one line says so. It isn't looked at whether the write succeeds.
 pub fn warn<E: Write>(matches: &ArgMatches<'_>, warnings: &Result<String, AllocError>, err: &mut E)
     ensures quiet { IsQuiet (subcommand_rows_of matches.now) → err.new ≡ err.old }
 {

@@ -15,7 +15,8 @@ use std::alloc::{AllocError, Global};
 pub(crate) use tracing::{Trace, push_trace};
 pub use why::why_text;
 
-/// The line of an answer: its action and its data. An error where an allocation is refused.
+/// The line of an answer: its action, as `push_action` writes it, and its data as a decimal number. An error where an
+/// allocation is refused.
 pub fn answer_text(alloc: Global, answer: Answer) -> Result<String, AllocError>
     ensures { IfOk result (λ text. string_bytes text ≡ answer_text answer) }
 {
@@ -35,7 +36,8 @@ fn push_filter(text: &mut String, number: usize, instructions: usize) -> Result<
     write!(text, "filter {number} {instructions} instructions\n")
 }
 
-/// Adds the lines of a filter's instructions, if `listed`; else nothing. An error where an allocation is refused.
+/// Adds the lines of a filter's instructions, as `push_instructions` does, if `listed`; else nothing. An error where an
+/// allocation is refused.
 fn push_under(
     alloc: Global,
     text: &mut String,
@@ -51,8 +53,8 @@ fn push_under(
     Ok(())
 }
 
-/// Adds the lines of all filters, in order of installation; if `listed`, with the lines of its instructions under each.
-/// An error where an allocation is refused.
+/// Adds the lines of all filters, in order of installation and numbered from 1. If `listed`, the lines of its
+/// instructions stand under the line of each filter. An error where an allocation is refused.
 fn push_filters(
     alloc: Global,
     text: &mut String,

@@ -8,8 +8,9 @@ ghost use Rattle.sf_warnings.specs.Reaching.{AreReached, with_found};
 use sf_check::{Insn, Program};
 use std::alloc::{AllocError, Global};
 
-/// Marks in `found` the places to which the instruction at a place may lead. The caller's condition: these places are
-/// in `found`, as in a lawful program, and `place` is below 4096.
+/// Marks in `found` the places to which the instruction `insn` at `place` may lead. A jump counts from the place behind
+/// it, hence the `+ 1`. The caller's conditions: these places are in `found`, as in a lawful program; and `place` is
+/// below 4096, the most instructions of a program.
 fn find_next(found: &mut [bool], place: usize, insn: &Insn)
     requires small { place < 4096 }
     requires inside { AllBelow (length found.old) (successors place insn.now) }
@@ -26,13 +27,15 @@ fn find_next(found: &mut [bool], place: usize, insn: &Insn)
     }
 }
 
-/// For each instruction of a program, in order, whether some path through the program comes to it. A path takes both
-/// ways of each test, whether or not an input does. `AllocError` where an allocation is refused.
+/// For each instruction of a program, in order, whether some path from the first instruction comes to it. Behind each
+/// test there are paths for both results, whether or not an input gives them. `AllocError` where an allocation is
+/// refused.
 pub fn reached(alloc: Global, program: &Program) -> Result<Vec<bool>, AllocError>
     ensures { IfOk result (λ found. AreReached program.now found.items) }
 {
     let code = program.insns();
     let mut found = vec![in alloc; false; code.len()]?;
+    // A program has an instruction, and each path begins at the first one.
     found[0] = true;
     // Instructions lead only to later places, so one pass finds all.
     for (place, insn) in code.iter().enumerate() {

@@ -8,12 +8,14 @@ use sf_check::Program;
 use sf_run::PartAnswers;
 use std::alloc::{AllocError, Global};
 
-/// Adds the warning that two files of a stack are the same filter; nothing where all are different. `which` is empty,
-/// or `old ` or `new ` for one of two stacks. An error where an allocation is refused.
+/// Adds the warning that two files of a stack are the same filter: the two that `first_same` finds, by their numbers
+/// from 1. Adds nothing where all are different. `which` is empty, or `old ` or `new ` for one of two stacks. An error
+/// where an allocation is refused.
 fn push_same(text: &mut String, which: &str, files: &[Vec<u8>]) -> Result<(), AllocError> {
     let Some((earlier, later)) = first_same(files) else {
         return Ok(());
     };
+    // Numbers count from 1. The sums never saturate: a place is below the number of files.
     let (earlier, later) = (earlier.saturating_add(1), later.saturating_add(1));
     write!(
         text,
@@ -21,9 +23,10 @@ fn push_same(text: &mut String, which: &str, files: &[Vec<u8>]) -> Result<(), Al
     )
 }
 
-/// Adds the warning that control never comes to some instructions of a filter, if another one than the last is among
-/// them: libseccomp ends each filter with a return to which often nothing leads. `number` is that of the filter, from
-/// 1, and `which` is as in `push_same`. An error where an allocation is refused.
+/// Adds the warning that no path comes to some instructions of a filter, and how many they are. Adds nothing where no
+/// other instruction than the last is among them: libseccomp ends each filter with a return to which often nothing
+/// leads. `number` is that of the filter, from 1, and `which` is as in `push_same`. An error where an allocation is
+/// refused.
 fn push_unreached(
     alloc: Global,
     text: &mut String,
@@ -61,9 +64,9 @@ fn push_of_files(
     Ok(())
 }
 
-/// The warnings that the files of a stack call for: two of them are the same, or a filter has instructions to which
-/// control never comes. Empty where there are none. `programs` are what these files spell, in the same order. An error
-/// where an allocation is refused.
+/// The warnings that the files of a stack call for, each a line: that two of them are the same, and that no path comes
+/// to some instruction of a filter before its last one. Empty where there are none. `programs` are what these files
+/// spell, in the same order. An error where an allocation is refused.
 pub fn warnings_of_files(
     alloc: Global,
     files: &[Vec<u8>],
@@ -74,8 +77,9 @@ pub fn warnings_of_files(
     Ok(text)
 }
 
-/// The warnings that the exploration of a stack of these files calls for: those of the files, and that no call gets
-/// through. An error where an allocation is refused.
+/// The warnings that the exploration of the stack of these files calls for, each a line: those of the files, as
+/// `warnings_of_files` has them, and that no call gets through, where `lets_none_through` says so. Empty where there
+/// are none. An error where an allocation is refused.
 pub fn warnings_of_stack(
     alloc: Global,
     files: &[Vec<u8>],
@@ -88,8 +92,8 @@ pub fn warnings_of_stack(
     Ok(text)
 }
 
-/// Adds the warning that no call gets through one of two stacks. `which` is `old ` or `new `. An error where an
-/// allocation is refused.
+/// Adds the warning that no call gets through one of two stacks. `which` is `old ` or `new `, with the blank. An error
+/// where an allocation is refused.
 fn push_none(text: &mut String, which: &str) -> Result<(), AllocError> {
     write!(
         text,
@@ -97,9 +101,13 @@ fn push_none(text: &mut String, which: &str) -> Result<(), AllocError> {
     )
 }
 
-/// The warnings that the exploration of two stacks as one calls for: those of the files of each, and for each that no
-/// call gets through it, if nothing is outstanding. The first `older` files are those of the old stack. `answers` has
-/// the answers of both to each region. An error where an allocation is refused.
+/// The warnings that the exploration of two stacks as one calls for, each a line: those of the files of each stack; and
+/// for each stack that no call gets through it, where nothing is outstanding and by none of its answers a call may get
+/// through. Empty where there are none.
+///
+/// The caller's conditions: `files` are those of all programs, in the same order; the first `older` of them are those
+/// of the old stack, and the others those of the new one; `answers` has the answers of both stacks on each region. An
+/// error where an allocation is refused.
 pub fn warnings_of_both(
     alloc: Global,
     files: &[Vec<u8>],

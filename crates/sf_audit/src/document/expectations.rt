@@ -21,8 +21,8 @@ fn control_document(alloc: Global, name: &str, reply: Reply) -> Result<Document,
     Ok(Document::object(fields))
 }
 
-/// The objects of the questions of the control, in their order. The caller's condition: there is a reply to each. An
-/// error where an allocation is refused.
+/// The objects of the questions of the control, in their order. The caller's condition: `replies` has the reply to each
+/// question, in the same order. An error where an allocation is refused.
 fn control_documents(
     alloc: Global,
     questions: &[Question],
@@ -40,8 +40,8 @@ fn control_documents(
     Ok(documents)
 }
 
-/// The object of what was expected: the questions of the control with their replies, and whether the control holds. An
-/// error where an allocation is refused.
+/// The object of what was expected: the questions of the control with their replies (`control`), and whether the
+/// control holds (`holds`). The accepted names aren't in it. An error where an allocation is refused.
 fn expected_document(alloc: Global, expected: &Expected) -> Result<Document, AllocError>
     ensures { IfOk result (λ d. view d ≡ expected_document expected.now) }
 {

@@ -22,13 +22,13 @@ struct Beside {
     accepted: bool,
     /// Whether it is allowed, and not accepted.
     unexpected: bool,
-    /// Where it stands.
+    /// The policy file and the line where it stands, as an object; `null` where they aren't known.
     origin: Document,
-    /// The remark on it, which says why the stack answers its example as it does.
+    /// The remark on it, which says why the stack answers its example as it does; `null` where it has none.
     why: Document,
 }
 
-/// The word of a reply.
+/// The word of a reply: `never`, `allowed` or `unsettled`.
 pub(super) fn reply_word(reply: Reply) -> &'static str
     ensures { result.now ≡ reply_word reply }
 {
@@ -61,8 +61,8 @@ fn remark_document(alloc: Global, text: &str) -> Result<Document, AllocError>
     Document::copy_of(alloc, text)
 }
 
-/// The remark on the question at a place, counted from 0; the document `null` where it has none. An error where an
-/// allocation is refused.
+/// The remark on the question at a place, counted from 0; the document `null` where it is empty, or `remarks` don't
+/// reach so far. An error where an allocation is refused.
 fn why_of(alloc: Global, remarks: &[String], place: usize) -> Result<Document, AllocError>
     ensures { IfOk result (λ d. view d
         ≡ remark_document (remark_at (map string_bytes remarks.now) place)) }
@@ -73,8 +73,8 @@ fn why_of(alloc: Global, remarks: &[String], place: usize) -> Result<Document, A
     }
 }
 
-/// Where the question at a place stands, counted from 0; the document `null` where `origins` don't reach so far. An
-/// error where an allocation is refused.
+/// Where the question at a place, counted from 0, stands in its policy file: a copy of the object in `origins`. The
+/// document `null` where `origins` don't reach so far. An error where an allocation is refused.
 fn origin_of(origins: &[Document], place: usize) -> Result<Document, AllocError>
     ensures { IfOk result (λ d. view d ≡ origin_of (map view origins.now) place) }
 {
@@ -84,8 +84,8 @@ fn origin_of(origins: &[Document], place: usize) -> Result<Document, AllocError>
     }
 }
 
-/// What is shown beside the reply of the question at a place, counted from 0. `name` is the question's name. An error
-/// where an allocation is refused.
+/// What is shown beside the reply of the question at a place, counted from 0. `name` and `reply` are those of the
+/// question. An error where an allocation is refused.
 fn beside_of(
     alloc: Global,
     telling: &Telling<'_>,
@@ -112,7 +112,8 @@ fn beside_of(
 }
 
 /// The object of a question: its number, from 1, its name, the word of its reply, its example, and what is shown
-/// beside. An error where an allocation is refused.
+/// beside: where it stands (`origin`), the remark on it (`why`), and whether it is `accepted` or `unexpected`. An error
+/// where an allocation is refused.
 fn asked_document(
     alloc: Global,
     number: usize,
@@ -141,9 +142,9 @@ fn asked_document(
     Ok(Document::object(fields))
 }
 
-/// The object of the question at a place, counted from 0, with its name and its reply. The caller's condition: its
-/// number, which is the place plus 1, fits into 64 bits, as that of each question in memory does. An error where an
-/// allocation is refused.
+/// The object of the question at a place, counted from 0, with its name and its reply. The caller's condition: the
+/// place is below 2^63, as it is for each question in memory, so that the question's number, which is the place plus 1,
+/// fits into 64 bits. An error where an allocation is refused.
 fn question_document(
     alloc: Global,
     telling: &Telling<'_>,
@@ -161,8 +162,8 @@ fn question_document(
     asked_document(alloc, place + 1, name, reply_word(reply), example, beside)
 }
 
-/// The objects of questions in their order, each with its reply. The caller's condition: there is a reply to each. An
-/// error where an allocation is refused.
+/// The objects of questions in their order, each with its reply. The caller's condition: `replies` has the reply to
+/// each question, in the same order. An error where an allocation is refused.
 fn question_documents(
     alloc: Global,
     telling: &Telling<'_>,

@@ -20,8 +20,8 @@ fn letters_of(alloc: Global, name: &[bool]) -> Result<String, AllocError>
     Ok(text)
 }
 
-/// The name of a region: a letter for each truth value, as `letters_of` writes them. An error where an allocation is
-/// refused.
+/// The name of a region: a letter for each truth value, as `letters_of` writes them; empty where the region's name has
+/// no truth value. An error where an allocation is refused.
 fn name_of(alloc: Global, region: &Region) -> Result<String, AllocError>
     ensures { IfOk result (λ text. string_bytes text ≡ map letter region.now.name) }
 {

@@ -25,7 +25,8 @@ fn push_truth_values(text: &mut String, name: &[bool]) -> Result<(), AllocError>
     Ok(())
 }
 
-/// Adds the line of a region: its number, from 1, its name and its answer. An error where an allocation is refused.
+/// Adds the line of a region: `region`, its number, from 1, its name, and the action and the data of its answer. An
+/// error where an allocation is refused.
 fn push_region(
     alloc: Global,
     text: &mut String,
@@ -57,7 +58,7 @@ fn push_regions(alloc: Global, text: &mut String, settled: &Settled) -> Result<(
     Ok(())
 }
 
-/// Adds the lines of all regions where they are asked for. An error where an allocation is refused.
+/// Adds the lines of all regions if `shown`; else nothing. An error where an allocation is refused.
 fn push_shown_regions(
     alloc: Global,
     text: &mut String,
@@ -106,9 +107,9 @@ fn push_remark(text: &mut String, remarks: &[String], place: usize) -> Result<()
     }
 }
 
-/// Adds the line of the question at a place, counted from 0, and under it the remark on it, if it has one. The caller's
-/// condition: the question's number, which is the place plus 1, fits into 64 bits, as that of each in memory does. An
-/// error where an allocation is refused.
+/// Adds the line of the question at a place, counted from 0, and under it the remark on the question, if it has one.
+/// The caller's condition: the place is below 2^63, as it is for each question in memory, so that the question's
+/// number, which is the place plus 1, fits into 64 bits. An error where an allocation is refused.
 fn push_remarked(
     alloc: Global,
     text: &mut String,
@@ -125,8 +126,9 @@ fn push_remarked(
     push_remark(text, remarks, place)
 }
 
-/// Adds the lines of all questions, in their order, and under each the remark on it, if it has one. The caller's
-/// condition: there is a reply to each. An error where an allocation is refused.
+/// Adds the lines of all questions, in their order, and under each the remark on the question, if it has one. The
+/// caller's condition: `replies` has the reply to each question, in the same order. An error where an allocation is
+/// refused.
 fn push_questions(
     alloc: Global,
     text: &mut String,
@@ -161,8 +163,8 @@ fn push_size(
     )
 }
 
-/// Adds the line that says how much was audited: the size of the stack, and the number of questions. An error where an
-/// allocation is refused.
+/// Adds the line that says how much was audited, as `push_size` writes it: the number of filters of the stack, the
+/// length of the path through them, and the number of questions. An error where an allocation is refused.
 fn push_stack(text: &mut String, settled: &Settled, questions: usize) -> Result<(), AllocError>
     ensures { OnOk result (string_bytes text.new ≡ string_bytes text.old
         ++ size_line (length settled.now.stack) (path_length settled.now.stack) questions) }

@@ -20,9 +20,10 @@ use sf_policy::Fault;
 use sf_run::{Action, Course, answer, walk};
 use std::alloc::{AllocError, Global};
 
-/// The document of the filter with this number, from its run: what it returns and where, whether its answer stands, as
-/// `stands` says, and what it meets; with `brief` without the comparisons that are false. The upper 16 bits of its
-/// return value are the action, the lower 16 the data. An error where an allocation is refused.
+/// The object of the filter with this number, from its run: what it returns and at which instruction; at `stands`
+/// whether its answer is that of the stack, as the caller says; and at `met` the array of what it meets, with `brief`
+/// without the comparisons that are false. The upper 16 bits of its return value are the action, the lower 16 the data.
+/// An error where an allocation is refused.
 fn filter_document(
     alloc: Global,
     brief: bool,
@@ -108,8 +109,8 @@ fn traced_document(
     Ok(Document::array(alloc, documents)?)
 }
 
-/// What `eval` finds, as JSON: the input, the answer, and the filters where `traced` or `trace.brief` asks for them.
-/// `version` is that of this form of the document. An error where an allocation is refused.
+/// What `eval` finds, as JSON: the input, the answer, and the filters where `traced` or `trace.brief` asks for them,
+/// else `null` in their place. `version` is that of this form of the document. An error where an allocation is refused.
 fn document_of(alloc: Global, traced: bool, trace: &Trace<'_>) -> Result<Document, sf_run::Fault>
     ensures { IfOk result (λ d. view d ≡ eval_document traced trace.now.brief trace.now.names.now
         trace.now.stack.now trace.now.input.now trace.now.answer) }
@@ -125,8 +126,8 @@ fn document_of(alloc: Global, traced: bool, trace: &Trace<'_>) -> Result<Documen
 
 /// What `eval` finds, as JSON: the input, shown with these names of calls, and the answer of the stack to it. Where
 /// `traced` or `brief` is set, also each filter, newest first: what it returns and at which instruction, whether its
-/// answer is the stack's, and what it meets. With `brief`, comparisons that are false are left out. `Memory` where an
-/// allocation is refused.
+/// answer is the stack's, and what it meets; else `null` in their place. With `brief`, comparisons that are false are
+/// left out. `Memory` where an allocation is refused.
 pub fn eval_document(
     alloc: Global,
     stack: &Stack,

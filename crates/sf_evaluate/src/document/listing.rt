@@ -21,8 +21,8 @@ fn listing_of(alloc: Global, listed: bool, program: &Program) -> Result<Document
     Ok(Document::text(text))
 }
 
-/// The object of a filter: its number, how many instructions it has, and their listing. An error where an allocation is
-/// refused.
+/// The object of a filter: its number, how many instructions it has, and at `listing` the document that `listing_of`
+/// gives. An error where an allocation is refused.
 fn filter_size_document(
     alloc: Global,
     number: usize,
@@ -39,8 +39,8 @@ fn filter_size_document(
     Ok(Document::object(fields))
 }
 
-/// The object of the filter with this number: how many instructions it has, and if `listed` their listing. An error
-/// where an allocation is refused.
+/// The object of the filter with this number: the number, how many instructions it has, and their listing if `listed`,
+/// else `null` in its place. An error where an allocation is refused.
 fn document_of(
     alloc: Global,
     listed: bool,
@@ -53,8 +53,8 @@ fn document_of(
     filter_size_document(alloc, number, program.insns().len(), listing)
 }
 
-/// The objects of all filters, in order of installation, numbered from 1; if `listed`, with the listings of their
-/// instructions. An error where an allocation is refused.
+/// The objects of all filters, in order of installation, numbered from 1, as `document_of` gives them. An error where
+/// an allocation is refused.
 fn filter_documents(
     alloc: Global,
     listed: bool,
@@ -71,8 +71,8 @@ fn filter_documents(
 }
 
 /// What `check` finds of a stack, as JSON: how many instructions each filter has, with their listing where `listed`
-/// asks for it, and the path length of the stack. `version` is that of this form of the document. An error where an
-/// allocation is refused.
+/// asks for it and else `null`, and the path length of the stack. `version` is that of this form of the document. An
+/// error where an allocation is refused.
 pub fn check_document(alloc: Global, stack: &Stack, listed: bool) -> Result<Document, AllocError>
     ensures { IfOk result (λ d. IsCheckDocument listed stack.now (view d)) }
 {

@@ -26,7 +26,9 @@ fn word_name(alloc: Global, word: Option<u8>) -> Result<Document, AllocError>
     Document::copy_of(alloc, name)
 }
 
-/// The document of a comparison. An error where an allocation is refused.
+/// The object of a comparison: the place of its instruction; the name of the word that is compared, or `null`; the
+/// number that is compared, the sign and the other number; and whether it is true. An error where an allocation is
+/// refused.
 fn compared_document(alloc: Global, compared: &Comparison) -> Result<Document, AllocError>
     ensures { IfOk result (λ d. view d ≡ step_document compared.now.place
         (word_name compared.now.word) (word_of compared.now.value)
@@ -43,8 +45,9 @@ fn compared_document(alloc: Global, compared: &Comparison) -> Result<Document, A
     Ok(Document::object(fields))
 }
 
-/// The document of a value that is returned. It has the fields of a comparison, so that each step has the same ones;
-/// those that a return lacks are `null`. An error where an allocation is refused.
+/// The object of a return of A: the place of the instruction, and at `value` the number in A. It has all fields of a
+/// comparison, so that each object in `met` has the same ones; the others are `null`. An error where an allocation is
+/// refused.
 fn returned_document(alloc: Global, place: usize, value: u32) -> Result<Document, AllocError>
     ensures { IfOk result (λ d. view d ≡ step_document place null
         (word_of value) null null null) }
@@ -59,8 +62,8 @@ fn returned_document(alloc: Global, place: usize, value: u32) -> Result<Document
     Ok(Document::object(fields))
 }
 
-/// The document of what a filter meets at an instruction. A division by X is a comparison of X with 0. An error where
-/// an allocation is refused.
+/// The object of what a filter meets at an instruction. A division by X is shown as a comparison of X with 0. An error
+/// where an allocation is refused.
 fn meeting_document(alloc: Global, meeting: Meeting) -> Result<Document, AllocError>
     ensures { IfOk result (λ d. view d ≡ meeting_document meeting) }
 {

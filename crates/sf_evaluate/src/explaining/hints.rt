@@ -28,9 +28,9 @@ const INPUT: &str =
 pub(crate) enum Hint {
     /// This sentence.
     Sentence(&'static str),
-    /// Another key is meant, which is this one.
+    /// In place of the key that was written, this one may be meant.
     Meant(&'static str),
-    /// This key names a number that has a key for each half.
+    /// The key that was written is this one, which names a number of 64 bits: a question has a key for each half of it.
     Halved(&'static str),
 }
 
@@ -53,15 +53,16 @@ pub(crate) fn hint_of_input() -> Hint {
     Hint::Sentence(INPUT)
 }
 
-/// The hint for a name of a set of calls where there is no file of names.
+/// The hint for an unknown name of a call or of a set of calls, where the command line names no file of names.
 pub(crate) fn hint_of_unknown() -> Hint {
     Hint::Sentence(
         "a file of names has the sets of calls: `--names policies/names/x86_64.toml` has x86_64",
     )
 }
 
-/// Whether this fault fits a file in which the number of the instructions stands before them: its length is no multiple
-/// of 8, or one of its first two instructions is wrong. The number takes at most 16 bytes, as two instructions do.
+/// Whether this fault fits a filter file in which the number of the instructions stands before them: the file's length
+/// is no multiple of 8, or one of its first two instructions has a wrong code or field. The number takes at most 16
+/// bytes, as two instructions do.
 fn is_at_front(fault: &Fault) -> bool {
     match fault {
         Fault::Ragged { .. } => true,
@@ -119,9 +120,9 @@ pub(crate) fn hint_of_profile(kind: Kind) -> Option<Hint> {
     Some(Hint::Sentence(sentence))
 }
 
-/// The hint for a file that can't be read, which is the sentence `ready`. It is given where the path has no `/`, since
-/// a name may have been given in place of a path, and where `reason` says that the path is that of a folder. Else
-/// `None`.
+/// The hint for a file that can't be read: the sentence `ready`, which says what file is wanted. It is given where
+/// `path` has no `/`, since a name may have been given in place of a path. It is also given where `reason`, the
+/// system's words, says that the path is that of a folder. Else `None`.
 pub(crate) fn hint_of_unread(path: &str, reason: &str, ready: &'static str) -> Option<Hint> {
     if path.contains('/') && !reason.starts_with("Is a directory") {
         return None;
@@ -148,8 +149,8 @@ fn is_key_of_question(key: &str) -> bool {
     key == "name" || key == "actions" || WORD_KEYS.iter().any(|known| *known == key)
 }
 
-/// The key that is meant by another one: by one of `MEANT`, or by the key of a word with capitals. None where no key is
-/// known to be meant.
+/// The key of a question that is meant by `key`: the one that `MEANT` has for it, or the key of a word that differs
+/// from it at most by capitals. `None` where there is neither.
 fn key_meant_by(key: &str) -> Option<&'static str> {
     for (written, meant) in MEANT {
         if key.eq_ignore_ascii_case(written) {
@@ -161,7 +162,7 @@ fn key_meant_by(key: &str) -> Option<&'static str> {
         .find(|known| key.eq_ignore_ascii_case(*known))
 }
 
-/// The hint for an unknown key; none where it isn't known which one is meant.
+/// The hint for an unknown key of a question; `None` where it isn't known which key is meant.
 fn meant_by(key: &str) -> Option<Hint> {
     for halved in HALVED {
         if key.eq_ignore_ascii_case(halved) {
@@ -171,7 +172,8 @@ fn meant_by(key: &str) -> Option<Hint> {
     key_meant_by(key).map(|meant| Hint::Meant(meant))
 }
 
-/// The hint for a key that is refused at the top of a policy.
+/// The hint for a key that is refused at the top of a policy. It is `question` where there are no questions, or where
+/// they are no array of tables.
 fn hint_of_top_key(key: &str) -> Hint {
     match key {
         "question" => Hint::Sentence("each question begins with the line `[[question]]`"),
@@ -222,7 +224,8 @@ fn hint_of_question_key(refusal: &Refusal, key: &str, value: &Value) -> Hint {
     }
 }
 
-/// The hint for a number that hasn't 32 bits. `None` where the value is no single number, and where a number at `nr` or
+/// The hint for the value of a word, at this key, that is refused with the fault `Range`: for a single number, which is
+/// then negative or has more than 32 bits. `None` where the value is an array or a table, and where a number at `nr` or
 /// `arch` is too large: these words are no halves of a longer number.
 fn hint_of_range(key: &str, value: &Value) -> Option<Hint> {
     match value {
@@ -250,8 +253,9 @@ fn hint_of_key(refusal: &Refusal, key: &str, value: &Value) -> Option<Hint> {
     }
 }
 
-/// The hint for a policy that is TOML and is refused for what it says. None where it is refused for a key that is
-/// missing, or where nothing is known to be meant. An error where an allocation is refused.
+/// The hint for a policy that is refused, by its fault: for a missing or unknown version, for a lack of questions, or
+/// for the key that is refused. `None` where the text is no TOML, where another key is missing, and where nothing is
+/// known to be meant. An error where an allocation is refused.
 fn hint_of_refusal(alloc: Global, refusal: &Refusal) -> Result<Option<Hint>, AllocError> {
     if refusal.fault == Fault::Version {
         return Ok(Some(Hint::Sentence("a policy begins with `version = 2`")));
@@ -269,8 +273,8 @@ fn hint_of_refusal(alloc: Global, refusal: &Refusal) -> Result<Option<Hint>, All
     }
 }
 
-/// The hint for a policy that is refused: about what the file is, or else about the key at which it is refused. `None`
-/// where nothing is known of either. An error where an allocation is refused.
+/// The hint for a file of this kind that is refused as a policy: about what the file is, or else what
+/// `hint_of_refusal` gives. `None` where there is neither. An error where an allocation is refused.
 pub(crate) fn hint_of_policy(
     alloc: Global,
     kind: Kind,

@@ -34,15 +34,15 @@ pub(crate) fn bytes_of_text(bytes: &[u8]) -> &[u8] {
     }
 }
 
-/// Whether bytes begin like a text: none of the first `FRONT` bytes is below 0x20, but for white space. Those of a
-/// filter don't, since the second byte of each permitted code is 0.
+/// Whether bytes begin like a text: none of the first `FRONT` bytes is below 0x20, but for white space. The bytes of a
+/// filter never begin so, since the second byte of each permitted code is 0.
 fn is_text(bytes: &[u8]) -> bool {
     let mut front = bytes.iter().take(FRONT);
     front.all(|byte| 0x20 <= *byte || byte.is_ascii_whitespace())
 }
 
-/// Whether the number of the instructions seems to stand before them, in 2, 4, 8 or 16 bytes: as many instructions as
-/// the first two bytes say fill the rest of the file.
+/// Whether the number of the instructions seems to stand before them, in 2, 4, 8 or 16 bytes. The first two bytes, the
+/// low one first, are then a number above 0, and as many instructions of 8 bytes fill the rest of the file.
 fn is_counted(bytes: &[u8]) -> bool {
     let [low, high, ..] = bytes else {
         return false;
@@ -52,8 +52,8 @@ fn is_counted(bytes: &[u8]) -> bool {
     count != 0 && matches!(bytes.len().checked_sub(length), Some(2 | 4 | 8 | 16))
 }
 
-/// The line at a place, counted from 0, of those that are neither empty nor a comment of TOML, without the blanks
-/// around it; empty where there is none.
+/// The line at a place, without the blanks around it; empty where there is none. Places count from 0, and only lines
+/// that are neither blank nor a comment of TOML.
 fn line_at(text: &str, place: usize) -> &str {
     let mut left = place;
     for line in text.lines() {
@@ -68,13 +68,13 @@ fn line_at(text: &str, place: usize) -> &str {
     ""
 }
 
-/// Whether a line begins with a key that stands in a set of calls: `arch` or `calls`.
+/// Whether a line begins with `arch` or `calls`, as the keys of a set of calls do.
 fn is_of_set(line: &str) -> bool {
     line.starts_with("arch") || line.starts_with("calls")
 }
 
-/// What a text that begins with these two lines seems to be. The second one counts only where the first one is a
-/// header: a file of several sets of calls begins with the header of a set.
+/// What a text seems to be whose first two lines, as `line_at` gives them, are these. The second one counts only where
+/// the first one is a header, with `[` before it: a file of several sets of calls begins with the header of a set.
 fn kind_of_lines(line: &str, next: &str) -> Kind {
     if line.starts_with('{') || line.starts_with("[{") || line == "[" {
         return Kind::Json;
@@ -92,8 +92,9 @@ fn kind_of_lines(line: &str, next: &str) -> Kind {
     }
 }
 
-/// What a file with these bytes seems to hold. The high byte of a permitted code is 0: where it stands first, the
-/// instructions are big-endian.
+/// What a file with these bytes seems to hold. A text that isn't UTF-8 is `Text`. The high byte of each permitted code
+/// is 0: where a 0 stands first and another number behind it, and the length is a multiple of 8, the instructions seem
+/// to be big-endian.
 pub(crate) fn kind_of(bytes: &[u8]) -> Kind {
     if bytes.is_empty() {
         return Kind::Empty;

@@ -1,8 +1,8 @@
-//! What the number of a fault means, in words for a person.
+//! What a fault means, in words for a person.
 
 use sf_policy::Fault;
 
-/// What the number of a fault means, without the end of a line.
+/// What a fault means, without the end of a line. Faults that share a number may have different words.
 pub(crate) fn meaning_of(fault: &Fault) -> &'static str {
     match fault {
         Fault::Ragged { .. } => "the length of the file is no multiple of 8",
@@ -44,7 +44,7 @@ pub(crate) fn meaning_of(fault: &Fault) -> &'static str {
     }
 }
 
-/// What the number of a profile's refusal means.
+/// What a fault of a profile means, without the end of a line.
 fn meaning_of_refusal(refusal: sf_profile::Fault) -> &'static str {
     match refusal {
         sf_profile::Fault::TooLong => "the filter of the profile has more than 4096 instructions",

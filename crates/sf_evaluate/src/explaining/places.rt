@@ -6,13 +6,13 @@ use toml_parser::text::{first, skip, skip_blank, skip_ws};
 use toml_parser::{Key, dotted_key, quoted, starts_string, unquoted};
 
 /// How far the tokens of a policy were read, and what is looked for: a key of a question, a key at the top, or a
-/// question itself.
+/// question itself. Nothing is looked for where `question` and `key` are both `None`.
 #[derive(Drop)]
 struct Reading<'a> {
-    /// The number, from 1, of the question that is looked for, or whose key is; none where a key at the top is looked
-    /// for.
+    /// The number, from 1, of the question that is looked for, or of the one whose key is looked for; `None` where a
+    /// key at the top is looked for.
     question: Option<usize>,
-    /// The key that is looked for; none where a question itself is.
+    /// The key that is looked for; `None` where a question itself is looked for.
     key: Option<&'a str>,
     /// Whether no header was read yet, so that keys stand at the top.
     is_top: bool,
@@ -25,7 +25,7 @@ struct Reading<'a> {
     questions: usize,
 }
 
-/// The part of a dotted key at a place, counted from 0; the last part where it has fewer.
+/// The part of a dotted key at a place, counted from 0; the last part where the key has none at this place.
 fn part_of(key: &Key, place: usize) -> &str {
     key.path.get(place).unwrap_or(&key.last).as_str()
 }
@@ -57,8 +57,9 @@ impl Reading<'_> {
         self.question.is_none() && self.key == Some(key)
     }
 
-    /// Reads a key that stands before a value, and says whether it is looked for. A key at the top also tells whether
-    /// the tables behind it are questions, as those of `question = [{ .. }]` are.
+    /// Reads a key that stands before a value, and says whether it is looked for. Of a dotted key only the first part
+    /// is compared. A key at the top also tells whether the tables behind it are questions, as those of
+    /// `question = [{ .. }]` are.
     fn take_key(&mut self, key: &Key) -> bool {
         if self.is_top && self.depth == 0 {
             self.depth_of_questions = if is_question(key) { Some(2) } else { None };
@@ -69,7 +70,7 @@ impl Reading<'_> {
 
     /// Reads the key of a header, which stands as `[key]`, or where `is_array` as `[[key]]`. Says whether what is
     /// looked for stands there: a question that begins, a key at the top, or as in `[question.nr]` a key of the
-    /// question that began last.
+    /// question that began last. The keys behind a header are those of a question only where it is `[[question]]`.
     fn take_header(&mut self, key: &Key, is_array: bool) -> bool {
         self.is_top = false;
         self.depth_of_questions = None;
@@ -95,8 +96,10 @@ impl Reading<'_> {
         begins && self.begin_question()
     }
 
-    /// Reads the token at the head of a text. Gives whether what is looked for stands there, and the text behind the
-    /// token; `None` where no token can be read, or an allocation is refused.
+    /// Reads the token at the head of a text, before which the caller has skipped blanks, ends of lines and comments.
+    /// Gives whether what is looked for stands there, and the text behind the token. A key is one token with its `=`,
+    /// and with a `[` behind this: where no bracket is open, a `[` by itself is taken for the beginning of a header.
+    /// `None` where no token can be read, or an allocation is refused.
     fn step<'a>(&mut self, alloc: Global, text: &'a str) -> Option<(bool, &'a str)> {
         if let Some((key, value)) = key_and_value(alloc, text) {
             let found = self.take_key(&key);
@@ -126,9 +129,9 @@ impl Reading<'_> {
     }
 }
 
-/// The number, from 1, of the line on which a key of a question stands, or without a question's number a key at the
-/// top. Without a key it is the line on which the question begins. `None` where that isn't found, or an allocation is
-/// refused.
+/// The number, from 1, of the line of a policy on which a key stands: a key of the question with this number, from 1,
+/// or where `question` is `None`, a key at the top. Where `key` is `None`, it is the line on which the question begins.
+/// `None` where this isn't found, where both are `None`, or where an allocation is refused.
 pub fn line_of(
     alloc: Global,
     policy: &str,
@@ -163,8 +166,9 @@ fn count_ends(text: &str, length: usize) -> usize {
     front.filter(|byte| **byte == b'\n').count()
 }
 
-/// The numbers, from 1, of the lines on which the questions of a policy begin, in their order, as far as they are
-/// found. An error where an allocation is refused.
+/// The numbers, from 1, of the lines on which the questions of a policy begin, in their order. The list ends early
+/// where a token can't be read, or an allocation is refused while it is read. An error where an allocation is refused
+/// for the list itself.
 pub fn lines_of_questions(alloc: Global, policy: &str) -> Result<Vec<usize>, AllocError> {
     // Nothing is looked for: this reading only counts the questions that have begun.
     let mut reading = Reading {

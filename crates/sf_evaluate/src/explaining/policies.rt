@@ -9,8 +9,8 @@ use toml::de::Error;
 /// The most characters of a line, a name or a key that are shown.
 const MOST_CHARACTERS: usize = 160;
 
-/// The characters of a text that are shown, and the mark behind them: ` ..` where the text was cut there, else nothing.
-/// An error where an allocation is refused.
+/// The first `MOST_CHARACTERS` characters of a text, or all where it has fewer; and the mark behind them: ` ..` where
+/// the text was cut there, else an empty text. An error where an allocation is refused.
 fn front_of(alloc: Global, text: &str) -> Result<(String, &'static str), AllocError> {
     let mut front = String::new(alloc);
     for character in text.chars().take(MOST_CHARACTERS) {
@@ -47,15 +47,16 @@ pub struct Page<'a> {
 }
 
 impl Page<'_> {
-    /// Adds a name or a key in quotes, cut as by `front_of`, and the end of the line. An error where an allocation is
-    /// refused.
+    /// Adds a name or a key in quotes, with escapes, cut as by `front_of`, and the end of the line. An error where an
+    /// allocation is refused.
     fn push_quoted(&mut self, quoted: &str) -> Result<(), AllocError> {
         let (front, mark) = front_of(self.alloc, quoted)?;
         write!(self.text, "{front:?}{mark}\n")
     }
 
-    /// Adds `: ` and the text of the policy's line with this number, from 1, cut as by `front_of`, and the end of the
-    /// line. An error where an allocation is refused.
+    /// Adds `: ` and the text of the policy's line with this number, from 1, and the end of the line. The text is cut
+    /// as by `front_of`, and its characters are added by `push_character`. It is empty where there is no such line. An
+    /// error where an allocation is refused.
     fn push_line(&mut self, number: usize) -> Result<(), AllocError> {
         let lines = &mut self.policy.lines();
         let line = lines.nth(number.saturating_sub(1)).unwrap_or("");
@@ -67,8 +68,9 @@ impl Page<'_> {
         write!(self.text, "{mark}\n")
     }
 
-    /// Adds the line on which a key stands, or without a key the one on which a question begins; nothing where that
-    /// isn't found. Without a question's number the key is one at the top. An error where an allocation is refused.
+    /// Adds the number and the text of the line that `line_of` finds: the one on which a key stands, or without a key
+    /// the one on which a question begins. Without a question's number the key is one at the top. Nothing is added
+    /// where no line is found. An error where an allocation is refused.
     fn push_place(&mut self, question: Option<usize>, key: Option<&str>) -> Result<(), AllocError> {
         let Some(number) = line_of(self.alloc, self.policy, question, key) else {
             return Ok(());
@@ -77,8 +79,9 @@ impl Page<'_> {
         self.push_line(number)
     }
 
-    /// Adds why the policy is no TOML, and where. The place of the error counts the `hidden` bytes before the policy's
-    /// text too. An error where an allocation is refused, or was while the policy was read: then there is no place.
+    /// Adds why the policy is no TOML, and at which line and column. The place of `error` counts the `hidden` bytes
+    /// before the policy's text too. An error where an allocation is refused, or was while the policy was read, so that
+    /// `error` has no place.
     fn push_syntax(&mut self, error: &Error, hidden: usize) -> Result<(), AllocError> {
         let Some(span) = error.span() else {
             return Err(AllocError);
@@ -89,9 +92,9 @@ impl Page<'_> {
         self.push_line(line)
     }
 
-    /// Adds the key that is refused, and the line on which it stands. A key that is missing is added too, with the line
-    /// on which its question begins, or with no line where it would stand at the top. An error where an allocation is
-    /// refused.
+    /// Adds the key that is refused, and the line on which it stands. Where it is missing, adds that there is no such
+    /// key, and the line on which its question begins, or no line where the key would stand at the top. An error where
+    /// an allocation is refused.
     fn push_key(&mut self, refusal: &Refusal) -> Result<(), AllocError> {
         let key = refusal.key(self.alloc)?;
         let question = refusal.question();
@@ -105,8 +108,11 @@ impl Page<'_> {
         self.push_place(question, None)
     }
 
-    /// Adds where the policy is refused, as far as that is known. `hidden` is the length in bytes of the byte order
-    /// mark before the policy's text. An error where an allocation is refused.
+    /// Adds where the policy is refused, as far as that is known. Where it is no TOML, this is what `push_syntax` adds.
+    /// Where it has too many questions, it is how many there are, and the line of the first one that is too many. Else
+    /// it is the number and the name of the question that is refused, if one is, and then what `push_key` adds.
+    /// `hidden` is the length in bytes of the byte order mark before the policy's text. An error where an allocation is
+    /// refused.
     pub fn push_refusal(&mut self, refusal: &Refusal, hidden: usize) -> Result<(), AllocError> {
         if let Err(error) = &refusal.read {
             return self.push_syntax(error, hidden);

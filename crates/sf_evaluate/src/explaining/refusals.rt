@@ -1,11 +1,11 @@
-//! What is said of a profile that is refused, or of the set of names for which it is.
+//! What is said of a profile that is refused, or of a set of calls for which `profile` is refused.
 
 use crate::explaining::Notes;
 use clap::ArgMatches;
 use sf_command_line::text_of;
 use std::alloc::AllocError;
 
-/// A set of names that is none of the five sets of calls.
+/// A set of calls of a file of names that is none of the five of `CallSet`.
 #[derive(Drop)]
 pub(crate) struct OtherSet {
     /// Its place among all sets that were read, counted from 0.
@@ -14,8 +14,8 @@ pub(crate) struct OtherSet {
     pub(crate) name: String,
 }
 
-/// Adds the line of the file of names that has the unknown set, and the line of this set where the file has several. An
-/// error where an allocation is refused, or was before, so that it isn't known which file it is.
+/// Adds the line of the file of names that has the set `other`, and the line of this set where the file has several. An
+/// error where an allocation is refused, or was before, so that the notes don't know which file it is.
 fn push_unknown_set(
     text: &mut String,
     found: &ArgMatches<'_>,
@@ -53,8 +53,8 @@ fn push_refused_profile(
     }
 }
 
-/// Adds the lines of what `profile` refuses: a set of names, or the profile. An error where there was no memory to keep
-/// which set or key it is, or an allocation is refused.
+/// Adds the lines of what `profile` refuses: of the set of calls that the notes have as `other`, or else of the
+/// profile. An error where there was no memory to keep which set or key it is, or an allocation is refused.
 pub(crate) fn push_profile(
     text: &mut String,
     found: &ArgMatches<'_>,

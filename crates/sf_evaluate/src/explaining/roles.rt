@@ -50,8 +50,8 @@ pub(crate) fn count_before_filters(found: &ArgMatches<'_>) -> usize {
     policies.saturating_add(others)
 }
 
-/// What a file is read as, and its path, by its place, from 0, in the order in which all files are read; none where
-/// there is no such file.
+/// What the file at a place is read as, and its path. Places count from 0, in the order in which all files are read.
+/// `None` where there is no such file.
 pub(crate) fn file_at<'a>(found: &ArgMatches<'a>, place: usize) -> Option<(Role, &'a str)> {
     let mut place = place;
     for (name, role) in READ {
@@ -64,7 +64,8 @@ pub(crate) fn file_at<'a>(found: &ArgMatches<'a>, place: usize) -> Option<(Role,
     None
 }
 
-/// The path of the filter at a place, counted from 0; empty where there is none.
+/// The path of the filter at a place, counted from 0 among all filters; empty where there is none. The old filters of a
+/// comparison stand before the new ones.
 pub(crate) fn filter_path<'a>(found: &ArgMatches<'a>, place: usize) -> &'a str {
     match file_at(found, count_before_filters(found).saturating_add(place)) {
         Some((_, path)) => path,
@@ -75,15 +76,16 @@ pub(crate) fn filter_path<'a>(found: &ArgMatches<'a>, place: usize) -> &'a str {
 /// Which of the policies is refused.
 #[derive(Clone, Copy, Debug, PartialEq, Eq)]
 pub(crate) enum Which {
-    /// The only one, or none: the fault lies in no policy.
+    /// The only one that asks questions; or none, where the fault lies in no policy.
     Only,
-    /// One of several, by its number from 1.
+    /// One of several that ask questions, by its number from 1.
     Number(usize),
     /// That of the control.
     Control,
 }
 
-/// Whether a policy can be refused for a fault.
+/// Whether a policy can be refused for a fault. A file of names or of questions that may be allowed can be refused for
+/// `Syntax` too.
 fn is_of_policy(fault: &Fault) -> bool {
     matches!(
         fault,
@@ -99,8 +101,9 @@ fn is_of_policy(fault: &Fault) -> bool {
     )
 }
 
-/// Which of the policies is refused for a fault. `read` is how many files had been read when it came: the last of them
-/// is the refused one, if it is a policy.
+/// Which of the policies is refused for a fault. `read` is how many files had been read when the fault came. Where a
+/// policy can be refused for the fault, the last one of these files is the refused one. `Only` where no policy can be
+/// refused for it, where that file is no policy, and where it is the only policy that asks questions.
 pub(crate) fn which_policy(found: &ArgMatches<'_>, fault: &Fault, read: usize) -> Which {
     let place = read.saturating_sub(1);
     if !is_of_policy(fault) {

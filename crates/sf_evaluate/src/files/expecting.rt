@@ -19,8 +19,8 @@ use sf_policy::{Fault, read_accepted};
 use std::alloc::Global;
 
 /// The questions of the control, whose policy file is at a path; an empty list where no path is given. The notes get
-/// what `questions_in` keeps in them. `Read` where the file can't be read, `Syntax` where it isn't UTF-8, then what
-/// `read_policy` refuses; `Memory` can come anywhere.
+/// what `questions_in` keeps in them; they are unchanged where no path is given. `Read` where the file can't be read,
+/// `Syntax` where it isn't UTF-8, then what `read_policy` refuses; `Memory` can come anywhere.
 pub fn control_in<F: Files>(
     alloc: Global,
     path: Option<&str>,
@@ -39,8 +39,9 @@ pub fn control_in<F: Files>(
     }
 }
 
-/// The names of the questions that may be allowed, by the bytes of their file. `Syntax` where these are no UTF-8, then
-/// what `read_accepted` refuses; `Memory` can come anywhere.
+/// The names of the questions that may be allowed, by the bytes of the file that has these names. Each is the name of
+/// exactly one of `questions`. `Syntax` where the bytes are no UTF-8, then what `read_accepted` refuses; `Memory` can
+/// come anywhere.
 fn accepted_of(alloc: Global, bytes: &[u8], questions: &[Question]) -> Result<Vec<String>, Fault>
     ensures named { IfOk result (λ v. AreAccepted questions.now bytes.now
         (map string_bytes v.items)) }
@@ -53,8 +54,9 @@ fn accepted_of(alloc: Global, bytes: &[u8], questions: &[Question]) -> Result<Ve
     }
 }
 
-/// The names of the questions that may be allowed, by the file at a path, which the notes count. `Read` where it can't
-/// be read, then what `accepted_of` refuses; `Memory` can come anywhere.
+/// The names of the questions that may be allowed, by the file at a path, which the notes count. Each is the name of
+/// exactly one of `questions`. `Read` where the file can't be read, then what `accepted_of` refuses; `Memory` can come
+/// anywhere.
 fn accepted_at<F: Files>(
     alloc: Global,
     path: &str,
@@ -75,10 +77,10 @@ fn accepted_at<F: Files>(
     accepted_of(alloc, &bytes, questions)
 }
 
-/// The names of the questions that may be allowed, whose file is at a path; an empty list where no path is given. The
-/// notes count the file. Refusals, tried in this order: `Read` where the file can't be read; `Syntax` where it isn't
-/// UTF-8; `Accepted` at the first line with two words, or with a word that isn't the name of exactly one of the
-/// questions. `Memory` can come anywhere.
+/// The names of the questions that may be allowed, by the file with these names at a path; an empty list where no path
+/// is given. The notes count the file. Refusals, tried in this order: `Read` where the file can't be read; `Syntax`
+/// where it isn't UTF-8; `Accepted`, with the number of the line from 1, at the first line with two words or more, or
+/// with a word that isn't the name of exactly one of `questions`. `Memory` can come anywhere.
 pub fn accepted_in<F: Files>(
     alloc: Global,
     path: Option<&str>,
@@ -98,7 +100,8 @@ pub fn accepted_in<F: Files>(
     }
 }
 
-/// Whether the words of `audit` fit: the path behind `--control`, if it is given, is none of those behind `--policy`.
+/// Whether the words of `audit` fit: the path behind `--control` is none of those behind `--policy`. True where
+/// `--control` isn't given. Paths are compared as texts.
 pub fn audit_words_fit(found: &ArgMatches<'_>) -> bool
     ensures { result ≡ audit_words_fit (rows_of (found_of found.now)) }
 {

@@ -12,7 +12,8 @@ use sf_names::{Names, read_names};
 use sf_policy::Fault;
 use std::alloc::Global;
 
-/// The sets of a file of names with this text, as `read_names` of `sf_names` reads and refuses them.
+/// The sets of a file of names with this text, as `read_names` of `sf_names` reads and refuses them. Its faults `Key`
+/// and `Range` are `NamesKey` and `NamesRange` here; `Syntax` and `Memory` keep their names.
 fn sets_of(alloc: Global, text: &str) -> Result<Vec<Names>, Fault>
     ensures meant { IfOk result (λ v. AreNames text.now v.items) }
     ensures refused { IfErr result (λ e. (e ≡ MemoryFault) ⊎ RefusesNames text.now e) }
@@ -20,8 +21,8 @@ fn sets_of(alloc: Global, text: &str) -> Result<Vec<Names>, Fault>
     Ok(read_names(alloc, text)?)
 }
 
-/// The sets of the file at a path, which the notes count. `Read` where the file can't be read, `Syntax` where it isn't
-/// UTF-8, then what `read_names` refuses; `Memory` can come anywhere.
+/// The sets of the file of names at a path, which the notes count. `Read` where the file can't be read, `Syntax` where
+/// it isn't UTF-8, then what `sets_of` refuses; `Memory` can come anywhere.
 fn names_in<F: Files>(
     alloc: Global,
     path: &str,
@@ -49,9 +50,9 @@ fn has_set(sets: &[Names], set: &str) -> bool
     sets.iter().any(|names| names.set() == set)
 }
 
-/// Adds the sets of a file to `all`, which has those of the files before it. `NamesKey` where `all` has a set of the
-/// same name already; `Memory` where an allocation is refused. After an error some of the sets are added. If no two
-/// sets in `all` had the same name before, no two have it afterwards.
+/// Adds the sets of a file to `all`, which has those of the files before it. `NamesKey` at the first set whose name a
+/// set in `all` has already; `Memory` where an allocation is refused. After an error, the sets before the one at
+/// which it came are added. If no two sets in `all` had the same name before, no two have the same name afterwards.
 fn add_sets(all: &mut Vec<Names>, sets: Vec<Names>) -> Result<(), Fault>
     ensures added { OnOk result (all.new.items ≡ all.old.items ++ sets.items) }
     ensures once { OnOk result (AreOnce all.old.items → AreOnce all.new.items) }

@@ -9,8 +9,9 @@ use crate::explaining::{bytes_of_text, lines_of_questions};
 use sf_json::{Document, Fields};
 use std::alloc::{AllocError, Global};
 
-/// Where a question stands, as JSON: the path of its policy file, and the number of its line there, from 1, or `null`
-/// where that isn't known. An error where an allocation is refused.
+/// Where a question stands, as a JSON object: at `policy` the path of its policy file; at `line` the number, from 1, of
+/// the line on which the question begins there, or `null` where that isn't known (`line` is `None`). An error where an
+/// allocation is refused.
 fn origin_document(alloc: Global, path: &str, line: Option<&usize>) -> Result<Document, AllocError>
     ensures { IfOk result (λ d. IsOrigin path.now (view d)) }
 {
@@ -24,8 +25,8 @@ fn origin_document(alloc: Global, path: &str, line: Option<&usize>) -> Result<Do
     Ok(Document::object(fields))
 }
 
-/// The numbers, from 1, of the lines on which the questions of a policy begin, by the bytes of its file; an empty list
-/// where these are no UTF-8. An error where an allocation is refused.
+/// The numbers, from 1, of the lines on which the questions of a policy begin, in their order and as far as they are
+/// found, by the bytes of its file; an empty list where these are no UTF-8. An error where an allocation is refused.
 fn lines_in(alloc: Global, policy: &[u8]) -> Result<Vec<usize>, AllocError> {
     match std::str::from_utf8(bytes_of_text(policy)) {
         Ok(text) => lines_of_questions(alloc, text),
@@ -33,8 +34,9 @@ fn lines_in(alloc: Global, policy: &[u8]) -> Result<Vec<usize>, AllocError> {
     }
 }
 
-/// Adds to `origins` for each of the `count` questions of a policy file where it stands. The file has this path and
-/// these bytes. An error where an allocation is refused; some of them may be added then.
+/// Adds to `origins` one object for each of the `count` questions of a policy file, in their order. The object says
+/// where the question stands, as `origin_document` writes it. The file has this path and these bytes. An error where
+/// an allocation is refused; some of the objects may be added then.
 pub(crate) fn push_origins(
     alloc: Global,
     origins: &mut Vec<Document>,

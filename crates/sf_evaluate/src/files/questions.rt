@@ -14,9 +14,9 @@ use sf_json::Document;
 use sf_policy::{Fault, read_policy_at};
 use std::alloc::Global;
 
-/// The questions of the policy file at a path. The notes count the file and keep its bytes, and keep its refusal too,
-/// if `read_policy` refuses it. `Read` where the file can't be read, `Syntax` where it isn't UTF-8, then what
-/// `read_policy` refuses; `Memory` can come anywhere.
+/// The questions of the policy file at a path. Once the file is read, the notes count it and keep its bytes; if
+/// `read_policy_at` refuses it, they keep the refusal too. `Read` where the file can't be read, `Syntax` where it isn't
+/// UTF-8, then what `read_policy` refuses; `Memory` can come anywhere.
 pub(crate) fn questions_in<F: Files>(
     alloc: Global,
     path: &str,
@@ -41,9 +41,9 @@ pub(crate) fn questions_in<F: Files>(
     }
 }
 
-/// The questions of the policy files at these paths, one file after the other, and for each of them where it stands, as
-/// `push_origins` writes it. The refusal is that of the first file that is refused, as `questions_in` refuses it.
-/// `Memory` can come anywhere.
+/// The questions of the policy files at these paths, one file after the other; and a second list, in the same order,
+/// with where each question stands, as `push_origins` writes it. The notes get what `questions_in` keeps of each file.
+/// The refusal is that of the first file that is refused, as `questions_in` refuses it. `Memory` can come anywhere.
 pub fn all_questions_in<F: Files>(
     alloc: Global,
     paths: &[&str],

@@ -63,9 +63,9 @@ fn push_alu(text: &mut String, op: BinOp, operand: Operand) -> Result<(), AllocE
     push_operand(text, operand)
 }
 
-/// Adds a test of the instruction at a place, with the labels to which it leads. `on_true` and `on_false` are how many
-/// instructions are skipped, counted from the next one. The caller's condition: the place is below 4096. An error where
-/// an allocation is refused.
+/// Adds the test that is the instruction at `place`: its name, its second word, and the labels of the instructions to
+/// which it leads where it is true and where it is false. `on_true` and `on_false` are how many instructions behind it
+/// are skipped then. The caller's condition: the place is below 4096. An error where an allocation is refused.
 fn push_branch(
     text: &mut String,
     place: usize,
@@ -86,8 +86,8 @@ fn push_branch(
     write!(text, ", l{if_true}, l{if_false}")
 }
 
-/// Adds the instruction at a place, with labels for the instructions to which it leads. The caller's condition: the
-/// place is below 4096. An error where an allocation is refused.
+/// Adds the instruction at a place; a jump or a test with the labels of the instructions to which it leads. The
+/// caller's condition: the place is below 4096. An error where an allocation is refused.
 fn push_insn(text: &mut String, place: usize, insn: Insn) -> Result<(), AllocError>
     requires small { place < 4096 }
     ensures { OnOk result (string_bytes text.new ≡ string_bytes text.old
@@ -122,8 +122,9 @@ fn push_insn(text: &mut String, place: usize, insn: Insn) -> Result<(), AllocErr
     }
 }
 
-/// Adds the line of the instruction at a place, with a comment where no path comes to it. The caller's condition: the
-/// place is below 4096. An error where an allocation is refused.
+/// Adds the line of the instruction at a place: its own label, the instruction, and a comment unless `is_reached`,
+/// which says whether a path comes to it. The caller's condition: the place is below 4096. An error where an
+/// allocation is refused.
 fn push_line(
     text: &mut String,
     place: usize,
@@ -156,7 +157,7 @@ fn push_lines(text: &mut String, code: &[Insn], found: &[bool]) -> Result<(), Al
 }
 
 /// Adds the lines of a filter's instructions, in order of their places. Those to which no path through the filter comes
-/// have a comment. An error where an allocation is refused.
+/// have a comment; a path takes both ways of each test, as for `reached`. An error where an allocation is refused.
 pub fn push_instructions(
     alloc: Global,
     text: &mut String,

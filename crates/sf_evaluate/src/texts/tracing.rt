@@ -31,8 +31,8 @@ fn push_field(text: &mut String, name: &str, low: u32, high: u32) -> Result<(), 
     write!(text, "{low:08X}\n")
 }
 
-/// Adds the line of a call's number, with the names that the sets of this architecture have for it. An error where an
-/// allocation is refused.
+/// Adds the line of a call's number, in hexadecimal and in decimal digits, and the names that the sets of this
+/// architecture have for it, as `push_names_between` writes them. An error where an allocation is refused.
 fn push_nr(text: &mut String, names: &[Names], arch: u32, nr: u32) -> Result<(), AllocError>
     ensures { OnOk result (string_bytes text.new ≡ string_bytes text.old
         ++ nr_line names.now arch nr) }
@@ -164,8 +164,9 @@ fn push_test(text: &mut String, number: usize, compared: &Comparison) -> Result<
     push_compared(text, compared.sign, compared.other, compared.truth)
 }
 
-/// Adds the line of what an instruction of the filter with this number met: a comparison with its result, or that the
-/// number in A is returned. A division by X is a comparison of X with 0. An error where an allocation is refused.
+/// Adds the line of what an instruction of the filter with this number met: a comparison with its result, or a return
+/// of A with the number in A. A division by X is shown as a comparison of X with 0. An error where an allocation is
+/// refused.
 pub(crate) fn push_meeting(
     text: &mut String,
     number: usize,
@@ -239,7 +240,8 @@ fn push_meetings(
     Ok(())
 }
 
-/// The word behind a filter whose answer stands; an empty text where it doesn't stand.
+/// The end of a filter's line: ` stands` where `stands` says that the filter's answer is that of the stack, else an
+/// empty text.
 fn stands_word(stands: bool) -> &'static str
     ensures { result.now ≡ stands_text stands }
 {
@@ -266,18 +268,19 @@ pub(crate) fn push_return(
     write!(text, " {info} instruction {place}{mark}\n")
 }
 
-/// What a trace shows.
+/// What is shown of the runs of a stack's filters on an input: in the lines of `eval --trace` and of `audit --why`, and
+/// in the JSON of `eval`.
 #[derive(Clone, Copy, Drop)]
 pub struct Trace<'a> {
     /// The stack that is run.
     pub stack: &'a Stack,
     /// The input that it is run on.
     pub input: &'a Input,
-    /// The answer of the stack.
+    /// The answer of the stack to this input.
     pub answer: Answer,
-    /// Whether comparisons that are false are left out.
+    /// Whether comparisons that are false are left out. It isn't looked at for `audit --why`.
     pub brief: bool,
-    /// Names of calls, which are shown beside their numbers.
+    /// Sets of calls, whose names are shown with the calls' numbers.
     pub names: &'a [Names],
 }
 
@@ -333,8 +336,8 @@ fn push_filters(alloc: Global, text: &mut String, trace: &Trace<'_>) -> Result<(
 
 /// Adds the lines of `eval --trace`. First comes the input as a call, if a set has the call, and then its fields. Then
 /// comes each filter, newest first: what it returns and at which instruction, whether its answer is the stack's, and
-/// under it what it met, in order. In brief, comparisons that are false are left out. `Memory` where an allocation is
-/// refused.
+/// under it what it met, in order. Where `trace.brief` is set, comparisons that are false are left out. `Memory` where
+/// an allocation is refused.
 pub fn push_trace(alloc: Global, text: &mut String, trace: &Trace<'_>) -> Result<(), Fault>
     ensures { OnOk result (string_bytes text.new ≡ string_bytes text.old
         ++ trace_text trace.now.brief trace.now.names.now trace.now.stack.now

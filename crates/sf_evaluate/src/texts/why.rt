@@ -84,8 +84,9 @@ fn is_standing(stood: bool, value: u32, answer: Answer) -> bool
     !stood && value & 0xffff0000 == answer.action.number()
 }
 
-/// Adds the lines of the filter with this number, and returns whether its answer stands, as `is_standing` says: `stood`
-/// is whether the answer of a newer filter did. `Memory` where an allocation is refused.
+/// Adds the lines of the filter with this number: what it returns, and the last true comparison that it met, if it met
+/// one. Returns whether its answer stands, as `is_standing` says. `stood` is whether the answer of a newer filter did.
+/// `Memory` where an allocation is refused.
 fn push_filter(
     alloc: Global,
     text: &mut String,
@@ -138,9 +139,10 @@ fn push_why(alloc: Global, text: &mut String, trace: &Trace<'_>) -> Result<(), F
     push_filters(alloc, text, trace)
 }
 
-/// Why a stack answers an input as it does: the input as a call, and then for each filter, newest first, what it
-/// returns and at which instruction, whether its answer is the stack's, and under it the last true comparison that it
-/// met before, if it met one. Each line begins with `why`. `Memory` where an allocation is refused.
+/// Why a stack answers an input as it does. First comes the input as a call, shown with the names of `names`. Then come
+/// the lines of each filter, newest first: what it returns and at which instruction, and whether its answer is the
+/// stack's; and under it the last true comparison that it met, if it met one. Each line begins with `why`. `Memory`
+/// where an allocation is refused.
 pub fn why_text(
     alloc: Global,
     names: &[Names],

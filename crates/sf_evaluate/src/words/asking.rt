@@ -17,8 +17,8 @@ use sf_insn::Input;
 use sf_names::{Names, find_set, is_call_name};
 use sf_policy::Fault;
 
-/// Whether the option with this name is given. The name has no dashes. The option has no usual value: one that has such
-/// a value would always seem to be given.
+/// Whether the option with this name is given. The caller's condition: the name has no dashes, and the option has no
+/// usual value; one that has such a value would always seem to be given.
 pub(crate) fn is_given(found: &ArgMatches<'_>, name: &str) -> bool
     ensures { result ≡ is_given name.now (rows_of (found_of found.now)) }
 {
@@ -34,7 +34,8 @@ fn has_only_input(found: &ArgMatches<'_>) -> bool
         && !(is_given(found, "arch") || is_given(found, "args"))
 }
 
-/// Whether `--arch` is given, and behind `--args` stands what has the form of arguments.
+/// Whether `--arch` is given, and behind `--args` stand one to six numbers with commas between them. How many bits the
+/// numbers have isn't asked.
 fn has_arguments(found: &ArgMatches<'_>) -> bool
     ensures { result ≡ has_arguments (rows_of (found_of found.now)) }
 {
@@ -48,8 +49,8 @@ pub(crate) fn has_names(found: &ArgMatches<'_>) -> bool
     !found.get_strs("names").unwrap_or(&[]).is_empty()
 }
 
-/// Whether the words ask for a call by its name: `--nr` isn't given, a file of names is, and the words of `--call` and
-/// `--arch` can be the names of a call and of a set. Whether a file has these names isn't asked.
+/// Whether the words ask for a call by its name: `--nr` isn't given, a file of names is given, and what stands behind
+/// `--call` and `--arch` can be the names of a call and of a set. Whether a file has these names isn't asked.
 fn call_fits(found: &ArgMatches<'_>) -> bool
     ensures { result ≡ call_fits (rows_of (found_of found.now)) }
 {
@@ -57,7 +58,7 @@ fn call_fits(found: &ArgMatches<'_>) -> bool
         && (is_call_name(text_of(found, "call")) && is_call_name(text_of(found, "arch")))
 }
 
-/// Whether a text is the number of an architecture, or may be the name of a set.
+/// Whether a text is a number, of however many bits, or can be the name of a set.
 fn is_arch(text: &str) -> bool
     ensures { result ≡ is_arch text.now }
 {
@@ -65,15 +66,16 @@ fn is_arch(text: &str) -> bool
 }
 
 /// Whether the words ask for a call by its number: behind `--nr` stands a number, and behind `--arch` a number or what
-/// can be the name of a set.
+/// can be the name of a set. How many bits the numbers have isn't asked.
 fn nr_fits(found: &ArgMatches<'_>) -> bool
     ensures { result ≡ nr_fits (rows_of (found_of found.now)) }
 {
     is_given(found, "nr") && (is_number(text_of(found, "nr")) && is_arch(text_of(found, "arch")))
 }
 
-/// Whether the words of `eval` ask for one input: by its bytes, or by a call's name or number, with its architecture
-/// and its arguments.
+/// Whether the words of `eval` have the form that asks for one input: `--input` alone, or the name or the number of a
+/// call, with its architecture and its arguments; with a name, also a file of names. Whether the text of `--input`
+/// spells an input, and how many bits numbers have, is asked by `numbers_fit`.
 pub fn eval_words_fit(found: &ArgMatches<'_>) -> bool
     ensures { result ≡ eval_words_fit (rows_of (found_of found.now)) }
 {
@@ -90,7 +92,7 @@ pub fn eval_words_fit(found: &ArgMatches<'_>) -> bool
     }
 }
 
-/// Whether a text is no number, or one of 32 bits at most.
+/// Whether a text is no number, or a number of at most 32 bits.
 fn is_narrow(text: &str) -> bool
     ensures { result ≡ is_narrow text.now }
 {
@@ -100,8 +102,9 @@ fn is_narrow(text: &str) -> bool
     read_word(text).is_ok()
 }
 
-/// Whether the numbers that are given for a call and its architecture have at most 32 bits. Without `--nr` none are
-/// given. With it, these are its number, and that of `--arch`, unless that is the name of a set.
+/// Whether the numbers that are given for a call and its architecture have at most 32 bits. True without `--nr`,
+/// since no such number is given then. With `--nr`, they are what stands behind `--nr`, and what stands behind `--arch`
+/// where that is a number. False where no number stands behind `--nr`.
 fn is_nr_narrow(found: &ArgMatches<'_>) -> bool
     ensures { result ≡ is_nr_narrow (rows_of (found_of found.now)) }
 {
@@ -118,9 +121,9 @@ fn is_input(text: &str) -> bool
     input_of(text).is_ok()
 }
 
-/// Whether the word of `--input` spells an input; without `--input`, whether each number that is given for a call fits
-/// into its place: 64 bits for an argument, 32 bits for the others. The caller has seen by `eval_words_fit` that the
-/// words have the right form. `eval` asks this before it reads any file.
+/// Whether the text of `--input` spells an input; without `--input`, whether each number that is given for a call fits
+/// into its place: 64 bits for an argument, 32 bits for the number of the call and for that of the architecture. The
+/// caller has seen by `eval_words_fit` that the words have the right form. `eval` asks this before it reads any file.
 pub fn numbers_fit(found: &ArgMatches<'_>) -> bool
     ensures { result ≡ numbers_fit (rows_of (found_of found.now)) }
 {
@@ -130,7 +133,7 @@ pub fn numbers_fit(found: &ArgMatches<'_>) -> bool
     read_arguments(text_of(found, "args")).is_ok() && is_nr_narrow(found)
 }
 
-/// The number of at most 32 bits that a text spells. `Input` where it spells none.
+/// The number of at most 32 bits that a text spells. `Input` where the text is no number, or one with more bits.
 fn word_of(text: &str) -> Result<u32, Fault>
     ensures read { IfOk result (λ n. read_number 32 text.now ≡ Ok n) }
     ensures refused { IfErr result (λ e. (e ≡ InputFault)
@@ -151,8 +154,8 @@ fn arguments_of(text: &str) -> Result<[u64; 6], Fault>
     Ok(arguments)
 }
 
-/// The number of the call with this name in the set with this name. `UnknownName` where there is no such set, or it has
-/// no such call.
+/// The number of the call with this name in the set with this name. `UnknownName` where there is no such set, or the
+/// set has no such call.
 fn nr_named(names: &[Names], set: &str, call: &str) -> Result<u32, Fault>
     ensures found { IfOk result (λ n. nr_named names.now set.now call.now ≡ Some n) }
     ensures refused { IfErr result (λ e. (e ≡ NameFault)
@@ -176,8 +179,9 @@ fn arch_named(names: &[Names], set: &str) -> Result<u32, Fault>
     }
 }
 
-/// The number of the call that is asked for: the one that is given, or that of the call that is named. `Input` where
-/// the number hasn't 32 bits at most; otherwise the refusals are those of `nr_named`.
+/// The number of the call that is asked for: the one behind `--nr` where it is given, else that of the call behind
+/// `--call` in the set behind `--arch`. `Input` where what stands behind `--nr` is no number of at most 32 bits;
+/// `UnknownName` where `nr_named` refuses.
 fn asked_nr(found: &ArgMatches<'_>, names: &[Names]) -> Result<u32, Fault>
     ensures asked { IfOk result (λ n. asked_nr (rows_of (found_of found.now))
         names.now ≡ Some n) }
@@ -191,16 +195,17 @@ fn asked_nr(found: &ArgMatches<'_>, names: &[Names]) -> Result<u32, Fault>
     nr_named(names, text_of(found, "arch"), text_of(found, "call"))
 }
 
-/// Whether the architecture is given by its number. It can be only beside `--nr`: with `--call`, the word of `--arch`
-/// is the name of a set, also where it looks like a number.
+/// Whether the architecture is given by its number. That is possible only beside `--nr`: with `--call`, the text of
+/// `--arch` is the name of a set, even if this name looks like a number.
 fn is_arch_number(found: &ArgMatches<'_>) -> bool
     ensures { result ≡ is_arch_number (rows_of (found_of found.now)) }
 {
     is_given(found, "nr") && is_number(text_of(found, "arch"))
 }
 
-/// The number of the architecture that is asked for: the one that is given, or that of the set that is named. `Input`
-/// where the number hasn't 32 bits at most; otherwise the refusal is that of `arch_named`.
+/// The number of the architecture that is asked for: the number behind `--arch` where `is_arch_number` is true, else
+/// that of the set with the name behind `--arch`. `Input` where the number has more than 32 bits; `UnknownName` where
+/// there is no such set.
 fn asked_arch(found: &ArgMatches<'_>, names: &[Names]) -> Result<u32, Fault>
     ensures asked { IfOk result (λ n. asked_arch (rows_of (found_of found.now))
         names.now ≡ Some n) }
@@ -214,8 +219,11 @@ fn asked_arch(found: &ArgMatches<'_>, names: &[Names]) -> Result<u32, Fault>
     arch_named(names, text_of(found, "arch"))
 }
 
-/// The input of the call that is asked for, with these sets of calls. Refusals: `Input` where an argument or another
-/// number is too wide; `UnknownName` where no set has the name that is given, or it has no such call.
+/// The input of the call that is asked for, with these sets of calls. The caller has seen by `eval_words_fit` that the
+/// words have the right form. Refusals, tried in this order: `Input` where an argument has more than 64 bits; `Input`
+/// where the number behind `--arch` has more than 32 bits, or `UnknownName` where no set has the name behind `--arch`;
+/// `Input` where the number behind `--nr` has more than 32 bits, or `UnknownName` where the set has no call with the
+/// name behind `--call`.
 fn asked_call(found: &ArgMatches<'_>, names: &[Names]) -> Result<Input, Fault>
     ensures asked { IfOk result (λ d. IsCallInput (rows_of (found_of found.now)) names.now d) }
     ensures refused { IfErr result (λ e. ((e ≡ InputFault)
@@ -230,10 +238,10 @@ fn asked_call(found: &ArgMatches<'_>, names: &[Names]) -> Result<Input, Fault>
     Ok(call_input(nr, arch, &arguments))
 }
 
-/// The input that the words ask for, with these sets of calls. `Input` where the bytes of an input aren't spelled, or a
-/// number is too wide, so that `numbers_fit` is false; `UnknownName` where no set has the name that is given, or it has
-/// no call with the name that is given. Without `--input`, the notes keep whether there is a set with the name behind
-/// `--arch`.
+/// The input that the words ask for, with these sets of calls. The caller has seen by `eval_words_fit` that the words
+/// have the right form. `Input` where the text of `--input` spells no input, or a number is too wide: `numbers_fit` is
+/// false then. `UnknownName` where no set has the name behind `--arch`, or that set has no call with the name behind
+/// `--call`. Without `--input`, the notes keep whether there is a set with the name behind `--arch`.
 pub fn asked_input(
     found: &ArgMatches<'_>,
     names: &[Names],

@@ -11,36 +11,36 @@ use sf_policy::Fault;
 use std::alloc::{AllocError, Global};
 use std::io::Write;
 
-/// What doesn't fit.
+/// What doesn't fit. Options are written as messages call them, such as `--nr <N>`.
 #[derive(Drop)]
 enum Misfit<'a> {
-    /// Two options don't go together.
+    /// These two options don't go together.
     Both(&'static str, &'static str),
-    /// An option is missing.
+    /// This option is missing.
     Missing(&'static str),
     /// An option has a value that it doesn't take: the option, its value, and what it takes.
     Value(&'static str, &'a str, &'static str),
 }
 
-/// The options that ask for an input, and what each is called.
+/// The options that ask for an input: the name of each, without dashes, and what messages call it.
 const ASKING: [(&str, &str); 3] = [
     ("input", "--input <HEX>"),
     ("call", "--call <NAME>"),
     ("nr", "--nr <N>"),
 ];
 
-/// The options that go only with a call, and what each is called.
+/// The options that go only with a call: the name of each, without dashes, and what messages call it.
 const OF_CALL: [(&str, &str); 2] = [("arch", "--arch <SET>"), ("args", "--args <A,..>")];
 
-/// What numbers look like.
+/// What a number looks like, as messages say it.
 const NUMBER: &str = "decimal digits, or 0x and hexadecimal digits";
 
 /// What is said where the arguments of a call are missing.
 const ONE_INPUT: &str =
     "one input of a call says nothing of its other inputs: `list --calls <NAME>` tells the answers to all of them";
 
-/// The first of these options that is given, as messages call it; none where none is. Each stands there by its name and
-/// by what messages call it.
+/// The first of these options that is given, as messages call it; `None` where none is given. `options` has the name of
+/// each, and what messages call it.
 fn first_given(
     found: &ArgMatches<'_>,
     options: &[(&'static str, &'static str)],
@@ -53,8 +53,8 @@ fn first_given(
     None
 }
 
-/// The first of these options that is missing, as messages call it; none where all are given. Each stands there by its
-/// name and by what messages call it.
+/// The first of these options that is missing, as messages call it; `None` where all are given. `options` has the name
+/// of each, and what messages call it.
 fn first_missing(
     found: &ArgMatches<'_>,
     options: &[(&'static str, &'static str)],
@@ -67,8 +67,8 @@ fn first_missing(
     None
 }
 
-/// The first option that doesn't go with `--input`, which is given; `None` where neither `--call` nor `--nr`, `--arch`
-/// or `--args` is given.
+/// The misfit of `--input`, which the caller has seen to be given, with the first of `--call`, `--nr`, `--arch` and
+/// `--args` that is given too; `None` where none of these four is given.
 fn misfit_of_input<'a>(found: &ArgMatches<'a>) -> Option<Misfit<'a>> {
     let other = match first_given(found, &ASKING[1..]) {
         Some(other) => other,
@@ -77,8 +77,9 @@ fn misfit_of_input<'a>(found: &ArgMatches<'a>) -> Option<Misfit<'a>> {
     Some(Misfit::Both("--input <HEX>", other))
 }
 
-/// What doesn't fit where a call is asked for by its name, and its architecture and arguments are given; none where all
-/// fits.
+/// What doesn't fit where a call is asked for by its name: the value of `--call`, that of `--arch`, or a file of names
+/// that is missing; `None` where all fits. The caller has seen that `--nr` isn't given, and that the call's
+/// architecture and arguments are.
 fn misfit_of_call<'a>(found: &ArgMatches<'a>) -> Option<Misfit<'a>> {
     let (call, arch) = (text_of(found, "call"), text_of(found, "arch"));
     if !is_call_name(call) {
@@ -95,8 +96,8 @@ fn misfit_of_call<'a>(found: &ArgMatches<'a>) -> Option<Misfit<'a>> {
     None
 }
 
-/// What doesn't fit where a call is asked for by its number, and its architecture and arguments are given; none where
-/// all fits.
+/// What doesn't fit where a call is asked for by its number: the value of `--nr`, or that of `--arch`; `None` where
+/// both fit. The caller has seen that `--call` isn't given, and that the call's architecture and arguments are.
 fn misfit_of_nr<'a>(found: &ArgMatches<'a>) -> Option<Misfit<'a>> {
     let (nr, arch) = (text_of(found, "nr"), text_of(found, "arch"));
     if !is_number(nr) {
@@ -109,7 +110,7 @@ fn misfit_of_nr<'a>(found: &ArgMatches<'a>) -> Option<Misfit<'a>> {
     None
 }
 
-/// The first thing in the words of `eval` that doesn't fit; none where all fits.
+/// The first thing in the words of `eval` that doesn't fit; `None` where all fits, as where `eval_words_fit` is true.
 fn first_misfit<'a>(found: &ArgMatches<'a>) -> Option<Misfit<'a>> {
     if is_given(found, "input") {
         return misfit_of_input(found);
@@ -155,8 +156,9 @@ fn push_misfit(text: &mut String, misfit: &Misfit<'_>) -> Result<(), AllocError>
     }
 }
 
-/// The lines that say which words of `eval` don't fit together. Where a call is named without arguments, a line speaks
-/// of `list`. An error where an allocation is refused.
+/// The lines that say what in the words of `eval` is the first thing that doesn't fit. Where a call is named without
+/// arguments, a line points to `list`. The caller has seen that `eval_words_fit` is false. An error where an allocation
+/// is refused.
 fn misfit_text(alloc: Global, found: &ArgMatches<'_>) -> Result<String, AllocError> {
     let mut text = String::new(alloc);
     if let Some(misfit) = first_misfit(found) {
@@ -182,8 +184,8 @@ fn wrong_rows_text(alloc: Global, found: &ArgMatches<'_>) -> Result<String, Allo
     Ok(text)
 }
 
-/// The lines that say that the control is one of the policies that ask the questions. An error where an allocation is
-/// refused.
+/// The lines that say that the path behind `--control` is one of those behind `--policy`. The caller has seen that
+/// `audit_words_fit` is false. An error where an allocation is refused.
 fn wrong_control_text(alloc: Global, found: &ArgMatches<'_>) -> Result<String, AllocError> {
     let mut text = String::new(alloc);
     let control = text_of(found, "control");
@@ -198,8 +200,9 @@ fn wrong_control_text(alloc: Global, found: &ArgMatches<'_>) -> Result<String, A
     Ok(text)
 }
 
-/// Writes to standard error which words of the command line don't fit, if a run ended for that reason, which is so
-/// where `ran` has the status 4, and there is memory to say so.
+/// Writes to standard error which words of the command line don't fit, if a run ended for that reason: then `ran` has
+/// the status 4, and the matches name a subcommand. Nothing is written otherwise, nor where there is no memory for the
+/// lines. It isn't looked at whether the write succeeds.
 pub fn tell_wrong_words<E: Write>(
     alloc: Global,
     matches: &ArgMatches<'_>,

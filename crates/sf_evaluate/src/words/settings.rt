@@ -15,7 +15,7 @@ use sf_profile::{CallSet, Calls, Reading, Settings, version_of};
 use std::alloc::{AllocError, Global};
 use std::io::Write;
 
-/// The capabilities of linux/capability.h, in the order of their numbers.
+/// The names of the capabilities of linux/capability.h, in the order of their numbers, which are 0 to 40.
 const CAPABILITIES: [&str; 41] = [
     "CAP_CHOWN",
     "CAP_DAC_OVERRIDE",
@@ -60,8 +60,8 @@ const CAPABILITIES: [&str; 41] = [
     "CAP_CHECKPOINT_RESTORE",
 ];
 
-/// The set of calls that programs built for a machine use, by the word behind `--machine`; `None` where a text is no
-/// such word.
+/// The set of calls that programs built for a machine use, by the word behind `--machine`, which names the machine;
+/// `None` where the text isn't `x86_64`, `i386`, `aarch64` or `arm`.
 fn machine_named(text: &str) -> Option<CallSet>
     ensures { result ≡ machine_named text.now }
 {
@@ -74,8 +74,8 @@ fn machine_named(text: &str) -> Option<CallSet>
     }
 }
 
-/// Which of several rules of a profile counts for a call, by the word behind `--conflicts`; `None` where a text is no
-/// such word.
+/// Which of several rules of a profile counts for a call, by the word behind `--conflicts`; `None` where the text isn't
+/// `strictest`, `mildest` or `first`.
 fn reading_named(text: &str) -> Option<Reading>
     ensures { result ≡ reading_named text.now }
 {
@@ -94,7 +94,8 @@ fn has_text(texts: &[&str], text: &str) -> bool
     texts.iter().any(|one| text == *one)
 }
 
-/// Whether a text is one of these. For the prover: its clause speaks of the texts themselves.
+/// Whether a text is one of these. It does the same as `has_text`, and stands apart for the prover: the clause here
+/// speaks of the texts themselves.
 pub(crate) fn is_among(text: &str, texts: &[&str]) -> bool
     ensures { result ≡ list_any (bytes_eq text.now) (map (λ t. t.now) texts.now) }
 {
@@ -115,7 +116,7 @@ fn are_capabilities(texts: &[&str]) -> bool
     texts.iter().all(|text| is_capability(text))
 }
 
-/// Whether the capabilities that are given have known names.
+/// Whether each text behind `--cap` is the name of a capability. True where the option isn't given.
 fn caps_fit(found: &ArgMatches<'_>) -> bool
     ensures { result ≡ list_all is_capability (paths_of (codes "cap")
         (rows_of (found_of found.now))) }
@@ -123,14 +124,15 @@ fn caps_fit(found: &ArgMatches<'_>) -> bool
     are_capabilities(found.get_strs("cap").unwrap_or(&[]))
 }
 
-/// Whether a text is empty, as where no version is given, or the version of a kernel, such as 6.12.
+/// Whether a text is empty, as where `--kernel` isn't given, or the version of a kernel, such as 6.12.
 fn is_kernel(text: &str) -> bool
     ensures { result ≡ is_kernel_or_none text.now }
 {
     text.is_empty() || version_of(text).is_some()
 }
 
-/// Whether the words behind the options of `profile` are among those that these take.
+/// Whether each word behind `--machine`, `--conflicts`, `--kernel` and `--cap` of `profile` is one that its option
+/// takes. `--kernel` and `--cap` needn't be given.
 pub fn profile_words_fit(found: &ArgMatches<'_>) -> bool
     ensures { result ≡ profile_words_fit (rows_of (found_of found.now)) }
 {
@@ -153,8 +155,9 @@ fn strings_of(alloc: Global, texts: &[&str]) -> Result<Vec<String>, AllocError>
 }
 
 /// The settings with which a profile is read: what the options say (machine, capabilities, kernel and so on), and these
-/// calls. The caller's condition: the words behind the options fit. So none is unknown, and the values that stand here
-/// for unknown ones aren't used. `Memory` where an allocation is refused.
+/// calls. The kernel's version is `None` where `--kernel` isn't given. The caller's condition: the words behind the
+/// options fit, as `profile_words_fit` says. So no word is unknown, and the values that stand here for unknown words
+/// aren't used. `Memory` where an allocation is refused.
 pub(crate) fn settings_of(
     alloc: Global,
     found: &ArgMatches<'_>,
@@ -176,8 +179,9 @@ pub(crate) fn settings_of(
     })
 }
 
-/// The first option of `profile` whose word isn't one that it takes: the option, the word, and what it takes. None
-/// where each word is one.
+/// The first option of `profile` with a word that it doesn't take, in the order `--machine`, `--conflicts`, `--kernel`,
+/// `--cap`: the option as messages call it, the word, and what the option takes. `None` where each option takes its
+/// words.
 fn wrong_word<'a>(found: &ArgMatches<'a>) -> Option<(&'static str, &'a str, &'static str)> {
     let machine = text_of(found, "machine");
     if machine_named(machine).is_none() {
@@ -207,8 +211,8 @@ fn wrong_word<'a>(found: &ArgMatches<'a>) -> Option<(&'static str, &'a str, &'st
     None
 }
 
-/// The lines that say which word isn't one that its option takes, in the form in which `clap` says it; empty where each
-/// is. An error where an allocation is refused.
+/// The lines that say which word is the first one that its option doesn't take, in the form in which `clap` says it;
+/// empty where each option of `profile` takes its words. An error where an allocation is refused.
 fn wrong_word_text(alloc: Global, found: &ArgMatches<'_>) -> Result<String, AllocError> {
     let mut text = String::new(alloc);
     if let Some((option, word, taken)) = wrong_word(found) {
@@ -220,7 +224,8 @@ fn wrong_word_text(alloc: Global, found: &ArgMatches<'_>) -> Result<String, Allo
 }
 
 /// Writes to standard error which word of the command line isn't one that its option takes, if a run of `profile` ended
-/// for that reason, which is so where `ran` has the status 4, and there is memory to say so.
+/// for that reason: then `ran` has the status 4. Nothing is written where `ran` is something else, where the matches
+/// name no subcommand, or where there is no memory for the lines. It isn't looked at whether the write succeeds.
 pub(crate) fn tell_wrong_word<E: Write>(
     alloc: Global,
     matches: &ArgMatches<'_>,

@@ -1,4 +1,4 @@
-//! The calls that `list` and `compare` are asked to show one by one, and which rows of a comparison.
+//! The calls that `list` and `compare` are asked to show one by one, and which rows `compare` is asked to show.
 
 ghost use Rattle.std.specs.Prelude.{◌≡◌, ◌==◌, ◌&&◌, ◌⊎◌, IfErr, IfOk, None, codes, false, true, count_by, length, map, option_map, slice_get};
 ghost use Rattle.std.specs.List.{list_all};
@@ -25,14 +25,15 @@ fn count_of(text: &str, name: &str) -> usize
     text.split(',').filter(|part| name == *part).count()
 }
 
-/// Whether a name can be that of a call, and stands once in a text.
+/// Whether a name can be that of a call, and is exactly one of the names in a text, which commas separate.
 fn is_name_once(text: &str, name: &str) -> bool
     ensures { result ≡ is_wanted_once (comma_parts text.now) name.now }
 {
     is_call_name(name) && count_of(text, name) == 1
 }
 
-/// Whether each name in a text can be that of a call, and stands once. An empty text has no names.
+/// Whether each of the names in a text, which commas separate, can be that of a call, and stands there once. True for
+/// an empty text, which has no names.
 fn are_names(text: &str) -> bool
     ensures { result ≡ list_all (is_wanted_once (names_in_text text.now))
         (names_in_text text.now) }
@@ -40,8 +41,8 @@ fn are_names(text: &str) -> bool
     text.is_empty() || text.split(',').all(|name| is_name_once(text, name))
 }
 
-/// Whether `--calls`, if it is given, comes with a file of names, and each name behind it can be that of a call, and
-/// stands once.
+/// Whether `--calls` comes with a file of names, and each name behind it can be that of a call, and stands there once.
+/// True where `--calls` isn't given. An empty text behind it asks for all calls, and needs only the file of names.
 pub fn calls_fit(found: &ArgMatches<'_>) -> bool
     ensures { result ≡ calls_fit (rows_of (found_of found.now)) }
 {
@@ -51,14 +52,14 @@ pub fn calls_fit(found: &ArgMatches<'_>) -> bool
     }
 }
 
-/// Whether a word is that of a relation between the answers of two stacks.
+/// Whether a word is that of a relation between the answers of two stacks: `looser`, `tighter` or `different`.
 fn is_relation(word: &str) -> bool
     ensures { result ≡ is_relation word.now }
 {
     word == "looser" || word == "tighter" || word == "different"
 }
 
-/// Whether the word of `--only` names a relation, if the option is given.
+/// Whether the word of `--only` names a relation. True where the option isn't given.
 fn only_fits(found: &ArgMatches<'_>) -> bool
     ensures { result ≡ option_map_or is_relation
         (first_of (codes "only") (rows_of (found_of found.now))) true }
@@ -69,16 +70,16 @@ fn only_fits(found: &ArgMatches<'_>) -> bool
     }
 }
 
-/// Whether `--rows` is given if it is wanted: `--calls` and `--only` of `compare` say how rows are shown, and nothing
-/// without them. (A switch that is given has the text `true`.)
+/// Whether `--rows` is given, or neither `--calls` nor `--only` is. These two options of `compare` say how rows are
+/// shown, so they need `--rows`. (A switch that is given has the text `true`.)
 fn has_rows_if_wanted(found: &ArgMatches<'_>) -> bool
     ensures { result ≡ has_rows_if_wanted (rows_of (found_of found.now)) }
 {
     text_of(found, "rows") == "true" || !(is_given(found, "calls") || is_given(found, "only"))
 }
 
-/// Whether the options of `compare` about rows fit: `--calls` and `--only` come only with `--rows`, and `--only` names
-/// a relation.
+/// Whether the options of `compare` about rows fit: `--calls` and `--only` come only with `--rows`, and `--only`, if it
+/// is given, names a relation.
 pub fn rows_fit(found: &ArgMatches<'_>) -> bool
     ensures { result ≡ rows_fit (rows_of (found_of found.now)) }
 {
@@ -96,8 +97,8 @@ fn names_in_text<'a>(alloc: Global, text: &'a str) -> Result<Vec<&'a str>, Alloc
     text.split(',').collect(alloc)
 }
 
-/// The names of calls in the text of `--calls`; `None` where the option isn't given. An empty list asks for all calls.
-/// `Memory` where an allocation is refused.
+/// The names of calls in the text of `--calls`, in order; `None` where the option isn't given. An empty list asks for
+/// all calls. `Memory` where an allocation is refused.
 fn calls_asked<'a>(alloc: Global, found: &ArgMatches<'a>) -> Result<Option<Vec<&'a str>>, Fault>
     ensures asked { IfOk result (λ o. option_map (λ v. map (λ t. t.now) v.items) o
         ≡ calls_asked (rows_of (found_of found.now))) }
@@ -109,21 +110,23 @@ fn calls_asked<'a>(alloc: Global, found: &ArgMatches<'a>) -> Result<Option<Vec<&
     }
 }
 
-/// Whether some set has a call with this name.
+/// Whether at least one of the sets has a call with this name.
 fn is_known_call(sets: &[Names], name: &str) -> bool
     ensures { result ≡ is_known_call sets.now name.now }
 {
     sets.iter().any(|names| names.number_of(name).is_some())
 }
 
-/// Whether each of some calls is one of some set.
+/// Whether for each of these names at least one of the sets has a call with it; different names may be in different
+/// sets. True where there are no names.
 fn are_all_known(sets: &[Names], names: &[&str]) -> bool
     ensures { result ≡ list_all (λ t. is_known_call sets.now t.now) names.now }
 {
     names.iter().all(|name| is_known_call(sets, name))
 }
 
-/// Whether each call that is asked for by its name is one of some set. It is true where no calls are asked for.
+/// Whether each call that is asked for by its name is known, as by `are_all_known`. True where no call is asked for by
+/// its name: `calls` is `None` or an empty list, as `calls_asked` gives them.
 fn are_known(sets: &[Names], calls: &Option<Vec<&str>>) -> bool
     ensures { result
         ≡ are_known sets.now (option_map (λ v. map (λ t. t.now) v.items) calls.now) }
@@ -134,16 +137,18 @@ fn are_known(sets: &[Names], calls: &Option<Vec<&str>>) -> bool
     }
 }
 
-/// The place, from 0, of the first call in a text, between its commas, that no set has; 0 also where there is none.
+/// The place, from 0, of the first of the names in a text, which commas separate, that no set has a call for; 0 also
+/// where there is no such name.
 fn unknown_place(sets: &[Names], text: &str) -> usize {
     text.split(',')
         .position(|name| !is_known_call(sets, name))
         .unwrap_or(0)
 }
 
-/// The names of calls in the text of `--calls`, as `calls_asked` gives them. Each is the name of a call in some set.
-/// `UnknownName` where one isn't: then the notes get the place of the first such name. `Memory` where an allocation is
-/// refused.
+/// The names of calls in the text of `--calls`, as `calls_asked` gives them: `None` where the option isn't given, and
+/// an empty list where it asks for all calls. For each name, at least one of the sets has a call with it. `UnknownName`
+/// where for one of the names no set has a call: then the notes get the place of the first such name. `Memory` where
+/// an allocation is refused.
 pub fn known_calls<'a>(
     alloc: Global,
     found: &ArgMatches<'a>,
@@ -165,8 +170,8 @@ pub fn known_calls<'a>(
     Ok(calls)
 }
 
-/// The first name in a text that can't be that of a call, or that stands more than once; `None` where each name can be
-/// that of a call and stands once.
+/// The first of the names in a text, which commas separate, that can't be that of a call, or that stands there more
+/// than once; `None` where there is no such name, as in an empty text.
 fn wrong_name(text: &str) -> Option<&str> {
     if text.is_empty() {
         return None;
@@ -174,8 +179,9 @@ fn wrong_name(text: &str) -> Option<&str> {
     text.split(',').find(|name| !is_name_once(text, name))
 }
 
-/// Adds the lines that say what is wrong with the calls that are asked for. The caller has seen that `calls_fit` is
-/// false. An error where an allocation is refused.
+/// Adds the lines that say what is wrong with the calls that are asked for: there is no file of names; or else the
+/// first name that stands twice, or can't be that of a call. The caller has seen that `calls_fit` is false. An error
+/// where an allocation is refused.
 pub(crate) fn push_wrong_calls(
     text: &mut String,
     found: &ArgMatches<'_>,
@@ -196,9 +202,9 @@ pub(crate) fn push_wrong_calls(
     )
 }
 
-/// Adds the lines that say what is wrong with the options about the rows of a comparison. The caller has seen that
-/// `rows_fit` is false. So where `--only` is missing or names a relation, `--rows` is missing. An error where an
-/// allocation is refused.
+/// Adds the lines that say what is wrong with the options about the rows of a comparison: the word of `--only` names no
+/// relation, or else `--rows` is missing. The caller has seen that `rows_fit` is false, so one of the two is so. An
+/// error where an allocation is refused.
 pub(crate) fn push_wrong_rows(text: &mut String, found: &ArgMatches<'_>) -> Result<(), AllocError> {
     let only = found.get_str("only").unwrap_or("different");
     if is_relation(only) {
