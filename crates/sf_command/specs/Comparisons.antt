@@ -31,7 +31,7 @@ abbrev pub WritesCompared : (rows json : Bool) → List NamesData → ShownData 
     → Type 0
 WritesCompared false json sets shown found old new = Appends old new (comparison_output json sets found)
 WritesCompared true json sets shown found old new =
-    (x : DifferencesData) × AreDifferences found.settled found.older x
+    (x : DifferencesData) × AreDifferences found.settled found.old_count x
     × Appends old new (compared_output json sets shown found x)
 
 module _ (holds : List ℕ → Option (List ℕ)) (old_paths new_paths : List (Bor (List ℕ))) where

@@ -2,7 +2,7 @@
 use Rattle.std.specs.Prelude.{ℕ, Bool, List, nat_lt, not, count_by, if◌then◌else◌}
 use Rattle.sf_audit.specs.Expectations.{ExpectedData, does_hold, has_unexpected}
 use Rattle.sf_audit.specs.Outcomes.{Found}
-use Rattle.sf_audit.specs.Reports.{is_unsettled_finding}
+use Rattle.sf_audit.specs.Reports.{is_unsettled}
 use Rattle.sf_needed.specs.Texts.{is_spare, is_unsettled_finding as is_undecided}
 use Rattle.sf_compare.specs.declared.changes.Change.{Change}
 use Rattle.sf_compare.specs.declared.changes.Change.TheVariants as changes
@@ -13,7 +13,7 @@ abbrev pub audit_status : ExpectedData → Found → ℕ
 audit_status expected found =
     if not (does_hold expected.held) then 2 else
     if has_unexpected expected.accepted found.questions found.replies then 1 else
-    if nat_lt 0 (count_by is_unsettled_finding found.replies) then 2 else
+    if nat_lt 0 (count_by is_unsettled found.replies) then 2 else
     0
 
 -- the status of what was found of a relation: 0 where no input is changed so, 1 where one is, 2 where it is unsettled

@@ -78,13 +78,13 @@ impl Asked<'_, '_> {
 
 /// What an audit is asked for.
 #[derive(Drop)]
-pub struct AuditTask<'m, 'a> {
+pub struct AuditTask<'t, 'p, 'm, 'a> {
     /// The files that ask, and those that say what is expected.
-    pub asked: &'m Asked<'m, 'a>,
+    pub asked: &'t Asked<'m, 'a>,
     /// The paths of the filter files, in order of installation.
-    pub paths: &'m [&'a str],
+    pub paths: &'p [&'a str],
     /// Sets of calls, by which calls are named.
-    pub names: &'m [Names],
+    pub names: &'t [Names],
     /// How the audit is done, and what its report lists.
     pub options: Options,
 }
@@ -130,7 +130,7 @@ fn read_questions<F: Files>(
 /// there are no questions. The gate sees each sheet of verdicts before it is entered. The caller's condition: 1 to 64
 /// workers. `Count` where there are more than 256 questions, `Memory` where an allocation is refused.
 fn replies_to<R: Threads + Wait + Sync, G: Gate>(
-    means: &Means<'_, R, G>,
+    means: &Means<'_, '_, R, G>,
     settled: &Settled,
     control: &[Question],
     workers: usize,
@@ -152,7 +152,7 @@ fn replies_to<R: Threads + Wait + Sync, G: Gate>(
 /// workers. Refusals: those of `audit` of `sf_audit`, and then `Count` where the control has more than 256 questions.
 /// `Memory` can come anywhere.
 fn find<R: Threads + Wait + Sync, G: Gate>(
-    means: &Means<'_, R, G>,
+    means: &Means<'_, '_, R, G>,
     filters: &[Vec<u8>],
     read: Read,
     options: Options,
@@ -292,8 +292,8 @@ fn write_audit<O: Write>(
 /// written (a beginning of the report may be written then). `Memory` can come anywhere. After any error but `Write`
 /// nothing is written.
 pub fn audit<R: Threads + Wait + Sync, F: Files, G: Gate, O: Write>(
-    means: &Means<'_, R, G>,
-    task: &AuditTask<'_, '_>,
+    means: &Means<'_, '_, R, G>,
+    task: &AuditTask<'_, '_, '_, '_>,
     files: &mut F,
     notes: &mut Notes,
     out: &mut O,

@@ -42,17 +42,17 @@ pub struct Terms {
 
 /// What a comparison is asked for.
 #[derive(Drop)]
-pub struct ComparisonTask<'m, 'a> {
+pub struct ComparisonTask<'t, 'm, 'a> {
     /// The paths of the old filter files, in order of installation.
     pub old: &'m [&'a str],
     /// The paths of the new filter files, in order of installation.
     pub new: &'m [&'a str],
     /// Sets of calls, by which calls are named.
-    pub sets: &'m [Names],
+    pub sets: &'t [Names],
     /// How the comparison is done, and what is written of it.
     pub terms: Terms,
     /// Which of the rows in which the answers differ are shown, and how. It counts only where `terms.rows` is set.
-    pub shown: &'m Shown<'a>,
+    pub shown: &'t Shown<'a>,
 }
 
 /// The bytes of the old filter files and then those of the new ones, in one list; and how many of the files in the list
@@ -109,7 +109,7 @@ fn write_rows<O: Write>(
     alloc: Global,
     comparison: &Comparison,
     differences: &Differences,
-    task: &ComparisonTask<'_, '_>,
+    task: &ComparisonTask<'_, '_, '_>,
     out: &mut O,
 ) -> Result<(), Fault>
     ensures written { OnOk result (Appends (O.contents out.old) (O.contents out.new)
@@ -132,7 +132,7 @@ fn write_rows<O: Write>(
 fn write_compared<O: Write>(
     alloc: Global,
     comparison: &Comparison,
-    task: &ComparisonTask<'_, '_>,
+    task: &ComparisonTask<'_, '_, '_>,
     out: &mut O,
 ) -> Result<(), Fault>
     ensures written { OnOk result (WritesCompared task.now.terms.rows task.now.terms.json
@@ -158,8 +158,8 @@ fn write_compared<O: Write>(
 /// where standard output can't be written (a beginning of the text may be written then). `Memory` can come anywhere.
 /// After any error but `Write` nothing is written.
 pub fn compare<R: Threads + Wait + Sync, F: Files, G: Gate, O: Write>(
-    means: &Means<'_, R, G>,
-    task: &ComparisonTask<'_, '_>,
+    means: &Means<'_, '_, R, G>,
+    task: &ComparisonTask<'_, '_, '_>,
     files: &mut F,
     notes: &mut Notes,
     out: &mut O,

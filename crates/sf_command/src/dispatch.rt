@@ -64,7 +64,7 @@ fn watched<'a, M: Meter>(found: &ArgMatches<'_>, meter: &'a M) -> Watched<'a, M>
 }
 
 /// A copy of these means in which `gate` stands in place of their gate.
-fn through<'a, R, M, G>(means: &Means<'a, R, M>, gate: &'a G) -> Means<'a, R, G> {
+fn through<'r, 'g, R, M, G>(means: &Means<'r, '_, R, M>, gate: &'g G) -> Means<'r, 'g, R, G> {
     Means {
         rt: means.rt,
         alloc: means.alloc,
@@ -75,7 +75,7 @@ fn through<'a, R, M, G>(means: &Means<'a, R, M>, gate: &'a G) -> Means<'a, R, G>
 /// Runs `audit` as the matches of the subcommand say, and gives its exit status, 0 to 2, as `command` explains it. The
 /// refusals are those of the files of names, and then those of `audit`.
 fn run_audit<R: Threads + Wait + Sync, F: Files, M: Meter, O: Write>(
-    means: &Means<'_, R, M>,
+    means: &Means<'_, '_, R, M>,
     found: &ArgMatches<'_>,
     files: &mut F,
     notes: &mut Notes,
@@ -216,7 +216,7 @@ fn relation_of_rows(found: &ArgMatches<'_>) -> Option<Relation>
 /// The refusals are those of the files of names, `UnknownName` where `--calls` names a call that no set has, and then
 /// those of `compare`.
 fn run_compare<R: Threads + Wait + Sync, F: Files, M: Meter, O: Write>(
-    means: &Means<'_, R, M>,
+    means: &Means<'_, '_, R, M>,
     found: &ArgMatches<'_>,
     files: &mut F,
     notes: &mut Notes,
@@ -262,7 +262,7 @@ fn run_compare<R: Threads + Wait + Sync, F: Files, M: Meter, O: Write>(
 /// refusals are those of the files of names, `UnknownName` where `--calls` names a call that no set has, and then those
 /// of `list`.
 fn run_list<R: Threads + Wait + Sync, F: Files, M: Meter, O: Write>(
-    means: &Means<'_, R, M>,
+    means: &Means<'_, '_, R, M>,
     found: &ArgMatches<'_>,
     files: &mut F,
     notes: &mut Notes,
@@ -299,7 +299,7 @@ fn run_list<R: Threads + Wait + Sync, F: Files, M: Meter, O: Write>(
 /// Runs `needed` as the matches of the subcommand say, and gives its exit status, 0 to 2, as `command` explains it. The
 /// refusals are those of `needed`.
 fn run_needed<R: Threads + Wait + Sync, F: Files, M: Meter, O: Write>(
-    means: &Means<'_, R, M>,
+    means: &Means<'_, '_, R, M>,
     found: &ArgMatches<'_>,
     files: &mut F,
     notes: &mut Notes,
@@ -342,7 +342,7 @@ fn words_fit_for(name: &str, found: &ArgMatches<'_>) -> bool
 /// named, or where the subcommand's words don't fit; no file is read then, and nothing is written. The refusals are
 /// those of the subcommand.
 fn run<R: Threads + Wait + Sync, F: Files, M: Meter, O: Write>(
-    means: &Means<'_, R, M>,
+    means: &Means<'_, '_, R, M>,
     matches: &ArgMatches<'_>,
     files: &mut F,
     notes: &mut Notes,
@@ -381,7 +381,7 @@ fn run<R: Threads + Wait + Sync, F: Files, M: Meter, O: Write>(
 /// fault, and lines about words that don't fit, are written to standard error. Where `clap` gives no matches, as where
 /// help is asked for, `write_usage` writes its text and gives the status.
 fn run_words<R: Threads + Wait + Sync, F: Files, M: Meter, O: Write, E: Write>(
-    means: &Means<'_, R, M>,
+    means: &Means<'_, '_, R, M>,
     words: &[String],
     files: &mut F,
     notes: &mut Notes,
@@ -435,7 +435,7 @@ fn run_words<R: Threads + Wait + Sync, F: Files, M: Meter, O: Write, E: Write>(
 /// the fault: `error`, its number, its name and its place. With `--explain-errors`, or where `files` say so, lines for
 /// a person follow.
 pub fn command<R: Threads + Wait + Sync, F: Files, M: Meter, O: Write, E: Write>(
-    means: &Means<'_, R, M>,
+    means: &Means<'_, '_, R, M>,
     words: &[String],
     files: &mut F,
     out: &mut O,

@@ -35,14 +35,14 @@ pub struct Limits {
 
 /// What a listing is asked for.
 #[derive(Drop)]
-pub struct ListingTask<'m, 'a> {
+pub struct ListingTask<'t, 'm, 'a> {
     /// The paths of the filter files, in order of installation.
     pub paths: &'m [&'a str],
     /// Sets of calls, by which calls are named.
-    pub sets: &'m [Names],
+    pub sets: &'t [Names],
     /// The names of the calls whose rows are written, call by call. An empty list stands for all calls; the rows of the
     /// inputs that belong to no call with a name then come after these. `None`: each row has a line of its own.
-    pub calls: &'m Option<Vec<&'a str>>,
+    pub calls: &'t Option<Vec<&'a str>>,
     /// How the listing is done and written.
     pub limits: Limits,
 }
@@ -82,8 +82,8 @@ fn write_listed<O: Write>(
 /// standard output can't be written (a beginning of the text may be written then). `Memory` can come anywhere. After
 /// any error but `Write` nothing is written.
 pub fn list<R: Threads + Wait + Sync, F: Files, G: Gate, O: Write>(
-    means: &Means<'_, R, G>,
-    task: &ListingTask<'_, '_>,
+    means: &Means<'_, '_, R, G>,
+    task: &ListingTask<'_, '_, '_>,
     files: &mut F,
     notes: &mut Notes,
     out: &mut O,

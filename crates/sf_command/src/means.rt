@@ -4,12 +4,12 @@ use std::alloc::Global;
 
 /// What a run is done with: threads, memory and a gate.
 #[derive(Drop)]
-pub struct Means<'a, R, G> {
+pub struct Means<'r, 'g, R, G> {
     /// What starts threads.
-    pub rt: &'a R,
+    pub rt: &'r R,
     /// Where memory is allocated.
     pub alloc: Global,
     /// The gate that sees each work before it is committed, and each sheet of verdicts before it is entered. For
     /// `command` it is a `Meter`, which sees them only with `--progress`.
-    pub gate: &'a G,
+    pub gate: &'g G,
 }

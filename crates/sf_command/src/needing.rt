@@ -53,7 +53,7 @@ fn write_needs<O: Write>(alloc: Global, needs: &Needs, json: bool, out: &mut O) 
 /// where standard output can't be written (a beginning of the text may be written then). `Memory` can come anywhere.
 /// After any error but `Write` nothing is written.
 pub fn needed<R: Threads + Wait + Sync, F: Files, G: Gate, O: Write>(
-    means: &Means<'_, R, G>,
+    means: &Means<'_, '_, R, G>,
     paths: &[&str],
     manner: Manner,
     files: &mut F,
