@@ -10,7 +10,7 @@ use Rattle.sf_compare.specs.declared.relation.Relation.{Relation}
 use Rattle.sf_json.specs.Documents.{document_line}
 use Rattle.sf_compare.specs.Comparisons.{Compared, IsComparison, change_of, comparison_text}
 use Rattle.sf_compare.specs.Documents.{comparison_document}
-use Rattle.sf_list.specs.Differences.{AreDifferences, DifferencesData, ShownData, compared_text}
+use Rattle.sf_list.specs.Differences.{AreDifferences, AreDifferencesByRule, DifferencesData, ShownData, compared_text}
 use Rattle.sf_list.specs.Documents.{differences_document}
 use Rattle.sf_evaluate.specs.Files.{AreKeptFiles, AreRead, HasUnknown}
 use Rattle.sf_command.specs.Status.{change_status}
@@ -26,12 +26,13 @@ compared_output false sets shown found x = compared_text sets shown found x
 compared_output true sets shown found x = document_line (differences_document sets shown found x)
 
 -- what is written of a comparison, with these sets of calls: the comparison, and where it is asked for the rows in
--- which the answers differ
-abbrev pub WritesCompared : (rows json : Bool) → List NamesData → ShownData → Compared → (old new : Option (List ℕ))
-    → Type 0
-WritesCompared false json sets shown found old new = Appends old new (comparison_output json sets found)
-WritesCompared true json sets shown found old new =
+-- which the answers differ, of a picture for which this many leaves are allowed
+abbrev pub WritesCompared : (rows json : Bool) → (leaves : ℕ) → List NamesData → ShownData → Compared
+    → (old new : Option (List ℕ)) → Type 0
+WritesCompared false json leaves sets shown found old new = Appends old new (comparison_output json sets found)
+WritesCompared true json leaves sets shown found old new =
     (x : DifferencesData) × AreDifferences found.settled found.old_count x
+    × AreDifferencesByRule found.settled found.old_count found.answers leaves x
     × Appends old new (compared_output json sets shown found x)
 
 module _ (holds : List ℕ → Option (List ℕ)) (old_paths new_paths : List (Bor (List ℕ))) where
@@ -55,7 +56,7 @@ module _ (holds : List ℕ → Option (List ℕ)) (old_paths new_paths : List (B
 
   -- `compare`: the files at the paths are read, their two stacks are compared, and what was found is written; the
   -- status is that of the relation that is asked for
-  pub record ComparesFiles (sets : List NamesData) (budget : ℕ) (asked : Relation) (rows json : Bool)
+  pub record ComparesFiles (sets : List NamesData) (budget leaves : ℕ) (asked : Relation) (rows json : Bool)
       (shown : ShownData)
       (status : ℕ) (old new : Option (List ℕ)) : Type 0 where
     pub files : List (List ℕ)
@@ -63,7 +64,7 @@ module _ (holds : List ℕ → Option (List ℕ)) (old_paths new_paths : List (B
     pub read : AreBothRead files older
     pub found : Compared
     pub comparison : IsComparison files older budget found
-    pub written : WritesCompared rows json sets shown found old new
+    pub written : WritesCompared rows json leaves sets shown found old new
     pub status_is : status ≡ change_status (change_of found asked)
 
   -- Why a comparison is refused: a file whose bytes aren't known can't be read; writing or memory failed; or the files

@@ -7,7 +7,7 @@ use Rattle.sf_policy.specs.declared.fault.Fault.TheVariants.{Memory, Read, Write
 use Rattle.sf_policy.specs.Filters.{IsFirstRefusal}
 use Rattle.sf_names.specs.Names.{NamesData}
 use Rattle.sf_json.specs.Documents.{document_line}
-use Rattle.sf_list.specs.Listings.{Listed, IsListing, listing_text, is_whole_listing}
+use Rattle.sf_list.specs.Listings.{Listed, IsListing, IsListingByRule, listing_text, is_whole_listing}
 use Rattle.sf_list.specs.Documents.{listing_document}
 use Rattle.sf_evaluate.specs.Files.{AreRead, HasUnknown}
 use Rattle.sf_command.specs.Status.{listing_status}
@@ -18,15 +18,16 @@ listing_output false sets calls found = listing_text sets calls found
 listing_output true sets calls found = document_line (listing_document sets calls found)
 
 module _ (holds : List ℕ → Option (List ℕ)) (paths : List (Bor (List ℕ))) where
-  -- `list`: the files at the paths are read, the picture of their stack is drawn and its rows are written, with these
-  -- sets of calls, or the rows of the calls that are asked for; the status tells whether each input lies in a row with
-  -- one answer
+  -- `list`: the files at the paths are read, the picture of their stack is drawn, with this many leaves allowed, and
+  -- its rows are written, with these sets of calls, or the rows of the calls that are asked for. The status says
+  -- whether each input lies in a row with one answer.
   pub record ListsFiles (sets : List NamesData) (calls : Option (List (List ℕ))) (json : Bool)
-      (budget status : ℕ) (old new : Option (List ℕ)) : Type 0 where
+      (budget leaves status : ℕ) (old new : Option (List ℕ)) : Type 0 where
     pub files : List (List ℕ)
     pub read : AreRead holds paths files
     pub found : Listed
     pub listing : IsListing files budget found
+    pub rule : IsListingByRule leaves found
     pub written : Appends old new (listing_output json sets calls found)
     pub status_is : status ≡ listing_status (is_whole_listing found.picture)
 

@@ -114,6 +114,8 @@ module _ (holds : Text → Option Text) (rows : List Row) (status : ℕ) (old ne
     pub named_new : ArePaths (codes "new") rows new_paths
     pub budget : ℕ
     pub counted : IsOptionNumber (one_of (codes "budget") rows) 1000000 100000 budget
+    pub leaves : ℕ
+    pub limited : IsOptionNumber (one_of (codes "leaves") rows) 1000000 20000 leaves
     pub asked : Relation
     pub switched : IsAskedRelation (one_of (codes "same") rows) asked
     pub with_rows : Bool
@@ -123,8 +125,8 @@ module _ (holds : Text → Option Text) (rows : List Row) (status : ℕ) (old ne
     pub known : are_known names (calls_asked rows) ≡ true
     pub json : Bool
     pub in_json : IsSwitch (one_of (codes "json") rows) json
-    pub compared : ComparesFiles holds old_paths new_paths names budget asked with_rows json (shown_by rows) status
-        old new
+    pub compared : ComparesFiles holds old_paths new_paths names budget leaves asked with_rows json (shown_by rows)
+        status old new
 
   -- the files that are named were listed
   pub record Lists : Type 0 where
@@ -132,12 +134,14 @@ module _ (holds : Text → Option Text) (rows : List Row) (status : ℕ) (old ne
     pub named : ArePaths (codes "filters") rows paths
     pub budget : ℕ
     pub counted : IsOptionNumber (one_of (codes "budget") rows) 1000000 100000 budget
+    pub leaves : ℕ
+    pub limited : IsOptionNumber (one_of (codes "leaves") rows) 1000000 20000 leaves
     pub names : List NamesData
     pub called : AreNamed holds rows names
     pub known : are_known names (calls_asked rows) ≡ true
     pub json : Bool
     pub in_json : IsSwitch (one_of (codes "json") rows) json
-    pub listed : ListsFiles holds paths names (calls_asked rows) json budget status old new
+    pub listed : ListsFiles holds paths names (calls_asked rows) json budget leaves status old new
 
   -- what is needed of the files that are named was told
   pub record Needs : Type 0 where

@@ -136,7 +136,7 @@ fn write_compared<O: Write>(
     out: &mut O,
 ) -> Result<(), Fault>
     ensures written { OnOk result (WritesCompared task.now.terms.rows task.now.terms.json
-        task.now.sets.now task.now.shown.now comparison.now
+        task.now.terms.leaves task.now.sets.now task.now.shown.now comparison.now
         (O.contents out.old) (O.contents out.new)) }
     ensures refused { IfErr result (λ e. (e ≡ WriteFault)
         ⊎ ((e ≡ MemoryFault) × (out.new ≡ out.old))) }
@@ -166,8 +166,8 @@ pub fn compare<R: Threads + Wait + Sync, F: Files, G: Gate, O: Write>(
 ) -> Result<u8, Fault>
     requires workers { (0 < task.now.terms.workers) × (task.now.terms.workers ≤ 64) }
     ensures written { IfOk result (λ s. ComparesFiles (F.holds files.old) task.now.old.now
-        task.now.new.now task.now.sets.now task.now.terms.budget task.now.terms.asked
-        task.now.terms.rows task.now.terms.json task.now.shown.now s
+        task.now.new.now task.now.sets.now task.now.terms.budget task.now.terms.leaves
+        task.now.terms.asked task.now.terms.rows task.now.terms.json task.now.shown.now s
         (O.contents out.old) (O.contents out.new)) }
     ensures status { IfOk result (λ s. s ≤ 2) }
     ensures refused { IfErr result (RefusesComparison (F.holds files.old) task.now.old.now

@@ -91,7 +91,7 @@ pub fn list<R: Threads + Wait + Sync, F: Files, G: Gate, O: Write>(
     requires workers { (0 < task.now.limits.workers) × (task.now.limits.workers ≤ 64) }
     ensures written { IfOk result (λ s. ListsFiles (F.holds files.old) task.now.paths.now
         task.now.sets.now (option_map (λ v. map (λ t. t.now) v.items) task.now.calls.now)
-        task.now.limits.json task.now.limits.budget s
+        task.now.limits.json task.now.limits.budget task.now.limits.leaves s
         (O.contents out.old) (O.contents out.new)) }
     ensures status { IfOk result (λ s. s ≤ 2) }
     ensures refused { IfErr result (RefusesListing (F.holds files.old) task.now.paths.now) }

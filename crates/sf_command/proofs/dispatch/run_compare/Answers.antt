@@ -15,6 +15,8 @@ returns-clause-done g c = IfOk-weaker c.compare.result _ _ (λ s written. record
       c.get_strs-2.ensures refl);
   budget = c.budget_of.result;
   counted = c.budget_of.ensures;
+  leaves = c.leaves_of.result;
+  limited = c.leaves_of.ensures;
   asked = c.relation_of_status.result;
   switched = c.relation_of_status.ensures;
   with_rows = c.wants_rows.result;

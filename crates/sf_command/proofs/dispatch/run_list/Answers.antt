@@ -14,6 +14,8 @@ returns-clause-done g c = IfOk-weaker c.list.result _ _ (λ s written. record {
       c.get_strs.ensures refl);
   budget = c.budget_of.result;
   counted = c.budget_of.ensures;
+  leaves = c.leaves_of.result;
+  limited = c.leaves_of.ensures;
   json = c.wants_json.result;
   in_json = c.wants_json.ensures;
   names = c.in_ok-names.names.items;

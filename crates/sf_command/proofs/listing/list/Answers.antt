@@ -12,6 +12,7 @@ returns-clause-written g c = record {
       (rw c.deref.ensures.value at c.in_ok-listing.ensures.found.stack);
   found = c.in_ok-listing.listing;
   listing = rw c.deref.ensures.value at c.in_ok-listing.ensures.found;
+  rule = c.in_ok-listing.ensures.rule;
   written = c.in_ok-whole.ensures.written;
   status_is = rw c.in_ok-whole.ensures.whole at c.status_of_listing-status.ensures;
 }
