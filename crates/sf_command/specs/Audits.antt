@@ -23,7 +23,7 @@ use Rattle.sf_evaluate.specs.Origins.{AreOrigins}
 use Rattle.sf_evaluate.specs.Policies.{AreAsked, RefusesAsking}
 use Rattle.sf_evaluate.specs.Traces.{IsWhy}
 use Rattle.sf_json.specs.Documents.{document_line}
-use Rattle.sf_command.specs.declared.auditing.Read.{Read}
+use Rattle.sf_command.specs.declared.auditing.AskedContents.{AskedContents}
 use Rattle.sf_command.specs.Status.{audit_status}
 
 -- the files that an audit is asked by: policies, and where they are given that of a control and that of the questions
@@ -42,7 +42,7 @@ pub record ReadData : Type 0 where
   pub accepted : List (List ℕ)
 
 -- what was read of the files, by what the code keeps of them
-abbrev pub read_data : Read → ReadData
+abbrev pub read_data : AskedContents → ReadData
 read_data read = record {
   questions = read.questions.items;
   origins = map view read.origins.items;

@@ -91,7 +91,7 @@ pub struct AuditTask<'t, 'p, 'm, 'a> {
 
 /// What the files of an `Asked` hold.
 #[derive(Drop)]
-struct Read {
+struct AskedContents {
     /// The questions of the policies.
     questions: Vec<Question>,
     /// For each of these questions, at its place, the policy file and the line where it stands, as an object.
@@ -110,7 +110,7 @@ fn read_questions<F: Files>(
     asked: &Asked<'_, '_>,
     files: &mut F,
     notes: &mut Notes,
-) -> Result<Read, Fault>
+) -> Result<AskedContents, Fault>
     ensures read { IfOk result (λ r. IsAskedBy (F.holds files.old) asked.now (read_data r)) }
     ensures refused { IfErr result (RefusesAsked (F.holds files.old) asked.now) }
     ensures same { (p : List ℕ) → F.holds files.new p ≡ F.holds files.old p }
@@ -118,7 +118,7 @@ fn read_questions<F: Files>(
     let (questions, origins) = all_questions_in(alloc, asked.policies, files, notes)?;
     let control = control_in(alloc, asked.control, files, notes)?;
     let accepted = accepted_in(alloc, asked.accept, &questions, files, notes)?;
-    Ok(Read {
+    Ok(AskedContents {
         questions,
         origins,
         control,
@@ -151,10 +151,10 @@ fn replies_to<R: Threads + Wait + Sync, G: Gate>(
 /// that were read. Of the options only the budget and the number of workers count. The caller's condition: 1 to 64
 /// workers. Refusals: those of `audit` of `sf_audit`, and then `Count` where the control has more than 256 questions.
 /// `Memory` can come anywhere.
-fn find<R: Threads + Wait + Sync, G: Gate>(
+fn audit_filters<R: Threads + Wait + Sync, G: Gate>(
     means: &Means<'_, '_, R, G>,
     filters: &[Vec<u8>],
-    read: Read,
+    read: AskedContents,
     options: Options,
 ) -> Result<(Outcome, Expected, Vec<Document>), Fault>
     requires workers { (0 < options.workers) × (options.workers ≤ 64) }
@@ -164,7 +164,7 @@ fn find<R: Threads + Wait + Sync, G: Gate>(
     ensures refused { IfErr result (λ e. (e ≡ MemoryFault)
         ⊎ IsRefusedFor (map (λ f. f.items) filters.now) (read_data read) e) }
 {
-    let Read {
+    let AskedContents {
         questions,
         origins,
         control,
@@ -311,7 +311,7 @@ pub fn audit<R: Threads + Wait + Sync, F: Files, G: Gate, O: Write>(
     let (alloc, options, names) = (means.alloc, task.options, task.names);
     let read = read_questions(alloc, task.asked, files, notes)?;
     let filters = read_all(alloc, task.paths, files, notes)?;
-    let (outcome, expected, origins) = find(means, &filters, read, options)?;
+    let (outcome, expected, origins) = audit_filters(means, &filters, read, options)?;
     notes.warnings = warnings_of_stack(alloc, &filters, outcome.settled());
     notes.warn_of_questions(outcome.questions(), names);
     let remarks = asked_remarks(alloc, options.why, names, &outcome)?;

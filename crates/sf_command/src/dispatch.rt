@@ -15,9 +15,9 @@ ghost use Rattle.sf_evaluate.specs.Status.{fault_status};
 
 use crate::auditing::{Asked, AuditTask, Options, audit};
 use crate::comparing::{ComparisonTask, Terms, compare};
-use crate::listing::{Limits, ListingTask, list};
+use crate::listing::{ListingTask, ListingTerms, list};
 use crate::means::Means;
-use crate::needing::{Manner as Finding, needed};
+use crate::needing::{NeededTerms, needed};
 use crate::usage::{meant_words, write_usage};
 use crate::watching::{Meter, Watched};
 use clap::ArgMatches;
@@ -64,7 +64,7 @@ fn watched<'a, M: Meter>(found: &ArgMatches<'_>, meter: &'a M) -> Watched<'a, M>
 }
 
 /// A copy of these means in which `gate` stands in place of their gate.
-fn through<'r, 'g, R, M, G>(means: &Means<'r, '_, R, M>, gate: &'g G) -> Means<'r, 'g, R, G> {
+fn with_gate<'r, 'g, R, M, G>(means: &Means<'r, '_, R, M>, gate: &'g G) -> Means<'r, 'g, R, G> {
     Means {
         rt: means.rt,
         alloc: means.alloc,
@@ -112,7 +112,7 @@ fn run_audit<R: Threads + Wait + Sync, F: Files, M: Meter, O: Write>(
         options,
     };
     let gate = watched(found, means.gate);
-    audit(&through(means, &gate), &task, files, notes, out)
+    audit(&with_gate(means, &gate), &task, files, notes, out)
 }
 
 /// Runs `check` on the filter files that the matches of the subcommand name. The exit status is 0. The refusals are
@@ -255,7 +255,7 @@ fn run_compare<R: Threads + Wait + Sync, F: Files, M: Meter, O: Write>(
         shown: &shown,
     };
     let gate = watched(found, means.gate);
-    compare(&through(means, &gate), &task, files, notes, out)
+    compare(&with_gate(means, &gate), &task, files, notes, out)
 }
 
 /// Runs `list` as the matches of the subcommand say, and gives its exit status, 0 or 2, as `command` explains it. The
@@ -280,7 +280,7 @@ fn run_list<R: Threads + Wait + Sync, F: Files, M: Meter, O: Write>(
     let names = names_of(means.alloc, found, files, notes)?;
     let calls = known_calls(means.alloc, found, &names, notes)?;
     let paths = found.get_strs("filters").unwrap_or(&[]);
-    let limits = Limits {
+    let limits = ListingTerms {
         budget: budget_of(found),
         workers: workers_of(found),
         leaves: leaves_of(found),
@@ -293,7 +293,7 @@ fn run_list<R: Threads + Wait + Sync, F: Files, M: Meter, O: Write>(
         limits,
     };
     let gate = watched(found, means.gate);
-    list(&through(means, &gate), &task, files, notes, out)
+    list(&with_gate(means, &gate), &task, files, notes, out)
 }
 
 /// Runs `needed` as the matches of the subcommand say, and gives its exit status, 0 to 2, as `command` explains it. The
@@ -313,13 +313,13 @@ fn run_needed<R: Threads + Wait + Sync, F: Files, M: Meter, O: Write>(
         (λ paths. (budget : ℕ) × RefusesNeeds (F.holds files.old) paths budget e)) }
 {
     let paths = found.get_strs("filters").unwrap_or(&[]);
-    let manner = Finding {
+    let manner = NeededTerms {
         budget: budget_of(found),
         workers: workers_of(found),
         json: wants_json(found),
     };
     let gate = watched(found, means.gate);
-    needed(&through(means, &gate), paths, manner, files, notes, out)
+    needed(&with_gate(means, &gate), paths, manner, files, notes, out)
 }
 
 /// Whether the words of the subcommand with this name fit: each option has a word of a form that it takes, and the

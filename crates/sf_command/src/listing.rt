@@ -22,7 +22,7 @@ use std::thread::Threads;
 
 /// How a listing is done and written.
 #[derive(Clone, Copy)]
-pub struct Limits {
+pub struct ListingTerms {
     /// The most works that are committed, 1 to 1,000,000.
     pub budget: u32,
     /// The number of workers, 1 to 64.
@@ -44,7 +44,7 @@ pub struct ListingTask<'t, 'm, 'a> {
     /// inputs that belong to no call with a name then come after these. `None`: each row has a line of its own.
     pub calls: &'t Option<Vec<&'a str>>,
     /// How the listing is done and written.
-    pub limits: Limits,
+    pub limits: ListingTerms,
 }
 
 /// Writes a listing, as text or if `json` as one JSON document. `sets` and `calls` are as in `ListingTask`. Gives

@@ -19,7 +19,7 @@ use std::thread::Threads;
 
 /// How the filters that are needed are found, and how they are shown.
 #[derive(Clone, Copy)]
-pub struct Manner {
+pub struct NeededTerms {
     /// The most works that are committed in each comparison, 1 to 1,000,000.
     pub budget: u32,
     /// The number of workers, 1 to 64.
@@ -55,7 +55,7 @@ fn write_needs<O: Write>(alloc: Global, needs: &Needs, json: bool, out: &mut O) 
 pub fn needed<R: Threads + Wait + Sync, F: Files, G: Gate, O: Write>(
     means: &Means<'_, '_, R, G>,
     paths: &[&str],
-    manner: Manner,
+    manner: NeededTerms,
     files: &mut F,
     notes: &mut Notes,
     out: &mut O,

@@ -1,7 +1,7 @@
 use Rattle.std.proofs.Common.{inl, inr}
 use Rattle.sf_evaluate.specs.FilesLaws.{handed_on}
 use Rattle.sf_command.proofs.KeptLemmas.{second_weaker}
-use Rattle.sf_command.proofs.auditing.find.Goals as goal
+use Rattle.sf_command.proofs.auditing.audit_filters.Goals as goal
 
 pub returns-clause-found : goal.returns-clause-found
 returns-clause-found g c = record {
