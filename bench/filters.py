@@ -2,6 +2,7 @@
 
 import os
 import random
+import re
 import struct
 
 # Places of 32-bit words in what a filter sees.
@@ -167,7 +168,7 @@ def implied_tests(count, beside):
 def filters_in(folder):
     """The filters in the files NN.bpf of a folder, in order."""
     found = []
-    for name in sorted(name for name in os.listdir(folder) if name.endswith(".bpf")):
+    for name in sorted(name for name in os.listdir(folder) if re.fullmatch(r"\d\d\.bpf", name)):
         with open(os.path.join(folder, name), "rb") as file:
             found.append(file.read())
     return found
