@@ -26,6 +26,20 @@ COUNTS_FIRST = "i=0; while [ $i -lt 6000 ]; do i=$((i + 1)); done; " + PRINTS
 MOST_FILTERS, MOST_INSTRUCTIONS, MOST_PATH = 64, 4096, 32768
 
 
+class Stacks(unittest.TestCase):
+    def test_only_numbered_files_are_filters(self):
+        with tempfile.TemporaryDirectory() as folder:
+            for name, text in (("02.bpf", b"second"), ("01.bpf", b"first"), ("sockets.bpf", b"other"), ("01.json", b"{}")):
+                with open(os.path.join(folder, name), "wb") as file:
+                    file.write(text)
+            self.assertEqual(filters.filters_in(folder), [b"first", b"second"])
+
+    def test_each_real_stack_has_filters(self):
+        names = [case.name for case in beside.real_cases() if case.filters]
+        self.assertEqual(len(names), len(list(beside.real_cases())))
+        self.assertIn("snap-default", names)
+
+
 class Told(unittest.TestCase):
     def setUp(self):
         self.folder = tempfile.TemporaryDirectory()
