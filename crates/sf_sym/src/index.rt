@@ -24,7 +24,7 @@ pub struct Interned {
 }
 
 impl Default for Interned {
-    /// `SharedList` asks for a default of its elements.
+    /// The constant 0 without a link. `SharedList` asks for a default of its elements.
     fn default() -> Self {
         Interned {
             node: Node::Const(0),
@@ -58,7 +58,7 @@ fn is_same(a: Node, b: Node) -> bool
     a == b
 }
 
-/// The first place at which the node may stand, since its operands stand before it.
+/// The first place at which the node may stand, since its operands stand before it: 0 where it has none.
 fn place_behind_operands(node: Node) -> usize
     ensures { (i : ℕ) → OperandsBelow i node → result ≤ i }
 {
@@ -69,10 +69,10 @@ fn place_behind_operands(node: Node) -> usize
     }
 }
 
-/// The place of a node that is equal to this one; `None` where there is none. The nodes of its bucket are compared with
-/// it, the newest first. The search ends at the node's newest operand, if it has operands: an equal node stands behind
-/// them. The caller's condition: `heads` and the links are right for the nodes, as `Indexed` keeps them, and each
-/// node's operands are older than it.
+/// The place of a node that is equal to this one, the newest such node; `None` where there is none. The nodes of its
+/// bucket are compared with it, the newest first. The search ends at the node's newest operand, if it has operands: an
+/// equal node stands behind them. The caller's condition: `heads` and the links are right for the nodes, as `Indexed`
+/// keeps them, and each node's operands are older than it.
 fn place_of(interned_nodes: &InternedNodes, heads: &[u32], node: Node) -> Option<usize>
     requires indexed { IsIndexed interned_nodes.now heads.now }
     requires ordered { AreOrdered 0 (nodes_of interned_nodes.now) }
@@ -94,8 +94,9 @@ fn place_of(interned_nodes: &InternedNodes, heads: &[u32], node: Node) -> Option
     None
 }
 
-/// Adds a node at the end, and makes it the newest of its bucket. `AllocError` where an allocation is refused; nothing
-/// changes then. The caller's condition: `heads` and the links are right for the nodes so far, as `Indexed` keeps them.
+/// Adds a node at the end, and makes it the newest of its bucket. `AllocError` where an allocation is refused, where
+/// there are 2^31 + 16 nodes already, or where blocks of nodes have too many owners; nothing changes then. The caller's
+/// condition: `heads` and the links are right for the nodes so far, as `Indexed` keeps them.
 fn add(interned_nodes: &mut InternedNodes, heads: &mut [u32], node: Node) -> Result<(), AllocError>
     requires indexed { IsIndexed interned_nodes.old heads.old }
     ensures indexed { IsIndexed interned_nodes.new heads.new }
@@ -115,6 +116,7 @@ fn add(interned_nodes: &mut InternedNodes, heads: &mut [u32], node: Node) -> Res
 /// another node.
 #[derive(Drop)]
 pub struct Indexed {
+    // The nodes, each with its link.
     interned_nodes: InternedNodes,
     // For each bucket, one more than the place of its newest node, or 0 where it has none.
     heads: Vec<u32>,
@@ -160,8 +162,8 @@ impl Indexed {
         self.interned_nodes.get(i).node
     }
 
-    /// The place of a node that is equal to this one; `None` where there is none. The caller's condition: each node's
-    /// operands are older than it.
+    /// The place of a node that is equal to this one, the newest such node; `None` where there is none. The caller's
+    /// condition: each node's operands are older than it.
     pub fn find(&self, node: Node) -> Option<usize>
         requires { AreOrdered 0 self.now }
         ensures found { (i : ℕ) → result ≡ Some i → (i < length self.now)
@@ -173,7 +175,8 @@ impl Indexed {
     }
 
     /// Adds a node at the end, even if an equal one is there, and gives its place. `AllocError` where an allocation is
-    /// refused; nothing is added then.
+    /// refused, where there are 2^31 + 16 nodes already, or where blocks of nodes have too many owners; nothing is
+    /// added then.
     pub fn add(&mut self, node: Node) -> Result<usize, AllocError>
         ensures place { IfOk result (λ at. at ≡ length self.old) }
         ensures ok { OnOk result (self.new ≡ self.old ++ node ∷ []) }
@@ -184,7 +187,8 @@ impl Indexed {
         Ok(at)
     }
 
-    /// A copy with one more node, and the place of this node. `AllocError` where an allocation is refused.
+    /// A copy with one more node, and the place of this node. `AllocError` where an allocation is refused, where there
+    /// are 2^31 + 16 nodes already, or where blocks of nodes have too many owners.
     pub fn with(&self, node: Node) -> Result<(Arc<Indexed>, usize), AllocError>
         ensures { IfOk result (λ r. (arc_value r.0 ≡ self.now ++ node ∷ [])
             × (r.1 ≡ length self.now)) }
@@ -200,7 +204,8 @@ impl Indexed {
 }
 
 /// Adds a node at the end, even if an equal one is there, and gives its place. Where other pools share the nodes, it is
-/// added to a copy, and theirs stay as they are. `AllocError` where an allocation is refused; nothing is added then.
+/// added to a copy, and theirs stay as they are. `AllocError` where an allocation is refused, where there are 2^31 + 16
+/// nodes already, or where blocks of nodes have too many owners; nothing is added then.
 pub fn add_to(nodes: &mut Arc<Indexed>, node: Node) -> Result<usize, AllocError>
     ensures place { IfOk result (λ at. at ≡ length (arc_value nodes.old)) }
     ensures ok { OnOk result (arc_value nodes.new ≡ arc_value nodes.old ++ node ∷ []) }
