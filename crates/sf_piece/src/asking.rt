@@ -69,10 +69,11 @@ fn foresee(run: &Run, test: Test, other: Operand) -> Option<bool>
 }
 
 /// Runs an operation on A: its result is put in A as a node. A division by X first asks whether X is 0, unless the name
-/// says already that it isn't. Then the call only takes this truth value, as `branch` takes that of a test: where X is
-/// 0 the program returns 0, and otherwise the machine stays at the division. `Empty` where the facts contradict.
-/// `Memory` where an allocation is refused. The caller's condition: `insn` is this operation, and stands at the
-/// machine's place.
+/// says already that it isn't. Then the call only takes this truth value. Where the facts leave only one, it is added
+/// to the name; where they leave both, the result is `Split`. Where X is 0 the program returns 0, and otherwise the
+/// machine stays at the division. `Empty` where the facts leave neither, or can't take in a node. `Memory` comes for
+/// any reason that the fault names. The caller's condition: `insn` is this operation, and stands at the machine's
+/// place.
 pub(crate) fn alu(
     alloc: Global,
     run: &mut Run,
@@ -112,8 +113,8 @@ pub(crate) fn alu(
 
 /// Runs a test of A against `other`. Where it is told, its truth value is added to the name, with the falses of the
 /// tests behind it that are known to fail. Else it is learnt as false and as true: `Split` where the facts leave both,
-/// `On` where they leave one, and `Empty` where they leave neither or can't take in the node of `other`. `Memory` where
-/// an allocation is refused. The caller's condition: `insn` is this test, and stands at the machine's place.
+/// `On` where they leave one, and `Empty` where they leave neither or can't take in the node of `other`. `Memory` comes
+/// for any reason that the fault names. The caller's condition: `insn` is this test, and stands at the machine's place.
 pub(crate) fn branch(
     alloc: Global,
     run: &mut Run,
@@ -149,9 +150,11 @@ pub(crate) fn branch(
 }
 
 /// Runs a return of A, which meets the 32 bits of A, the highest first. Each call takes the next bit, and the machine
-/// stays at the return. Where the bit is told, it is added to the name; else it is learnt as false and as true, as a
-/// test is. When all 32 are in the name, the call leaves the program, which returns the number that they spell.
-/// `Memory` where an allocation is refused. The caller's condition: a return of A stands at the machine's place.
+/// stays at the return. Where the bit is told, it is added to the name. Else it is learnt as false and as true: `Split`
+/// where the facts leave both, `On` where they leave one, and `Empty` where they leave neither or can't take in the
+/// constant that the bit is tested with. When all 32 are in the name, the call leaves the program, which returns the
+/// number that they spell. `Memory` comes for any reason that the fault names. The caller's condition: a return of A
+/// stands at the machine's place.
 pub(crate) fn return_a(alloc: Global, run: &mut Run) -> Result<SmallStep, Fault>
     requires lawful { IsLawfulPiece run.old }
     requires standing { HasAtHand run.old Insn.ReturnA }

@@ -110,9 +110,11 @@ pub(crate) fn take(run: &mut Run, insn: Insn, sense: bool) -> Result<(), Fault>
     Ok(())
 }
 
-/// The run of the members on which the condition has the truth value `sense`. The name gets this truth value, the
-/// conditions get `cond` with it, and the machine goes on. `facts` are those that `child_facts` gives for it. `Memory`
-/// where an allocation is refused, or where the name would get 2^32 falses in a row.
+/// The run of those members of `run` on which the condition has the truth value `sense`. It is a copy of `run`, but its
+/// name gets this truth value, its conditions get `cond` with it, its machine goes on, and its facts are `facts`.
+/// `Memory` where an allocation is refused, where the name or the conditions would get too long, or where something
+/// that is shared has too many owners. The caller's conditions: `insn` stands at the machine's place, `cond` is the
+/// condition that its next truth value is true, and `facts` are those that `child_facts` gives for `sense`.
 fn child(run: &Run, insn: Insn, cond: Cond, sense: bool, facts: Facts) -> Result<Run, Fault>
     requires lawful { IsLawfulPiece run.now }
     requires standing { HasAtHand run.now insn }
@@ -135,8 +137,10 @@ fn child(run: &Run, insn: Insn, cond: Cond, sense: bool, facts: Facts) -> Result
     })
 }
 
-/// The run's facts, with what follows from the truth value `sense` of the condition. `None` where it contradicts them:
-/// no member has it. `Memory` where an allocation is refused.
+/// A copy of the run's facts, with what follows where the condition has the truth value `sense`. `None` where this
+/// truth value contradicts the facts: the condition has it on no member. `Memory` where an allocation is refused. The
+/// caller's conditions: both nodes of the condition are in the pool; on a plain stack it tests a word of the input or
+/// a constant against a constant, and where it asks for a common bit, this constant has only one bit.
 fn child_facts(alloc: Global, run: &Run, cond: Cond, sense: bool) -> Result<Option<Facts>, Fault>
     requires lawful { IsLawfulPiece run.now }
     requires below { IsCondBelow (length run.now.pool) cond }
@@ -154,8 +158,10 @@ fn child_facts(alloc: Global, run: &Run, cond: Cond, sense: bool) -> Result<Opti
 }
 
 /// Learns the next truth value of `insn` as false and as true, each from the same facts, and says which of them the
-/// facts leave. `cond` is the condition that it is true, and `asked` is the run that has nodes for both words of
-/// `cond`; it stays as it is. `Memory` where an allocation is refused.
+/// facts leave. `asked` stays as it is. `Memory` where an allocation is refused, where the name or the conditions would
+/// get too long, or where something that is shared has too many owners. The caller's conditions: `insn` stands at the
+/// machine's place, `cond` is the condition that its next truth value is true, and `asked` is the run with nodes for
+/// both words of `cond`.
 pub(crate) fn decide(alloc: Global, asked: &Run, insn: Insn, cond: Cond) -> Result<Decision, Fault>
     requires lawful { IsLawfulPiece asked.now }
     requires standing { HasAtHand asked.now insn }
@@ -180,8 +186,8 @@ pub(crate) fn decide(alloc: Global, asked: &Run, insn: Insn, cond: Cond) -> Resu
 
 /// Goes on as was decided. An implied truth value is added to the name and moves the machine; the pool, the conditions
 /// and the facts stay as they are. At a split the two runs are handed on. `run` itself stays as it is then, and also
-/// where there is no member. `Memory` as `take` has it: the run is as it was then. The caller's condition: `insn`
-/// stands at the machine's place of `run`, and the decision is right for it.
+/// where there is no member. `Memory` where `take` fails; `run` then stays as it was. The caller's condition: `insn`
+/// stands at the machine's place of `run`, and the decision is right for its next truth value.
 pub(crate) fn carry_out(run: &mut Run, insn: Insn, decision: Decision) -> Result<SmallStep, Fault>
     requires lawful { IsLawfulPiece run.old }
     requires standing { HasAtHand run.old insn }

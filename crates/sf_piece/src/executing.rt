@@ -22,9 +22,9 @@ use sf_check::Insn;
 use sf_sym::{Node, NodeId};
 use std::alloc::Global;
 
-/// Runs one instruction, or takes one truth value of it. A test that is told also takes the tests behind it that are
-/// known to fail. `Settled` where the last program has returned: no instruction is left. `Memory` where an allocation
-/// is refused; the caller then drops the run.
+/// Runs one instruction, or takes one truth value of it, and says what becomes of the run. Where a test is told, the
+/// tests behind it that are known to fail are taken too. `Settled` where the last program has returned: no instruction
+/// is left. `Memory` comes for any reason that the fault names; the caller then drops the run, which may be changed.
 pub(crate) fn execute(alloc: Global, run: &mut Run) -> Result<SmallStep, Fault>
     requires { IsLawfulPiece run.old }
     ensures step { IfOk result (IsSmallStep run.old run.new) }
@@ -65,9 +65,10 @@ pub(crate) fn execute(alloc: Global, run: &mut Run) -> Result<SmallStep, Fault>
 }
 
 /// Puts a node in A, which is what `insn` does, and goes on to the next instruction. `Empty` where the facts can't take
-/// in the node. `Memory` where an allocation is refused. The caller's conditions: `insn` stands at the machine's place;
-/// where it divides by X, the name says already that X isn't 0; the node has the value that `insn` puts in A, and its
-/// operands are in the pool.
+/// in the node: there is no member. `Memory` where an allocation is refused, or where the pool would get too long. The
+/// caller's conditions: `insn` stands at the machine's place; where it divides by X, the name says already that X isn't
+/// 0; the node has the value that `insn` puts in A, and its operands are in the pool; on a plain stack it is a word of
+/// the input or a constant.
 pub(crate) fn set_a(
     alloc: Global,
     run: &mut Run,
@@ -99,8 +100,8 @@ pub(crate) fn set_a(
 }
 
 /// Puts the constant `k` in X, which is what `insn` does, and goes on to the next instruction. `Empty` where the facts
-/// can't take in its node. `Memory` where an allocation is refused. The caller's condition: `insn` stands at the
-/// machine's place.
+/// can't take in its node: there is no member. `Memory` where an allocation is refused, or where the pool would get too
+/// long. The caller's condition: `insn` stands at the machine's place.
 fn set_x(alloc: Global, run: &mut Run, insn: Insn, k: u32) -> Result<SmallStep, Fault>
     requires lawful { IsLawfulPiece run.old }
     requires standing { HasAtHand run.old insn }
@@ -176,7 +177,7 @@ fn with_scratch(m: &SymbolicMachine, k: u8, w: NodeId) -> SymbolicMachine
     SymbolicMachine { scratch, ..*m }
 }
 
-/// The node of scratch word `k`. The caller's condition: this word is set.
+/// The node of scratch word `k`, 0 to 15. The caller's condition: this word is set.
 fn scratch(m: &SymbolicMachine, k: u8) -> NodeId
     requires { (w : ANodeId) × (slice_get m.now.scratch k ≡ Some (Some w)) }
     ensures { slice_get m.now.scratch k ≡ Some (Some result) }
@@ -187,8 +188,8 @@ fn scratch(m: &SymbolicMachine, k: u8) -> NodeId
     }
 }
 
-/// Goes on by an instruction: its machine becomes `to`. The caller's condition: the name has all truth values that
-/// `insn` meets, if it meets any, and `to` is where it leads.
+/// Goes on by an instruction: the run's machine becomes `to`. The caller's conditions: `insn` stands at the machine's
+/// place, it doesn't leave the program, the name has all truth values that it meets, and `to` is the machine after it.
 fn go(run: &mut Run, insn: Insn, to: SymbolicMachine)
     requires lawful { IsLawfulPiece run.old }
     requires standing { HasAtHand run.old insn }
@@ -203,7 +204,8 @@ fn go(run: &mut Run, insn: Insn, to: SymbolicMachine)
 }
 
 /// Goes on to the next program, after a return of this value, which is taken into the answer so far. The caller's
-/// condition: `insn` returns it, and stands at the machine's place; of a return of A all 32 bits are in the name.
+/// conditions: `insn` is a return, returns this value, and stands at the machine's place; if it returns A, all 32 bits
+/// are in the name.
 pub(crate) fn leave_program(run: &mut Run, insn: Insn, value: u32)
     requires lawful { IsLawfulPiece run.old }
     requires standing { HasAtHand run.old insn }

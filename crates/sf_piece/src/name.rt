@@ -52,7 +52,10 @@ impl Name {
     }
 
     /// How two names compare: false is before true, and a name before what goes on from it. The first run that differs
-    /// decides: the name where it is longer has a false where the other has a true.
+    /// decides: the name where it is longer comes first, since it has a false where the other has a true. Where all
+    /// runs of one name are the first runs of the other, the name with fewer runs comes first: where the other has its
+    /// next true, it has a false or has ended. Where the runs are the same, the name with fewer falses at its end comes
+    /// first.
     pub fn order(&self, other: &Name) -> Ordering
         ensures { result ≡ slice_cmp bool_cmp self.now other.now }
     {
@@ -61,7 +64,8 @@ impl Name {
             .then(self.rest.cmp(&other.rest))
     }
 
-    /// A copy of the name, which shares the full blocks of runs. `AllocError` where an allocation is refused.
+    /// A copy of the name, which shares the full blocks of runs. `AllocError` where an allocation is refused, or where
+    /// the blocks have too many owners.
     pub(crate) fn fork(&self) -> Result<Name, AllocError>
         ensures { IfOk result (λ n. n ≡ self.now) }
     {
@@ -71,8 +75,8 @@ impl Name {
         })
     }
 
-    /// The name with one truth value more. `AllocError` where an allocation is refused, or where the name would get
-    /// too long (`push`).
+    /// The name with one truth value more. `AllocError` where an allocation is refused, where the name would get too
+    /// long (`push`), or where the blocks of runs have too many owners.
     pub(crate) fn with_truth(&self, value: bool) -> Result<Name, AllocError>
         ensures { IfOk result (λ n. n ≡ self.now ++ value ∷ []) }
     {
@@ -105,8 +109,8 @@ impl Name {
         Ok(())
     }
 
-    /// Adds this many falses at the end. `AllocError` where 2^32 falses would stand in a run: the name is as it was
-    /// then.
+    /// Adds this many falses at the end. Takes no memory. `AllocError` where 2^32 falses or more would stand in a run:
+    /// the name is as it was then.
     pub(crate) fn push_falses(&mut self, count: usize) -> Result<(), AllocError>
         ensures ok { OnOk result (self.new ≡ self.old ++ replicate count false) }
         ensures err { OnErr result (self.new ≡ self.old) }
@@ -119,7 +123,7 @@ impl Name {
     }
 }
 
-/// Adds this many falses at the end. `AllocError` where an allocation is refused.
+/// Adds this many falses at the end. `AllocError` where an allocation is refused: the values are as they were then.
 fn add_falses(values: &mut Vec<bool>, count: u32) -> Result<(), AllocError>
     ensures { OnOk result (values.new.items ≡ values.old.items ++ replicate count false) }
 {

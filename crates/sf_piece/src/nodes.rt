@@ -16,7 +16,8 @@ use sf_sym::{Node, NodeId};
 use std::alloc::Global;
 
 /// Puts a node in the pool, unless an equal one is there, takes it into the facts, and gives its place. `None` where
-/// what is known of it contradicts: the piece has no member then. `Memory` where an allocation is refused. The caller's
+/// what is known of it contradicts: the piece has no member then. `Memory` where an allocation is refused, or where the
+/// pool would get too long. In both cases the pool may have the node, but the facts are as they were. The caller's
 /// conditions: the node's operands are in the pool; on a plain stack it is a word of the input or a constant.
 pub(crate) fn push(alloc: Global, run: &mut Run, node: Node) -> Result<Option<NodeId>, Fault>
     requires lawful { IsLawfulPiece run.old }
@@ -33,8 +34,9 @@ pub(crate) fn push(alloc: Global, run: &mut Run, node: Node) -> Result<Option<No
     Ok(Some(id))
 }
 
-/// The node of the second word of an operation or a test: a constant is put in the pool, and X has a node already.
-/// `None` where the facts of a constant contradict: there is no member then. `Memory` where an allocation is refused.
+/// The node of the second word of an operation or a test: a constant is put in the pool and taken into the facts, and X
+/// has a node already. `None` where the facts can't take in the constant: there is no member then. `Memory` where an
+/// allocation is refused, or where the pool would get too long.
 pub(crate) fn operand(alloc: Global, run: &mut Run, other: Operand) -> Result<Option<NodeId>, Fault>
     requires { IsLawfulPiece run.old }
     ensures made { IfOk result (λ o. MatchOption o (HasNoMember run.old)

@@ -53,7 +53,8 @@ impl Run {
     ghost use Rattle.sf_piece.specs.SymbolicRun.{IsLawfulPiece};
     ghost use Rattle.sf_piece.specs.Works.{HasAtHand, IsCodeAtHand};
 
-    /// A copy of the run. `Memory` where an allocation is refused.
+    /// A copy of the run. `Memory` where an allocation is refused, or where something that is shared has too many
+    /// owners.
     pub(crate) fn fork(&self, alloc: Global) -> Result<Run, Fault>
         ensures { IfOk result (λ r. r ≡ self.now) }
     {
@@ -98,7 +99,7 @@ impl Run {
         Some(code[self.machine.place])
     }
 
-    /// The name, and the answer of the programs that have returned.
+    /// The name, and the answer of the programs that have returned; ALLOW where none has.
     pub(crate) fn into_parts(self) -> (Name, Answer)
         ensures name { result.0 ≡ self.name }
         ensures answer { result.1 ≡ self.machine.so_far }
