@@ -1,8 +1,8 @@
 //! The nodes of a pool, with an index by which an equal node is found without going through all of them.
 
-ghost use Rattle.std.specs.Prelude.{◌≡◌, ◌≢◌, ℕ, ◌<◌, ◌≤◌, ◌*◌, ◌/◌, ◌-◌, ◌^◌, List, [], ◌∷◌, ◌++◌, length, ◌↔◌, OnOk, OnErr, IfOk, IsTrue, false, MatchBool, MatchOption};
+ghost use Rattle.std.specs.Prelude.{◌≡◌, ◌≢◌, ℕ, ◌<◌, ◌*◌, ◌/◌, ◌-◌, ◌^◌, List, [], ◌∷◌, ◌++◌, length, ◌↔◌, OnOk, OnErr, IfOk, IsTrue, false, MatchBool, MatchOption};
 ghost use Rattle.std.specs.Arc.{arc_value};
-ghost use Rattle.sf_sym.specs.Pool.{OperandsBelow, AreOrdered, node_at};
+ghost use Rattle.sf_sym.specs.Pool.{node_at};
 ghost use Rattle.sf_sym.specs.Index.{hash_of, nodes_of, IsIndexed};
 
 use crate::pool::Node;
@@ -58,33 +58,19 @@ fn is_same(a: Node, b: Node) -> bool
     a == b
 }
 
-/// The first place at which the node may stand, since its operands stand before it: 0 where it has none.
-fn place_behind_operands(node: Node) -> usize
-    ensures { (i : ℕ) → OperandsBelow i node → result ≤ i }
-{
-    match node {
-        Node::Const(_) | Node::Word(_) => 0,
-        Node::Bin(_, a, b) => a.0.max(b.0) as usize + 1,
-        Node::Neg(a) => a.0 as usize + 1,
-    }
-}
-
 /// The place of a node that is equal to this one, the newest such node; `None` where there is none. The nodes of its
-/// bucket are compared with it, the newest first. The search ends at the node's newest operand, if it has operands: an
-/// equal node stands behind them. The caller's condition: `heads` and the links are right for the nodes, as `Indexed`
-/// keeps them, and each node's operands are older than it.
+/// bucket are compared with it, the newest first. The caller's condition: `heads` and the links are right for the
+/// nodes, as `Indexed` keeps them.
 fn place_of(interned_nodes: &InternedNodes, heads: &[u32], node: Node) -> Option<usize>
     requires indexed { IsIndexed interned_nodes.now heads.now }
-    requires ordered { AreOrdered 0 (nodes_of interned_nodes.now) }
     ensures found { (i : ℕ) → result ≡ Some i → (i < length (nodes_of interned_nodes.now))
         × (node_at (nodes_of interned_nodes.now) i ≡ node) }
     ensures absent { result ≡ None → (i : ℕ) → i < length (nodes_of interned_nodes.now)
         → node_at (nodes_of interned_nodes.now) i ≢ node }
 {
-    let first = place_behind_operands(node);
     let mut next = heads[hash(node)] as usize;
     // `next` is one more than the place to look at, as heads and links are.
-    while next > first {
+    while next > 0 {
         let interned = interned_nodes.get(next - 1);
         if is_same(interned.node, node) {
             return Some(next - 1);
@@ -162,10 +148,8 @@ impl Indexed {
         self.interned_nodes.get(i).node
     }
 
-    /// The place of a node that is equal to this one, the newest such node; `None` where there is none. The caller's
-    /// condition: each node's operands are older than it.
+    /// The place of a node that is equal to this one, the newest such node; `None` where there is none.
     pub fn find(&self, node: Node) -> Option<usize>
-        requires { AreOrdered 0 self.now }
         ensures found { (i : ℕ) → result ≡ Some i → (i < length self.now)
             × (node_at self.now i ≡ node) }
         ensures absent { result ≡ None → (i : ℕ) → i < length self.now

@@ -1,7 +1,4 @@
-use Rattle.std.proofs.Common.{◌≡◌, ◌+◌, ◌<◌, ◌-◌, length, arith, ap, sym, ◌∙◌, inl, inr}
-use Rattle.std.proofs.lemmas.Bool.{cases_lt}
-use Rattle.sf_sym.specs.Pool.{OperandsBelow}
-use Rattle.sf_sym.specs.ValueLaws.{OperandsBelow-at}
+use Rattle.std.proofs.Common.{◌≡◌, ◌+◌, ◌<◌, ◌-◌, length, arith, ap, sym, ◌∙◌}
 use Rattle.sf_sym.specs.Index.{nodes_of, link_at}
 use Rattle.sf_sym.proofs.IndexLemmas.{IsSearched-step, node-read, length-nodes, blank}
 use Rattle.sf_sym.proofs.index.place_of.Goals as goal
@@ -28,13 +25,4 @@ loop-next-preserved c =
     (λ e. c.is_same.ensures.differ c.if-is_same.false (sym read ∙ e)) (c.requires.indexed.linked p within))
 
 pub returns-clause-absent : goal.returns-clause-absent
-returns-clause-absent c = λ _ i h e.
-    let ns = nodes_of c.args.interned_nodes.now in
-    elim (cases_lt i c.loop-next.next) [
-      | inr later ↦ c.loop-next.invariant.absent i later h e
-      | inl before ↦
-          let place : 0 + i ≡ i = omega arith in
-          let below : OperandsBelow i c.args.node = rw (place, e) at (OperandsBelow-at 0 ns i c.requires.ordered h) in
-          let first = c.place_behind_operands-first.ensures i below in
-          absurd (omega arith)
-    ]
+returns-clause-absent c = λ _ i h. c.loop-next.invariant.absent i (omega arith) h
