@@ -97,13 +97,6 @@ pub(crate) fn take(run: &mut Run, insn: Insn, sense: bool) -> Result<(), Fault>
     ensures lawful { IfOk result (λ _. IsLawfulPiece run.new) }
     ensures rule { IfOk result (λ _. IsNamedOn run.old insn sense run.new) }
 {
-    // As `machine_after` does for a test, but only the place is written.
-    if let Insn::Branch(_, _, on_true, on_false) = insn {
-        let next = skip_count(on_true, on_false, sense);
-        run.name.push(sense)?;
-        run.machine.place = run.machine.place + 1 + next as usize;
-        return Ok(());
-    }
     let to = machine_after(run, insn, sense);
     run.name.push(sense)?;
     run.machine = to;

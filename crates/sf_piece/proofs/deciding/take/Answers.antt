@@ -1,21 +1,7 @@
 use Rattle.sf_piece.proofs.Lawful.{lawful_taken}
-use Rattle.sf_piece.proofs.Children.{take_gone, branch_after}
+use Rattle.sf_piece.proofs.Children.{take_gone}
 use Rattle.sf_piece.proofs.Given.{named_on}
 use Rattle.sf_piece.proofs.deciding.take.Goals as goal
-
-pub returns-in-Branch : goal.returns-in-Branch
-returns-in-Branch c =
-    let lawful = rw (← c.run.view_is) at c.requires.lawful in
-    let standing = rw (← c.run.view_is) at c.requires.standing in
-    let foreseen = rw (← c.run.view_is) at c.requires.foreseen in
-    let after = rw (← c.run.view_is) at (branch_after c.args.run.now c.args.insn c.in-Branch.field-0 c.in-Branch.field-1
-    c.in-Branch.on_true c.in-Branch.on_false c.skip_count-next.result c.args.sense c.in-Branch.is
-    c.skip_count-next.ensures) in
-    rw (← c.run.view_is, c.in_ok-push.ensures.ok) (record {
-      gone = take_gone _ c.args.insn c.args.sense _ lawful.run standing foreseen after;
-      lawful = lawful_taken _ c.args.insn c.args.sense _ lawful standing foreseen after;
-      rule = named_on _ c.args.insn c.args.sense _ after;
-    })
 
 pub returns : goal.returns
 returns c =
@@ -23,7 +9,7 @@ returns c =
     let standing = rw (← c.run.view_is) at c.requires.standing in
     let foreseen = rw (← c.run.view_is) at c.requires.foreseen in
     let after = rw (← c.run.view_is) at c.machine_after-to.ensures in
-    rw (← c.run.view_is, c.in_ok-push-2.ensures.ok) (record {
+    rw (← c.run.view_is, c.in_ok-push.ensures.ok) (record {
       gone = take_gone _ c.args.insn c.args.sense c.machine_after-to.result lawful.run standing foreseen after;
       lawful = lawful_taken _ c.args.insn c.args.sense c.machine_after-to.result lawful standing foreseen after;
       rule = named_on _ c.args.insn c.args.sense c.machine_after-to.result after;
