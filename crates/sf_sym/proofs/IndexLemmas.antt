@@ -23,11 +23,11 @@ pub nodes-push : (es : List Interned) (e : Interned) → nodes_of (es ++ e ∷ [
 nodes-push es e = map-append (λ x. x.node) es (e ∷ [])
 
 -- no nodes, and no heads
-pub IsIndexed-none : IsIndexed [] (replicate 509 0)
+pub IsIndexed-none : IsIndexed [] (replicate 127 0)
 IsIndexed-none = record {
-  buckets = length-replicate {A = ℕ} 509 0;
+  buckets = length-replicate {A = ℕ} 127 0;
   linked = λ i l. absurd (omega arith);
-  last = λ hash l. rw (get_or-replicate {A = ℕ} 509 hash 0 0 l) (record {
+  last = λ hash l. rw (get_or-replicate {A = ℕ} 127 hash 0 0 l) (record {
     within = omega arith;
     here = λ i e. absurd (omega arith);
     after = λ i a l. absurd (omega arith);
@@ -35,7 +35,7 @@ IsIndexed-none = record {
 }
 
 pub IsIndexed-push : (es : List Interned) (heads : List ℕ) (e : Interned) → IsIndexed es heads
-    → e.link ≡ get_or heads (hash_of e.node) 0 → hash_of e.node < 509
+    → e.link ≡ get_or heads (hash_of e.node) 0 → hash_of e.node < 127
     → IsIndexed (es ++ e ∷ []) (set heads (hash_of e.node) (length es + 1))
 IsIndexed-push es heads e old last small =
     search (

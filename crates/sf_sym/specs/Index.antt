@@ -5,12 +5,12 @@ use Rattle.sf_sym.specs.declared.index.Interned.{Interned}
 use Rattle.sf_sym.specs.declared.pool.Node.{Node}
 use Rattle.sf_sym.specs.declared.pool.Node.TheVariants.{Const, Word, Bin, Neg}
 
--- equal nodes have the same hash, a number below 509
+-- equal nodes have the same hash, a number below 127
 abbrev pub hash_of : Node → ℕ
-hash_of (Const c) = c % 509
-hash_of (Word i) = i % 509
-hash_of (Bin op a b) = (a.0 % 509 * 31 + b.0 % 509 * 7) % 509
-hash_of (Neg a) = (a.0 % 509 + 5) % 509
+hash_of (Const c) = c % 127
+hash_of (Word i) = i % 127
+hash_of (Bin op a b) = (a.0 % 127 * 31 + b.0 % 127 * 7) % 127
+hash_of (Neg a) = (a.0 % 127 + 5) % 127
 
 -- the nodes, without their links
 abbrev pub nodes_of : List Interned → List Node
@@ -33,6 +33,6 @@ AreLinked es = (i : ℕ) → i < length es → IsLastWithHash (nodes_of es) i
 
 -- nodes are linked, and `heads` has for each hash the place of its last node, counted from 1, or 0 where no node has it
 pub record IsIndexed (es : List Interned) (heads : List ℕ) : Type 0 where
-  pub buckets : length heads ≡ 509
+  pub buckets : length heads ≡ 127
   pub linked : AreLinked es
-  pub last : (hash : ℕ) → hash < 509 → IsLastWithHash (nodes_of es) (length es) hash (slice_index heads hash)
+  pub last : (hash : ℕ) → hash < 127 → IsLastWithHash (nodes_of es) (length es) hash (slice_index heads hash)

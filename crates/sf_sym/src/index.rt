@@ -12,7 +12,7 @@ use std::marker::Model;
 use std::sync::Arc;
 
 /// How many buckets the index has. A hash is the number of a bucket.
-const BUCKETS: usize = 509;
+const BUCKETS: usize = 127;
 
 /// A node, and where to look next for a node of its hash.
 #[derive(Clone, Copy)]
@@ -40,7 +40,7 @@ pub type InternedNodes = SharedList<Interned, 1>;
 /// spread the nodes over the buckets.
 fn hash(node: Node) -> usize
     ensures value { result ≡ hash_of node }
-    ensures within { result < 509 }
+    ensures within { result < 127 }
 {
     match node {
         Node::Const(c) => c as usize % BUCKETS,

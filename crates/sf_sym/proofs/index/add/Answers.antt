@@ -11,7 +11,7 @@ returns-clause-indexed c =
     let heads = c.args.heads.now in
     let node = c.args.node in
     let hash : c.hash-hash.result ≡ hash_of node = c.hash-hash.ensures.value in
-    let small : hash_of node < 509 = omega (arith, hash, c.hash-hash.ensures.within) in
+    let small : hash_of node < 127 = omega (arith, hash, c.hash-hash.ensures.within) in
     let e : Interned = record { node = node; link = get_or heads (hash_of node) 0 } in
     let pushed = c.in_ok-push.ensures.ok in
     let count : c.len.result ≡ length es + 1 = c.len.ensures.value ∙ ap length pushed ∙ length_push es _ in
