@@ -112,8 +112,8 @@ argument_numbered n =
 -- ---- kernels
 
 -- one digit more, where the number has at most four
-abbrev pub more_digits : VersionRead → ℕ → VersionRead
-more_digits v digit =
+abbrev pub with_digit : VersionRead → ℕ → VersionRead
+with_digit v digit =
     if nat_lt (unwrap_or v.digits 0) 1000
     then record { major = v.major; digits = Some (10 * unwrap_or v.digits 0 + digit); wrong = v.wrong }
     else record { major = v.major; digits = v.digits; wrong = true }
@@ -127,7 +127,7 @@ after_point v (Some m) o = record { major = v.major; digits = v.digits; wrong = 
 -- one byte more: two numbers of at most four digits, with a point between them
 abbrev pub version_step : VersionRead → ℕ → VersionRead
 version_step v b =
-    if nat_le 48 b && nat_le b 57 then more_digits v (b - 48)
+    if nat_le 48 b && nat_le b 57 then with_digit v (b - 48)
     else if b == 46 then after_point v v.major v.digits
     else record { major = v.major; digits = v.digits; wrong = true }
 

@@ -21,8 +21,8 @@ abbrev pub is_absent : List ℕ → Data → Bool
 is_absent key d = not (is_some (at key d))
 
 -- an error number is given under a name only where the number is given too
-abbrev pub names_number : List ℕ → List ℕ → Data → Bool
-names_number name number d = is_absent name d || is_some (at number d)
+abbrev pub has_number_if_named : List ℕ → List ℕ → Data → Bool
+has_number_if_named name number d = is_absent name d || is_some (at number d)
 
 -- a number stands only beside an action that has data; an unknown action is refused elsewhere
 abbrev pub takes_number : Option Response → Bool
@@ -33,14 +33,14 @@ abbrev pub fits_action : List ℕ → List ℕ → Data → Bool
 fits_action action number d = is_absent number d || takes_number (response_named (text_where (at action d)) 0)
 
 -- a kernel's version, where a rule may ask for one
-abbrev pub is_kernel : Settings → Data → Bool
-is_kernel s d = is_some s.kernel && is_some (version_of (text_in d))
+abbrev pub is_comparable_kernel : Settings → Data → Bool
+is_comparable_kernel s d = is_some s.kernel && is_some (version_of (text_in d))
 
 -- what a rule includes or excludes
 abbrev pub is_condition : Settings → Data → Bool
 is_condition s d =
     is_object_of condition_keys d && absent_or (is_list_of is_text) (at (codes "arches") d)
-    && absent_or (is_list_of is_text) (at (codes "caps") d) && absent_or (is_kernel s) (at (codes "minKernel") d)
+    && absent_or (is_list_of is_text) (at (codes "caps") d) && absent_or (is_comparable_kernel s) (at (codes "minKernel") d)
 
 -- a comparison
 abbrev pub is_comparison : Data → Bool
@@ -58,7 +58,7 @@ has_names_or_name d =
 -- what a rule does
 abbrev pub is_action_of_rule : List ℕ → List ℕ → List ℕ → Data → Bool
 is_action_of_rule action number name d =
-    present is_text (at action d) && absent_or is_whole_number (at number d) && names_number name number d
+    present is_text (at action d) && absent_or is_whole_number (at number d) && has_number_if_named name number d
     && fits_action action number d
 
 -- a rule whose keys are all known and of their kinds
@@ -75,8 +75,8 @@ abbrev pub can_be_name : Data → Bool
 can_be_name d = is_call_name (text_in d)
 
 -- all names of a rule can be names of calls
-abbrev pub has_names : Data → Bool
-has_names d = list_all can_be_name (listed (at (codes "names") d)) && absent_or can_be_name (at (codes "name") d)
+abbrev pub has_right_names : Data → Bool
+has_right_names d = list_all can_be_name (listed (at (codes "names") d)) && absent_or can_be_name (at (codes "name") d)
 
 -- an action that is known
 abbrev pub knows_action : List ℕ → Data → Bool
@@ -86,8 +86,8 @@ abbrev pub knows_comparison : Data → Bool
 knows_comparison d = is_some (comparing_named (text_where (at (codes "op") d)))
 
 -- the action and the comparisons of a rule are known
-abbrev pub knows_actions : Data → Bool
-knows_actions d = knows_action (codes "action") d && list_all knows_comparison (listed (at (codes "args") d))
+abbrev pub knows_action_and_ops : Data → Bool
+knows_action_and_ops d = knows_action (codes "action") d && list_all knows_comparison (listed (at (codes "args") d))
 
 -- an error number has 16 bits
 abbrev pub has_error_number_or_none : List ℕ → Data → Bool
@@ -110,8 +110,8 @@ has_ranges d =
 abbrev pub rule_refusal : Settings → ℕ → Data → Option Fault
 rule_refusal s n d =
     if not (is_rule s d) then Some (faults.RuleKey n)
-    else if not (has_names d) then Some (faults.RuleName n)
-    else if not (knows_actions d) then Some (faults.RuleActions n)
+    else if not (has_right_names d) then Some (faults.RuleName n)
+    else if not (knows_action_and_ops d) then Some (faults.RuleActions n)
     else if not (has_ranges d) then Some (faults.RuleRange n)
     else None
 
@@ -155,8 +155,8 @@ abbrev pub knows_set : Settings → Option CallSet → Bool
 knows_set s None = false
 knows_set s (Some set) = has_calls s set
 
-abbrev pub is_set : Settings → Data → Bool
-is_set s d = knows_set s (set_named (text_in d))
+abbrev pub names_given_set : Settings → Data → Bool
+names_given_set s d = knows_set s (set_named (text_in d))
 
 -- the entry of `archMap` is the machine's
 abbrev pub is_own_item : Settings → Data → Bool
@@ -164,12 +164,12 @@ is_own_item s d = bytes_eq (text_where (at (codes "architecture") d)) (name_of_s
 
 -- the sets of an entry of `archMap` are known, if it is the machine's
 abbrev pub knows_sets_of_item : Settings → Data → Bool
-knows_sets_of_item s d = not (is_own_item s d) || list_all (is_set s) (listed (at (codes "subArchitectures") d))
+knows_sets_of_item s d = not (is_own_item s d) || list_all (names_given_set s) (listed (at (codes "subArchitectures") d))
 
 -- all sets of the profile are known, and their calls are given
 abbrev pub knows_sets : Settings → Data → Bool
 knows_sets s d =
-    has_calls s s.machine && list_all (is_set s) (listed (at (codes "architectures") d))
+    has_calls s s.machine && list_all (names_given_set s) (listed (at (codes "architectures") d))
     && list_all (knows_sets_of_item s) (listed (at (codes "archMap") d))
 
 -- why a profile is refused, if it is

@@ -3,7 +3,7 @@
 use crate::fault::Fault;
 use crate::keys::{
     PROFILE_KEYS, RULE_KEYS, has_comparisons, has_condition_or_none, has_map, has_rules, is_absent,
-    is_action, is_named, names_number,
+    has_action_fields, is_named, has_number_if_named,
 };
 use crate::refusal::{has_error_number_or_none, has_one_name_or_none, knows_action, profile_in};
 use crate::settings::Settings;
@@ -29,14 +29,14 @@ fn unknown_key<'a>(value: &'a Value, known: &[&str]) -> Option<&'a str> {
     }
 }
 
-/// Which key of an action is missing or wrongly given, where `is_action` has said that one is. `action`, `number` and
+/// Which key of an action is missing or wrongly given, where `has_action_fields` has said that one is. `action`, `number` and
 /// `name` are the three keys: that of the action, of its error number, and of the number's name. The last one is at
 /// fault where it stands without a number.
 fn action_key<'a>(value: &Value, action: &'a str, number: &'a str, name: &'a str) -> &'a str {
     if !has_text(value, action) {
         return action;
     }
-    if names_number(value, name, number) {
+    if has_number_if_named(value, name, number) {
         number
     } else {
         name
@@ -50,7 +50,7 @@ fn key_of_head(value: &Value) -> &str {
     if let Some(key) = unknown_key(value, PROFILE_KEYS.as_slice()) {
         return key;
     }
-    if !is_action(value, "defaultAction", "defaultErrnoRet", "defaultErrno") {
+    if !has_action_fields(value, "defaultAction", "defaultErrnoRet", "defaultErrno") {
         return action_key(value, "defaultAction", "defaultErrnoRet", "defaultErrno");
     }
     if !has_rules(value) {
@@ -76,7 +76,7 @@ fn key_of_rule<'a>(settings: &Settings, value: &'a Value) -> &'a str {
             "name"
         };
     }
-    if !is_action(value, "action", "errnoRet", "errno") {
+    if !has_action_fields(value, "action", "errnoRet", "errno") {
         return action_key(value, "action", "errnoRet", "errno");
     }
     if !has_comparisons(value) {

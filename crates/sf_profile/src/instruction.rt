@@ -50,7 +50,7 @@ fn raw_branch(test: Test, k: u32, on_true: usize, on_false: usize) -> Option<Raw
 }
 
 /// An instruction with this code that skips nothing.
-fn plain(code: u16, k: u32) -> RawInsn
+fn raw_without_jumps(code: u16, k: u32) -> RawInsn
     ensures { result ≡ record { code = code; jt = 0; jf = 0; k = k } }
 {
     RawInsn {
@@ -68,11 +68,11 @@ fn raw_of(instruction: Instruction) -> Option<RawInsn>
     ensures { result ≡ (if is_short instruction then Some (raw_of instruction) else None) }
 {
     match instruction {
-        Instruction::Load(word) => Some(plain(0x20, 4 * u32::from(word))),
-        Instruction::Mask(k) => Some(plain(0x54, k)),
+        Instruction::Load(word) => Some(raw_without_jumps(0x20, 4 * u32::from(word))),
+        Instruction::Mask(k) => Some(raw_without_jumps(0x54, k)),
         Instruction::Branch(test, k, on_true, on_false) => raw_branch(test, k, on_true, on_false),
-        Instruction::Skip(k) => Some(plain(0x05, u32::try_from(k).ok()?)),
-        Instruction::Return(k) => Some(plain(0x06, k)),
+        Instruction::Skip(k) => Some(raw_without_jumps(0x05, u32::try_from(k).ok()?)),
+        Instruction::Return(k) => Some(raw_without_jumps(0x06, k)),
     }
 }
 

@@ -3,7 +3,7 @@
 ghost use Rattle.std.specs.Prelude.{◌≡◌, codes};
 ghost use Rattle.std.specs.List.{list_all};
 ghost use Rattle.serde_json.specs.View.{items_view, view};
-ghost use Rattle.sf_profile.specs.Refusals.{fits_action, has_sets, is_absent, is_action_of_rule, is_comparison, is_array, is_condition, is_kernel, is_map_item, has_names_or_name, is_profile, is_rule, names_number, takes_number};
+ghost use Rattle.sf_profile.specs.Refusals.{fits_action, has_sets, is_absent, is_action_of_rule, is_comparison, is_array, is_condition, is_comparable_kernel, is_map_item, has_names_or_name, is_profile, is_rule, has_number_if_named, takes_number};
 ghost use Rattle.sf_profile.specs.Trees.{absent_or, at, is_object_of, is_list_of, items_in};
 ghost use Rattle.sf_profile.specs.Profiles.{argument_keys, condition_keys, map_keys, profile_keys, rule_keys};
 
@@ -88,8 +88,8 @@ pub(crate) fn is_absent(value: &Value, key: &str) -> bool
 
 /// Whether the key `number` of an error number is there if the key `name` of the number's name is: a name alone isn't
 /// enough.
-pub(crate) fn names_number(value: &Value, name: &str, number: &str) -> bool
-    ensures { result ≡ names_number name.now number.now (view value.now) }
+pub(crate) fn has_number_if_named(value: &Value, name: &str, number: &str) -> bool
+    ensures { result ≡ has_number_if_named name.now number.now (view value.now) }
 {
     is_absent(value, name) || !is_absent(value, number)
 }
@@ -114,19 +114,19 @@ fn fits_action(value: &Value, action: &str, number: &str) -> bool
 
 /// Whether a value is a kernel's version, and the version of the kernel that the profile is read for is given, so that
 /// the two can be compared.
-fn is_kernel(settings: &Settings, value: &Value) -> bool
-    ensures { result ≡ is_kernel settings.now (view value.now) }
+fn is_comparable_kernel(settings: &Settings, value: &Value) -> bool
+    ensures { result ≡ is_comparable_kernel settings.now (view value.now) }
 {
     settings.kernel.is_some() && version_of(text_of(value)).is_some()
 }
 
 /// Whether `minKernel` of a condition is absent, or a version that can be compared with the kernel's.
 fn has_kernel_or_none(settings: &Settings, value: &Value) -> bool
-    ensures { result ≡ absent_or (is_kernel settings.now)
+    ensures { result ≡ absent_or (is_comparable_kernel settings.now)
         (at (codes "minKernel") (view value.now)) }
 {
     match at(value, "minKernel") {
-        Some(kernel) => is_kernel(settings, kernel),
+        Some(kernel) => is_comparable_kernel(settings, kernel),
         None => true,
     }
 }
@@ -208,12 +208,12 @@ pub(crate) fn is_named(value: &Value) -> bool
 /// Whether there is a text at the key `action`, and its error number is well given: at the key `number` is a whole
 /// number or nothing; there is one if the key `name`, of the number's name, is there; and if there is one, the action
 /// takes it. An action that isn't known is refused elsewhere.
-pub(crate) fn is_action(value: &Value, action: &str, number: &str, name: &str) -> bool
+pub(crate) fn has_action_fields(value: &Value, action: &str, number: &str, name: &str) -> bool
     ensures { result ≡ is_action_of_rule action.now number.now name.now (view value.now) }
 {
     has_text(value, action)
         && has_whole_or_none(value, number)
-        && names_number(value, name, number)
+        && has_number_if_named(value, name, number)
         && fits_action(value, action, number)
 }
 
@@ -223,7 +223,7 @@ pub(crate) fn is_rule(settings: &Settings, value: &Value) -> bool
 {
     has_rule_keys(value)
         && is_named(value)
-        && is_action(value, "action", "errnoRet", "errno")
+        && has_action_fields(value, "action", "errnoRet", "errno")
         && has_comparisons(value)
         && has_condition_or_none(settings, value, "includes")
         && has_condition_or_none(settings, value, "excludes")
@@ -298,7 +298,7 @@ pub(crate) fn is_profile(value: &Value) -> bool
     ensures { result ≡ is_profile (view value.now) }
 {
     has_profile_keys(value)
-        && is_action(value, "defaultAction", "defaultErrnoRet", "defaultErrno")
+        && has_action_fields(value, "defaultAction", "defaultErrnoRet", "defaultErrno")
         && has_sets(value)
         && has_rules(value)
 }

@@ -1,7 +1,7 @@
 //! The texts of a profile, and what they stand for.
 
 ghost use Rattle.std.specs.Prelude.{◌≡◌, ◌≤◌, true};
-ghost use Rattle.sf_profile.specs.Profiles.{after_point, arch_name_of_set, argument_numbered, comparing_named, has_data, is_at_least, more_digits, name_of_set, response_named, set_named, up_to, up_to_or, version_of, version_read, version_step};
+ghost use Rattle.sf_profile.specs.Profiles.{after_point, arch_name_of_set, argument_numbered, comparing_named, has_data, is_at_least, with_digit, name_of_set, response_named, set_named, up_to, up_to_or, version_of, version_read, version_step};
 
 use crate::rules::{Argument, CallSet, Comparing, Response};
 
@@ -177,9 +177,9 @@ pub(crate) struct VersionRead {
 
 /// What was read, with one digit more, 0 to 9. If the number would be greater than 9999, the digits stay as they were,
 /// and the text can't be a version.
-fn more_digits(read: VersionRead, digit: u8) -> VersionRead
+fn with_digit(read: VersionRead, digit: u8) -> VersionRead
     requires { digit ≤ 9 }
-    ensures { result ≡ more_digits read digit }
+    ensures { result ≡ with_digit read digit }
 {
     let so_far = read.digits.unwrap_or(0);
     if so_far < 1000 {
@@ -228,7 +228,7 @@ fn version_step(read: VersionRead, byte: u8) -> VersionRead
     ensures { result ≡ version_step read byte }
 {
     if 48 <= byte && byte <= 57 {
-        return more_digits(read, byte - 48);
+        return with_digit(read, byte - 48);
     }
     if byte == 46 {
         return after_point(read);

@@ -108,7 +108,7 @@ fn rule_of(
 }
 
 /// A list of one comparison.
-fn only(alloc: Global, comparison: Comparison) -> Result<Vec<Comparison>, AllocError>
+fn list_of_one(alloc: Global, comparison: Comparison) -> Result<Vec<Comparison>, AllocError>
     ensures { IfOk result (λ v. v.items ≡ comparison ∷ []) }
 {
     let mut comparisons = Vec::new(alloc);
@@ -129,7 +129,7 @@ fn push_each(
         ++ map (rule_of settings.now set (view value.now)) (map (λ c. c ∷ []) comparisons.now)) }
 {
     for comparison in comparisons {
-        let rule = rule_of(alloc, settings, set, value, only(alloc, *comparison)?)?;
+        let rule = rule_of(alloc, settings, set, value, list_of_one(alloc, *comparison)?)?;
         rules.push(rule)?;
     }
     Ok(())

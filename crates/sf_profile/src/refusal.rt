@@ -3,7 +3,7 @@
 ghost use Rattle.std.specs.Prelude.{◌≡◌, codes, map, option_map};
 ghost use Rattle.std.specs.List.{list_all};
 ghost use Rattle.serde_json.specs.View.{view};
-ghost use Rattle.sf_profile.specs.Refusals.{knows_actions, has_argument_range, has_error_number_or_none, can_be_name, has_names, has_ranges, is_own_item, is_set, knows_sets_of_item, knows_action, knows_comparison, knows_set, knows_sets, profile_in, profile_refusal, rule_refusal, rules_refusal};
+ghost use Rattle.sf_profile.specs.Refusals.{knows_action_and_ops, has_argument_range, has_error_number_or_none, can_be_name, has_right_names, has_ranges, is_own_item, names_given_set, knows_sets_of_item, knows_action, knows_comparison, knows_set, knows_sets, profile_in, profile_refusal, rule_refusal, rules_refusal};
 ghost use Rattle.sf_profile.specs.Trees.{absent_or, at};
 
 use crate::fault::Fault;
@@ -16,7 +16,7 @@ use serde_json::Value;
 use sf_names::is_call_name;
 
 /// Whether a value is a text that can be the name of a call: 1 to 64 letters, digits and `_`.
-fn has_name(value: &Value) -> bool
+fn is_name(value: &Value) -> bool
     ensures { result ≡ can_be_name (view value.now) }
 {
     is_call_name(text_of(value))
@@ -26,7 +26,7 @@ fn has_name(value: &Value) -> bool
 fn are_each_names(items: &[Value]) -> bool
     ensures { result ≡ list_all (λ v. can_be_name (view v)) items.now }
 {
-    items.iter().all(|value| has_name(value))
+    items.iter().all(|value| is_name(value))
 }
 
 /// The same as `are_each_names`. For the prover: its clause speaks of the list of the values' JSON trees.
@@ -41,14 +41,14 @@ pub(crate) fn has_one_name_or_none(value: &Value) -> bool
     ensures { result ≡ absent_or can_be_name (at (codes "name") (view value.now)) }
 {
     match at(value, "name") {
-        Some(name) => has_name(name),
+        Some(name) => is_name(name),
         None => true,
     }
 }
 
 /// Whether all names of a rule, at its keys `names` and `name`, can be names of calls.
-fn has_names(value: &Value) -> bool
-    ensures { result ≡ has_names (view value.now) }
+fn has_right_names(value: &Value) -> bool
+    ensures { result ≡ has_right_names (view value.now) }
 {
     are_names(items_at(value, "names")) && has_one_name_or_none(value)
 }
@@ -82,8 +82,8 @@ fn know_comparisons(items: &[Value]) -> bool
 }
 
 /// Whether the action of a rule and the `op` of each of its comparisons are known.
-fn knows_actions(value: &Value) -> bool
-    ensures { result ≡ knows_actions (view value.now) }
+fn knows_action_and_ops(value: &Value) -> bool
+    ensures { result ≡ knows_action_and_ops (view value.now) }
 {
     knows_action(value, "action") && know_comparisons(items_at(value, "args"))
 }
@@ -133,10 +133,10 @@ fn rule_refusal(settings: &Settings, rule: usize, value: &Value) -> Option<Fault
     if !is_rule(settings, value) {
         return Some(Fault::RuleKey { rule });
     }
-    if !has_names(value) {
+    if !has_right_names(value) {
         return Some(Fault::RuleName { rule });
     }
-    if !knows_actions(value) {
+    if !knows_action_and_ops(value) {
         return Some(Fault::RuleActions { rule });
     }
     if !has_ranges(value) {
@@ -170,22 +170,22 @@ fn knows_set(settings: &Settings, set: Option<CallSet>) -> bool
 }
 
 /// Whether a value names a set whose calls are given exactly once.
-fn is_set(settings: &Settings, value: &Value) -> bool
-    ensures { result ≡ is_set settings.now (view value.now) }
+fn names_given_set(settings: &Settings, value: &Value) -> bool
+    ensures { result ≡ names_given_set settings.now (view value.now) }
 {
     knows_set(settings, set_named(text_of(value)))
 }
 
 /// Whether each value names a set whose calls are given exactly once.
 fn are_each_sets(settings: &Settings, items: &[Value]) -> bool
-    ensures { result ≡ list_all (λ v. is_set settings.now (view v)) items.now }
+    ensures { result ≡ list_all (λ v. names_given_set settings.now (view v)) items.now }
 {
-    items.iter().all(|value| is_set(settings, value))
+    items.iter().all(|value| names_given_set(settings, value))
 }
 
 /// The same as `are_each_sets`. For the prover: its clause speaks of the list of the values' JSON trees.
 fn are_sets(settings: &Settings, items: &[Value]) -> bool
-    ensures { result ≡ list_all (is_set settings.now) (map view items.now) }
+    ensures { result ≡ list_all (names_given_set settings.now) (map view items.now) }
 {
     are_each_sets(settings, items)
 }
