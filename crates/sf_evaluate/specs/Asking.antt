@@ -17,14 +17,14 @@ abbrev pub is_given : Text → List Row → Bool
 is_given name rows = is_some (first_of name rows)
 
 -- nothing of a call is given beside the input
-abbrev pub has_only_input : List Row → Bool
-has_only_input rows =
+abbrev pub describes_no_call : List Row → Bool
+describes_no_call rows =
     not (is_given (codes "call") rows || is_given (codes "nr") rows)
     && not (is_given (codes "arch") rows || is_given (codes "args") rows)
 
 -- the architecture of a call is given, and its arguments
-abbrev pub has_arguments : List Row → Bool
-has_arguments rows =
+abbrev pub has_arch_and_arguments : List Row → Bool
+has_arch_and_arguments rows =
     is_given (codes "arch") rows && (is_given (codes "args") rows && are_arguments (text_of (codes "args") rows))
 
 -- there is a file of names
@@ -49,8 +49,8 @@ nr_fits rows =
 -- The words ask for one input: by its bytes, or by a call's name or number, with its architecture and its arguments.
 abbrev pub eval_words_fit : List Row → Bool
 eval_words_fit rows =
-    if is_given (codes "input") rows then has_only_input rows
-    else has_arguments rows && (if is_given (codes "call") rows then call_fits rows else nr_fits rows)
+    if is_given (codes "input") rows then describes_no_call rows
+    else has_arch_and_arguments rows && (if is_given (codes "call") rows then call_fits rows else nr_fits rows)
 
 -- ---- the numbers are narrow enough
 

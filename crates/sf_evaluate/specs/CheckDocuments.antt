@@ -12,8 +12,8 @@ AreListedLines true code d = (lines : List ℕ) × AreInsnLines code lines × (d
 AreListedLines false code d = d ≡ null
 
 -- a filter: its number, how many instructions it has, and their listing
-abbrev pub filter_size_document : (number instructions : ℕ) → (listing : Data) → Data
-filter_size_document number instructions listing = fields (
+abbrev pub filter_object : (number instructions : ℕ) → (listing : Data) → Data
+filter_object number instructions listing = fields (
     (codes "instructions", count instructions)
     ∷ (codes "listing", listing)
     ∷ (codes "number", count number) ∷ [])
@@ -21,7 +21,7 @@ filter_size_document number instructions listing = fields (
 -- a filter with this number, as `check` tells it
 abbrev pub IsFilterDocument : (listed : Bool) → (number : ℕ) → List Insn → Data → Type 0
 IsFilterDocument listed number code d =
-    (listing : Data) × AreListedLines listed code listing × (d ≡ filter_size_document number (length code) listing)
+    (listing : Data) × AreListedLines listed code listing × (d ≡ filter_object number (length code) listing)
 
 -- the filter at a place, counted from 0, as `check` tells it
 abbrev pub IsFilterAt : (listed : Bool) → List (List Insn) → (place : ℕ) → Data → Type 0

@@ -38,12 +38,12 @@ abbrev pub has_rows : List Row → Bool
 has_rows rows = bytes_eq (text_of (codes "rows") rows) (codes "true")
 
 -- what is said of the rows of a comparison needs rows
-abbrev pub has_rows_if_wanted : List Row → Bool
-has_rows_if_wanted rows = has_rows rows || not (is_given (codes "calls") rows || is_given (codes "only") rows)
+abbrev pub has_rows_if_needed : List Row → Bool
+has_rows_if_needed rows = has_rows rows || not (is_given (codes "calls") rows || is_given (codes "only") rows)
 
 -- what is said of the rows of a comparison needs rows, and names a relation
 abbrev pub rows_fit : List Row → Bool
-rows_fit rows = has_rows_if_wanted rows && option_map_or is_relation (first_of (codes "only") rows) true
+rows_fit rows = has_rows_if_needed rows && option_map_or is_relation (first_of (codes "only") rows) true
 
 -- some set has a call with this name
 abbrev pub is_known_call : List NamesData → Text → Bool

@@ -217,7 +217,7 @@ fn push_accept(text: &mut String, found: &ArgMatches<'_>) -> Result<(), AllocErr
 /// Adds the lines of the file that was read last and is refused, where it is a policy (with the place in it that is
 /// refused), a file of names, or the file behind `--accept`; nothing for a filter or a profile. An error where an
 /// allocation is refused.
-fn push_asked(
+fn push_last_read(
     alloc: Global,
     text: &mut String,
     found: &ArgMatches<'_>,
@@ -386,7 +386,7 @@ fn push_place(
         Fault::UnknownName => push_unknown(text, found, notes),
         Fault::Accepted { .. } => push_accept(text, found),
         Fault::Read => push_unread(text, path_at(found, notes.files), reason),
-        _ if is_of_policy_or_names(fault) => push_asked(alloc, text, found, notes),
+        _ if is_of_policy_or_names(fault) => push_last_read(alloc, text, found, notes),
         _ => Ok(()),
     }
 }

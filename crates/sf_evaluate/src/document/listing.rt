@@ -2,7 +2,7 @@
 
 ghost use Rattle.std.specs.Prelude.{◌≡◌, length, map, IfOk};
 ghost use Rattle.serde_json.specs.View.{view};
-ghost use Rattle.sf_evaluate.specs.CheckDocuments.{AreFilterDocuments, IsCheckDocument, IsFilterDocument, AreListedLines, filter_size_document};
+ghost use Rattle.sf_evaluate.specs.CheckDocuments.{AreFilterDocuments, IsCheckDocument, IsFilterDocument, AreListedLines, filter_object};
 
 use crate::texts::push_instructions;
 use sf_check::{Program, Stack};
@@ -23,14 +23,14 @@ fn listing_of(alloc: Global, listed: bool, program: &Program) -> Result<Document
 
 /// The object of a filter: its number, how many instructions it has, and at `listing` the document that `listing_of`
 /// gives. An error where an allocation is refused.
-fn filter_size_document(
+fn filter_object(
     alloc: Global,
     number: usize,
     instructions: usize,
     listing: Document,
 ) -> Result<Document, AllocError>
     ensures { IfOk result (λ d. view d
-        ≡ filter_size_document number instructions (view listing)) }
+        ≡ filter_object number instructions (view listing)) }
 {
     let fields = Fields::new(alloc)
         .with("number", Document::count(number))?
@@ -50,7 +50,7 @@ fn document_of(
     ensures { IfOk result (λ d. IsFilterDocument listed number program.now (view d)) }
 {
     let listing = listing_of(alloc, listed, program)?;
-    filter_size_document(alloc, number, program.insns().len(), listing)
+    filter_object(alloc, number, program.insns().len(), listing)
 }
 
 /// The objects of all filters, in order of installation, numbered from 1, as `document_of` gives them. An error where

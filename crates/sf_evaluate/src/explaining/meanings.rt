@@ -29,7 +29,7 @@ pub(crate) fn meaning_of(fault: &Fault) -> &'static str {
         Fault::Syntax => "the policy is no UTF-8 or no TOML",
         Fault::Input => "the input isn't 128 hexadecimal digits",
         Fault::Mask { .. } => "a value with a bit outside its mask",
-        Fault::Profile(refusal) => meaning_of_refusal(*refusal),
+        Fault::Profile(refusal) => meaning_of_profile_fault(*refusal),
         Fault::NamesKey => {
             "an unknown key, a missing one, a value of another kind, a name with other signs than letters, digits and _, or a set of calls that was there before"
         }
@@ -45,7 +45,7 @@ pub(crate) fn meaning_of(fault: &Fault) -> &'static str {
 }
 
 /// What a fault of a profile means, without the end of a line.
-fn meaning_of_refusal(refusal: sf_profile::Fault) -> &'static str {
+fn meaning_of_profile_fault(refusal: sf_profile::Fault) -> &'static str {
     match refusal {
         sf_profile::Fault::TooLong => "the filter of the profile has more than 4096 instructions",
         sf_profile::Fault::Key | sf_profile::Fault::RuleKey { .. } => {

@@ -6,7 +6,7 @@ ghost use Rattle.clap.specs.Words.{found_of, rows_of};
 ghost use Rattle.sf_command_line.specs.Options.{text_of};
 ghost use Rattle.sf_calls.specs.Numbers.{read_arguments, read_number};
 ghost use Rattle.sf_policy.specs.declared.fault.Fault.TheVariants.{Input as InputFault, UnknownName as NameFault};
-ghost use Rattle.sf_evaluate.specs.Asking.{AsksInput, IsCallInput, LacksName, arch_named, asked_arch, asked_nr, call_fits, eval_words_fit, has_arguments, has_file_of_names, is_arch, is_arch_number, is_given, has_only_input, is_narrow, is_nr_narrow, nr_fits, nr_named, numbers_fit};
+ghost use Rattle.sf_evaluate.specs.Asking.{AsksInput, IsCallInput, LacksName, arch_named, asked_arch, asked_nr, call_fits, eval_words_fit, has_arch_and_arguments, has_file_of_names, is_arch, is_arch_number, is_given, describes_no_call, is_narrow, is_nr_narrow, nr_fits, nr_named, numbers_fit};
 
 use crate::checking::input_of;
 use crate::explaining::Notes;
@@ -27,8 +27,8 @@ pub(crate) fn is_given(found: &ArgMatches<'_>, name: &str) -> bool
 
 /// Whether no option that describes a call is given: neither `--call` nor `--nr`, neither `--arch` nor `--args`. These
 /// don't go with `--input`, which isn't looked at here.
-fn has_only_input(found: &ArgMatches<'_>) -> bool
-    ensures { result ≡ has_only_input (rows_of (found_of found.now)) }
+fn describes_no_call(found: &ArgMatches<'_>) -> bool
+    ensures { result ≡ describes_no_call (rows_of (found_of found.now)) }
 {
     !(is_given(found, "call") || is_given(found, "nr"))
         && !(is_given(found, "arch") || is_given(found, "args"))
@@ -36,8 +36,8 @@ fn has_only_input(found: &ArgMatches<'_>) -> bool
 
 /// Whether `--arch` is given, and behind `--args` stand one to six numbers with commas between them. How many bits the
 /// numbers have isn't asked.
-fn has_arguments(found: &ArgMatches<'_>) -> bool
-    ensures { result ≡ has_arguments (rows_of (found_of found.now)) }
+fn has_arch_and_arguments(found: &ArgMatches<'_>) -> bool
+    ensures { result ≡ has_arch_and_arguments (rows_of (found_of found.now)) }
 {
     is_given(found, "arch") && (is_given(found, "args") && are_arguments(text_of(found, "args")))
 }
@@ -80,9 +80,9 @@ pub fn eval_words_fit(found: &ArgMatches<'_>) -> bool
     ensures { result ≡ eval_words_fit (rows_of (found_of found.now)) }
 {
     if is_given(found, "input") {
-        return has_only_input(found);
+        return describes_no_call(found);
     }
-    if !has_arguments(found) {
+    if !has_arch_and_arguments(found) {
         return false;
     }
     if is_given(found, "call") {

@@ -1,7 +1,7 @@
 //! Words of the command line that don't fit together, in words for a person. No contract speaks of them.
 
 use super::asking::{has_names, is_given};
-use super::settings::tell_wrong_word;
+use super::settings::tell_wrong_profile_word;
 use super::wanted::{calls_fit, push_wrong_calls, push_wrong_rows};
 use clap::ArgMatches;
 use sf_calls::{are_arguments, is_number};
@@ -216,7 +216,7 @@ pub fn tell_wrong_words<E: Write>(
         "audit" => wrong_control_text(alloc, found),
         "eval" => misfit_text(alloc, found),
         "list" | "compare" => wrong_rows_text(alloc, found),
-        _ => return tell_wrong_word(alloc, matches, ran, err),
+        _ => return tell_wrong_profile_word(alloc, matches, ran, err),
     };
     if let Ok(text) = text {
         let _ = err.write_all(text.as_bytes());

@@ -125,7 +125,7 @@ fn caps_fit(found: &ArgMatches<'_>) -> bool
 }
 
 /// Whether a text is empty, as where `--kernel` isn't given, or the version of a kernel, such as 6.12.
-fn is_kernel(text: &str) -> bool
+fn is_kernel_or_none(text: &str) -> bool
     ensures { result ≡ is_kernel_or_none text.now }
 {
     text.is_empty() || version_of(text).is_some()
@@ -138,7 +138,7 @@ pub fn profile_words_fit(found: &ArgMatches<'_>) -> bool
 {
     machine_named(text_of(found, "machine")).is_some()
         && reading_named(text_of(found, "conflicts")).is_some()
-        && is_kernel(text_of(found, "kernel"))
+        && is_kernel_or_none(text_of(found, "kernel"))
         && caps_fit(found)
 }
 
@@ -192,7 +192,7 @@ fn wrong_word<'a>(found: &ArgMatches<'a>) -> Option<(&'static str, &'a str, &'st
         return Some(("--conflicts <RULE>", conflicts, "strictest, mildest, first"));
     }
     let kernel = text_of(found, "kernel");
-    if !is_kernel(kernel) {
+    if !is_kernel_or_none(kernel) {
         return Some((
             "--kernel <X.Y>",
             kernel,
@@ -226,7 +226,7 @@ fn wrong_word_text(alloc: Global, found: &ArgMatches<'_>) -> Result<String, Allo
 /// Writes to standard error which word of the command line isn't one that its option takes, if a run of `profile` ended
 /// for that reason: then `ran` has the status 4. Nothing is written where `ran` is something else, where the matches
 /// name no subcommand, or where there is no memory for the lines. It isn't looked at whether the write succeeds.
-pub(crate) fn tell_wrong_word<E: Write>(
+pub(crate) fn tell_wrong_profile_word<E: Write>(
     alloc: Global,
     matches: &ArgMatches<'_>,
     ran: &Result<u8, Fault>,

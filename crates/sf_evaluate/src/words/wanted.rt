@@ -7,7 +7,7 @@ ghost use Rattle.std.specs.Option.{option_map_or};
 ghost use Rattle.clap.specs.Words.{first_of, found_of, rows_of};
 ghost use Rattle.sf_calls.specs.Numbers.{comma_parts};
 ghost use Rattle.sf_policy.specs.declared.fault.Fault.TheVariants.{Memory as MemoryFault, UnknownName as UnknownNameFault};
-ghost use Rattle.sf_evaluate.specs.Wanted.{are_known, calls_asked, calls_fit, has_rows_if_wanted, is_known_call, is_wanted_once, is_relation, names_in_text, rows_fit};
+ghost use Rattle.sf_evaluate.specs.Wanted.{are_known, calls_asked, calls_fit, has_rows_if_needed, is_known_call, is_wanted_once, is_relation, names_in_text, rows_fit};
 
 use super::asking::{has_names, is_given};
 use crate::explaining::Notes;
@@ -72,8 +72,8 @@ fn only_fits(found: &ArgMatches<'_>) -> bool
 
 /// Whether `--rows` is given, or neither `--calls` nor `--only` is. These two options of `compare` say how rows are
 /// shown, so they need `--rows`. (A switch that is given has the text `true`.)
-fn has_rows_if_wanted(found: &ArgMatches<'_>) -> bool
-    ensures { result ≡ has_rows_if_wanted (rows_of (found_of found.now)) }
+fn has_rows_if_needed(found: &ArgMatches<'_>) -> bool
+    ensures { result ≡ has_rows_if_needed (rows_of (found_of found.now)) }
 {
     text_of(found, "rows") == "true" || !(is_given(found, "calls") || is_given(found, "only"))
 }
@@ -83,7 +83,7 @@ fn has_rows_if_wanted(found: &ArgMatches<'_>) -> bool
 pub fn rows_fit(found: &ArgMatches<'_>) -> bool
     ensures { result ≡ rows_fit (rows_of (found_of found.now)) }
 {
-    has_rows_if_wanted(found) && only_fits(found)
+    has_rows_if_needed(found) && only_fits(found)
 }
 
 /// The names in a text, with commas between them; an empty list where the text is empty. An error where an allocation
