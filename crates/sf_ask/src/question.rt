@@ -45,7 +45,7 @@ impl Model for Question {
 }
 
 /// Whether each byte is from 0x21 to 0x7e.
-fn is_printable_text(bytes: &[u8]) -> bool
+fn is_visible_text(bytes: &[u8]) -> bool
     ensures { result ≡ list_all is_printable bytes.now }
 {
     bytes.iter().all(|byte| 0x21 <= *byte && *byte <= 0x7e)
@@ -70,7 +70,7 @@ impl Question {
     pub fn is_name(text: &str) -> bool
         ensures { result ≡ is_name text.now }
     {
-        1 <= text.len() && text.len() <= 64 && is_printable_text(text.as_bytes())
+        1 <= text.len() && text.len() <= 64 && is_visible_text(text.as_bytes())
     }
 
     /// The question with this name, these ranges and no masks.
