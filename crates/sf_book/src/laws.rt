@@ -50,7 +50,7 @@ pub fn what_is_left_took_fewer_works()
 
 /// For the prover: an exploration of a plain stack with n feasible traces, which ended since nothing was outstanding or
 /// the budget was spent, has nothing outstanding exactly where its budget is at least 2 n - 1.
-pub fn a_budget_is_enough_or_not()
+pub fn the_least_budget_that_leaves_nothing()
     ensures { (b : BookData) → IsSettled b → IsPlainBook b → (b.outstanding ≡ [])
         ⊎ (b.commits ≡ b.budget) →
         (b.outstanding ≡ []) ↔ (2 * length (feasible_traces b.stack) ≤ b.budget + 1) }
