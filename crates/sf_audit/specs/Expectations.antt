@@ -46,19 +46,19 @@ unexpected_line name (Allowed input) = line (codes "unexpected" ∷ name ∷ [])
 unexpected_line name _ = []
 
 -- the line of a question of the audit, if its reply isn't as expected
-abbrev pub expected_line : List (List ℕ) → List ℕ → Reply → List ℕ
-expected_line accepted name reply =
+abbrev pub deviation_line : List (List ℕ) → List ℕ → Reply → List ℕ
+deviation_line accepted name reply =
     if is_accepted accepted name then accepted_line name reply else unexpected_line name reply
 
 -- the lines of questions of the audit whose replies aren't as expected
-abbrev pub expected_lines : List (List ℕ) → List QuestionData → List Reply → List ℕ
-expected_lines accepted (q ∷ qs) (r ∷ rs) = expected_line accepted q.name r ++ expected_lines accepted qs rs
-expected_lines accepted _ _ = []
+abbrev pub deviation_lines : List (List ℕ) → List QuestionData → List Reply → List ℕ
+deviation_lines accepted (q ∷ qs) (r ∷ rs) = deviation_line accepted q.name r ++ deviation_lines accepted qs rs
+deviation_lines accepted _ _ = []
 
 -- the lines behind a report that tell what isn't as expected
 abbrev pub expected_text : ExpectedData → Found → List ℕ
 expected_text e found =
-    control_lines e.control e.held ++ expected_lines e.accepted found.questions found.replies
+    control_lines e.control e.held ++ deviation_lines e.accepted found.questions found.replies
 
 -- the control holds: each of its questions is allowed
 abbrev pub does_hold : List Reply → Bool

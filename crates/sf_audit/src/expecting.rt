@@ -3,7 +3,7 @@
 ghost use Rattle.std.specs.Prelude.{◌≡◌, ◌++◌, IfOk, OnOk, length, map, string_bytes};
 ghost use Rattle.std.specs.List.{list_all};
 ghost use Rattle.sf_audit.specs.Reports.{is_allowed};
-ghost use Rattle.sf_audit.specs.Expectations.{accepted_line, control_line, control_lines, expected_line, expected_lines, expected_text, has_unexpected, is_accepted, is_unexpected, unexpected_line};
+ghost use Rattle.sf_audit.specs.Expectations.{accepted_line, control_line, control_lines, deviation_line, deviation_lines, expected_text, has_unexpected, is_accepted, is_unexpected, unexpected_line};
 
 use crate::counting::is_allowed;
 use crate::outcome::Outcome;
@@ -146,7 +146,7 @@ fn is_accepted(accepted: &[String], name: &str) -> bool
 
 /// Adds the line of an accepted question, where its reply is never: `accepted`, its name, and `never`. Such a question
 /// needn't be accepted any more. Adds nothing for another reply. An error where an allocation is refused.
-fn push_accepted(text: &mut String, name: &str, reply: Reply) -> Result<(), AllocError>
+fn push_needlessly_accepted(text: &mut String, name: &str, reply: Reply) -> Result<(), AllocError>
     ensures { OnOk result (string_bytes text.new ≡ string_bytes text.old
         ++ accepted_line name.now reply) }
 {
@@ -170,23 +170,23 @@ fn push_unexpected(text: &mut String, name: &str, reply: Reply) -> Result<(), Al
 
 /// Adds the line of a question that isn't as expected: it is accepted and its reply is never, or it is allowed and not
 /// accepted. Adds nothing for another question. An error where an allocation is refused.
-fn push_expected(
+fn push_deviation(
     text: &mut String,
     accepted: &[String],
     name: &str,
     reply: Reply,
 ) -> Result<(), AllocError>
     ensures { OnOk result (string_bytes text.new ≡ string_bytes text.old
-        ++ expected_line (map string_bytes accepted.now) name.now reply) }
+        ++ deviation_line (map string_bytes accepted.now) name.now reply) }
 {
     if is_accepted(accepted, name) {
-        push_accepted(text, name, reply)
+        push_needlessly_accepted(text, name, reply)
     } else {
         push_unexpected(text, name, reply)
     }
 }
 
-/// Adds the lines of the questions that aren't as expected, in their order, as `push_expected` adds each. The caller's
+/// Adds the lines of the questions that aren't as expected, in their order, as `push_deviation` adds each. The caller's
 /// condition: `replies` has the reply to each question, in the same order. An error where an allocation is refused.
 fn push_questions(
     text: &mut String,
@@ -196,10 +196,10 @@ fn push_questions(
 ) -> Result<(), AllocError>
     requires { length questions.now ≡ length replies.now }
     ensures { OnOk result (string_bytes text.new ≡ string_bytes text.old
-        ++ expected_lines (map string_bytes accepted.now) questions.now replies.now) }
+        ++ deviation_lines (map string_bytes accepted.now) questions.now replies.now) }
 {
     for (i, question) in questions.iter().enumerate() {
-        push_expected(text, accepted, question.name(), replies[i])?;
+        push_deviation(text, accepted, question.name(), replies[i])?;
     }
     Ok(())
 }

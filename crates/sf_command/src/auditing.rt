@@ -180,7 +180,7 @@ fn audit_filters<R: Threads + Wait + Sync, G: Gate>(
 
 /// The lines behind a report, which say what isn't as expected; empty where `telling` doesn't ask for them, or all is
 /// as expected. An error where an allocation is refused.
-fn behind_of(
+fn lines_behind(
     alloc: Global,
     telling: &Telling<'_>,
     expected: &Expected,
@@ -231,7 +231,7 @@ fn remarks_of(
 
 /// The remarks on the replies of an audit, one for each, if `why`; else an empty list. `Memory` where an allocation is
 /// refused.
-fn asked_remarks(
+fn remarks_if_asked(
     alloc: Global,
     why: bool,
     names: &[Names],
@@ -267,7 +267,7 @@ fn write_audit<O: Write>(
         let document = audit_document(alloc, outcome, expected, telling)?;
         return write_document(alloc, &document, out);
     }
-    let behind = behind_of(alloc, telling, expected, outcome)?;
+    let behind = lines_behind(alloc, telling, expected, outcome)?;
     write_report(
         alloc,
         outcome,
@@ -314,7 +314,7 @@ pub fn audit<R: Threads + Wait + Sync, F: Files, G: Gate, O: Write>(
     let (outcome, expected, origins) = audit_filters(means, &filters, read, options)?;
     notes.warnings = warnings_of_stack(alloc, &filters, outcome.settled());
     notes.warn_of_questions(outcome.questions(), names);
-    let remarks = asked_remarks(alloc, options.why, names, &outcome)?;
+    let remarks = remarks_if_asked(alloc, options.why, names, &outcome)?;
     let telling = Telling {
         regions: options.regions,
         is_expecting: task.asked.is_expecting(),

@@ -1,8 +1,8 @@
 use Rattle.std.proofs.Common.{◌≡◌, ◌++◌, drop, map, string_bytes}
-use Rattle.sf_audit.specs.Expectations.{expected_lines}
+use Rattle.sf_audit.specs.Expectations.{deviation_lines}
 use Rattle.sf_audit.proofs.expecting.push_questions.Given as goal
 
 abbrev pub invariant-loop-i : goal.invariant-loop-i
 invariant-loop-i l = string_bytes l.text
-    ++ expected_lines (map string_bytes l.accepted) (drop l.i l.questions) (drop l.i l.replies)
-    ≡ string_bytes l.initial.text ++ expected_lines (map string_bytes l.accepted) l.questions l.replies
+    ++ deviation_lines (map string_bytes l.accepted) (drop l.i l.questions) (drop l.i l.replies)
+    ≡ string_bytes l.initial.text ++ deviation_lines (map string_bytes l.accepted) l.questions l.replies
