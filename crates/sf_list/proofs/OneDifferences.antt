@@ -23,7 +23,7 @@ use Rattle.sf_rows.specs.InOrder.{IsInOrder}
 use Rattle.sf_rows.specs.InOrderLaws.{one-in-order}
 use Rattle.sf_rows.specs.Pairs.{AddsChanged, AreChangedOf, ArePairsOf, IsLabelOf, pair_order}
 use Rattle.sf_list.specs.Differences.{DifferencesData, IsComparisonWithRows, IsDrawnOfPairs, ShownData, compared_text, differences_text, shown_rows, shown_words}
-use Rattle.sf_list.specs.Documents.{differences_document, drawn_document, pair_document}
+use Rattle.sf_list.specs.Documents.{differences_document, total_if_drawn, pair_document}
 use Rattle.sf_list.proofs.OneListing.{first-is-one}
 
 -- ---- answers
@@ -162,7 +162,7 @@ same-rows-text explored drawn files others old_count m n leaves o p x y f g stac
 -- the document of a comparison with rows
 abbrev document : List NamesData → ShownData → DifferencesData → Data → Data
 document sets shown x comparison =
-    with_field (codes "total") (drawn_document x.picture (total_document sets shown.calls (shown_rows shown.only x)))
+    with_field (codes "total") (total_if_drawn x.picture (total_document sets shown.calls (shown_rows shown.only x)))
     (with_field (codes "rows")
     (rows_document sets (map pair_document x.pairs) shown.calls (shown_rows shown.only x))
     (with_field (codes "calls")

@@ -36,14 +36,14 @@ pair_document both = fields (
     ∷ (codes "old", answer_document both.older) ∷ [])
 
 -- the total of the rows, where a picture was drawn; null where there is none, since a piece is outstanding
-abbrev pub drawn_document : Option PictureData → Data → Data
-drawn_document None total = null
-drawn_document (Some p) total = total
+abbrev pub total_if_drawn : Option PictureData → Data → Data
+total_if_drawn None total = null
+total_if_drawn (Some p) total = total
 
 -- the document of a comparison with further fields: the word for the rows that are shown, these rows, and their total
 abbrev pub rows_compared : List NamesData → ShownData → Compared → DifferencesData → List Data → List RowData → Data
 rows_compared sets shown c x pairs rows =
-    with_field (codes "total") (drawn_document x.picture (total_document sets shown.calls rows))
+    with_field (codes "total") (total_if_drawn x.picture (total_document sets shown.calls rows))
     (with_field (codes "rows") (rows_document sets pairs shown.calls rows)
     (with_field (codes "calls") (calls_document sets pairs shown.calls rows)
     (with_field (codes "shown") (string (shown_words shown.only)) (comparison_document sets c))))

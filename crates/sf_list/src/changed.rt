@@ -126,7 +126,7 @@ pub(crate) fn rows_of(
 }
 
 /// The word for what the rows that are shown have in common: the relation `only`, or `changed` where none is given.
-pub(crate) fn words_of(only: Option<Relation>) -> &'static str
+pub(crate) fn word_of(only: Option<Relation>) -> &'static str
     ensures { result.now ≡ shown_words only }
 {
     match only {
@@ -137,13 +137,13 @@ pub(crate) fn words_of(only: Option<Relation>) -> &'static str
     }
 }
 
-/// Adds the line that counts the lines of the rows: the word of `words_of` for `only`, how many lines there are, and
+/// Adds the line that counts the lines of the rows: the word of `word_of` for `only`, how many lines there are, and
 /// how many of them have several labels.
 fn push_total(text: &mut String, only: Option<Relation>, lines: Lines) -> Result<(), AllocError>
     ensures { OnOk result (string_bytes text.new ≡ string_bytes text.old
         ++ changed_line only lines.count lines.undetermined) }
 {
-    let shown = words_of(only);
+    let shown = word_of(only);
     let count = lines.count;
     let undetermined = lines.undetermined;
     write!(text, "total {shown} {count} undetermined {undetermined}\n")

@@ -3,11 +3,11 @@
 ghost use Rattle.std.specs.Prelude.{◌≡◌, IfErr, IfOk, count_by, map, option_map};
 ghost use Rattle.serde_json.specs.View.{view};
 ghost use Rattle.sf_json.specs.Documents.{answer_document};
-ghost use Rattle.sf_list.specs.Documents.{differences_document, drawn_document, listing_document, pair_document, rows_compared, rows_listed};
+ghost use Rattle.sf_list.specs.Documents.{differences_document, total_if_drawn, listing_document, pair_document, rows_compared, rows_listed};
 ghost use Rattle.sf_list.specs.Listings.{is_whole_listing};
 ghost use Rattle.sf_policy.specs.declared.fault.Fault.TheVariants.{Memory as MemoryFault};
 
-use crate::changed::{Shown, rows_of, words_of};
+use crate::changed::{Shown, rows_of, word_of};
 use crate::differences::Differences;
 use crate::listing::Listing;
 use crate::text::is_whole;
@@ -116,8 +116,8 @@ fn pair_documents(alloc: Global, pairs: &[PartAnswers]) -> Result<Vec<Document>,
 }
 
 /// The total of the rows, where there is a picture; `null` where there is none, since a piece is outstanding.
-fn drawn_document(picture: Option<&Picture>, total: Document) -> Document
-    ensures { view result ≡ drawn_document (option_map (λ p. p.now) picture.entry) (view total) }
+fn total_if_drawn(picture: Option<&Picture>, total: Document) -> Document
+    ensures { view result ≡ total_if_drawn (option_map (λ p. p.now) picture.entry) (view total) }
 {
     match picture {
         Some(_) => total,
@@ -142,9 +142,9 @@ fn rows_compared(
 {
     let pairs = pair_documents(alloc, differences.pairs())?;
     let documents = documents_of_rows(alloc, sets, &pairs, &shown.calls, rows)?;
-    let total = drawn_document(differences.picture(), documents.total);
+    let total = total_if_drawn(differences.picture(), documents.total);
     let fields = comparison_fields(alloc, comparison, sets)?
-        .with("shown", Document::copy_of(alloc, words_of(shown.only))?)?
+        .with("shown", Document::copy_of(alloc, word_of(shown.only))?)?
         .with("calls", documents.calls)?
         .with("rows", documents.rows)?
         .with("total", total)?;
