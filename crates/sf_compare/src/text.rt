@@ -71,7 +71,7 @@ fn push_changes(alloc: Global, text: &mut String, comparison: &Comparison) -> Re
 /// Adds the line with the size of one of the two stacks: how many filters it has, and the length of the path through
 /// them. `which` says which stack it is: `old` or `new`. The caller's condition: there are at most 64 programs. An
 /// error where an allocation is refused.
-fn push_part(text: &mut String, which: &str, programs: &[Program]) -> Result<(), AllocError>
+fn push_stack_size(text: &mut String, which: &str, programs: &[Program]) -> Result<(), AllocError>
     requires { length programs.now ≤ 64 }
     ensures { OnOk result (string_bytes text.new ≡ string_bytes text.old
         ++ part_line which.now programs.now) }
@@ -84,15 +84,15 @@ fn push_part(text: &mut String, which: &str, programs: &[Program]) -> Result<(),
 /// Adds what stands above the relations: the version of the text, the sizes of both stacks, and the counts of the
 /// exploration. The first `old_count` programs are the old stack, and the others the new one. The caller's condition:
 /// the explored stack has at least `old_count` programs. An error where an allocation is refused.
-fn push_sizes(text: &mut String, settled: &Settled, old_count: usize) -> Result<(), AllocError>
+fn push_head(text: &mut String, settled: &Settled, old_count: usize) -> Result<(), AllocError>
     requires { old_count ≤ length settled.now.stack }
     ensures { OnOk result (string_bytes text.new ≡ string_bytes text.old
         ++ sizes_text settled.now old_count) }
 {
     text.push_str("seccomp_audit compare 1\n")?;
     let programs = settled.stack().programs();
-    push_part(text, "old", &programs[..old_count])?;
-    push_part(text, "new", &programs[old_count..])?;
+    push_stack_size(text, "old", &programs[..old_count])?;
+    push_stack_size(text, "new", &programs[old_count..])?;
     push_counts(text, settled.counts())
 }
 
@@ -101,7 +101,7 @@ pub fn text_of_comparison(alloc: Global, comparison: &Comparison) -> Result<Stri
     ensures { IfOk result (λ text. string_bytes text ≡ comparison_text comparison.now) }
 {
     let mut text = String::new(alloc);
-    push_sizes(&mut text, comparison.settled(), comparison.old_count())?;
+    push_head(&mut text, comparison.settled(), comparison.old_count())?;
     push_changes(alloc, &mut text, comparison)?;
     Ok(text)
 }
