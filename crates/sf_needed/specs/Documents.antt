@@ -9,21 +9,21 @@ use Rattle.sf_needed.specs.Needs.{NeedsData}
 use Rattle.sf_needed.specs.Texts.{is_needed, is_spare, is_unsettled_finding}
 
 -- a filter's number, what was found of it, and an example
-abbrev pub found_document : (number : ℕ) → (result : List ℕ) → (example : Data) → Data
-found_document number result example = fields (
+abbrev pub finding_object : (number : ℕ) → (result : List ℕ) → (example : Data) → Data
+finding_object number result example = fields (
     (codes "example", example)
     ∷ (codes "number", count number)
     ∷ (codes "result", string result) ∷ [])
 
 -- a filter that is needed, with the example
 abbrev pub needed_document : ℕ → Input → Data
-needed_document number d = found_document number (codes "needed") (input_document [] d)
+needed_document number d = finding_object number (codes "needed") (input_document [] d)
 
 -- what was found of a filter
 abbrev pub finding_document : ℕ → Change → Data
 finding_document number (Found e) = needed_document number e.input
-finding_document number Never = found_document number (codes "spare") null
-finding_document number Unsettled = found_document number (codes "unsettled") null
+finding_document number Never = finding_object number (codes "spare") null
+finding_document number Unsettled = finding_object number (codes "unsettled") null
 
 -- what was found of filters, the first of which has this number
 abbrev pub finding_documents : ℕ → List Change → List Data

@@ -3,7 +3,7 @@
 ghost use Rattle.std.specs.Prelude.{◌≡◌, ◌<◌, ◌+◌, All, map, IfOk};
 ghost use Rattle.serde_json.specs.View.{view};
 ghost use Rattle.sf_json.specs.Documents.{count};
-ghost use Rattle.sf_needed.specs.Documents.{finding_document, finding_documents, found_document, needed_document, needs_document, size_document, needed_totals_document};
+ghost use Rattle.sf_needed.specs.Documents.{finding_document, finding_documents, finding_object, needed_document, needs_document, size_document, needed_totals_document};
 
 use crate::needs::Needs;
 use sf_compare::Change;
@@ -13,13 +13,13 @@ use std::alloc::{AllocError, Global};
 
 /// A filter as JSON: its number, from 1, the word for what was found of it, and an example; `example` is `null` where
 /// there is none.
-fn found_document(
+fn finding_object(
     alloc: Global,
     number: usize,
     word: &str,
     example: Document,
 ) -> Result<Document, AllocError>
-    ensures { IfOk result (λ d. view d ≡ found_document number word.now (view example)) }
+    ensures { IfOk result (λ d. view d ≡ finding_object number word.now (view example)) }
 {
     let fields = Fields::new(alloc)
         .with("number", Document::count(number))?
@@ -34,7 +34,7 @@ fn needed_document(alloc: Global, number: usize, input: &Input) -> Result<Docume
     ensures { IfOk result (λ d. view d ≡ needed_document number input.now) }
 {
     let example = input_document(alloc, &[], input)?;
-    found_document(alloc, number, "needed", example)
+    finding_object(alloc, number, "needed", example)
 }
 
 /// A filter as JSON: its number, what was found of it, and an example where it is needed.
@@ -42,8 +42,8 @@ fn finding_document(alloc: Global, number: usize, finding: Change) -> Result<Doc
     ensures { IfOk result (λ d. view d ≡ finding_document number finding) }
 {
     match finding {
-        Change::Never => found_document(alloc, number, "spare", Document::null()),
-        Change::Unsettled => found_document(alloc, number, "unsettled", Document::null()),
+        Change::Never => finding_object(alloc, number, "spare", Document::null()),
+        Change::Unsettled => finding_object(alloc, number, "unsettled", Document::null()),
         Change::Found(example) => needed_document(alloc, number, &example.input),
     }
 }
