@@ -29,7 +29,7 @@ use std::thread::Threads;
 
 /// How an audit is done, and what its report lists.
 #[derive(Clone, Copy)]
-pub struct Options {
+pub struct AuditTerms {
     /// The most works that are committed, 1 to 1,000,000.
     pub budget: u32,
     /// The number of workers, 1 to 64.
@@ -86,7 +86,7 @@ pub struct AuditTask<'t, 'p, 'm, 'a> {
     /// Sets of calls, by which calls are named.
     pub names: &'t [Names],
     /// How the audit is done, and what its report lists.
-    pub options: Options,
+    pub terms: AuditTerms,
 }
 
 /// What the files of an `Asked` hold.
@@ -155,11 +155,11 @@ fn audit_filters<R: Threads + Wait + Sync, G: Gate>(
     means: &Means<'_, '_, R, G>,
     filters: &[Vec<u8>],
     read: AskedContents,
-    options: Options,
+    terms: AuditTerms,
 ) -> Result<(Outcome, Expected, Vec<Document>), Fault>
-    requires workers { (0 < options.workers) × (options.workers ≤ 64) }
+    requires workers { (0 < terms.workers) × (terms.workers ≤ 64) }
     ensures found { IfOk result (λ r. IsFoundFor (map (λ f. f.items) filters.now)
-        (read_data read) options.budget r.0 r.1) }
+        (read_data read) terms.budget r.0 r.1) }
     ensures placed { IfOk result (λ r. r.2.items ≡ read.origins.items) }
     ensures refused { IfErr result (λ e. (e ≡ MemoryFault)
         ⊎ IsRefusedFor (map (λ f. f.items) filters.now) (read_data read) e) }
@@ -171,8 +171,8 @@ fn audit_filters<R: Threads + Wait + Sync, G: Gate>(
         accepted,
     } = read;
     let (rt, alloc, gate) = (means.rt, means.alloc, means.gate);
-    let workers = usize::from(options.workers);
-    let outcome = sf_audit::audit(rt, alloc, filters, questions, options.budget, workers, gate)?;
+    let workers = usize::from(terms.workers);
+    let outcome = sf_audit::audit(rt, alloc, filters, questions, terms.budget, workers, gate)?;
     let held = replies_to(means, outcome.settled(), &control, workers)?;
     let expected = Expected::of(control, held, accepted);
     Ok((outcome, expected, origins))
@@ -298,31 +298,31 @@ pub fn audit<R: Threads + Wait + Sync, F: Files, G: Gate, O: Write>(
     notes: &mut Notes,
     out: &mut O,
 ) -> Result<u8, Fault>
-    requires workers { (0 < task.now.options.workers) × (task.now.options.workers ≤ 64) }
+    requires workers { (0 < task.now.terms.workers) × (task.now.terms.workers ≤ 64) }
     ensures written { IfOk result (λ s. AuditsFiles (F.holds files.old) task.now.asked.now
-        task.now.paths.now task.now.names.now task.now.options.budget task.now.options.regions
-        task.now.options.why task.now.options.json s
+        task.now.paths.now task.now.names.now task.now.terms.budget task.now.terms.regions
+        task.now.terms.why task.now.terms.json s
         (O.contents out.old) (O.contents out.new)) }
     ensures status { IfOk result (λ s. s ≤ 2) }
     ensures refused { IfErr result (RefusesAudit (F.holds files.old) task.now.asked.now
         task.now.paths.now) }
     ensures quiet { IfErr result (λ e. (e ≡ WriteFault) ⊎ (out.new ≡ out.old)) }
 {
-    let (alloc, options, names) = (means.alloc, task.options, task.names);
+    let (alloc, terms, names) = (means.alloc, task.terms, task.names);
     let read = read_questions(alloc, task.asked, files, notes)?;
     let filters = read_all(alloc, task.paths, files, notes)?;
-    let (outcome, expected, origins) = audit_filters(means, &filters, read, options)?;
+    let (outcome, expected, origins) = audit_filters(means, &filters, read, terms)?;
     notes.warnings = warnings_of_stack(alloc, &filters, outcome.settled());
     notes.warn_of_questions(outcome.questions(), names);
-    let remarks = remarks_if_asked(alloc, options.why, names, &outcome)?;
+    let remarks = remarks_if_asked(alloc, terms.why, names, &outcome)?;
     let telling = Telling {
-        regions: options.regions,
+        regions: terms.regions,
         is_expecting: task.asked.is_expecting(),
         names,
         origins: &origins,
         remarks: &remarks,
     };
-    write_audit(alloc, options.json, &telling, &expected, &outcome, out)?;
+    write_audit(alloc, terms.json, &telling, &expected, &outcome, out)?;
     let status = status_of_audit(&expected, &outcome);
     files.take_over(outcome);
     Ok(status)

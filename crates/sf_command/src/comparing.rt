@@ -23,7 +23,7 @@ use std::thread::Threads;
 
 /// How a comparison is done, what is written of it, and which relation its exit status is about.
 #[derive(Clone, Copy)]
-pub struct Terms {
+pub struct ComparisonTerms {
     /// The most works that are committed, 1 to 1,000,000.
     pub budget: u32,
     /// The number of workers, 1 to 64.
@@ -50,7 +50,7 @@ pub struct ComparisonTask<'t, 'm, 'a> {
     /// Sets of calls, by which calls are named.
     pub sets: &'t [Names],
     /// How the comparison is done, and what is written of it.
-    pub terms: Terms,
+    pub terms: ComparisonTerms,
     /// Which of the rows in which the answers differ are shown, and how. It counts only where `terms.rows` is set.
     pub shown: &'t Shown<'a>,
 }

@@ -13,8 +13,8 @@ ghost use Rattle.sf_command.specs.Runs.{AreNamed, Audits, Checks, Compares, Eval
 ghost use Rattle.sf_command_line.specs.CommandLine.{IsKnown, errors_at};
 ghost use Rattle.sf_evaluate.specs.Status.{fault_status};
 
-use crate::auditing::{Asked, AuditTask, Options, audit};
-use crate::comparing::{ComparisonTask, Terms, compare};
+use crate::auditing::{Asked, AuditTask, AuditTerms, audit};
+use crate::comparing::{ComparisonTask, ComparisonTerms, compare};
 use crate::listing::{ListingTask, ListingTerms, list};
 use crate::means::Means;
 use crate::needing::{NeededTerms, needed};
@@ -93,7 +93,7 @@ fn run_audit<R: Threads + Wait + Sync, F: Files, M: Meter, O: Write>(
 {
     let names = names_of(means.alloc, found, files, notes)?;
     let paths = found.get_strs("filters").unwrap_or(&[]);
-    let options = Options {
+    let terms = AuditTerms {
         budget: budget_of(found),
         workers: workers_of(found),
         regions: wants_regions(found),
@@ -109,7 +109,7 @@ fn run_audit<R: Threads + Wait + Sync, F: Files, M: Meter, O: Write>(
         asked: &asked,
         paths,
         names: &names,
-        options,
+        terms,
     };
     let gate = watched(found, means.gate);
     audit(&with_gate(means, &gate), &task, files, notes, out)
@@ -239,7 +239,7 @@ fn run_compare<R: Threads + Wait + Sync, F: Files, M: Meter, O: Write>(
     };
     let old = found.get_strs("old").unwrap_or(&[]);
     let new = found.get_strs("new").unwrap_or(&[]);
-    let terms = Terms {
+    let terms = ComparisonTerms {
         budget: budget_of(found),
         workers: workers_of(found),
         asked: relation_of_status(found),
@@ -280,7 +280,7 @@ fn run_list<R: Threads + Wait + Sync, F: Files, M: Meter, O: Write>(
     let names = names_of(means.alloc, found, files, notes)?;
     let calls = known_calls(means.alloc, found, &names, notes)?;
     let paths = found.get_strs("filters").unwrap_or(&[]);
-    let limits = ListingTerms {
+    let terms = ListingTerms {
         budget: budget_of(found),
         workers: workers_of(found),
         leaves: leaves_of(found),
@@ -290,7 +290,7 @@ fn run_list<R: Threads + Wait + Sync, F: Files, M: Meter, O: Write>(
         paths,
         sets: &names,
         calls: &calls,
-        limits,
+        terms,
     };
     let gate = watched(found, means.gate);
     list(&with_gate(means, &gate), &task, files, notes, out)
@@ -313,13 +313,13 @@ fn run_needed<R: Threads + Wait + Sync, F: Files, M: Meter, O: Write>(
         (λ paths. (budget : ℕ) × RefusesNeeds (F.holds files.old) paths budget e)) }
 {
     let paths = found.get_strs("filters").unwrap_or(&[]);
-    let manner = NeededTerms {
+    let terms = NeededTerms {
         budget: budget_of(found),
         workers: workers_of(found),
         json: wants_json(found),
     };
     let gate = watched(found, means.gate);
-    needed(&with_gate(means, &gate), paths, manner, files, notes, out)
+    needed(&with_gate(means, &gate), paths, terms, files, notes, out)
 }
 
 /// Whether the words of the subcommand with this name fit: each option has a word of a form that it takes, and the

@@ -44,7 +44,7 @@ pub struct ListingTask<'t, 'm, 'a> {
     /// inputs that belong to no call with a name then come after these. `None`: each row has a line of its own.
     pub calls: &'t Option<Vec<&'a str>>,
     /// How the listing is done and written.
-    pub limits: ListingTerms,
+    pub terms: ListingTerms,
 }
 
 /// Writes a listing, as text or if `json` as one JSON document. `sets` and `calls` are as in `ListingTask`. Gives
@@ -88,23 +88,23 @@ pub fn list<R: Threads + Wait + Sync, F: Files, G: Gate, O: Write>(
     notes: &mut Notes,
     out: &mut O,
 ) -> Result<u8, Fault>
-    requires workers { (0 < task.now.limits.workers) × (task.now.limits.workers ≤ 64) }
+    requires workers { (0 < task.now.terms.workers) × (task.now.terms.workers ≤ 64) }
     ensures written { IfOk result (λ s. ListsFiles (F.holds files.old) task.now.paths.now
         task.now.sets.now (option_map (λ v. map (λ t. t.now) v.items) task.now.calls.now)
-        task.now.limits.json task.now.limits.budget task.now.limits.leaves s
+        task.now.terms.json task.now.terms.budget task.now.terms.leaves s
         (O.contents out.old) (O.contents out.new)) }
     ensures status { IfOk result (λ s. s ≤ 2) }
     ensures refused { IfErr result (RefusesListing (F.holds files.old) task.now.paths.now) }
     ensures quiet { IfErr result (λ e. (e ≡ WriteFault) ⊎ (out.new ≡ out.old)) }
 {
     let (rt, alloc, gate) = (means.rt, means.alloc, means.gate);
-    let limits = task.limits;
+    let terms = task.terms;
     let filters = read_all(alloc, task.paths, files, notes)?;
-    let workers = usize::from(limits.workers);
-    let leaves = limits.leaves as usize;
-    let listing = sf_list::list(rt, alloc, &filters, limits.budget, workers, leaves, gate)?;
+    let workers = usize::from(terms.workers);
+    let leaves = terms.leaves as usize;
+    let listing = sf_list::list(rt, alloc, &filters, terms.budget, workers, leaves, gate)?;
     notes.warnings = warnings_of_stack(alloc, &filters, listing.settled());
-    let whole = write_listed(alloc, &listing, task.sets, task.calls, limits.json, out)?;
+    let whole = write_listed(alloc, &listing, task.sets, task.calls, terms.json, out)?;
     let status = status_of_listing(whole);
     files.take_over(listing);
     Ok(status)

@@ -45,7 +45,7 @@ fn write_needs<O: Write>(alloc: Global, needs: &Needs, json: bool, out: &mut O) 
 }
 
 /// Reads the filter files, which are named in order of installation. Finds which of the filters are needed, by
-/// comparisons of which each commits at most `manner.budget` works. Writes what is found, and gives the exit status, as
+/// comparisons of which each commits at most `terms.budget` works. Writes what is found, and gives the exit status, as
 /// `status_of_needs` has it. The notes count the files. The gate sees each work before it is committed. The caller's
 /// condition: 1 to 64 workers.
 ///
@@ -55,23 +55,23 @@ fn write_needs<O: Write>(alloc: Global, needs: &Needs, json: bool, out: &mut O) 
 pub fn needed<R: Threads + Wait + Sync, F: Files, G: Gate, O: Write>(
     means: &Means<'_, '_, R, G>,
     paths: &[&str],
-    manner: NeededTerms,
+    terms: NeededTerms,
     files: &mut F,
     notes: &mut Notes,
     out: &mut O,
 ) -> Result<u8, Fault>
-    requires workers { (0 < manner.workers) × (manner.workers ≤ 64) }
-    ensures written { IfOk result (λ s. TellsNeeds (F.holds files.old) paths.now manner.budget
-        manner.json s
+    requires workers { (0 < terms.workers) × (terms.workers ≤ 64) }
+    ensures written { IfOk result (λ s. TellsNeeds (F.holds files.old) paths.now terms.budget
+        terms.json s
         (O.contents out.old) (O.contents out.new)) }
     ensures status { IfOk result (λ s. s ≤ 2) }
-    ensures refused { IfErr result (RefusesNeeds (F.holds files.old) paths.now manner.budget) }
+    ensures refused { IfErr result (RefusesNeeds (F.holds files.old) paths.now terms.budget) }
     ensures quiet { IfErr result (λ e. (e ≡ WriteFault) ⊎ (out.new ≡ out.old)) }
 {
     let (rt, alloc, gate) = (means.rt, means.alloc, means.gate);
     let filters = read_all(alloc, paths, files, notes)?;
-    let workers = usize::from(manner.workers);
-    let needs = sf_needed::needed(rt, alloc, &filters, manner.budget, workers, gate)?;
-    write_needs(alloc, &needs, manner.json, out)?;
+    let workers = usize::from(terms.workers);
+    let needs = sf_needed::needed(rt, alloc, &filters, terms.budget, workers, gate)?;
+    write_needs(alloc, &needs, terms.json, out)?;
     Ok(status_of_needs(&needs))
 }
