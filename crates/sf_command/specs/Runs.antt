@@ -264,6 +264,12 @@ RefusesEval holds rows fault =
     ⊎ ((fault ≡ UnknownName) × (numbers_fit rows ≡ true) × IsUnknown holds rows)
     ⊎ (IsAsked holds rows × OnPaths (codes "filters") rows (λ paths. RefusesCheck holds paths fault))
 
+-- why `needed` is refused, for the filter files that are named and the budget that is given
+abbrev pub RefusesNeedsOf : (Text → Option Text) → List Row → Fault → Type 0
+RefusesNeedsOf holds rows fault = OnPaths (codes "filters") rows
+    (λ paths. (budget : ℕ) × IsOptionNumber (one_of (codes "budget") rows) 1000000 100000 budget
+    × RefusesNeeds holds paths budget fault)
+
 -- why what the named subcommand asks for is refused
 abbrev pub RefusesAs : (Text → Option Text) → Option (Text × List Row) → Fault → Type 0
 RefusesAs holds named fault = ByName
@@ -274,8 +280,7 @@ RefusesAs holds named fault = ByName
     (λ rows. OnCalls holds rows fault (OnPaths (codes "old") rows (λ old. OnPaths (codes "new") rows
     (λ new. RefusesComparison holds old new fault))))
     (λ rows. OnCalls holds rows fault (OnPaths (codes "filters") rows (λ paths. RefusesListing holds paths fault)))
-    (λ rows. OnPaths (codes "filters") rows
-    (λ paths. (budget : ℕ) × RefusesNeeds holds paths budget fault))
+    (λ rows. RefusesNeedsOf holds rows fault)
     (λ rows. RefusesProfile holds rows fault)
     named
 

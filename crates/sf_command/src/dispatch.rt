@@ -6,10 +6,9 @@ ghost use Rattle.sf_policy.specs.declared.fault.Fault.TheVariants.{Memory as Mem
 ghost use Rattle.sf_command.specs.Audits.{AskedData, RefusesAudit};
 ghost use Rattle.sf_command.specs.Comparisons.{RefusesComparison};
 ghost use Rattle.sf_command.specs.Listings.{RefusesListing};
-ghost use Rattle.sf_command.specs.Needs.{RefusesNeeds};
 ghost use Rattle.sf_evaluate.specs.Names.{RefusesNaming};
 ghost use Rattle.sf_evaluate.specs.Outputs.{RefusesCheck};
-ghost use Rattle.sf_command.specs.Runs.{AreNamed, Audits, Checks, Compares, Evaluates, RunsAs, IsAskedFor, IsAskedRelation, Lists, Needs, DoesAsAsked, HasWrongWord, OnCalls, OnNames, OnPaths, RefusesAs, RefusesAsAsked, RefusesEval, RefusesWords, meant_words, relation_of_rows, relation_named, words_fit_for};
+ghost use Rattle.sf_command.specs.Runs.{AreNamed, Audits, Checks, Compares, Evaluates, RunsAs, IsAskedFor, IsAskedRelation, Lists, Needs, DoesAsAsked, HasWrongWord, OnCalls, OnNames, OnPaths, RefusesAs, RefusesAsAsked, RefusesEval, RefusesNeedsOf, RefusesWords, meant_words, relation_of_rows, relation_named, words_fit_for};
 ghost use Rattle.sf_command_line.specs.CommandLine.{IsKnown, errors_at};
 ghost use Rattle.sf_evaluate.specs.Status.{fault_status};
 
@@ -309,8 +308,8 @@ fn run_needed<R: Threads + Wait + Sync, F: Files, M: Meter, O: Write>(
         (O.contents out.old) (O.contents out.new)) }
     ensures status { IfOk result (λ s. s ≤ 2) }
     ensures quiet { IfErr result (λ e. (e ≡ WriteFault) ⊎ (out.new ≡ out.old)) }
-    ensures refused { IfErr result (λ e. OnPaths (codes "filters") (rows_of (found_of found.now))
-        (λ paths. (budget : ℕ) × RefusesNeeds (F.holds files.old) paths budget e)) }
+    ensures refused { IfErr result (λ e. RefusesNeedsOf (F.holds files.old)
+        (rows_of (found_of found.now)) e) }
 {
     let paths = found.get_strs("filters").unwrap_or(&[]);
     let terms = NeededTerms {

@@ -21,5 +21,5 @@ returns-clause-refused g c = IfErr-weaker c.needed.result _ _ (λ e why. (
   c.unwrap_or-paths.result.now,
   rw c.unwrap_or-paths.ensures (paths_found (found_of c.args.found.now)
       (codes "filters") c.get_strs.result _ c.get_strs.ensures refl),
-  (c.budget_of.result, why),
+  (c.budget_of.result, c.budget_of.ensures, why),
 )) c.needed.ensures.refused
