@@ -34,7 +34,9 @@ pub(crate) fn meaning_of(fault: &Fault) -> &'static str {
             "an unknown key, a missing one, a value of another kind, a name with other signs than letters, digits and _, or a set of calls that was there before"
         }
         Fault::NamesRange => "a number outside 0 to 4294967295",
-        Fault::UnknownName => "a name of a call or of a set of calls that no file of names has",
+        Fault::UnknownName => {
+            "a name that no file of names has for a call or a set of calls, or not in the set that --arch names"
+        }
         Fault::Accepted { .. } => {
             "a line that isn't the name of one question: two names, or a name that no question has, or several"
         }
@@ -44,7 +46,9 @@ pub(crate) fn meaning_of(fault: &Fault) -> &'static str {
     }
 }
 
-/// What a fault of a profile means, without the end of a line.
+/// What a fault of `sf_profile` means, in words for a person, without a line break at the end. The number of the rule
+/// isn't in it. It doesn't name every cause: `Key` comes also where the file has no profile, and `Set` also where the
+/// calls of a set are given more than once.
 fn meaning_of_profile_fault(refusal: sf_profile::Fault) -> &'static str {
     match refusal {
         sf_profile::Fault::TooLong => "the filter of the profile has more than 4096 instructions",
