@@ -6,7 +6,7 @@ ghost use Rattle.sf_insn.specs.declared.raw.RawInsn.{RawInsn};
 ghost use Rattle.sf_insn.specs.Inputs.{IsInput, input_bytes};
 ghost use Rattle.sf_insn.specs.Spelling.{spelling, AreInsns};
 
-/// Bytes spell at most one list of instructions, so `decode` and `encode` undo each other.
+/// Bytes spell at most one list of instructions. So `decode` and `encode` undo each other, where both give a result.
 pub fn one_spelling()
     ensures { (a b : List RawInsn) → AreInsns a → AreInsns b
         → spelling a ≡ spelling b → a ≡ b }
