@@ -16,8 +16,8 @@ const SHORT: usize = 8;
 
 /// The tests of a program that ask whether A equals a number, and the chains that they make. A chain is a list of
 /// places: at each of them but the last one stands such a test, which leads to the next place of the chain where A is
-/// another number. Each place of the program is in exactly one chain. A place to which several tests lead is in the
-/// chain of the first of these tests.
+/// another number. Each place of the program is in exactly one chain. A place to which several tests lead when they
+/// fail is in the chain of the first of these tests.
 #[derive(Debug, Drop)]
 pub(crate) struct EqualTests {
     // The tests, each as one number (`key_of`), ascending. So the tests of one chain that ask for one number stand
@@ -49,9 +49,9 @@ fn key_of(chain: u16, number: u32, place: usize) -> u64
     4096 * (0x1_0000_0000 * chain as u64 + number as u64) + place as u64
 }
 
-/// If the instruction at `place` tests whether A equals a number other than `number`: the place to which it leads where
-/// A is `number`, since the test fails then. `None` where it is another kind of instruction, or asks for `number`. The
-/// caller's condition: `place` is a place of the program, which has at most 4096 instructions.
+/// The place to which the instruction at `place` leads where A is `number`, if it is a test whether A equals another
+/// number: such a test fails then. `None` where it is no test whether A equals a constant, or where it asks for
+/// `number`. The caller's condition: `place` is a place of the program, which has at most 4096 instructions.
 fn next_where_it_fails(insns: &[Insn], place: usize, number: u32) -> Option<usize>
     requires inside { place < length insns.now }
     requires short { length insns.now ≤ 4096 }
@@ -70,8 +70,9 @@ fn next_where_it_fails(insns: &[Insn], place: usize, number: u32) -> Option<usiz
     }
 }
 
-/// The places from 0 to `size` - 1, in order. As a table this makes each place a chain of its own. The caller's
-/// condition: `size` is at most 4096, so that a place fits a `u16`. `AllocError` where an allocation is refused.
+/// The places from 0 to `size` - 1, in order. As a table of chains, or of their last places, this makes each place a
+/// chain of its own. The caller's condition: `size` is at most 4096, so that a place fits a `u16`. `AllocError` where
+/// an allocation is refused.
 fn own_places(alloc: Global, size: usize) -> Result<Vec<u16>, AllocError>
     requires { size ≤ 4096 }
     ensures { IfOk result (λ places. AreOwn places.items size) }
@@ -83,9 +84,12 @@ fn own_places(alloc: Global, size: usize) -> Result<Vec<u16>, AllocError>
     Ok(places)
 }
 
-/// Puts `next` into the chain of the test at `place`, which leads there where it fails. Where an earlier test has put
-/// `next` into its chain, nothing changes. The caller's condition: `next` is in the program, and of all tests exactly
-/// those before `place` were joined so far.
+/// Puts `next` into the chain of `place`, as its new last place, one step behind `place`. Where an earlier test has put
+/// `next` into a chain already, nothing changes. `chains`, `steps` and `lasts` are tables as `EqualTests` has them.
+///
+/// The caller's condition: there are at most 4096 instructions, at `place` stands a test whether A equals a number, and
+/// `next` is where it leads when it fails, a place of the program. Of all such tests exactly those before `place` were
+/// joined so far.
 fn join(
     insns: &[Insn],
     chains: &mut [u16],
@@ -111,9 +115,9 @@ fn join(
     }
 }
 
-/// Makes the chains: joins the tests one by one, in order of their places. The caller's condition: there are at most
-/// 4096 instructions, each test leads to one of them, and in the tables that are handed in each place is a chain of its
-/// own.
+/// Makes the chains: joins the tests that ask whether A equals a number, one by one, in order of their places. The
+/// caller's conditions: there are at most 4096 instructions; each such test leads to one of them when it fails; and in
+/// the tables `chains`, `steps` and `lasts` each place is still a chain of its own.
 fn join_all(insns: &[Insn], chains: &mut [u16], steps: &mut [u16], lasts: &mut [u16])
     requires short { length insns.now ≤ 4096 }
     requires inside { LeadInside insns.now }
@@ -159,10 +163,13 @@ fn count_below(keys: &[u64], key: u64) -> usize
     keys.partition_point(|k| *k < key)
 }
 
-/// The first place of the chain of `place`, from there on, whose test asks for `number`; or `last`, where no test
-/// before `last` asks for it. The place is found by its key, without going through the tests before it. The contract
-/// says only that no test of the chain from `place` on and before the result asks for `number`. The caller's condition:
-/// `keys` and `chains` are the tables of the program, and `last` is the last place of the chain of `place`.
+/// In the chain of `place`, from `place` on, the first place whose test asks for `number`; `last` where no test before
+/// `last` asks for it. The place is found by its key, without going through the tests before it. The contract says
+/// less: the result is a place of this chain, not before `place`, and no test of the chain from `place` on and before
+/// the result asks for `number`.
+///
+/// The caller's condition: `insns` are a program of at most 4096 instructions, `keys` and `chains` are its tables, and
+/// `last` is the last place of the chain of `place`.
 fn find_test_or_last(
     insns: &[Insn],
     keys: &[u64],
@@ -220,8 +227,8 @@ impl EqualTests {
         })
     }
 
-    /// How many tests of a chain lead from its place `from` to its place `to`. The caller's condition: both places are
-    /// in the program, and `to` doesn't stand before `from` in the chain.
+    /// How many tests of a chain lead from its place `from` to its place `to`. The caller's condition: both are places
+    /// of the program, in the same chain, and `to` doesn't stand before `from`.
     fn steps_between(&self, from: usize, to: usize) -> usize
         requires from { from < length self.now.steps.items }
         requires to { to < length self.now.steps.items }
@@ -233,10 +240,11 @@ impl EqualTests {
         (self.steps[to] - self.steps[from]) as usize
     }
 
-    /// Skips tests in the chain of `place`, from there on, that ask for other numbers than `number`: up to the first
-    /// one that asks for `number`, or up to the last place of the chain. A look-up finds that place. Where the last
-    /// place is near (`SHORT`), none is skipped: the caller then looks at each test. The caller's condition: the tables
-    /// are those of `insns`, and `place` is a place of this program.
+    /// Skips the tests of the chain of `place`, from `place` on, that stand before the first one that asks for
+    /// `number`; where none asks for it, those before the last place of the chain. A look-up finds where this ends
+    /// (`find_test_or_last`). Where the last place of the chain is at most `SHORT` instructions behind `place`, no test
+    /// is skipped: the caller then looks at each one. The caller's condition: the tables are those of `insns`, and
+    /// `place` is a place of this program.
     fn skip_in_chain(&self, insns: &[Insn], place: usize, number: u32) -> Skipped
         requires tables { AreEqualTests insns.now self.now.keys.items self.now.chains.items
             self.now.steps.items self.now.lasts.items }
@@ -259,10 +267,10 @@ impl EqualTests {
         }
     }
 
-    /// Skips the tests from `place` on that ask whether A equals another number than `number`. Each of them stands
-    /// where the one before it leads when it fails. They may be in several chains. No test for another number stands at
-    /// the place behind them. The caller's condition: the tables are those of `insns`, and `place` is a place of this
-    /// program.
+    /// Skips tests one after the other, from `place` on: each asks whether A equals a number other than `number`, and
+    /// stands where the one before it leads when it fails. They may be in several chains. This ends at the first place
+    /// where no such test stands. The caller's condition: the tables are those of `insns`, and `place` is a place of
+    /// this program.
     pub(crate) fn skip_others(&self, insns: &[Insn], place: usize, number: u32) -> Skipped
         requires tables { AreEqualTests insns.now self.now.keys.items self.now.chains.items
             self.now.steps.items self.now.lasts.items }
@@ -273,8 +281,8 @@ impl EqualTests {
             mut count,
             mut behind,
         } = self.skip_in_chain(insns, place, number);
-        // A test for another number still stands there: it is skipped by itself, then those of the chain to which it
-        // leads.
+        // A test for another number still stands there: it is skipped by itself, and then those that `skip_in_chain`
+        // skips where it leads.
         while let Some(next) = next_where_it_fails(insns, behind, number) {
             let more = self.skip_in_chain(insns, next, number);
             count += 1 + more.count;
