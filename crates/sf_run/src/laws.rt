@@ -39,8 +39,8 @@ pub fn no_whole_route_begins_another()
 {}
 
 /// In a lawful stack, a replay along the trace of an input gives the values that the programs return on it, newest
-/// first, and no truth value is left. The law is of values below 2^32: in a definition a value may be any number, in
-/// code all are below it.
+/// first, and no truth value is left. The condition: each of these values is below 2^32. The code's values always are,
+/// but those of the definitions may be any numbers.
 pub fn traces_replay_the_returns()
     ensures { (programs : List (List Insn)) (d : Input) → IsLawfulStack programs
         → All (λ v. v < 2 ^ 32) (returns_of programs d)
@@ -60,7 +60,8 @@ pub fn all_inputs_are_listed()
 {}
 
 /// `feasible_traces` is a list of the feasible traces of a stack: it has each trace that some input has, once, and
-/// nothing else. They are in the order of names, with false before true. So each stack, lawful or not, has such a list.
+/// nothing else. They are in lexicographic order, with false before true. So each stack, lawful or not, has such a
+/// list.
 pub fn each_stack_has_its_feasible_traces()
     ensures { (programs : List (List Insn)) → AreFeasibleTraces programs
         (feasible_traces programs) }

@@ -42,10 +42,10 @@ fn next_number(met: &[bool]) -> Option<(u32, &[bool])>
     Some((number, left))
 }
 
-/// Where control leads from the instruction at `place`, and the truth values that are left. A test takes the next truth
-/// value as its result, and a division by X takes it as whether X is 0. A return of A takes the next 32 as the bits of
-/// A, the highest first. Any other instruction takes none. `None` where there are too few. The caller's condition:
-/// `place` is below 4096.
+/// Where control leads from the instruction at `place`, and the truth values of `met` that are left. A test takes the
+/// next truth value as its result. A division by X takes the next one as whether X is 0; where X is 0, the program
+/// returns 0. A return of A takes the next 32 as the bits of A, the highest first. Any other instruction takes none.
+/// `None` where there are too few truth values. The caller's condition: `place` is below 4096.
 fn follow<'a>(place: usize, insn: &Insn, met: &'a [bool]) -> Option<(Next, &'a [bool])>
     requires small { place < 4096 }
     ensures { option_map (λ r. (r.0, r.1.now)) result ≡ lead_of place insn.now met.now }

@@ -56,10 +56,12 @@ fn push_program(met: &mut Vec<bool>, program: &Program, input: &Input) -> Result
     }
 }
 
-/// The truth values that the stack meets on the input, newest program first: the result of each conditional test; at
-/// each division by X whether X is 0; at each return of A the 32 bits of A, the highest first. At most 32768 + 32 * 64
-/// of them: one for each instruction of the longest path, and 32 for each program's return. `Memory` where an
-/// allocation is refused.
+/// The truth values that the stack meets on the input, in order, the newest program first. A conditional test gives its
+/// result. A division by X gives whether X is 0. A return of A gives the 32 bits of A, the highest first. `Memory`
+/// where an allocation is refused.
+///
+/// There are at most 32768 + 32 * 64 of them: the programs of a stack have at most 32768 instructions together, a run
+/// comes to each of them at most once, and each of at most 64 programs returns once.
 pub fn trace(alloc: Global, stack: &Stack, input: &Input) -> Result<Vec<bool>, Fault>
     ensures met { IfOk result (λ v. v.items ≡ trace_of stack.now input.now) }
 {

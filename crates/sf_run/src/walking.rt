@@ -28,8 +28,8 @@ pub enum Met {
 pub struct Meeting {
     /// The place of the instruction, from 0.
     pub place: usize,
-    /// The word of the input, 0 to 15, that A holds there, if it holds one: that word was loaded into A, and no other
-    /// value was put there since.
+    /// The word of the input, 0 to 15, that A is known to hold there: the last instruction that set A loaded this word.
+    /// `None` where A was set in another way, even to the value of a word, or wasn't set at all.
     pub word: Option<u8>,
     /// What it meets.
     pub met: Met,
@@ -40,9 +40,9 @@ pub struct Meeting {
 pub struct Course {
     /// What was met, in order.
     pub met: Vec<Meeting>,
-    /// The place of the instruction that returned.
+    /// The place of the instruction at which the program returned: a return, or a division by an X of 0.
     pub place: usize,
-    /// The value that it returned.
+    /// The value that the program returned.
     pub value: u32,
 }
 
@@ -79,9 +79,9 @@ pub(crate) fn what_is_met(machine: &Machine, insn: &Insn) -> Option<Met>
     }
 }
 
-/// The word of the input that A is known to hold after an instruction, where `word` is what A was known to hold before
-/// it. `None` where A isn't known to hold one: none was loaded yet, or A was last set in another way than by a load of
-/// a word of the input, even if it still has the same value.
+/// The word of the input, 0 to 15, that A is known to hold after an instruction. `word` is the one that A was known to
+/// hold before it. A load of a word of the input into A gives this word. Any other instruction that sets A gives
+/// `None`, even if A keeps its value. The others leave `word` as it is.
 fn word_after(word: Option<u8>, insn: &Insn) -> Option<u8>
     ensures { result ≡ word_after word insn.now }
 {
@@ -106,8 +106,9 @@ fn word_after(word: Option<u8>, insn: &Insn) -> Option<u8>
     }
 }
 
-/// Adds what the instruction at `place` meets, if it meets anything. `word` is the word of the input that A holds
-/// there, if it is known to hold one. `Memory` where an allocation is refused; nothing is added then.
+/// Adds to `met` what the instruction at `place` meets, if it meets anything. `machine` is the machine before the
+/// instruction runs. `word` is the word of the input that A is known to hold then, if any. `Memory` where an allocation
+/// is refused; nothing is added then.
 fn push_meeting(
     met: &mut Vec<Meeting>,
     machine: &Machine,
