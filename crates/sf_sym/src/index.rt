@@ -58,8 +58,8 @@ fn is_same(a: Node, b: Node) -> bool
     a == b
 }
 
-/// The place of a node that is equal to this one, the newest such node; `None` where there is none. The nodes of its
-/// bucket are compared with it, the newest first. The caller's condition: `heads` and the links are right for the
+/// The place of the newest node that is equal to `node`; `None` where no node is. Only the nodes in the bucket of
+/// `node` are compared with it, the newest first. The caller's condition: `heads` and the links are right for the
 /// nodes, as `Indexed` keeps them.
 fn place_of(interned_nodes: &InternedNodes, heads: &[u32], node: Node) -> Option<usize>
     requires indexed { IsIndexed interned_nodes.now heads.now }
@@ -122,7 +122,7 @@ impl Model for Indexed {
 }
 
 impl Indexed {
-    /// No nodes. `AllocError` where an allocation is refused.
+    /// An `Indexed` without nodes. `AllocError` where an allocation is refused.
     pub fn new(alloc: Global) -> Result<Indexed, AllocError>
         ensures { IfOk result (λ n. n ≡ []) }
     {
@@ -148,7 +148,7 @@ impl Indexed {
         self.interned_nodes.get(i).node
     }
 
-    /// The place of a node that is equal to this one, the newest such node; `None` where there is none.
+    /// The place of the newest node that is equal to `node`; `None` where no node is.
     pub fn find(&self, node: Node) -> Option<usize>
         ensures found { (i : ℕ) → result ≡ Some i → (i < length self.now)
             × (node_at self.now i ≡ node) }
@@ -171,8 +171,9 @@ impl Indexed {
         Ok(at)
     }
 
-    /// A copy with one more node, and the place of this node. `AllocError` where an allocation is refused, where there
-    /// are 2^31 + 16 nodes already, or where blocks of nodes have too many owners.
+    /// A copy with one more node at the end, even if an equal one is there, and the place of this node. `AllocError`
+    /// where an allocation is refused, where there are 2^31 + 16 nodes already, or where blocks of nodes have too many
+    /// owners.
     pub fn with(&self, node: Node) -> Result<(Arc<Indexed>, usize), AllocError>
         ensures { IfOk result (λ r. (arc_value r.0 ≡ self.now ++ node ∷ [])
             × (r.1 ≡ length self.now)) }
@@ -187,9 +188,9 @@ impl Indexed {
     }
 }
 
-/// Adds a node at the end, even if an equal one is there, and gives its place. Where other pools share the nodes, it is
-/// added to a copy, and theirs stay as they are. `AllocError` where an allocation is refused, where there are 2^31 + 16
-/// nodes already, or where blocks of nodes have too many owners; nothing is added then.
+/// Adds a node at the end, even if an equal one is there, and gives its place. Where other pools share the nodes,
+/// `nodes` becomes a copy with the new node, and theirs stay as they are. `AllocError` where an allocation is refused,
+/// where there are 2^31 + 16 nodes already, or where blocks of nodes have too many owners; nothing is added then.
 pub fn add_to(nodes: &mut Arc<Indexed>, node: Node) -> Result<usize, AllocError>
     ensures place { IfOk result (λ at. at ≡ length (arc_value nodes.old)) }
     ensures ok { OnOk result (arc_value nodes.new ≡ arc_value nodes.old ++ node ∷ []) }

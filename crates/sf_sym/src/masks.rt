@@ -20,9 +20,9 @@ pub struct MaskedWord {
     pub mask: u32,
 }
 
-/// A node as a word of the input under a mask, where it is such a word, or comes of one by ANDs with constants. On each
-/// input the node's value is the word's number under the mask. `None` for any other node. The caller's condition: the
-/// node is in the pool.
+/// A node as a word of the input under a mask, where it is a word of the input, or comes of one by ANDs with constants.
+/// The mask is the AND of these constants, 0xffffffff where there are none. On each input the node's value is the AND
+/// of the word and the mask. `None` for any other node. The caller's condition: the node is in the pool.
 pub fn masked_word(pool: &Pool, id: NodeId) -> Option<MaskedWord>
     requires { id.0 < length pool.now }
     ensures inside { IfSome result (λ m. m.word < 16) }

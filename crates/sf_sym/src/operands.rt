@@ -10,10 +10,10 @@ ghost use Rattle.sf_sym.specs.Operands.{IsSwappable, constant_operand_of};
 use crate::pool::{Node, Pool, constant_of};
 use sf_insn::BinOp;
 
-/// Where the node at `at` is an operation on a constant and a node that isn't one: the operation, the place of the node
-/// that isn't one, and the constant. `None` where the node at `at` is any other node. It isn't said which operand comes
-/// first: callers only rely on the result for AND, OR and XOR, where that doesn't matter. The caller's condition: `at`
-/// is a place of the pool.
+/// The operation of the node at `at`, the place of its operand that is no constant, and the constant that is its other
+/// operand. `None` where the node is no operation on two nodes, or where both of these or neither are constants. The
+/// result doesn't say which operand comes first: for AND, OR and XOR that doesn't matter, and callers rely on it for no
+/// other operation. The caller's condition: `at` is a place of the pool.
 pub fn constant_operand(pool: &Pool, at: usize) -> Option<(BinOp, usize, u32)>
     requires { at < length pool.now }
     ensures operand { result ≡ constant_operand_of pool.now (node_at pool.now at) }
