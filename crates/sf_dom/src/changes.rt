@@ -16,8 +16,10 @@ use sf_insn::Test;
 use sf_sym::{Cond, Pool};
 use std::alloc::Global;
 
-/// The excluded numbers, with those that a condition adds: it adds some only where it says that its two nodes differ.
-/// `Memory` where an allocation is refused.
+/// A copy of the excluded numbers. Where the condition says that its two nodes differ, the numbers that it excludes are
+/// added to the copy (`exclude_each_other`); no other condition adds any. `Memory` where an allocation is refused, or
+/// where something that is shared has too many owners. The caller's condition: `nodes` are those of the pool, and the
+/// condition's nodes are in it.
 fn with_excluded_by(
     alloc: Global,
     excluded: &Excluded,
@@ -43,10 +45,10 @@ fn with_excluded_by(
     }
 }
 
-/// What a condition leaves of the facts that `nodes` and `excluded` are; `None` where some node is left no number.
-/// `Memory` where an allocation is refused. The caller's condition: they are facts of the pool, and the condition's
-/// nodes are in it.
-/// Nodes are copied only where the condition leaves both of its nodes a number.
+/// Copies of `nodes` and `excluded` that have taken in a condition; `None` where this shows that some node is left no
+/// number. The nodes are copied only where `pair_left` leaves both of the condition's nodes a number. `Memory` where an
+/// allocation is refused, or where something that is shared has too many owners. The caller's condition: `nodes` and
+/// `excluded` are those of one `Facts` of the pool, and the condition's nodes are in the pool.
 pub(crate) fn learn_cond(
     alloc: Global,
     nodes: &Nodes,
@@ -81,9 +83,10 @@ pub(crate) fn learn_cond(
     Ok(Some((left, lists)))
 }
 
-/// What is left of the nodes where `more` is known of a word, 0 to 15; `None` where a node is left no number. `Memory`
-/// where an allocation is refused. The caller's condition: `nodes` and `excluded` are facts of the pool.
-/// Nodes are copied only where the word is left a number.
+/// A copy of `nodes` in which `more` is known of a word, 0 to 15, with what follows from it by a forward pass
+/// (`propagate`); `None` where this shows that some node is left no number. The nodes are copied only where the word is
+/// left a number. `Memory` where an allocation is refused, or where something that is shared has too many owners. The
+/// caller's condition: `nodes` and `excluded` are those of one `Facts` of the pool.
 pub(crate) fn restrict(
     alloc: Global,
     nodes: &Nodes,

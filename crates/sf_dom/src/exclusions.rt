@@ -18,6 +18,7 @@ use std::sync::Arc;
 /// none, nothing is allocated.
 #[derive(Drop)]
 pub(crate) struct Exclusions {
+    /// The numbers, which copies share; `None` where there are none.
     numbers: Option<Arc<Numbers>>,
 }
 
@@ -52,7 +53,8 @@ fn are_among(numbers: &Numbers, others: &Exclusions) -> bool
     true
 }
 
-/// A list of numbers, or none, with one number more. `Memory` where an allocation is refused.
+/// The numbers of a list with one more, which may be among them already. `None` stands for a list without numbers.
+/// `Memory` where an allocation is refused, or where the older numbers have too many owners.
 fn with_number(alloc: Global, numbers: &Option<Arc<Numbers>>, number: u32) -> Result<Numbers, Fault>
     ensures { IfOk result (λ v. (n : ℕ) → Contains v n
         ↔ (Contains (shared_numbers numbers.now) n ⊎ (n ≡ number))) }
@@ -96,7 +98,8 @@ impl Exclusions {
         }
     }
 
-    /// The numbers with one more; `None` where it is among them already. `Memory` where an allocation is refused.
+    /// The numbers with one more; `None` where it is among them already. `Memory` where an allocation is refused, or
+    /// where the older numbers have too many owners.
     fn with_number(&self, alloc: Global, number: u32) -> Result<Option<Exclusions>, Fault>
         ensures { IfOk result (λ o. MatchOption o
             (Contains self.now number)
@@ -111,7 +114,7 @@ impl Exclusions {
         }))
     }
 
-    /// Whether each number is among the others.
+    /// Whether each of these numbers is among the others.
     fn is_among(&self, others: &Exclusions) -> bool
         ensures { IsTrue result ↔ ((n : ℕ) → Contains self.now n → Contains others.now n) }
     {
@@ -155,6 +158,7 @@ fn copy_all(lists: &Lists, copies: &mut Lists) -> Result<(), Fault>
 /// The numbers that each of the sixteen words does not have. Copies share all lists, until a word gets another number.
 #[derive(Drop)]
 pub(crate) struct Excluded {
+    /// The numbers of each word, which copies share.
     lists: Arc<Lists>,
 }
 
@@ -170,7 +174,7 @@ impl Model for Excluded {
 }
 
 impl Excluded {
-    /// These lists. `Memory` where an allocation is refused.
+    /// The excluded numbers of all words, by these lists. `Memory` where an allocation is refused.
     fn of(alloc: Global, lists: Lists) -> Result<Excluded, Fault>
         ensures { IfOk result (λ e. e ≡ lists) }
     {
@@ -213,8 +217,8 @@ impl Excluded {
         })
     }
 
-    /// Adds a number to those of a word, 0 to 15. `Memory` where an allocation is refused; the lists then stay as they
-    /// were.
+    /// Adds a number to those of a word, 0 to 15. Nothing changes where it is among them already. `Memory` where an
+    /// allocation is refused, or where numbers that are shared have too many owners; the lists then stay as they were.
     pub(crate) fn add(&mut self, alloc: Global, word: usize, number: u32) -> Result<(), Fault>
         requires { word < 16 }
         ensures ok { IfOk result (λ _. AddsNumber self.old self.new word number) }

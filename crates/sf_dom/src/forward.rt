@@ -1,4 +1,5 @@
-//! The transfer functions: what is known of the result of each operation, by what is known of its operands.
+//! The transfer functions: what is known of the result of each operation, by what is known of its operands. Each result
+//! is promised where no operand's interval has crossed ends (its `low` above its `high`).
 
 ghost use Rattle.std.specs.Prelude.{◌≡◌, ℕ, ◌+◌, ◌-◌, ◌*◌, ◌/◌, ◌%◌, ◌<◌, ◌≤◌, ◌^◌, if◌then◌else◌, ◌==◌, bit_and, bit_or, bit_xor};
 ghost use Rattle.sf_dom.specs.Rules.{forward_known, forward_negated, moved_left, moved_right};
@@ -6,8 +7,9 @@ ghost use Rattle.sf_dom.specs.Rules.{forward_known, forward_negated, moved_left,
 use crate::known::Known;
 use sf_insn::BinOp;
 
-/// What is known of a sum. Where no possible sum wraps, or all of them do, they lie from the sum of the low ends to
-/// that of the high ends. Otherwise nothing is known.
+/// What is known of a sum. Where the sum of the high ends doesn't wrap, no sum does; where the sum of the low ends
+/// wraps, every sum does. In both cases the sums lie from that of the low ends to that of the high ends, modulo 2^32.
+/// Otherwise nothing is known. No bit of a sum is known.
 fn add(a: Known, b: Known) -> Known
     ensures { a.low ≤ a.high → b.low ≤ b.high → result
         ≡ forward_known BinOp.Add a b }
@@ -21,8 +23,9 @@ fn add(a: Known, b: Known) -> Known
     }
 }
 
-/// What is known of a difference. Where no possible difference wraps, or all of them do, they lie from `a.low - b.high`
-/// to `a.high - b.low`. Otherwise nothing is known.
+/// What is known of a difference. Where `a.low - b.high` doesn't wrap, no difference does; where `a.high - b.low`
+/// wraps, every difference does. In both cases the differences lie from `a.low - b.high` to `a.high - b.low`, modulo
+/// 2^32. Otherwise nothing is known. No bit of a difference is known.
 fn sub(a: Known, b: Known) -> Known
     ensures { a.low ≤ a.high → b.low ≤ b.high → result
         ≡ forward_known BinOp.Sub a b }
@@ -34,7 +37,7 @@ fn sub(a: Known, b: Known) -> Known
     }
 }
 
-/// What is known of a product. Where the greatest possible product fits 32 bits, all lie from the product of the low
+/// What is known of a product. Where the product of the high ends fits 32 bits, all products lie from that of the low
 /// ends to that of the high ends. Otherwise nothing is known.
 fn mul(a: Known, b: Known) -> Known
     ensures { a.low ≤ a.high → b.low ≤ b.high → result
@@ -46,8 +49,8 @@ fn mul(a: Known, b: Known) -> Known
     }
 }
 
-/// What is known of a quotient, which is 0 where the divisor is 0. Where the divisor can't be 0, all quotients lie from
-/// `a.low / b.high` to `a.high / b.low`. Otherwise they are at most the greatest dividend.
+/// What is known of a quotient, which is 0 where the divisor is 0. Where 0 isn't in the divisor's interval, all
+/// quotients lie from `a.low / b.high` to `a.high / b.low`. Otherwise they are at most `a.high`.
 fn div(a: Known, b: Known) -> Known
     ensures { a.low ≤ a.high → b.low ≤ b.high → result
         ≡ forward_known BinOp.Div a b }
@@ -60,8 +63,8 @@ fn div(a: Known, b: Known) -> Known
     }
 }
 
-/// What is known of an OR. It is at least each operand. A bit of it is 0 where it is 0 in both operands, and 1 where it
-/// is 1 in at least one of them.
+/// What is known of an OR. It is at least each operand's low end. A bit of it is 0 where it is 0 in both operands, and
+/// 1 where it is 1 in at least one of them.
 fn or(a: Known, b: Known) -> Known
     ensures { result ≡ forward_known BinOp.Or a b }
 {
@@ -73,8 +76,8 @@ fn or(a: Known, b: Known) -> Known
     }
 }
 
-/// What is known of an AND. It is at most each operand. A bit of it is 0 where it is 0 in at least one operand, and 1
-/// where it is 1 in both.
+/// What is known of an AND. It is at most each operand's high end. A bit of it is 0 where it is 0 in at least one
+/// operand, and 1 where it is 1 in both.
 fn and(a: Known, b: Known) -> Known
     ensures { result ≡ forward_known BinOp.And a b }
 {
@@ -150,7 +153,7 @@ fn shift_left(a: Known, b: Known) -> Known
 }
 
 /// What is known of a shift to the right, which goes by the second operand modulo 32. Where the second operand isn't
-/// decided, the result is at most the first one.
+/// decided, the result is at most the first one's high end.
 fn shift_right(a: Known, b: Known) -> Known
     ensures { result ≡ forward_known BinOp.Rsh a b }
 {
@@ -160,8 +163,9 @@ fn shift_right(a: Known, b: Known) -> Known
     }
 }
 
-/// What is known of the result of an operation, by what is known of its operands. It is promised where the ends of
-/// neither operand's interval are crossed.
+/// What is known of the result of an operation. `a` is what is known of its first operand, and `b` of its second.
+/// Nothing is promised of the result where the ends of an operand's interval are crossed (its `low` is above its
+/// `high`).
 pub(crate) fn forward(op: BinOp, a: Known, b: Known) -> Known
     ensures { a.low ≤ a.high → b.low ≤ b.high → result ≡ forward_known op a b }
 {

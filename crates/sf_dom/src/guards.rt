@@ -21,7 +21,8 @@ fn nothing() -> Known
     Known::interval(1, 0)
 }
 
-/// What is known of a word that is at least a number. Before that `v` was known of it.
+/// What is known of a word, of which `v` was known, once it is at least `number`. Where `number` is above `v.high`, the
+/// ends of the result are crossed: no number is left.
 pub(crate) fn at_least(v: Known, number: u32) -> Known
     ensures { result ≡ at_least number v }
 {
@@ -31,7 +32,8 @@ pub(crate) fn at_least(v: Known, number: u32) -> Known
     }
 }
 
-/// What is known of a word that is at most a number. Before that `v` was known of it.
+/// What is known of a word, of which `v` was known, once it is at most `number`. Where `number` is below `v.low`, the
+/// ends of the result are crossed: no number is left.
 pub(crate) fn at_most(v: Known, number: u32) -> Known
     ensures { result ≡ at_most number v }
 {
@@ -41,8 +43,9 @@ pub(crate) fn at_most(v: Known, number: u32) -> Known
     }
 }
 
-/// What is known of a word that is more than a number. Before that `v` was known of it. No number is more than the
-/// greatest one.
+/// What is known of a word, of which `v` was known, once it is more than `number`. Where `number` is `u32::MAX`, the
+/// result is `nothing`. Where it is another number that isn't below `v.high`, the ends of the result are crossed.
+/// Either way no number is left.
 #[tactic(auto, using(std::proofs::lemmas::Bool::Decides::nat_tests))]
 pub(crate) fn more_than(v: Known, number: u32) -> Known
     ensures { result ≡ more_than number v }
@@ -53,7 +56,9 @@ pub(crate) fn more_than(v: Known, number: u32) -> Known
     at_least(v, number + 1)
 }
 
-/// What is known of a word that is less than a number. Before that `v` was known of it. No number is less than 0.
+/// What is known of a word, of which `v` was known, once it is less than `number`. Where `number` is 0, the result is
+/// `nothing`. Where it is another number that isn't above `v.low`, the ends of the result are crossed. Either way no
+/// number is left.
 #[tactic(auto, using(std::proofs::lemmas::Bool::Decides::nat_tests))]
 pub(crate) fn less_than(v: Known, number: u32) -> Known
     ensures { result ≡ less_than number v }
@@ -64,8 +69,9 @@ pub(crate) fn less_than(v: Known, number: u32) -> Known
     at_most(v, number - 1)
 }
 
-/// What is known of a word that isn't this number: an end of the interval that is the number moves past it. Before that
-/// `v` was known of the word.
+/// What is known of a word, of which `v` was known, once it isn't `number`. An end of the interval that equals `number`
+/// moves past it. Where neither end does, nothing changes. Where both do, the ends of the result are crossed: no number
+/// is left.
 #[tactic(auto, using(std::proofs::lemmas::Bool::Decides::nat_tests))]
 pub(crate) fn other_than(v: Known, number: u32) -> Known
     ensures { result ≡ past number v }
@@ -80,7 +86,8 @@ pub(crate) fn other_than(v: Known, number: u32) -> Known
     at
 }
 
-/// What is known of a word that has none of these bits: all of them are 0. Before that `v` was known of it.
+/// What is known of a word, of which `v` was known, once all of these bits are 0 in it. Where one of them was known to
+/// be 1, it is known to be both in the result: no number is left.
 pub(crate) fn no_common_bit(v: Known, bits: u32) -> Known
     ensures { result ≡ none_of bits v }
 {
@@ -90,8 +97,9 @@ pub(crate) fn no_common_bit(v: Known, bits: u32) -> Known
     }
 }
 
-/// What is known of a word that has at least one of these bits. Before that `v` was known of it. Where all of the bits
-/// are known to be 0, no number is left. Where only one isn't, this bit is 1. Otherwise nothing more is known.
+/// What is known of a word, of which `v` was known, once at least one of these bits is 1 in it. Where `v` says that all
+/// of them are 0, or `bits` is 0, no number is left (`nothing`). Where `v` says that all but one are 0, this one is 1
+/// in the result. Otherwise nothing more is known.
 #[tactic(auto, using(std::proofs::lemmas::Bool::Decides::nat_tests))]
 pub(crate) fn common_bit(v: Known, bits: u32) -> Known
     ensures { result ≡ some_of bits v }

@@ -2,25 +2,28 @@
 
 ghost use Rattle.sf_dom.specs.SoundRules.{IsForwardSound, IsReductionSound, HaveOneResult, PassKeepsOlder, CarriedAreBuilt, ForcedIsLearnt};
 
-/// A law for the prover: forward propagation and reduction lose no number that a node may have.
+/// A law for the prover: forward propagation and reduction lose no number that a node may have, and reduction has at
+/// most one result.
 pub fn rules_are_sound()
     ensures forward { IsForwardSound }
     ensures reduction { IsReductionSound }
 {}
 
-/// A law for the prover: the rules have one result. Equal facts stay equal where both learn one condition, take in the
-/// same new nodes, or keep the same numbers of a word; and where one of them can do so, the other can too.
+/// A law for the prover: the rules have one result. Two facts that start over one pool are equal. Equal facts stay
+/// equal where both learn one condition, take in the same new nodes, or keep the same numbers of a word; and where one
+/// of them can do so, the other can too.
 pub fn rules_have_one_result()
     ensures { HaveOneResult }
 {}
 
-/// A law for the prover: a forward pass changes no node that is older than the first one of which more follows.
+/// A law for the prover: where nothing more follows for any node before a place, a forward pass changes none of the
+/// nodes before this place.
 pub fn passes_keep_older_nodes()
     ensures { PassKeepsOlder }
 {}
 
-/// A law for the prover: facts that are carried along, while conditions are learnt and nodes come, are those that are
-/// built anew over the whole pool from all conditions.
+/// A law for the prover: facts that learn the conditions one by one, and take in new nodes whenever the pool has gained
+/// some, equal the facts that are built anew from all these conditions over the whole pool.
 pub fn carried_facts_are_built()
     ensures { CarriedAreBuilt }
 {}

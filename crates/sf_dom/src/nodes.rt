@@ -18,13 +18,15 @@ use std::sync::Arc;
 /// How many words an input has. They are the first nodes of each pool.
 pub(crate) const WORDS: usize = 16;
 
-/// What is known of the nodes of a pool, oldest first. Each node has a slot. The slot of a constant has its number; so
-/// has the slot of an operation on operands with only one number each, where its own number is known in full. All other
-/// nodes are variables: only of them more can become known, and that stands in a list of its own. Forks share the slots
-/// until one of them gets another node; each has its own list of variables.
+/// What is known of the nodes of a pool, oldest first. Each node has a slot. The slot of a constant has its number. So
+/// has the slot of an operation if, when it was added, its operands had only one number each, and its own number was
+/// known in full. All other nodes are variables: only of them more can become known, and what is known of them stands
+/// in a list of its own. Forks share the slots until one of them gets another node; each has its own list of variables.
 #[derive(Drop)]
 pub(crate) struct Nodes {
+    /// Where to find what is known of each node.
     slots: Arc<Slots>,
+    /// The variables, oldest first.
     variables: Vec<Variable>,
 }
 
@@ -87,8 +89,8 @@ impl Nodes {
         self.variables.len()
     }
 
-    /// The variable with this rank, counted from the oldest, which has 0: its place in the pool, and what is known of
-    /// it, which is what `get` gives for the place. The caller's condition: the rank is below `variable_count`.
+    /// The variable with this rank; the oldest one has the rank 0. Its `known` is what `get` gives for its `place`. The
+    /// caller's condition: the rank is below `variable_count`.
     pub(crate) fn variable(&self, rank: usize) -> Variable
         requires { rank < length self.now.variables }
         ensures place { result.place ≡ slice_index self.now.variables rank }
@@ -98,8 +100,8 @@ impl Nodes {
         self.variables[rank]
     }
 
-    /// Writes what is known of the variable with this rank, counted from the oldest, which has 0. The caller's
-    /// condition: the rank is below `variable_count`.
+    /// Writes what is known of the variable with this rank; the oldest one has the rank 0. The caller's condition: the
+    /// rank is below `variable_count`.
     pub(crate) fn set_variable(&mut self, rank: usize, known: Known)
         requires { rank < length self.old.variables }
         ensures known { self.new.known
@@ -110,8 +112,8 @@ impl Nodes {
         self.variables[rank].known = known;
     }
 
-    /// Writes what is known of the node at a place, the oldest at 0. The caller's condition: there is one, and where
-    /// only one number was left for it, the same stays known of it.
+    /// Writes what is known of the node at a place, the oldest at 0. The caller's condition: there is a node at this
+    /// place, and where its interval has only one number, `known` is what is known of it already.
     pub(crate) fn set(&mut self, i: usize, known: Known)
         requires within { i < length self.old.known }
         requires decided { IsDecided (known_at self.old.known i)
@@ -126,9 +128,12 @@ impl Nodes {
         }
     }
 
-    /// Adds what is known of the next node. It becomes a variable, unless it is `fixed` (no forward pass makes more
-    /// known of it), known to be one number with all its bits, and no word of the input. `Memory` where an allocation
-    /// is refused; what is known then stays as it was.
+    /// Adds the next node, at the end. `known` is what is known of it, and `fixed` says that no forward pass makes more
+    /// known of it. The node gets a slot with its number where `fixed` is true, `known` is one number with all its
+    /// bits, and the node isn't one of the sixteen words of the input. Otherwise it becomes a variable.
+    ///
+    /// `Memory` where an allocation is refused, or where a slot can't be added for another reason (`add_slot`); what is
+    /// known then stays as it was.
     pub(crate) fn push(&mut self, known: Known, fixed: bool) -> Result<(), Fault>
         ensures ok { IfOk result (λ _. self.new.known ≡ self.old.known ++ known ∷ []) }
         ensures variables { IfOk result (λ _. (IsTrue fixed
@@ -156,7 +161,8 @@ impl Nodes {
         Ok(())
     }
 
-    /// A copy, which shares the slots and has its own list of variables. `Memory` where an allocation is refused.
+    /// A copy, which shares the slots and has its own list of variables. `Memory` where an allocation is refused, or
+    /// where the slots have too many owners.
     pub(crate) fn fork(&self, alloc: Global) -> Result<Nodes, Fault>
         ensures { IfOk result (λ n. n ≡ self.now) }
     {

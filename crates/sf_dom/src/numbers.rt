@@ -1,4 +1,4 @@
-//! Lists of numbers that a word does not have. Copies share most of a list.
+//! Lists of numbers that a word does not have. Copies share the older numbers, until newer ones are merged into these.
 
 ghost use Rattle.std.specs.Prelude.{◌≡◌, ℕ, ◌<◌, ◌≤◌, ◌↔◌, ◌⊎◌, ◌∷◌, ◌++◌, [], length, slice_index, IfOk, IsTrue, Contains, MatchOption};
 ghost use Rattle.std.specs.Arc.{arc_slice_items};
@@ -18,7 +18,7 @@ const MERGED: usize = 64;
 type Newer = SmallVec<u32, 2>;
 
 /// Numbers that a word does not have, in two ascending lists, the older and the newer ones. A copy with one more number
-/// shares the older ones, and copies only the newer ones, which are few.
+/// shares the older ones, and copies only the newer ones, which are few. It shares none where both are merged.
 #[derive(Drop)]
 pub(crate) struct Numbers {
     /// The older numbers, which copies share; `None` where there are none.
@@ -43,7 +43,9 @@ impl Model for Numbers {
 /// `step` places apart, it is the place that is `step` places behind the last one.
 #[derive(Drop)]
 pub(crate) struct Lookup<'a> {
+    /// The older numbers, ascending.
     older: &'a [u32],
+    /// The newer numbers, ascending.
     newer: &'a [u32],
     /// The place in the older list of the last number that was found there; 0 before the first.
     place: usize,
@@ -82,7 +84,8 @@ fn items_of(list: &Option<ArcSlice<u32>>) -> &[u32]
     }
 }
 
-/// The place of a number in a list; `None` where it isn't there. The caller's condition: the list is ascending.
+/// A place of a number in a list, any of them where it stands at several; `None` where it isn't there. The caller's
+/// condition: the list is ascending.
 fn place_in(list: &[u32], number: u32) -> Option<usize>
     requires { AreAscending list.now }
     ensures { MatchOption result (¬ Contains list.now number) (λ at. (at < length list.now)
@@ -119,8 +122,9 @@ fn find(older: &[u32], newer: &[u32], number: u32) -> Found
     }
 }
 
-/// A copy of a list, with one more number before the one at a place, or at its end. `Memory` where an allocation is
-/// refused. The caller's condition: the place isn't behind the list's end.
+/// A copy of a list with one more number, which gets the place `at`; the numbers from there on stand one place later
+/// than in the list. `Memory` where an allocation is refused. The caller's condition: `at` is at most the list's
+/// length.
 fn insert_number(alloc: Global, list: &[u32], at: usize, number: u32) -> Result<Newer, Fault>
     requires { at ≤ length list.now }
     ensures { IfOk result (λ v. v.items ≡ insert list.now at number) }
@@ -132,8 +136,8 @@ fn insert_number(alloc: Global, list: &[u32], at: usize, number: u32) -> Result<
     Ok(more)
 }
 
-/// A copy of a list with one more number, unless the number is there already; the copy is ascending too. `Memory` where
-/// an allocation is refused. The caller's condition: the list is ascending.
+/// A copy of a list with one more number, also ascending. Where the list has the number already, it is a mere copy.
+/// `Memory` where an allocation is refused. The caller's condition: the list is ascending.
 fn with_number(alloc: Global, list: &[u32], number: u32) -> Result<Newer, Fault>
     requires { AreAscending list.now }
     ensures rising { IfOk result (λ v. AreAscending v.items) }
@@ -159,7 +163,8 @@ fn merge(alloc: Global, older: &[u32], newer: &[u32]) -> Result<ArcSlice<u32>, F
     Ok(ArcSlice::from_vec(all)?)
 }
 
-/// A list that shares the items of another. `Memory` only where no more lists can share them.
+/// A list that shares the items of another one; `None` where there is none. `Memory` only where the items have too many
+/// owners.
 fn share(list: &Option<ArcSlice<u32>>) -> Result<Option<ArcSlice<u32>>, Fault>
     ensures { IfOk result (λ copy. shared_items copy ≡ shared_items list.now) }
 {
@@ -184,8 +189,9 @@ impl<'a> Lookup<'a> {
         }
     }
 
-    /// Whether a number is one of them. It takes note of where the number was found, for the next call; the lists stay
-    /// as they are.
+    /// Whether a number stands in one of the two lists. Looks first at the place `place + step` of the older list, and
+    /// then in both lists. Where the number is found in the older list, its place is kept for the next call. The lists
+    /// stay as they are.
     #[inline]
     pub(crate) fn has(&mut self, number: u32) -> bool
         ensures has { IsTrue result ↔ Contains self.old number }
@@ -234,7 +240,7 @@ impl Numbers {
     }
 
     /// These numbers and one more, which may be among them already. Once there are `MERGED` newer numbers, all numbers
-    /// become older ones. `Memory` where an allocation is refused.
+    /// become older ones. `Memory` where an allocation is refused, or where the older numbers have too many owners.
     pub(crate) fn with_number(&self, alloc: Global, number: u32) -> Result<Numbers, Fault>
         ensures { IfOk result (λ v. (n : ℕ) → Contains v n
             ↔ (Contains self.now n ⊎ (n ≡ number))) }

@@ -27,8 +27,9 @@ pub(crate) fn reduce_at(known: Known, place: usize, excluded: &Excluded) -> Opti
     }
 }
 
-/// What is known of a node by its operation, from what is known of its operands: of a constant its number, and of a
-/// word of the input nothing. The caller's condition: the operands are among `nodes`.
+/// What follows for a node from what is known of its operands (`forward`, `negate`). For a constant its number follows,
+/// and for a word of the input nothing. Nothing is promised of the result where the ends of an operand's interval are
+/// crossed. The caller's condition: the operands are among `nodes`.
 fn transfer(nodes: &Nodes, node: Node) -> Known
     requires { OperandsBelow (length nodes.now.known) node }
     ensures { AreConsistentOperands nodes.now.known node
@@ -51,8 +52,8 @@ fn is_decided(nodes: &Nodes, at: NodeId) -> bool
     known.low == known.high
 }
 
-/// Whether a node is a constant, or an operation on operands that have only one number each: once it is taken in, no
-/// forward pass makes more known of it. The caller's condition: the operands are among `nodes`.
+/// Whether a node is a constant, or an operation on operands whose intervals have only one number each: once it is
+/// taken in, no forward pass makes more known of it. The caller's condition: the operands are among `nodes`.
 fn is_fixed(nodes: &Nodes, node: Node) -> bool
     requires { OperandsBelow (length nodes.now.known) node }
     ensures { IsTrue result → AreAllDecided nodes.now.known node }
@@ -65,9 +66,10 @@ fn is_fixed(nodes: &Nodes, node: Node) -> bool
     }
 }
 
-/// Reduces a node that is a word, so that both ends of its interval are numbers that are left for it. Any other node
-/// stays as it is. `false`: no number is left for the word, so no input agrees; nothing is changed then. The caller's
-/// condition: `nodes` are those of the pool, and the node is in it.
+/// If the node is a word of the input, reduces what is known of it by its excluded numbers (`reduce_word`). For any
+/// other node nothing is changed, and the answer is `true`. `false`: no number is left for the word, so no input
+/// agrees; nothing is changed then. The caller's condition: `nodes` are those of the pool, each reduced
+/// (`reduce_known`), and the node is in the pool.
 pub(crate) fn tighten(nodes: &mut Nodes, excluded: &Excluded, pool: &Pool, at: NodeId) -> bool
     requires closed { AreClosed nodes.old.known pool.now }
     requires place { at.0 < length pool.now }
@@ -87,9 +89,11 @@ pub(crate) fn tighten(nodes: &mut Nodes, excluded: &Excluded, pool: &Pool, at: N
     true
 }
 
-/// Adds to what is known of each variable what follows from its operands, the oldest variable first. The first sixteen
-/// are the words, which have no operands, so nothing follows for them. `false`: no input agrees, and some nodes may be
-/// changed. The caller's condition: `nodes` are those of the pool, and the words are reduced already.
+/// Adds to what is known of each variable what follows from its operands, and reduces it, the oldest variable first.
+/// The first sixteen are the words, which have no operands: nothing follows for them, and they are passed over.
+/// `false`: no input agrees, and some nodes may be changed. The caller's condition: `nodes` are those of the pool, each
+/// reduced (`reduce_known`), the words also by their excluded numbers; and no forward pass makes more known of a node
+/// that is no variable.
 pub(crate) fn propagate(nodes: &mut Nodes, excluded: &Excluded, pool: &Pool) -> bool
     requires closed { AreClosed nodes.old.known pool.now }
     requires words { AreClosedWords nodes.old.known excluded.now }
@@ -114,8 +118,10 @@ pub(crate) fn propagate(nodes: &mut Nodes, excluded: &Excluded, pool: &Pool) -> 
     true
 }
 
-/// Takes in the new nodes of a pool. `false`: no input agrees. `Memory` where an allocation is refused. In both cases
-/// some of them may have been taken in.
+/// Takes in the new nodes of a pool, those behind the last one in `nodes`: adds for each what follows from its
+/// operands, reduced. What is known of the older nodes stays as it is. `false`: no input agrees. `Memory` where an
+/// allocation is refused, or where something that is shared has too many owners. In both cases some of the new nodes
+/// may have been taken in. The caller's condition: `nodes` are those of the pool, but for the new ones.
 pub(crate) fn append(nodes: &mut Nodes, excluded: &Excluded, pool: &Pool) -> Result<bool, Fault>
     requires covers { length nodes.old.known ≤ length pool.now }
     ensures fixed { IfOk result (λ b. MatchBool b

@@ -24,7 +24,7 @@ impl Default for Slot {
     }
 }
 
-/// The slots of the nodes, oldest first. A last block of one slot lies in the list itself; a longer one takes an
+/// The slots of the nodes, oldest first. A last block of one slot may lie in the list itself; a longer one takes an
 /// allocation.
 pub(crate) type Slots = SharedList<Slot, 1>;
 
@@ -36,7 +36,8 @@ pub(crate) fn slot_of(slots: &Slots, i: usize) -> Slot
     slots.get(i)
 }
 
-/// A copy of the slots with one more at its end. `AllocError` where an allocation is refused.
+/// A copy of the slots with one more at its end. `AllocError` where an allocation is refused, where there are 2^31 + 16
+/// slots already, or where the slots' blocks have too many owners.
 fn with_slot(alloc: Global, slots: &Slots, slot: Slot) -> Result<Arc<Slots>, AllocError>
     ensures { IfOk result (λ r. arc_value r ≡ slots.now ++ slot ∷ []) }
 {
@@ -46,7 +47,8 @@ fn with_slot(alloc: Global, slots: &Slots, slot: Slot) -> Result<Arc<Slots>, All
 }
 
 /// Adds a slot at the end. Where forks share the slots, it is added to a copy, and the forks' slots stay as they are.
-/// `AllocError` where an allocation is refused; nothing is added then.
+/// `AllocError` where an allocation is refused, where there are 2^31 + 16 slots already, or where the slots' blocks
+/// have too many owners; nothing is added then.
 pub(crate) fn add_slot(alloc: Global, slots: &mut Arc<Slots>, slot: Slot) -> Result<(), AllocError>
     ensures ok { OnOk result (arc_value slots.new ≡ arc_value slots.old ++ slot ∷ []) }
     ensures err { OnErr result (arc_value slots.new ≡ arc_value slots.old) }

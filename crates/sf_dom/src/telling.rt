@@ -89,11 +89,12 @@ fn tell_common(known: Known, number: u32) -> Option<bool>
 }
 
 impl Known {
-    /// Whether a word of which this is known passes a test against a number, where its interval and known bits give the
-    /// result; `None` where they leave it open.
+    /// Whether a word of which this is known passes a test against a number, where what is known gives the result: the
+    /// known bits alone for `AnyBit`, and the interval alone for the other tests. `None` where this leaves the result
+    /// open.
     ///
-    /// In facts both ends of a word's interval are numbers that are left for the word. Learning a result that is given
-    /// here then moves no end and adds no bit, and the other result would leave no number.
+    /// Where `self` is reduced (`reduce_known`), as in `Facts` it always is, learning a result that is given here moves
+    /// no end and adds no bit, and the other result would leave no number.
     pub fn tell(&self, test: Test, number: u32) -> Option<bool>
         ensures told { MatchOption result (IsOpen test self.now number)
             (λ b. (x : ℕ) → Admits self.now x → passes test x number ≡ b) }
@@ -109,7 +110,8 @@ impl Known {
     }
 }
 
-/// Whether a number is excluded for a node. Numbers are excluded only for words of the input.
+/// Whether a number is excluded for a node. Numbers are excluded only for words of the input. The caller's condition: a
+/// word of the input is 0 to 15.
 fn is_excluded(excluded: &Excluded, node: Node, number: u32) -> bool
     requires word { (i : ℕ) → node ≡ Node.Word i → i < 16 }
     ensures { IsTrue result ↔ Contains (excluded_of excluded.now node) number }
@@ -120,9 +122,9 @@ fn is_excluded(excluded: &Excluded, node: Node, number: u32) -> bool
     }
 }
 
-/// Whether `propagate_back` would change nothing from this node on: what the known bits of the node say of its operand
-/// beside a constant is known of the operand already, and so on from operand to operand. The caller's condition:
-/// `nodes` are those of the pool, and `from` is the place of one.
+/// Whether all that the known bits of the node at `from` say of its operand beside a constant (`backward`) is known of
+/// the operand already, and so on from this operand. If so, and if each node is reduced (`reduce_at`), `propagate_back`
+/// changes nothing. The caller's condition: `nodes` are those of the pool, and `from` is the place of a node.
 pub(crate) fn are_propagated_back(nodes: &Nodes, pool: &Pool, from: usize) -> bool
     requires count { length nodes.now.known ≡ length pool.now }
     requires start { from < length pool.now }
@@ -144,9 +146,10 @@ pub(crate) fn are_propagated_back(nodes: &Nodes, pool: &Pool, from: usize) -> bo
     true
 }
 
-/// Whether the node at a place passes a test against a number on every input that agrees, where the node's own
-/// interval, known bits and excluded numbers give the result; `None` where they leave the result open. The caller's
-/// condition: `nodes` are those of the pool, and there is a node at the place.
+/// The result that a test of the node at a place against a number has on every input that agrees, where what is known
+/// of the node itself gives this result. `Known::tell` is asked first. Where it leaves the result open, `Equal` has the
+/// result false if the number is excluded for the node. `None` in all other cases. The caller's condition: `nodes` are
+/// those of the pool, and there is a node at the place.
 fn tell_at(
     nodes: &Nodes,
     excluded: &Excluded,
@@ -178,11 +181,12 @@ fn tell_at(
     }
 }
 
-/// The result of a test of the node at a place against a number, where the test is told: every input that agrees has
-/// this result, the other result leaves the node no number, and this one changes nothing that is known, except that the
-/// number, if the node can't have it, may become an excluded one. `None` where the test isn't told: what is known of
-/// the node leaves the result open, or known bits could still go back from the node. The caller's condition: `nodes`
-/// are those of the pool, and there is a node at the place.
+/// The result of a test of the node at a place against a number, where the test is told. Every input that agrees has
+/// this result. To learn the other result would leave the node no number. To learn this one would change no interval
+/// and no known bit; it could at most exclude the number for the node.
+///
+/// `None` where the test isn't told: `tell_at` leaves the result open, or known bits could still go back from the node
+/// (`are_propagated_back`). The caller's condition: `nodes` are those of the pool, and there is a node at the place.
 pub(crate) fn tell_node(
     nodes: &Nodes,
     excluded: &Excluded,

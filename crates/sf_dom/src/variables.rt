@@ -18,7 +18,8 @@ pub(crate) struct Variable {
 }
 
 /// Adds a variable at the end of the variables, and the slot of its node at the end of the slots. `AllocError` where an
-/// allocation is refused; both lists are then as they were.
+/// allocation is refused, where there are 2^31 + 16 slots already, or where the slots' blocks have too many owners;
+/// both lists are then as they were.
 pub(crate) fn add_variable(
     variables: &mut Vec<Variable>,
     variable: Variable,
