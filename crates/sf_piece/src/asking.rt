@@ -30,9 +30,9 @@ fn asks_zero(op: BinOp, other: Operand, taken: usize) -> bool
     }
 }
 
-/// The number that A is tested against, if there is one: a constant, or the only number that X may have. `None` where X
-/// may have several numbers, or where known bits could still go back from X to the nodes that it is computed from: a
-/// test with X can teach something then.
+/// The number that A is tested against: the constant, or the only number that X may have. `None` where X may have
+/// several numbers. `None` also where the known bits of X could still narrow the nodes that X is computed from
+/// (`Facts::tell`): a test with X can teach something then.
 fn number_against(run: &Run, other: Operand) -> Option<u32>
     requires { IsLawfulPiece run.now }
     ensures value { IfSome result (IsOperandNumber run.now other) }
@@ -45,7 +45,7 @@ fn number_against(run: &Run, other: Operand) -> Option<u32>
         Operand::Constant(number) => Some(number),
         Operand::X => {
             let number = run.facts.decided(&run.pool, run.machine.x)?;
-            // Only its `None` matters: known bits could go back from X then.
+            // Only `None` matters: the known bits of X could still narrow other nodes then.
             run.facts
                 .tell(&run.pool, run.machine.x, Test::Equal, number)?;
             Some(number)
@@ -54,7 +54,7 @@ fn number_against(run: &Run, other: Operand) -> Option<u32>
 }
 
 /// The result of a test of A against `other`, where it is told: every member has this result, and nothing can be learnt
-/// from it. `None` where it isn't told, as where `number_against` finds no number. The facts may then still imply a
+/// from it. `None` where it isn't told, and where `number_against` gives no number. The facts may then still imply a
 /// result.
 fn foresee(run: &Run, test: Test, other: Operand) -> Option<bool>
     requires { IsLawfulPiece run.now }
@@ -68,12 +68,16 @@ fn foresee(run: &Run, test: Test, other: Operand) -> Option<bool>
     run.facts.tell(&run.pool, run.machine.a, test, number)
 }
 
-/// Runs an operation on A: its result is put in A as a node. A division by X first asks whether X is 0, unless the name
-/// says already that it isn't. Then the call only takes this truth value. Where the facts leave only one, it is added
-/// to the name; where they leave both, the result is `Split`. Where X is 0 the program returns 0, and otherwise the
-/// machine stays at the division. `Empty` where the facts leave neither, or can't take in a node. `Memory` comes for
-/// any reason that the fault names. The caller's condition: `insn` is this operation, and stands at the machine's
-/// place.
+/// Runs an operation on A: its result is put in A as a node, and the machine goes on to the next instruction.
+///
+/// A division by X first asks whether X is 0, unless the name says already that it isn't. A call that asks only takes
+/// this truth value. Where the facts leave only one, it is added to the name; where they leave both, the result is
+/// `Split`. Where X is 0, the program returns 0. Otherwise the machine stays at the division, and the next call
+/// divides.
+///
+/// `Empty` where the facts leave neither truth value, or can't take in a node. `Memory` comes for any reason that the
+/// fault names. In both cases the run may have new nodes, but nothing else has changed. The caller's condition: `insn`
+/// is this operation, and stands at the machine's place.
 pub(crate) fn alu(
     alloc: Global,
     run: &mut Run,
@@ -111,10 +115,17 @@ pub(crate) fn alu(
     }
 }
 
-/// Runs a test of A against `other`. Where it is told, its truth value is added to the name, with the falses of the
-/// tests behind it that are known to fail. Else it is learnt as false and as true: `Split` where the facts leave both,
-/// `On` where they leave one, and `Empty` where they leave neither or can't take in the node of `other`. `Memory` comes
-/// for any reason that the fault names. The caller's condition: `insn` is this test, and stands at the machine's place.
+/// Runs a test of A against `other`. Where `foresee` gives its truth value, which is the same on every member, this is
+/// added to the name, and the machine goes to where the test leads then. From there the run goes on over the failing
+/// tests that come next, as `take_failing` does. The result is `On`.
+///
+/// Else the test is learnt as false and as true, each from the same facts. Where the facts leave both, the result is
+/// `Split`. Where they leave one, this is added to the name, the machine goes to where the test leads then, and the
+/// result is `On`. Where they leave neither, or can't take in the node of `other`, the result is `Empty`. With `Split`
+/// and `Empty` the run stays as it was.
+///
+/// `Memory` comes for any reason that the fault names. Where it comes from `take_failing`, the run has gone past the
+/// test; else it is as it was. The caller's condition: `insn` is this test, and stands at the machine's place.
 pub(crate) fn branch(
     alloc: Global,
     run: &mut Run,
@@ -150,11 +161,13 @@ pub(crate) fn branch(
 }
 
 /// Runs a return of A, which meets the 32 bits of A, the highest first. Each call takes the next bit, and the machine
-/// stays at the return. Where the bit is told, it is added to the name. Else it is learnt as false and as true: `Split`
-/// where the facts leave both, `On` where they leave one, and `Empty` where they leave neither or can't take in the
-/// constant that the bit is tested with. When all 32 are in the name, the call leaves the program, which returns the
-/// number that they spell. `Memory` comes for any reason that the fault names. The caller's condition: a return of A
-/// stands at the machine's place.
+/// stays at the return. When all 32 are in the name, the next call leaves the program, which returns the number that
+/// they spell.
+///
+/// Where the bit is told, it is added to the name. Else it is learnt as false and as true: `Split` where the facts
+/// leave both, `On` where they leave one, which is added to the name, and `Empty` where they leave neither or can't
+/// take in the constant that the bit is tested with. `Memory` comes for any reason that the fault names; the run then
+/// stays as it was. The caller's condition: a return of A stands at the machine's place.
 pub(crate) fn return_a(alloc: Global, run: &mut Run) -> Result<SmallStep, Fault>
     requires lawful { IsLawfulPiece run.old }
     requires standing { HasAtHand run.old Insn.ReturnA }

@@ -15,8 +15,8 @@ use sf_check::{Insn, Operand, Program, Skipped};
 use sf_dom::Known;
 use sf_insn::Test;
 
-/// How many instructions `insn` skips, if it is a test that is known to fail: it asks whether A equals a number, and
-/// `known`, what is known of A, says that A is another one. `None` for any other instruction.
+/// How many instructions `insn` skips, if it is a test that is known to fail: it asks whether A equals a number that
+/// lies outside the interval of `known`, what is known of A. `None` for any other instruction.
 fn failing_skips(insn: Insn, known: Known) -> Option<u8>
     ensures { IfSome result (λ n. IsFailing insn known n) }
 {
@@ -27,10 +27,11 @@ fn failing_skips(insn: Insn, known: Known) -> Option<u8>
     }
 }
 
-/// Counts the tests in a row, from `place` on, that the program's tables show to fail, and gives the place behind them.
-/// Each asks whether A equals a number, and stands where the one before it leads when it fails. The tables are asked
-/// only if A has one number by `known`, what is known of A. If A may have several, the count is 0 and the place is
-/// `place`: the caller looks at each instruction. The caller's condition: `place` is a place of the program.
+/// Counts the tests in a row, from `place` on, that `Program::skip_others` shows to fail, and gives the place behind
+/// them. Each asks whether A equals a number, and stands where the one before it leads when it fails. `skip_others` is
+/// asked only if A has one number by `known`, what is known of A. If A may have several, the count is 0 and the place
+/// behind them is `place`: the caller looks at each instruction. The caller's condition: `place` is a place of the
+/// program.
 fn skip_failing(program: &Program, place: usize, known: Known) -> Skipped
     requires { place < length program.now }
     ensures { AreFailing program.now known result.count place result.behind }
@@ -44,10 +45,10 @@ fn skip_failing(program: &Program, place: usize, known: Known) -> Skipped
     }
 }
 
-/// All tests in a row, from the machine's place on, that are known to fail: each asks whether A equals a number, and
-/// stands where the one before it leads when it fails. The result says how many there are, and which place comes behind
-/// them. It says 0 and the machine's own place where there is none, also where the last program has returned. `known`
-/// is what is known of A.
+/// All tests in a row, from the machine's place on, that `failing_skips` shows to fail: each asks whether A equals a
+/// number, and stands where the one before it leads when it fails. The result says how many there are, and which place
+/// comes behind them. Where there is no such test, and where the last program has returned, it says 0 and the machine's
+/// own place. `known` is what is known of A, without its excluded numbers.
 fn failing_chain(run: &Run, known: Known) -> Skipped
     requires lawful { IsLawfulPiece run.now }
     requires known { known ≡ known_at run.now.facts.known run.now.machine.a.0 }
@@ -82,9 +83,10 @@ fn failing_chain(run: &Run, known: Known) -> Skipped
     Skipped { count, behind }
 }
 
-/// Goes on over the tests of A that come now and are known to fail, as most tests of a chain are. A false for each of
-/// them is added to the name, all at once, and what is known stays as it is. `Memory` where the name would get 2^32
-/// falses in a row: the run is as it was then.
+/// Takes the tests that `failing_chain` finds from the machine's place on: a false for each of them is added to the
+/// name, all at once, and the machine moves to the place behind them. All else stays as it is, and where there is no
+/// such test, nothing changes. `Memory` where 2^32 falses or more would stand in a row in the name: the run is as it
+/// was then.
 pub(crate) fn take_failing(run: &mut Run) -> Result<(), Fault>
     requires { IsLawfulPiece run.old }
     ensures gone { IfOk result (λ _. HasGoneOn run.old run.new) }

@@ -51,10 +51,11 @@ fn skip_count(on_true: u8, on_false: u8, sense: bool) -> u8
     if sense { on_true } else { on_false }
 }
 
-/// The machine after the truth value `sense` of an instruction. A test skips instructions, and a return of A has one
-/// more bit. At a division by X the truth value says whether X is 0: then the program returns 0; else the machine stays
-/// there, and can now divide. The caller's condition: `insn` stands at the machine's place, and the name hasn't all
-/// truth values that it meets.
+/// The machine after `insn` has met the truth value `sense`. A test skips as many instructions as it says for this
+/// result. A return of A stays at its place, with one more bit. At a division by X, `sense` says whether X is 0. If X
+/// is 0, the program returns 0 (`start_next`). If not, the machine stays at the division, and can now divide. The
+/// caller's conditions: `insn` stands at the machine's place, and is one of these three, with a truth value that isn't
+/// in the name yet.
 fn machine_after(run: &Run, insn: Insn, sense: bool) -> SymbolicMachine
     requires standing { HasAtHand run.now insn }
     requires asks { Asks run.now insn }
@@ -85,10 +86,10 @@ fn machine_after(run: &Run, insn: Insn, sense: bool) -> SymbolicMachine
     }
 }
 
-/// Takes a truth value that is the same on every member: it is added to the name, the machine goes on, and nothing is
-/// learnt from it. `Memory` where an allocation is refused, or where the name would get too long (`Name::push`). The
-/// run then stays as it was. The caller's condition: `insn` stands at the machine's place, and on every member the next
-/// truth value that it meets is `sense`.
+/// Takes a truth value that is the same on every member: it is added to the name, the machine goes on
+/// (`machine_after`), and nothing is learnt from it. `Memory` where `Name::push` fails; the run then stays as it was.
+/// The caller's conditions: `insn` stands at the machine's place, and on every member the next truth value that it
+/// meets is `sense`.
 pub(crate) fn take(run: &mut Run, insn: Insn, sense: bool) -> Result<(), Fault>
     requires lawful { IsLawfulPiece run.old }
     requires standing { HasAtHand run.old insn }
@@ -103,11 +104,11 @@ pub(crate) fn take(run: &mut Run, insn: Insn, sense: bool) -> Result<(), Fault>
     Ok(())
 }
 
-/// The run of those members of `run` on which the condition has the truth value `sense`. It is a copy of `run`, but its
-/// name gets this truth value, its conditions get `cond` with it, its machine goes on, and its facts are `facts`.
-/// `Memory` where an allocation is refused, where the name or the conditions would get too long, or where something
-/// that is shared has too many owners. The caller's conditions: `insn` stands at the machine's place, `cond` is the
-/// condition that its next truth value is true, and `facts` are those that `child_facts` gives for `sense`.
+/// The run of those members of `run` on which the next truth value of `insn` is `sense`. It is a copy of `run`, with
+/// four changes: its name gets this truth value, its conditions get `cond` with this sense, its machine goes on
+/// (`machine_after`), and its facts are `facts`. `Memory` where an allocation is refused, where the name or the
+/// conditions would get too long, or where something that is shared has too many owners. The caller's conditions: those
+/// of `decide` for `insn` and `cond`, and `facts` are those that `child_facts` gives for `sense`.
 fn child(run: &Run, insn: Insn, cond: Cond, sense: bool, facts: Facts) -> Result<Run, Fault>
     requires lawful { IsLawfulPiece run.now }
     requires standing { HasAtHand run.now insn }
@@ -130,10 +131,14 @@ fn child(run: &Run, insn: Insn, cond: Cond, sense: bool, facts: Facts) -> Result
     })
 }
 
-/// A copy of the run's facts, with what follows where the condition has the truth value `sense`. `None` where this
-/// truth value contradicts the facts: the condition has it on no member. `Memory` where an allocation is refused. The
-/// caller's conditions: both nodes of the condition are in the pool; on a plain stack it tests a word of the input or
-/// a constant against a constant, and where it asks for a common bit, this constant has only one bit.
+/// A copy of the run's facts that has learnt that the test of `cond` has the result `sense`; `cond.sense` is ignored.
+/// `None` where learning this contradicts the facts: the test has this result on no member. Facts don't promise that
+/// there is such a member. `Memory` where an allocation is refused, or where something that is shared has too many
+/// owners.
+///
+/// The caller's conditions: the run is lawful, and both nodes of the condition are in its pool. On a plain stack the
+/// first node is a word of the input or a constant, and the second one is a constant. Where the test is `AnyBit`, the
+/// second one then has exactly one bit.
 fn child_facts(alloc: Global, run: &Run, cond: Cond, sense: bool) -> Result<Option<Facts>, Fault>
     requires lawful { IsLawfulPiece run.now }
     requires below { IsCondBelow (length run.now.pool) cond }
@@ -151,10 +156,10 @@ fn child_facts(alloc: Global, run: &Run, cond: Cond, sense: bool) -> Result<Opti
 }
 
 /// Learns the next truth value of `insn` as false and as true, each from the same facts, and says which of them the
-/// facts leave. `asked` stays as it is. `Memory` where an allocation is refused, where the name or the conditions would
-/// get too long, or where something that is shared has too many owners. The caller's conditions: `insn` stands at the
-/// machine's place, `cond` is the condition that its next truth value is true, and `asked` is the run with nodes for
-/// both words of `cond`.
+/// facts leave. Where they leave both, it makes the two runs (`child`). `asked` stays as it is. `Memory` where an
+/// allocation is refused, where the name or the conditions would get too long, or where something that is shared has
+/// too many owners. The caller's conditions: `insn` stands at the machine's place; `cond` has the sense true, is met
+/// exactly where the next truth value of `insn` is true, and is such a condition as `child_facts` needs.
 pub(crate) fn decide(alloc: Global, asked: &Run, insn: Insn, cond: Cond) -> Result<Decision, Fault>
     requires lawful { IsLawfulPiece asked.now }
     requires standing { HasAtHand asked.now insn }
@@ -177,10 +182,11 @@ pub(crate) fn decide(alloc: Global, asked: &Run, insn: Insn, cond: Cond) -> Resu
     Ok(Decision::Split(false_run, true_run))
 }
 
-/// Goes on as was decided. An implied truth value is added to the name and moves the machine; the pool, the conditions
-/// and the facts stay as they are. At a split the two runs are handed on. `run` itself stays as it is then, and also
-/// where there is no member. `Memory` where `take` fails; `run` then stays as it was. The caller's condition: `insn`
-/// stands at the machine's place of `run`, and the decision is right for its next truth value.
+/// Goes on as was decided. `Implied` gives `On`: `take` adds the truth value to the name of `run` and moves the
+/// machine; the pool, the conditions and the facts stay as they are. `Split` gives `Split` with the same two runs, and
+/// `Neither` gives `Empty`; `run` stays as it is then. `Memory` where `take` fails; `run` then stays as it was. The
+/// caller's conditions: `insn` stands at the machine's place of `run`, and the decision is right for its next truth
+/// value.
 pub(crate) fn carry_out(run: &mut Run, insn: Insn, decision: Decision) -> Result<SmallStep, Fault>
     requires lawful { IsLawfulPiece run.old }
     requires standing { HasAtHand run.old insn }

@@ -22,9 +22,9 @@ use sf_check::Insn;
 use sf_sym::{Node, NodeId};
 use std::alloc::Global;
 
-/// Runs one instruction, or takes one truth value of it, and says what becomes of the run. Where a test is told, the
-/// tests behind it that are known to fail are taken too. `Settled` where the last program has returned: no instruction
-/// is left. `Memory` comes for any reason that the fault names; the caller then drops the run, which may be changed.
+/// Runs one instruction, or takes one truth value of it, and says what becomes of the run. Where a test is told, tests
+/// behind it that fail are taken too (`take_failing`). `Settled` where the last program has returned: no instruction is
+/// left. `Memory` comes for any reason that the fault names; the caller then drops the run, which may be changed.
 pub(crate) fn execute(alloc: Global, run: &mut Run) -> Result<SmallStep, Fault>
     requires { IsLawfulPiece run.old }
     ensures step { IfOk result (IsSmallStep run.old run.new) }
@@ -65,10 +65,12 @@ pub(crate) fn execute(alloc: Global, run: &mut Run) -> Result<SmallStep, Fault>
 }
 
 /// Puts a node in A, which is what `insn` does, and goes on to the next instruction. `Empty` where the facts can't take
-/// in the node: there is no member. `Memory` where an allocation is refused, or where the pool would get too long. The
-/// caller's conditions: `insn` stands at the machine's place; where it divides by X, the name says already that X isn't
-/// 0; the node has the value that `insn` puts in A, and its operands are in the pool; on a plain stack it is a word of
-/// the input or a constant.
+/// in the node: there is no member. `Memory` where an allocation is refused, where the pool would get too long, or
+/// where something that is shared has too many owners. In both cases only the pool may have changed.
+///
+/// The caller's conditions: `insn` stands at the machine's place; where it divides by X, the name says already that X
+/// isn't 0; the node has the value that `insn` puts in A, and its operands are in the pool; a word of the input is 0 to
+/// 15; on a plain stack the node is a word of the input or a constant.
 pub(crate) fn set_a(
     alloc: Global,
     run: &mut Run,
@@ -100,8 +102,9 @@ pub(crate) fn set_a(
 }
 
 /// Puts the constant `k` in X, which is what `insn` does, and goes on to the next instruction. `Empty` where the facts
-/// can't take in its node: there is no member. `Memory` where an allocation is refused, or where the pool would get too
-/// long. The caller's condition: `insn` stands at the machine's place.
+/// can't take in its node: there is no member. `Memory` where an allocation is refused, where the pool would get too
+/// long, or where something that is shared has too many owners. In both cases only the pool may have changed. The
+/// caller's conditions: `insn` stands at the machine's place, and puts `k` in X.
 fn set_x(alloc: Global, run: &mut Run, insn: Insn, k: u32) -> Result<SmallStep, Fault>
     requires lawful { IsLawfulPiece run.old }
     requires standing { HasAtHand run.old insn }
@@ -125,8 +128,9 @@ fn set_x(alloc: Global, run: &mut Run, insn: Insn, k: u32) -> Result<SmallStep, 
     }
 }
 
-/// Goes on by an instruction that moves words about, or jumps. The caller's condition: `insn` is one of these, and
-/// stands at the machine's place. A scratch word that it loads is set, since the program is lawful.
+/// Runs an instruction that moves a word between A, X and the scratch words, or that jumps. The caller's conditions:
+/// `insn` is one of these, and stands at the machine's place. A scratch word that it loads is set, since the program is
+/// lawful.
 fn move_on(run: &mut Run, insn: Insn)
     requires lawful { IsLawfulPiece run.old }
     requires standing { HasAtHand run.old insn }
@@ -203,7 +207,7 @@ fn go(run: &mut Run, insn: Insn, to: SymbolicMachine)
     run.machine = to;
 }
 
-/// Goes on to the next program, after a return of this value, which is taken into the answer so far. The caller's
+/// Leaves the program with a return of this value, which is taken into the answer so far (`start_next`). The caller's
 /// conditions: `insn` is a return, returns this value, and stands at the machine's place; if it returns A, all 32 bits
 /// are in the name.
 pub(crate) fn leave_program(run: &mut Run, insn: Insn, value: u32)

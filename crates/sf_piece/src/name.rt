@@ -51,11 +51,13 @@ impl Name {
         Ok(values)
     }
 
-    /// How two names compare: false is before true, and a name before what goes on from it. The first run that differs
-    /// decides: the name where it is longer comes first, since it has a false where the other has a true. Where all
-    /// runs of one name are the first runs of the other, the name with fewer runs comes first: where the other has its
-    /// next true, it has a false or has ended. Where the runs are the same, the name with fewer falses at its end comes
-    /// first.
+    /// How two names compare: at the first truth value in which they differ, false comes before true, and a name comes
+    /// before longer ones that begin with it.
+    ///
+    /// The runs of false show this. At the first run that differs, the name with the longer run comes first: it has a
+    /// false where the other has a true. Where one name has further runs behind all runs of the other, the other comes
+    /// first: it has a false, or has ended, at the next true of the one. Where the runs are the same, the name with
+    /// fewer falses at its end comes first.
     pub fn order(&self, other: &Name) -> Ordering
         ensures { result ≡ slice_cmp bool_cmp self.now other.now }
     {
@@ -65,7 +67,7 @@ impl Name {
     }
 
     /// A copy of the name, which shares the full blocks of runs. `AllocError` where an allocation is refused, or where
-    /// the blocks have too many owners.
+    /// the list of these blocks has too many owners.
     pub(crate) fn fork(&self) -> Result<Name, AllocError>
         ensures { IfOk result (λ n. n ≡ self.now) }
     {
@@ -76,7 +78,7 @@ impl Name {
     }
 
     /// The name with one truth value more. `AllocError` where an allocation is refused, where the name would get too
-    /// long (`push`), or where the blocks of runs have too many owners.
+    /// long (`push`), or where something that is shared has too many owners.
     pub(crate) fn with_truth(&self, value: bool) -> Result<Name, AllocError>
         ensures { IfOk result (λ n. n ≡ self.now ++ value ∷ []) }
     {
@@ -85,8 +87,9 @@ impl Name {
         Ok(longer)
     }
 
-    /// Adds a truth value at the end. `AllocError` where an allocation is refused, or where the name would get too
-    /// long, with 2^32 falses in a run or more than 2^31 + 16 trues. The name then stays as it was.
+    /// Adds a truth value at the end. `AllocError` where an allocation is refused, where the name would get too long,
+    /// with 2^32 falses in a run or more than 2^31 + 16 trues, or where a block of runs has too many owners. The name
+    /// then stays as it was.
     pub(crate) fn push(&mut self, value: bool) -> Result<(), AllocError>
         ensures ok { OnOk result (self.new ≡ self.old ++ value ∷ []) }
         ensures err { OnErr result (self.new ≡ self.old) }
@@ -98,8 +101,8 @@ impl Name {
         }
     }
 
-    /// Adds a true at the end, which ends the last run. `AllocError` where an allocation is refused, or where the name
-    /// has 2^31 + 16 trues already. The name then stays as it was.
+    /// Adds a true at the end, which ends the last run. `AllocError` where an allocation is refused, where the name has
+    /// 2^31 + 16 trues already, or where a block of runs has too many owners. The name then stays as it was.
     fn push_true(&mut self) -> Result<(), AllocError>
         ensures ok { OnOk result (self.new ≡ self.old ++ true ∷ []) }
         ensures err { OnErr result (self.new ≡ self.old) }
