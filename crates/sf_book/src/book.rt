@@ -95,8 +95,8 @@ impl Model for Book {
 }
 
 impl Book {
-    /// A new book of the stack, in which the piece of all inputs is outstanding. It takes this many works at most, 0 to
-    /// 2^32 - 1. `Memory` where an allocation is refused.
+    /// A new book of the stack. The piece of all inputs is outstanding in it, under the id 0 and not on lease. The book
+    /// takes at most `budget` works. `Memory` where an allocation is refused, or where the stack has too many owners.
     pub fn open(alloc: Global, stack: Arc<Stack>, budget: u32) -> Result<Book, Fault>
         ensures ok { IfOk result (λ b. (r : PieceData) × IsRoot (arc_value stack) r
             × (b ≡ fresh (arc_value stack) r budget)) }
@@ -147,9 +147,9 @@ impl Book {
         }
     }
 
-    /// Leases out the piece with the first name among those that aren't on lease; `None` where all are on lease, or
-    /// none is outstanding. Takes no memory. `Memory` only where too many owners would share the piece: the book is
-    /// unchanged then.
+    /// Leases out the piece whose name comes first (`Name::order`) among those that aren't on lease; `None` where all
+    /// are on lease, or none is outstanding. Takes no memory. `Memory` only where too many owners would share the
+    /// piece: the book is unchanged then.
     pub fn lease(&mut self) -> Result<Option<Lease>, Fault>
         ensures ok { IfOk result (λ l. MatchOption l ((self.new ≡ self.old)
             × All (λ e. e.leased ≡ true) self.old.outstanding)
@@ -184,11 +184,12 @@ impl Book {
     }
 
     /// Puts what became of a piece in its place: its two children, a region or an emptied name. Returns the ids of the
-    /// two children, the false one's first; both are outstanding and on lease. Without children it returns `None`.
+    /// two children, the false one's first; both are outstanding and on lease. Without children it returns `None`. The
+    /// piece needn't be on lease.
     ///
-    /// Refused, with the book unchanged, in this order: `Foreign` where the work is of another stack; `Stale` where
-    /// no piece is outstanding under the id, or one with another name; `Spent` where the budget is spent; `Memory`
-    /// where an allocation is refused.
+    /// Refused, with the book unchanged, in this order: `Foreign` where the work is of another stack (`is_of`); `Stale`
+    /// where no piece is outstanding under the id, or one with another name than the work's piece; `Spent` where the
+    /// budget is spent; `Memory` where an allocation is refused, or where too many owners would share a child.
     pub fn commit(&mut self, id: u64, work: Work) -> Result<Option<(u64, u64)>, Fault>
         ensures ok { IfOk result (λ ids. MayCommit self.old id work
             × (self.old.commits < self.old.budget)
@@ -201,8 +202,8 @@ impl Book {
         self.commit_of_stack(id, work)
     }
 
-    /// Commits as `commit` does, for a caller who can show that the work is of the book's stack. The stacks aren't
-    /// compared, and `Foreign` can't come. The caller's condition: the work is of the book's stack.
+    /// Commits as `commit` does, but the stacks aren't compared, and `Foreign` can't come. The caller's condition: the
+    /// work is of the book's stack.
     pub fn commit_of_stack(&mut self, id: u64, work: Work) -> Result<Option<(u64, u64)>, Fault>
         requires { work.piece.stack ≡ self.old.stack }
         ensures ok { IfOk result (λ ids. MayCommit self.old id work
@@ -214,9 +215,10 @@ impl Book {
         self.replace(id, work)
     }
 
-    /// Puts what became of the piece under the id in its place, and returns what `commit` returns. Nothing is compared.
-    /// The caller's conditions: `admit` has admitted the work under this id, and the book hasn't changed since.
-    /// `Memory` where an allocation is refused: the book is unchanged then.
+    /// Takes the piece under the id out, puts what the work made of it in its place, and returns what `commit` returns.
+    /// Stack, name and budget aren't looked at. The caller's conditions: `admit` has admitted the work under this id,
+    /// and the book hasn't changed since. `Memory` where an allocation is refused, or where too many owners would share
+    /// a child: the book is unchanged then.
     fn replace(&mut self, id: u64, work: Work) -> Result<Option<(u64, u64)>, Fault>
         requires may { MayCommit self.old id work }
         requires room { self.old.commits < self.old.budget }
@@ -273,8 +275,8 @@ impl Book {
         Ok(())
     }
 
-    /// Closes the book of this stack, and puts its regions in name order. `Foreign` where the book is of another
-    /// stack: it is dropped then.
+    /// Closes the book of this stack, and puts its regions in name order. `Foreign` where the book is of another stack
+    /// (`Stack::is_same`): the book is dropped then.
     pub fn finish(self, stack: &Stack) -> Result<Settled, Fault>
         ensures ok { IfOk result (λ s. (self.stack ≡ stack.now) × Settles self s) }
         ensures err { IfErr result (λ f. (f ≡ Foreign) × (self.stack ≢ stack.now)) }

@@ -19,7 +19,7 @@ pub enum Fault {
     /// The budget is spent: as many works are committed as it allows.
     #[error("the budget is spent")]
     Spent,
-    /// An allocation was refused.
+    /// An allocation was refused, or something that is shared has too many owners.
     #[error("out of memory")]
     Memory,
 }
@@ -41,6 +41,7 @@ impl Fault {
 impl From<AllocError> for Fault {
     ghost from_gives = { λ _ e. e ≡ Memory };
 
+    /// Each `AllocError` is the fault `Memory`.
     fn from(_e: AllocError) -> Fault {
         Fault::Memory
     }
@@ -49,6 +50,7 @@ impl From<AllocError> for Fault {
 impl<T: Drop> From<AllocFailed<T>> for Fault {
     ghost from_gives = { λ _ e. e ≡ Memory };
 
+    /// A refused allocation is the fault `Memory`. The value that should have been stored is dropped.
     fn from(_e: AllocFailed<T>) -> Fault {
         Fault::Memory
     }
@@ -57,6 +59,7 @@ impl<T: Drop> From<AllocFailed<T>> for Fault {
 impl From<sf_piece::Fault> for Fault {
     ghost from_gives = { λ _ e. e ≡ Memory };
 
+    /// The only fault of `sf_piece` is `Memory` too.
     fn from(_e: sf_piece::Fault) -> Fault {
         Fault::Memory
     }

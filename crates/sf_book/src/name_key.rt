@@ -62,6 +62,7 @@ impl PartialEq for NameKey {
 
     ghost laws = { Cmp.partial_equiv_from_equiv (eq_by_cmp_equiv name_total) };
 
+    /// Whether the pieces have the same name.
     fn eq(&self, other: &NameKey) -> bool {
         self.cmp(other).is_eq()
     }
@@ -77,6 +78,7 @@ impl PartialOrd for NameKey {
     ghost laws = { partial_order_from_agreeing_total name_cmp name_total (λ x y. refl)
         (λ x y. name_ties x y) };
 
+    /// The result of `cmp`; never `None`.
     fn partial_cmp(&self, other: &NameKey) -> Option<Ordering> {
         Some(self.cmp(other))
     }
@@ -91,6 +93,7 @@ impl Ord for NameKey {
 
     ghost matches_eq = { λ x y. name_ties x y };
 
+    /// How the names of the pieces compare (`Name::order`).
     fn cmp(&self, other: &NameKey) -> Ordering {
         self.piece.name().order(other.piece.name())
     }

@@ -49,7 +49,8 @@ impl Model for OutstandingPieces {
 }
 
 impl OutstandingPieces {
-    /// Only this piece, outstanding under this id, and not on lease. `Memory` where an allocation is refused.
+    /// Only this piece, outstanding under this id, and not on lease. `Memory` where an allocation is refused, or where
+    /// too many owners would share the piece.
     pub(crate) fn open(
         alloc: Global,
         id: u64,
@@ -92,7 +93,7 @@ impl OutstandingPieces {
         }
     }
 
-    /// The piece at this place in the order of ids, from 0. The caller's condition: there are more pieces than that.
+    /// The piece at this place in the order of ids, from 0. The caller's condition: the place is below `len`.
     pub(crate) fn at(&self, i: usize) -> &Arc<Piece>
         requires { i < length self.now }
         ensures { slice_get (map (λ (e : OutstandingData). e.piece) self.now) i
@@ -101,9 +102,9 @@ impl OutstandingPieces {
         key_at(&self.by_id, i).piece()
     }
 
-    /// Leases out the piece with the first name among those that aren't on lease, and gives its id and the piece.
-    /// `None` where all are on lease, or none is outstanding. Takes no memory. `Memory` only where too many owners
-    /// would share the piece: all is as it was then.
+    /// Leases out the piece whose name comes first (`Name::order`) among those that aren't on lease, and gives its id
+    /// and the piece. `None` where all are on lease, or none is outstanding. Takes no memory. `Memory` only where too
+    /// many owners would share the piece: all is as it was then.
     pub(crate) fn lease(&mut self) -> Result<Option<(u64, Arc<Piece>)>, Fault>
         ensures ok { IfOk result (λ l. MatchOption l ((self.new ≡ self.old)
             × All (λ e. e.leased ≡ true) self.old) (λ l.
@@ -138,8 +139,9 @@ impl OutstandingPieces {
         clear_leased(&mut self.by_name);
     }
 
-    /// Adds a piece under an id, on lease or not. `Memory` where an allocation is refused: all is as it was then. The
-    /// caller's conditions: the id is above all others, and no other outstanding piece has the piece's name.
+    /// Adds a piece under an id, on lease where `leased` is true. `Memory` where an allocation is refused, or where too
+    /// many owners would share the piece: all is as it was then. The caller's conditions: the id is above all others,
+    /// and no outstanding piece has the piece's name.
     fn add(&mut self, id: u64, piece: Arc<Piece>, leased: bool) -> Result<(), Fault>
         requires above { All (λ e. e.id < id) self.old }
         requires apart { All (λ e. e.piece.name ≢ (arc_value piece).name) self.old }
@@ -172,9 +174,10 @@ impl OutstandingPieces {
     }
 
     /// Takes the piece under `id` out, and adds the two into which it is split, both on lease: `f`, the false one,
-    /// under `first`, and `t`, the true one, under `second`. `Memory` where an allocation is refused: all is as it was
-    /// then. The caller's conditions: `first` is above all ids, and `second` above `first`; `f` and `t` have different
-    /// names, which no outstanding piece has.
+    /// under `first`, and `t`, the true one, under `second`. Where no piece is outstanding under `id`, the two are only
+    /// added. `Memory` where an allocation is refused, or where too many owners would share a piece: all is as it was
+    /// then. The caller's conditions: `first` is above `id` and all ids that are outstanding, and `second` above
+    /// `first`; `f` and `t` have different names, which no outstanding piece has.
     pub(crate) fn split(
         &mut self,
         id: u64,
@@ -208,7 +211,8 @@ impl OutstandingPieces {
     }
 }
 
-/// The piece at this place in the order of ids, as a key. The caller's condition: the map has more entries than that.
+/// The key of the piece at place `i`, from 0, in the order of ids. The caller's condition: `i` is below the number of
+/// entries.
 fn key_at(by_id: &BTreeMap<u64, NameKey>, i: usize) -> &NameKey
     requires { i < length (values by_id.now) }
     ensures { slice_get (values by_id.now) i ≡ Some result.now }
@@ -219,7 +223,8 @@ fn key_at(by_id: &BTreeMap<u64, NameKey>, i: usize) -> &NameKey
     named
 }
 
-/// Puts a piece under an id. `Memory` where an allocation is refused: all is as it was then.
+/// Puts a piece under an id, in place of one that may stand there. `Memory` where an allocation is refused: the map is
+/// as it was then.
 fn put_id(by_id: &mut BTreeMap<u64, NameKey>, id: u64, piece: NameKey) -> Result<(), Fault>
     ensures updates { OnOk result (Updates nat_cmp by_id.old by_id.new id (Some piece)) }
     ensures inserted { OnOk result (by_id.new.entries
@@ -231,8 +236,8 @@ fn put_id(by_id: &mut BTreeMap<u64, NameKey>, id: u64, piece: NameKey) -> Result
     Ok(())
 }
 
-/// Puts the id of a piece, and whether it is on lease, under the piece's name. `Memory` where an allocation is refused:
-/// all is as it was then.
+/// Puts the id of a piece, and whether the piece is on lease, under the piece's name, in place of what may stand there.
+/// `Memory` where an allocation is refused: the map is as it was then.
 fn put_name(
     by_name: &mut BTreeMap<NameKey, LeaseState>,
     piece: NameKey,
@@ -254,7 +259,7 @@ fn drop_id(by_id: &mut BTreeMap<u64, NameKey>, id: u64)
     by_id.remove(&id);
 }
 
-/// The id of the piece with the first name among those that aren't on lease; `None` where all are on lease.
+/// The id of the piece with the first name among those that aren't on lease; `None` where there is no such piece.
 fn first_free(by_name: &BTreeMap<NameKey, LeaseState>) -> Option<u64>
     ensures { result ≡ option_map (λ (m : LeaseState). m.id)
         (find (λ (m : LeaseState). not m.leased) (values by_name.now)) }

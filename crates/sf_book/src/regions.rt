@@ -36,7 +36,9 @@ impl Model for Region {
 }
 
 impl Region {
-    /// The region of a piece that settled, with its whole name.
+    /// The region of a piece that settled. The caller's conditions, which no clause asks for: `name` is the whole trace
+    /// of each member (the piece's own name may be only a beginning of it), and `answer` is the stack's answer on each
+    /// member.
     pub(crate) fn of(piece: Arc<Piece>, name: Name, answer: Answer) -> Region
         ensures { result ≡ record {
           piece = arc_value piece;
@@ -96,7 +98,8 @@ impl Emptied {
     }
 }
 
-/// Adds an element at the end. `Memory` where an allocation is refused: all is as it was then.
+/// Adds an element at the end. `Memory` where an allocation is refused: the list is as it was then, and the element is
+/// dropped.
 pub(crate) fn add<T: Drop>(v: &mut Vec<T>, x: T) -> Result<(), Fault>
     ensures ok { OnOk result (v.new.items ≡ v.old.items ++ x ∷ []) }
     ensures err { IfErr result (λ f. (f ≡ Memory) × (v.new.items ≡ v.old.items)) }
