@@ -70,7 +70,7 @@ impl ActionSet {
             || self.other)
     }
 
-    /// Whether the action is in the set; an action without a name is where `other` is set.
+    /// Whether the action is in the set. An action without a name is in it where `other` is true.
     pub fn has(self, action: Action) -> bool
         ensures { result ≡ has_action self action }
     {

@@ -24,7 +24,7 @@ fn is_whole(range: (u32, u32)) -> bool
 }
 
 /// Whether no number from `low` to `high` lies in the interval that is known for a word. The caller's conditions:
-/// `word` is 0 to 15, and the facts have all sixteen words.
+/// `word` is 0 to 15, the facts have all sixteen words, and `low` isn't above `high`, as in each question.
 fn misses(facts: &Facts, word: usize, low: u32, high: u32) -> bool
     requires word { word < 16 }
     requires known { 16 ≤ length facts.now.known }
@@ -35,8 +35,8 @@ fn misses(facts: &Facts, word: usize, low: u32, high: u32) -> bool
 }
 
 /// Whether the known interval of some word has no number of the question's range for it: then no input that agrees with
-/// the facts is in the question. `false` says nothing: this is a quick look, which copies nothing and leaves out masks
-/// and known bits. The caller's condition: the facts have all sixteen words.
+/// the facts is in the question. `false` leaves open whether one is: this is a quick look, which copies nothing and
+/// doesn't look at masks, known bits and excluded numbers. The caller's condition: the facts have all sixteen words.
 pub(crate) fn rules_out(facts: &Facts, question: &Question) -> bool
     requires { 16 ≤ length facts.now.known }
     ensures { result ≡ true → IsRuledOut facts.now question.now }
@@ -50,9 +50,10 @@ pub(crate) fn rules_out(facts: &Facts, question: &Question) -> bool
     false
 }
 
-/// Confines a word, 0 to 15, to the question's range for it. `false` where no input that agrees with the facts has a
-/// number of this range in the word. `Memory` where an allocation is refused. In both cases the facts stay as they
-/// were. The caller's condition: they are facts of this pool.
+/// Confines a word, 0 to 15, to the question's range for it. `false` where this shows that no input that agrees with
+/// the facts has a number of this range in the word. `Memory` where an allocation is refused, or where something that
+/// is shared has too many owners. In both cases the facts stay as they were. The caller's condition: they are facts of
+/// this pool.
 fn confine_range(
     alloc: Global,
     facts: &mut Facts,
@@ -77,9 +78,10 @@ fn confine_range(
     Ok(facts.confine(alloc, pool, word, low, high)?)
 }
 
-/// Confines a word, 0 to 15, to the bits that the question asks of it: on the bits of its mask, those of the value.
-/// `false` where no input that agrees with the facts has them. `Memory` where an allocation is refused. In both cases
-/// the facts stay as they were. The caller's condition: they are facts of this pool.
+/// Confines a word, 0 to 15, to the numbers that equal the question's value for it on all bits of the mask. `false`
+/// where this shows that no input that agrees with the facts has such a number in the word. `Memory` where an
+/// allocation is refused, or where something that is shared has too many owners. In both cases the facts stay as they
+/// were. The caller's condition: they are facts of this pool.
 fn confine_mask(
     alloc: Global,
     facts: &mut Facts,
@@ -104,9 +106,10 @@ fn confine_mask(
     Ok(facts.confine_bits(alloc, pool, word, mask, value)?)
 }
 
-/// Confines a word, 0 to 15, to the numbers that the question leaves for it. `false` where no input that agrees with
-/// the facts has one. `Memory` where an allocation is refused. In both cases the facts may be confined to the range
-/// already. The caller's condition: they are facts of this pool.
+/// Confines a word, 0 to 15, to the numbers that the question's range and mask leave for it. `false` where this shows
+/// that no input that agrees with the facts has such a number in the word. `Memory` where an allocation is refused, or
+/// where something that is shared has too many owners. In both cases the facts may be confined to the range already.
+/// The caller's condition: they are facts of this pool.
 fn confine_word(
     alloc: Global,
     facts: &mut Facts,
@@ -130,8 +133,9 @@ fn confine_word(
     confine_mask(alloc, facts, pool, question, word)
 }
 
-/// A copy of the facts, confined to the question; `None` where no input that agrees with them is in it. `Memory` where
-/// an allocation is refused. The caller's condition: they are facts of this pool.
+/// A copy of the facts, confined to the question; `None` where this shows that no input that agrees with the facts is
+/// in the question. `Memory` where an allocation is refused, or where the facts have too many owners. The caller's
+/// condition: they are facts of this pool.
 pub(crate) fn facts_in_question(
     alloc: Global,
     facts: &Facts,

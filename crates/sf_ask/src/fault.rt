@@ -1,4 +1,4 @@
-//! Why a question or a verdict was refused.
+//! Why a function of this crate failed.
 
 ghost use Rattle.std.specs.Prelude.{◌≡◌};
 ghost use Rattle.sf_ask.specs.declared.fault.Fault.TheVariants.{Memory};
@@ -7,7 +7,7 @@ ghost use Rattle.sf_ask.specs.Numbers.{fault_number};
 use std::alloc::{AllocError, AllocFailed};
 use thiserror::Error;
 
-/// Why there is no question, or no verdict.
+/// Why a function of this crate failed.
 #[derive(Clone, Copy, Debug, PartialEq, Eq, Error)]
 pub enum Fault {
     /// The name isn't 1 to 64 bytes from 0x21 to 0x7e.
@@ -22,7 +22,7 @@ pub enum Fault {
     /// The set of actions is empty.
     #[error("no action is named")]
     Actions,
-    /// An allocation was refused.
+    /// An allocation was refused, or something that is shared has too many owners.
     #[error("out of memory")]
     Memory,
 }
@@ -45,6 +45,7 @@ impl Fault {
 impl From<AllocError> for Fault {
     ghost from_gives = { λ _ e. e ≡ Memory };
 
+    /// Each `AllocError` is the fault `Memory`.
     fn from(_e: AllocError) -> Fault {
         Fault::Memory
     }
@@ -53,6 +54,7 @@ impl From<AllocError> for Fault {
 impl<T: Drop> From<AllocFailed<T>> for Fault {
     ghost from_gives = { λ _ e. e ≡ Memory };
 
+    /// A refused allocation is the fault `Memory`. The value that should have been stored is dropped.
     fn from(_e: AllocFailed<T>) -> Fault {
         Fault::Memory
     }
@@ -61,6 +63,7 @@ impl<T: Drop> From<AllocFailed<T>> for Fault {
 impl From<sf_dom::Fault> for Fault {
     ghost from_gives = { λ _ e. e ≡ Memory };
 
+    /// The only fault of `sf_dom` is `Memory` too.
     fn from(_e: sf_dom::Fault) -> Fault {
         Fault::Memory
     }
@@ -69,6 +72,7 @@ impl From<sf_dom::Fault> for Fault {
 impl From<sf_sym::Fault> for Fault {
     ghost from_gives = { λ _ e. e ≡ Memory };
 
+    /// The only fault of `sf_sym` is `Memory` too.
     fn from(_e: sf_sym::Fault) -> Fault {
         Fault::Memory
     }

@@ -39,9 +39,9 @@ pub(crate) fn least_input(facts: &Facts) -> Option<Input>
     Some(Input { words })
 }
 
-/// Whether the input is a member of the piece, found without computing a node. Its conditions are looked at in order,
-/// up to the first that the input doesn't meet. `None` where one of these is on a computed node. Most conditions are
-/// only on words of the input and constants.
+/// Whether the input is a member of the piece, found without computing a node. The piece's conditions are looked at in
+/// order, up to the first that the input doesn't meet. `None` where one of those that are looked at is on a computed
+/// node: whether the input is a member isn't known then. Most conditions are only on words of the input and constants.
 fn meets_without_computing(piece: &Piece, input: &Input) -> Option<bool>
     ensures { IfSome result (λ b. b ≡ is_member piece.now input.now) }
 {
@@ -77,8 +77,8 @@ pub(crate) fn first_unmet(
     Ok(None)
 }
 
-/// Whether the input is a member of the piece: it meets every condition. Nodes are computed only where that is needed.
-/// `Memory` where an allocation is refused.
+/// Whether the input is a member of the piece: it meets every condition. Nodes are computed only where
+/// `meets_without_computing` gives `None`. `Memory` where an allocation is refused.
 pub(crate) fn is_member_of(alloc: Global, piece: &Piece, input: &Input) -> Result<bool, Fault>
     ensures tells { IfOk result (λ b. b ≡ is_member piece.now input.now) }
     ensures err { IfErr result (λ f. f ≡ Memory) }
@@ -90,9 +90,10 @@ pub(crate) fn is_member_of(alloc: Global, piece: &Piece, input: &Input) -> Resul
     Ok(unmet.is_none())
 }
 
-/// Looks for a member of the piece that is in the question. `Clear` where the piece's facts, confined to the question,
-/// contradict. Else one input is tried: the one that has in each word the least number that these facts leave for it.
-/// `Hit` where it is a member, and `Doubt` where it isn't. `Memory` where an allocation is refused.
+/// Looks for a member of the piece that is in the question. The question's actions aren't looked at. `Clear` where the
+/// piece's facts, confined to the question, contradict: no member is in the question. Else one input is tried, which is
+/// in the question: it has in each word the least number that the confined facts leave. `Hit` where it is a member, and
+/// `Doubt` where it isn't. `Memory` where an allocation is refused, or where the facts have too many owners.
 fn search(alloc: Global, piece: &Piece, question: &Question) -> Result<Verdict, Fault>
     ensures right { IfOk result (IsRightSearch piece.now question.now) }
     ensures tried { IfOk result (TellsTried piece.now question.now) }
@@ -119,7 +120,7 @@ fn search(alloc: Global, piece: &Piece, question: &Question) -> Result<Verdict, 
 /// `Clear` where the region's action isn't asked about, or its facts, confined to the question, contradict. Else one
 /// input is tried: it has in each word the least number that these facts leave. `Hit` where it is a member of the
 /// region: then no member in the question has a smaller number in any word. `Doubt` where it isn't, which doesn't come
-/// on a plain stack. `Memory` where an allocation is refused.
+/// on a plain stack. `Memory` where an allocation is refused, or where the region's facts have too many owners.
 pub fn judge(
     alloc: Global,
     settled: &Settled,

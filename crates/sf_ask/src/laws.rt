@@ -6,8 +6,8 @@ use sf_book::laws::explorations_have_one_result;
 use sf_dom::rules_have_one_result;
 use sf_piece::laws::execution_has_one_result;
 
-/// For the prover: by the rules a question has one verdict on a region, the same on each region of the same piece and
-/// answer.
+/// For the prover: by the rules a question has one verdict on a region. It has the same one on each region with the
+/// same piece (`AreSamePieces`) and the same answer.
 pub fn verdicts_have_one_result()
     ensures { HaveOneVerdict }
 {
@@ -24,7 +24,8 @@ pub fn replies_have_one_result()
     verdicts_have_one_result();
 }
 
-/// For the prover: by the rules the search for a member has one result, the same for any two pieces that are the same.
+/// For the prover: by the rules a search for a member (`find_member`) has one result. It is the same for two pieces
+/// that are the same (`AreSamePieces`).
 pub fn members_have_one_result()
     ensures { FindOneThing }
 {

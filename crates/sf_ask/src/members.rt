@@ -26,7 +26,7 @@ pub enum Membership {
     Empty,
     /// This input is a member.
     Member(Input),
-    /// An input was tried that is no member. Whether the piece has one isn't known.
+    /// No input that was tried is a member. Whether the piece has a member isn't known.
     Doubt,
 }
 
@@ -35,7 +35,7 @@ const MOST_MENDINGS: usize = 64;
 
 /// The piece's facts, with each of its conditions learnt once more, in order: an older condition may teach more now,
 /// since newer ones have narrowed its words. `None` where one of them contradicts: the piece has no member. `Memory`
-/// where an allocation is refused.
+/// where an allocation is refused, or where the facts have too many owners.
 fn facts_learnt_again(alloc: Global, piece: &Piece) -> Result<Option<Facts>, Fault>
     ensures facts { IfOk result (λ o. MatchOption o (HasNoMember piece.now)
         (CoverMembers piece.now)) }
@@ -66,12 +66,15 @@ fn lowest_bit(bits: u32) -> Option<u32>
 }
 
 /// A number to put in a word in place of `number`, so that the word may meet the condition, which tests the word under
-/// `mask` against the number `wanted`. `known` is what is known of the word. If the word under the mask has to differ
-/// from `wanted`, its lowest bit that isn't known is turned. If it has to share a bit with `wanted`, the lowest such
-/// bit that may be 1 is set. This is only a guess: the caller looks at the whole input again. `None` where there is no
-/// such bit, and for other conditions. Two of these need no mending: if the word has to equal `wanted`, or to share no
-/// bit with it, the facts know that bit by bit, and each input that is tried meets the condition. A condition on order
-/// isn't mended.
+/// `mask` against the number `wanted`. `known` is what is known of the word.
+///
+/// If the word under the mask has to differ from `wanted`, the lowest bit of `mask` that isn't known is turned. If it
+/// has to share a bit with `wanted`, the lowest bit of both `mask` and `wanted` that may be 1 is set. This is only a
+/// guess: the caller looks at the whole input again. `None` where there is no such bit.
+///
+/// `None` also for any other condition. If the word under the mask has to equal `wanted`, or to share no bit with it,
+/// no mending is needed: the facts know this bit by bit, and each input that is tried meets the condition. A condition
+/// on order isn't mended.
 fn mended_number(number: u32, mask: u32, known: Known, cond: &Cond, wanted: u32) -> Option<u32>
     ensures { result ≡ mended_number cond.now.test cond.now.sense wanted mask known number }
 {
@@ -103,6 +106,7 @@ fn mended_input(pool: &Pool, facts: &Facts, cond: &Cond, input: &Input) -> Optio
 {
     let wanted = constant_of(pool.node(cond.other))?;
     let MaskedWord { word, mask } = masked_word(pool, cond.node)?;
+    // Node `word` of each pool is this word of the input.
     let known = facts.known(NodeId(word as u32));
     let mut words = input.words;
     words[word] = mended_number(words[word], mask, known, cond, wanted)?;
@@ -111,8 +115,8 @@ fn mended_input(pool: &Pool, facts: &Facts, cond: &Cond, input: &Input) -> Optio
 
 /// Looks for a member near an input, by mending the input. As long as the input misses a condition, one word is mended
 /// for the first condition that it misses, and the input is looked at again. `None` where a condition is still missed
-/// after `mendings` mendings, or can't be mended. `Memory` where an allocation is refused. The caller's condition: all
-/// members of the piece agree with the facts.
+/// after `mendings` mendings, or where `mended_input` can't mend the input. `Memory` where an allocation is refused.
+/// The caller's conditions: `facts` are of the piece's pool, and all members of the piece agree with them.
 fn member_near(
     alloc: Global,
     piece: &Piece,
@@ -142,12 +146,15 @@ fn member_near(
     member_near(alloc, piece, facts, next, mendings - 1)
 }
 
-/// Looks for a member of the piece. First an input is tried that has in each word the least number that the piece's
-/// facts leave: where it is a member, no member has a smaller number in any word, and on a plain stack it always is
-/// one. Otherwise the piece's conditions are learnt once more, which may show that it has no member. If it may have
-/// one, the least input that is left now is mended, one word after the other, for conditions on a word under a mask
-/// that it doesn't meet. `Doubt` where 64 such mendings don't come to a member. `Memory` where an allocation is
-/// refused.
+/// Looks for a member of the piece. First the input is tried that has in each word the least number that the piece's
+/// facts leave. On a plain stack it always is a member. Where it is one, it is the result, and no member has a smaller
+/// number in any word.
+///
+/// Otherwise the piece's conditions are learnt once more. `Empty` where this shows that the piece has no member. Else
+/// the least input that the facts leave then is mended, one word at a time, until it is a member (`member_near`): each
+/// time for the first condition that the input doesn't meet. `Doubt` where 64 mendings don't come to a member, or where
+/// `mended_input` can't mend the input. `Memory` where an allocation is refused, or where the facts have too many
+/// owners.
 pub fn find_member(alloc: Global, piece: &Piece) -> Result<Membership, Fault>
     ensures right { IfOk result (IsRightMembership piece.now) }
     ensures rule { IfOk result (FindsMember piece.now) }

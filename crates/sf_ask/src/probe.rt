@@ -70,7 +70,8 @@ fn put_in_order(probes: &mut Vec<Probe>)
 }
 
 /// The probes of questions, made once for all regions. Most questions are about only one call. Their probes are in the
-/// order of the calls' numbers, so that for a region only the probes of calls that its members may make are looked at.
+/// order of the calls' numbers, so that for a region only those in the known interval of the call's number are looked
+/// at.
 #[derive(Drop)]
 pub struct Probes {
     // Those of the questions about one call, in ascending order of the call's number.
@@ -93,7 +94,8 @@ impl Probes {
     }
 
     /// The probes of the questions about one call whose number is in this range, both ends included; none where `low`
-    /// is above `high`. The contract doesn't promise that there are no others.
+    /// is above `high`. The caller's condition: `by_call` is in ascending order of the calls' numbers, as `of` makes
+    /// it.
     pub(crate) fn probes_of_calls(&self, low: u32, high: u32) -> &[Probe]
         requires { IsNonDecreasingBy (λ (p : AProbe). p.low) self.now.by_call.items }
         ensures all { (p : AProbe) → Contains self.now.by_call.items p → low ≤ p.low

@@ -28,9 +28,9 @@ fn is_left_to_judge(facts: &Facts, questions: &[Question], action: Action, probe
     question.actions().has(action) && !rules_out(facts, question)
 }
 
-/// Sets in `left` the bits of those of the probes' questions that are left to judge, as `is_left_to_judge` says. Other
-/// bits stay as they were. The caller's conditions: the facts have all sixteen words, there are at most 256 questions,
-/// and the probes are of these.
+/// For each probe whose question is left to judge (`is_left_to_judge`), sets the question's bit in `left`. Other bits
+/// stay as they were. The caller's conditions: the facts have all sixteen words, there are at most 256 questions, and
+/// the probes are of these.
 fn add_questions_left(
     facts: &Facts,
     questions: &[Question],
@@ -66,7 +66,7 @@ fn questions_left(
     requires probes { AreProbesOf questions.now probes.now }
     ensures { AreRuledOutBut facts.now questions.now action result }
 {
-    // The first word of an input is the call's number.
+    // Node 0 is the first word of the input, the call's number.
     let call = facts.known(NodeId(0));
     let mut left = [0u64; 4];
     let others = probes.others.as_slice();
@@ -77,9 +77,10 @@ fn questions_left(
 }
 
 /// The questions on which the region at the place `job` is to be judged, as bits that `has_bit` reads. The region's
-/// verdict on each other question is clear: its action isn't asked about, or what is known of some word leaves no
-/// number of the question's range. The caller's conditions: there is a region at the place, there are at most 256
-/// questions, and the probes are theirs.
+/// verdict on each other question is clear. Such a question doesn't ask about the action of the region's answer, or its
+/// range for some word has no number of the interval that is known for this word. A question that is to be judged may
+/// turn out clear too. The caller's conditions: there is a region at the place, there are at most 256 questions, and
+/// the probes are theirs.
 pub fn questions_to_judge(
     settled: &Settled,
     job: usize,

@@ -83,8 +83,9 @@ fn is_clear(verdict: Option<Verdict>) -> bool
 }
 
 /// The verdict of the region at the place `job` on the question q: clear, without judging, where the question's bit in
-/// `to_judge` isn't set. `Memory` where an allocation is refused. The caller's conditions: there is such a region and
-/// such a question, q is below 256, and the verdict is clear on each question that is not to be judged.
+/// `to_judge` isn't set, and else that of `judge`. `Memory` where an allocation is refused, or where the region's facts
+/// have too many owners. The caller's conditions: there is such a region and such a question, q is below 256, and the
+/// verdict is clear on each question that is not to be judged.
 fn verdict_on(
     alloc: Global,
     settled: &Settled,
@@ -105,8 +106,8 @@ fn verdict_on(
     judge(alloc, settled, job, &questions[q])
 }
 
-/// The verdict on the question q, below 256, of a sheet on which each verdict that is asked for is clear; `None` where
-/// this one isn't asked for.
+/// The verdict for the question q on a sheet whose verdicts are all clear: `Clear` where the question's bit in `wanted`
+/// is set, and `None` where it isn't. The caller's condition: q is below 256.
 fn clear_verdict(wanted: &[u64; 4], q: usize) -> Option<Verdict>
     requires { q < 256 }
     ensures { result ≡ clear_if_wanted wanted.now q }
@@ -118,10 +119,10 @@ fn clear_verdict(wanted: &[u64; 4], q: usize) -> Option<Verdict>
     }
 }
 
-/// The verdict of the region at the place `job` on each question: `None` where the question's bit in `wanted` isn't
-/// set, and clear, without judging, where only its bit in `to_judge` isn't set. `Memory` where an allocation is
-/// refused. The caller's conditions: there is such a region, there are at most 256 questions, and the verdict is clear
-/// on each question that is not to be judged.
+/// The verdict of the region at the place `job` on each question, in order: `None` where the question's bit in `wanted`
+/// isn't set, and else that of `verdict_on`, which judges only where the bit in `to_judge` is set too. `Memory` where
+/// an allocation is refused, or where the region's facts have too many owners. The caller's conditions: there is such a
+/// region, there are at most 256 questions, and the verdict is clear on each question that is not to be judged.
 fn verdicts_on(
     alloc: Global,
     settled: &Settled,
@@ -162,7 +163,8 @@ fn are_clear(verdicts: &[Option<Verdict>]) -> bool
 impl Sheet {
     /// The sheet of the region at the place `job`, with a verdict on each question that `wanted` asks for: question q
     /// has bit q % 64 of word q / 64, and bits past the last question are ignored. The caller's conditions: there is a
-    /// region at the place, and there are at most 256 questions. `Memory` where an allocation is refused.
+    /// region at the place, and there are at most 256 questions. `Memory` where an allocation is refused, or where the
+    /// region's facts have too many owners.
     pub fn of(
         alloc: Global,
         settled: &Settled,
@@ -183,7 +185,7 @@ impl Sheet {
 
     /// The sheet that `of` makes, for a caller who has looked before which questions are to be judged: those whose bits
     /// are set in `to_judge`. The caller's conditions: those of `of`, and the verdict is clear on each question that is
-    /// not to be judged. `Memory` where an allocation is refused.
+    /// not to be judged. `Memory` where an allocation is refused, or where the region's facts have too many owners.
     pub fn judge(
         alloc: Global,
         settled: &Settled,
