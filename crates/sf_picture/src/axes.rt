@@ -46,7 +46,7 @@ fn push_axis(axes: &mut Vec<Axis>, axis: Axis) -> Result<(), Fault>
 }
 
 /// Adds the axes of a held region's cuts, each as `push_axis` does: those that aren't there yet and whose word is one
-/// of the 16. `Memory` where an allocation is refused.
+/// of the 16. `Memory` where an allocation is refused; some axes may have been added then.
 fn push_axes(axes: &mut Vec<Axis>, one: &Held) -> Result<(), Fault>
     ensures has { IfOk result (λ _. (c : ACut) → Contains one.now.cuts c → c.axis.word < 16
         → Contains axes.new.items c.axis) }
@@ -66,8 +66,8 @@ fn push_axes(axes: &mut Vec<Axis>, one: &Held) -> Result<(), Fault>
     Ok(())
 }
 
-/// The axes on which held regions have cuts, each once, in the order of `Axis::order`. `Memory` where an allocation is
-/// refused.
+/// The axes on which held regions have cuts, each once, in the order of `Axis::order`. Axes whose word is none of the
+/// 16 are left out. `Memory` where an allocation is refused.
 pub(crate) fn axes_of(alloc: Global, held: &[Held]) -> Result<Vec<Axis>, Fault>
     ensures words { IfOk result (λ v. All (λ (a : AnAxis). a.word < 16) v.items) }
     ensures each { IfOk result (λ v. All (λ (h : HeldData). (c : ACut) → Contains h.cuts c

@@ -24,8 +24,9 @@ pub struct Axis {
 const PLACES: [u8; 16] = [1, 0, 15, 14, 3, 2, 5, 4, 7, 6, 9, 8, 11, 10, 13, 12];
 
 impl Axis {
-    /// A number by which axes are put in order, the least first: by the places of their words, which stand in its upper
-    /// 32 bits, and of one word those with greater masks first. A word that is none of the 16 comes last.
+    /// The number by which axes are put in order, the least first. Its upper 32 bits are the place of the axis's word
+    /// in `PLACES`; a word that is none of the 16 comes last, at the place 16. Its lower 32 bits are 2 ^ 32 - 1 minus
+    /// the mask, so of two axes of one word the one with the greater mask comes first.
     pub(crate) fn order(self) -> u64
         ensures { result ≡ axis_order self }
     {

@@ -22,10 +22,10 @@ fn is_one_bit(mask: u32) -> bool
     mask.is_power_of_two()
 }
 
-/// The only number that an input can have on the axis if its number lies in the span from `first` to `last`, where this
-/// is seen at once. It is `first` where the span is only this number, and the mask where the mask is one bit and the
-/// span is without 0. It needn't be a number of the axis in the first case, nor lie in the span in the second: then no
-/// input has a number of the span. None in all other cases.
+/// The only number of the span from `first` to `last` that an input can have on the axis, in two cases. Where `first`
+/// and `last` are equal, it is `first`. Else, where the mask is one bit and the span is without 0, it is the mask. None
+/// in all other cases. The first case can give what is no number of the axis, and the second what lies outside the
+/// span: then no input has a number of the span.
 fn number_in(axis: Axis, first: u32, last: u32) -> Option<u32>
     ensures one { IfSome result (λ v. (n : ℕ) → first ≤ bit_and n axis.mask
         → bit_and n axis.mask ≤ last → bit_and n axis.mask ≡ v) }
@@ -45,9 +45,10 @@ fn number_in(axis: Axis, first: u32, last: u32) -> Option<u32>
     None
 }
 
-/// Confines facts to the numbers from `first` to `last` of a whole word. False where no input that agrees with the
-/// facts has one of them; `Memory` where an allocation is refused. In both cases the facts are unchanged. The caller's
-/// conditions: the facts are about the nodes of this pool, and the axis is a whole word, one of the 16.
+/// Confines facts to the numbers from `first` to `last` of a whole word. False: no input that agrees with the facts has
+/// one of these numbers. `Memory` where an allocation is refused, or something that is shared has too many owners. In
+/// both cases the facts are unchanged. The caller's conditions: the facts are about the nodes of this pool, and the
+/// axis is a whole word, one of the 16.
 fn confine_whole(
     alloc: Global,
     facts: &mut Facts,
@@ -74,10 +75,13 @@ fn confine_whole(
 }
 
 /// Confines facts to the inputs that have on an axis the number that `number_in` gives for the span from `first` to
-/// `last`. Where it gives none, or one that isn't a number of the axis, nothing is learnt: the result is true, and the
-/// facts are unchanged. False where no input that agrees with the facts has a number of the span; `Memory` where an
-/// allocation is refused. In both cases the facts are unchanged. The caller's conditions: the facts are about the nodes
-/// of this pool, and the axis's word is one of the 16.
+/// `last`. It gives one where `first` and `last` are equal, or the mask is one bit and `first` isn't 0. Where it
+/// gives none, or one that isn't a number of the axis, nothing is learnt: the result is true, and the facts are
+/// unchanged.
+///
+/// False: no input that agrees with the facts has a number of the span. `Memory` where an allocation is refused, or
+/// something that is shared has too many owners. In both cases the facts are unchanged. The caller's conditions: the
+/// facts are about the nodes of this pool, and the axis's word is one of the 16.
 fn confine_masked(
     alloc: Global,
     facts: &mut Facts,
@@ -108,10 +112,14 @@ fn confine_masked(
     Ok(facts.confine_bits(alloc, pool, axis.word, axis.mask, number)?)
 }
 
-/// Confines facts to the span from `first` to `last` of an axis: wholly where the axis is a whole word, and else as far
-/// as `confine_masked` does. False where no input that agrees with the facts has a number of the span; `Memory` where
-/// an allocation is refused. In both cases the facts are unchanged. The caller's conditions: the facts are about the
-/// nodes of this pool, and the axis's word is one of the 16.
+/// Confines facts to the span from `first` to `last` of an axis. This is done where the axis is a whole word. Under
+/// another mask it is done, by `confine_masked`, only where `first` and `last` are equal and a number of the axis, or
+/// where they differ, the mask is one bit and the span is without 0. Else nothing is learnt: the result is true, and
+/// the facts are unchanged.
+///
+/// False: no input that agrees with the facts has a number of the span. `Memory` where an allocation is refused, or
+/// something that is shared has too many owners. In both cases the facts are unchanged. The caller's conditions: the
+/// facts are about the nodes of this pool, and the axis's word is one of the 16.
 fn confine(
     alloc: Global,
     facts: &mut Facts,
@@ -139,10 +147,13 @@ fn confine(
     confine_masked(alloc, facts, pool, axis, first, last)
 }
 
-/// A copy of facts, confined to the span from `first` to `last` of an axis: wholly where the axis is a whole word, and
-/// else as far as `confine_masked` does. None where no input that agrees with the facts has a number of the span. The
-/// caller's conditions: the facts are about the nodes of this pool, and the axis's word is one of the 16. `Memory`
-/// where an allocation is refused, or where the facts have too many owners.
+/// A copy of facts, confined to the span from `first` to `last` of an axis. It is confined where the axis is a whole
+/// word. Under another mask it is so only where `first` and `last` are equal and a number of the axis, or where they
+/// differ, the mask is one bit and the span is without 0. Else it is a mere copy.
+///
+/// None: no input that agrees with the facts has a number of the span. The caller's conditions: the facts are about
+/// the nodes of this pool, and the axis's word is one of the 16. `Memory` where an allocation is refused, or something
+/// that is shared has too many owners.
 pub(crate) fn facts_within(
     alloc: Global,
     facts: &Facts,

@@ -87,7 +87,7 @@ fn push_cut_below(cuts: &mut Vec<Cut>, axis: Axis, number: u32) -> Result<(), Fa
 }
 
 /// Adds the cuts on both sides of a number of an axis, each only where numbers of the axis lie below and above it.
-/// `Memory` where an allocation is refused.
+/// `Memory` where an allocation is refused; one cut may have been added then.
 fn push_cuts_beside(cuts: &mut Vec<Cut>, axis: Axis, number: u32) -> Result<(), Fault>
     ensures has { IfOk result (λ _. (number < axis.mask
         → Contains cuts.new.items (record { axis = axis; last = number }))
@@ -110,8 +110,8 @@ fn push_cuts_beside(cuts: &mut Vec<Cut>, axis: Axis, number: u32) -> Result<(), 
     Ok(())
 }
 
-/// Adds the cuts at which a test of an axis against a number changes its result, each as `push_cut` does. A test of
-/// bits has one cut, right above the number 0 of another axis: this has the same word, and as its mask the bits that
+/// Adds the cuts at which a test of an axis against a number may change its result, each as `push_cut` does. A test of
+/// bits has at most one cut, right above the number 0 of the axis that has the same word, and as its mask the bits that
 /// are tested. `Memory` where an allocation is refused.
 fn push_cuts_of(cuts: &mut Vec<Cut>, axis: Axis, test: Test, number: u32) -> Result<(), Fault>
     ensures between { IfOk result (λ _. axis.mask ≡ 4294967295 → (m n : ℕ) → m < 2 ^ 32
@@ -140,10 +140,10 @@ fn push_cuts_of(cuts: &mut Vec<Cut>, axis: Axis, test: Test, number: u32) -> Res
     }
 }
 
-/// Drops a constant from the node of a test of equality. Where the node is an operand plus or minus a constant, which
-/// stands second, the result is the test of this operand against the number that it has to have then, modulo 2 ^ 32.
-/// Any other test stays as it is. The caller's conditions: the test is one of equality, and its node is one of the
-/// pool.
+/// A test of equality, without the constant of a sum or a difference. Where the tested node is an operand plus or minus
+/// a constant, and the constant stands second, the result tests the operand in place of the node. The number is then
+/// lessened by an added constant, or raised by a taken one, modulo 2 ^ 32. Any other test stays as it is. The caller's
+/// conditions: the test is one of equality, and its node is one of the pool.
 fn drop_constant(pool: &Pool, tested: NumberTest) -> NumberTest
     requires { tested.node.0 < length pool.now }
     ensures node { result.node.0 < length pool.now }
@@ -171,9 +171,9 @@ fn drop_constant(pool: &Pool, tested: NumberTest) -> NumberTest
     }
 }
 
-/// The test of a condition against a number; none where the condition's other side isn't a constant. Whether the
-/// condition wants the test to be true or false isn't part of it. From a test of equality a constant is dropped, as
-/// `drop_constant` does. The caller's condition: the two nodes of the condition are of the pool.
+/// The test that a condition makes of its node against a number; `None` where the condition's other node isn't a
+/// constant. Whether the condition wants the test to be true or false isn't part of the result. A test of equality is
+/// given as `drop_constant` makes it. The caller's condition: the two nodes of the condition are of the pool.
 fn number_test(pool: &Pool, cond: &Cond) -> Option<NumberTest>
     requires node { cond.now.node.0 < length pool.now }
     requires other { cond.now.other.0 < length pool.now }
@@ -198,8 +198,8 @@ fn number_test(pool: &Pool, cond: &Cond) -> Option<NumberTest>
 
 /// Adds the cuts of a condition to `cuts`, and the bits that the condition fixes to `bits`. Nothing is added where the
 /// condition isn't a test of an axis against a number. The caller's conditions: the two nodes of the condition are of
-/// the pool, and `bits` has an entry for each of the 16 words. `Memory` where an allocation is refused; `bits` may be
-/// changed then.
+/// the pool, and `bits` has an entry for each of the 16 words. `Memory` where an allocation is refused; `cuts` and
+/// `bits` may be changed then.
 fn push_cuts_of_cond(
     cuts: &mut Vec<Cut>,
     bits: &mut [FixedBits],
@@ -234,17 +234,17 @@ fn push_cuts_of_cond(
 }
 
 /// Whether a condition needs no cut of its own. It needs none where it is about `single`, a word of which newer
-/// conditions leave only one number: the cuts on both sides of that number are enough. A test of bits always needs one,
-/// since it has an axis of its own. Without a `single` each condition counts as needing one.
+/// conditions leave only one number: the cuts on both sides of that number are enough. A test of bits always counts as
+/// needing one, since it may have an axis of its own. Without a `single` each condition does.
 fn needs_no_cut(single: Option<NodeId>, cond: &Cond) -> bool
     ensures { IsTrue result ↔ NeedsNoCut single cond.now }
 {
     single == Some(cond.node) && cond.test != Test::AnyBit
 }
 
-/// The place of the newest condition at a place below `end` that needs a cut, as `needs_no_cut` says; none where none
-/// needs one. Newer conditions stand at higher places. Paths can be long, so this loop does nothing else. The caller's
-/// condition: `end` is at most the number of conditions.
+/// The place of the newest condition at a place below `end` that needs a cut, as `needs_no_cut` says. `None` where all
+/// conditions below `end` need no cut. Newer conditions stand at higher places. Paths can be long, so this loop does
+/// nothing else. The caller's condition: `end` is at most the number of conditions.
 fn newest_to_cut(piece: &Piece, single: Option<NodeId>, end: usize) -> Option<usize>
     requires { end ≤ length piece.now.conditions }
     ensures found { MatchOption result (AreAboutSingle piece.now single 0 end)
@@ -262,10 +262,10 @@ fn newest_to_cut(piece: &Piece, single: Option<NodeId>, end: usize) -> Option<us
     None
 }
 
-/// The word of which only one number is left once `cond` is taken too, which is older than those taken before: the word
-/// of `cond`, where `cond` says that this word equals a constant; else `newer`, the word that the newer conditions
-/// gave, if any. (The first 16 nodes of each pool are the input's words.) The caller's condition: the condition's other
-/// node is of the pool.
+/// A word of which `cond` and the newer conditions leave only one number; `None` where none was met. Where `cond` says
+/// that a word of the input equals a constant, the result is this word. Else it is `newer`, which this function gave
+/// for the newer conditions. (The first 16 nodes of each pool are the input's words.) The caller's condition: the
+/// condition's other node is of the pool.
 fn single_after(newer: Option<NodeId>, pool: &Pool, cond: &Cond) -> Option<NodeId>
     requires { cond.now.other.0 < length pool.now }
     ensures said { IfSome result (λ n. (newer ≡ Some n)
@@ -283,7 +283,8 @@ fn single_after(newer: Option<NodeId>, pool: &Pool, cond: &Cond) -> Option<NodeI
     }
 }
 
-/// A cut of a whole word, moved to the nearest number of the word's window. A cut under another mask stays.
+/// A cut of a whole word, moved to the nearest number of `window`, which is the window of the cut's word. A cut under
+/// another mask stays.
 fn cut_within(window: Window, cut: Cut) -> Cut
     ensures axis { result.axis ≡ cut.axis }
     ensures whole { cut.axis.mask ≡ 4294967295
@@ -317,11 +318,11 @@ fn is_among_newest(cuts: &Vec<Cut>, cut: Cut) -> bool
     has(&all[newest..], cut)
 }
 
-/// Adds a cut of a piece, as `cut_within` moves it into the window of its word. It isn't added where it then equals one
-/// of the last two that were added, or where no number of its axis lies above it. The comparison is with two cuts since
-/// a window has two ends: it keeps many out that were moved to the same end. `bits` has for each of the 16 words the
-/// bits that conditions of the piece fix. The caller's condition: the cut's word is one of the 16. `Memory` where an
-/// allocation is refused.
+/// Adds a cut of a piece, as `cut_within` moves it into the window of its word. The moved cut isn't added where it
+/// equals one of the last two of `cuts`, or where no number of its axis lies above it. (Many cuts are moved to the same
+/// end of a window, which has two ends. The comparison with the last two keeps most of these out.) `bits` has for each
+/// of the 16 words the bits that conditions of the piece fix. The caller's condition: the cut's word is one of the 16.
+/// `Memory` where an allocation is refused.
 fn push_moved(cuts: &mut Vec<Cut>, piece: &Piece, bits: &[FixedBits], cut: Cut) -> Result<(), Fault>
     requires bits { length bits.now ≡ 16 }
     requires word { cut.axis.word < 16 }
@@ -345,8 +346,8 @@ fn push_moved(cuts: &mut Vec<Cut>, piece: &Piece, bits: &[FixedBits], cut: Cut) 
 }
 
 /// The cuts `tested` of a piece, each moved and added as `push_moved` does: of many that lie before or behind a window
-/// few are left. `bits` has for each of the 16 words the bits that conditions of the piece fix. The caller's condition:
-/// the word of each cut is one of the 16. `Memory` where an allocation is refused.
+/// often few are left. `bits` has for each of the 16 words the bits that conditions of the piece fix. The caller's
+/// condition: the word of each cut is one of the 16. `Memory` where an allocation is refused.
 fn moved_cuts(
     alloc: Global,
     piece: &Piece,
@@ -368,11 +369,14 @@ fn moved_cuts(
     Ok(cuts)
 }
 
-/// The cuts of a piece, by its conditions on axes, each moved into the window of its word. The newest condition is
-/// taken first. Once a condition leaves only one number of a word, older ones that compare this word itself, not under
-/// a mask, give no cuts. (Tests of its bits still do.) This ends where an older condition leaves only one number of
-/// another word, since only one word is remembered. On a plain stack some cut lies between each member and each input
-/// that is no member. `Memory` where an allocation is refused.
+/// The cuts of a piece: those that its conditions on axes give. One of a whole word is moved to the nearest number of
+/// the word's `Window`. One above which no number of its axis lies is left out. A cut can come several times. On a
+/// plain stack some cut lies between each member and each input that is no member. `Memory` where an allocation is
+/// refused.
+///
+/// The newest condition is taken first. Once a condition says that a word equals a constant, older ones that compare
+/// this word itself, not under a mask, give no cuts. (Tests of its bits still do.) This ends where an older condition
+/// says that another word equals a constant, since only one word is remembered.
 pub(crate) fn cuts_of(alloc: Global, piece: &Piece) -> Result<Vec<Cut>, Fault>
     ensures plain { IfOk result (λ v. IsPlainPiece piece.now → AreCutsOf piece.now v.items) }
     ensures rule { IfOk result (λ v. AreCutsBy piece.now v.items) }

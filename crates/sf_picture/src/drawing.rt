@@ -48,8 +48,9 @@ fn leaf_of(sketch: &mut Sketch, labels: Vec<usize>) -> Result<Option<Branch>, Fa
     Ok(Some(leaf))
 }
 
-/// The leaf with the labels of held regions, each once: of all, or of those that are left, as `which` says. None where
-/// there is no label. `Memory` where an allocation is refused, or something that is shared has too many owners.
+/// The leaf with the labels that `labels_of` gives: those of all held regions, or of those that are left, as `which`
+/// says. It counts as drawn. None where there is no label. `Memory` where an allocation is refused, or something that
+/// is shared has too many owners.
 fn leaf_of_held(
     alloc: Global,
     sketch: &mut Sketch,
@@ -127,13 +128,16 @@ fn fork_of(sketch: &mut Sketch, axis: Axis, mut runs: Vec<Run>) -> Result<Option
     Ok(Some(fork))
 }
 
-/// Draws held regions by the axes from the place `at` on, and returns the branch that shows them. They get one leaf in
-/// three cases: where they have only one label; where no axis is left, and then the leaf has only the labels of regions
-/// that `Which::Left` keeps; or where as many leaves were drawn as are allowed, which spends the sketch. Else the next
-/// axis that they cut is parted by the cuts, and each span of it is drawn by the axes behind it. None: no held region
+/// Draws held regions by the axes from the place `at` on, and returns the branch that shows them. None: no held region
 /// has a member that agrees with its confined facts. The caller's conditions: `at` is at most the number of axes, and
 /// each axis's word is one of the 16. `Memory` where an allocation is refused, or something that is shared has too many
 /// owners.
+///
+/// Where the regions have only one label, they get one leaf. Where they have several and no axis is left, they get one
+/// leaf with the labels of those that `Which::Left` keeps, if any. Where axes are left, but as many leaves were drawn
+/// as are allowed, they get one leaf with all their labels, and the sketch is spent. Else, if they cut the next axis,
+/// it is parted by their cuts, each span of it is drawn by the axes behind it, and `fork_of` joins the branches of the
+/// spans. If they don't, they are drawn by the axes behind it.
 fn draw(
     alloc: Global,
     sketch: &mut Sketch,
@@ -268,14 +272,14 @@ fn root_of(alloc: Global, sketch: &mut Sketch, held: &[Held]) -> Result<Branch, 
 /// The picture of an exploration, with a label for each region: each member of a region is shown the region's label.
 /// Where nothing is outstanding, each input is a member of one region, and so lies at a leaf with its label.
 ///
-/// Axes come in a fixed order, each cut where the regions' conditions change their results. Once `leaves` leaves are
+/// Axes come in a fixed order, each cut where results of the regions' conditions may change. Once `leaves` leaves are
 /// drawn, equal ones counted again, no fork is begun any more: a branch with several labels that has axes left gets a
 /// leaf with all these labels, and the picture is spent. It is spent only in this case. Forks that were begun before
 /// are still finished, so more than `leaves` leaves may be drawn.
 ///
-/// On a plain stack no leaf of a picture that isn't spent has two labels; and if there are regions, some member of one
-/// lies at each leaf, also of a spent picture. On another stack a leaf has several labels also where what is known of
-/// regions doesn't separate them.
+/// On a plain stack no leaf of a picture that isn't spent has two labels. If there are regions, on a plain stack a
+/// member of some region lies at each leaf, also in a spent picture. On a stack that isn't plain, a leaf can have
+/// several labels also where what is known of the regions doesn't separate them.
 ///
 /// The caller's condition: there are as many labels as regions, in the order of the regions. `Memory` where an
 /// allocation is refused, or something that is shared has too many owners.

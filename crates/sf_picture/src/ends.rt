@@ -32,8 +32,8 @@ fn ends_of_bits(zeros: u32, ones: u32, mask: u32) -> Ends
 }
 
 impl Ends {
-    /// The numbers between which an input's number on an axis lies, where this is known of the axis's word. For a whole
-    /// word they are the known interval; under another mask they come from the known bits alone.
+    /// The interval in which an input's number on an axis lies, by `known`, what is known of the axis's word. For a
+    /// whole word it is the known interval; under another mask it comes from the known bits alone.
     pub(crate) fn of(known: Known, axis: Axis) -> Ends
         ensures between { (n : ℕ) → n < 2 ^ 32 → Admits known n
             → (result.low ≤ bit_and n axis.mask) × (bit_and n axis.mask ≤ result.high) }
@@ -56,7 +56,8 @@ impl Ends {
         first <= self.low && self.high <= last
     }
 
-    /// Whether no number of the interval lies in the span from `first` to `last`.
+    /// Whether no number of the interval lies in the span from `first` to `last`. The caller's condition: `first` is at
+    /// most `last`.
     pub(crate) fn miss(self, first: u32, last: u32) -> bool
         ensures outside { result ≡ true → (last < self.low) ⊎ (self.high < first) }
         ensures rule { result ≡ miss self first last }

@@ -28,6 +28,7 @@ impl Fault {
 impl From<AllocError> for Fault {
     ghost from_gives = { λ _ e. e ≡ Memory };
 
+    /// A refused allocation is the fault `Memory`.
     fn from(_e: AllocError) -> Fault {
         Fault::Memory
     }
@@ -36,6 +37,7 @@ impl From<AllocError> for Fault {
 impl<T: Drop> From<AllocFailed<T>> for Fault {
     ghost from_gives = { λ _ e. e ≡ Memory };
 
+    /// A refused allocation is the fault `Memory`. The value that should have been stored is dropped.
     fn from(_e: AllocFailed<T>) -> Fault {
         Fault::Memory
     }
@@ -44,6 +46,7 @@ impl<T: Drop> From<AllocFailed<T>> for Fault {
 impl From<sf_dom::Fault> for Fault {
     ghost from_gives = { λ _ e. e ≡ Memory };
 
+    /// The only fault of `sf_dom` is `Memory` too.
     fn from(_e: sf_dom::Fault) -> Fault {
         Fault::Memory
     }

@@ -156,8 +156,9 @@ impl Held {
         &self.facts
     }
 
-    /// The numbers between which the region's members lie on an axis, but only those members that may come to the
-    /// branch that is drawn. The caller's condition: the axis's word is one of the 16.
+    /// An interval of numbers of an axis, which `Ends::of` takes from the region's confined facts. Each member that may
+    /// come to the branch that is drawn has its number on the axis in this interval. The caller's condition: the axis's
+    /// word is one of the 16.
     pub(crate) fn ends_on(&self, axis: Axis) -> Ends
         requires { axis.word < 16 }
         ensures ends { AreEndsOf self.now axis result }
@@ -183,9 +184,10 @@ impl Held {
     }
 }
 
-/// Whether the conditions of a piece, learnt once more from these facts, show that no member agrees with the facts.
-/// False doesn't mean that one agrees. The facts stay as they are. The caller's condition: they are about the nodes of
-/// the piece's pool. `Memory` where an allocation is refused, or where the facts have too many owners.
+/// Whether learning shows that no member of a piece agrees with these facts: a copy of the facts takes in the piece's
+/// conditions once more, one after the other, and one of them contradicts it. False doesn't mean that a member agrees.
+/// The caller's condition: the facts are about the nodes of the piece's pool. `Memory` where an allocation is refused,
+/// or where the facts have too many owners.
 fn rules_out(alloc: Global, piece: &Piece, facts: &Facts) -> Result<bool, Fault>
     requires { Covers facts.now piece.now.pool }
     ensures none { IfOk result (λ b. b ≡ true → NoMemberAgrees piece.now facts.now) }
@@ -205,8 +207,9 @@ fn rules_out(alloc: Global, piece: &Piece, facts: &Facts) -> Result<bool, Fault>
     Ok(false)
 }
 
-/// Whether the region's conditions, learnt once more, show that no member agrees with its confined facts. False doesn't
-/// mean that one agrees. `Memory` where an allocation is refused, or where the facts have too many owners.
+/// What `rules_out` says of a held region's piece and its confined facts: whether no member agrees with these facts, as
+/// learning the piece's conditions once more shows. False doesn't mean that a member agrees. `Memory` where an
+/// allocation is refused, or where the facts have too many owners.
 pub(crate) fn is_ruled_out(alloc: Global, one: &Held) -> Result<bool, Fault>
     ensures none { IfOk result (λ b. b ≡ true → (d : AnInput) → IsHeldBy one.now d → ⊥) }
     ensures rule { IfOk result (λ b. MatchBool b (¬ CanLearnAgain one.now)
@@ -218,9 +221,10 @@ pub(crate) fn is_ruled_out(alloc: Global, one: &Held) -> Result<bool, Fault>
 }
 
 /// The same region, with its facts confined to the span from `first` to `last` of an axis, as far as `facts_within`
-/// does. Where all its numbers on the axis lie in the span anyway, it is only shared. None where its facts show that no
-/// member that agrees with them has a number of the span. The caller's condition: the axis's word is one of the 16.
-/// `Memory` where an allocation is refused, or something that is shared has too many owners.
+/// can: under a mask the facts may stay as they are. Where the interval that `ends_on` gives lies in the span anyway,
+/// the region is only shared. None where its facts show that no member that agrees with them has a number of the span.
+/// The caller's condition: the axis's word is one of the 16. `Memory` where an allocation is refused, or something
+/// that is shared has too many owners.
 fn confine_held(
     alloc: Global,
     one: &Held,
@@ -278,9 +282,8 @@ fn push_within(
     Ok(())
 }
 
-/// For each held region, in their order, what `ends_on` gives: between which numbers of an axis its members lie, but
-/// only those members that may come to the branch that is drawn. The caller's condition: the axis's word is one of the
-/// 16. `Memory` where an allocation is refused.
+/// What `ends_on` gives for each held region on an axis, in the order of the regions. The caller's condition: the
+/// axis's word is one of the 16. `Memory` where an allocation is refused.
 pub(crate) fn all_ends(alloc: Global, held: &[Held], axis: Axis) -> Result<Vec<Ends>, Fault>
     requires { axis.word < 16 }
     ensures ends { IfOk result (λ v. AreAllEnds held.now axis v.items) }
@@ -295,10 +298,10 @@ pub(crate) fn all_ends(alloc: Global, held: &[Held], axis: Axis) -> Result<Vec<E
 }
 
 /// The held regions that may have members with a number in the span from `first` to `last` of an axis, in their order,
-/// each as `confine_held` confines it to the span. A region whose ends miss the span is left out at once, without a
-/// copy of its facts. The caller's conditions: the axis's word is one of the 16, and `ends` are what `all_ends` gives
-/// for these regions and this axis. `Memory` where an allocation is refused, or something that is shared has too many
-/// owners.
+/// each as `confine_held` confines it to the span. Those for which it gives none are left out. A region whose ends
+/// miss the span is left out at once, without a copy of its facts. The caller's conditions: the axis's word is one of
+/// the 16, and `ends` are what `all_ends` gives for these regions and this axis. `Memory` where an allocation is
+/// refused, or something that is shared has too many owners.
 pub(crate) fn held_within(
     alloc: Global,
     held: &[Held],

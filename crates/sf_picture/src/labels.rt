@@ -58,8 +58,9 @@ fn is_left_out(alloc: Global, one: &Held, which: Which) -> Result<bool, Fault>
     }
 }
 
-/// Adds the label of a held region, unless the label is there already or `which` leaves it out. `Memory` where an
-/// allocation is refused, or where the facts have too many owners.
+/// Adds the label of a held region, unless the label is there already or `which` leaves it out. A set that has no other
+/// label than this one has no other afterwards. `Memory` where an allocation is refused, or where the facts have too
+/// many owners.
 fn insert_label_of(
     alloc: Global,
     labels: &mut BTreeSet<usize>,

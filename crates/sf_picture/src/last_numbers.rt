@@ -40,7 +40,8 @@ fn push_last_number(last_numbers: &mut Vec<u32>, cut: Cut, axis: Axis) -> Result
 }
 
 /// Adds the numbers right below the cuts that a held region has on the axis, where numbers of the axis lie above the
-/// cut. A number can come several times. `Memory` where an allocation is refused.
+/// cut. A number can come several times. `Memory` where an allocation is refused; some of the numbers may have been
+/// added then.
 fn push_last_numbers(last_numbers: &mut Vec<u32>, one: &Held, axis: Axis) -> Result<(), Fault>
     ensures has { IfOk result (λ _. (c : ACut) → Contains one.now.cuts c → c.axis ≡ axis
         → c.last < axis.mask → Contains last_numbers.new.items c.last) }

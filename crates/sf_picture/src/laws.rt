@@ -23,8 +23,8 @@ pub fn each_input_lies_at_one_leaf()
         × ((other : ℕ) → LiesAtLeaf p d other → other ≡ place) }
 {}
 
-/// Where a picture shows an input at most one label, it shows that of the region of which the input is a member, and no
-/// other.
+/// A member of a region that is shown at most one label is shown the region's label, and no other. The condition: the
+/// picture shows each member of each region the region's label, as one that `picture_of` draws does.
 pub fn one_label_is_that_of_the_region()
     ensures { (s : BookData) (labels : List ℕ) (p : PictureData) (place : ℕ) (r : RegionData)
         (d : Input) → ShowsLabels s labels p → length (labels_at p d) ≤ 1
@@ -32,7 +32,9 @@ pub fn one_label_is_that_of_the_region()
         → labels_at p d ≡ slice_index labels place ∷ [] }
 {}
 
-/// A picture of a stack shows each input a label of the answer that the stack gives to it.
+/// A picture of a stack shows each input a label that stands for the stack's answer to the input. The conditions: the
+/// stack's exploration ended with nothing outstanding, the picture shows each member of each region the region's label,
+/// and this label is a place of the region's answer in `answers`.
 pub fn each_input_is_shown_its_answer()
     ensures { (s : BookData) (answers : List Answer) (p : PictureData) (d : Input) →
         IsPictureOf s answers p → IsInput d → (label : ℕ) × (a : Answer)
@@ -40,16 +42,18 @@ pub fn each_input_is_shown_its_answer()
         × Answers s.stack d a }
 {}
 
-/// Two stacks of which one picture is, with at most one label at each leaf, give the same answer to each input.
+/// Where one picture is a picture of two stacks, its labels stand for the same answers in both, and no leaf has two
+/// labels, the two stacks give the same answer to each input. Of both stacks the picture has to be one as
+/// `each_input_is_shown_its_answer` says in its conditions.
 pub fn one_picture_has_one_meaning()
     ensures { (s t : BookData) (answers : List Answer) (p : PictureData) (d : Input) →
         IsPictureOf s answers p → IsPictureOf t answers p → IsDetermined p → IsInput d
         → (a : Answer) × Answers s.stack d a × Answers t.stack d a }
 {}
 
-/// A stack has one picture, by the rules by which `picture_of` draws, where its exploration ended with nothing
-/// outstanding. The labels of its regions and the limit of leaves decide this picture, whatever the exploration's
-/// budget was, and in whatever order the works came.
+/// Two explorations of one stack that both ended with nothing outstanding have one picture, by the rules by which
+/// `picture_of` draws, where the labels and the limit of leaves are the same for both. What their budgets were, and in
+/// which order the works came, changes nothing.
 pub fn pictures_have_one_result()
     ensures { HaveOnePicture }
 {

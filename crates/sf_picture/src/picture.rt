@@ -41,7 +41,7 @@ impl Model for Fork {
 }
 
 impl Fork {
-    /// A fork of these runs of an axis.
+    /// A fork of these runs of an axis. Nothing is looked at: the caller's conditions are those of `Sketch::fork`.
     pub(crate) fn of(axis: Axis, runs: Vec<Run>) -> Fork
         ensures { result ≡ record { axis = axis; runs = runs.items } }
     {

@@ -33,7 +33,8 @@ fn ends_at(runs: &Vec<Run>, next: Branch) -> bool
 }
 
 /// Adds a run that goes to `last` and leads to `next`. Where the last run leads to `next` already, it is made to go on
-/// to `last` instead. `Memory` where an allocation is refused.
+/// to `last` instead. Runs are added in the order of their numbers: the caller sees to it that `last` is above the
+/// last number of the run before. `Memory` where an allocation is refused.
 fn push_run(runs: &mut Vec<Run>, last: u32, next: Branch) -> Result<(), Fault>
     ensures added { IfOk result (λ _. AreRunsTo runs.old.items runs.new.items last next) }
     ensures rule { IfOk result (λ _.
@@ -51,8 +52,8 @@ fn push_run(runs: &mut Vec<Run>, last: u32, next: Branch) -> Result<(), Fault>
 
 /// Adds a run for a span of an axis that ends with `last`, and for which the branch `next` was drawn, as `push_run`
 /// does. Where no branch was drawn, since no region has a member there, nothing is changed: the run of the next span
-/// that has a branch takes in the numbers of this span. Where no such span follows, `close_runs` makes the last run
-/// take them in. `Memory` where an allocation is refused.
+/// that has a branch takes in the numbers of this span. Where no such span follows, `close_runs` makes the last run, if
+/// any, take them in. The caller adds the spans in the order of their numbers. `Memory` where an allocation is refused.
 pub(crate) fn push_span(runs: &mut Vec<Run>, last: u32, next: Option<Branch>) -> Result<(), Fault>
     ensures added { IfOk result (λ _. MatchOption next (runs.new.items ≡ runs.old.items)
         (AreRunsTo runs.old.items runs.new.items last)) }
@@ -65,7 +66,7 @@ pub(crate) fn push_span(runs: &mut Vec<Run>, last: u32, next: Option<Branch>) ->
     }
 }
 
-/// Makes the last run go on to the number `last`. Where there is no run, nothing is changed.
+/// Makes the last run go on to the number `last`, the greatest of the axis. Where there is no run, nothing is changed.
 pub(crate) fn close_runs(runs: &mut Vec<Run>, last: u32)
     ensures count { length runs.new.items ≡ length runs.old.items }
     ensures closed { (leaves forks : ℕ) → AreRuns leaves forks (last + 1) runs.old.items

@@ -37,8 +37,9 @@ impl FixedBits {
 
     /// These bits, and those that are fixed where a test of an axis of the word against a number has the result
     /// `sense`. Three cases fix bits. A test of bits that is false fixes all bits that are tested to 0. One that is
-    /// true fixes a bit to 1 where only this bit is tested. An equality that is true fixes all bits of the axis's mask,
-    /// but none where the axis is the whole word: it then leaves only one number of the word, so no bits are asked for.
+    /// true fixes a bit to 1 where only this bit is tested. An equality that is true fixes all bits of the axis's mask
+    /// to those of the number, but only where the axis isn't the whole word. (A whole word has only this number then,
+    /// and its cuts lie beside it, so its window needn't be wider.)
     pub(crate) fn and_by_test(self, axis: Axis, test: Test, number: u32, sense: bool) -> FixedBits
         ensures { result ≡ fixed_by self axis test number sense }
     {
@@ -59,13 +60,13 @@ impl FixedBits {
     }
 }
 
-/// A window of a word, for a piece. The piece's cuts of the word that lie in it stay where they are. A cut before it is
-/// moved to its first number, and one behind it to its last, which leaves fewer cuts to draw.
+/// A window of a word, for a piece. The piece's cuts of the whole word that lie in it stay where they are. One before
+/// it is moved to its first number, and one behind it to its last, which can leave fewer cuts to draw.
 ///
 /// The numbers of the piece are those between which the word is known to lie. The window goes from the number right
-/// below them to the greatest of them: at these two the piece has cuts anyway. But where fixed bits rule out the number
-/// next to them on a side, the piece may have its cut anywhere beyond: on this side the window goes on to the end of
-/// all numbers.
+/// below them, or from 0, to the greatest of them: at these two the piece mostly has cuts anyway. But where fixed bits
+/// rule out the number next to them on a side, the piece may have its cut anywhere beyond: on this side the window goes
+/// on to the end of all numbers.
 #[derive(Clone, Copy)]
 pub(crate) struct Window {
     /// The first number.
@@ -74,8 +75,8 @@ pub(crate) struct Window {
     last: u32,
 }
 
-/// Where a window begins, of a word whose numbers are at least `low`: right below `low`; or at 0, where there is no
-/// number below `low`, or the fixed bits rule out the number right below.
+/// The first number of the window of a word whose numbers are at least `low`: `low - 1`, but 0 where `low` is 0, or
+/// where `low - 1` hasn't the fixed bits.
 fn first_of(low: u32, bits: FixedBits) -> u32
     ensures below { (result ≡ 0) ⊎ (result < low) }
     ensures rule { result ≡ window_first low bits }
@@ -87,8 +88,8 @@ fn first_of(low: u32, bits: FixedBits) -> u32
     }
 }
 
-/// Where a window ends, of a word whose numbers are at most `high`: at `high`; or at the greatest number of all, where
-/// there is no number above `high`, or the fixed bits rule out the number right above.
+/// The last number of the window of a word whose numbers are at most `high`: `high`, but 2 ^ 32 - 1 where `high + 1`
+/// hasn't the fixed bits.
 fn last_of(high: u32, bits: FixedBits) -> u32
     ensures above { high ≤ result }
     ensures rule { result ≡ window_last high bits }
