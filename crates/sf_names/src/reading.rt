@@ -44,8 +44,8 @@ fn has_names_keys(table: &Table) -> bool
     has_only_names_keys(table)
 }
 
-/// The call of a name and its number. `Range` where the number hasn't 32 bits, `Memory` where an allocation is
-/// refused.
+/// The call with this name and this number. The caller has checked the name by `is_call_name`. `Range` where the number
+/// is negative or has more than 32 bits; `Memory` where an allocation is refused.
 fn call_from(alloc: Global, name: &str, number: i64) -> Result<Call, Fault>
     ensures { Gives (λ c. c) result (call_where_word name.now (word_in number)) }
 {
@@ -56,8 +56,9 @@ fn call_from(alloc: Global, name: &str, number: i64) -> Result<Call, Fault>
     Ok(Call { number, name })
 }
 
-/// The call of a key and its value. `Key` where the key is no name of a call, or the value no whole number; then what
-/// `call_from` refuses.
+/// The call that a key of the table `calls` and its value describe: `name` is the key, `value` holds the number. `Key`
+/// where `is_call_name` is false of the key, or the value is no whole number; then `Range` where the number is negative
+/// or has more than 32 bits. `Memory` where an allocation is refused.
 fn call_in(alloc: Global, name: &str, value: &Value) -> Result<Call, Fault>
     ensures { Gives (λ c. c) result (call_of name.now (view value.now)) }
 {
@@ -70,8 +71,10 @@ fn call_in(alloc: Global, name: &str, value: &Value) -> Result<Call, Fault>
     }
 }
 
-/// The calls of a table, in the order of its keys. The refusal is that of the first call that is refused, or `Memory`
-/// where an allocation is refused.
+/// The calls of the table at a set's key `calls`, in the order of its keys, which are the names of the calls. The
+/// refusal is that of the first call that is refused: `Key` where the name isn't 1 to 64 letters, digits and `_`, or
+/// the value is no whole number; `Range` where the number is negative or has more than 32 bits. `Memory` where an
+/// allocation is refused.
 fn calls_of(alloc: Global, table: &Table) -> Result<Vec<Call>, Fault>
     ensures { Gives (λ v. v.items) result (calls_of (table_view table.now)) }
 {
@@ -83,7 +86,8 @@ fn calls_of(alloc: Global, table: &Table) -> Result<Vec<Call>, Fault>
     Ok(calls)
 }
 
-/// The calls of a value. `Key` where it is no table; then what `calls_of` refuses.
+/// The calls of the value at a set's key `calls`, in the order of their names. `Key` where it is no table; then what
+/// `calls_of` refuses.
 fn calls_of_value(alloc: Global, value: &Value) -> Result<Vec<Call>, Fault>
     ensures { Gives (λ v. v.items) result (calls_of_value (view value.now)) }
 {
@@ -93,7 +97,8 @@ fn calls_of_value(alloc: Global, value: &Value) -> Result<Vec<Call>, Fault>
     }
 }
 
-/// The calls at the key `calls` of a set's table. `Key` where the key is missing; then what `calls_of_value` refuses.
+/// The calls at the key `calls` of a set's table, in the order of their names. `Key` where the key is missing, or its
+/// value is no table; then what `calls_of` refuses.
 fn calls_in(alloc: Global, table: &Table) -> Result<Vec<Call>, Fault>
     ensures { Gives (λ v. v.items) result
         (calls_at (get_member (codes "calls") (table_view table.now))) }
@@ -104,7 +109,7 @@ fn calls_in(alloc: Global, table: &Table) -> Result<Vec<Call>, Fault>
     }
 }
 
-/// The number of an architecture, as a word. `Range` where it hasn't 32 bits.
+/// The number of an architecture, as a word. `Range` where it is negative or has more than 32 bits.
 fn arch_from(number: i64) -> Result<u32, Fault>
     ensures { Gives (λ n. n) result (arch_where_word (word_in number)) }
 {
@@ -114,7 +119,8 @@ fn arch_from(number: i64) -> Result<u32, Fault>
     Ok(arch)
 }
 
-/// The number of an architecture that a value has. `Key` where it is no whole number; then what `arch_from` refuses.
+/// A value, read as the number of an architecture. `Key` where the value is no whole number; `Range` where the number
+/// is negative or has more than 32 bits.
 fn arch_of_value(value: &Value) -> Result<u32, Fault>
     ensures { Gives (λ n. n) result (arch_of_value (view value.now)) }
 {
@@ -124,7 +130,8 @@ fn arch_of_value(value: &Value) -> Result<u32, Fault>
     }
 }
 
-/// The number at the key `arch` of a set's table. `Key` where the key is missing; then what `arch_of_value` refuses.
+/// The number at the key `arch` of a set's table, as a word. `Key` where the key is missing, or its value is no whole
+/// number; `Range` where the number is negative or has more than 32 bits.
 fn arch_in(table: &Table) -> Result<u32, Fault>
     ensures { Gives (λ n. n) result (arch_at (get_member (codes "arch") (table_view table.now))) }
 {
@@ -134,9 +141,12 @@ fn arch_in(table: &Table) -> Result<u32, Fault>
     }
 }
 
-/// The set with this name that a table describes, with the calls in the order of the table's keys. The caller has seen
-/// that the table has no unknown key. The refusals are those of `arch_in`, and then those of `calls_in`; `Memory` where
-/// an allocation is refused.
+/// The set with this name that a table describes, with the calls in the order of their names. The caller has seen that
+/// the table has no other keys than `arch` and `calls`.
+///
+/// Refusals, first for `arch`, then for `calls`: `Key` where one of the two is missing or its value is of a wrong form,
+/// or a call's name or value is; `Range` where the number of the architecture or of a call is negative or has more than
+/// 32 bits. `Memory` where an allocation is refused.
 fn set_from(alloc: Global, set: &str, table: &Table) -> Result<Names, Fault>
     ensures { Gives (λ n. n) result (set_from set.now (table_view table.now)) }
 {
@@ -146,8 +156,10 @@ fn set_from(alloc: Global, set: &str, table: &Table) -> Result<Names, Fault>
     Ok(Names { set, arch, calls })
 }
 
-/// The set of this name that a table has, with the calls in the order of its keys. `Key` where a key is unknown; then
-/// what `set_from` refuses.
+/// The set with this name that a table describes, with the calls in the order of their names. `Key` where the table has
+/// another key than `arch` and `calls`, or lacks one of them, or where the value of one, or a call's name or value, is
+/// of a wrong form. `Range` where the number of the architecture or of a call is negative or has more than 32 bits.
+/// `Memory` where an allocation is refused. `read_names` says in which order this is tried.
 fn set_of_table(alloc: Global, set: &str, table: &Table) -> Result<Names, Fault>
     ensures { Gives (λ n. n) result (set_of_table set.now (table_view table.now)) }
 {
@@ -157,7 +169,8 @@ fn set_of_table(alloc: Global, set: &str, table: &Table) -> Result<Names, Fault>
     set_from(alloc, set, table)
 }
 
-/// The set of this name that a value has. `Key` where the value is no table; then what `set_of_table` refuses.
+/// The set with this name that a value describes, with the calls in the order of their names. `Key` where the value is
+/// no table; then what `set_of_table` refuses.
 fn set_of_value(alloc: Global, set: &str, value: &Value) -> Result<Names, Fault>
     ensures { Gives (λ n. n) result (set_of_value set.now (view value.now)) }
 {
@@ -167,7 +180,9 @@ fn set_of_value(alloc: Global, set: &str, value: &Value) -> Result<Names, Fault>
     }
 }
 
-/// The set of a key and its value. `Key` where the key can't be the name of a set; then what `set_of_value` refuses.
+/// The set that a key at the top of a file and its value describe: `set` is the key and becomes the set's name. The
+/// calls stand in the order of their names. `Key` where the key isn't 1 to 64 letters, digits and `_`, or the value is
+/// no table; then what `set_of_table` refuses.
 fn set_of(alloc: Global, set: &str, value: &Value) -> Result<Names, Fault>
     ensures { Gives (λ n. n) result (set_of_key set.now (view value.now)) }
 {
@@ -177,14 +192,14 @@ fn set_of(alloc: Global, set: &str, value: &Value) -> Result<Names, Fault>
     set_of_value(alloc, set, value)
 }
 
-/// Whether a call's number is below those of x32, the calls of x86-64 with 32-bit pointers: these have bit 30 set.
+/// Whether a call's number is below 2^30. The numbers of x32, the calls of x86-64 with 32-bit pointers, begin there.
 fn is_low_call(call: &Call) -> bool
     ensures { result ≡ is_low_call call.now }
 {
     call.number < 0x4000_0000
 }
 
-/// Whether at least one of the calls has a number below those of x32.
+/// Whether at least one of the calls has a number below 2^30, where those of x32 begin.
 fn has_low_call(calls: &[Call]) -> bool
     ensures { result ≡ list_any is_low_call calls.now }
 {
@@ -205,8 +220,8 @@ fn known_set(arch: u32, calls: &[Call]) -> Option<&'static str>
     }
 }
 
-/// The usual name of the set of these calls: `known_set`, or the architecture's number with eight hexadecimal digits.
-/// An error where an allocation is refused.
+/// The usual name of the set of these calls: that of `known_set`, or else `0x` and the architecture's number with eight
+/// hexadecimal digits, in capitals. An error where an allocation is refused.
 fn usual_set(alloc: Global, arch: u32, calls: &[Call]) -> Result<String, AllocError>
     ensures { IfOk result (λ s. string_bytes s ≡ usual_set arch calls.now) }
 {
@@ -216,12 +231,16 @@ fn usual_set(alloc: Global, arch: u32, calls: &[Call]) -> Result<String, AllocEr
     }
 }
 
-/// The set of a file that is one set, with its usual name. `table` is the top of the file; the caller has seen that it
-/// has no other keys than `arch` and `calls`. The refusals are those of `set_from`; `Memory` also where an allocation
-/// for the name is refused.
+/// The set of a file that is one set, with its usual name, and with the calls in the order of their names. `table` is
+/// the top of the file; the caller has seen that it has no other keys than `arch` and `calls`.
+///
+/// `Key` where one of the two is missing or its value is of a wrong form, or a call's name or value is; `Range` where
+/// the architecture's number or a call's is negative or has more than 32 bits. `Memory` where an allocation is refused,
+/// also one for the set's name.
 fn only_set(alloc: Global, table: &Table) -> Result<Names, Fault>
     ensures { Gives (λ n. n) result (only_set (table_view table.now)) }
 {
+    // The usual name depends on the calls, so the set is read without a name first.
     let names = set_from(alloc, "", table)?;
     let set = usual_set(alloc, names.arch, names.calls.as_slice())?;
     Ok(Names {
@@ -249,7 +268,9 @@ fn put_in_order(names: Names) -> Result<Names, Fault>
     Ok(ordered)
 }
 
-/// The set of a key and its value, with the calls in the order of their numbers. The refusals are those of `set_of`.
+/// The set of a key at the top of a file and its value, with the calls in the order of their numbers. `set` is the key
+/// and becomes the set's name. `Key` where the key isn't 1 to 64 letters, digits and `_`, or the value is no table;
+/// then what `set_of_table` refuses. `Memory` can come anywhere.
 fn ordered_set(alloc: Global, set: &str, value: &Value) -> Result<Names, Fault>
     ensures { GivesSet result (set_of_key set.now (view value.now)) }
 {
@@ -257,8 +278,12 @@ fn ordered_set(alloc: Global, set: &str, value: &Value) -> Result<Names, Fault>
     put_in_order(names)
 }
 
-/// The set of a file that is one set, with the calls in the order of their numbers. What the caller has seen, and the
-/// refusals, are those of `only_set`.
+/// The set of a file that is one set, with its usual name, and with the calls in the order of their numbers. `table` is
+/// the top of the file; the caller has seen that it has no other keys than `arch` and `calls`.
+///
+/// `Key` where one of the two is missing, or where its value, or a call's name or value, is of a wrong form; `Range`
+/// where the number of the architecture or of a call is negative or has more than 32 bits; `Memory` where an allocation
+/// is refused. `read_names` says in which order this is tried.
 fn ordered_only_set(alloc: Global, table: &Table) -> Result<Names, Fault>
     ensures { GivesSet result (only_set (table_view table.now)) }
 {
@@ -266,8 +291,10 @@ fn ordered_only_set(alloc: Global, table: &Table) -> Result<Names, Fault>
     put_in_order(names)
 }
 
-/// The sets of a table, in the order of its keys, the calls of each in the order of their numbers. The refusal is that
-/// of the first set that is refused, or `Memory` where an allocation is refused.
+/// The sets of the table at the top of a file that has a set at each key. They stand in the order of the keys, and the
+/// calls of each in the order of their numbers. The refusal is that of the first set that is refused: `Key` where the
+/// set's name, its value or a part of it is of a wrong form, or a key in it is missing or unknown; `Range` where a
+/// number in it is negative or has more than 32 bits. `Memory` where an allocation is refused.
 fn sets_of(alloc: Global, table: &Table) -> Result<Vec<Names>, Fault>
     ensures { GivesNames (λ v. v.items) result (sets_of_table (table_view table.now)) }
 {
@@ -279,8 +306,11 @@ fn sets_of(alloc: Global, table: &Table) -> Result<Vec<Names>, Fault>
     Ok(sets)
 }
 
-/// A list that has only the set of a file that is one set. What the caller has seen, and the refusals, are those of
-/// `only_set`.
+/// The sets of a file that is one set: a list of this set alone, as `ordered_only_set` gives it. `table` is the top of
+/// the file; the caller has seen that it has no other keys than `arch` and `calls`.
+///
+/// `Key` where one of these two is missing or its value is of a wrong form, or a call's name or value is; `Range` where
+/// the architecture's number or a call's is negative or has more than 32 bits; `Memory` where an allocation is refused.
 fn list_of_one_set(alloc: Global, table: &Table) -> Result<Vec<Names>, Fault>
     ensures { GivesNames (λ v. v.items) result
         (list_of_one_set (only_set (table_view table.now))) }
@@ -292,8 +322,12 @@ fn list_of_one_set(alloc: Global, table: &Table) -> Result<Vec<Names>, Fault>
 }
 
 /// The sets of a file's table, the calls of each in the order of their numbers. A table without other keys than `arch`
-/// and `calls` is itself one set; any other table has a set at each key. The refusals are those of `list_of_one_set` or
-/// of `sets_of`.
+/// and `calls`, also an empty one, is itself one set, with the usual name of its architecture. Any other table has a
+/// set at each key.
+///
+/// `Key` where a set's name, its value or a part of it is of a wrong form, or a key in it is missing or unknown;
+/// `Range` where a number in it is negative or has more than 32 bits; `Memory` where an allocation is refused.
+/// `read_names` says in which order this is tried.
 fn names_of(alloc: Global, table: &Table) -> Result<Vec<Names>, Fault>
     ensures { GivesNames (λ v. v.items) result (sets_of_file (table_view table.now)) }
 {
@@ -304,13 +338,14 @@ fn names_of(alloc: Global, table: &Table) -> Result<Vec<Names>, Fault>
     }
 }
 
-/// The sets of calls of a file of names, which is TOML, the calls of each by their numbers.
+/// The sets of calls of a file of names, which is TOML. The calls of each set are in the order of their numbers.
 ///
 /// A set is a table with the number of an architecture at the key `arch`, and at the key `calls` a table, with a number
-/// for each name. A file whose top has no other keys than these is one set, and its name is the usual one of its
-/// architecture: `i386`, `aarch64` or `arm`; for 0xC000003E `x86_64` where some number is below 2^30, and else `x32`;
-/// for another architecture `0x` and its number with eight hexadecimal digits. In any other file each key at the top is
-/// the name of a set, and the value there is the set; the sets come in the order of their names.
+/// for each name. A file whose top has no other keys than these two is one set. (An empty file is one too, and is
+/// refused since it has no `arch`.) Its name is the usual one of its architecture: `i386`, `aarch64` or `arm`; for
+/// 0xC000003E `x86_64` where some call's number is below 2^30, and else `x32`; for another architecture `0x` and its
+/// number with eight hexadecimal digits, in capitals. In any other file each key at the top is the name of a set, and
+/// the value there is the set; the sets come in the order of their names.
 ///
 /// Refusals, tried in this order: `Syntax` where the text is no TOML; then, set after set, `Key` where the set's name
 /// isn't 1 to 64 letters, digits and `_`, or the set is no table, or has an unknown key; `Key` where its architecture

@@ -10,10 +10,10 @@ use std::alloc::AllocError;
 /// The most names that are written in one row.
 const MOST_NAMES: usize = 8;
 
-/// Adds a name to a row's text, in which `count` names stand already. ` # ` stands before the first name, and a comma
-/// before each further one. In place of the ninth name `..` is written, and nothing for a further one. Returns how many
-/// names stand there then, where `..` counts as one. An error where an allocation is refused; part of the name may
-/// stand in the text then.
+/// Adds a name to a row's text, in which `count` names stand already. ` # ` is written before the first name, and a
+/// comma before each further one. Instead of the ninth name `,..` is written, and for any further one nothing. Returns
+/// how many names stand in the row then, where `..` counts as one: at most nine, if `count` was at most nine. An error
+/// where an allocation is refused; a part of what is added may stand in the text then.
 fn push_name(text: &mut String, count: usize, name: &str) -> Result<usize, AllocError>
     ensures text { OnOk result (string_bytes text.new ≡ string_bytes text.old
         ++ next_name_words count name.now) }
@@ -32,9 +32,10 @@ fn push_name(text: &mut String, count: usize, name: &str) -> Result<usize, Alloc
     Ok(count + 1)
 }
 
-/// Adds the name of a call to a row's text, if its number is from `first` to `last`. `count` is how many names stand in
-/// the row already. Returns how many stand there then, as `push_name` counts them. An error where an allocation is
-/// refused.
+/// Adds the name of a call to a row's text, if the call's number is from `first` to `last`. It is added as `push_name`
+/// does it: instead of the ninth name `,..` is written, and for any further one nothing. `count` is how many names
+/// stand in the row already. Returns how many stand there then. In both counts `..` is one. An error where an
+/// allocation is refused; a part of what is added may stand in the text then.
 fn push_call(
     text: &mut String,
     count: usize,
@@ -52,9 +53,10 @@ fn push_call(
     Ok(count)
 }
 
-/// Adds the names of the calls whose numbers are from `first` to `last` to a row's text. `count` is how many names
-/// stand in the row already. Returns how many stand there then, as `push_name` counts them. An error where an
-/// allocation is refused.
+/// Adds the names of the calls whose numbers are from `first` to `last` to a row's text, each as `push_name` does it:
+/// behind the eighth name only `,..` is written. `count` is how many names stand in the row already. Returns how many
+/// stand there then. In both counts `..` is one. An error where an allocation is refused; a part of what is added may
+/// stand in the text then.
 fn push_calls(
     text: &mut String,
     count: usize,
@@ -75,8 +77,9 @@ fn push_calls(
 }
 
 /// Adds the names of the calls of one set whose numbers are from `first` to `last` to a row's text, if it is a set of
-/// the architecture. `count` is how many names stand in the row already. Returns how many stand there then, as
-/// `push_name` counts them. An error where an allocation is refused.
+/// the architecture `arch`. Each is added as `push_name` does it: behind the eighth name only `,..` is written. `count`
+/// is how many names stand in the row already. Returns how many stand there then. In both counts `..` is one. An error
+/// where an allocation is refused; a part of what is added may stand in the text then.
 fn push_names_in(
     text: &mut String,
     count: usize,
@@ -97,9 +100,12 @@ fn push_names_in(
 }
 
 /// Adds to a row's text, set after set, the names of the calls of an architecture whose numbers are from `first` to
-/// `last`: ` # ` and then at most eight names with commas between them, and `..` where there are more. `count` is how
-/// many names stand in the row before, 0 in a new one. Returns how many stand there then, at most nine, where `..`
-/// counts as one. An error where an allocation is refused; some of the names may stand in the text then.
+/// `last`; nothing where there is no such name. The names of a row stand behind ` # `, with commas between them. Where
+/// a row has more than eight names, `,..` stands for those behind the eighth.
+///
+/// `count` is how many names stand in the row before, 0 in a new one. Returns how many stand in it then, where `..`
+/// counts as one: at most nine, if `count` was at most nine. An error where an allocation is refused; a part of what is
+/// added may stand in the text then.
 pub fn push_names_between(
     text: &mut String,
     count: usize,
