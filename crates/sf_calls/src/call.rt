@@ -54,7 +54,8 @@ fn whole_of(low: u32, high: u32) -> u64
     u64::from(high) * 0x1_0000_0000 + u64::from(low)
 }
 
-/// The six arguments of an input, each put together from its two words, which begin at the fifth.
+/// The six arguments of an input, each put together from two words, the low half first. Words 4 and 5 are the first
+/// argument, and words 14 and 15 are the last one.
 pub(crate) fn arguments_in(input: &Input) -> [u64; 6]
     ensures { result ≡ arguments_in input.now }
 {
@@ -68,7 +69,7 @@ pub(crate) fn arguments_in(input: &Input) -> [u64; 6]
     ]
 }
 
-/// How many arguments are written in words: all up to the last one that isn't 0, and none where all of them are 0.
+/// How many of the arguments `push_shown` writes: all up to the last one that isn't 0, and none where all are 0.
 pub(crate) fn count_shown(arguments: &[u64]) -> usize
     ensures count { result ≡ count_shown arguments.now }
     ensures few { result ≤ length arguments.now }

@@ -55,7 +55,8 @@ fn are_digits(digits: &str, radix: u32) -> bool
     !digits.is_empty() && are_each_digits(digits.as_bytes(), radix)
 }
 
-/// Whether a text is a number: decimal digits, or `0x` and hexadecimal digits.
+/// Whether a text is a number: at least one decimal digit, or `0x` and at least one hexadecimal digit, and nothing
+/// else. The number may be of any size.
 pub fn is_number(text: &str) -> bool
     ensures { result ≡ is_number text.now }
 {
@@ -107,7 +108,7 @@ fn are_numbers(text: &str) -> bool
     text.split(',').all(|part| is_number(part))
 }
 
-/// Whether a text is the arguments of a call: one to six numbers with commas between them.
+/// Whether a text is the arguments of a call: one to six numbers with commas between them. They may be of any size.
 pub fn are_arguments(text: &str) -> bool
     ensures { result ≡ are_arguments text.now }
 {
@@ -133,8 +134,8 @@ fn argument_at(text: &str, place: usize) -> Result<u64, Misread>
     }
 }
 
-/// The six arguments of a call; those that aren't given are 0. `Form` where the text isn't one to six numbers with
-/// commas between them; then `Width` where one of them has more than 64 bits.
+/// The six arguments of a call that a text gives; those that it doesn't give are 0. `Form` where the text isn't one to
+/// six numbers with commas between them; then `Width` where one of the numbers has more than 64 bits.
 pub fn read_arguments(text: &str) -> Result<[u64; 6], Misread>
     ensures { result ≡ read_arguments text.now }
 {

@@ -47,7 +47,8 @@ fn sets_of(alloc: Global, text: &str) -> Vec<Names> {
     }
 }
 
-/// Whether a call is written as `words`, with the names of `SETS`.
+/// Whether `push_call_words` writes a call as `words`, with the names of `SETS`. An error where an allocation is
+/// refused in `push_call_words`.
 fn is_written(
     alloc: Global,
     arch: u32,

@@ -21,7 +21,7 @@ fn call_numbered(calls: &[Call], nr: u32) -> Option<&Call>
     None
 }
 
-/// Whether a set is one of the architecture, and has a call of this number.
+/// Whether a set is of the architecture `arch` and has a call of the number `nr`.
 fn has_call(names: &Names, arch: u32, nr: u32) -> bool
     ensures { result ≡ has_call arch nr names.now }
 {
@@ -57,9 +57,10 @@ fn name_of(calls: &[Call], nr: u32) -> &str
     }
 }
 
-/// Adds the name of a set and, after a blank, that of its first call with this number. Where there is no set, the
-/// numbers of the architecture and of the call stand there instead, as `push_call_words` says. The caller has seen that
-/// the set has such a call; else no name follows. An error where an allocation is refused.
+/// Adds the name of a set, a blank, and the name of the set's first call with the number `nr`. Where `set` is `None`,
+/// adds `0x` with the eight hexadecimal digits of `arch`, a blank, and `nr` in decimal digits. The caller has seen that
+/// the set has such a call; else nothing follows the blank. An error where an allocation is refused; a part of what is
+/// added may stand in the text then.
 fn push_name(text: &mut String, set: Option<&Names>, arch: u32, nr: u32) -> Result<(), AllocError>
     ensures { OnOk result (string_bytes text.new ≡ string_bytes text.old
         ++ name_words arch nr (option_map (λ n. n.now) set.entry)) }
@@ -73,7 +74,7 @@ fn push_name(text: &mut String, set: Option<&Names>, arch: u32, nr: u32) -> Resu
     }
 }
 
-/// What stands before the argument at a place: nothing before the first one, at place 0.
+/// What stands before the argument at a place: nothing at place 0, and a comma and a blank at any other.
 fn separator(place: usize) -> &'static str
     ensures { result.now ≡ separator place }
 {
@@ -81,7 +82,7 @@ fn separator(place: usize) -> &'static str
 }
 
 /// Adds the argument at a place, counted from 0, as `arg1 = 0x5412`, with a comma and a blank before it unless it is
-/// the first one. An error where an allocation is refused.
+/// the first one. An error where an allocation is refused; a part of what is added may stand in the text then.
 fn push_argument(text: &mut String, place: usize, argument: u64) -> Result<(), AllocError>
     ensures { OnOk result (string_bytes text.new ≡ string_bytes text.old
         ++ argument_words place argument) }
@@ -90,7 +91,8 @@ fn push_argument(text: &mut String, place: usize, argument: u64) -> Result<(), A
     write!(text, "{before}arg{place} = 0x{argument:X}")
 }
 
-/// Adds all of these arguments, the first of them at place 0. An error where an allocation is refused.
+/// Adds all of these arguments, as `push_argument` does, the first of them at place 0. An error where an allocation is
+/// refused; a part of what is added may stand in the text then.
 fn push_arguments(text: &mut String, arguments: &[u64]) -> Result<(), AllocError>
     ensures { OnOk result (string_bytes text.new ≡ string_bytes text.old
         ++ arguments_words 0 arguments.now) }
@@ -101,7 +103,8 @@ fn push_arguments(text: &mut String, arguments: &[u64]) -> Result<(), AllocError
     Ok(())
 }
 
-/// Adds the arguments up to the last one that isn't 0, in parentheses. An error where an allocation is refused.
+/// Adds the arguments up to the last one that isn't 0, in parentheses; `()` where all are 0. An error where an
+/// allocation is refused; a part of what is added may stand in the text then.
 fn push_shown(text: &mut String, arguments: &[u64]) -> Result<(), AllocError>
     ensures { OnOk result (string_bytes text.new ≡ string_bytes text.old
         ++ shown_arguments arguments.now) }
@@ -113,10 +116,11 @@ fn push_shown(text: &mut String, arguments: &[u64]) -> Result<(), AllocError>
     Ok(())
 }
 
-/// Adds an input as a call, as `x86_64 ioctl(arg0 = 0x0, arg1 = 0x5412)`: the name of the first set that has its
-/// architecture and a call of its number, and the call's name; where no set has it, `0x` with eight hexadecimal digits
-/// of the architecture, and the call's number. In parentheses stand the arguments up to the last one that isn't 0. An
-/// error where an allocation is refused; some of the words may stand in the text then.
+/// Adds an input as a call, as `x86_64 ioctl(arg0 = 0x0, arg1 = 0x5412)`. First comes the name of the first set that is
+/// of the input's architecture and has a call of the input's number; then the name of the first such call in this set.
+/// Where there is no such set, `0x` with the eight hexadecimal digits of the architecture and the number in decimal
+/// digits come instead. In parentheses stand the arguments up to the last one that isn't 0. An error where an
+/// allocation is refused; some of the words may stand in the text then.
 pub fn push_call_words(text: &mut String, names: &[Names], input: &Input) -> Result<(), AllocError>
     ensures { OnOk result (string_bytes text.new ≡ string_bytes text.old
         ++ call_words names.now input.now) }
