@@ -40,7 +40,8 @@ is_comparable_kernel s d = is_some s.kernel && is_some (version_of (text_in d))
 abbrev pub is_condition : Settings → Data → Bool
 is_condition s d =
     is_object_of condition_keys d && absent_or (is_list_of is_text) (at (codes "arches") d)
-    && absent_or (is_list_of is_text) (at (codes "caps") d) && absent_or (is_comparable_kernel s) (at (codes "minKernel") d)
+    && absent_or (is_list_of is_text) (at (codes "caps") d) && absent_or (is_comparable_kernel s)
+    (at (codes "minKernel") d)
 
 -- a comparison
 abbrev pub is_comparison : Data → Bool
@@ -164,7 +165,8 @@ is_own_item s d = bytes_eq (text_where (at (codes "architecture") d)) (name_of_s
 
 -- the sets of an entry of `archMap` are known, if it is the machine's
 abbrev pub knows_sets_of_item : Settings → Data → Bool
-knows_sets_of_item s d = not (is_own_item s d) || list_all (names_given_set s) (listed (at (codes "subArchitectures") d))
+knows_sets_of_item s d = not (is_own_item s d) || list_all (names_given_set s)
+    (listed (at (codes "subArchitectures") d))
 
 -- all sets of the profile are known, and their calls are given
 abbrev pub knows_sets : Settings → Data → Bool

@@ -27,7 +27,8 @@ fn has_text(items: &[Value], text: &str) -> bool
     is_text_among(items, text)
 }
 
-/// Whether a condition, which is the value of a rule's `includes` or `excludes`, names the machine among its `arches`.
+/// Whether a condition names the machine: the name that `arch_name_of_set` gives is among the condition's `arches`. The
+/// condition is `value`, the value of a rule's `includes` or `excludes`. False where `arches` is absent or no array.
 fn names_machine(settings: &Settings, value: &Value) -> bool
     ensures { result ≡ names_machine settings.now (view value.now) }
 {
@@ -37,14 +38,15 @@ fn names_machine(settings: &Settings, value: &Value) -> bool
     )
 }
 
-/// Whether a condition names no machine: its `arches` are absent or empty.
+/// Whether a condition names no machine: its `arches` is absent, an empty array, or no array.
 fn names_none(value: &Value) -> bool
     ensures { result ≡ is_none (texts_at (codes "arches") (view value.now)) }
 {
     items_at(value, "arches").is_empty()
 }
 
-/// Whether the container has all capabilities that values name. True where there are no values.
+/// Whether the container has all capabilities that the values name. True where there are no values. A value that is no
+/// text counts as the empty name.
 fn has_each_cap(settings: &Settings, items: &[Value]) -> bool
     ensures { result ≡ list_all (λ v. has_cap settings.now (text_in (view v))) items.now }
 {
@@ -58,7 +60,8 @@ fn has_caps(settings: &Settings, items: &[Value]) -> bool
     has_each_cap(settings, items)
 }
 
-/// Whether the container has at least one of the capabilities that values name.
+/// Whether the container has at least one of the capabilities that the values name. False where there are no values. A
+/// value that is no text counts as the empty name.
 fn has_some_cap(settings: &Settings, items: &[Value]) -> bool
     ensures { result ≡ list_any (λ v. has_cap settings.now (text_in (view v))) items.now }
 {
@@ -82,8 +85,9 @@ fn is_new_enough(kernel: Option<Version>, least: Option<Version>) -> bool
     }
 }
 
-/// Whether the kernel's version is the `minKernel` of a condition, or newer; `absent` where the condition has no
-/// `minKernel`. False where the kernel's version isn't known.
+/// Whether the kernel's version is the `minKernel` of the condition `value`, or newer. Where the condition has no
+/// `minKernel`, the result is `absent`. Where it has one, the result is false if the `minKernel` is no version, or the
+/// kernel's version isn't known.
 fn fits_kernel(absent: bool, settings: &Settings, value: &Value) -> bool
     ensures { result ≡ fits_kernel absent settings.now
         (at (codes "minKernel") (view value.now)) }
@@ -94,8 +98,9 @@ fn fits_kernel(absent: bool, settings: &Settings, value: &Value) -> bool
     }
 }
 
-/// Whether the `includes` of the rule `value` holds: the machine is among those that `includes` names, if it names
-/// some; the container has all its capabilities; and the kernel is new enough. An absent `includes` holds.
+/// Whether the `includes` of the rule `value` holds: it names the machine, or no machine; the container has all its
+/// capabilities; and the kernel's version is its `minKernel` or newer, or it has no `minKernel`. An absent `includes`
+/// holds.
 fn is_included(settings: &Settings, value: &Value) -> bool
     ensures { result ≡ is_included settings.now (at (codes "includes") (view value.now)) }
 {

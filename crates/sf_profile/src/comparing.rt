@@ -1,4 +1,4 @@
-//! The code of comparisons.
+//! The code of comparisons. After an error a part of what was to be added may stand in the code; the callers drop it.
 
 ghost use Rattle.std.specs.Prelude.{◌≡◌, ◌++◌, ◌+◌, ◌<◌, ◌^◌, IfOk, OnOk, true, false};
 ghost use Rattle.sf_profile.specs.Form.{comparison_code, comparisons_code, equal_code, high, low, masked_code, order_code, test_code, wide_code};
@@ -37,7 +37,7 @@ fn high(value: u64) -> u32
     (value >> 32) as u32
 }
 
-/// The word of an input with the low half of an argument.
+/// The place of the word in an input that is the low half of the argument. The word behind it is the high half.
 pub(crate) fn word_of(argument: Argument) -> u8
     ensures value { result ≡ word_of argument }
     ensures small { result < 15 }
@@ -52,8 +52,9 @@ pub(crate) fn word_of(argument: Argument) -> u8
     }
 }
 
-/// Adds a test of 64 bits for equality: of the high halves, and then of the low ones. What a branch adds to a skip
-/// (`+ 2`) are the instructions of this code that are left behind it. An error where an allocation is refused.
+/// Adds a test of 64 bits for equality: first of the high halves, then of the low ones. Where the high halves differ,
+/// the first branch also skips the rest of this code, which is two instructions (`+ 2`). An error where an allocation
+/// is refused.
 fn push_equal(code: &mut Vec<Instruction>, asked: Asked) -> Result<(), AllocError>
     ensures { OnOk result (code.new.items ≡ code.old.items
         ++ equal_code asked.word asked.value asked.on_true asked.on_false) }
@@ -66,9 +67,10 @@ fn push_equal(code: &mut Vec<Instruction>, asked: Asked) -> Result<(), AllocErro
     ])
 }
 
-/// Adds a test of 64 bits for an order: greater high halves decide it, and so do smaller ones; where they are equal,
-/// the low halves are tested. `test` is `Greater` or `GreaterOrEqual`. What a branch adds to a skip (`+ 3`, `+ 2`) are
-/// the instructions of this code that are left behind it. An error where an allocation is refused.
+/// Adds a test of 64 bits for an order. It holds where the argument's high half is greater than the value's, and fails
+/// where it is smaller; where the high halves are equal, the low halves are compared by `test`, which is `Greater` or
+/// `GreaterOrEqual`. Where the high halves differ, a branch also skips the rest of this code: three instructions behind
+/// the first branch (`+ 3`), and two behind the second one (`+ 2`). An error where an allocation is refused.
 fn push_order(code: &mut Vec<Instruction>, test: Test, asked: Asked) -> Result<(), AllocError>
     ensures { OnOk result (code.new.items ≡ code.old.items
         ++ order_code test asked.word asked.value asked.on_true asked.on_false) }
@@ -82,7 +84,8 @@ fn push_order(code: &mut Vec<Instruction>, test: Test, asked: Asked) -> Result<(
     ])
 }
 
-/// Adds a test of 32 bits: of the low halves. An error where an allocation is refused.
+/// Adds a test of 32 bits: the low half of the argument is compared by `test` with the low half of the value. An error
+/// where an allocation is refused.
 fn push_narrow(code: &mut Vec<Instruction>, test: Test, asked: Asked) -> Result<(), AllocError>
     ensures { OnOk result (code.new.items ≡ code.old.items
         ++ test_code false test asked.word asked.value asked.on_true asked.on_false) }
@@ -105,7 +108,8 @@ fn push_wide(code: &mut Vec<Instruction>, test: Test, asked: Asked) -> Result<()
     }
 }
 
-/// Adds a test of 64 bits if `wide`, and else of the low 32. An error where an allocation is refused.
+/// Adds a test of 64 bits if `wide`, and else of the low 32. `test` is never `AnyBit`. An error where an allocation is
+/// refused.
 fn push_test(
     code: &mut Vec<Instruction>,
     wide: bool,
@@ -122,9 +126,10 @@ fn push_test(
     }
 }
 
-/// Adds a test whether an argument of 64 bits has the bits of `value_two` under the mask `asked.value`. Where the test
-/// holds, nothing is skipped: `asked.on_true` isn't used. What the first branch adds to its skip (`+ 3`) are the
-/// instructions of this code that are left behind it. An error where an allocation is refused.
+/// Adds a test whether an argument of 64 bits has the bits of `value_two` under the mask `asked.value`. Bits outside
+/// the mask may differ. Where the test holds, nothing is skipped: `asked.on_true` isn't used. Where the high halves
+/// differ under the mask, the first branch also skips the rest of this code, which is three instructions (`+ 3`). An
+/// error where an allocation is refused.
 fn push_wide_mask(
     code: &mut Vec<Instruction>,
     asked: Asked,
@@ -149,8 +154,9 @@ fn push_wide_mask(
     ])
 }
 
-/// Adds a test whether an argument of 32 bits has the bits of `value_two` under the mask `asked.value`. Where the test
-/// holds, nothing is skipped: `asked.on_true` isn't used. An error where an allocation is refused.
+/// Adds a test whether the low half of an argument has the bits of `value_two` under the mask `asked.value`. Bits
+/// outside the mask may differ, and no high half is looked at. Where the test holds, nothing is skipped:
+/// `asked.on_true` isn't used. An error where an allocation is refused.
 fn push_narrow_mask(
     code: &mut Vec<Instruction>,
     asked: Asked,
@@ -167,7 +173,8 @@ fn push_narrow_mask(
     ])
 }
 
-/// Adds a test under a mask: of 64 bits if `wide`, and else of the low 32. An error where an allocation is refused.
+/// Adds the test under a mask of `push_wide_mask` if `wide`, and else that of `push_narrow_mask`. An error where an
+/// allocation is refused.
 fn push_mask(
     code: &mut Vec<Instruction>,
     wide: bool,
@@ -184,10 +191,10 @@ fn push_mask(
     }
 }
 
-/// Adds the code of a comparison. Where the comparison holds, the run goes on behind this code; where it doesn't,
-/// `after` instructions behind this code are skipped. There is no instruction that tests for `NotEqual`, `Less` or
-/// `LessOrEqual`: for these the contrary is tested, and the two skips change places. An error where an allocation is
-/// refused. The caller's condition: `after` is below 2^63.
+/// Adds the code of a comparison: of 64 bits if `wide`, and else of the low 32. Where the comparison holds, the run
+/// goes on behind this code; where it doesn't, `after` instructions behind this code are skipped. There is no
+/// instruction that tests for `NotEqual`, `Less` or `LessOrEqual`: for these the contrary is tested, and the two skips
+/// change places. An error where an allocation is refused. The caller's condition: `after` is below 2^63.
 fn push_comparison(
     code: &mut Vec<Instruction>,
     wide: bool,
@@ -223,9 +230,10 @@ fn push_comparison(
     }
 }
 
-/// The code of a rule's comparisons. Where one doesn't hold, those behind it are skipped, and one instruction more: the
-/// return that the caller puts behind the comparisons. It calls itself for the comparisons behind the first, since
-/// their length says how far the first one skips. An error where an allocation is refused.
+/// The code of a rule's comparisons, of 64 bits if `wide`, and else of the low 32. Where one doesn't hold, the code of
+/// those behind it is skipped, and one instruction more: the return that the caller puts behind the comparisons. The
+/// function calls itself for the comparisons behind the first, since the length of their code says how far the first
+/// one skips. An error where an allocation is refused.
 pub(crate) fn comparisons_code(
     alloc: Global,
     wide: bool,

@@ -8,7 +8,7 @@ use std::alloc::{AllocError, AllocFailed};
 use thiserror::Error;
 
 /// Why a profile is refused. Rules are numbered from 1 in the order in which they stand. The text of a fault is its
-/// number, its name and its place.
+/// number and its name; where a rule is at fault, the name is without `Rule`, and the rule stands behind it.
 #[derive(Clone, Copy, Debug, PartialEq, Eq, Error)]
 pub enum Fault {
     /// The filter would have more than 4096 instructions.
@@ -37,7 +37,8 @@ pub enum Fault {
     /// A name of a rule isn't 1 to 64 letters, digits and `_`.
     #[error("44 Name rule {rule}")]
     RuleName { rule: usize },
-    /// The profile is no UTF-8, is no JSON, or nests deeper than 127.
+    /// The profile is no UTF-8, is no JSON, nests deeper than 127, or has a number beyond a float's range or half a
+    /// surrogate pair.
     #[error("46 Syntax")]
     Syntax,
     /// A set of calls isn't known, or its calls are given not at all, or more than once.
@@ -69,6 +70,7 @@ impl Fault {
 impl From<AllocError> for Fault {
     ghost from_gives = { λ _ e. e ≡ Memory };
 
+    /// A refused allocation is the fault `Memory`.
     fn from(_e: AllocError) -> Fault {
         Fault::Memory
     }
@@ -77,6 +79,7 @@ impl From<AllocError> for Fault {
 impl<T: Drop> From<AllocFailed<T>> for Fault {
     ghost from_gives = { λ _ e. e ≡ Memory };
 
+    /// A refused allocation is the fault `Memory`. The value that should have been stored is dropped.
     fn from(_e: AllocFailed<T>) -> Fault {
         Fault::Memory
     }

@@ -2,8 +2,8 @@
 
 use crate::fault::Fault;
 use crate::keys::{
-    PROFILE_KEYS, RULE_KEYS, has_comparisons, has_condition_or_none, has_map, has_rules, is_absent,
-    has_action_fields, is_named, has_number_if_named,
+    PROFILE_KEYS, RULE_KEYS, has_action_fields, has_comparisons, has_condition_or_none, has_map,
+    has_number_if_named, has_rules, is_absent, is_named,
 };
 use crate::refusal::{has_error_number_or_none, has_one_name_or_none, knows_action, profile_in};
 use crate::settings::Settings;
@@ -11,7 +11,8 @@ use crate::tree::{at, has_text, is_among, items_at};
 use serde_json::{Map, Value};
 use std::alloc::{AllocError, Global};
 
-/// The first key of an object that isn't among the known ones; `None` where all are.
+/// The first key of an object that isn't among the known ones; `None` where all are. An object has its keys in the
+/// order of their bytes.
 fn first_unknown<'a>(object: &'a Map<String, Value>, known: &[&str]) -> Option<&'a str> {
     for key in object.keys() {
         if !is_among(key.as_str(), known) {
@@ -29,9 +30,9 @@ fn unknown_key<'a>(value: &'a Value, known: &[&str]) -> Option<&'a str> {
     }
 }
 
-/// Which key of an action is missing or wrongly given, where `has_action_fields` has said that one is. `action`, `number` and
-/// `name` are the three keys: that of the action, of its error number, and of the number's name. The last one is at
-/// fault where it stands without a number.
+/// Which key of an action is missing or wrongly given: `action` where there is no text at this key; `name` where it
+/// stands without `number`; else `number`. The three are the keys of the action, of its error number, and of the
+/// number's name. The caller has seen that `has_action_fields` is false with these keys.
 fn action_key<'a>(value: &Value, action: &'a str, number: &'a str, name: &'a str) -> &'a str {
     if !has_text(value, action) {
         return action;
@@ -43,9 +44,10 @@ fn action_key<'a>(value: &Value, action: &'a str, number: &'a str, name: &'a str
     }
 }
 
-/// The key for which a profile is refused with `Key`: the first one found that is unknown, missing or wrongly given.
-/// Where `archMap` and `architectures` are both there, it is `architectures`. The caller has seen that `is_profile`
-/// fails.
+/// The key for which the profile `value` is refused with `Key`. The first key at fault counts, in this order: unknown
+/// keys; those of the default action, as `action_key` says; `syscalls`; `archMap`; `architectures`. Where `archMap` and
+/// `architectures` are both there, and `archMap` has the right form, it is `architectures`. Where `value` is no object,
+/// it is `defaultAction`. The caller has seen that `is_profile` is false.
 fn key_of_head(value: &Value) -> &str {
     if let Some(key) = unknown_key(value, PROFILE_KEYS.as_slice()) {
         return key;
@@ -63,8 +65,10 @@ fn key_of_head(value: &Value) -> &str {
     }
 }
 
-/// The key for which a rule is refused with `RuleKey`: the first one found that is unknown, missing or wrongly given.
-/// The caller has seen that `is_rule` fails.
+/// The key for which the rule `value` is refused with `RuleKey`. The first key at fault counts, in this order: unknown
+/// keys; `names` and `name`; those of the action, as `action_key` says; `args`; `includes`; `excludes`. Where `names`
+/// and `name` are at fault, it is `name` if this key is there, and else `names`. Where `value` is no object, it is
+/// `names`. The caller has seen that `is_rule` is false.
 fn key_of_rule<'a>(settings: &Settings, value: &'a Value) -> &'a str {
     if let Some(key) = unknown_key(value, RULE_KEYS.as_slice()) {
         return key;
@@ -90,7 +94,8 @@ fn key_of_rule<'a>(settings: &Settings, value: &'a Value) -> &'a str {
 }
 
 /// The key for which a profile is refused with `Set`: the one at which its sets stand. `None` where the calls of the
-/// machine's own set aren't given exactly once: then no key of the profile is at fault.
+/// machine's own set aren't given exactly once: no key of the profile is at fault for that. The caller has seen that
+/// `profile_refusal` gives `Set`.
 fn key_of_sets(settings: &Settings, value: &Value) -> Option<&'static str> {
     if !settings.has_calls(settings.machine) {
         return None;
@@ -102,7 +107,8 @@ fn key_of_sets(settings: &Settings, value: &Value) -> Option<&'static str> {
     })
 }
 
-/// The key of a rule for which the rule is refused with this fault; `None` where the fault is that of no rule.
+/// The key of a rule for which the rule is refused with this fault; `None` where the fault is that of no rule. The
+/// caller has seen that `rule_refusal` gives this fault for the rule `value`.
 fn key_in_rule<'a>(settings: &Settings, value: &'a Value, fault: Fault) -> Option<&'a str> {
     match fault {
         Fault::RuleKey { .. } => Some(key_of_rule(settings, value)),
@@ -129,8 +135,8 @@ fn key_in_rule<'a>(settings: &Settings, value: &'a Value, fault: Fault) -> Optio
     }
 }
 
-/// The key of a profile's head for which the profile is refused with this fault; `None` where no key of the head is at
-/// fault.
+/// The key of a profile's head, which is all but its rules, for which the profile is refused with this fault; `None`
+/// where no key of the head is at fault. The caller has seen that the profile is refused with this fault.
 fn key_in_head<'a>(settings: &Settings, value: &'a Value, fault: Fault) -> Option<&'a str> {
     match fault {
         Fault::Key => Some(key_of_head(value)),
@@ -152,7 +158,9 @@ fn number_of_rule(fault: Fault) -> Option<usize> {
     }
 }
 
-/// The key of a rule or of the head for which a profile is refused with this fault; `None` where no key is at fault.
+/// The key of a rule or of the head for which a profile is refused with this fault; `None` where no key is at fault, or
+/// where the fault names a rule that the profile hasn't. The caller has seen that the profile is refused with this
+/// fault.
 fn key_of<'a>(settings: &Settings, value: &'a Value, fault: Fault) -> Option<&'a str> {
     match number_of_rule(fault) {
         Some(rule) => {
@@ -164,14 +172,14 @@ fn key_of<'a>(settings: &Settings, value: &'a Value, fault: Fault) -> Option<&'a
 }
 
 /// The key for which the profile in a file's tree is refused with this fault; `None` where there is no profile, or no
-/// key is at fault.
+/// key is at fault. The caller has seen that the profile is refused with this fault.
 fn key_in_file<'a>(settings: &Settings, value: &'a Value, fault: Fault) -> Option<&'a str> {
     key_of(settings, profile_in(value)?, fault)
 }
 
 /// The key for which the profile in a file is refused. `None` where no key is at fault, or where the bytes are no JSON
-/// or have no profile. `fault` is the one with which `profile` refused these bytes. An error where an allocation is
-/// refused.
+/// or have no profile. An error where an allocation is refused. The caller's condition: `fault` is the one with which
+/// `profile` refused these bytes, with the same settings.
 pub fn wrong_key(
     alloc: Global,
     settings: &Settings,

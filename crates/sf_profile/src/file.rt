@@ -18,8 +18,8 @@ use crate::telling::{notes_text, unknown_words};
 use serde_json::Value;
 use std::alloc::Global;
 
-/// The filter of a profile's tree. The refusals are that of `profile_refusal`; then `TooLong` where the filter would be
-/// too long; `Memory` where an allocation is refused.
+/// The filter of the profile `value`, as bytes. The refusal is that of `profile_refusal`, where it gives one; then
+/// `TooLong` where the filter would have more than 4096 instructions; `Memory` where an allocation is refused.
 #[tactic(auto, using(crate::proofs::ShortLemmas::profile_long))]
 fn filter_of_profile(alloc: Global, settings: &Settings, value: &Value) -> Result<Vec<u8>, Fault>
     ensures accepted { IfOk result (λ v. profile_refusal settings.now (view value.now) ≡ None) }
@@ -47,13 +47,14 @@ fn filter_of_file(alloc: Global, settings: &Settings, value: &Value) -> Result<V
     }
 }
 
-/// The filter that the profile in a file means: a program that answers each input as the profile does, for comparing
-/// with what is installed, and not for installing.
+/// The filter that the profile in a file means, as bytes: a program that answers each input as the profile does, for
+/// comparing with what is installed, and not for installing. `bytes` are those of the profile's file.
 ///
-/// Refusals, tried in this order: `Syntax` where the bytes are no UTF-8, no JSON, or nest deeper than 127; `Key` where
-/// there is no profile, or a key of its head is unknown or missing, has a value of a wrong kind, or doesn't go
-/// with another key; `Actions` where the default is an unknown action; `Range` where its number hasn't 16 bits; `Set`
-/// where a set of calls isn't known, or its calls aren't given exactly once; then, rule after rule, `RuleKey`,
+/// Refusals, tried in this order: `Syntax` where the bytes are no UTF-8, no JSON, nest deeper than 127, or have a
+/// number beyond a float's range or half a surrogate pair; `Key` where there is no profile, or a key of its head is
+/// unknown or missing, has a value of a wrong kind (not all values are looked at: see `is_profile`), or doesn't go with
+/// another key; `Actions` where the default is an unknown action; `Range` where its number hasn't 16 bits; `Set` where
+/// a set that the profile is for isn't known, or its calls aren't given exactly once; then, rule after rule, `RuleKey`,
 /// `RuleName`, `RuleActions` and `RuleRange`, with the number of the rule from 1; then `TooLong` where the filter would
 /// have more than 4096 instructions. `Memory` can come anywhere.
 pub fn profile(alloc: Global, settings: &Settings, bytes: &[u8]) -> Result<Vec<u8>, Fault>
@@ -72,7 +73,7 @@ pub fn profile(alloc: Global, settings: &Settings, bytes: &[u8]) -> Result<Vec<u
     }
 }
 
-/// The notes of a profile's tree. The refusals are those of `filter_of_profile`.
+/// The notes on the profile `value`, as `notes_text` writes them. The refusals are those of `filter_of_profile`.
 fn notes_of_profile(alloc: Global, settings: &Settings, value: &Value) -> Result<String, Fault>
     ensures notes { IfOk result (λ t. AreNotesOf settings.now (view value.now) (string_bytes t)) }
     ensures refused { IfErr result (λ e. (e ≡ Fault.Memory)
@@ -98,9 +99,10 @@ fn notes_of_file(alloc: Global, settings: &Settings, value: &Value) -> Result<St
     }
 }
 
-/// The notes on the profile in a file: its default and its sets of calls; how many rules it has, and how many of them
-/// apply; how many different names the rules that apply have, how many of these names no file of names has, and which;
-/// and how many instructions its filter has. The refusals are those of `profile`.
+/// The notes on the profile in a file, as text. They tell its default and its sets of calls; how many rules it has, and
+/// how many of them apply; how many different names the rules that apply have; for how many of these names, and for
+/// which, no set in `settings.calls` has a call; and how many instructions its filter has. `bytes` are those of the
+/// profile's file. The refusals are those of `profile`.
 pub fn notes(alloc: Global, settings: &Settings, bytes: &[u8]) -> Result<String, Fault>
     ensures notes { IfOk result (λ t. AreNotesOfText settings.now bytes.now (string_bytes t)) }
     ensures refused { IfErr result (λ e. IsRefusedText settings.now bytes.now e) }
@@ -117,8 +119,8 @@ pub fn notes(alloc: Global, settings: &Settings, bytes: &[u8]) -> Result<String,
     }
 }
 
-/// The names of a profile's tree that no file of names has, each once, with a blank before each. Only rules that apply
-/// count. `Memory` where an allocation is refused.
+/// The names in the profile `value` for which no set in `settings.calls` has a call, each once, with a blank before
+/// each. Only rules that apply count. `Memory` where an allocation is refused.
 fn unknown_in_profile(alloc: Global, settings: &Settings, value: &Value) -> Result<String, Fault>
     ensures words { IfOk result (λ t. string_bytes t
         ≡ flat_map name_word (names_without_number settings.now (view value.now))) }
@@ -128,8 +130,8 @@ fn unknown_in_profile(alloc: Global, settings: &Settings, value: &Value) -> Resu
     Ok(words)
 }
 
-/// The same for the profile in a file's tree, as `unknown_in_profile` gives the names. `Key` where there is no profile;
-/// `Memory` where an allocation is refused.
+/// What `unknown_in_profile` gives for the profile in a file's tree. `Key` where there is no profile; `Memory` where an
+/// allocation is refused.
 fn unknown_in_file(alloc: Global, settings: &Settings, value: &Value) -> Result<String, Fault>
     ensures words { IfOk result (λ t. AreUnknownIn settings.now (view value.now)
         (string_bytes t)) }
@@ -141,9 +143,9 @@ fn unknown_in_file(alloc: Global, settings: &Settings, value: &Value) -> Result<
     }
 }
 
-/// The names in the profile of a file that no file of names has, each once, with a blank before each. Only rules that
-/// apply count. Refusals: `Syntax` as by `profile`; `Key` where there is no profile; `Memory` where an allocation is
-/// refused. Other faults of the profile aren't looked for.
+/// The names in a profile for which no set in `settings.calls` has a call, each once, with a blank before each. Only
+/// rules that apply count. `bytes` are those of the profile's file. Refusals: `Syntax` as by `profile`; `Key` where
+/// there is no profile; `Memory` where an allocation is refused. Other faults of the profile aren't looked for.
 pub fn unknown_names(alloc: Global, settings: &Settings, bytes: &[u8]) -> Result<String, Fault>
     ensures words { IfOk result (λ t. AreUnknownOf settings.now bytes.now (string_bytes t)) }
     ensures refused { IfErr result (λ e. IsRefusedText settings.now bytes.now e) }

@@ -1,4 +1,5 @@
-//! The filter that a profile means.
+//! The filter that a profile means. After an error a part of what was to be added may stand in the code; the callers
+//! drop it.
 
 ghost use Rattle.std.specs.Prelude.{◌≡◌, ◌++◌, ◌+◌, IfOk, OnOk};
 ghost use Rattle.std.specs.List.{flat_map};
@@ -40,8 +41,9 @@ fn push_return(
 }
 
 /// Adds the code for a call that is known by its number alone: it returns `value` if the call has this number and all
-/// comparisons hold. `comparisons` is their code. A has the call's number before this code, and behind it again. An
-/// error where an allocation is refused.
+/// comparisons hold. `comparisons` is their code. A has the call's number before this code, and behind it again; where
+/// there are no comparisons, A is never changed. What the branch adds to the length of the comparisons (`+ 1`) is the
+/// return, which it skips too. An error where an allocation is refused.
 fn push_direct(
     code: &mut Vec<Instruction>,
     comparisons: &[Instruction],
@@ -86,7 +88,8 @@ fn push_through(
 }
 
 /// Adds the code for one call of a rule, known by its number alone or made through another call. It returns `value` if
-/// this is the call and all comparisons hold. `comparisons` is their code. An error where an allocation is refused.
+/// this is the call and all comparisons hold. `comparisons` is their code. A has the call's number before this code,
+/// and behind it again. An error where an allocation is refused.
 fn push_call(
     code: &mut Vec<Instruction>,
     comparisons: &[Instruction],
@@ -102,8 +105,8 @@ fn push_call(
     }
 }
 
-/// Adds the code for all calls of a rule, one after the other, as `push_call` adds it for each. An error where an
-/// allocation is refused.
+/// Adds the code for all calls of a rule, one after the other, as `push_call` adds it for each. A has the call's number
+/// before this code, and behind it again. An error where an allocation is refused.
 fn push_calls(
     code: &mut Vec<Instruction>,
     comparisons: &[Instruction],
@@ -120,7 +123,8 @@ fn push_calls(
 }
 
 /// Adds the code of a rule: it returns the rule's response at each of the rule's calls where all its comparisons hold.
-/// With `wide` arguments have 64 bits, and else 32. An error where an allocation is refused.
+/// If `wide`, arguments have 64 bits, and else 32. A has the call's number before this code, and behind it again. An
+/// error where an allocation is refused.
 fn push_rule(
     alloc: Global,
     code: &mut Vec<Instruction>,
@@ -133,8 +137,8 @@ fn push_rule(
     push_calls(code, &comparisons, rule.response.value(), &rule.calls)
 }
 
-/// Adds the code of a rule, if `place` is the place that `Reading::order` gives to the rule; else nothing. An error
-/// where an allocation is refused.
+/// Adds the code of a rule, if `place` is the place that `Reading::order` gives to the rule; else nothing. `wide` and A
+/// are as in `push_rule`. An error where an allocation is refused.
 fn push_rule_at(
     alloc: Global,
     code: &mut Vec<Instruction>,
@@ -152,7 +156,8 @@ fn push_rule_at(
     Ok(())
 }
 
-/// Adds the code of the rules that have this place, in their order. An error where an allocation is refused.
+/// Adds the code of the rules to which `Reading::order` gives this place, in the order of the rules. `wide` and A are
+/// as in `push_rule`. An error where an allocation is refused.
 fn push_round(
     alloc: Global,
     code: &mut Vec<Instruction>,
@@ -170,8 +175,9 @@ fn push_round(
     Ok(())
 }
 
-/// Adds the code of all rules, place after place: the first code that returns is that of the rule that counts. An error
-/// where an allocation is refused.
+/// Adds the code of all rules, ordered by the places that `Reading::order` gives them, from 0 to 7. Rules of one place
+/// stay in their order. So the first code that returns is that of the rule that counts. `wide` and A are as in
+/// `push_rule`. An error where an allocation is refused.
 fn push_rounds(
     alloc: Global,
     code: &mut Vec<Instruction>,
@@ -210,8 +216,8 @@ fn above_rules(rules: &[Rule]) -> u64
     above
 }
 
-/// Whether `Plan::newer` has an effect beside this default. It has none where the default lets calls through, or leaves
-/// them to a tracer: then newer calls get the default too.
+/// Whether `Plan::newer` is heeded in a plan with this default. It isn't where the default lets calls through, or
+/// leaves them to a tracer: then newer calls get the default too.
 fn refuses_newer(default: Response) -> bool
     ensures { result ≡ refuses_newer default }
 {
@@ -236,8 +242,9 @@ fn push_newer(code: &mut Vec<Instruction>, least: u64) -> Result<(), AllocError>
     ])
 }
 
-/// Adds the code for newer calls if `asked`, and else nothing. Newer calls are those whose number is above the numbers
-/// of all calls of the rules. An error where an allocation is refused.
+/// Adds the code by which newer calls fail with ENOSYS if `asked`, and else nothing. Newer calls are those whose number
+/// is above the numbers of all calls of the rules; where the rules have no call, all calls are newer. A has the call's
+/// number before this code, and behind it. An error where an allocation is refused.
 fn push_newer_where(
     code: &mut Vec<Instruction>,
     asked: bool,
@@ -251,8 +258,10 @@ fn push_newer_where(
     Ok(())
 }
 
-/// The code for the inputs of a set: first newer calls, then the rules, place after place, and at the end the default.
-/// It returns at every input. An error where an allocation is refused.
+/// The code for the inputs of a set. First the call's number is loaded into A; then comes the code for newer calls, if
+/// the plan asks for it (`Plan::newer`) and `refuses_newer` is true of the default; then the code of the rules, place
+/// after place; and at the end a return of the default. The code returns at every input. An error where an allocation
+/// is refused.
 fn body_code(alloc: Global, plan: &Plan, part: &Part) -> Result<Vec<Instruction>, AllocError>
     ensures { IfOk result (λ v. v.items ≡ body_code plan.now part.now) }
 {
@@ -274,9 +283,12 @@ fn body_code(alloc: Global, plan: &Plan, part: &Part) -> Result<Vec<Instruction>
     Ok(code)
 }
 
-/// Adds a skip of `size` instructions, the code of a set, where the input isn't of the set: it has another
-/// architecture, or on x86-64 a number of the other set. The skip is an instruction of its own, since a branch can't
-/// skip more than 255. An error where an allocation is refused.
+/// Adds code that skips `size` instructions where the input isn't of the set: it has another architecture, or on x86-64
+/// a number of the other set. On x86-64 numbers from `LEAST_OF_X32` up are those of x32, except `NO_NUMBER`. The caller
+/// puts the set's code, which has `size` instructions, right behind this code.
+///
+/// The skip is an instruction of its own, since a branch can't skip more than 255. The branches lead to this skip, or
+/// to the set's code right behind it. An error where an allocation is refused.
 fn push_skip_unless_of_set(
     code: &mut Vec<Instruction>,
     set: CallSet,
@@ -324,8 +336,8 @@ fn push_part(
     code.extend_from_slice(&body)
 }
 
-/// The whole filter: set after set, and at an input of no set a return of 0, which kills the thread. An error where an
-/// allocation is refused.
+/// The whole filter of a plan: the code of each set, in order, and at the end a return of 0, which kills the thread at
+/// an input of no set. An error where an allocation is refused.
 pub(crate) fn filter_code(alloc: Global, plan: &Plan) -> Result<Vec<Instruction>, AllocError>
     ensures { IfOk result (λ v. v.items ≡ form plan.now) }
 {

@@ -15,8 +15,8 @@ pub(crate) enum Instruction {
     Load(u8),
     /// A keeps only these bits.
     Mask(u32),
-    /// Tests A against the number. Where that is true, it skips the first number of instructions, and where it is
-    /// false, the second number.
+    /// Tests A against a number. The two counts behind the number say how many instructions are skipped: the first one
+    /// where the test holds, and the second one where it doesn't.
     Branch(Test, u32, usize, usize),
     /// Skips this many instructions.
     Skip(usize),
@@ -49,7 +49,7 @@ fn raw_branch(test: Test, k: u32, on_true: usize, on_false: usize) -> Option<Raw
     })
 }
 
-/// An instruction with this code that skips nothing.
+/// An instruction with this code and this `k`; its `jt` and `jf`, which only branches use, are 0.
 fn raw_without_jumps(code: u16, k: u32) -> RawInsn
     ensures { result ≡ record { code = code; jt = 0; jf = 0; k = k } }
 {
@@ -63,7 +63,7 @@ fn raw_without_jumps(code: u16, k: u32) -> RawInsn
 
 /// An instruction as it stands in a file; `None` where a jump is too far: a branch skips more than 255 instructions, or
 /// a skip more than 32 bits can say. The codes are those of a load (0x20), an AND (0x54), a jump (0x05) and a return
-/// (0x06); a word is loaded from its place in bytes.
+/// (0x06). A load names its word by the offset in bytes, which is four times the word's place.
 fn raw_of(instruction: Instruction) -> Option<RawInsn>
     ensures { result ≡ (if is_short instruction then Some (raw_of instruction) else None) }
 {

@@ -79,23 +79,23 @@ fn has_condition_keys(value: &Value) -> bool
     has_only(value, CONDITION_KEYS.as_slice())
 }
 
-/// Whether a key is absent, or has the value null.
+/// Whether a key is absent, or has the value null. Also true where `value` is no object.
 pub(crate) fn is_absent(value: &Value, key: &str) -> bool
     ensures { result ≡ is_absent key.now (view value.now) }
 {
     at(value, key).is_none()
 }
 
-/// Whether the key `number` of an error number is there if the key `name` of the number's name is: a name alone isn't
-/// enough.
+/// Whether the key `name` is absent, or the key `number` is there. `number` is the key of an error number, and `name`
+/// that of the number's name: a name alone isn't enough.
 pub(crate) fn has_number_if_named(value: &Value, name: &str, number: &str) -> bool
     ensures { result ≡ has_number_if_named name.now number.now (view value.now) }
 {
     is_absent(value, name) || !is_absent(value, number)
 }
 
-/// Whether a number may stand beside a response: ERRNO and TRACE take one. `None` is an unknown action: that is refused
-/// elsewhere, so a number may stand beside it here.
+/// Whether a number may stand beside a response: ERRNO and TRACE take one. `None` is an unknown action. A number may
+/// stand beside it here, since `profile_refusal` and `rule_refusal` refuse unknown actions.
 fn takes_number(response: Option<Response>) -> bool
     ensures { result ≡ takes_number response }
 {
@@ -131,7 +131,8 @@ fn has_kernel_or_none(settings: &Settings, value: &Value) -> bool
     }
 }
 
-/// Whether a value has the form of a condition, which is the value of a rule's `includes` or `excludes`.
+/// Whether a value has the form of a condition, which is the value of a rule's `includes` or `excludes`. False also
+/// where it has a `minKernel`, and the kernel's version isn't given.
 fn is_condition(settings: &Settings, value: &Value) -> bool
     ensures { result ≡ is_condition settings.now (view value.now) }
 {
@@ -141,7 +142,8 @@ fn is_condition(settings: &Settings, value: &Value) -> bool
         && has_kernel_or_none(settings, value)
 }
 
-/// Whether a key is absent, or has a condition: the value of a rule's `includes` or `excludes`.
+/// Whether a key is absent, or its value has the form of a condition, as `is_condition` says. The key is `includes` or
+/// `excludes`, and `value` is the rule.
 pub(crate) fn has_condition_or_none(settings: &Settings, value: &Value, key: &str) -> bool
     ensures { result ≡ absent_or (is_condition settings.now) (at key.now (view value.now)) }
 {
@@ -151,8 +153,8 @@ pub(crate) fn has_condition_or_none(settings: &Settings, value: &Value, key: &st
     }
 }
 
-/// Whether a value has the form of a comparison. Whether its numbers are in their ranges, and its `op` is known, is
-/// looked at elsewhere.
+/// Whether a value has the form of a comparison. Its numbers are whole numbers of 64 bits, with a sign or without, but
+/// may be outside their ranges, and its `op` may be unknown: `rule_refusal` looks at that.
 fn is_comparison(value: &Value) -> bool
     ensures { result ≡ is_comparison (view value.now) }
 {
@@ -163,7 +165,7 @@ fn is_comparison(value: &Value) -> bool
         && has_text(value, "op")
 }
 
-/// Whether each value is a comparison.
+/// Whether each value has the form of a comparison, as `is_comparison` says.
 fn are_each_comparisons(items: &[Value]) -> bool
     ensures { result ≡ list_all (λ v. is_comparison (view v)) items.now }
 {
@@ -177,7 +179,7 @@ fn are_comparisons(items: &[Value]) -> bool
     are_each_comparisons(items)
 }
 
-/// Whether a value is an array of comparisons.
+/// Whether a value is an array, and each of its items has the form of a comparison, as `is_comparison` says.
 fn is_comparison_list(value: &Value) -> bool
     ensures { result ≡ is_list_of is_comparison (view value.now) }
 {
@@ -187,7 +189,7 @@ fn is_comparison_list(value: &Value) -> bool
     }
 }
 
-/// Whether the comparisons of a rule, at its key `args`, are absent or an array of comparisons.
+/// Whether the key `args` of a rule is absent, or has an array whose items all have the form of a comparison.
 pub(crate) fn has_comparisons(value: &Value) -> bool
     ensures { result ≡ absent_or (is_list_of is_comparison) (at (codes "args") (view value.now)) }
 {
@@ -205,9 +207,10 @@ pub(crate) fn is_named(value: &Value) -> bool
         || (has_text(value, "name") && is_absent(value, "names"))
 }
 
-/// Whether there is a text at the key `action`, and its error number is well given: at the key `number` is a whole
-/// number or nothing; there is one if the key `name`, of the number's name, is there; and if there is one, the action
-/// takes it. An action that isn't known is refused elsewhere.
+/// Whether an action is well given: there is a text at the key `action`; at the key `number`, that of its error number,
+/// there is a whole number of 64 bits or nothing; the key `name`, that of the number's name, doesn't stand without
+/// `number`; and `number` doesn't stand beside an action that takes none. The action may be unknown: `profile_refusal`
+/// and `rule_refusal` look at that.
 pub(crate) fn has_action_fields(value: &Value, action: &str, number: &str, name: &str) -> bool
     ensures { result ≡ is_action_of_rule action.now number.now name.now (view value.now) }
 {
@@ -217,7 +220,13 @@ pub(crate) fn has_action_fields(value: &Value, action: &str, number: &str, name:
         && fits_action(value, action, number)
 }
 
-/// Whether a value is a rule whose keys are all known and of their kinds.
+/// Whether a value has the form of a rule. It is an object that has only keys of a rule. It has either `names` or
+/// `name`, and its action is well given, as `has_action_fields` says. Its `args`, `includes` and `excludes` are absent
+/// or have the right form. False also where `includes` or `excludes` has a `minKernel`, and the kernel's version isn't
+/// given.
+///
+/// The values of `errno` and `comment` aren't looked at. Nor is whether the names are right, the action and each `op`
+/// are known, and the numbers are in their ranges: `rule_refusal` looks at that.
 pub(crate) fn is_rule(settings: &Settings, value: &Value) -> bool
     ensures { result ≡ is_rule settings.now (view value.now) }
 {
@@ -229,7 +238,8 @@ pub(crate) fn is_rule(settings: &Settings, value: &Value) -> bool
         && has_condition_or_none(settings, value, "excludes")
 }
 
-/// Whether a value has the form of an entry of `archMap`: an `architecture`, and perhaps `subArchitectures`.
+/// Whether a value has the form of an entry of `archMap`: an object with a text at `architecture`, an array of texts or
+/// nothing at `subArchitectures`, and no other key.
 fn is_map_item(value: &Value) -> bool
     ensures { result ≡ is_map_item (view value.now) }
 {
@@ -238,7 +248,7 @@ fn is_map_item(value: &Value) -> bool
         && has_texts_or_none(value, "subArchitectures")
 }
 
-/// Whether each value is an entry of `archMap`.
+/// Whether each value has the form of an entry of `archMap`, as `is_map_item` says.
 fn are_each_map_items(items: &[Value]) -> bool
     ensures { result ≡ list_all (λ v. is_map_item (view v)) items.now }
 {
@@ -252,7 +262,7 @@ fn are_map_items(items: &[Value]) -> bool
     are_each_map_items(items)
 }
 
-/// Whether a value is an array of entries of `archMap`.
+/// Whether a value is an array, and each of its items has the form of an entry of `archMap`, as `is_map_item` says.
 fn is_map(value: &Value) -> bool
     ensures { result ≡ is_list_of is_map_item (view value.now) }
 {
@@ -262,7 +272,7 @@ fn is_map(value: &Value) -> bool
     }
 }
 
-/// Whether `archMap` is absent, or an array of its entries.
+/// Whether the key `archMap` is absent, or has an array whose items all have the form that `is_map_item` asks for.
 pub(crate) fn has_map(value: &Value) -> bool
     ensures { result ≡ absent_or (is_list_of is_map_item)
         (at (codes "archMap") (view value.now)) }
@@ -293,7 +303,9 @@ pub(crate) fn has_rules(value: &Value) -> bool
     }
 }
 
-/// Whether a value is an object with only a profile's keys, whose head is well formed; `is_rule` looks at each rule.
+/// Whether a value has the form of a profile: it is an object that has only keys of a profile, its default action and
+/// its sets of calls are well given, and its rules are an array or absent. What is in the array isn't looked at. Nor
+/// are the values of the other keys.
 pub(crate) fn is_profile(value: &Value) -> bool
     ensures { result ≡ is_profile (view value.now) }
 {

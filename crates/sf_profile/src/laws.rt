@@ -15,23 +15,24 @@ ghost use Rattle.sf_profile.specs.Meaning.{answer_of_response, is_newer, number_
 ghost use Rattle.sf_profile.specs.Plans.{applies, calls_named, through_calls};
 ghost use Rattle.sf_profile.specs.Settings.{is_same_set, number_of};
 
-/// A law for the prover: a name that has no number in a set, and is behind no other call there, has no call: a rule
-/// says nothing by it.
+/// A law for the prover: if a set has no number for a name, and the name's call isn't made through `socketcall` or
+/// `ipc` there either, then the name stands for no call of the set, and a rule says nothing by it.
 pub fn unknown_names_say_nothing()
     ensures { (s : ASettings) (set : CallSet) (alone : Bool) (name : List ℕ) →
         number_of s set name ≡ None → through_calls (is_same_set set I386 && alone) name ≡ []
         → calls_named s set alone name ≡ [] }
 {}
 
-/// A law for the prover: asking for ENOSYS at newer calls changes nothing at calls that aren't newer than the profile.
+/// A law for the prover: asking for ENOSYS at newer calls (`Plan::newer`) changes nothing at other calls. A call is
+/// newer where its number is above those of all calls of the set's rules.
 pub fn newer_changes_only_newer()
     ensures { (plan : PlanData) (d : Input) (part : SetRulesData) →
         is_newer (number_in d) part.rules ≡ false
         → response_in plan d part ≡ response_in (record plan { newer = false }) d part }
 {}
 
-/// A law for the prover: of rules that say something, the reading `strictest` picks one whose action has the highest
-/// precedence, and `mildest` one whose action has the lowest: what any reading picks lies between them.
+/// A law for the prover: of the same rules, no reading picks one whose action has a higher precedence than that of the
+/// rule that `Strictest` picks, or a lower one than that of the rule that `Mildest` picks.
 pub fn readings_are_bounds()
     ensures { (reading : Reading) (rules : List RuleData) (a b c : RuleData) →
         pick Strictest rules ≡ Some a → pick reading rules ≡ Some b
@@ -40,7 +41,7 @@ pub fn readings_are_bounds()
         × (strictness b.response ≤ strictness c.response) }
 {}
 
-/// A law for the prover: where all rules that say something have one response, each reading picks a rule with this
+/// A law for the prover: where all rules that say something have one response, a rule that any reading picks has this
 /// response.
 pub fn readings_agree_without_conflict()
     ensures { (reading : Reading) (rules : List RuleData) (response : Response) (a : RuleData) →

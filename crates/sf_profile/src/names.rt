@@ -5,7 +5,8 @@ ghost use Rattle.sf_profile.specs.Profiles.{after_point, arch_name_of_set, argum
 
 use crate::rules::{Argument, CallSet, Comparing, Response};
 
-/// The set of calls that has this name in profiles; `None` where none of the five sets has.
+/// The set of calls with this name, as a profile has it at `architectures` and in `archMap`; `None` where none of the
+/// five sets has it.
 pub(crate) fn set_named(text: &str) -> Option<CallSet>
     ensures { result ≡ set_named text.now }
 {
@@ -27,7 +28,7 @@ pub(crate) fn set_named(text: &str) -> Option<CallSet>
     None
 }
 
-/// The name of a set in a profile.
+/// The name of a set, as a profile has it at `architectures` and in `archMap`. (`arch_name_of_set` gives another name.)
 pub(crate) fn name_of_set(set: CallSet) -> &'static str
     ensures { result.now ≡ name_of_set set }
 {
@@ -40,7 +41,7 @@ pub(crate) fn name_of_set(set: CallSet) -> &'static str
     }
 }
 
-/// The name of a set among the `arches` of a rule.
+/// The name of a set, as a profile has it among the `arches` of a rule's `includes` or `excludes`.
 pub(crate) fn arch_name_of_set(set: CallSet) -> &'static str
     ensures { result.now ≡ arch_name_of_set set }
 {
@@ -53,8 +54,8 @@ pub(crate) fn arch_name_of_set(set: CallSet) -> &'static str
     }
 }
 
-/// The response of an action's name; `None` where no action has this name. `number` is the number of ERRNO and TRACE;
-/// other actions have none.
+/// The response that the name of an action in a profile stands for; `None` where no action has this name. `number`
+/// becomes the number of `Errno` and `Tracer`. Other responses have no number, and `number` is ignored.
 pub(crate) fn response_named(text: &str, number: u16) -> Option<Response>
     ensures { result ≡ response_named text.now number }
 {
@@ -88,7 +89,7 @@ pub(crate) fn response_named(text: &str, number: u16) -> Option<Response>
     None
 }
 
-/// The comparison that has this name; `None` where none has.
+/// The way of comparing that has this name in profiles; `None` where none has.
 pub(crate) fn comparing_named(text: &str) -> Option<Comparing>
     ensures { result ≡ comparing_named text.now }
 {
@@ -169,14 +170,15 @@ pub struct Version {
 pub(crate) struct VersionRead {
     /// The number before the point; none where no point was read yet.
     pub(crate) major: Option<u32>,
-    /// The number that the digits since then make; none where no digit was read since.
+    /// The number that is made by the digits behind the point, or by all digits where no point was read yet; none where
+    /// there are no such digits.
     pub(crate) digits: Option<u32>,
-    /// Whether the text can't be a version.
+    /// Whether the text can't be a version; then the other fields have no meaning.
     pub(crate) wrong: bool,
 }
 
-/// What was read, with one digit more, 0 to 9. If the number would be greater than 9999, the digits stay as they were,
-/// and the text can't be a version.
+/// `read` with one digit more. If the number would be greater than 9999, the digits stay as they were, and `wrong` is
+/// set. The caller's condition: the digit is 0 to 9.
 fn with_digit(read: VersionRead, digit: u8) -> VersionRead
     requires { digit ≤ 9 }
     ensures { result ≡ with_digit read digit }
@@ -197,7 +199,7 @@ fn with_digit(read: VersionRead, digit: u8) -> VersionRead
     }
 }
 
-/// What was read, of a text that can't be a version.
+/// `read` with `wrong` set; its other fields are the same.
 fn wrong(read: VersionRead) -> VersionRead
     ensures { result ≡ record { major = read.major; digits = read.digits; wrong = true } }
 {
@@ -208,8 +210,8 @@ fn wrong(read: VersionRead) -> VersionRead
     }
 }
 
-/// What was read, with a point behind it. The text can't be a version if no digit stands before the point, or if this
-/// is the second point.
+/// `read` with a point behind it: `digits` becomes `major`, and is `None` until a digit follows. Where `digits` is
+/// `None`, or there is a `major` already, only `wrong` is set.
 fn after_point(read: VersionRead) -> VersionRead
     ensures { result ≡ after_point read read.major read.digits }
 {
@@ -223,7 +225,8 @@ fn after_point(read: VersionRead) -> VersionRead
     }
 }
 
-/// What was read, with one byte more: a digit, a point, or another byte, which no version has.
+/// `read` with one byte of the text more: a digit is added by `with_digit`, and a point by `after_point`. Any other
+/// byte sets `wrong`, since no version has it.
 fn version_step(read: VersionRead, byte: u8) -> VersionRead
     ensures { result ≡ version_step read byte }
 {

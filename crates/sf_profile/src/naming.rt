@@ -52,7 +52,7 @@ const IPC_CALLS: [&str; 12] = [
     "shmctl",
 ];
 
-/// The place of a name among some, counted from 0; `None` where it isn't among them.
+/// The first place of a name among `names`, counted from 0; `None` where it isn't among them.
 fn place_of(name: &str, names: &[&str]) -> Option<usize>
     ensures value { result ≡ place_from 0 name.now (map (λ n. n.now) names.now) }
     ensures small { IfSome result (λ n. n < length names.now) }
@@ -81,8 +81,8 @@ fn place_of_ipc_call(name: &str) -> Option<usize>
     place_of(name, IPC_CALLS.as_slice())
 }
 
-/// Adds the call that has this number itself and doesn't go through another one; nothing where there is no number. An
-/// error where an allocation is refused.
+/// Adds the call with this number, whose `operation` is `None`, since it doesn't go through another call. Adds nothing
+/// where `number` is `None`. An error where an allocation is refused.
 fn push_direct(calls: &mut Vec<Call>, number: Option<u32>) -> Result<(), AllocError>
     ensures { OnOk result (calls.new.items ≡ calls.old.items ++ direct_call number) }
 {
@@ -95,8 +95,9 @@ fn push_direct(calls: &mut Vec<Call>, number: Option<u32>) -> Result<(), AllocEr
     Ok(())
 }
 
-/// Adds the call through `socketcall`, which is number 102 of i386, if the name is that of a call behind it; else
-/// nothing. The calls behind it are numbered from 1. An error where an allocation is refused.
+/// Adds the call with this name that goes through `socketcall`, which is number 102 of i386; nothing where the name
+/// isn't in `SOCKET_CALLS`. The call's `operation` is the name's place there, counted from 1. An error where an
+/// allocation is refused.
 fn push_socket_call(calls: &mut Vec<Call>, name: &str) -> Result<(), AllocError>
     ensures { OnOk result (calls.new.items ≡ calls.old.items
         ++ socket_call (place_from 0 name.now socket_calls)) }
@@ -110,8 +111,9 @@ fn push_socket_call(calls: &mut Vec<Call>, name: &str) -> Result<(), AllocError>
     Ok(())
 }
 
-/// Adds the call through `ipc`, which is number 117 of i386, if the name is that of a call behind it; else nothing. The
-/// twelve calls behind it are numbered 1 to 4, 11 to 14 and 21 to 24. An error where an allocation is refused.
+/// Adds the call with this name that goes through `ipc`, which is number 117 of i386; nothing where the name isn't in
+/// `IPC_CALLS`. The call's `operation` is 1 to 4, 11 to 14 or 21 to 24, in the order of `IPC_CALLS`. An error where an
+/// allocation is refused.
 fn push_ipc_call(calls: &mut Vec<Call>, name: &str) -> Result<(), AllocError>
     ensures { OnOk result (calls.new.items ≡ calls.old.items
         ++ ipc_call (place_from 0 name.now ipc_calls)) }
@@ -126,9 +128,9 @@ fn push_ipc_call(calls: &mut Vec<Call>, name: &str) -> Result<(), AllocError>
     Ok(())
 }
 
-/// Adds the calls with this name through `socketcall` and `ipc`, if `has_them`: that is if the set is that of i386, and
-/// the rule compares nothing. (What a rule with comparisons asks about lies behind a pointer there.) An error where an
-/// allocation is refused.
+/// Adds what `push_socket_call` and `push_ipc_call` add for this name, if `has_them`; else nothing. Callers give true
+/// if the set is that of i386, and the rule compares nothing. (Where a call goes through `socketcall` or `ipc`, its
+/// arguments aren't where a rule's comparisons look.) An error where an allocation is refused.
 fn push_through(calls: &mut Vec<Call>, has_them: bool, name: &str) -> Result<(), AllocError>
     ensures { OnOk result (calls.new.items ≡ calls.old.items ++ through_calls has_them name.now) }
 {
@@ -148,8 +150,8 @@ pub(crate) struct Place {
     pub(crate) alone: bool,
 }
 
-/// Adds the calls that a name stands for in a set: the one that has its number there, if the set has the name, and
-/// those that `push_through` adds. An error where an allocation is refused.
+/// Adds the calls that a name stands for in the set of `place`: the call with this name, if the set has one, and those
+/// that `push_through` adds. An error where an allocation is refused; some of them may have been added then.
 fn push_named(
     calls: &mut Vec<Call>,
     settings: &Settings,
@@ -163,7 +165,9 @@ fn push_named(
     push_through(calls, place.set.is_same(CallSet::I386) && place.alone, name)
 }
 
-/// Adds the calls that names stand for in a set, name after name. An error where an allocation is refused.
+/// Adds the calls that names stand for in the set of `place`, name after name. `items` are the names; a value that is
+/// no text counts as the empty name. An error where an allocation is refused; some of the calls may have been added
+/// then.
 fn push_all_named(
     calls: &mut Vec<Call>,
     settings: &Settings,
@@ -180,8 +184,9 @@ fn push_all_named(
     Ok(())
 }
 
-/// Adds the calls of the one name of a rule, at its key `name`; nothing where the key is absent. An error where an
-/// allocation is refused.
+/// Adds the calls that the name at the key `name` of the rule `value` stands for in the set of `place`; nothing where
+/// the key is absent. A name that is no text counts as the empty name. An error where an allocation is refused; some of
+/// the calls may have been added then.
 fn push_one_name(
     calls: &mut Vec<Call>,
     settings: &Settings,
@@ -198,7 +203,8 @@ fn push_one_name(
     }
 }
 
-/// The calls that the names of the rule `value` stand for in a set. An error where an allocation is refused.
+/// The calls that the names of the rule `value`, at its keys `names` and `name`, stand for in the set of `place`. An
+/// error where an allocation is refused.
 pub(crate) fn calls_of(
     alloc: Global,
     settings: &Settings,

@@ -19,8 +19,8 @@ use crate::tree::{items_at, text_at, text_of, whole_at};
 use serde_json::Value;
 use std::alloc::{AllocError, Global};
 
-/// The error number at a key; 1, which is EPERM, where none is given, or where it hasn't 16 bits. A profile with such a
-/// number is refused.
+/// The error number at a key. It is 1, which is EPERM, where there is no whole number at the key, and where the number
+/// isn't 0 to 65535. A profile with such a number is refused.
 fn error_number(value: &Value, key: &str) -> u16
     ensures { result ≡ unwrap_or (up_to_or 1 65535
         (whole_where (at key.now (view value.now)))) 1 }
@@ -31,8 +31,8 @@ fn error_number(value: &Value, key: &str) -> u16
     }
 }
 
-/// The response that the action and the number at these keys make. The number is 1 where none is given. An unknown
-/// action counts as `KillThread`; a profile with one is refused.
+/// The response of the action at the key `action`, with the number that `error_number` gives for the key `number`: 1
+/// where none is given. A missing or unknown action counts as `KillThread`; such a profile is refused.
 pub(crate) fn response_at(value: &Value, action: &str, number: &str) -> Response
     ensures { result ≡ response_at action.now number.now (view value.now) }
 {
@@ -41,8 +41,8 @@ pub(crate) fn response_at(value: &Value, action: &str, number: &str) -> Response
     )
 }
 
-/// The comparison that a value describes. Each number is 0 where it is absent or out of its range, and an unknown `op`
-/// counts as `Equal`; of these, only an absent `valueTwo` stands in a profile that isn't refused.
+/// The comparison that a value describes. A number that is absent or out of its range counts as 0, and a missing or
+/// unknown `op` as `Equal`. In a profile that isn't refused, `valueTwo` may be absent, and nothing else of this occurs.
 fn comparison_of(value: &Value) -> Comparison
     ensures { result ≡ comparison_of (view value.now) }
 {
@@ -84,8 +84,8 @@ fn compares_twice(comparisons: &[Comparison]) -> bool
     false
 }
 
-/// The rule that the profile's rule `value` makes in a set, with these of its comparisons. An error where an allocation
-/// is refused.
+/// The rule that the profile's rule `value` makes in a set, with these comparisons. Callers give all comparisons of
+/// `value`, or one of them. An error where an allocation is refused.
 fn rule_of(
     alloc: Global,
     settings: &Settings,
@@ -107,7 +107,7 @@ fn rule_of(
     })
 }
 
-/// A list of one comparison.
+/// A list of one comparison. An error where an allocation is refused.
 fn list_of_one(alloc: Global, comparison: Comparison) -> Result<Vec<Comparison>, AllocError>
     ensures { IfOk result (λ v. v.items ≡ comparison ∷ []) }
 {
@@ -116,7 +116,8 @@ fn list_of_one(alloc: Global, comparison: Comparison) -> Result<Vec<Comparison>,
     Ok(comparisons)
 }
 
-/// Adds a rule of its own for each comparison of the profile's rule `value`. An error where an allocation is refused.
+/// Adds a rule for each of these comparisons, which are those of the profile's rule `value`: each rule has only its own
+/// comparison. An error where an allocation is refused; some of the rules may have been added then.
 fn push_each(
     alloc: Global,
     rules: &mut Vec<Rule>,
@@ -129,16 +130,24 @@ fn push_each(
         ++ map (rule_of settings.now set (view value.now)) (map (λ c. c ∷ []) comparisons.now)) }
 {
     for comparison in comparisons {
-        let rule = rule_of(alloc, settings, set, value, list_of_one(alloc, *comparison)?)?;
+        let rule = rule_of(
+            alloc,
+            settings,
+            set,
+            value,
+            list_of_one(alloc, *comparison)?,
+        )?;
         rules.push(rule)?;
     }
     Ok(())
 }
 
-/// Adds the rules of the profile's rule `value`, which has these comparisons: one rule with all of them; or where one
-/// argument is compared twice, a rule for each comparison, so it is enough that one holds. Where there are more than
-/// six, one of the six arguments is compared twice, so `compares_twice` isn't asked. An error where an allocation is
-/// refused.
+/// Adds the rules that the profile's rule `value` makes in a set. `comparisons` are all comparisons of `value`. Usually
+/// `value` makes one rule with all of them. Where one argument is compared more than once, it makes a rule for each
+/// comparison, so that it is enough that one holds. Of more than six comparisons two are always of one of the six
+/// arguments, so `compares_twice` isn't asked then.
+///
+/// An error where an allocation is refused; some of the rules may have been added then.
 fn push_alternatives(
     alloc: Global,
     rules: &mut Vec<Rule>,
@@ -158,8 +167,8 @@ fn push_alternatives(
     Ok(())
 }
 
-/// Adds the rules that the profile's rule `value` makes in a set: none where it doesn't apply. An error where an
-/// allocation is refused.
+/// Adds the rules that the profile's rule `value` makes in a set, as `push_alternatives` does; nothing where the rule
+/// doesn't apply. An error where an allocation is refused; some of the rules may have been added then.
 fn push_rules_of(
     alloc: Global,
     rules: &mut Vec<Rule>,
@@ -194,8 +203,8 @@ fn rules_in(
     Ok(rules)
 }
 
-/// The part of the plan that is about one set: the set, with the rules that the rules of the profile `value` make in
-/// it. An error where an allocation is refused.
+/// The part of the plan for one set: the set, and the rules that the profile's rules, at the key `syscalls` of the
+/// profile `value`, make in it. An error where an allocation is refused.
 fn part_of(
     alloc: Global,
     settings: &Settings,
@@ -217,8 +226,8 @@ fn has_set(sets: &[CallSet], set: CallSet) -> bool
     sets.iter().any(|other| set.is_same(*other))
 }
 
-/// Adds the set that a profile has this name for, if it isn't there yet. A name that no set has adds nothing; a profile
-/// with one is refused. An error where an allocation is refused.
+/// Adds the set that `set_named` gives for this name, if it isn't there yet. Adds nothing where it gives none; a
+/// profile that is for a set with such a name is refused. An error where an allocation is refused.
 fn push_set(sets: &mut Vec<CallSet>, name: &str) -> Result<(), AllocError>
     ensures { OnOk result (sets.new.items ≡ with_set sets.old.items (set_named name.now)) }
 {
@@ -234,7 +243,8 @@ fn push_set(sets: &mut Vec<CallSet>, name: &str) -> Result<(), AllocError>
     }
 }
 
-/// Adds the sets that have these names in profiles, each once. An error where an allocation is refused.
+/// Adds the sets that have these names in profiles, as `push_set` does, so that each is there once. A value that is no
+/// text adds nothing. An error where an allocation is refused; some of the sets may have been added then.
 fn push_sets(sets: &mut Vec<CallSet>, items: &[Value]) -> Result<(), AllocError>
     ensures { OnOk result (sets.new.items
         ≡ fold (λ sets name. with_set sets (set_named name)) sets.old.items
@@ -246,8 +256,8 @@ fn push_sets(sets: &mut Vec<CallSet>, items: &[Value]) -> Result<(), AllocError>
     Ok(())
 }
 
-/// Adds the sets at `subArchitectures` of an entry of `archMap`, if it is the machine's entry; else nothing. An error
-/// where an allocation is refused.
+/// Adds the sets at `subArchitectures` of an entry of `archMap`, as `push_sets` does, if it is the machine's entry;
+/// else nothing. An error where an allocation is refused; some of the sets may have been added then.
 fn push_map_item(
     sets: &mut Vec<CallSet>,
     settings: &Settings,
@@ -263,8 +273,8 @@ fn push_map_item(
     Ok(())
 }
 
-/// Adds the sets at `subArchitectures` of those entries of `archMap` that are the machine's. An error where an
-/// allocation is refused.
+/// Adds the sets at `subArchitectures` of those entries of `archMap` that are the machine's, as `push_sets` does. An
+/// error where an allocation is refused; some of the sets may have been added then.
 fn push_map_items(
     sets: &mut Vec<CallSet>,
     settings: &Settings,
@@ -297,7 +307,8 @@ pub(crate) fn sets_of(
     Ok(sets)
 }
 
-/// The parts of the plan, one for each of these sets. An error where an allocation is refused.
+/// The parts of the plan of the profile `value`, one for each of these sets, in their order. An error where an
+/// allocation is refused.
 fn parts_of(
     alloc: Global,
     settings: &Settings,

@@ -46,21 +46,23 @@ pub(crate) fn has_one_name_or_none(value: &Value) -> bool
     }
 }
 
-/// Whether all names of a rule, at its keys `names` and `name`, can be names of calls.
+/// Whether each name that a rule has, at its keys `names` and `name`, can be the name of a call. True where it has
+/// none. A `names` that is no array counts as empty here; `is_rule` has refused such a rule before.
 fn has_right_names(value: &Value) -> bool
     ensures { result ≡ has_right_names (view value.now) }
 {
     are_names(items_at(value, "names")) && has_one_name_or_none(value)
 }
 
-/// Whether the action at a key is known.
+/// Whether the text at the key `action` is the name of an action, as `response_named` says. False where there is no
+/// text.
 pub(crate) fn knows_action(value: &Value, action: &str) -> bool
     ensures { result ≡ knows_action action.now (view value.now) }
 {
     response_named(text_at(value, action), 0).is_some()
 }
 
-/// Whether the `op` of a comparison is known.
+/// Whether the `op` of a comparison is known to `comparing_named`. False where there is no text at `op`.
 fn knows_comparison(value: &Value) -> bool
     ensures { result ≡ knows_comparison (view value.now) }
 {
@@ -88,7 +90,8 @@ fn knows_action_and_ops(value: &Value) -> bool
     knows_action(value, "action") && know_comparisons(items_at(value, "args"))
 }
 
-/// Whether there is no error number at a key, or it has 16 bits: it is 0 to 65535.
+/// Whether there is no error number at a key, or it is 0 to 65535. A value that is no whole number of 64 bits, with a
+/// sign or without, counts as none here. Callers have seen by `is_rule` or `is_profile` that there is no such value.
 pub(crate) fn has_error_number_or_none(value: &Value, key: &str) -> bool
     ensures { result ≡ has_error_number_or_none key.now (view value.now) }
 {
@@ -96,7 +99,8 @@ pub(crate) fn has_error_number_or_none(value: &Value, key: &str) -> bool
 }
 
 /// Whether the numbers of a comparison are in their ranges: `index` is 0 to 5, and `value` and `valueTwo` have 64 bits
-/// without a sign. An absent number is in its range.
+/// without a sign. An absent number is in its range. A value that is no whole number of 64 bits, with a sign or
+/// without, counts as absent here; `is_rule` has refused such a value before.
 fn has_argument_range(value: &Value) -> bool
     ensures { result ≡ has_argument_range (view value.now) }
 {
@@ -105,7 +109,7 @@ fn has_argument_range(value: &Value) -> bool
         && up_to_or(0, u64::MAX, whole_at(value, "valueTwo")).is_some()
 }
 
-/// Whether the numbers of all comparisons are in their ranges.
+/// Whether the numbers of all comparisons are in their ranges, as `has_argument_range` says.
 fn have_each_argument_range(items: &[Value]) -> bool
     ensures { result ≡ list_all (λ v. has_argument_range (view v)) items.now }
 {
@@ -119,14 +123,16 @@ fn have_argument_ranges(items: &[Value]) -> bool
     have_each_argument_range(items)
 }
 
-/// Whether the error number of a rule and the numbers of its comparisons are in their ranges.
+/// Whether the error number of a rule and the numbers of its comparisons are in their ranges. The caller has seen by
+/// `is_rule` that they are whole numbers.
 fn has_ranges(value: &Value) -> bool
     ensures { result ≡ has_ranges (view value.now) }
 {
     has_error_number_or_none(value, "errnoRet") && have_argument_ranges(items_at(value, "args"))
 }
 
-/// Why the rule `value` is refused; `None` where it isn't. `rule` is its number, from 1, for the fault.
+/// Why the rule `value` is refused; `None` where it isn't. `rule` is its number, from 1, for the fault. The faults are
+/// tried in this order: `RuleKey`, `RuleName`, `RuleActions`, `RuleRange`.
 fn rule_refusal(settings: &Settings, rule: usize, value: &Value) -> Option<Fault>
     ensures { result ≡ rule_refusal settings.now rule (view value.now) }
 {
@@ -145,7 +151,8 @@ fn rule_refusal(settings: &Settings, rule: usize, value: &Value) -> Option<Fault
     None
 }
 
-/// Why the first of these rules that is refused is refused; `None` where none is. Rules are numbered from 1.
+/// The fault of the first of these rules that `rule_refusal` refuses; `None` where it refuses none. Rules are numbered
+/// from 1.
 #[tactic(auto, using(crate::proofs::RuleTurns::next_rule))]
 fn rules_refusal(settings: &Settings, items: &[Value]) -> Option<Fault>
     ensures { result ≡ rules_refusal settings.now 1 (map view items.now) }
@@ -159,7 +166,7 @@ fn rules_refusal(settings: &Settings, items: &[Value]) -> Option<Fault>
     None
 }
 
-/// Whether a set is known, which `None` isn't, and its calls are given exactly once.
+/// Whether the calls of a set are given exactly once. False for `None`, which stands for an unknown set.
 fn knows_set(settings: &Settings, set: Option<CallSet>) -> bool
     ensures { result ≡ knows_set settings.now set }
 {
@@ -231,8 +238,9 @@ fn knows_sets(settings: &Settings, value: &Value) -> bool
         && know_sets_of_items(settings, items_at(value, "archMap"))
 }
 
-/// Why the profile `value` is refused: the head first, then the sets of calls, then rule after rule; `None` where it
-/// isn't. Whether its filter is too long is seen later.
+/// Why the profile `value` is refused; `None` where it isn't. The faults are tried in this order: for the head `Key`,
+/// `Actions` and `Range`; `Set` for the sets of calls; then those of `rule_refusal`, rule after rule. Whether the
+/// filter is too long isn't looked at here.
 pub(crate) fn profile_refusal(settings: &Settings, value: &Value) -> Option<Fault>
     ensures { result ≡ profile_refusal settings.now (view value.now) }
 {
@@ -252,7 +260,8 @@ pub(crate) fn profile_refusal(settings: &Settings, value: &Value) -> Option<Faul
 }
 
 /// The profile in a file's tree. Where there is a key `linux`, the file is a whole config.json, whose profile is at the
-/// key `seccomp` below `linux`; `None` where that key is absent. Else the tree itself is the profile.
+/// key `seccomp` below `linux`; `None` where there is no `seccomp`. Where there is no `linux`, the tree itself is the
+/// profile.
 pub(crate) fn profile_in(value: &Value) -> Option<&Value>
     ensures { option_map (λ v. view v.now) result ≡ profile_in (view value.now) }
 {

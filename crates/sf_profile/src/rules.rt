@@ -68,7 +68,7 @@ pub enum Response {
     KillThread,
     /// The thread gets a SIGSYS.
     Trap,
-    /// The call isn't made, and fails with this error number.
+    /// The call isn't made, and this is its error number.
     Errno(u16),
     /// A supervisor decides.
     Notify,
@@ -83,13 +83,14 @@ pub enum Response {
 /// A call of a set.
 #[derive(Clone, Copy, Debug, PartialEq, Eq)]
 pub struct Call {
-    /// Its number.
+    /// The call's number, or that of socketcall or ipc where the call goes through one of these.
     pub number: u32,
-    /// Where it goes through socketcall or ipc: the number in its first argument that stands for it.
+    /// Where the call goes through socketcall or ipc: the number in the first argument that stands for it. `None` where
+    /// the call is known by its number alone.
     pub operation: Option<u32>,
 }
 
-/// A rule, with the calls of one set that it speaks of.
+/// A rule in one set of calls: it gives its response to each of its calls for which all its comparisons hold.
 #[derive(Debug, Drop)]
 pub(crate) struct Rule {
     /// The calls.
@@ -117,7 +118,7 @@ impl Model for Rule {
 pub(crate) struct Part {
     /// The set.
     pub(crate) set: CallSet,
-    /// Its rules, in the profile's order.
+    /// The rules that apply, in the profile's order. A rule of the profile may have become several.
     pub(crate) rules: Vec<Rule>,
 }
 
@@ -145,11 +146,12 @@ pub enum Reading {
 pub(crate) struct Plan {
     /// The sets of calls that the profile is for.
     pub(crate) parts: Vec<Part>,
-    /// What becomes of a call that no rule speaks of.
+    /// What becomes of a call of these sets about which no rule says anything, unless it fails by `newer`.
     pub(crate) default: Response,
     /// Which rule counts where several say something.
     pub(crate) reading: Reading,
-    /// Whether calls that are newer than all that the profile names fail with ENOSYS.
+    /// Whether ENOSYS is asked for at calls that are newer than all calls of their set's rules. It is heeded only where
+    /// `refuses_newer` is true of the default.
     pub(crate) newer: bool,
 }
 
@@ -167,7 +169,7 @@ impl Model for Plan {
 }
 
 impl CallSet {
-    /// The number of the architecture.
+    /// The number of the set's architecture, as in the word `arch` of an input. `X64` and `X32` have the same one.
     pub(crate) fn arch(self) -> u32
         ensures { result ≡ arch_of self }
     {
@@ -191,8 +193,8 @@ impl CallSet {
 }
 
 impl Response {
-    /// The value that a filter returns: the action in the high 16 bits, and in the low ones the number that goes with
-    /// it.
+    /// The value that a filter returns for the response: the action in the high 16 bits, and in the low ones the number
+    /// of `Errno` or `Tracer`, or 0 for another response.
     pub(crate) fn value(self) -> u32
         ensures { result ≡ returned_value_of self }
     {

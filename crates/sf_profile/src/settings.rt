@@ -32,7 +32,8 @@ pub struct Settings {
     pub kernel: Option<Version>,
     /// Which rule counts where several say something of one call.
     pub conflicts: Reading,
-    /// Whether calls that are newer than all that the profile names fail with ENOSYS.
+    /// Whether ENOSYS is asked for at calls that are newer than all that the rules that apply name. It isn't heeded
+    /// where the default lets calls through, or leaves them to a tracer.
     pub newer: bool,
     /// The calls of sets. A profile is refused where those of a set that it needs aren't among them exactly once.
     pub calls: Vec<Calls>,
@@ -67,16 +68,16 @@ fn count_of(calls: &[Calls], set: CallSet) -> usize
     calls.iter().filter(|one| one.set.is_same(set)).count()
 }
 
-/// Whether some call has a number below those of x32.
+/// Whether some call has a number below `LEAST_OF_X32`.
 fn has_low_call(calls: &[Call]) -> bool
     ensures { result ≡ list_any is_low_call calls.now }
 {
     calls.iter().any(|call| call.number() < LEAST_OF_X32)
 }
 
-/// The set of the architecture with this number; `None` where it is the architecture of none of the five sets. x86-64
-/// has two: it is the set of 64-bit calls if `low`, which says that at least one call has a number below those of x32,
-/// and else that of x32.
+/// The set of calls of the architecture with this number; `None` where it is the architecture of none of the five sets.
+/// x86-64 has two sets: the result is `X64` if `low`, and else `X32`. Callers say by `low` whether some call has a
+/// number below `LEAST_OF_X32`.
 fn set_of_arch(low: bool, arch: u32) -> Option<CallSet>
     ensures { result ≡ set_of_arch low arch }
 {
@@ -89,8 +90,9 @@ fn set_of_arch(low: bool, arch: u32) -> Option<CallSet>
     }
 }
 
-/// The set whose calls these are; `None` where the architecture is none of those of the five sets. Of the two sets of
-/// x86-64 it is that of x32 where no number is below 2^30.
+/// The set whose calls these are, by their architecture and their numbers; `None` where the architecture is that of
+/// none of the five sets. For x86-64 it is `X32` where no call has a number below 2^30, and else `X64`. The set's name
+/// in `names` isn't looked at.
 pub fn set_of_names(names: &Names) -> Option<CallSet>
     ensures { result ≡ set_of_names names.now }
 {
@@ -142,8 +144,8 @@ impl Settings {
         count_of(&self.calls, set) == 1
     }
 
-    /// The number of the call of a set that has this name; `None` where the set has no such call, or its calls aren't
-    /// given.
+    /// The number of the first call with this name among the calls of a set; `None` where the set has no such call, or
+    /// its calls aren't given. If its calls are given more than once, the first ones count.
     pub(crate) fn number_of(&self, set: CallSet, name: &str) -> Option<u32>
         ensures { result ≡ number_of self.now set name.now }
     {
@@ -153,7 +155,7 @@ impl Settings {
         }
     }
 
-    /// Whether the container has a capability.
+    /// Whether the container has the capability with this name.
     pub(crate) fn has_cap(&self, cap: &str) -> bool
         ensures { result ≡ has_cap self.now cap.now }
     {

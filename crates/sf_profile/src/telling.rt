@@ -17,7 +17,7 @@ use crate::tree::{at, is_among, items_at, text_of};
 use serde_json::Value;
 use std::alloc::{AllocError, Global};
 
-/// The name of a response's action.
+/// The name of a response's action in notes.
 fn response_name(response: Response) -> &'static str
     ensures { result.now ≡ response_name response }
 {
@@ -43,7 +43,7 @@ fn response_data(response: Response) -> u16
     }
 }
 
-/// The name of a set of calls in notes, which is that of files of names. (`name_of_set` has that of profiles.)
+/// The name of a set of calls in notes, as `policies/names.toml` has it too. (`name_of_set` gives the one in profiles.)
 fn set_name_in_notes(set: CallSet) -> &'static str
     ensures { result.now ≡ set_name_in_notes set }
 {
@@ -68,7 +68,8 @@ fn push_name<'a>(names: &mut Vec<&'a str>, name: &'a str) -> Result<(), AllocErr
     Ok(())
 }
 
-/// Adds those of the names that aren't there yet, each once. An error where an allocation is refused.
+/// Adds those of the names that aren't there yet, each once. A value that is no text counts as the empty name. An error
+/// where an allocation is refused; some of the names may have been added then.
 fn push_names<'a>(names: &mut Vec<&'a str>, items: &'a [Value]) -> Result<(), AllocError>
     ensures { OnOk result (map (λ n. n.now) names.new.items
         ≡ fold with_name (map (λ n. n.now) names.old.items) (map text_in (map view items.now))) }
@@ -79,8 +80,8 @@ fn push_names<'a>(names: &mut Vec<&'a str>, items: &'a [Value]) -> Result<(), Al
     Ok(())
 }
 
-/// Adds the one name of a rule, at its key `name`, if it isn't there yet; nothing where the key is absent. An error
-/// where an allocation is refused.
+/// Adds the one name of the rule `value`, at its key `name`, if it isn't there yet; nothing where the key is absent. A
+/// value that is no text counts as the empty name. An error where an allocation is refused.
 fn push_one_name<'a>(names: &mut Vec<&'a str>, value: &'a Value) -> Result<(), AllocError>
     ensures { OnOk result (map (λ n. n.now) names.new.items
         ≡ fold with_name (map (λ n. n.now) names.old.items)
@@ -92,7 +93,8 @@ fn push_one_name<'a>(names: &mut Vec<&'a str>, value: &'a Value) -> Result<(), A
     }
 }
 
-/// Adds the names of a rule that aren't there yet, each once. An error where an allocation is refused.
+/// Adds the names of the rule `value` that aren't there yet, each once: first those at `names`, then the one at `name`.
+/// An error where an allocation is refused; some of the names may have been added then.
 #[tactic(auto, using(crate::proofs::PlanLemmas::fold_both))]
 fn push_names_of<'a>(names: &mut Vec<&'a str>, value: &'a Value) -> Result<(), AllocError>
     ensures { OnOk result (map (λ n. n.now) names.new.items
@@ -102,8 +104,8 @@ fn push_names_of<'a>(names: &mut Vec<&'a str>, value: &'a Value) -> Result<(), A
     push_one_name(names, value)
 }
 
-/// Adds the names of a rule that aren't there yet, each once, if the rule applies; else nothing. An error where an
-/// allocation is refused.
+/// Adds the names of the rule `value` that aren't there yet, each once, if the rule applies; else nothing. An error
+/// where an allocation is refused; some of the names may have been added then.
 fn push_names_where<'a>(
     names: &mut Vec<&'a str>,
     settings: &Settings,
@@ -137,7 +139,7 @@ pub(crate) fn applied_names<'a>(
     Ok(names)
 }
 
-/// Whether at least one of these sets has a call with this name. Which sets the profile is for plays no part.
+/// Whether at least one of the sets in `calls` has a call with this name. The profile need not be for this set.
 fn is_known(calls: &[Calls], name: &str) -> bool
     ensures { result ≡ list_any (λ (c : ACalls). is_some
         (number_where (Some c) name.now)) calls.now }
@@ -145,15 +147,14 @@ fn is_known(calls: &[Calls], name: &str) -> bool
     calls.iter().any(|one| one.number_of(name).is_some())
 }
 
-/// Whether no set that is given has a call with this name.
+/// Whether none of the sets in `settings.calls` has a call with this name.
 fn is_unknown(settings: &Settings, name: &str) -> bool
     ensures { result ≡ is_unknown settings.now name.now }
 {
     !is_known(&settings.calls, name)
 }
 
-/// Those of the names that no set that is given has a call for, in their order. An error where an allocation is
-/// refused.
+/// Those of the names that are unknown, as `is_unknown` says, in their order. An error where an allocation is refused.
 fn unknown_names<'a>(
     alloc: Global,
     settings: &Settings,
@@ -184,8 +185,8 @@ fn applied_count(settings: &Settings, items: &[Value]) -> usize
     count
 }
 
-/// Adds the line of the default response: its action's name, and the number that goes with it. An error where an
-/// allocation is refused.
+/// Adds the line of the default response: `default`, its action's name, and the number that goes with it, 0 where it
+/// has none. An error where an allocation is refused; a part of the line may stand in the text then.
 fn push_default(text: &mut String, response: Response) -> Result<(), AllocError>
     ensures { OnOk result (string_bytes text.new ≡ string_bytes text.old
         ++ default_line response) }
@@ -195,7 +196,8 @@ fn push_default(text: &mut String, response: Response) -> Result<(), AllocError>
     write!(text, "default {name} {data}\n")
 }
 
-/// Adds the name of a set, with a blank before it.
+/// Adds the name of a set, as notes have it, with a blank before it. An error where an allocation is refused; a part
+/// of what is added may stand in the text then.
 fn push_set_words(text: &mut String, set: CallSet) -> Result<(), AllocError>
     ensures { OnOk result (string_bytes text.new ≡ string_bytes text.old ++ set_words set) }
 {
@@ -203,7 +205,8 @@ fn push_set_words(text: &mut String, set: CallSet) -> Result<(), AllocError>
     text.push_str(set_name_in_notes(set))
 }
 
-/// Adds the names of sets, with a blank before each.
+/// Adds the names of sets, as notes have them, with a blank before each. An error where an allocation is refused; a
+/// part of what is added may stand in the text then.
 fn push_sets_words(text: &mut String, sets: &[CallSet]) -> Result<(), AllocError>
     ensures { OnOk result (string_bytes text.new ≡ string_bytes text.old
         ++ flat_map set_words sets.now) }
@@ -214,7 +217,8 @@ fn push_sets_words(text: &mut String, sets: &[CallSet]) -> Result<(), AllocError
     Ok(())
 }
 
-/// Adds the line of the sets: their names. An error where an allocation is refused.
+/// Adds the line of the sets: `sets` and their names. An error where an allocation is refused; a part of the line may
+/// stand in the text then.
 fn push_sets(text: &mut String, sets: &[CallSet]) -> Result<(), AllocError>
     ensures { OnOk result (string_bytes text.new ≡ string_bytes text.old ++ sets_line sets.now) }
 {
@@ -223,8 +227,9 @@ fn push_sets(text: &mut String, sets: &[CallSet]) -> Result<(), AllocError>
     text.push_str("\n")
 }
 
-/// Adds the line of the counts: how many rules there are, how many of them apply, how many different names these have,
-/// and how many of the names no file of names has. An error where an allocation is refused.
+/// Adds the line of the counts: how many rules there are, how many of them apply, how many different names those that
+/// apply have, and how many of these names no file of names has. An error where an allocation is refused; a part of the
+/// line may stand in the text then.
 fn push_counts(
     text: &mut String,
     rules: usize,
@@ -241,7 +246,8 @@ fn push_counts(
     )
 }
 
-/// Adds a line for a name that no file of names has. An error where an allocation is refused.
+/// Adds a line for a name that no file of names has: `unknown` and the name. An error where an allocation is refused; a
+/// part of the line may stand in the text then.
 fn push_unknown(text: &mut String, name: &str) -> Result<(), AllocError>
     ensures { OnOk result (string_bytes text.new ≡ string_bytes text.old
         ++ unknown_line name.now) }
@@ -249,7 +255,8 @@ fn push_unknown(text: &mut String, name: &str) -> Result<(), AllocError>
     write!(text, "unknown {name}\n")
 }
 
-/// Adds a line for each of these names, which no file of names has. An error where an allocation is refused.
+/// Adds a line for each of these names, as `push_unknown` does. An error where an allocation is refused; a part of the
+/// lines may stand in the text then.
 fn push_all_unknown(text: &mut String, names: &[&str]) -> Result<(), AllocError>
     ensures { OnOk result (string_bytes text.new ≡ string_bytes text.old
         ++ flat_map unknown_line (map (λ n. n.now) names.now)) }
@@ -260,7 +267,8 @@ fn push_all_unknown(text: &mut String, names: &[&str]) -> Result<(), AllocError>
     Ok(())
 }
 
-/// Adds a name, with a blank before it.
+/// Adds a name, with a blank before it. An error where an allocation is refused; a part of what is added may stand in
+/// the text then.
 fn push_word(text: &mut String, name: &str) -> Result<(), AllocError>
     ensures { OnOk result (string_bytes text.new ≡ string_bytes text.old ++ name_word name.now) }
 {
@@ -268,7 +276,7 @@ fn push_word(text: &mut String, name: &str) -> Result<(), AllocError>
     text.push_str(name)
 }
 
-/// Names, with a blank before each.
+/// A text of these names, with a blank before each. An error where an allocation is refused.
 fn words_of(alloc: Global, names: &[&str]) -> Result<String, AllocError>
     ensures { IfOk result (λ text. string_bytes text
         ≡ flat_map name_word (map (λ n. n.now) names.now)) }
@@ -280,8 +288,8 @@ fn words_of(alloc: Global, names: &[&str]) -> Result<String, AllocError>
     Ok(text)
 }
 
-/// The names that no file of names has, with a blank before each, of those rules of the profile `value` that apply. An
-/// error where an allocation is refused.
+/// The unknown names, as `is_unknown` says, of those rules of the profile `value` that apply: each once, in the order
+/// of first mention, with a blank before each. An error where an allocation is refused.
 pub(crate) fn unknown_words(
     alloc: Global,
     settings: &Settings,
@@ -295,9 +303,10 @@ pub(crate) fn unknown_words(
     words_of(alloc, &unknown)
 }
 
-/// The notes on the profile `value`, line by line: the form of the notes, the default, the sets, the counts, the names
-/// that no file of names has, and `size`, which is how many instructions the filter has. An error where an allocation
-/// is refused.
+/// The notes on the profile `value`. Their lines are: the form of the notes (`seccomp_audit profile 1`), the default,
+/// the sets, the counts, one line for each name that no file of names has, and `total instructions` with `size`, which
+/// is how many instructions the filter has. The caller has seen that the profile isn't refused. An error where an
+/// allocation is refused.
 pub(crate) fn notes_text(
     alloc: Global,
     settings: &Settings,

@@ -9,8 +9,8 @@ ghost use Rattle.sf_profile.specs.Trees.{absent_or, at, is_object_of, is_list_of
 
 use serde_json::{Map, Value};
 
-/// The value at a key of an object; `None` where the key is absent, its value is null, or `value` is no object. So null
-/// counts as absent everywhere.
+/// The value at a key of an object; `None` where the key is absent, its value is null, or `value` is no object. So a
+/// key with null counts as absent, except where unknown keys are looked for.
 pub(crate) fn at<'a>(value: &'a Value, key: &str) -> Option<&'a Value>
     ensures { option_map (λ v. view v.now) result ≡ at key.now (view value.now) }
 {
@@ -62,7 +62,8 @@ pub(crate) fn text_at<'a>(value: &'a Value, key: &str) -> &'a str
     }
 }
 
-/// The whole number that a value is; `None` where it isn't one, or fits 64 bits neither with nor without a sign.
+/// The whole number that a value is, if it fits 64 bits with a sign or without; else `None`. A number that is written
+/// with a point or an exponent is no whole number, nor is `-0`.
 fn whole_of(value: &Value) -> Option<i128>
     ensures { result ≡ whole_in (view value.now) }
 {
@@ -163,7 +164,7 @@ pub(crate) fn has_text(value: &Value, key: &str) -> bool
     }
 }
 
-/// Whether there is a whole number at a key.
+/// Whether there is a whole number of 64 bits at a key, with a sign or without.
 pub(crate) fn has_whole(value: &Value, key: &str) -> bool
     ensures { result ≡ present is_whole_number (at key.now (view value.now)) }
 {
@@ -173,7 +174,7 @@ pub(crate) fn has_whole(value: &Value, key: &str) -> bool
     }
 }
 
-/// Whether a key is absent, or has a whole number.
+/// Whether a key is absent, or has a whole number of 64 bits, with a sign or without.
 pub(crate) fn has_whole_or_none(value: &Value, key: &str) -> bool
     ensures { result ≡ absent_or is_whole_number (at key.now (view value.now)) }
 {
