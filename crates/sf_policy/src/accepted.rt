@@ -9,7 +9,8 @@ use crate::fault::Fault;
 use sf_ask::Question;
 use std::alloc::{AllocError, Global};
 
-/// Whether what stands between two spaces of a line begins a comment: its first byte is `#`. `false` where it is empty.
+/// Whether a part of a line begins a comment: the part's first byte is `#`. The spaces of a line divide it into parts.
+/// `false` where the part is empty.
 fn is_comment(part: &str) -> bool
     ensures { result ≡ is_comment part.now }
 {

@@ -7,8 +7,8 @@ use sf_run::Action;
 use std::alloc::AllocError;
 
 /// Appends the name of an action, without `SECCOMP_RET_`. An action without a name is written as `OTHER:0x` and its
-/// number by eight hexadecimal digits in lower case. `AllocError` where an allocation is refused: `text` may end with a
-/// beginning of them then.
+/// number by eight hexadecimal digits in lower case. `AllocError` where an allocation is refused: a beginning of what
+/// is appended may stand in `text` then.
 pub fn push_action(text: &mut String, action: Action) -> Result<(), AllocError>
     ensures { OnOk result (string_bytes text.new ≡ string_bytes text.old ++ action_text action) }
 {

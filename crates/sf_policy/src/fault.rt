@@ -41,11 +41,11 @@ pub enum Fault {
     /// There is no filter.
     #[error("25 NoFilter")]
     NoFilter,
-    /// There are more than 64 filters.
+    /// There are more than 64 filters, in both stacks together where two are compared.
     #[error("26 TooMany")]
     TooMany,
-    /// The path through all filters is longer than 32768. It counts all their instructions, and 4 more for each filter
-    /// but the newest.
+    /// The path through all filters, those of both stacks where two are compared, is longer than 32768. It counts all
+    /// their instructions, and 4 more for each filter but the newest.
     #[error("27 PathLength")]
     PathLength,
     /// The policy's version is missing, or is neither 1 nor 2.
@@ -54,7 +54,7 @@ pub enum Fault {
     /// The policy has an unknown key at its top, or its questions aren't an array of tables.
     #[error("41 Key")]
     TopKey,
-    /// A question has an unknown key, lacks its name, or has a value of a wrong kind.
+    /// A question, or the table of a word in it, has an unknown key or lacks one; or a value is of a wrong kind.
     #[error("41 Key question {question}")]
     Key { question: usize },
     /// A word of a question has a number outside 32 bits, or a range whose low end is above its high end.
@@ -69,11 +69,11 @@ pub enum Fault {
     /// There is no question, or more than 256.
     #[error("45 Count")]
     Count,
-    /// The policy, or the file of names, is no TOML.
+    /// The policy or a file of names is no UTF-8 or no TOML, or the file of questions that may be allowed is no UTF-8.
     #[error("46 Syntax")]
     Syntax,
-    /// The input isn't 128 hexadecimal digits. Or it is given as a call, and the call's number isn't one of at most 32
-    /// bits, or the arguments aren't one to six numbers of at most 64 bits.
+    /// The input isn't 128 hexadecimal digits. Or it is given as a call, and the number of the call or of its
+    /// architecture isn't one of at most 32 bits, or the arguments aren't one to six numbers of at most 64 bits.
     #[error("47 Input")]
     Input,
     /// A word of a question has a value with a bit outside its mask.
@@ -86,7 +86,8 @@ pub enum Fault {
     /// A file of names has a number outside 32 bits.
     #[error("42 Range")]
     NamesRange,
-    /// A name of a call or of a set of calls that no file of names has.
+    /// A set of calls is named that no file of names has; or a call is named that the set named with it hasn't, or that
+    /// no set has where none is named with it.
     #[error("44 Name")]
     UnknownName,
     /// A line of the file of questions that may be allowed has a word that isn't the name of exactly one question, or

@@ -23,7 +23,7 @@ fn fault_of_decoding(filter: usize, fault: sf_insn::Fault) -> Fault
 }
 
 /// The fault of a filter's program, with the filter's number, from 1. A fault of the whole stack (`NoFilter`,
-/// `TooMany`, `PathLength`) and `Memory` have no number: for them `filter` plays no part.
+/// `TooMany`, `PathLength`) and `Memory` have no number: for them `filter` isn't used.
 fn fault_of_checking(filter: usize, fault: sf_check::Fault) -> Fault
     ensures { result ≡ check_fault filter fault }
 {
@@ -56,8 +56,8 @@ fn fault_of_checking(filter: usize, fault: sf_check::Fault) -> Fault
 
 /// The program that the bytes of a filter spell. `filter` is the filter's number, from 1, for the fault.
 ///
-/// Refusals, tried in this order: `Ragged`, `Empty` and `TooLong`, for the bytes; then the first of `Code`, `Field`,
-/// `Jump`, `Last` and `Scratch` that `check` finds, for the instructions. `Memory` can come anywhere.
+/// Refusals, tried in this order: `Ragged`, `Empty` and `TooLong`, for the bytes; then `Code`, `Field`, `Jump`, `Last`
+/// or `Scratch`, for the instructions: the one that `check` finds first. `Memory` can come anywhere.
 fn program_of(alloc: Global, filter: usize, bytes: &[u8]) -> Result<Program, Fault>
     ensures accepted { IfOk result (SpellsProgram bytes.now) }
     ensures refused { IfErr result (λ e. (e ≡ Fault.Memory) ⊎ IsRefusalOf filter bytes.now e) }
@@ -66,8 +66,11 @@ fn program_of(alloc: Global, filter: usize, bytes: &[u8]) -> Result<Program, Fau
     check(alloc, &raws).map_err(|fault| fault_of_checking(filter, fault))
 }
 
-/// The programs that the filter files spell, in the same order. The refusal is that of the first file that is refused,
-/// or `Memory` where an allocation is refused. The caller's condition: at most 64 files.
+/// The programs that the filter files spell, in the same order. The caller's condition: at most 64 files.
+///
+/// The refusal is that of `program_of` for the first file that it refuses, with the file's number, from 1: `Ragged`,
+/// `Empty` or `TooLong` for its bytes, or else the first of `Code`, `Field`, `Jump`, `Last` and `Scratch` that `check`
+/// finds. Or it is `Memory`, where an allocation is refused.
 fn programs_of(alloc: Global, filters: &[Vec<u8>]) -> Result<Vec<Program>, Fault>
     requires { length filters.now ≤ 64 }
     ensures accepted { IfOk result (λ v. SpellPrograms (map (λ f. f.items) filters.now) v.items) }

@@ -17,8 +17,8 @@ pub fn one_stack()
     one_program_of_a_file();
 }
 
-/// A law for the prover: filter files with a first refusal spell no lawful stack, so `stack_of` accepts exactly those
-/// files that spell one.
+/// A law for the prover: filter files with a first refusal (`IsFirstRefusal`) spell no lawful stack. So `stack_of`
+/// refuses no files that spell one, unless an allocation is refused.
 #[tactic(auto, using(crate::proofs::RefusalLemmas::refused_no_stack))]
 pub fn a_refusal_spells_no_stack()
     ensures { (files : List (List ℕ)) (e : Fault) (programs : List (List Insn)) →
@@ -29,7 +29,8 @@ pub fn a_refusal_spells_no_stack()
     a_fault_spells_no_lawful_program();
 }
 
-/// A law for the prover: filter files have at most one first refusal, so `stack_of` answers the only one.
+/// A law for the prover: filter files have at most one first refusal (`IsFirstRefusal`). So a fault that `stack_of`
+/// answers is the only possible one, unless it is `Memory`.
 #[tactic(auto, using(crate::proofs::OneRefusal::same_refusal))]
 pub fn one_refusal()
     ensures { (files : List (List ℕ)) (e f : Fault) → IsFirstRefusal files e

@@ -67,7 +67,8 @@ fn tables_in(value: &Value) -> Option<&[Value]>
 ///
 /// Refusals, tried in this order: `Version` where the version is missing or neither 1 nor 2; `TopKey` where a key at
 /// the top is unknown; `Count` where the questions are missing; `TopKey` where they are no array of tables; `Count`
-/// where there are none or more than 256; then what `questions_in` refuses, which may be `Memory` too.
+/// where there are none or more than 256; then, question after question, `Key`, `Name`, `Range`, `Mask` and `Actions`,
+/// with the number of the question from 1 (`Fault` says when each comes). `Memory` can come there too.
 fn policy_of_table(alloc: Global, table: &Table) -> Result<Vec<Question>, Fault>
     ensures { IsDue (λ v. v.items) result (policy_of (table_view table.now)) }
 {
@@ -84,7 +85,8 @@ fn policy_of_table(alloc: Global, table: &Table) -> Result<Vec<Question>, Fault>
 }
 
 /// The questions of a policy file, as `read_policy` reads them. A refusal has the fault that `read_policy` answers, and
-/// what was read of the file, from which a person can be shown where the fault lies.
+/// what was read of the file, from which a person can be shown where the fault lies: the file's tree; or the error of
+/// the TOML reader, where the text is no TOML (`Syntax`) or memory ran out before there was a tree (`Memory`).
 #[tactic(auto, using(crate::proofs::NeverSyntax::not_syntax))]
 pub fn read_policy_at(alloc: Global, text: &str) -> Result<Vec<Question>, Refusal>
     // Where the text is TOML, the questions or the refusal are those of its tree.

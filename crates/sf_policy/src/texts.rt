@@ -20,7 +20,7 @@ pub fn hex_of(alloc: Global, input: &Input) -> Result<String, AllocError>
 }
 
 /// Adds the line of an exploration's counts: how many regions, outstanding pieces (`open`), emptied names, splits and
-/// commits there are. `AllocError` where an allocation is refused.
+/// commits there are. `AllocError` where an allocation is refused: a part of the line may stand in the text then.
 pub fn push_counts(text: &mut String, counts: Counts) -> Result<(), AllocError>
     ensures { OnOk result (string_bytes text.new ≡ string_bytes text.old ++ counts_line counts) }
 {
@@ -35,8 +35,8 @@ pub fn push_counts(text: &mut String, counts: Counts) -> Result<(), AllocError>
     )
 }
 
-/// Writes all the bytes, with as many writes as it takes. `Write` where one fails, also by a signal, or takes no byte:
-/// a beginning of the bytes was written then.
+/// Writes all the bytes, with as many writes as it takes. `Write` where a write fails (also where a signal interrupts
+/// it) or takes no byte: only a beginning of the bytes, or none of them, was written then.
 pub fn write_bytes<W: Write>(bytes: &[u8], out: &mut W) -> Result<(), Fault>
     ensures ok { OnOk result (Appends (W.contents out.old) (W.contents out.new) bytes.now) }
     ensures err { OnErr result (AppendsFront (W.contents out.old) (W.contents out.new) bytes.now) }

@@ -104,8 +104,8 @@ fn set_in(value: &Value) -> Option<ActionSet>
 }
 
 /// The set of the actions that a question names: ALLOW and LOG where it has no key `actions`. Empty where the array has
-/// no name, or one of its names isn't that of an action: a question with an empty set is refused with `Actions`. `None`
-/// where the value isn't an array of texts.
+/// no name, or one of its names isn't that of an action: a question with an empty set is refused. `None` where the
+/// value isn't an array of texts.
 pub(super) fn actions_in(table: &Table) -> Option<ActionSet>
     ensures { result ≡ option_map encoded_set
         (names_at (get_member (codes "actions") (table_view table.now))) }

@@ -92,7 +92,8 @@ pub(crate) fn has_top_keys(table: &Table) -> bool
     has_only_keys(table, TOP_KEYS.as_slice())
 }
 
-/// Whether a table has only keys that may stand in the table of a word.
+/// Whether a table has only keys that may stand in it as the value of a word in a question: `mask` and `value`, and
+/// `low` and `high`, the ends of a range. Whether the keys that it needs are there isn't asked.
 #[tactic(auto, using(crate::proofs::TreeLemmas::has_only_view))]
 pub(crate) fn has_mask_keys(table: &Table) -> bool
     ensures { result ≡ has_only mask_keys (table_view table.now) }

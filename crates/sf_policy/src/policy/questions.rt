@@ -15,7 +15,7 @@ use sf_ask::{ActionSet, Question};
 use std::alloc::Global;
 use toml::{Table, Value};
 
-/// A fault of a question, with the question's number, from 1.
+/// A fault of a question, with the question's number, from 1. `Memory` has no number.
 fn fault_of_question(question: usize, fault: sf_ask::Fault) -> Fault
     ensures { result ≡ numbered_fault question fault }
 {
@@ -28,8 +28,8 @@ fn fault_of_question(question: usize, fault: sf_ask::Fault) -> Fault
     }
 }
 
-/// The fault of a question that has a number outside 32 bits: `Name` where its name is wrong too, since names are
-/// looked at first, and else `Range`. `number` is the question's, from 1.
+/// The fault of a question that has a number outside 32 bits. It is `Range`; but `Name` where the name isn't 1 to 64
+/// bytes from 0x21 to 0x7e, since names are looked at first. `number` is the question's, from 1, for the fault.
 fn fault_of_wide_number(number: usize, name: &str) -> Fault
     ensures { result ≡ fault_of_wide_number number name.now }
 {
@@ -66,8 +66,12 @@ fn question_of_parts(
 }
 
 /// The question of a table, in a policy of this version: only in version 2 the value of a word may be a table. `number`
-/// is the question's, from 1, for the fault. Refusals: `Key` where a key is unknown, the name is missing, or a value is
-/// of a wrong kind; then what `question_of_parts` refuses.
+/// is the question's, from 1, for the fault.
+///
+/// Refusals, tried in this order: `Key` where a key is unknown, there is no text at `name`, the value of a word is
+/// neither a whole number, nor an array of two, nor, in version 2, a table with a whole `mask` and `value` and nothing
+/// else but whole ends `low` and `high`, or the value of `actions` is no array of texts; then `Name`, `Range`, `Mask`
+/// and `Actions`, as `question_of_parts` says; `Memory` where an allocation is refused.
 #[tactic(auto, using(crate::proofs::EntryLemmas::table_due))]
 pub(super) fn question_of_table(
     alloc: Global,
@@ -87,9 +91,12 @@ pub(super) fn question_of_table(
     question_of_parts(alloc, number, name, &entries, actions)
 }
 
-/// The questions of an array's tables, in order. The refusal is that of the first question that is refused: `Key` where
-/// it is no table, or what `question_of_table` refuses; `Memory` where an allocation is refused. The caller's
-/// condition: at most 256 items.
+/// The questions of an array's tables, in order, in a policy of this version. The caller's condition: at most 256
+/// items.
+///
+/// The refusal is that of the first question that is refused, with its number, from 1: `Key` where it is no table, or
+/// has an unknown key, no text at `name`, or a value of a wrong form; then `Name`, `Range`, `Mask` or `Actions`
+/// (`Fault` says when each comes). `Memory` where an allocation is refused.
 pub(super) fn questions_in(
     alloc: Global,
     version: Version,

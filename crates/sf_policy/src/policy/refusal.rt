@@ -13,14 +13,14 @@ use toml::{Table, Value};
 pub struct Refusal {
     /// The fault for which the policy is refused.
     pub fault: Fault,
-    /// The tree of the policy; or why and where its text is no TOML.
+    /// The tree of the policy; or why there is none: its text is no TOML, or memory ran out.
     pub read: Result<Table, Error>,
 }
 
 /// Whether a question that has only a right name and this key, with this value, is refused for this fault. Where the
 /// key is `name`, the value takes the place of the right name. The last argument is the number of the question that was
-/// refused, from 1, and its fault, which isn't `Memory`. An error where an allocation is refused; but `false` where
-/// `question_of_table` is refused one.
+/// refused, from 1, and its fault, which isn't `Memory`. An error where an allocation is refused here; where
+/// `question_of_table` refuses with `Memory`, the result is `false`.
 fn is_refused_alone(
     alloc: Global,
     version: Version,
@@ -52,7 +52,7 @@ impl Refusal {
         }
     }
 
-    /// The values of the policy's array of questions; empty where it has no such array, or its text is no TOML.
+    /// The values of the policy's array of questions; empty where it has no such array, or `read` has no tree.
     pub fn items(&self) -> &[Value] {
         match &self.read {
             Ok(table) => match value_at(table, "question") {
@@ -64,7 +64,7 @@ impl Refusal {
     }
 
     /// The table of the question that is refused; or the whole tree, where the fault is that of no question. `None`
-    /// where the text is no TOML, so that there is no tree, or where the question is no table.
+    /// where `read` has no tree, or where the question is no table.
     pub fn table(&self) -> Option<&Table> {
         match self.question() {
             Some(number) => self.items().get(number.checked_sub(1)?)?.as_table(),
@@ -72,17 +72,22 @@ impl Refusal {
         }
     }
 
-    /// The name of the question that is refused; `None` where the fault is that of no question, or the question has no
-    /// name.
+    /// The name of the question that is refused; `None` where the fault is that of no question, the question is no
+    /// table, or it has no text at its key `name`.
     pub fn name(&self) -> Option<&str> {
         self.question()?;
         text_in(self.table()?, "name")
     }
 
-    /// The key that is refused. In a question it is the first key, in alphabetical order, for which a question of only
-    /// a name and this key is refused for the same fault; where there is none, `name`, which must be there. Otherwise
-    /// it is a key at the top, as `top_key` finds it; where the fault is `Memory`, that key says nothing. Empty where
-    /// `table` gives none. An error where an allocation is refused.
+    /// The key that is refused; empty where `read` has no tree, or where the question that is refused is no table.
+    ///
+    /// Where the fault is that of a question, it is the first key of the question's table, in alphabetical order, that
+    /// alone with a right name is refused for the same fault, as `is_refused_alone` says. If no key is, it is `name`,
+    /// which is missing then, unless memory ran out as a key was tried.
+    ///
+    /// For `Version` it is `version`. For any other fault it is the first unknown key at the policy's top, in
+    /// alphabetical order, or `question` where all are known; for `Memory` this key has no meaning. An error where an
+    /// allocation is refused, but not where `question_of_table` is refused it.
     pub fn key(&self, alloc: Global) -> Result<&str, AllocError> {
         let (Some(table), Ok(tree)) = (self.table(), &self.read) else {
             return Ok("");
@@ -98,8 +103,8 @@ impl Refusal {
         Ok("name")
     }
 
-    /// The key at the top of the policy that is refused: `version` where the fault is `Version`; else the first unknown
-    /// key, in alphabetical order; and `question` where all keys are known. `tree` is the policy's.
+    /// The key at the top of the policy that is refused. It is `version` where the fault is `Version`; else the first
+    /// unknown key of `tree`, in alphabetical order; and `question` where all keys are known. `tree` is the policy's.
     fn top_key<'a>(&self, tree: &'a Table) -> &'a str {
         if self.fault == Fault::Version {
             return "version";

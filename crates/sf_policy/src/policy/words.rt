@@ -28,7 +28,7 @@ pub(crate) struct WordEntry {
 /// The greatest number of 32 bits.
 const MOST: i64 = 0xffff_ffff;
 
-/// The entry of a word that the policy doesn't name: it may be any number.
+/// The entry of a word that a question doesn't name: it may be any number.
 const ANY_NUMBER: WordEntry = WordEntry {
     low: 0,
     high: MOST,
@@ -59,9 +59,9 @@ fn array_entry(items: &[Value]) -> Option<WordEntry>
     }
 }
 
-/// The entry of a table: a mask and its value, and the ends of a range, which may be missing: then they are 0 and the
-/// greatest number of 32 bits. `None` where a key is unknown, the mask or its value is missing, or one of the four is
-/// no whole number.
+/// The entry of a table with the keys `mask` and `value`, and perhaps `low` and `high`, the ends of a range. A missing
+/// `low` is 0, and a missing `high` the greatest number of 32 bits. `None` where another key is there, the mask or its
+/// value is missing, or one of the four is no whole number.
 fn table_entry(table: &Table) -> Option<WordEntry>
     ensures { result ≡ entry_of_table (table_view table.now) }
 {
@@ -76,9 +76,13 @@ fn table_entry(table: &Table) -> Option<WordEntry>
     })
 }
 
-/// The entry of a word's value. A whole number is a range of only this number; an array is read by `array_entry`, and a
-/// table by `table_entry`, which only a policy of version 2 may have. `None` where the value is of another kind, or
-/// these give none.
+/// The entry of a word's value. A whole number is a range of only this number. An array has the two ends of a range. A
+/// table, which only a policy of version 2 may have, is read by `table_entry`. Whether the numbers fit into 32 bits
+/// isn't asked here.
+///
+/// `None` for an array of other than two whole numbers, for a table in version 1, for one with another key than `mask`,
+/// `value`, `low` and `high`, without `mask` or `value`, or with a value that is no whole number, and for a value of
+/// another kind.
 fn value_entry(version: Version, value: &Value) -> Option<WordEntry>
     ensures { result ≡ entry_of version (view value.now) }
 {
@@ -93,8 +97,9 @@ fn value_entry(version: Version, value: &Value) -> Option<WordEntry>
     }
 }
 
-/// The entry of the word with this key in a question's table: it may be any number where the key is missing. `None`
-/// where its value is of a wrong kind.
+/// The entry of the word with this key in a question's table. Where the key is missing, it is `ANY_NUMBER`, which lets
+/// the word be any number; else it is what `value_entry` gives for the value at the key. `None` where this value is
+/// neither a whole number, nor an array of two, nor, in version 2, a table that `table_entry` takes.
 fn entry_in(version: Version, table: &Table, key: &str) -> Option<WordEntry>
     ensures { result ≡ entry_at version (get_member key.now (table_view table.now)) }
 {
@@ -104,8 +109,10 @@ fn entry_in(version: Version, table: &Table, key: &str) -> Option<WordEntry>
     }
 }
 
-/// The entries of the words with these sixteen keys in a question's table, in the order of the keys; `None` where one
-/// of the values is of a wrong kind. For the prover: the keys are an argument, so that it doesn't compute with them.
+/// The entries of the words with these sixteen keys in a question's table, in the order of the keys. A word whose key
+/// is missing may be any number. `None` where the value at a key is neither a whole number, nor an array of two, nor,
+/// in version 2, a table that `table_entry` takes. For the prover: the keys are an argument, so that it doesn't compute
+/// with them.
 fn entries_at(version: Version, table: &Table, keys: &[&str; 16]) -> Option<[WordEntry; 16]>
     ensures { result ≡ each_of (λ key. entry_at version (get_member key (table_view table.now)))
         (map (λ key. key.now) keys.now) }
@@ -117,8 +124,9 @@ fn entries_at(version: Version, table: &Table, keys: &[&str; 16]) -> Option<[Wor
     Some(words)
 }
 
-/// The entries of the sixteen words in a question's table, in the order of `struct seccomp_data`; `None` where one of
-/// the values is of a wrong kind.
+/// The entries of the sixteen words in a question's table, in the order of `struct seccomp_data`. A word whose key is
+/// missing may be any number. `None` where the value of a word is neither a whole number, nor an array of two, nor, in
+/// version 2, a table that `table_entry` takes.
 pub(super) fn entries_in(version: Version, table: &Table) -> Option<[WordEntry; 16]>
     ensures { result ≡ each_of (λ key. entry_at version
         (get_member key (table_view table.now))) word_keys }
