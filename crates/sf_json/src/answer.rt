@@ -19,8 +19,8 @@ fn name_of(alloc: Global, action: Action) -> Result<String, AllocError>
     Ok(text)
 }
 
-/// The object with an action's name at `action`, as `push_action` writes it, and with `info`, the number that goes with
-/// the action, at `data`. An error where an allocation is refused.
+/// The object of an action with two fields: at `action` its name, as `push_action` writes it, and at `data` the number
+/// `info`, which goes with the action. An error where an allocation is refused.
 pub fn action_document(alloc: Global, action: Action, info: u32) -> Result<Document, AllocError>
     ensures { IfOk result (λ d. view d ≡ action_document action info) }
 {

@@ -61,10 +61,12 @@ fn arguments(alloc: Global, input: &Input) -> Result<Document, AllocError>
     Document::array(alloc, arguments)
 }
 
-/// An input as an object. As texts of hexadecimal digits it has the 64 bytes (`bytes`), the architecture (`arch`), the
-/// instruction pointer (`instruction_pointer`) and the arguments, in an array (`args`). It has the number of the call
-/// as a number (`nr`), and the call in words (`call`), which is `null` where none of the sets of names has the call. An
-/// error where an allocation is refused.
+/// An input as an object. Its fields are: `bytes`, the 64 bytes as a text of 128 hexadecimal digits; `nr`, the number
+/// of the call, as a number; `arch`, the architecture, as a text of `0x` and eight hexadecimal digits;
+/// `instruction_pointer`, as a text of `0x` and sixteen; `args`, the array of the six arguments, each written as the
+/// instruction pointer is; and `call`, the call in words, as `push_call_words` writes it, or `null` where none of the
+/// sets of names has the call. The digits of all but `call` are in lower case. An error where an allocation is
+/// refused.
 pub fn input_document(alloc: Global, names: &[Names], input: &Input) -> Result<Document, AllocError>
     ensures { IfOk result (λ d. view d ≡ input_document names.now input.now) }
 {

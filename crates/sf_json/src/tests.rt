@@ -36,6 +36,8 @@ fn is_written(alloc: Global, document: &Document, text: &str) -> Result<bool, Fa
     Ok(out.as_slice() == text.as_bytes())
 }
 
+/// `call_input` makes the input of a number, an architecture and six arguments. Its call is named in `SETS`, and it is
+/// written as the line `NAMED`. Fails where an allocation is refused.
 #[test]
 fn an_input_is_written(rt: HostRuntime) -> Result<(), Fail> {
     let sets = sets_of(rt.alloc(), SETS);
@@ -45,6 +47,7 @@ fn an_input_is_written(rt: HostRuntime) -> Result<(), Fail> {
     Ok(())
 }
 
+/// An answer by an action without a name is written with the action's number. Fails where an allocation is refused.
 #[test]
 fn answers_are_written(rt: HostRuntime) -> Result<(), Fail> {
     let answer = Answer {
@@ -57,6 +60,8 @@ fn answers_are_written(rt: HostRuntime) -> Result<(), Fail> {
     Ok(())
 }
 
+/// Fields are written in the order of their keys, and a field that is added replaces one with the same key. Fails where
+/// an allocation is refused.
 #[test]
 fn fields_come_in_order(rt: HostRuntime) -> Result<(), Fail> {
     let list = vec![in rt.alloc(); Document::count(7), Document::null()]?;

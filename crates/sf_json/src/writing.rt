@@ -24,8 +24,8 @@ pub fn line_of(alloc: Global, document: &Document) -> Result<String, AllocError>
 
 /// Writes a document on a line of its own, as `line_of` gives it.
 ///
-/// `Write` where a write fails or takes no byte: a beginning of the line was written then. `Memory` where the text
-/// can't be built: nothing was written then.
+/// `Write` where a write fails or takes no byte: a beginning of the line, or nothing, was written then. `Memory` where
+/// the text can't be built: nothing was written then.
 pub fn write_document<W: Write>(
     alloc: Global,
     document: &Document,
@@ -35,7 +35,7 @@ pub fn write_document<W: Write>(
     ensures written { OnOk result (Appends (W.contents out.old) (W.contents out.new)
         (document_line (view document.now))) }
 
-    // After an error a beginning of the line is written.
+    // After an error a beginning of the line, or nothing, is written.
     ensures begun { OnErr result (AppendsFront (W.contents out.old) (W.contents out.new)
         (document_line (view document.now))) }
 
