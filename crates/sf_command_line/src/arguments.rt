@@ -6,7 +6,8 @@ ghost use Rattle.sf_command_line.specs.CommandLine.{choice_rule, file_rule, file
 use clap::{Arg, ArgAction, value_parser};
 use std::alloc::Global;
 
-/// An option with a value: `name` behind two dashes. The help calls the value `value`.
+/// An option with a value: `name` behind two dashes. The help calls the value `value`. It may be left out, and is
+/// refused where it is given twice, unless the caller changes this.
 fn option<'a>(alloc: Global, name: &'a str, value: &'a str) -> Arg<'a>
     ensures rule { rule_of result ≡ option_rule name.entry.now }
     ensures own { result.global ≡ false }
@@ -14,7 +15,7 @@ fn option<'a>(alloc: Global, name: &'a str, value: &'a str) -> Arg<'a>
     Arg::new(alloc, name).long(name).value_name(value)
 }
 
-/// An option without a value: `name` behind two dashes.
+/// An option without a value: `name` behind two dashes. It may be left out, and is refused where it is given twice.
 fn switch<'a>(alloc: Global, name: &'a str) -> Arg<'a>
     ensures rule { rule_of result ≡ switch_rule name.entry.now }
     ensures own { result.global ≡ false }
@@ -33,7 +34,8 @@ pub(crate) fn policy<'a>(alloc: Global) -> Arg<'a>
         .help("A policy file, which asks questions; once for each file")
 }
 
-/// `--control`: the file of a second policy, each of whose questions must be allowed. It may be left out.
+/// `--control`: the file of a policy each of whose questions must be allowed. It may be left out. That it is none of
+/// the files of `--policy` is seen later.
 pub(crate) fn control<'a>(alloc: Global) -> Arg<'a>
     ensures rule { rule_of result ≡ option_rule (codes "control") }
     ensures own { result.global ≡ false }
@@ -43,7 +45,7 @@ pub(crate) fn control<'a>(alloc: Global) -> Arg<'a>
     )
 }
 
-/// `--accept`: the file with the names of the questions that may be allowed.
+/// `--accept`: the file with the names of the questions that may be allowed. It may be left out.
 pub(crate) fn accept<'a>(alloc: Global) -> Arg<'a>
     ensures rule { rule_of result ≡ option_rule (codes "accept") }
     ensures own { result.global ≡ false }
@@ -114,7 +116,8 @@ pub(crate) fn regions<'a>(alloc: Global) -> Arg<'a>
     switch(alloc, "regions").help("List the settled regions too")
 }
 
-/// `--input`: the input that is evaluated, by its bytes.
+/// `--input`: the input that is evaluated, by its bytes. One of `--input`, `--call` and `--nr` must be given, and
+/// `--input` stands without the options of a call. This, and whether its text spells an input, is seen later.
 pub(crate) fn input<'a>(alloc: Global) -> Arg<'a>
     ensures rule { rule_of result ≡ option_rule (codes "input") }
     ensures own { result.global ≡ false }
@@ -124,7 +127,8 @@ pub(crate) fn input<'a>(alloc: Global) -> Arg<'a>
     )
 }
 
-/// `--call`: the call that is evaluated, by its name.
+/// `--call`: the call that is evaluated, by its name. It stands in place of `--input` and `--nr`, and needs `--arch`,
+/// `--args` and `--names`. This is seen later.
 pub(crate) fn call<'a>(alloc: Global) -> Arg<'a>
     ensures rule { rule_of result ≡ option_rule (codes "call") }
     ensures own { result.global ≡ false }
@@ -134,7 +138,8 @@ pub(crate) fn call<'a>(alloc: Global) -> Arg<'a>
     )
 }
 
-/// `--nr`: the call that is evaluated, by its number.
+/// `--nr`: the call that is evaluated, by its number. It stands in place of `--input` and `--call`, and needs `--arch`
+/// and `--args`. This, and whether its word is a number, is seen later.
 pub(crate) fn nr<'a>(alloc: Global) -> Arg<'a>
     ensures rule { rule_of result ≡ option_rule (codes "nr") }
     ensures own { result.global ≡ false }
@@ -142,7 +147,9 @@ pub(crate) fn nr<'a>(alloc: Global) -> Arg<'a>
     option(alloc, "nr", "N").help("Instead: a call by its number; needs --arch and --args")
 }
 
-/// `--arch`: the architecture of the call that is evaluated.
+/// `--arch`: the architecture of the call that is evaluated, as the name of a set of `--names`, or with `--nr` also as
+/// a number. Whether its word is one of these is seen later, and also that it is given where `--call` or `--nr` is,
+/// and not with `--input`.
 pub(crate) fn arch<'a>(alloc: Global) -> Arg<'a>
     ensures rule { rule_of result ≡ option_rule (codes "arch") }
     ensures own { result.global ≡ false }
@@ -152,7 +159,9 @@ pub(crate) fn arch<'a>(alloc: Global) -> Arg<'a>
     )
 }
 
-/// `--args`: the arguments of the call that is evaluated.
+/// `--args`: the arguments of the call that is evaluated, in one word: one to six numbers with commas between them.
+/// Whether it has this form is seen later, and also that it is given where `--call` or `--nr` is, and not with
+/// `--input`.
 pub(crate) fn arguments<'a>(alloc: Global) -> Arg<'a>
     ensures rule { rule_of result ≡ option_rule (codes "args") }
     ensures own { result.global ≡ false }
@@ -211,7 +220,7 @@ pub(crate) fn filters<'a>(alloc: Global) -> Arg<'a>
 }
 
 /// `--old` or `--new`, as `name` says: the paths of the filter files of one of two stacks, at least one. It must be
-/// given. `help` is what the help says of it.
+/// given, and may be given more than once. `help` is what the help says of it.
 pub(crate) fn files<'a>(alloc: Global, name: &'a str, help: &'a str) -> Arg<'a>
     ensures rule { rule_of result ≡ files_rule name.entry.now }
     ensures own { result.global ≡ false }
@@ -232,7 +241,8 @@ pub(crate) fn same_switch<'a>(alloc: Global) -> Arg<'a>
     switch(alloc, "same").help("Let the exit status tell of different, not of looser")
 }
 
-/// `--rows`: whether a comparison lists the rows in which the answers differ.
+/// `--rows`: whether a comparison lists rows in which the answers differ. `--only` and `--calls` of `compare` need it,
+/// which is seen later.
 pub(crate) fn rows<'a>(alloc: Global) -> Arg<'a>
     ensures rule { rule_of result ≡ switch_rule (codes "rows") }
     ensures own { result.global ≡ false }
@@ -240,7 +250,8 @@ pub(crate) fn rows<'a>(alloc: Global) -> Arg<'a>
     switch(alloc, "rows").help("List the rows whose answers differ too")
 }
 
-/// `--names`: the path of a file of names of calls; it may be given more than once.
+/// `--names`: the path of a file of names of calls; it may be given more than once. It may also be left out: that it is
+/// given where `--call` or `--calls` needs it is seen later.
 pub(crate) fn names<'a>(alloc: Global) -> Arg<'a>
     ensures rule { rule_of result ≡ repeated_rule (codes "names") }
     ensures own { result.global ≡ false }
@@ -251,7 +262,8 @@ pub(crate) fn names<'a>(alloc: Global) -> Arg<'a>
 }
 
 /// `--calls`: whether rows are shown call by call, and of which calls. Where no names follow it, its text is empty, and
-/// all calls of `--names` are meant.
+/// all calls of `--names` are meant. It needs `--names`, and in `compare` also `--rows`. This, and whether the names
+/// are right, is seen later.
 pub(crate) fn calls<'a>(alloc: Global) -> Arg<'a>
     ensures rule { rule_of result ≡ choice_rule (codes "calls") }
     ensures own { result.global ≡ false }
@@ -262,7 +274,8 @@ pub(crate) fn calls<'a>(alloc: Global) -> Arg<'a>
         .help("A line for each row of each call of --names, or of these calls only")
 }
 
-/// `--only`: the relation whose rows are listed. Whether its word is that of a relation is seen later.
+/// `--only`: the relation whose rows are listed; where it isn't given, all rows with a difference are. Whether its word
+/// is that of a relation is seen later, and also that `--rows`, which it needs, is given.
 pub(crate) fn only<'a>(alloc: Global) -> Arg<'a>
     ensures rule { rule_of result ≡ option_rule (codes "only") }
     ensures own { result.global ≡ false }
@@ -272,7 +285,7 @@ pub(crate) fn only<'a>(alloc: Global) -> Arg<'a>
     )
 }
 
-/// `--why`: whether an audit shows why each example is let through.
+/// `--why`: whether an audit shows for each example why the stack answers it as it does.
 pub(crate) fn why<'a>(alloc: Global) -> Arg<'a>
     ensures rule { rule_of result ≡ switch_rule (codes "why") }
     ensures own { result.global ≡ false }
@@ -301,7 +314,8 @@ pub(crate) fn machine<'a>(alloc: Global) -> Arg<'a>
         .help("The machine: x86_64, i386, aarch64 or arm")
 }
 
-/// `--cap`: a capability that the container has; it may be given more than once.
+/// `--cap`: a capability that the container has; it may be left out, or given more than once. Whether its word is that
+/// of a capability is seen later.
 pub(crate) fn cap<'a>(alloc: Global) -> Arg<'a>
     ensures rule { rule_of result ≡ repeated_rule (codes "cap") }
     ensures own { result.global ≡ false }
@@ -311,7 +325,8 @@ pub(crate) fn cap<'a>(alloc: Global) -> Arg<'a>
     )
 }
 
-/// `--kernel`: the version of the kernel for which a profile is read. Whether its word is a version is seen later.
+/// `--kernel`: the version of the kernel for which a profile is read. It may be left out: then no version is known.
+/// Whether its word is a version is seen later.
 pub(crate) fn kernel<'a>(alloc: Global) -> Arg<'a>
     ensures rule { rule_of result ≡ option_rule (codes "kernel") }
     ensures own { result.global ≡ false }
@@ -330,7 +345,9 @@ pub(crate) fn conflicts<'a>(alloc: Global) -> Arg<'a>
         .help("Which rule counts where several speak of one call: strictest, mildest or first")
 }
 
-/// `--newer`: whether calls that are newer than the profile fail with ENOSYS.
+/// `--newer`: whether calls that are newer than all that the rules that apply name fail with ENOSYS. It changes nothing
+/// where the profile's default lets calls through or leaves them to a tracer. A call is newer where its number is above
+/// all of theirs.
 pub(crate) fn newer<'a>(alloc: Global) -> Arg<'a>
     ensures rule { rule_of result ≡ switch_rule (codes "newer") }
     ensures own { result.global ≡ false }

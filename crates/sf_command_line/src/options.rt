@@ -5,18 +5,18 @@ ghost use Rattle.sf_command_line.specs.Options.{IsOptionNumber, IsSwitch, text_o
 
 use clap::ArgMatches;
 
-/// The text of the option or other argument with this name, which has no dashes; the first one where there are several.
-/// Where it isn't given, this is its usual value, or the empty text if it has none. The text of a switch is `true` or
-/// `false`.
+/// The text of the option or other argument with this name, given without `--`; the first one where there are several.
+/// Where it isn't given, this is its usual value, or the empty text if it has none. It is empty too where the
+/// subcommand has no such argument. The text of a switch is `true` or `false`.
 pub fn text_of<'a>(found: &ArgMatches<'a>, name: &str) -> &'a str
     ensures { result.now ≡ text_of name.now (rows_of (found_of found.now)) }
 {
     found.get_str(name).unwrap_or("")
 }
 
-/// The text of the option or other argument with this name, which has no dashes; the first one where there are several.
-/// Where it isn't given, this is its usual value, or `None` if it has none. `--calls` without names behind it has the
-/// empty text.
+/// The text of the option or other argument with this name, given without `--`; the first one where there are several.
+/// Where it isn't given, this is its usual value, or `None` if it has none. It is `None` too where the subcommand has
+/// no such argument. `--calls` without names behind it has the empty text.
 pub fn given_text<'a>(found: &ArgMatches<'a>, name: &str) -> Option<&'a str>
     ensures { option_map (λ t. t.now) result ≡ first_of name.now (rows_of (found_of found.now)) }
 {
@@ -52,14 +52,14 @@ pub fn workers_of(found: &ArgMatches<'_>) -> u8
 }
 
 /// Whether the switch with this name is given; false too where the subcommand has no such switch. A switch is an option
-/// without a value; the name has no dashes.
+/// without a value; the name is given without `--`.
 fn is_on(found: &ArgMatches<'_>, name: &str) -> bool
     ensures { IsSwitch (one_of name.now (rows_of (found_of found.now))) result }
 {
     found.get_flag(name)
 }
 
-/// Whether the report of an audit lists the settled regions.
+/// Whether `--regions` is given: the report of an audit then lists the settled regions too.
 pub fn wants_regions(found: &ArgMatches<'_>) -> bool
     ensures { IsSwitch (one_of (codes "regions") (rows_of (found_of found.now))) result }
 {
@@ -81,15 +81,15 @@ pub fn wants_brief_trace(found: &ArgMatches<'_>) -> bool
     is_on(found, "trace-true")
 }
 
-/// Whether the exit status of a comparison tells whether answers differ at all, and not whether the new stack is
-/// looser.
+/// Whether `--same` is given: the exit status of a comparison then tells whether answers differ at all, and not whether
+/// the new stack is looser.
 pub fn wants_same(found: &ArgMatches<'_>) -> bool
     ensures { IsSwitch (one_of (codes "same") (rows_of (found_of found.now))) result }
 {
     is_on(found, "same")
 }
 
-/// Whether a comparison lists the rows in which the answers differ.
+/// Whether `--rows` is given: a comparison then lists rows in which the answers differ.
 pub fn wants_rows(found: &ArgMatches<'_>) -> bool
     ensures { IsSwitch (one_of (codes "rows") (rows_of (found_of found.now))) result }
 {
@@ -103,28 +103,29 @@ pub fn wants_explanation(found: &ArgMatches<'_>) -> bool
     is_on(found, "explain-errors")
 }
 
-/// Whether a check lists the instructions of each filter.
+/// Whether `--instructions` is given: a check then lists the instructions of each filter too.
 pub fn wants_instructions(found: &ArgMatches<'_>) -> bool
     ensures { IsSwitch (one_of (codes "instructions") (rows_of (found_of found.now))) result }
 {
     is_on(found, "instructions")
 }
 
-/// Whether calls that are newer than a profile fail with ENOSYS.
+/// Whether `--newer` is given: calls newer than all that the rules that apply name, with numbers above all of theirs,
+/// then fail with ENOSYS, unless the profile's default lets calls through or leaves them to a tracer.
 pub fn wants_newer(found: &ArgMatches<'_>) -> bool
     ensures { IsSwitch (one_of (codes "newer") (rows_of (found_of found.now))) result }
 {
     is_on(found, "newer")
 }
 
-/// Whether notes on a profile are written, and no filter.
+/// Whether `--notes` is given: notes on the profile are then written, and no filter.
 pub fn wants_notes(found: &ArgMatches<'_>) -> bool
     ensures { IsSwitch (one_of (codes "notes") (rows_of (found_of found.now))) result }
 {
     is_on(found, "notes")
 }
 
-/// Whether warnings are left out. False where the subcommand has no `--quiet`.
+/// Whether `--quiet` is given: warnings are then left out. False too where the subcommand has no `--quiet`.
 pub fn wants_quiet(found: &ArgMatches<'_>) -> bool
     ensures { IsSwitch (one_of (codes "quiet") (rows_of (found_of found.now))) result }
 {
@@ -140,21 +141,21 @@ pub fn leaves_of(found: &ArgMatches<'_>) -> u32
     found.get_one::<u32>("leaves").unwrap_or(20_000)
 }
 
-/// Whether an audit shows why each example is let through.
+/// Whether `--why` is given: an audit then shows for each example why the stack answers it as it does.
 pub fn wants_why(found: &ArgMatches<'_>) -> bool
     ensures { IsSwitch (one_of (codes "why") (rows_of (found_of found.now))) result }
 {
     is_on(found, "why")
 }
 
-/// Whether it is shown how far an exploration is.
+/// Whether `--progress` is given: it is then shown how far an exploration is.
 pub fn wants_progress(found: &ArgMatches<'_>) -> bool
     ensures { IsSwitch (one_of (codes "progress") (rows_of (found_of found.now))) result }
 {
     is_on(found, "progress")
 }
 
-/// Whether one JSON document is written in place of the text.
+/// Whether `--json` is given: one JSON document is then written in place of the text.
 pub fn wants_json(found: &ArgMatches<'_>) -> bool
     ensures { IsSwitch (one_of (codes "json") (rows_of (found_of found.now))) result }
 {

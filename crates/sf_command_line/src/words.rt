@@ -14,7 +14,7 @@ use std::alloc::{AllocError, Global};
 /// The version of the program, as `--version` shows it.
 const VERSION: &str = "1.5.0";
 
-/// What stands at the end of `--help`.
+/// What stands at the end of the program's `--help`.
 const AFTER_HELP: &str = "Exit status:
   0  every question is never; compare: looser is never; list: each row has one answer; needed: each filter is;
      check, eval, profile, help: done
@@ -174,8 +174,8 @@ fn profile<'a>(alloc: Global) -> Result<Command<'a>, AllocError>
 }
 
 /// The program without its subcommands. The words that are matched by it begin behind the program's name, and must name
-/// a subcommand. It has no subcommand `help`: `meant_words` of `sf_command` makes `--help` of that word first. An error
-/// where an allocation is refused.
+/// a subcommand, unless they ask for `--help` or `--version`. It has no subcommand `help`: `meant_words` of
+/// `sf_command` makes `--help` of that word first. An error where an allocation is refused.
 fn program<'a>(alloc: Global) -> Result<Command<'a>, AllocError>
     ensures { IfOk result (λ c. app_of c ≡ program_line) }
 {
