@@ -27,9 +27,9 @@ fn same_before(files: &[Vec<u8>], later: usize) -> Option<usize>
     None
 }
 
-/// The places, from 0, of two files that have the same bytes, the lower one first. At the higher one stands the first
-/// file that equals one before it, and at the lower one the first file that it equals. `None` where all files are
-/// different.
+/// The places, from 0, of two files that have the same bytes, the lower place first. The higher place is that of the
+/// first file that equals some file before it. The lower place is what `same_before` gives for this file. `None` where
+/// all files are different.
 pub fn first_same(files: &[Vec<u8>]) -> Option<(usize, usize)>
     ensures same { IfSome result (λ r. AreSame (map (λ f. f.items) files.now) r.0 r.1) }
     ensures apart { IfNone result (HaveOtherBytes (map (λ f. f.items) files.now)) }

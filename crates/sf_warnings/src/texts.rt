@@ -10,7 +10,7 @@ use std::alloc::{AllocError, Global};
 
 /// Adds the warning that two files of a stack are the same filter: the two that `first_same` finds, by their numbers
 /// from 1. Adds nothing where all are different. `which` is empty, or `old ` or `new ` for one of two stacks. An error
-/// where an allocation is refused.
+/// where an allocation is refused; a part of the line may stand in the text then.
 fn push_same(text: &mut String, which: &str, files: &[Vec<u8>]) -> Result<(), AllocError> {
     let Some((earlier, later)) = first_same(files) else {
         return Ok(());
@@ -25,8 +25,8 @@ fn push_same(text: &mut String, which: &str, files: &[Vec<u8>]) -> Result<(), Al
 
 /// Adds the warning that no path comes to some instructions of a filter, and how many they are. Adds nothing where no
 /// other instruction than the last is among them: libseccomp ends each filter with a return to which often nothing
-/// leads. `number` is that of the filter, from 1, and `which` is as in `push_same`. An error where an allocation is
-/// refused.
+/// leads. `number` is that of the filter, from 1. `which` is empty, or `old ` or `new ` for one of two stacks. An error
+/// where an allocation is refused; a part of the line may stand in the text then.
 fn push_unreached(
     alloc: Global,
     text: &mut String,
@@ -49,7 +49,8 @@ two filters in one file?\n"
 }
 
 /// Adds the warnings that the files of a stack call for, as `warnings_of_files` has them. `programs` are what these
-/// files spell, in the same order. `which` is as in `push_same`. An error where an allocation is refused.
+/// files spell, in the same order. `which` is empty, or `old ` or `new ` for one of two stacks. An error where an
+/// allocation is refused; a part of the lines may stand in the text then.
 fn push_of_files(
     alloc: Global,
     text: &mut String,
@@ -64,9 +65,9 @@ fn push_of_files(
     Ok(())
 }
 
-/// The warnings that the files of a stack call for, each a line: that two of them are the same, and that no path comes
-/// to some instruction of a filter before its last one. Empty where there are none. `programs` are what these files
-/// spell, in the same order. An error where an allocation is refused.
+/// The warnings that the files of a stack call for, each a line: that two of them are the same, which is said of one
+/// pair only, and that no path comes to some instruction of a filter before its last one. Empty where there are none.
+/// `programs` are what these files spell, in the same order. An error where an allocation is refused.
 pub fn warnings_of_files(
     alloc: Global,
     files: &[Vec<u8>],
@@ -77,9 +78,10 @@ pub fn warnings_of_files(
     Ok(text)
 }
 
-/// The warnings that the exploration of the stack of these files calls for, each a line: those of the files, as
-/// `warnings_of_files` has them, and that no call gets through, where `lets_none_through` says so. Empty where there
-/// are none. An error where an allocation is refused.
+/// The warnings for a stack that was explored, each a line. First come those of its files, as `warnings_of_files` has
+/// them. The last one says that no call gets through; it comes where nothing is outstanding and no region has the
+/// action ALLOW, LOG, TRACE or USER_NOTIF. Empty where there are none. The caller's condition: `files` are those of the
+/// stack's programs, in the same order. An error where an allocation is refused.
 pub fn warnings_of_stack(
     alloc: Global,
     files: &[Vec<u8>],
@@ -93,7 +95,7 @@ pub fn warnings_of_stack(
 }
 
 /// Adds the warning that no call gets through one of two stacks. `which` is `old ` or `new `, with the blank. An error
-/// where an allocation is refused.
+/// where an allocation is refused; a part of the line may stand in the text then.
 fn push_none(text: &mut String, which: &str) -> Result<(), AllocError> {
     write!(
         text,
@@ -101,13 +103,14 @@ fn push_none(text: &mut String, which: &str) -> Result<(), AllocError> {
     )
 }
 
-/// The warnings that the exploration of two stacks as one calls for, each a line: those of the files of each stack; and
-/// for each stack that no call gets through it, where nothing is outstanding and by none of its answers a call may get
-/// through. Empty where there are none.
+/// The warnings for an old and a new stack that were explored as one, each a line that names its stack. First come
+/// those of the files, as `warnings_of_files` has them for each stack. The others say that no call gets through a
+/// stack. A stack has this warning where nothing is outstanding and none of its answers has the action ALLOW, LOG,
+/// TRACE or USER_NOTIF. Empty where there are no warnings. An error where an allocation is refused.
 ///
-/// The caller's conditions: `files` are those of all programs, in the same order; the first `older` of them are those
-/// of the old stack, and the others those of the new one; `answers` has the answers of both stacks on each region. An
-/// error where an allocation is refused.
+/// The caller's conditions: `settled` is the exploration of both stacks as one; `files` are those of all its programs,
+/// in the same order; the first `older` of them are those of the old stack, and the others those of the new one;
+/// `answers` has the answers of both stacks on each region.
 pub fn warnings_of_both(
     alloc: Global,
     files: &[Vec<u8>],
