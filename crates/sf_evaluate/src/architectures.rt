@@ -38,10 +38,10 @@ fn push_warning(
 }
 
 impl Notes {
-    /// Adds one warning to those in the notes, about the first question that asks about exactly one architecture where
-    /// no set is of that architecture. Nothing changes where there is no such question, where there are no sets, or
-    /// where the notes say already that there was no memory for warnings. Where there is no memory for this warning,
-    /// the notes say so from then on, and the warnings that they had are lost.
+    /// Adds to the warnings of the notes one about the first question for which `is_strange` is true: it asks about a
+    /// single architecture, and no set is of this architecture. Nothing changes where no question is strange, where
+    /// there are no sets, or where the notes say already that there was no memory for warnings. Where there is no
+    /// memory for this warning, the notes say so from then on, and the warnings that they had are lost.
     pub fn warn_of_questions(&mut self, questions: &[Question], sets: &[Names]) {
         if sets.is_empty() {
             return;

@@ -11,8 +11,9 @@ use sf_policy::Fault;
 use sf_profile::Calls;
 use std::alloc::Global;
 
-/// The calls of a set of names, as a profile needs them. The fault `Profile(Set)` where the set is none of the five of
-/// `CallSet`, as `set_of_names` of `sf_profile` sees it: by the set's architecture and numbers, not by its name.
+/// These names as the calls that a profile needs. The result also says which set of `CallSet` they are: `set_of_names`
+/// of `sf_profile` finds it by the architecture and by the numbers of the calls. The set's name in `names` isn't looked
+/// at. The fault `Profile(Set)` where no set of `CallSet` has this architecture.
 fn calls_of_one(names: Names) -> Result<Calls, Fault>
     ensures meant { IfOk result (λ c. Some c ≡ calls_of_names names) }
     ensures refused { IfErr result (λ e. (e ≡ Profile UnknownSet)

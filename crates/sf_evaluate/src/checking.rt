@@ -54,7 +54,7 @@ pub struct Evaluation<'a> {
     pub input: &'a Input,
     /// How the answer is shown.
     pub how: Manner,
-    /// Sets of names of calls. Where the input is shown, the names of its call are shown beside the call's number.
+    /// Sets of names of calls. Where the input is shown, it is shown with these names.
     pub names: &'a [Names],
 }
 
@@ -95,10 +95,13 @@ fn check_output(
 }
 
 /// Writes how many instructions each filter has, and the path length of their stack, in the manner `how`. `filters` are
-/// the bytes of the filter files, in order of installation. Unless `stack_of` refuses them, the notes get the warnings
-/// about these files, or that there was no memory for the warnings, which is no refusal. Refusals: those of `stack_of`;
-/// `Write` where standard output can't be written (a beginning of the text may be written then). `Memory` can come
-/// anywhere. After any error but `Write` nothing is written.
+/// the bytes of the filter files, in order of installation. Unless `stack_of` refuses them, the warnings of the notes
+/// become those about these files, or an error where there is no memory for them. This error is no refusal.
+///
+/// Refusals, tried in this order: those of `stack_of`, which are `NoFilter`, `TooMany` (more than 64 files), the fault
+/// of the first file that spells no filter, and `PathLength` (above 32768); then `Write` where standard output can't be
+/// written (a beginning of the text may be written then). `Memory` can come anywhere. After any error but `Write`
+/// nothing is written.
 fn check_filters<O: Write>(
     alloc: Global,
     filters: &[Vec<u8>],
@@ -118,9 +121,9 @@ fn check_filters<O: Write>(
     print(&text, out)
 }
 
-/// The text of the stack's answer to the input. Where `traced` or `brief` is set, lines under the answer show the
-/// input, with the names of its call where `names` have any, and how each filter comes to its return value, newest
-/// first. With `brief`, the comparisons that are false are left out. `Memory` where an allocation is refused.
+/// The text of the stack's answer to the input. Where `traced` or `brief` is set, the lines of `push_trace` stand under
+/// the answer: the input, shown with these names of calls, and for each filter, newest first, how it comes to its
+/// return value. With `brief`, the comparisons that are false are left out. `Memory` where an allocation is refused.
 fn eval_text(
     alloc: Global,
     stack: &Stack,
@@ -172,8 +175,11 @@ fn eval_output(
 }
 
 /// Writes what the stack of the filters answers to the input in `asked`, in the manner that `asked` has. `filters` are
-/// the bytes of the filter files, in order of installation. The refusals are those of `check_filters`, and as there,
-/// nothing is written after any error but `Write`.
+/// the bytes of the filter files, in order of installation.
+///
+/// Refusals, tried in this order: those of `stack_of`, which are `NoFilter`, `TooMany` (more than 64 files), the fault
+/// of the first file that spells no filter, and `PathLength` (above 32768); then `Write`, where a beginning of the text
+/// may be written. `Memory` can come anywhere. After any error but `Write` nothing is written.
 fn evaluate_filters<O: Write>(
     alloc: Global,
     asked: &Evaluation<'_>,
@@ -195,12 +201,13 @@ fn evaluate_filters<O: Write>(
 /// Reads the filter files at `paths`, which stand in order of installation, and writes the number of instructions of
 /// each and the path length of their stack. Where `how.listed` asks for it, the instructions of each filter are listed
 /// with it, and those to which no path through the filter comes are marked. Where `how.json` asks for it, all that is
-/// one JSON document. The notes count the files, and get the warnings about them, or that there was no memory for the
-/// warnings, which is no refusal.
+/// one JSON document. The notes count the files. Once `stack_of` has accepted the filters, the warnings of the notes
+/// become those about these files, or an error where there is no memory for them. This error is no refusal.
 ///
-/// Refusals, tried in this order: `Read` where a file can't be read; what `stack_of` refuses; `Write` where standard
-/// output can't be written (a beginning of the text may be written then). `Memory` can come anywhere. After any error
-/// but `Write` nothing is written.
+/// Refusals, tried in this order: `Read` where a file can't be read or has more than `MOST_BYTES` bytes; those of
+/// `stack_of`, which are `NoFilter`, `TooMany` (more than 64 files), the fault of the first file that spells no filter,
+/// and `PathLength` (above 32768); then `Write` where standard output can't be written (a beginning of the text may be
+/// written then). `Memory` can come anywhere. After any error but `Write` nothing is written.
 pub fn check<F: Files, O: Write>(
     alloc: Global,
     paths: &[&str],
@@ -219,8 +226,12 @@ pub fn check<F: Files, O: Write>(
 }
 
 /// Reads the filter files at `paths`, which stand in order of installation, and writes what their stack answers to the
-/// input in `asked`, in the manner that `asked` has. The notes count the files. The refusals are those of `check`, and
-/// as there, nothing is written after any error but `Write`.
+/// input in `asked`, in the manner that `asked` has. The notes count the files.
+///
+/// Refusals, tried in this order: `Read` where a file can't be read or has more than `MOST_BYTES` bytes; those of
+/// `stack_of`, which are `NoFilter`, `TooMany` (more than 64 files), the fault of the first file that spells no filter,
+/// and `PathLength` (above 32768); then `Write`, where a beginning of the text may be written. `Memory` can come
+/// anywhere. After any error but `Write` nothing is written.
 pub fn evaluate<F: Files, O: Write>(
     alloc: Global,
     asked: &Evaluation<'_>,

@@ -12,8 +12,8 @@ use sf_run::Met;
 pub(crate) struct Comparison {
     /// The place of the instruction in its filter, from 0.
     pub(crate) place: usize,
-    /// The place of the word of the input that is compared, 0 to 15; `None` where the number that is compared is no
-    /// such word.
+    /// The place of the word of the input that is compared, 0 to 15; `None` where the number that is compared isn't
+    /// known to be such a word, and for a division.
     pub(crate) word: Option<u8>,
     /// The number that is compared: A, or X for a division.
     pub(crate) value: u32,

@@ -115,8 +115,8 @@ impl Notes {
     }
 
     /// The place of the file of names that has the set at `place`, and how many sets that file has; `None` where the
-    /// file isn't known. Both places count from 0: that of the set among all sets that were read, that of the file
-    /// among the files of names.
+    /// file isn't known, since the files whose numbers of sets were kept have no more than `place` sets. Both places
+    /// count from 0: that of the set among all sets that were read, that of the file among the files of names.
     pub(crate) fn file_of_set(&self, place: usize) -> Option<(usize, usize)> {
         let mut before = 0usize;
         for (file, count) in self.sets.iter().enumerate() {
@@ -155,9 +155,11 @@ impl Notes {
         }
     }
 
-    /// Where the run ended with a fault, keeps in the notes which of the policies is refused, where one is, and the
-    /// lines that explain the fault; else does nothing. `ran` is how the run ended. The lines are kept only where the
-    /// matches ask for them or `explains` is true, and where there is memory for them; else the notes have none.
+    /// Does nothing where `ran`, the end of the run, is no fault. Else the notes keep which of the policies is refused,
+    /// by `which_policy`, and the lines that explain the fault. These lines are kept only where the matches ask for
+    /// them or `explains` is true, and where there is memory for them; else the notes have none. Where the matches name
+    /// no subcommand, `which` is unchanged, and the notes have no lines.
+    ///
     /// `explains` and `reason` are what the methods of `Files` with these names give: whether each fault is explained,
     /// and in words for a person why a file can't be read.
     pub fn explain(
@@ -207,15 +209,16 @@ fn push_names(text: &mut String, found: &ArgMatches<'_>, notes: &Notes) -> Resul
     write!(text, "names {path:?}\n")
 }
 
-/// Adds the line of the file of the questions that may be allowed, the one behind `--accept`. An error where an
-/// allocation is refused.
+/// Adds the line that names the file behind `--accept`, which lists the questions that may be allowed: `accept` and the
+/// file's path. The caller's condition: `--accept` is given. An error where an allocation is refused.
 fn push_accept(text: &mut String, found: &ArgMatches<'_>) -> Result<(), AllocError> {
     let path = text_of(found, "accept");
     write!(text, "accept {path:?}\n")
 }
 
-/// Adds the lines of the file that was read last and is refused, where it is a policy (with the place in it that is
-/// refused), a file of names, or the file behind `--accept`; nothing for a filter or a profile. An error where an
+/// Adds the lines of the file that was read last: of a policy, with the place in it that is refused; of a file of
+/// names; or of the file behind `--accept`. Where this file is a filter or a profile, it isn't the one that is refused,
+/// and nothing is added. The caller has seen that `is_of_policy_or_names` is true for the fault. An error only where an
 /// allocation is refused.
 fn push_last_read(
     alloc: Global,
@@ -283,10 +286,10 @@ fn push_misspelled(text: &mut String, found: &ArgMatches<'_>) -> Result<(), Allo
     }
 }
 
-/// Adds the line of the name that no file of names has. The caller has seen that there is one. Where `--calls` is
-/// given, the name is the one at the place `unknown_call` of the notes in its text. Else it is the set behind `--arch`
-/// where the notes say that this set is unknown; or else the call behind `--call`, which is shown with its set. An
-/// error where an allocation is refused.
+/// Adds the line of the name that is unknown. The caller has seen that the fault is `UnknownName`. Where `--calls` is
+/// given, it is the name in the text of `--calls` at the place `notes.unknown_call`. Else it is the name of the set
+/// behind `--arch`, where the notes say that this set is unknown. Else it is the name of the call behind `--call`,
+/// which is shown with the name of its set. An error where an allocation is refused.
 fn push_unknown(
     text: &mut String,
     found: &ArgMatches<'_>,
@@ -305,7 +308,7 @@ fn push_unknown(
 
 /// Adds the line of the policy file with this path, and lines that say where it is refused: the place at which it isn't
 /// UTF-8, or what the notes know of its refusal. The caller has seen that the notes have the bytes of this file. An
-/// error where an allocation is refused.
+/// error only where an allocation is refused, or was while the policy was read.
 fn push_policy(
     alloc: Global,
     text: &mut String,
@@ -364,10 +367,10 @@ fn is_of_policy_or_names(fault: &Fault) -> bool {
     }
 }
 
-/// Adds the lines that say where a fault lies. The first one names the file that is refused or can't be read, if there
-/// is one; `reason` is why it can't be read. For a fault in the words of the command line there is one line, about the
-/// word. Nothing is added for a fault that lies neither in one file nor in a word. An error where an allocation is
-/// refused, or was before, so that the notes lack the set or the key for which `profile` is refused.
+/// Adds the lines that say where a fault lies. For a fault of one file, the first line names the file that is refused
+/// or can't be read; `reason` is why it can't be read. For a fault in the words of the command line there is one line,
+/// about the word. For any other fault nothing is added. An error only where an allocation is refused, or was refused
+/// before, so that the notes lack what `push_profile` adds: the set or the key for which `profile` is refused.
 fn push_place(
     alloc: Global,
     text: &mut String,
@@ -406,9 +409,9 @@ fn hint_of_read(found: &ArgMatches<'_>, place: usize, reason: &str) -> Option<Hi
     hint_of_unread(path, reason, ready)
 }
 
-/// The hint at what may have been meant by what is refused; `None` where that isn't known. Where the subcommand
-/// `profile` refuses, there is a hint only if it refuses the profile itself, and not a set of names. `reason` is why a
-/// file can't be read. An error where an allocation is refused.
+/// The hint at what may have been meant by what is refused with this fault; `None` where that isn't known. For the
+/// fault `Profile` there is a hint only where the profile itself is refused, and not a set of names. `reason` is why a
+/// file can't be read. An error only where an allocation is refused.
 fn hint_of(
     alloc: Global,
     found: &ArgMatches<'_>,
@@ -439,7 +442,8 @@ fn hint_of(
     }
 }
 
-/// What the fault `Syntax` means for a file that was read in this role.
+/// What the fault `Syntax` means for a file that was read in this role. `Syntax` never comes for a filter or a profile,
+/// which get the words for a policy here.
 fn meaning_of_syntax(role: Role) -> &'static str {
     match role {
         Role::Names => "the file of names is no UTF-8 or no TOML",
@@ -449,7 +453,7 @@ fn meaning_of_syntax(role: Role) -> &'static str {
 }
 
 /// The lines that explain a fault: where it lies, what it means, and a hint where there is one. `reason` is why a file
-/// can't be read. An error where an allocation is refused, or `push_place` has an error.
+/// can't be read. An error only where an allocation is refused, or `push_place` has an error.
 fn fault_text(
     alloc: Global,
     found: &ArgMatches<'_>,
@@ -471,8 +475,9 @@ fn fault_text(
     Ok(text)
 }
 
-/// The lines that explain a fault, where the matches ask for them or `explains` is true. `None` where neither is so,
-/// where the matches name no subcommand, or where `fault_text` has an error: there is no memory for the lines.
+/// The lines that explain a fault, where the matches ask for them or `explains` is true. `reason` is why a file can't
+/// be read. `None` where the matches name no subcommand, where neither they nor `explains` ask for the lines, or where
+/// `fault_text` has an error: there is no memory for the lines.
 fn explanation(
     alloc: Global,
     matches: &ArgMatches<'_>,

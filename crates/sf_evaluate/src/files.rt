@@ -56,8 +56,8 @@ pub trait Files {
 /// The bytes of the files at these paths, in order. All files are read, but only the first 65 are kept: one more than a
 /// stack may have, so that the stack is refused. The notes count the files that were read.
 ///
-/// `Read` comes at the first file that can't be read, `Memory` where an allocation is refused. The notes have counted
-/// the files that were read until then.
+/// `Read` comes at the first file that can't be read or has more than `MOST_BYTES` bytes, `Memory` where an allocation
+/// is refused. The notes have counted the files that were read until then.
 pub fn read_all<F: Files>(
     alloc: Global,
     paths: &[&str],

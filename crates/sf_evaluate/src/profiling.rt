@@ -20,9 +20,11 @@ use sf_profile::{
 use std::alloc::{AllocError, Global};
 use std::io::Write;
 
-/// The line that warns of names that no file of names has, in the profile with these bytes; empty where there are none.
-/// Only rules of the profile that apply count. The caller has made the filter of this profile with these settings
-/// before: so an error comes only where an allocation is refused.
+/// The line that warns of names in a profile for which no set in `settings.calls` has a call; empty where there are no
+/// such names. `bytes` are those of the profile's file. Only rules that apply with these settings count.
+///
+/// The caller has made the filter of this profile with these settings before. So an error comes only where an
+/// allocation is refused.
 fn warning_of(alloc: Global, settings: &Settings, bytes: &[u8]) -> Result<String, AllocError> {
     let names = unknown_names(alloc, settings, bytes).map_err(|_| AllocError)?;
     let mut text = String::new(alloc);
@@ -32,9 +34,12 @@ fn warning_of(alloc: Global, settings: &Settings, bytes: &[u8]) -> Result<String
     Ok(text)
 }
 
-/// Writes a profile's filter, or if `wants_notes` the notes on the profile. `bytes` are those of its file. Refusals:
-/// those of `profile` of `sf_profile`; then `Write` where standard output can't be written (a beginning may be written
-/// then). After any other error nothing is written.
+/// Writes a profile's filter to standard output, `out`; or if `wants_notes`, the notes on the profile instead. `bytes`
+/// are those of the profile's file.
+///
+/// Refusals: `Profile` with the fault for which `profile` of `sf_profile` refuses these bytes; then `Write` where
+/// standard output can't be written (a beginning may be written then). `Memory` where an allocation is refused. After
+/// any error but `Write` nothing is written.
 fn write_of<O: Write>(
     alloc: Global,
     settings: &Settings,
@@ -55,8 +60,9 @@ fn write_of<O: Write>(
     write_bytes(&filter, out)
 }
 
-/// The first set that is none of the five sets of `CallSet`, by its place, from 0, and its name; `None` where each is
-/// one of them. An error where an allocation is refused.
+/// The place, from 0, and the name of the first set that is none of the five of `CallSet`; `None` where each set is one
+/// of them. `set_of_names` decides this by a set's architecture, not by its name. An error where an allocation is
+/// refused.
 fn other_set(alloc: Global, names: &[Names]) -> Result<Option<OtherSet>, AllocError> {
     for (place, one) in names.iter().enumerate() {
         if set_of_names(one).is_none() {
@@ -67,11 +73,13 @@ fn other_set(alloc: Global, names: &[Names]) -> Result<Option<OtherSet>, AllocEr
     Ok(None)
 }
 
-/// The settings for a profile: what the command line says, with the calls of the files of names. The notes get what
-/// `read_all_names` keeps in them, and the first set that is none of the five of `CallSet`, or that there was no memory
-/// to keep that set, which is no refusal. The caller's condition: the words behind the options fit, as
-/// `profile_words_fit` says. The refusals are those of `read_all_names`; then those of `calls_of`. `Memory` can come
-/// anywhere.
+/// The settings for a profile: what the command line says, with the calls of the files of names. The notes count these
+/// files, and keep how many sets each has. Their field `other` gets what `other_set` gives: the first set that is none
+/// of the five of `CallSet`, or an error where there is no memory for it. That error alone doesn't end the function.
+///
+/// The caller's conditions: the words behind the options fit, as `profile_words_fit` says; and the notes have counted
+/// no file yet. Refusals, tried in this order: `Read`, `Syntax`, `NamesKey` and `NamesRange`, when `read_all_names`
+/// says; `Profile(Set)` where one of the sets is none of the five of `CallSet`. `Memory` can come anywhere.
 fn read_settings<F: Files>(
     alloc: Global,
     found: &ArgMatches<'_>,
@@ -91,9 +99,10 @@ fn read_settings<F: Files>(
     settings_of(alloc, found, calls)
 }
 
-/// Keeps in the notes the warning of names that no file of names has, or that there was no memory for it. The notes are
-/// unchanged with `--quiet`, and with `--notes`, which tell these names themselves. The caller has made the filter or
-/// the notes of the profile with these bytes.
+/// Keeps in `notes.warnings` what `warning_of` gives: the line that warns of names that no file of names has, or an
+/// error where there was no memory for it. Does nothing where `--quiet` is given, or `--notes`: the text that `--notes`
+/// asks for has these names already. The caller's condition: `bytes` are those of the profile's file, and the filter or
+/// that text was made of them with these settings.
 fn keep_warning(
     alloc: Global,
     found: &ArgMatches<'_>,
@@ -106,9 +115,10 @@ fn keep_warning(
     }
 }
 
-/// Keeps in the notes the key for which the profile with these bytes is refused, where one is known, or that there is
-/// no memory for it. `fault` is the one with which the profile was refused. Does nothing where the fault isn't that of
-/// a profile.
+/// Keeps in `notes.key` what `wrong_key` gives: the key for which a profile is refused, `None` where none is known, or
+/// an error where there is no memory for it. Does nothing where `fault` isn't `Fault::Profile`. The caller's condition:
+/// `bytes` are those of the profile's file, and if `fault` is `Fault::Profile`, they were refused with this fault and
+/// these settings.
 fn keep_key(alloc: Global, settings: &Settings, bytes: &[u8], fault: &Fault, notes: &mut Notes) {
     if let Fault::Profile(refusal) = fault {
         notes.key = wrong_key(alloc, settings, bytes, *refusal);
@@ -118,13 +128,20 @@ fn keep_key(alloc: Global, settings: &Settings, bytes: &[u8], fault: &Fault, not
 /// Reads the files of names and then the profile that the matches of the subcommand name, and writes the filter that
 /// the profile means: a program that answers each input as the profile does. Where `--notes` asks for it, notes on the
 /// profile are written, and no filter. The status is 0; or 4 where a word isn't one that its option takes: then no file
-/// is read, and nothing is written. `notes` count the files, and get the warning of names that no file of names has, or
-/// the set or the key for which a profile is refused.
+/// is read, and nothing is written.
 ///
-/// Refusals, tried in this order: what `read_all_names` refuses; `Profile(Set)` where one of the sets of names is none
-/// of the five sets of `CallSet`; `Read` where the profile can't be read; what `profile` of `sf_profile` refuses;
-/// `Write` where standard output can't be written (a beginning may be written then). `Memory` can come anywhere. After
-/// any error but `Write` nothing is written.
+/// `notes` count the files, and keep how many sets each file of names has. Once the filter is written, they get a
+/// warning of names in the profile that no file of names has, unless `--quiet` is given. Where a profile is refused,
+/// they get the set of names or the key for which it is refused, if that is known. The caller's condition: the notes
+/// have counted no file before.
+///
+/// Refusals, tried in this order: for each file of names, `Read` where it can't be read, or has more than `MOST_BYTES`
+/// bytes, `Syntax` where it is no UTF-8 or no TOML, `NamesKey` where a key is missing or unknown, or a name or the kind
+/// of a value is wrong, `NamesRange` where a number is outside 32 bits, and `NamesKey` where an earlier file has a set
+/// of the same name; `Profile(Set)` where one of the sets of names is none of the five sets of `CallSet`; `Read` where
+/// the profile can't be read, or has more than `MOST_BYTES` bytes; `Profile` with the fault for which `profile` of
+/// `sf_profile` refuses it; `Write` where standard output can't be written (a beginning may be written then). `Memory`
+/// can come anywhere. After any error but `Write` nothing is written.
 pub fn profile<F: Files, O: Write>(
     alloc: Global,
     found: &ArgMatches<'_>,

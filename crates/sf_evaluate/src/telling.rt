@@ -27,13 +27,14 @@ fn status_of(fault: &Fault) -> u8
     if fault.number() < 50 { 3 } else { 5 }
 }
 
-/// The line of a fault: `error`, its number, its name and its place.
+/// The line of a fault: `error`, its number, its name, and its place where it has one.
 fn line_of(fault: &Fault) -> InlineText<LINE> {
     InlineText::of(format_args!("error {fault}\n"))
 }
 
-/// The line of a fault in one of several policies, or in that of the control. `policy` says which one it is, as
-/// `policy 2` or `control`. It stands before the number of the question, or at the end where the fault has no question.
+/// The line of a fault in one of several policies, or in that of the control. `policy` says which one it is, such as
+/// `policy 2` or `control`. This text stands before the word `question` and the question's number; where the fault has
+/// no question, it stands at the end of the line.
 fn line_in(fault: &Fault, policy: &str) -> InlineText<LINE> {
     let line: InlineText<LINE> = InlineText::of(format_args!("{fault}"));
     match line.as_str().split_once(" question ") {
@@ -44,8 +45,8 @@ fn line_in(fault: &Fault, policy: &str) -> InlineText<LINE> {
     }
 }
 
-/// The line of a fault. Where `which` says that the fault lies in one of several policies, or in that of the control,
-/// the line has the number of this policy, or the word `control`.
+/// The line of a fault. Where `which` says that the fault lies in one of several policies, the line has the word
+/// `policy` with the number of this policy; where it lies in the policy of the control, the word `control`.
 fn placed_line(fault: &Fault, which: Which) -> InlineText<LINE> {
     match which {
         Which::Only => line_of(fault),
@@ -57,8 +58,8 @@ fn placed_line(fault: &Fault, which: Which) -> InlineText<LINE> {
     }
 }
 
-/// Writes the line of a fault to standard error, with one write, so that it stays whole beside the lines of other
-/// programs. It isn't looked at whether the write succeeds. Gives the exit status of the fault.
+/// Writes `line`, which is that of `fault`, to standard error. One `write_all` takes the whole line, so that it stays
+/// whole beside the lines of other programs. An error of the write is ignored. Gives the exit status of the fault.
 fn tell_line<E: Write>(line: &InlineText<LINE>, fault: &Fault, err: &mut E) -> u8
     ensures { result ≡ fault_status (fault_number fault.now) }
 {
@@ -66,15 +67,16 @@ fn tell_line<E: Write>(line: &InlineText<LINE>, fault: &Fault, err: &mut E) -> u
     status_of(fault)
 }
 
-/// Writes the line of a fault, which names no policy, to standard error, as `tell_line` does, and gives the exit
-/// status of the fault. It allocates nothing, since memory may have run out.
+/// Writes the line of a fault to standard error, as `tell_line` does, and gives the exit status of the fault. The line
+/// names no policy. Nothing is allocated, since memory may have run out.
 pub fn tell_fault<E: Write>(fault: &Fault, err: &mut E) -> u8
     ensures { result ≡ fault_status (fault_number fault.now) }
 {
     tell_line(&line_of(fault), fault, err)
 }
 
-/// A line with more lines under it. An error where an allocation is refused.
+/// A copy of `line`, which ends with a line break, and of the lines `more` under it. An error where an allocation is
+/// refused.
 fn with_more(alloc: Global, line: &str, more: &str) -> Result<String, AllocError>
     ensures { IfOk result (λ text. string_bytes text ≡ line.now ++ more.now) }
 {
@@ -83,9 +85,9 @@ fn with_more(alloc: Global, line: &str, more: &str) -> Result<String, AllocError
     Ok(text)
 }
 
-/// Writes the line of a fault to standard error, with the policy that the notes name; and under it the lines that
-/// explain the fault, if the notes have any and there is memory to join them to the line. All is written with one
-/// write, and it isn't looked at whether that succeeds, as in `tell_line`. Gives the exit status of the fault.
+/// Writes the line of a fault to standard error, with the policy that `notes.which` tells, as by `placed_line`. Under
+/// the line come the lines of `notes.explanation`, if there are any, and there is memory to join them to the line. One
+/// `write_all` takes all, and an error of the write is ignored, as in `tell_line`. Gives the exit status of the fault.
 pub fn tell<E: Write>(alloc: Global, fault: &Fault, notes: &Notes, err: &mut E) -> u8
     ensures { result ≡ fault_status (fault_number fault.now) }
 {
@@ -110,7 +112,7 @@ fn is_quiet(matches: &ArgMatches<'_>) -> bool
 }
 
 /// Writes the lines of warnings to standard error, unless there are none, or the matches ask for none. Where there was
-/// no memory for them (`warnings` is an error), one line says so. It isn't looked at whether the write succeeds.
+/// no memory for them (`warnings` is an error), one line says so. An error of the write is ignored.
 pub fn warn<E: Write>(matches: &ArgMatches<'_>, warnings: &Result<String, AllocError>, err: &mut E)
     ensures quiet { IsQuiet (subcommand_rows_of matches.now) → err.new ≡ err.old }
 {

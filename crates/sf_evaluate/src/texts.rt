@@ -1,4 +1,5 @@
-//! The texts that `check` and `eval` write.
+//! The texts that `check` and `eval` write. After an error a part of what was to be added may stand in a text; the
+//! callers drop this text.
 
 mod instructions;
 mod tracing;
@@ -27,8 +28,8 @@ pub fn answer_text(alloc: Global, answer: Answer) -> Result<String, AllocError>
     Ok(text)
 }
 
-/// Adds the line of a filter: its number, from 1, and how many instructions it has. An error where an allocation is
-/// refused.
+/// Adds the line of a filter: its number, which the caller counts from 1, and how many instructions it has. An error
+/// where an allocation is refused.
 fn push_filter(text: &mut String, number: usize, instructions: usize) -> Result<(), AllocError>
     ensures { OnOk result (string_bytes text.new ≡ string_bytes text.old
         ++ filter_line number instructions) }
@@ -53,8 +54,8 @@ fn push_under(
     Ok(())
 }
 
-/// Adds the lines of all filters, in order of installation and numbered from 1. If `listed`, the lines of its
-/// instructions stand under the line of each filter. An error where an allocation is refused.
+/// Adds the lines of all filters, in order of installation and numbered from 1. If `listed`, the lines of a filter's
+/// instructions stand under the line of the filter. An error where an allocation is refused.
 fn push_filters(
     alloc: Global,
     text: &mut String,

@@ -20,10 +20,10 @@ use sf_policy::Fault;
 use sf_run::{Action, Course, answer, walk};
 use std::alloc::{AllocError, Global};
 
-/// The object of the filter with this number, from its run: what it returns and at which instruction; at `stands`
-/// whether its answer is that of the stack, as the caller says; and at `met` the array of what it meets, with `brief`
-/// without the comparisons that are false. The upper 16 bits of its return value are the action, the lower 16 the data.
-/// An error where an allocation is refused.
+/// The object of a filter, by its run: the number of the filter, its answer, the place of the instruction that returns
+/// this answer, `stands`, and at `met` the array of what `met_documents` gives. The upper 16 bits of the return value
+/// are the answer's action, the lower 16 its data. `stands` says whether this answer stands, as by `push_filter`. If
+/// `brief`, the comparisons that are false are left out. An error where an allocation is refused.
 fn filter_document(
     alloc: Global,
     brief: bool,
@@ -48,9 +48,9 @@ fn filter_document(
     Ok(Document::object(fields))
 }
 
-/// Adds the document of the filter with this number, and returns whether its answer stands: the filter returns the
-/// action of the stack's answer, and the answer of no newer filter stood. `stood` says whether one did. An error where
-/// an allocation is refused.
+/// Adds the document of the filter `program`, which has this number. Returns whether its answer stands: the filter
+/// returns the action of the stack's answer, and no newer filter's answer stood. `stood` says whether the answer of a
+/// newer filter stood. An error where an allocation is refused.
 fn push_filter(
     alloc: Global,
     documents: &mut Vec<Document>,
@@ -109,8 +109,9 @@ fn traced_document(
     Ok(Document::array(alloc, documents)?)
 }
 
-/// What `eval` finds, as JSON: the input, the answer, and the filters where `traced` or `trace.brief` asks for them,
-/// else `null` in their place. `version` is that of this form of the document. An error where an allocation is refused.
+/// What `eval` finds, as JSON: the name of the subcommand, the version of this form of the document, the input, the
+/// answer, and the filters. Where neither `traced` nor `trace.brief` asks for the filters, `null` stands in their
+/// place. An error where an allocation is refused.
 fn document_of(alloc: Global, traced: bool, trace: &Trace<'_>) -> Result<Document, sf_run::Fault>
     ensures { IfOk result (λ d. view d ≡ eval_document traced trace.now.brief trace.now.names.now
         trace.now.stack.now trace.now.input.now trace.now.answer) }
@@ -124,10 +125,10 @@ fn document_of(alloc: Global, traced: bool, trace: &Trace<'_>) -> Result<Documen
     Ok(Document::object(fields))
 }
 
-/// What `eval` finds, as JSON: the input, shown with these names of calls, and the answer of the stack to it. Where
-/// `traced` or `brief` is set, also each filter, newest first: what it returns and at which instruction, whether its
-/// answer is the stack's, and what it meets; else `null` in their place. With `brief`, comparisons that are false are
-/// left out. `Memory` where an allocation is refused.
+/// What `eval` finds, as JSON: the input, shown with these names of calls, and the stack's answer to it. Where `traced`
+/// or `brief` is set, each filter follows, newest first: what it returns and at which instruction, whether it is the
+/// newest one that returns the action of the stack's answer, and what it meets. Else `null` stands in place of the
+/// filters. With `brief`, comparisons that are false are left out. `Memory` where an allocation is refused.
 pub fn eval_document(
     alloc: Global,
     stack: &Stack,

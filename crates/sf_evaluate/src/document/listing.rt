@@ -70,9 +70,10 @@ fn filter_documents(
     Ok(documents)
 }
 
-/// What `check` finds of a stack, as JSON: how many instructions each filter has, with their listing where `listed`
-/// asks for it and else `null`, and the path length of the stack. `version` is that of this form of the document. An
-/// error where an allocation is refused.
+/// What `check` finds of a stack, as JSON: the name of the subcommand, the version of this form of the document, an
+/// object for each filter, and the path length of the stack. The object of a filter has its number, how many
+/// instructions it has, and their listing where `listed` asks for it, else `null`. An error where an allocation is
+/// refused.
 pub fn check_document(alloc: Global, stack: &Stack, listed: bool) -> Result<Document, AllocError>
     ensures { IfOk result (λ d. IsCheckDocument listed stack.now (view d)) }
 {

@@ -14,8 +14,8 @@ use sf_policy::WORD_KEYS;
 use sf_run::{Meeting, Met};
 use std::alloc::{AllocError, Global};
 
-/// The name of the word of the input at a place, 0 to 15; the document `null` where there is no word. An error where an
-/// allocation is refused.
+/// The name of the word of the input at the place `word`, 0 to 15; an empty text for a higher place, and the document
+/// `null` where `word` is `None`. An error where an allocation is refused.
 fn word_name(alloc: Global, word: Option<u8>) -> Result<Document, AllocError>
     ensures { IfOk result (λ d. view d ≡ word_name word) }
 {
@@ -95,8 +95,8 @@ fn meeting_document(alloc: Global, meeting: Meeting) -> Result<Document, AllocEr
     }
 }
 
-/// Adds the document of what a filter meets at an instruction; with `brief` nothing where that is a comparison that is
-/// false. An error where an allocation is refused.
+/// Adds the document of what a filter meets at an instruction. If `brief`, adds nothing for a comparison that is false,
+/// as by `is_false`: also nothing for a division by an X that isn't 0. An error where an allocation is refused.
 fn push_shown(
     alloc: Global,
     documents: &mut Vec<Document>,
@@ -113,8 +113,8 @@ fn push_shown(
     Ok(())
 }
 
-/// The documents of what a filter meets, in order; with `brief` without the comparisons that are false. An error where
-/// an allocation is refused.
+/// The documents of what a filter meets, in order. If `brief`, the comparisons that are false are left out, as by
+/// `is_false`: also each division by an X that isn't 0. An error where an allocation is refused.
 pub(super) fn met_documents(
     alloc: Global,
     brief: bool,

@@ -71,9 +71,8 @@ fn is_at_front(fault: &Fault) -> bool {
     }
 }
 
-/// The hint for a file of this kind that is refused as a filter, for this fault. `None` where the bytes may be
-/// instructions, where a number seems to stand before the instructions but this fault doesn't fit that, and for an
-/// empty file.
+/// The hint for a file of this kind that is refused as a filter, for this fault. `None` for `Bytes`, which may be
+/// instructions; for `Counted`, where this fault doesn't fit a number before the instructions; and for `Empty`.
 pub(crate) fn hint_of_filter(kind: Kind, fault: &Fault) -> Option<Hint> {
     let sentence = match kind {
         Kind::Json => "this is JSON: a profile becomes a filter by `seccomp_audit profile`",
@@ -92,8 +91,8 @@ pub(crate) fn hint_of_filter(kind: Kind, fault: &Fault) -> Option<Hint> {
     Some(Hint::Sentence(sentence))
 }
 
-/// The hint for a file of this kind that is refused as a file of names. There is none where it seems to be one, nor for
-/// another text or an empty file.
+/// The hint for a file of this kind that is refused as a file of names. `None` where the file seems to be a file of
+/// names, for a text of no known kind, and for an empty file.
 pub(crate) fn hint_of_names(kind: Kind) -> Option<Hint> {
     let sentence = match kind {
         Kind::Json => "this is JSON, and a file of names is TOML, as policies/names/x86_64.toml is",
@@ -106,8 +105,8 @@ pub(crate) fn hint_of_names(kind: Kind) -> Option<Hint> {
     Some(Hint::Sentence(sentence))
 }
 
-/// The hint for a file of this kind that is refused as a profile. There is none for JSON, which is what a profile is,
-/// nor for a file of names or an empty file.
+/// The hint for a file of this kind that is refused as a profile. `None` for JSON, which is what a profile is, for a
+/// file of names, and for an empty file.
 pub(crate) fn hint_of_profile(kind: Kind) -> Option<Hint> {
     let sentence = match kind {
         Kind::Policy => "this is a policy: `audit --policy` takes it",
@@ -130,8 +129,8 @@ pub(crate) fn hint_of_unread(path: &str, reason: &str, ready: &'static str) -> O
     Some(Hint::Sentence(ready))
 }
 
-/// The hint for a file of this kind that is refused as a policy. There is none where it seems to be one, nor for
-/// another text or an empty file.
+/// The hint for a file of this kind that is refused as a policy. `None` where the file seems to be a policy, for a text
+/// of no known kind, and for an empty file.
 fn hint_of_policy_file(kind: Kind) -> Option<Hint> {
     let sentence = match kind {
         Kind::Json => "this is JSON, and a policy is TOML, as policies/x86_64.toml is",
@@ -149,8 +148,8 @@ fn is_key_of_question(key: &str) -> bool {
     key == "name" || key == "actions" || WORD_KEYS.iter().any(|known| *known == key)
 }
 
-/// The key of a question that is meant by `key`: the one that `MEANT` has for it, or the key of a word that differs
-/// from it at most by capitals. `None` where there is neither.
+/// The key of a question that is meant by `key`: the one that `MEANT` has for it, or else the key of a word that equals
+/// it. Capitals count as small letters in both cases. `None` where there is neither.
 fn key_meant_by(key: &str) -> Option<&'static str> {
     for (written, meant) in MEANT {
         if key.eq_ignore_ascii_case(written) {
@@ -172,8 +171,8 @@ fn meant_by(key: &str) -> Option<Hint> {
     key_meant_by(key).map(|meant| Hint::Meant(meant))
 }
 
-/// The hint for a key that is refused at the top of a policy. It is `question` where there are no questions, or where
-/// they are no array of tables.
+/// The hint for a key that is refused at the top of a policy. `key` is `question` where there are no questions, or
+/// where they are no array of tables.
 fn hint_of_top_key(key: &str) -> Hint {
     match key {
         "question" => Hint::Sentence("each question begins with the line `[[question]]`"),
@@ -203,7 +202,7 @@ fn sentence_of_word(refusal: &Refusal, key: &str, value: &Value) -> &'static str
     }
 }
 
-/// Whether a policy names version 1. It is false where the text is no TOML.
+/// Whether a policy names version 1. It is false where `read` has no tree: the text is no TOML, or memory ran out.
 fn has_version_1(refusal: &Refusal) -> bool {
     match &refusal.read {
         Ok(tree) => matches!(tree.get("version"), Some(Value::Integer(1))),
@@ -224,9 +223,9 @@ fn hint_of_question_key(refusal: &Refusal, key: &str, value: &Value) -> Hint {
     }
 }
 
-/// The hint for the value of a word, at this key, that is refused with the fault `Range`: for a single number, which is
-/// then negative or has more than 32 bits. `None` where the value is an array or a table, and where a number at `nr` or
-/// `arch` is too large: these words are no halves of a longer number.
+/// The hint for the value of a word that is refused with the fault `Range`; `key` is the word's key. A value that is a
+/// single number is negative then, or has more than 32 bits. `None` where the value is an array or a table, and where
+/// a number at `nr` or `arch` is too large: these words are no halves of a longer number.
 fn hint_of_range(key: &str, value: &Value) -> Option<Hint> {
     match value {
         Value::Integer(number) if *number < 0 => Some(Hint::Sentence(
@@ -239,8 +238,8 @@ fn hint_of_range(key: &str, value: &Value) -> Option<Hint> {
     }
 }
 
-/// The hint for a policy that is refused at a key that it has, with this value. `None` for faults that aren't about
-/// keys, numbers or actions, and where `hint_of_range` gives `None`.
+/// The hint for a policy that is refused at this key, which stands there with this value. `None` where the fault is
+/// none of `TopKey`, `Key`, `Range` and `Actions`, and where `hint_of_range` gives `None`.
 fn hint_of_key(refusal: &Refusal, key: &str, value: &Value) -> Option<Hint> {
     match refusal.fault {
         Fault::TopKey => Some(hint_of_top_key(key)),
@@ -254,8 +253,8 @@ fn hint_of_key(refusal: &Refusal, key: &str, value: &Value) -> Option<Hint> {
 }
 
 /// The hint for a policy that is refused, by its fault: for a missing or unknown version, for a lack of questions, or
-/// for the key that is refused. `None` where the text is no TOML, where another key is missing, and where nothing is
-/// known to be meant. An error where an allocation is refused.
+/// for the key that is refused. `None` where the text is no TOML, where another key is missing, and where `hint_of_key`
+/// gives `None`. An error only where an allocation is refused.
 fn hint_of_refusal(alloc: Global, refusal: &Refusal) -> Result<Option<Hint>, AllocError> {
     if refusal.fault == Fault::Version {
         return Ok(Some(Hint::Sentence("a policy begins with `version = 2`")));
@@ -273,8 +272,9 @@ fn hint_of_refusal(alloc: Global, refusal: &Refusal) -> Result<Option<Hint>, All
     }
 }
 
-/// The hint for a file of this kind that is refused as a policy: about what the file is, or else what
-/// `hint_of_refusal` gives. `None` where there is neither. An error where an allocation is refused.
+/// The hint for a file of this kind that is refused as a policy: that of `hint_of_policy_file`, or else that of
+/// `hint_of_refusal`, where the refusal is known. `None` where there is neither. An error only where an allocation is
+/// refused.
 pub(crate) fn hint_of_policy(
     alloc: Global,
     kind: Kind,

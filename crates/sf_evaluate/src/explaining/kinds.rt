@@ -1,4 +1,4 @@
-//! What the content of a file seems to be, from how it begins. It is for a person, so no contract speaks of it.
+//! What the content of a file seems to be, mostly from how it begins. It is for a person, so no contract speaks of it.
 
 /// What a file seems to hold.
 #[derive(Clone, Copy, Debug, PartialEq, Eq)]
@@ -26,7 +26,7 @@ pub(crate) enum Kind {
 /// The most bytes at the front of a file that are looked at to see whether it is a text.
 const FRONT: usize = 64;
 
-/// The bytes of a text without a byte order mark at their front, which belongs to no line.
+/// These bytes of a text, but not the byte order mark of UTF-8 where they begin with it: the mark belongs to no line.
 pub(crate) fn bytes_of_text(bytes: &[u8]) -> &[u8] {
     match bytes {
         [0xEF, 0xBB, 0xBF, rest @ ..] => rest,
@@ -52,8 +52,8 @@ fn is_counted(bytes: &[u8]) -> bool {
     count != 0 && matches!(bytes.len().checked_sub(length), Some(2 | 4 | 8 | 16))
 }
 
-/// The line at a place, without the blanks around it; empty where there is none. Places count from 0, and only lines
-/// that are neither blank nor a comment of TOML.
+/// The line at a place, without the blanks around it; empty where there is none. Only lines that are neither blank nor
+/// a comment of TOML have a place; the first one has the place 0.
 fn line_at(text: &str, place: usize) -> &str {
     let mut left = place;
     for line in text.lines() {
@@ -73,8 +73,9 @@ fn is_of_set(line: &str) -> bool {
     line.starts_with("arch") || line.starts_with("calls")
 }
 
-/// What a text seems to be whose first two lines, as `line_at` gives them, are these. The second one counts only where
-/// the first one is a header, with `[` before it: a file of several sets of calls begins with the header of a set.
+/// What a text seems to be, by its first two lines, as `line_at` gives them. The second one counts only where the first
+/// one is a header, which begins with `[`: a file of several sets of calls begins with the header of a set, and a key
+/// of the set follows.
 fn kind_of_lines(line: &str, next: &str) -> Kind {
     if line.starts_with('{') || line.starts_with("[{") || line == "[" {
         return Kind::Json;

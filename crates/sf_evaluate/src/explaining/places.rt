@@ -58,8 +58,8 @@ impl Reading<'_> {
     }
 
     /// Reads a key that stands before a value, and says whether it is looked for. Of a dotted key only the first part
-    /// is compared. A key at the top also tells whether the tables behind it are questions, as those of
-    /// `question = [{ .. }]` are.
+    /// is compared. A key at the top also sets `depth_of_questions`: to 2 where the key is `question`, since the tables
+    /// of `question = [{ .. }]` are questions, else to `None`.
     fn take_key(&mut self, key: &Key) -> bool {
         if self.is_top && self.depth == 0 {
             self.depth_of_questions = if is_question(key) { Some(2) } else { None };
@@ -96,10 +96,12 @@ impl Reading<'_> {
         begins && self.begin_question()
     }
 
-    /// Reads the token at the head of a text, before which the caller has skipped blanks, ends of lines and comments.
-    /// Gives whether what is looked for stands there, and the text behind the token. A key is one token with its `=`,
-    /// and with a `[` behind this: where no bracket is open, a `[` by itself is taken for the beginning of a header.
-    /// `None` where no token can be read, or an allocation is refused.
+    /// Reads the token at the head of a text. The caller has skipped the blanks, ends of lines and comments before it.
+    /// Gives whether what is looked for stands there, and the text behind the token. `None` where no token can be read;
+    /// it can be `None` too where an allocation is refused.
+    ///
+    /// A key and its `=` are one token, and a `[` behind the `=` belongs to it too. Any other `[` begins a header where
+    /// no bracket is open. The token of a header ends before its closing brackets, which are tokens themselves.
     fn step<'a>(&mut self, alloc: Global, text: &'a str) -> Option<(bool, &'a str)> {
         if let Some((key, value)) = key_and_value(alloc, text) {
             let found = self.take_key(&key);
@@ -131,7 +133,10 @@ impl Reading<'_> {
 
 /// The number, from 1, of the line of a policy on which a key stands: a key of the question with this number, from 1,
 /// or where `question` is `None`, a key at the top. Where `key` is `None`, it is the line on which the question begins.
-/// `None` where this isn't found, where both are `None`, or where an allocation is refused.
+///
+/// `None` where this isn't found, as where a token before it can't be read, or where both are `None`; it can be `None`
+/// too where an allocation is refused. The caller's condition: `policy` begins with no byte order mark, which would be
+/// such a token.
 pub fn line_of(
     alloc: Global,
     policy: &str,
@@ -167,8 +172,9 @@ fn count_ends(text: &str, length: usize) -> usize {
 }
 
 /// The numbers, from 1, of the lines on which the questions of a policy begin, in their order. The list ends early
-/// where a token can't be read, or an allocation is refused while it is read. An error where an allocation is refused
-/// for the list itself.
+/// where a token can't be read; it can end early too where an allocation is refused while one is read. An error where
+/// an allocation is refused for the list itself. The caller's condition: `policy` begins with no byte order mark, which
+/// would be a token that can't be read.
 pub fn lines_of_questions(alloc: Global, policy: &str) -> Result<Vec<usize>, AllocError> {
     // Nothing is looked for: this reading only counts the questions that have begun.
     let mut reading = Reading {

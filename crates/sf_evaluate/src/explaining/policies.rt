@@ -20,8 +20,9 @@ fn front_of(alloc: Global, text: &str) -> Result<(String, &'static str), AllocEr
     Ok((front, mark))
 }
 
-/// Adds a character of a line: a blank for a control character, and its number for another one that can't be seen, as
-/// `\u{200b}`. An error where an allocation is refused.
+/// Adds a character of a line: a blank for a control character, and any other ASCII character as it is. Of a character
+/// that is neither, it adds what `escape_debug` gives: the character itself, or the number of one that can't be seen by
+/// itself, as `\u{200b}`. An error where an allocation is refused.
 fn push_character(text: &mut String, character: char) -> Result<(), AllocError> {
     if character.is_control() {
         return text.push(' ');
@@ -54,9 +55,9 @@ impl Page<'_> {
         write!(self.text, "{front:?}{mark}\n")
     }
 
-    /// Adds `: ` and the text of the policy's line with this number, from 1, and the end of the line. The text is cut
-    /// as by `front_of`, and its characters are added by `push_character`. It is empty where there is no such line. An
-    /// error where an allocation is refused.
+    /// Adds `: ` and the text of the policy's line with this number, from 1, and the end of the line. The number 0 is
+    /// taken as 1. The text is cut as by `front_of`, and its characters are added by `push_character`. It is empty
+    /// where the policy has fewer lines. An error where an allocation is refused.
     fn push_line(&mut self, number: usize) -> Result<(), AllocError> {
         let lines = &mut self.policy.lines();
         let line = lines.nth(number.saturating_sub(1)).unwrap_or("");
@@ -70,7 +71,7 @@ impl Page<'_> {
 
     /// Adds the number and the text of the line that `line_of` finds: the one on which a key stands, or without a key
     /// the one on which a question begins. Without a question's number the key is one at the top. Nothing is added
-    /// where no line is found. An error where an allocation is refused.
+    /// where no line is found. An error only where an allocation is refused.
     fn push_place(&mut self, question: Option<usize>, key: Option<&str>) -> Result<(), AllocError> {
         let Some(number) = line_of(self.alloc, self.policy, question, key) else {
             return Ok(());
@@ -79,9 +80,10 @@ impl Page<'_> {
         self.push_line(number)
     }
 
-    /// Adds why the policy is no TOML, and at which line and column. The place of `error` counts the `hidden` bytes
-    /// before the policy's text too. An error where an allocation is refused, or was while the policy was read, so that
-    /// `error` has no place.
+    /// Adds why the policy is no TOML; then the line and the column at which it is none, and the text of this line.
+    /// `hidden` is the length in bytes of the byte order mark before the policy's text: the place of `error` counts
+    /// these bytes too. An error where an allocation is refused, or was while the policy was read, so that `error` has
+    /// no place.
     fn push_syntax(&mut self, error: &Error, hidden: usize) -> Result<(), AllocError> {
         let Some(span) = error.span() else {
             return Err(AllocError);
@@ -93,8 +95,9 @@ impl Page<'_> {
     }
 
     /// Adds the key that is refused, and the line on which it stands. Where it is missing, adds that there is no such
-    /// key, and the line on which its question begins, or no line where the key would stand at the top. An error where
-    /// an allocation is refused.
+    /// key, and the line on which its question begins, or no line where the key would stand at the top. No line is
+    /// added where `line_of` finds none. The caller has seen that `refusal.read` has a tree. An error only where an
+    /// allocation is refused.
     fn push_key(&mut self, refusal: &Refusal) -> Result<(), AllocError> {
         let key = refusal.key(self.alloc)?;
         let question = refusal.question();
@@ -108,11 +111,13 @@ impl Page<'_> {
         self.push_place(question, None)
     }
 
-    /// Adds where the policy is refused, as far as that is known. Where it is no TOML, this is what `push_syntax` adds.
-    /// Where it has too many questions, it is how many there are, and the line of the first one that is too many. Else
-    /// it is the number and the name of the question that is refused, if one is, and then what `push_key` adds.
-    /// `hidden` is the length in bytes of the byte order mark before the policy's text. An error where an allocation is
-    /// refused.
+    /// Adds where the policy is refused, as far as that is known. Where the policy is no TOML, these are the lines of
+    /// `push_syntax`. Where it has too many questions, they say how many there are, and show the line of the first
+    /// question that is too many. Else they have the number of the question that is refused, if one is, with its name,
+    /// if it has one; and then come the lines of `push_key`.
+    ///
+    /// `hidden` is the length in bytes of the byte order mark before the policy's text. An error only where an
+    /// allocation is refused, or was while the policy was read.
     pub fn push_refusal(&mut self, refusal: &Refusal, hidden: usize) -> Result<(), AllocError> {
         if let Err(error) = &refusal.read {
             return self.push_syntax(error, hidden);

@@ -20,7 +20,8 @@ pub(crate) enum Role {
     Profile,
 }
 
-/// The options and words behind which files stand, and what these are read as, in the order in which they are read.
+/// The names of the options and other arguments that name files, and what these files are read as, in the order in
+/// which they are read.
 const READ: [(&str, Role); 8] = [
     ("names", Role::Names),
     ("policy", Role::Policy),
@@ -32,7 +33,7 @@ const READ: [(&str, Role); 8] = [
     ("profile", Role::Profile),
 ];
 
-/// How many files the command line names that are read in this role.
+/// How many of the files that the command line names are read in this role.
 pub(crate) fn count_of(found: &ArgMatches<'_>, role: Role) -> usize {
     let mut count = 0usize;
     for (name, of) in READ {
@@ -65,7 +66,8 @@ pub(crate) fn file_at<'a>(found: &ArgMatches<'a>, place: usize) -> Option<(Role,
 }
 
 /// The path of the filter at a place, counted from 0 among all filters; empty where there is none. The old filters of a
-/// comparison stand before the new ones.
+/// comparison stand before the new ones. The caller's condition: the matches aren't those of `profile`, which has no
+/// filters; for them the path at place 0 is the profile's.
 pub(crate) fn filter_path<'a>(found: &ArgMatches<'a>, place: usize) -> &'a str {
     match file_at(found, count_before_filters(found).saturating_add(place)) {
         Some((_, path)) => path,
@@ -102,8 +104,9 @@ fn is_of_policy(fault: &Fault) -> bool {
 }
 
 /// Which of the policies is refused for a fault. `read` is how many files had been read when the fault came. Where a
-/// policy can be refused for the fault, the last one of these files is the refused one. `Only` where no policy can be
-/// refused for it, where that file is no policy, and where it is the only policy that asks questions.
+/// policy can be refused for the fault, it is the file that was read last, if this is a policy. `Only` where no policy
+/// can be refused for the fault, where the file that was read last is no policy, and where this file is the only policy
+/// that asks questions.
 pub(crate) fn which_policy(found: &ArgMatches<'_>, fault: &Fault, read: usize) -> Which {
     let place = read.saturating_sub(1);
     if !is_of_policy(fault) {

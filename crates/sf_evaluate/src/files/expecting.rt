@@ -18,9 +18,13 @@ use sf_command_line::given_text;
 use sf_policy::{Fault, read_accepted};
 use std::alloc::Global;
 
-/// The questions of the control, whose policy file is at a path; an empty list where no path is given. The notes get
-/// what `questions_in` keeps in them; they are unchanged where no path is given. `Read` where the file can't be read,
-/// `Syntax` where it isn't UTF-8, then what `read_policy` refuses; `Memory` can come anywhere.
+/// The questions of the control, whose policy file is at a path; an empty list where no path is given. Once the file is
+/// read, the notes count it and keep its bytes; if `read_policy_at` refuses it, they keep the refusal too. The
+/// notes are unchanged where no path is given.
+///
+/// Refusals, tried in this order: `Read` where the file can't be read or has more than `MOST_BYTES` bytes; `Syntax`
+/// where it is no UTF-8 or no TOML; then `Version`, `TopKey`, `Count`, `Key`, `Name`, `Range`, `Mask` and `Actions`,
+/// when `read_policy` says. `Memory` can come anywhere.
 pub fn control_in<F: Files>(
     alloc: Global,
     path: Option<&str>,
@@ -40,8 +44,8 @@ pub fn control_in<F: Files>(
 }
 
 /// The names of the questions that may be allowed, by the bytes of the file that has these names. Each is the name of
-/// exactly one of `questions`. `Syntax` where the bytes are no UTF-8, then what `read_accepted` refuses; `Memory` can
-/// come anywhere.
+/// exactly one of `questions`. Refusals, tried in this order: `Syntax` where the bytes are no UTF-8; then `Accepted`,
+/// with the number of a line from 1, when `read_accepted` says. `Memory` can come anywhere.
 fn accepted_of(alloc: Global, bytes: &[u8], questions: &[Question]) -> Result<Vec<String>, Fault>
     ensures named { IfOk result (λ v. AreAccepted questions.now bytes.now
         (map string_bytes v.items)) }
@@ -54,8 +58,11 @@ fn accepted_of(alloc: Global, bytes: &[u8], questions: &[Question]) -> Result<Ve
     }
 }
 
-/// The names of the questions that may be allowed, by the file at a path, which the notes count. Each is the name of
-/// exactly one of `questions`. `Read` where the file can't be read, then what `accepted_of` refuses; `Memory` can come
+/// The names of the questions that may be allowed, by the file at a path. Each is the name of exactly one of
+/// `questions`. Once the file is read, the notes count it.
+///
+/// Refusals, tried in this order: `Read` where the file can't be read or has more than `MOST_BYTES` bytes; `Syntax`
+/// where it isn't UTF-8; `Accepted`, with the number of a line from 1, when `read_accepted` says. `Memory` can come
 /// anywhere.
 fn accepted_at<F: Files>(
     alloc: Global,
@@ -78,9 +85,11 @@ fn accepted_at<F: Files>(
 }
 
 /// The names of the questions that may be allowed, by the file with these names at a path; an empty list where no path
-/// is given. The notes count the file. Refusals, tried in this order: `Read` where the file can't be read; `Syntax`
-/// where it isn't UTF-8; `Accepted`, with the number of the line from 1, at the first line with two words or more, or
-/// with a word that isn't the name of exactly one of `questions`. `Memory` can come anywhere.
+/// is given. Once the file is read, the notes count it.
+///
+/// Refusals, tried in this order: `Read` where the file can't be read or has more than `MOST_BYTES` bytes; `Syntax`
+/// where it isn't UTF-8; `Accepted`, with the number of the line from 1, at the first line that has before its comment
+/// two words or more, or a word that isn't the name of exactly one of `questions`. `Memory` can come anywhere.
 pub fn accepted_in<F: Files>(
     alloc: Global,
     path: Option<&str>,

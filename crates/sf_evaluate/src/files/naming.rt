@@ -21,8 +21,11 @@ fn sets_of(alloc: Global, text: &str) -> Result<Vec<Names>, Fault>
     Ok(read_names(alloc, text)?)
 }
 
-/// The sets of the file of names at a path, which the notes count. `Read` where the file can't be read, `Syntax` where
-/// it isn't UTF-8, then what `sets_of` refuses; `Memory` can come anywhere.
+/// The sets of the file of names at a path. Once the file is read, the notes count it.
+///
+/// Refusals, tried in this order: `Read` where the file can't be read, or has more than `MOST_BYTES` bytes; `Syntax`
+/// where it is no UTF-8 or no TOML; then `NamesKey` and `NamesRange`, where `read_names` of `sf_names` refuses its text
+/// with `Key` and `Range`. `Memory` can come anywhere.
 fn names_in<F: Files>(
     alloc: Global,
     path: &str,
@@ -68,9 +71,15 @@ fn add_sets(all: &mut Vec<Names>, sets: Vec<Names>) -> Result<(), Fault>
     Ok(())
 }
 
-/// The sets of the files of names at these paths, one file after the other; no two of them have the same name. The
-/// notes count the files, and the sets of each. The refusal is that of the first file that is refused: as `names_in`
-/// refuses it, or `NamesKey` where it has a set whose name was there before. `Memory` can come anywhere.
+/// The sets of the files of names at these paths, one file after the other; no two sets have the same name. The notes
+/// count the files that are read, and keep how many sets each file has that `names_in` accepts. The caller's condition:
+/// the notes have counted no file before.
+///
+/// The refusal is that of the first file that is refused. For each file these are tried, in this order: `Read` where it
+/// can't be read, or has more than `MOST_BYTES` bytes; `Syntax` where it is no UTF-8 or no TOML; `NamesKey` where a key
+/// is missing or unknown, or a name or the kind of a value is wrong, and `NamesRange` where a number is outside 32 bits
+/// (`read_names` of `sf_names` has the details); `NamesKey` where one of its sets has the name of a set of an earlier
+/// file. `Memory` can come anywhere.
 pub fn read_all_names<F: Files>(
     alloc: Global,
     paths: &[&str],

@@ -26,7 +26,8 @@ fn origin_document(alloc: Global, path: &str, line: Option<&usize>) -> Result<Do
 }
 
 /// The numbers, from 1, of the lines on which the questions of a policy begin, in their order and as far as they are
-/// found, by the bytes of its file; an empty list where these are no UTF-8. An error where an allocation is refused.
+/// found, by the bytes of its file; an empty list where these are no UTF-8. An error where an allocation is refused for
+/// the list itself; where one is refused while a token is read, at most the list ends early.
 fn lines_in(alloc: Global, policy: &[u8]) -> Result<Vec<usize>, AllocError> {
     match std::str::from_utf8(bytes_of_text(policy)) {
         Ok(text) => lines_of_questions(alloc, text),
@@ -35,8 +36,9 @@ fn lines_in(alloc: Global, policy: &[u8]) -> Result<Vec<usize>, AllocError> {
 }
 
 /// Adds to `origins` one object for each of the `count` questions of a policy file, in their order. The object says
-/// where the question stands, as `origin_document` writes it. The file has this path and these bytes. An error where
-/// an allocation is refused; some of the objects may be added then.
+/// where the question stands, as `origin_document` writes it; its `line` is `null` where `lines_in` didn't find the
+/// line. The caller's condition: `path` is the path of the file, `policy` are its bytes, and it has `count` questions.
+/// An error where an allocation is refused for the list of lines or for an object; some objects may be added then.
 pub(crate) fn push_origins(
     alloc: Global,
     origins: &mut Vec<Document>,

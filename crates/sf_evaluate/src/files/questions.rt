@@ -15,8 +15,11 @@ use sf_policy::{Fault, read_policy_at};
 use std::alloc::Global;
 
 /// The questions of the policy file at a path. Once the file is read, the notes count it and keep its bytes; if
-/// `read_policy_at` refuses it, they keep the refusal too. `Read` where the file can't be read, `Syntax` where it isn't
-/// UTF-8, then what `read_policy` refuses; `Memory` can come anywhere.
+/// `read_policy_at` refuses it, they keep the refusal too.
+///
+/// Refusals, tried in this order: `Read` where the file can't be read, or has more than `MOST_BYTES` bytes; `Syntax`
+/// where it is no UTF-8 or no TOML; then `Version`, `TopKey`, `Count`, `Key`, `Name`, `Range`, `Mask` and `Actions`,
+/// when `read_policy` says. `Memory` can come anywhere.
 pub(crate) fn questions_in<F: Files>(
     alloc: Global,
     path: &str,
@@ -42,8 +45,14 @@ pub(crate) fn questions_in<F: Files>(
 }
 
 /// The questions of the policy files at these paths, one file after the other; and a second list, in the same order,
-/// with where each question stands, as `push_origins` writes it. The notes get what `questions_in` keeps of each file.
-/// The refusal is that of the first file that is refused, as `questions_in` refuses it. `Memory` can come anywhere.
+/// with where each question stands: a JSON object with the path of its file at `policy`, and at `line` the number, from
+/// 1, of the line on which it begins, or `null` where that isn't found. The notes count each file that is read, and
+/// keep the bytes of the last one; if `read_policy_at` refuses it, they keep the refusal too.
+///
+/// The refusal is that of the first file that is refused. For each file these are tried, in this order: `Read` where it
+/// can't be read, or has more than `MOST_BYTES` bytes; `Syntax` where it is no UTF-8 or no TOML; then `Version`,
+/// `TopKey`, `Count`, `Key`, `Name`, `Range`, `Mask` and `Actions`, when `read_policy` says. In a refusal, the
+/// questions of each file are numbered from 1. `Memory` can come anywhere.
 pub fn all_questions_in<F: Files>(
     alloc: Global,
     paths: &[&str],

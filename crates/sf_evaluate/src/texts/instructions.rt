@@ -1,4 +1,5 @@
 //! The text of `check --instructions`: the instructions of a filter, in the form that the kernel's `bpf_asm` reads.
+//! After an error a part of what was to be added may stand in the text; the callers drop the text.
 ghost use Rattle.std.specs.Prelude.{◌≡◌, ◌+◌, ◌<◌, ◌≤◌, ◌++◌, ℕ, List, OnOk, length, string_bytes};
 ghost use Rattle.sf_evaluate.specs.Instructions.{AreInsnLines, alu_text, branch_text, comment_text, insn_line, insn_lines, insn_text, operand_text, operation_text, test_text};
 
@@ -64,8 +65,9 @@ fn push_alu(text: &mut String, op: BinOp, operand: Operand) -> Result<(), AllocE
 }
 
 /// Adds the test that is the instruction at `place`: its name, its second word, and the labels of the instructions to
-/// which it leads where it is true and where it is false. `on_true` and `on_false` are how many instructions behind it
-/// are skipped then. The caller's condition: the place is below 4096. An error where an allocation is refused.
+/// which it leads where it is true and where it is false. `on_true` and `on_false` say how many instructions behind the
+/// test are skipped in these two cases. The caller's condition: the place is below 4096. An error where an allocation
+/// is refused.
 fn push_branch(
     text: &mut String,
     place: usize,
@@ -156,8 +158,9 @@ fn push_lines(text: &mut String, code: &[Insn], found: &[bool]) -> Result<(), Al
     Ok(())
 }
 
-/// Adds the lines of a filter's instructions, in order of their places. Those to which no path through the filter comes
-/// have a comment; a path takes both ways of each test, as for `reached`. An error where an allocation is refused.
+/// Adds the lines of a filter's instructions, in order of their places. An instruction to which no path comes has a
+/// comment, as by `reached`: behind each test there are paths for both results, whether or not an input gives them. An
+/// error where an allocation is refused.
 pub fn push_instructions(
     alloc: Global,
     text: &mut String,

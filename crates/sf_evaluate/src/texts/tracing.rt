@@ -1,4 +1,5 @@
-//! The text of `eval --trace`: the input, and how each filter comes to its return value.
+//! The text of `eval --trace`: the input, and how each filter comes to its return value. After an error a part of what
+//! was to be added may stand in the text; the callers drop the text.
 ghost use Rattle.std.specs.Prelude.{◌≡◌, ◌<◌, ◌++◌, ◌==◌, ◌&&◌, ◌||◌, not, false, OnOk, IfOk, Some, length, string_bytes};
 ghost use Rattle.sf_run.specs.Answers.{action_bits, action_number};
 ghost use Rattle.sf_run.specs.Walks.{CourseData, walk_of};
@@ -43,8 +44,8 @@ fn push_nr(text: &mut String, names: &[Names], arch: u32, nr: u32) -> Result<(),
     Ok(())
 }
 
-/// Adds the lines of the call's number, with its names, the architecture and the instruction pointer. An error where an
-/// allocation is refused.
+/// Adds three lines of an input: that of the call's number and names, as by `push_nr`, that of the architecture, and
+/// that of the instruction pointer. An error where an allocation is refused.
 fn push_call(text: &mut String, names: &[Names], input: &Input) -> Result<(), AllocError>
     ensures { OnOk result (string_bytes text.new ≡ string_bytes text.old
         ++ call_text names.now input.now) }
@@ -75,8 +76,8 @@ fn push_last_arguments(text: &mut String, input: &Input) -> Result<(), AllocErro
     push_field(text, "arg5", input.words[14], input.words[15])
 }
 
-/// Adds the lines of all fields of an input. `names` are shown beside the number of the call. An error where an
-/// allocation is refused.
+/// Adds the lines of all fields of an input. The names that the sets `names` have for the call stand beside its number,
+/// as by `push_nr`. An error where an allocation is refused.
 fn push_fields(text: &mut String, names: &[Names], input: &Input) -> Result<(), AllocError>
     ensures { OnOk result (string_bytes text.new ≡ string_bytes text.old
         ++ fields_text names.now input.now) }
@@ -86,7 +87,8 @@ fn push_fields(text: &mut String, names: &[Names], input: &Input) -> Result<(), 
     push_last_arguments(text, input)
 }
 
-/// Adds the line of an input as a call, in the words of `push_call_words`. An error where an allocation is refused.
+/// Adds the line of an input as a call: `call `, and then the words of `push_call_words`. An error where an allocation
+/// is refused.
 pub(crate) fn push_call_line(
     text: &mut String,
     names: &[Names],
@@ -139,8 +141,8 @@ fn push_compared(text: &mut String, sign: &str, other: u32, truth: bool) -> Resu
     write!(text, " {sign} 0x{other:08X} {truth}\n")
 }
 
-/// Adds the name of the word of the input at a place, 0 to 15, and a blank; nothing where there is no word. An error
-/// where an allocation is refused.
+/// Adds the name of a word of the input and a blank. `word` is the word's place, 0 to 15; nothing is added where it is
+/// `None`, and only the blank where it is above 15. An error where an allocation is refused.
 fn push_name(text: &mut String, word: Option<u8>) -> Result<(), AllocError>
     ensures { OnOk result (string_bytes text.new ≡ string_bytes text.old ++ named_text word) }
 {
@@ -206,8 +208,8 @@ pub(crate) fn push_meeting(
     }
 }
 
-/// Adds the line of what the filter with this number met at an instruction; with `brief` nothing where that is a
-/// comparison that is false. An error where an allocation is refused.
+/// Adds the line of what the filter with this number met at an instruction, as `push_meeting` does. If `brief`, it adds
+/// nothing for a comparison that is false. An error where an allocation is refused.
 fn push_shown(
     text: &mut String,
     brief: bool,
@@ -223,8 +225,8 @@ fn push_shown(
     push_meeting(text, number, meeting)
 }
 
-/// Adds the lines of all that the filter with this number met, in order; with `brief` without the comparisons that are
-/// false. An error where an allocation is refused.
+/// Adds the lines of all that the filter with this number met, in order. If `brief`, comparisons that are false are
+/// left out. An error where an allocation is refused.
 fn push_meetings(
     text: &mut String,
     brief: bool,
@@ -240,8 +242,8 @@ fn push_meetings(
     Ok(())
 }
 
-/// The end of a filter's line: ` stands` where `stands` says that the filter's answer is that of the stack, else an
-/// empty text.
+/// The end of a filter's line: ` stands` where `stands` says that the filter's answer stands, as by `push_filter`, else
+/// an empty text.
 fn stands_word(stands: bool) -> &'static str
     ensures { result.now ≡ stands_text stands }
 {
@@ -249,8 +251,8 @@ fn stands_word(stands: bool) -> &'static str
 }
 
 /// Adds the line of what a filter returns: an action and its data, `info`. `number` is that of the filter, `place` that
-/// of the instruction that returns. `stands` says whether the filter's answer is that of the stack. An error where an
-/// allocation is refused.
+/// of the instruction that returns. `stands` says whether the filter's answer stands, as by `push_filter`. An error
+/// where an allocation is refused.
 pub(crate) fn push_return(
     text: &mut String,
     number: usize,
@@ -284,8 +286,9 @@ pub struct Trace<'a> {
     pub names: &'a [Names],
 }
 
-/// Adds the lines of the filter with this number, and returns whether its answer stands: the filter returns the action
-/// of the stack's answer, and the answer of no newer filter stood. `stood` says whether one did. The upper 16 bits of a
+/// Adds the lines of the filter with this number, which is `program`: what it returns, and under it what it met, as by
+/// `push_meetings`. Returns whether its answer stands: the filter returns the action of the stack's answer, and the
+/// answer of no newer filter stood. `stood` says whether the answer of a newer filter stood. The upper 16 bits of a
 /// return value are the action, the lower 16 the data. `Memory` where an allocation is refused.
 fn push_filter(
     alloc: Global,
@@ -316,8 +319,8 @@ fn push_filter(
     Ok(stands)
 }
 
-/// Adds the lines of all filters, newest first; the newest one has the highest number. `Memory` where an allocation is
-/// refused.
+/// Adds the lines of all filters, newest first: what each returns, and under it what it met, without false comparisons
+/// if `trace.brief`. The newest filter has the highest number. `Memory` where an allocation is refused.
 fn push_filters(alloc: Global, text: &mut String, trace: &Trace<'_>) -> Result<(), Fault>
     ensures { OnOk result (string_bytes text.new ≡ string_bytes text.old
         ++ filters_text trace.now.brief (length trace.now.stack.now)
@@ -334,10 +337,11 @@ fn push_filters(alloc: Global, text: &mut String, trace: &Trace<'_>) -> Result<(
     Ok(())
 }
 
-/// Adds the lines of `eval --trace`. First comes the input as a call, if a set has the call, and then its fields. Then
-/// comes each filter, newest first: what it returns and at which instruction, whether its answer is the stack's, and
-/// under it what it met, in order. Where `trace.brief` is set, comparisons that are false are left out. `Memory` where
-/// an allocation is refused.
+/// Adds the lines of `eval --trace`. First comes the input as a call, if a set of `trace.names` has the call, and then
+/// its fields. Then comes each filter, newest first: what it returns and at which instruction, and under it what it
+/// met, in order. One filter is marked with `stands`: the newest one that returns the action of the stack's answer.
+/// Where `trace.brief` is set, comparisons that are false are left out. `Memory` where an allocation is refused; some
+/// of the text may be added then.
 pub fn push_trace(alloc: Global, text: &mut String, trace: &Trace<'_>) -> Result<(), Fault>
     ensures { OnOk result (string_bytes text.new ≡ string_bytes text.old
         ++ trace_text trace.now.brief trace.now.names.now trace.now.stack.now

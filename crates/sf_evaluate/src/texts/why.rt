@@ -1,4 +1,5 @@
-//! Why a stack answers an input as it does: the lines of `audit --why`.
+//! Why a stack answers an input as it does: the lines of `audit --why`. After an error a part of what was to be added
+//! may stand in the text; the callers drop the text.
 
 ghost use Rattle.std.specs.Prelude.{◌≡◌, ◌++◌, ◌==◌, ◌&&◌, not, false, find, reverse, length, IfErr, IfOk, OnOk, Some, string_bytes};
 ghost use Rattle.std.specs.Option.{option_map};
@@ -26,7 +27,7 @@ fn push_called(text: &mut String, names: &[Names], input: &Input) -> Result<(), 
 
 /// Adds the line of what a filter returns, with `why ` before it. `number` is the filter's, `place` that of the
 /// instruction that returns, `value` what it returns: the action in the upper 16 bits, its data in the lower 16.
-/// `stands` says whether the filter's answer is that of the stack. An error where an allocation is refused.
+/// `stands` says whether the filter's answer stands, as by `is_standing`. An error where an allocation is refused.
 fn push_returned(
     text: &mut String,
     number: usize,
@@ -61,8 +62,8 @@ fn last_true(met: &[Meeting]) -> Option<&Meeting>
     met.iter().rev().find(|meeting| is_true(**meeting))
 }
 
-/// Adds the line of the last true comparison that a filter met, with `why ` before it; nothing where none was true. An
-/// error where an allocation is refused.
+/// Adds the line of the last true comparison that the filter with this number met, with `why ` before it; nothing where
+/// none was true. `met` is all that the filter met, in order. An error where an allocation is refused.
 fn push_cause(text: &mut String, number: usize, met: &[Meeting]) -> Result<(), AllocError>
     ensures { OnOk result (string_bytes text.new ≡ string_bytes text.old
         ++ cause_line number (last_true met.now)) }
@@ -76,8 +77,8 @@ fn push_cause(text: &mut String, number: usize, met: &[Meeting]) -> Result<(), A
     }
 }
 
-/// Whether the answer of a filter that returns `value` stands: the value has the action of the stack's answer, and the
-/// answer of no newer filter stood. `stood` says whether one did.
+/// Whether the answer of a filter that returns `value` stands: the value has the action of `answer`, which is the
+/// stack's, and the answer of no newer filter stood. `stood` says whether the answer of a newer filter stood.
 fn is_standing(stood: bool, value: u32, answer: Answer) -> bool
     ensures { result ≡ (not stood && (action_bits value == action_number answer.action)) }
 {
@@ -108,8 +109,8 @@ fn push_filter(
     Ok(stands)
 }
 
-/// Adds the lines of all filters, newest first; the newest one has the highest number. `Memory` where an allocation is
-/// refused.
+/// Adds the lines of all filters, newest first: what each returns, and the last true comparison that it met, if it met
+/// one. The newest filter has the highest number. `Memory` where an allocation is refused.
 fn push_filters(alloc: Global, text: &mut String, trace: &Trace<'_>) -> Result<(), Fault>
     ensures added { OnOk result (string_bytes text.new ≡ string_bytes text.old
         ++ stack_text cause_text (length trace.now.stack.now)
@@ -140,9 +141,9 @@ fn push_why(alloc: Global, text: &mut String, trace: &Trace<'_>) -> Result<(), F
 }
 
 /// Why a stack answers an input as it does. First comes the input as a call, shown with the names of `names`. Then come
-/// the lines of each filter, newest first: what it returns and at which instruction, and whether its answer is the
-/// stack's; and under it the last true comparison that it met, if it met one. Each line begins with `why`. `Memory`
-/// where an allocation is refused.
+/// the lines of each filter, newest first: what it returns and at which instruction, and under it the last true
+/// comparison that it met, if it met one. One filter is marked with `stands`: the newest one that returns the action of
+/// the stack's answer. Each line begins with `why`. `Memory` where an allocation is refused.
 pub fn why_text(
     alloc: Global,
     names: &[Names],

@@ -66,16 +66,17 @@ fn is_arch(text: &str) -> bool
 }
 
 /// Whether the words ask for a call by its number: behind `--nr` stands a number, and behind `--arch` a number or what
-/// can be the name of a set. How many bits the numbers have isn't asked.
+/// can be the name of a set. How many bits the numbers have isn't asked, nor whether `--call` is given too.
 fn nr_fits(found: &ArgMatches<'_>) -> bool
     ensures { result ≡ nr_fits (rows_of (found_of found.now)) }
 {
     is_given(found, "nr") && (is_number(text_of(found, "nr")) && is_arch(text_of(found, "arch")))
 }
 
-/// Whether the words of `eval` have the form that asks for one input: `--input` alone, or the name or the number of a
-/// call, with its architecture and its arguments; with a name, also a file of names. Whether the text of `--input`
-/// spells an input, and how many bits numbers have, is asked by `numbers_fit`.
+/// Whether the words of `eval` have the form that asks for one input. That is so where `--input` is given, and no
+/// option that describes a call. It is also so where a call is described instead: by its name or by its number, but not
+/// by both, and by its architecture and its arguments; a call's name also needs a file of names. Whether the text of
+/// `--input` spells an input, and how many bits numbers have, is asked by `numbers_fit`.
 pub fn eval_words_fit(found: &ArgMatches<'_>) -> bool
     ensures { result ≡ eval_words_fit (rows_of (found_of found.now)) }
 {
@@ -238,10 +239,12 @@ fn asked_call(found: &ArgMatches<'_>, names: &[Names]) -> Result<Input, Fault>
     Ok(call_input(nr, arch, &arguments))
 }
 
-/// The input that the words ask for, with these sets of calls. The caller has seen by `eval_words_fit` that the words
-/// have the right form. `Input` where the text of `--input` spells no input, or a number is too wide: `numbers_fit` is
-/// false then. `UnknownName` where no set has the name behind `--arch`, or that set has no call with the name behind
-/// `--call`. Without `--input`, the notes keep whether there is a set with the name behind `--arch`.
+/// The input that the words ask for, with these sets of calls. Without `--input`, the notes also keep whether there is
+/// a set with the name behind `--arch`. The caller has seen by `eval_words_fit` that the words have the right form.
+///
+/// `Input` where the text of `--input` spells no input, or a number is too wide: `numbers_fit` is false then.
+/// `UnknownName` where no set has the name behind `--arch`, or that set has no call with the name behind `--call`. The
+/// order of these refusals is that of `asked_call`.
 pub fn asked_input(
     found: &ArgMatches<'_>,
     names: &[Names],

@@ -16,7 +16,7 @@ use std::io::Write;
 enum Misfit<'a> {
     /// These two options don't go together.
     Both(&'static str, &'static str),
-    /// This option is missing.
+    /// This option is missing; or several, one of which is wanted, are all missing.
     Missing(&'static str),
     /// An option has a value that it doesn't take: the option, its value, and what it takes.
     Value(&'static str, &'a str, &'static str),
@@ -35,12 +35,12 @@ const OF_CALL: [(&str, &str); 2] = [("arch", "--arch <SET>"), ("args", "--args <
 /// What a number looks like, as messages say it.
 const NUMBER: &str = "decimal digits, or 0x and hexadecimal digits";
 
-/// What is said where the arguments of a call are missing.
+/// What is said where `--call` is given without `--args`.
 const ONE_INPUT: &str =
     "one input of a call says nothing of its other inputs: `list --calls <NAME>` tells the answers to all of them";
 
 /// The first of these options that is given, as messages call it; `None` where none is given. `options` has the name of
-/// each, and what messages call it.
+/// each, without dashes, and what messages call it. The caller's condition: none of them has a usual value.
 fn first_given(
     found: &ArgMatches<'_>,
     options: &[(&'static str, &'static str)],
@@ -54,7 +54,7 @@ fn first_given(
 }
 
 /// The first of these options that is missing, as messages call it; `None` where all are given. `options` has the name
-/// of each, and what messages call it.
+/// of each, without dashes, and what messages call it. The caller's condition: none of them has a usual value.
 fn first_missing(
     found: &ArgMatches<'_>,
     options: &[(&'static str, &'static str)],
@@ -77,9 +77,9 @@ fn misfit_of_input<'a>(found: &ArgMatches<'a>) -> Option<Misfit<'a>> {
     Some(Misfit::Both("--input <HEX>", other))
 }
 
-/// What doesn't fit where a call is asked for by its name: the value of `--call`, that of `--arch`, or a file of names
-/// that is missing; `None` where all fits. The caller has seen that `--nr` isn't given, and that the call's
-/// architecture and arguments are.
+/// The first thing that doesn't fit where a call is asked for by its name, in this order: the value of `--call`, that
+/// of `--arch`, a missing file of names. `None` where all fits. The caller has seen that `--call`, `--arch` and
+/// `--args` are given, and `--nr` isn't.
 fn misfit_of_call<'a>(found: &ArgMatches<'a>) -> Option<Misfit<'a>> {
     let (call, arch) = (text_of(found, "call"), text_of(found, "arch"));
     if !is_call_name(call) {
@@ -96,8 +96,9 @@ fn misfit_of_call<'a>(found: &ArgMatches<'a>) -> Option<Misfit<'a>> {
     None
 }
 
-/// What doesn't fit where a call is asked for by its number: the value of `--nr`, or that of `--arch`; `None` where
-/// both fit. The caller has seen that `--call` isn't given, and that the call's architecture and arguments are.
+/// The first thing that doesn't fit where a call is asked for by its number: the value of `--nr`, or else that of
+/// `--arch`. `None` where both fit. The caller has seen that `--nr`, `--arch` and `--args` are given, and `--call`
+/// isn't.
 fn misfit_of_nr<'a>(found: &ArgMatches<'a>) -> Option<Misfit<'a>> {
     let (nr, arch) = (text_of(found, "nr"), text_of(found, "arch"));
     if !is_number(nr) {
@@ -110,7 +111,7 @@ fn misfit_of_nr<'a>(found: &ArgMatches<'a>) -> Option<Misfit<'a>> {
     None
 }
 
-/// The first thing in the words of `eval` that doesn't fit; `None` where all fits, as where `eval_words_fit` is true.
+/// The first thing in the words of `eval` that doesn't fit; `None` where all fits, so that `eval_words_fit` is true.
 fn first_misfit<'a>(found: &ArgMatches<'a>) -> Option<Misfit<'a>> {
     if is_given(found, "input") {
         return misfit_of_input(found);
@@ -138,7 +139,7 @@ fn first_misfit<'a>(found: &ArgMatches<'a>) -> Option<Misfit<'a>> {
 }
 
 /// Adds the lines that say what doesn't fit, in the form in which `clap` says it. An error where an allocation is
-/// refused.
+/// refused; a part of the lines may stand in the text then.
 fn push_misfit(text: &mut String, misfit: &Misfit<'_>) -> Result<(), AllocError> {
     match misfit {
         Misfit::Both(one, other) => write!(
@@ -156,9 +157,9 @@ fn push_misfit(text: &mut String, misfit: &Misfit<'_>) -> Result<(), AllocError>
     }
 }
 
-/// The lines that say what in the words of `eval` is the first thing that doesn't fit. Where a call is named without
-/// arguments, a line points to `list`. The caller has seen that `eval_words_fit` is false. An error where an allocation
-/// is refused.
+/// The lines that tell the first thing in the words of `eval` that doesn't fit. Where `--call` is given without
+/// `--args`, a line points to `list`. The last line points to `--help`. The caller has seen that `eval_words_fit` is
+/// false. An error where an allocation is refused.
 fn misfit_text(alloc: Global, found: &ArgMatches<'_>) -> Result<String, AllocError> {
     let mut text = String::new(alloc);
     if let Some(misfit) = first_misfit(found) {
@@ -171,8 +172,9 @@ fn misfit_text(alloc: Global, found: &ArgMatches<'_>) -> Result<String, AllocErr
     Ok(text)
 }
 
-/// The lines that say what is wrong with the calls, or else with the rows, that `list` or `compare` is asked for. The
-/// caller has seen that `calls_fit` or `rows_fit` is false. An error where an allocation is refused.
+/// The lines that say what is wrong with the words of `list` or `compare`: with `--calls` where `calls_fit` is false,
+/// else with the options of `compare` about rows. The last line points to `--help`. The caller has seen that
+/// `calls_fit` or `rows_fit` is false. An error where an allocation is refused.
 fn wrong_rows_text(alloc: Global, found: &ArgMatches<'_>) -> Result<String, AllocError> {
     let mut text = String::new(alloc);
     if calls_fit(found) {
@@ -184,8 +186,9 @@ fn wrong_rows_text(alloc: Global, found: &ArgMatches<'_>) -> Result<String, Allo
     Ok(text)
 }
 
-/// The lines that say that the path behind `--control` is one of those behind `--policy`. The caller has seen that
-/// `audit_words_fit` is false. An error where an allocation is refused.
+/// The lines that say that the path behind `--control` is one of those behind `--policy`, and what a control and a
+/// policy ask about. The last line points to `--help`. The caller has seen that `audit_words_fit` is false. An error
+/// where an allocation is refused.
 fn wrong_control_text(alloc: Global, found: &ArgMatches<'_>) -> Result<String, AllocError> {
     let mut text = String::new(alloc);
     let control = text_of(found, "control");
@@ -202,7 +205,7 @@ fn wrong_control_text(alloc: Global, found: &ArgMatches<'_>) -> Result<String, A
 
 /// Writes to standard error which words of the command line don't fit, if a run ended for that reason: then `ran` has
 /// the status 4, and the matches name a subcommand. Nothing is written otherwise, nor where there is no memory for the
-/// lines. It isn't looked at whether the write succeeds.
+/// lines. An error of the write is ignored. The caller's condition: `ran` is how the run of these matches ended.
 pub fn tell_wrong_words<E: Write>(
     alloc: Global,
     matches: &ArgMatches<'_>,

@@ -94,8 +94,8 @@ fn has_text(texts: &[&str], text: &str) -> bool
     texts.iter().any(|one| text == *one)
 }
 
-/// Whether a text is one of these. It does the same as `has_text`, and stands apart for the prover: the clause here
-/// speaks of the texts themselves.
+/// Whether a text is one of these. It does the same as `has_text`. There are two functions only for the prover: the
+/// contract of this one speaks of the texts, not of references to them.
 pub(crate) fn is_among(text: &str, texts: &[&str]) -> bool
     ensures { result ≡ list_any (bytes_eq text.now) (map (λ t. t.now) texts.now) }
 {
@@ -132,7 +132,8 @@ fn is_kernel_or_none(text: &str) -> bool
 }
 
 /// Whether each word behind `--machine`, `--conflicts`, `--kernel` and `--cap` of `profile` is one that its option
-/// takes. `--kernel` and `--cap` needn't be given.
+/// takes. False where `--machine` isn't given. The others needn't be given: the usual word of `--conflicts` is
+/// `strictest`, and `--kernel` and `--cap` may have none.
 pub fn profile_words_fit(found: &ArgMatches<'_>) -> bool
     ensures { result ≡ profile_words_fit (rows_of (found_of found.now)) }
 {
@@ -211,8 +212,9 @@ fn wrong_word<'a>(found: &ArgMatches<'a>) -> Option<(&'static str, &'a str, &'st
     None
 }
 
-/// The lines that say which word is the first one that its option doesn't take, in the form in which `clap` says it;
-/// empty where each option of `profile` takes its words. An error where an allocation is refused.
+/// The lines that tell the first word of `profile` that its option doesn't take, and what the option takes, in the form
+/// in which `clap` says it. The last line points to `--help`. The text is empty where each option takes its words. An
+/// error where an allocation is refused.
 fn wrong_word_text(alloc: Global, found: &ArgMatches<'_>) -> Result<String, AllocError> {
     let mut text = String::new(alloc);
     if let Some((option, word, taken)) = wrong_word(found) {
@@ -225,7 +227,8 @@ fn wrong_word_text(alloc: Global, found: &ArgMatches<'_>) -> Result<String, Allo
 
 /// Writes to standard error which word of the command line isn't one that its option takes, if a run of `profile` ended
 /// for that reason: then `ran` has the status 4. Nothing is written where `ran` is something else, where the matches
-/// name no subcommand, or where there is no memory for the lines. It isn't looked at whether the write succeeds.
+/// name no subcommand, or where there is no memory for the lines. An error of the write is ignored. The caller's
+/// condition: where `ran` has the status 4, it is how a run of `profile` with these matches ended.
 pub(crate) fn tell_wrong_profile_word<E: Write>(
     alloc: Global,
     matches: &ArgMatches<'_>,

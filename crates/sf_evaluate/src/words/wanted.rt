@@ -18,22 +18,22 @@ use sf_policy::Fault;
 use std::alloc::{AllocError, Global};
 use std::io::Write;
 
-/// How many of the names in a text, which commas separate, are this one.
+/// How many of the comma-separated names in a text are this one.
 fn count_of(text: &str, name: &str) -> usize
     ensures { result ≡ count_by (bytes_eq name.now) (comma_parts text.now) }
 {
     text.split(',').filter(|part| name == *part).count()
 }
 
-/// Whether a name can be that of a call, and is exactly one of the names in a text, which commas separate.
+/// Whether a name can be that of a call, and stands exactly once among the comma-separated names in a text.
 fn is_name_once(text: &str, name: &str) -> bool
     ensures { result ≡ is_wanted_once (comma_parts text.now) name.now }
 {
     is_call_name(name) && count_of(text, name) == 1
 }
 
-/// Whether each of the names in a text, which commas separate, can be that of a call, and stands there once. True for
-/// an empty text, which has no names.
+/// Whether each of the comma-separated names in a text can be that of a call, and stands there only once. True for an
+/// empty text, which has no names.
 fn are_names(text: &str) -> bool
     ensures { result ≡ list_all (is_wanted_once (names_in_text text.now))
         (names_in_text text.now) }
@@ -41,8 +41,8 @@ fn are_names(text: &str) -> bool
     text.is_empty() || text.split(',').all(|name| is_name_once(text, name))
 }
 
-/// Whether `--calls` comes with a file of names, and each name behind it can be that of a call, and stands there once.
-/// True where `--calls` isn't given. An empty text behind it asks for all calls, and needs only the file of names.
+/// Whether `--names` gives a file of names, and each name behind `--calls` can be that of a call and stands there only
+/// once. True where `--calls` isn't given. `--calls` with an empty text asks for all calls, and needs only the file.
 pub fn calls_fit(found: &ArgMatches<'_>) -> bool
     ensures { result ≡ calls_fit (rows_of (found_of found.now)) }
 {
@@ -137,8 +137,8 @@ fn are_known(sets: &[Names], calls: &Option<Vec<&str>>) -> bool
     }
 }
 
-/// The place, from 0, of the first of the names in a text, which commas separate, that no set has a call for; 0 also
-/// where there is no such name.
+/// The place, from 0, of the first of the comma-separated names in a text for which no set has a call; 0 also where a
+/// set has a call for each name.
 fn unknown_place(sets: &[Names], text: &str) -> usize {
     text.split(',')
         .position(|name| !is_known_call(sets, name))
@@ -170,8 +170,8 @@ pub fn known_calls<'a>(
     Ok(calls)
 }
 
-/// The first of the names in a text, which commas separate, that can't be that of a call, or that stands there more
-/// than once; `None` where there is no such name, as in an empty text.
+/// The first of the comma-separated names in a text that can't be that of a call, or that stands there more than once;
+/// `None` where there is no such name, as in an empty text.
 fn wrong_name(text: &str) -> Option<&str> {
     if text.is_empty() {
         return None;
@@ -179,9 +179,11 @@ fn wrong_name(text: &str) -> Option<&str> {
     text.split(',').find(|name| !is_name_once(text, name))
 }
 
-/// Adds the lines that say what is wrong with the calls that are asked for: there is no file of names; or else the
-/// first name that stands twice, or can't be that of a call. The caller has seen that `calls_fit` is false. An error
-/// where an allocation is refused.
+/// Adds the lines that say what is wrong with `--calls`. The caller has seen that `calls_fit` is false. Where `--names`
+/// gives no file of names, the line says so. Else it tells the first name in the text of `--calls` that can't be that
+/// of a call, or that stands there more than once. A name that can't be that of a call may be the path of a filter that
+/// `--calls` took as its text: so for such a name a further line says how to ask for all calls. An error where an
+/// allocation is refused; a part of the lines may stand in the text then.
 pub(crate) fn push_wrong_calls(
     text: &mut String,
     found: &ArgMatches<'_>,
@@ -204,7 +206,7 @@ pub(crate) fn push_wrong_calls(
 
 /// Adds the lines that say what is wrong with the options about the rows of a comparison: the word of `--only` names no
 /// relation, or else `--rows` is missing. The caller has seen that `rows_fit` is false, so one of the two is so. An
-/// error where an allocation is refused.
+/// error where an allocation is refused; a part of the lines may stand in the text then.
 pub(crate) fn push_wrong_rows(text: &mut String, found: &ArgMatches<'_>) -> Result<(), AllocError> {
     let only = found.get_str("only").unwrap_or("different");
     if is_relation(only) {
