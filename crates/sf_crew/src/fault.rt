@@ -9,7 +9,7 @@ use thiserror::Error;
 /// Why a call of this crate was refused.
 #[derive(Clone, Copy, Debug, PartialEq, Eq, Error)]
 pub enum Fault {
-    /// An allocation was refused.
+    /// An allocation was refused, something that is shared has too many owners, or a list would get too long.
     #[error("out of memory")]
     Memory,
 }
@@ -28,6 +28,7 @@ impl Fault {
 impl From<AllocError> for Fault {
     ghost from_gives = { λ _ e. e ≡ Memory };
 
+    /// Each `AllocError` is the fault `Memory`.
     fn from(_e: AllocError) -> Fault {
         Fault::Memory
     }
@@ -36,6 +37,7 @@ impl From<AllocError> for Fault {
 impl<T: Drop> From<AllocFailed<T>> for Fault {
     ghost from_gives = { λ _ e. e ≡ Memory };
 
+    /// A refused allocation is the fault `Memory`. The value that should have been stored is dropped.
     fn from(_e: AllocFailed<T>) -> Fault {
         Fault::Memory
     }
@@ -44,25 +46,26 @@ impl<T: Drop> From<AllocFailed<T>> for Fault {
 impl From<sf_piece::Fault> for Fault {
     ghost from_gives = { λ _ e. e ≡ Memory };
 
+    /// The only fault of `sf_piece` is `Memory`, and it becomes the `Memory` of this crate.
     fn from(_e: sf_piece::Fault) -> Fault {
         Fault::Memory
     }
 }
 
-/// Every fault becomes `Memory`: a worker that has a book to itself and works off its own pieces is refused nothing
-/// else.
 impl From<sf_book::Fault> for Fault {
     ghost from_gives = { λ _ e. e ≡ Memory };
 
+    /// Every fault becomes `Memory`. Faults of a book are only turned into faults of this crate while one thread has
+    /// the book to itself: then no other fault than `Memory` can come.
     fn from(_e: sf_book::Fault) -> Fault {
         Fault::Memory
     }
 }
 
-/// Every fault becomes `Memory`: nothing else is refused when a verdict or a sheet is made.
 impl From<sf_ask::Fault> for Fault {
     ghost from_gives = { λ _ e. e ≡ Memory };
 
+    /// Every fault becomes `Memory`: no other fault comes when a verdict or a sheet is made.
     fn from(_e: sf_ask::Fault) -> Fault {
         Fault::Memory
     }

@@ -42,9 +42,10 @@ fn has_lower_hit(board: &Board, seat: &mut Seat, job: usize, q: usize) -> bool
     }
 }
 
-/// Looks on the board for hits on the questions whose bits are set in `to_judge`, which is word `word`, 0 to 3, of the
-/// four words of bits: its bit b is that of question 64 * `word` + b. Returns a word with all bits set, but those of
-/// the questions with a hit at a place below the job. The caller's condition: the seat is of this board.
+/// Looks on the board for hits on the questions whose bits are set in `to_judge`. Returns a word with all bits set but
+/// those of the questions among them that have a hit at a place below the job. Both words are the one at place `word`
+/// of the four words of bits: bit b is that of question 64 * `word` + b. The caller's conditions: the seat is of this
+/// board, and `word` is 0 to 3.
 fn look_at_word(board: &Board, seat: &mut Seat, job: usize, word: usize, to_judge: u64) -> u64
     requires seat { IsSeatOf board.now seat.old }
     requires word { word < 4 }
@@ -64,9 +65,9 @@ fn look_at_word(board: &Board, seat: &mut Seat, job: usize, word: usize, to_judg
     wanted
 }
 
-/// Looks on the board for hits on the questions that are to be judged, whose bits are set in `to_judge`. Returns all
-/// bits set, but those of the questions among them with a hit at a place below the job. On most regions few questions
-/// are to be judged, so few are looked at. The caller's condition: the seat is of this board.
+/// Looks on the board for hits on the questions whose bits, as `has_bit` reads them, are set in `to_judge`. Returns the
+/// questions whose verdicts are wanted, as bits too: all are set but those of the questions among them that have a hit
+/// at a place below the job. The caller's condition: the seat is of this board.
 fn look_at(board: &Board, seat: &mut Seat, job: usize, to_judge: &[u64; 4]) -> [u64; 4]
     requires seat { IsSeatOf board.now seat.old }
     ensures same { IsSeatOf board.now seat.new }
@@ -112,10 +113,12 @@ impl<'a> Model for SharedSweep<'a> {
     }) };
 }
 
-/// Judges the region of the job that the seat owes, and enters the sheet. A question is skipped where the board has a
-/// hit on it at a place below the job. The gate sees the sheet before it is entered; `pass` has the numbers of the
-/// worker and of its call, for the gate. `Memory` where an allocation is refused: the seat still owes the sheet then.
-/// The caller's conditions: the seat is of the sweep's board, and `job` is what it owes.
+/// Judges the region of the job that the seat owes, and enters the sheet. Of the questions that `questions_to_judge`
+/// gives, those are skipped on which the board has a hit at a place below the job. The gate sees the call before the
+/// sheet is entered; `pass` has the numbers of the worker and of its call, for the gate.
+///
+/// The caller's conditions: the seat is of the sweep's board, and `job` is what it owes. `Memory` where an allocation
+/// is refused, or where the region's facts have too many owners: the seat still owes the sheet then.
 fn enter_job<G: Gate>(
     alloc: Global,
     sweep: &SharedSweep<'_>,
@@ -150,8 +153,9 @@ fn enter_job<G: Gate>(
 }
 
 /// Draws jobs and enters their sheets until all jobs are drawn. Returns the seat, and whether this end was reached.
-/// With `false` memory ran out before, and the seat owes a sheet. `worker` is the worker's number, for the gate. The
-/// caller's conditions: the seat is of the sweep's board and owes no sheet.
+/// With `false` the sheet of a job was refused with `Memory` before (`enter_job`), and the seat owes this sheet.
+/// `worker` is the worker's number, for the gate; its calls are numbered from 1. The caller's conditions: the seat is
+/// of the sweep's board and owes no sheet.
 fn work<G: Gate>(
     alloc: Global,
     sweep: &SharedSweep<'_>,
@@ -177,8 +181,8 @@ fn work<G: Gate>(
 }
 
 /// Joins the seats of `others`, as `work` returned them, into `first`. `None` where `false` stands beside one of them:
-/// its worker ran out of memory. The caller's conditions: all are seats of this board; `first` owes no sheet; each of
-/// `others` is the seat of one worker; and each beside which `true` stands owes no sheet, and has found that no job is
+/// its worker got `Memory`. The caller's conditions: all are seats of this board; `first` owes no sheet; no seat
+/// was joined into one of `others`; and a seat beside which `true` stands owes no sheet and has found that no job is
 /// left.
 fn join_all(board: &Board, first: Seat, mut others: Vec<(Seat, bool)>) -> Option<Seat>
     requires first { IsSeatOf board.now first × ((seat_view first).owes ≡ None) }
@@ -204,8 +208,9 @@ pub(crate) struct NumberedSeat {
     seat: Seat,
 }
 
-/// The seats, each with its place in the list, from 0, as its number; their order is reversed. The caller's condition:
-/// all are seats of this board that have done nothing. `Memory` where an allocation is refused.
+/// Numbers the seats: each gets its place in `seats`, counted from 0. The result has them in reversed order. `board` is
+/// there for the contract only. The caller's condition: all are seats of this board that have done nothing. `Memory`
+/// where an allocation is refused.
 fn number_seats(
     alloc: Global,
     board: &Board,
@@ -226,10 +231,13 @@ fn number_seats(
     Ok(numbered_seats)
 }
 
-/// The tally of all regions, by this many workers, each of which has a seat. They share the probes of the questions,
-/// which are made before. When the workers have ended, the calling thread works too, with a seat of its own, under the
-/// next number. Jobs are left for it only where each worker ran out of memory. `Memory` where an allocation is refused,
-/// also to one of the workers. The caller's conditions: 1 to 64 workers, and at most 256 questions.
+/// Judges all regions by the questions, and returns the tally of the board. The probes of the questions are made first.
+/// Then this many workers draw jobs and enter their sheets, each with a seat of its own. When they have ended, the
+/// calling thread does the same under the next number: jobs are left for it only where each worker got `Memory`.
+/// A worker for which no thread can be started runs on a thread that is there.
+///
+/// The caller's conditions: 1 to 64 workers, and at most 256 questions. `Memory` where the calling thread or a worker
+/// is refused memory, or where a region's facts have too many owners.
 pub(crate) fn tally<R: Threads + Sync, G: Gate>(
     rt: &R,
     alloc: Global,

@@ -63,8 +63,8 @@ impl<N: Naming> NewWorker<N> {
 }
 
 impl<N: Naming> Worker<N> {
-    /// A lease from the worker's own bench. Where nothing is left there, a stolen one, from the next worker's bench
-    /// first. Where none is got, one from the book. `None` where the book hasn't one either: all its pieces are on
+    /// Gets a lease. First the worker's own bench is tried; then the benches of the other workers, each once, the next
+    /// worker's first; then the book, under its lock. `None` where the book gives none either: all its pieces are on
     /// lease, or none is outstanding. `Memory` only where too many owners would share the piece that the book leases
     /// out.
     fn next_lease<R: Wait>(
@@ -85,8 +85,9 @@ impl<N: Naming> Worker<N> {
         book.lock(rt).lease()
     }
 
-    /// Makes the work of a piece, with the children of a split, and lets the gate see it. `Memory` where an allocation
-    /// is refused, or too many owners would share a child: the gate sees nothing then.
+    /// Makes the work of a piece, with the children of a split, and lets the gate see the worker's call. The caller has
+    /// counted this call already: `calls` is its number. `Memory` where `advance` gives it, for whatever reason, or
+    /// where too many owners would share a child: the gate sees nothing then.
     fn make<G: Gate>(
         &self,
         alloc: Global,
@@ -104,10 +105,13 @@ impl<N: Naming> Worker<N> {
         Ok(made)
     }
 
-    /// Works the piece of the lease, lets the gate see the work, and hands it in. The children of a split are put on
-    /// the worker's own bench, the false one first; where the bench can't grow, they are given back to the book. Fails
-    /// where memory is refused, or the book refuses the work: the lease is given back then, and nothing is put on the
-    /// bench.
+    /// Counts a call of the worker, works the piece of the lease, lets the gate see this call, and hands the work in.
+    /// The leases of the children of a split are put on the worker's own bench, the false one's first; a lease for
+    /// which the bench can't grow is given back to the book.
+    ///
+    /// `Memory` where the work can't be made (`make`). Where the book refuses the work: `Stale` where no piece is
+    /// outstanding under the lease's id, or one with another name; then `Spent` where the budget is spent; then
+    /// `Memory`. After each fault the lease is given back, and nothing is put on the bench.
     fn work<R: Wait, G: Gate>(
         &mut self,
         rt: &R,
@@ -160,9 +164,10 @@ impl<N: Naming> Worker<N> {
     }
 }
 
-/// The turns of one worker: until nothing is outstanding or the budget is spent, or until memory or a work is refused
-/// to it. Then it gives the leases on its bench back to the book, and ends. Where all outstanding pieces are on lease,
-/// it waits for more by asking again. Returns the owner of its bench, on which nothing is left.
+/// Runs one worker: it gets a lease, works its piece, and begins again. It ends where nothing is outstanding, where the
+/// budget is spent, or where memory or a work is refused to it. Where all outstanding pieces are on lease, it asks
+/// again until it gets a lease or ends. At its end it gives the leases on its own bench back to the book. Returns the
+/// owner of its bench, on which nothing is left.
 fn run<N: Naming, R: Wait, G: Gate>(
     rt: &R,
     alloc: Global,
@@ -199,9 +204,9 @@ fn run<N: Naming, R: Wait, G: Gate>(
     own.close()
 }
 
-/// Lets the workers work on a book, each on a thread, and ends when they have ended. Where a thread can't be started,
-/// the other workers do the work; where none can, no work is done. None is started once nothing is outstanding or the
-/// budget is spent.
+/// Lets the workers work on a book, each on a thread, and returns when all of them have ended. Where a thread can't be
+/// started, the other workers do the work; where no thread can be started, no work is done. Once nothing is outstanding
+/// or the budget is spent, no further thread is started.
 fn run_each<'a, N: Naming, R: Threads + Wait + Sync, G: Gate>(
     rt: &'a R,
     alloc: Global,
@@ -242,16 +247,16 @@ fn run_all<N: Naming, R: Threads + Wait + Sync, G: Gate>(
     Ok(book.into_inner().into_book())
 }
 
-/// Explores a stack: works at most `budget` pieces, and returns what is settled and what is left. The gate sees each
-/// work between its making and its commit.
+/// Explores a stack: commits at most `budget` works, and returns what is settled and what is left. The gate sees each
+/// work between its making and its commit, or its refusal.
 ///
 /// With 1 worker no thread is started. With more, each gets a thread, unless it can't be started or nothing is left to
 /// do. They have the numbers from 0. A worker that is refused memory ends. When all have ended, the calling thread
 /// takes all pieces off lease and works off what is outstanding, under the next number.
 ///
 /// The caller's conditions: 1 to 64 workers, and a budget from 1 to 1,000,000; the contract holds for other budgets
-/// too. `Memory` where an allocation is refused to the calling thread, or the stack has too many owners. Waits for the
-/// workers.
+/// too. Waits for the workers. `Memory` where the calling thread is refused memory, something that is shared has too
+/// many owners, or a list of a piece would get too long.
 pub fn explore<R: Threads + Wait + Sync, G: Gate>(
     rt: &R,
     alloc: Global,
@@ -276,8 +281,8 @@ pub fn explore<R: Threads + Wait + Sync, G: Gate>(
     Ok(finish_book(book, &stack, budget))
 }
 
-/// Runs a closure on a book that others share, while the lock is held. All that the closure may rely on is that the
-/// book is lawful.
+/// Waits for the lock of a book that others share, and runs a closure on the book while the lock is held. All that the
+/// closure may rely on is that the book is lawful.
 pub fn visit<R: Wait, F: FnOnce(&Book)>(rt: &R, book: &Mutex<Book>, f: F)
     requires { (b : Bor BookData) → IsLawfulBook b.now → F.pre f b }
     ensures { (b : Bor BookData) × IsLawfulBook b.now × F.post f b result }

@@ -1,4 +1,4 @@
-//! The calls of a seat on its board, but for entering a sheet.
+//! The calls of a seat on its board, but for entering a sheet and closing the board.
 ghost use Rattle.std.specs.Prelude.{◌≡◌, ℕ, ◌+◌, ◌-◌, ◌<◌, ◌≤◌, ◌^◌, ◌==◌, nat_lt, count_by, length, IfSome, IfNone, Some, None, []};
 ghost use Rattle.sf_ask.specs.Sheets.{HasHit};
 ghost use Rattle.sf_crew.specs.Views.{questions_of, regions_of, count_of_regions, jobs, Noted};
@@ -18,8 +18,9 @@ impl Seat {
 }
 
 impl Board {
-    /// Draws the next job: the place of a region. `None` where all are drawn; the seat then draws no more. The caller's
-    /// conditions: the seat is of this board and owes no sheet.
+    /// Draws the next job, which is the place of a region: from then on the seat owes the sheet of this job. `None`
+    /// where all jobs are drawn, now and at each later call with this seat. The caller's conditions: the seat is of
+    /// this board and owes no sheet.
     pub fn draw(&self, seat: &mut Seat) -> Option<usize>
         requires seat { IsSeatOf self.now seat.old }
         requires free { (seat_view seat.old).owes ≡ None }
@@ -48,8 +49,9 @@ impl Board {
         }
     }
 
-    /// The least place so far of a region with a hit on the question q, counted from 0; `None` where no hit on it was
-    /// entered yet. The caller's conditions: the seat is of this board, and there is such a question.
+    /// The least place so far of a region with a hit on the question q, counted from 0; `None` where no hit on this
+    /// question was entered yet. From then on the seat has seen this hit, which `enter` asks for where a sheet skips
+    /// the question. The caller's conditions: the seat is of this board, and there is such a question.
     pub fn look(&self, seat: &mut Seat, q: usize) -> Option<usize>
         requires seat { IsSeatOf self.now seat.old }
         requires there { q < length (questions_of (about self.now)) }

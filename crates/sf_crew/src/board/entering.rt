@@ -35,8 +35,9 @@ impl Board {
         }
     }
 
-    /// Enters the doubts of a sheet, one step for each, which sets the bit of the question. The caller's conditions:
-    /// the seat is of this board and owes this sheet, and the sheet is about the board's questions.
+    /// Enters the doubts of a sheet. For each question on which the sheet has a doubt, one atomic step sets the
+    /// question's bit in the board's words of doubts (`DOUBTS`). The caller's conditions: the seat is of this board and
+    /// owes this sheet, and the sheet is about the board's questions.
     fn enter_doubts(&self, seat: &mut atomic_table::Seat<u8, View>, sheet: &Sheet)
         requires table { seat.old.table_id ≡ board_id self.now }
         requires questions { sheet.now.questions ≡ questions_of (about self.now) }
@@ -60,9 +61,10 @@ impl Board {
         }
     }
 
-    /// Enters the sheet that the seat owes. The caller's conditions: the seat is of this board; the sheet is about the
-    /// board's regions and questions and for the job that the seat owes; and it skips only questions on which the seat
-    /// has seen a hit at a place below the job.
+    /// Enters the sheet that the seat owes: first its hits and its doubts, and then it is counted. The seat owes no
+    /// sheet after that. The caller's conditions: the seat is of this board; the sheet is about the board's regions and
+    /// questions and for the job that the seat owes; and the sheet skips only questions on which the seat has seen a
+    /// hit at a place below the job.
     pub fn enter(&self, seat: &mut Seat, sheet: Sheet)
         requires seat { IsSeatOf self.now seat.old }
         requires sheet { IsSheetFor (about self.now) (seat_view seat.old) sheet }
@@ -71,7 +73,7 @@ impl Board {
     {
         // For the prover: the sheet is right.
         let _count = sheet.question_count();
-        // The sheet is counted last: so the board has all hits and doubts of each sheet that it counts.
+        // The sheet is counted last: so all hits and doubts of each sheet that is counted are entered.
         self.enter_hits(&mut seat.seat, &sheet);
         self.enter_doubts(&mut seat.seat, &sheet);
         self.table

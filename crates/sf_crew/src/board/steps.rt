@@ -64,7 +64,8 @@ impl Play<u8, View> for Mark {
     ghost use Rattle.sf_crew.specs.BoardSteps.{view_with_mark};
 
     ghost then = { λ st m n w. ((q : ℕ) → st.word ≡ q / 64 + 2
-        → st.first ≡ 1 * 2 ^ (q % 64) % 2 ^ 64 → w.0 ≡ view_with_mark m.0 q) × (w.1 ≡ m.1) };
+        → st.first ≡ 1 * 2 ^ (q % 64) % 2 ^ 64 → w.0 ≡ view_with_mark m.0 q)
+        × (w.1 ≡ m.1) };
 }
 
 /// The step of a seat that counts its sheet as entered.

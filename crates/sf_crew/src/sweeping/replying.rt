@@ -17,8 +17,9 @@ use std::alloc::Global;
 use std::sync::Wait;
 use std::thread::Threads;
 
-/// The reply where no region has a hit on the question: unsettled where a region is in doubt, which `doubt` says, or a
-/// piece is outstanding, and else never. `_question` is there for the contract only.
+/// The reply to a question on which no region has a hit: `Unsettled` where `doubt` is true or a piece is outstanding,
+/// and else `Never`. `_question` is there for the contract only. The caller's conditions: no region has a hit on the
+/// question, and `doubt` says whether some region is in doubt for it, which is never so on a plain stack.
 fn reply_without_hit(settled: &Settled, _question: &Question, doubt: bool) -> Reply
     requires unbroken { (r : ℕ) → r < length settled.now.regions
         → IsUnbroken settled.now _question.now doubt r }
@@ -37,10 +38,11 @@ fn reply_without_hit(settled: &Settled, _question: &Question, doubt: bool) -> Re
     }
 }
 
-/// The reply to the question q, counted from 0. Where the question has a least place in the tally, the region there is
-/// judged once more for its example: by the rules this verdict is a hit again. Else no region is judged. `Memory` where
-/// an allocation is refused. The caller's conditions: there is such a question, q is below 256, and the tally is that
-/// of all regions and these questions.
+/// The reply to the question q, counted from 0. Where the question has a least place in the tally, the region at this
+/// place is judged once more. By the rules this verdict is a hit again, and the reply is `Allowed` with its member.
+/// Else the reply is that of `reply_without_hit`, and no region is judged. The caller's conditions: there is such a
+/// question, q is below 256, and the tally is that of all regions and these questions. `Memory` where `judge` gives it:
+/// an allocation is refused, or the region's facts have too many owners.
 fn reply_of(
     alloc: Global,
     settled: &Settled,
@@ -68,9 +70,12 @@ fn reply_of(
     Ok(Reply::Allowed(input))
 }
 
-/// The replies to the questions, in their order, by this many workers, which judge the regions by a board. The gate
-/// sees each sheet between its making and its entering. The caller's conditions: 1 to 64 workers, and at most 256
-/// questions. `Memory` where an allocation is refused, also to a worker. Waits for the workers.
+/// Replies to the questions, in their order: this many workers judge the regions by the questions, and share a board.
+/// The gate sees each sheet between its making and its entering. A worker for which no thread can be started runs on a
+/// thread that is there. Waits for the workers.
+///
+/// The caller's conditions: 1 to 64 workers, and at most 256 questions. `Memory` where the calling thread or a worker
+/// is refused memory, or where a region's facts have too many owners.
 pub fn sweep<R: Threads + Wait + Sync, G: Gate>(
     rt: &R,
     alloc: Global,

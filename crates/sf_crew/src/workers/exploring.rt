@@ -32,11 +32,13 @@ fn next_lease(book: &mut Book) -> Result<Option<Lease>, Fault>
     Ok(book.lease()?)
 }
 
-/// One turn: the piece of the lease is worked and committed, and the children of a split are given back to the book.
+/// One turn: the piece of the lease is worked, the work is committed, and the children of a split are taken off lease.
 /// The gate sees the work before it is committed; `worker` and `call` are the numbers of the worker and of its call,
-/// for the gate. The worker has the book to itself from lease to commit, so `Memory` is the only fault; the piece stays
-/// on lease then. The work is known to be of the book's stack, so its stack isn't compared with the book's. The
-/// caller's conditions: the lease is of this book, no other piece is on lease, and the budget isn't spent.
+/// for the gate. The work's stack isn't compared with the book's: it is the same, since the lease is of this book.
+///
+/// The caller's conditions: the lease is of this book, no other piece is on lease, and the budget isn't spent. `Memory`
+/// where `advance` or the commit gives it, for whatever reason: the piece stays on lease then. No other fault can come,
+/// since the worker has the book to itself.
 fn turn<G: Gate>(
     alloc: Global,
     book: &mut Book,
@@ -62,8 +64,9 @@ fn turn<G: Gate>(
 }
 
 /// Works pieces one after another until none is outstanding or the budget is spent. `worker` is the worker's number for
-/// the gate, and its calls are numbered from 1. `Memory` where an allocation is refused: a piece may be on lease then.
-/// The caller's condition: no piece is on lease.
+/// the gate, and its calls are numbered from 1. The caller's condition: no piece is on lease. `Memory` where memory is
+/// refused, something that is shared has too many owners, or a list of a piece would get too long: a piece may be on
+/// lease then.
 pub(crate) fn work_off<G: Gate>(
     alloc: Global,
     book: &mut Book,
@@ -107,7 +110,8 @@ pub(crate) fn finish_book(book: Book, stack: &Arc<Stack>, _budget: u32) -> Settl
 }
 
 /// Explores a stack by at most `budget` works, by the calling thread only, as worker 0. The gate sees each work before
-/// it is committed. `Memory` where an allocation is refused, or the stack has too many owners.
+/// it is committed. `Memory` where memory is refused, something that is shared has too many owners, or a list of a
+/// piece would get too long.
 pub(crate) fn explore_alone<G: Gate>(
     alloc: Global,
     stack: Arc<Stack>,

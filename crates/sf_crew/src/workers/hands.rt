@@ -47,8 +47,9 @@ pub(crate) struct Made {
 }
 
 impl Made {
-    /// A work with its children, if it is a split; they are still at hand when the book has taken the work. Takes no
-    /// memory. `Memory` only where too many owners would share a child.
+    /// A work, and its two children where it is a split. The children are shared with the work, so the worker still
+    /// has them when the book has taken the work. Nothing is allocated: `Memory` comes only where too many owners would
+    /// share a child, and the work is dropped then.
     pub(crate) fn of(work: Work) -> Result<Made, Fault>
         ensures ok { IfOk result (λ made. (made.work ≡ work) × HasItsChildren made) }
         ensures err { IfErr result (λ f. f ≡ Memory) }
@@ -126,7 +127,8 @@ impl<N: Naming> SharedBook<N> {
         }))
     }
 
-    /// Gives a lease back to the book: its piece can be leased out again.
+    /// Gives a lease back to the book: its piece can be leased out again. Where no piece is outstanding under the
+    /// lease's id, the book doesn't change.
     pub(crate) fn give_back(&mut self, held: Held<N>)
         ensures { self.new ≡ given_back held.id self.old }
     {
@@ -134,11 +136,14 @@ impl<N: Naming> SharedBook<N> {
         self.book.give_back(lease.lease().id);
     }
 
-    /// Commits the work of a lease, and returns the leases of the children of a split, the false one's first; `None`
-    /// for another step. Where the book refuses the work, the lease is given back: `Stale` where no piece is
-    /// outstanding under its id, or one with another name; `Spent` where the budget is spent; `Memory` where an
-    /// allocation is refused. The work is of the book's stack, as the lease's type says, so its stack isn't compared
-    /// with the book's. The caller's conditions: the work is of the lease's piece, and the children are the work's.
+    /// Commits the work of a lease. Returns the leases of the two children where the work is a split, the false one's
+    /// first, and else `None`. The work's stack isn't compared with the book's: by its type the lease is of a piece of
+    /// the book's stack. The caller's conditions: the work is of the lease's piece, and the children are the work's.
+    ///
+    /// The book refuses the work as `Book::commit_of_stack` does: `Stale` where no piece is outstanding under the
+    /// lease's id, or one with another name; then `Spent` where the budget is spent; then `Memory` where an allocation
+    /// is refused, or too many owners would share a child. The lease is given back then, and nothing else in the book
+    /// changes.
     pub(crate) fn hand_in(
         &mut self,
         held: Held<N>,

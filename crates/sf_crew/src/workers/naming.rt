@@ -45,7 +45,7 @@ impl<N: Naming> NamedLease<N> {
     ghost use Rattle.std.specs.Arc.{arc_value};
 
     /// The same lease. For the prover: from now on its type says that its piece is of the stack that N names. The
-    /// caller's condition: it is.
+    /// caller's condition: the piece is of this stack.
     pub(crate) fn of(lease: Lease) -> NamedLease<N>
         requires { (arc_value lease.piece).stack ≡ N.stack }
         ensures { result ≡ lease }

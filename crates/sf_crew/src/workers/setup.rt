@@ -32,9 +32,10 @@ pub(crate) fn workers_of<N: Naming>(alloc: Global, count: usize) -> Result<Vec<N
     Ok(workers)
 }
 
-/// Gives each worker a thief on the bench of each other one, the next one's first. `thieves` has, for each worker's
-/// bench, the thieves on it; they are taken out. `Memory` where an allocation is refused. The caller's condition: there
-/// are as many lists as workers, at most 64.
+/// Gives each worker a thief on the bench of each other worker, that of the next worker first. `thieves` has a list for
+/// each worker's bench, with the thieves on this bench; thieves are taken out of it. Where no thief is left on a bench,
+/// the worker gets none. The caller's condition: there are as many lists as workers, at most 64. `Memory` where an
+/// allocation is refused: some thieves may have been given then.
 fn hand_out_all<N: Naming>(
     workers: &mut [NewWorker<N>],
     thieves: &mut [Vec<Thief<NamedLease<N>>>],
@@ -48,9 +49,10 @@ fn hand_out_all<N: Naming>(
     Ok(())
 }
 
-/// Gives each worker a thief on the bench that is this many steps after its own; behind the last bench comes the first.
-/// Where no thief is left on that bench, the worker gets none. `Memory` where an allocation is refused. The caller's
-/// conditions: there are as many lists of thieves as workers, at most 64, and `step` is below 64.
+/// Gives each worker a thief on the bench that is `step` steps after its own; behind the last bench comes the first.
+/// The thief is taken out of the bench's list in `thieves`. Where the list is empty, the worker gets none. The caller's
+/// conditions: there are as many lists as workers, at most 64, and `step` is below 64. `Memory` where an allocation is
+/// refused: some workers may have got their thief then.
 fn hand_out<N: Naming>(
     workers: &mut [NewWorker<N>],
     thieves: &mut [Vec<Thief<NamedLease<N>>>],

@@ -59,8 +59,8 @@ impl<N: Naming> Bench<N> {
         }
     }
 
-    /// Takes the first lease that no handle has got. `None` where each one that was put had been got, by the owner or,
-    /// as far as the owner knows, by thieves.
+    /// Takes the first lease that no handle has got, as `Owner::take` does. `None` where each lease that was put had
+    /// been got, by the owner or by a thief of the bench.
     pub(crate) fn take(&mut self) -> Option<Held<N>>
         ensures { MatchOption result ((owner_view self.new.owner ≡ owner_view self.old.owner)
             × AllGot (owner_view self.old.owner))
@@ -71,8 +71,8 @@ impl<N: Naming> Bench<N> {
     }
 
     /// Ends the bench and returns its owner, which may be dropped. The caller's condition: nothing is left on the
-    /// bench, since the last `take` found nothing and nothing was put later. Where there are thieves the clause doesn't
-    /// check this: as far as the owner knows, thieves may have got what is left.
+    /// bench. This is so where the last `take` gave `None` and nothing was put since. Where the bench has thieves, the
+    /// proof can't check the condition, since the owner doesn't know what thieves got.
     pub(crate) fn close(self) -> Owner<NamedLease<N>>
         requires { AllGot (owner_view self.owner) }
         ensures { result ≡ self.owner }
