@@ -17,8 +17,11 @@ use std::thread::Threads;
 /// The outcome for a stack and its questions: explores the stack by at most `budget` works, and judges the questions by
 /// what was found. The gate sees each work before it is committed, and each sheet of verdicts before it is entered.
 ///
-/// The caller's conditions: at most 256 questions, a budget from 1 to 1,000,000, and 1 to 64 workers. The only error is
-/// `Memory`, as it comes from `explore` and `sweep`. Waits for the workers.
+/// The caller's conditions: at most 256 questions, a budget from 1 to 1,000,000 (the contract holds for others too),
+/// and 1 to 64 workers. Waits for the workers.
+///
+/// The only error is `Memory`: where memory is refused to the calling thread, or to a worker that judges, or
+/// something that is shared has too many owners. Another thread that is refused memory while it explores just ends.
 fn outcome_of<R: Threads + Wait + Sync, G: Gate>(
     rt: &R,
     alloc: Global,
@@ -51,11 +54,12 @@ fn is_wrong_count(questions: &[Question]) -> bool
     questions.is_empty() || questions.len() > MOST_QUESTIONS
 }
 
-/// The replies to further questions about an exploration that has ended, in the order of the questions: such as those
-/// of a control, which a build expects to be allowed. The gate sees each sheet of verdicts before it is entered.
+/// The replies to further questions about an exploration that has ended, in the order of the questions. The questions
+/// of a control are such further ones. The gate sees each sheet of verdicts before it is entered.
 ///
-/// The caller's condition: 1 to 64 workers. Refusals: `Count` where there are no questions or more than 256. `Memory`
-/// can come anywhere. Waits for the workers.
+/// The caller's condition: 1 to 64 workers. Waits for the workers. Refusals: `Count` where there are no questions or
+/// more than 256; else only `Memory`, where the calling thread or a worker is refused memory, or something that is
+/// shared has too many owners.
 pub fn reply_to<R: Threads + Wait + Sync, G: Gate>(
     rt: &R,
     alloc: Global,
@@ -83,9 +87,14 @@ pub fn reply_to<R: Threads + Wait + Sync, G: Gate>(
 /// and replies may be unsettled. The gate sees each work before it is committed, and each sheet of verdicts before it
 /// is entered.
 ///
-/// The caller's conditions: a budget from 1 to 1,000,000, and 1 to 64 workers. Where there are more than one, each gets
-/// a thread, unless it can't be started or nothing is left to do. Refusals, tried in this order: those of `stack_of`;
-/// `Count` where there are no questions or more than 256. `Memory` can come anywhere. Waits for the workers.
+/// The caller's conditions: a budget from 1 to 1,000,000 (the contract holds for others too), and 1 to 64 workers.
+/// Where there are more than one, each gets a thread, unless it can't be started or nothing is left to do. Waits for
+/// the workers.
+///
+/// Refusals, tried in this order: `NoFilter` where there is no file, `TooMany` where there are more than 64; for each
+/// file in order `Ragged`, `Empty` or `TooLong` for its length, or the first fault of its instructions; `PathLength`
+/// where the path through all filters is longer than 32768; `Count` where there are no questions or more than 256.
+/// `Memory` can come anywhere.
 pub fn audit<R: Threads + Wait + Sync, G: Gate>(
     rt: &R,
     alloc: Global,

@@ -5,14 +5,14 @@ ghost use Rattle.sf_audit.specs.Reports.{is_never, is_allowed, is_unsettled};
 
 use sf_ask::Reply;
 
-/// Whether a reply is that its question is allowed. It has an example then.
+/// Whether a reply says that its question is allowed. Such a reply has an example.
 pub(crate) fn is_allowed(reply: &Reply) -> bool
     ensures { result ≡ is_allowed reply.now }
 {
     matches!(reply, Reply::Allowed(_))
 }
 
-/// How many replies say that no input breaks the question.
+/// How many replies say that no input breaks their question.
 pub fn count_never(replies: &[Reply]) -> usize
     ensures { result ≡ count_by is_never replies.now }
 {
@@ -22,7 +22,7 @@ pub fn count_never(replies: &[Reply]) -> usize
         .count()
 }
 
-/// How many replies are that the question is allowed. Each of these has an example.
+/// How many replies say that their question is allowed. Each of these replies has an example.
 pub fn count_allowed(replies: &[Reply]) -> usize
     ensures { result ≡ count_by is_allowed replies.now }
 {

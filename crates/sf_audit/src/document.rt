@@ -28,8 +28,8 @@ pub struct Telling<'m> {
     pub is_expecting: bool,
     /// The names of calls with which inputs are shown.
     pub names: &'m [Names],
-    /// For each question, at its place, the policy file and the line where it stands, as an object. `null` is shown for
-    /// a question behind the end of this list.
+    /// For each question, at its place, the policy file and, if known, the line where it stands, as an object. `null`
+    /// is shown for a question behind the end of this list.
     pub origins: &'m [Document],
     /// For each question, at its place, the remark on it: whole lines of text that say why the stack answers its
     /// example as it does. `null` is shown for an empty remark, and for a question behind the end of this list.
@@ -48,10 +48,13 @@ fn totals_document(alloc: Global, replies: &[Reply]) -> Result<Document, AllocEr
     Ok(Document::object(fields))
 }
 
-/// An audit as a JSON object: the size of the stack (`stack`), the counts of its exploration (`counts`), each question
-/// with its reply (`questions`), what was expected (`expected`), the regions (`regions`), and how many replies are of
-/// each kind (`totals`). `expected` and `regions` are `null` where `telling` doesn't ask for them. `seccomp_audit` says
-/// what the document is, and `version` is that of its form. An error where an allocation is refused.
+/// An audit as a JSON object. It has the name of the command (`audit`, in the field `seccomp_audit`), the version of
+/// the form (`version`), the size of the stack (`stack`), the counts of its exploration (`counts`), each question with
+/// its reply (`questions`), what was expected (`expected`), the regions (`regions`), and how many replies are of each
+/// kind (`totals`).
+///
+/// The fields `expected` and `regions` are `null` where `telling` doesn't ask for them. Each question says in any case
+/// whether it is accepted or unexpected by the parameter `expected`. An error where an allocation is refused.
 pub fn audit_document(
     alloc: Global,
     outcome: &Outcome,

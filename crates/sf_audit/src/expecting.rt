@@ -1,4 +1,5 @@
-//! What a build expects of an audit, and the lines that say what isn't as expected.
+//! What a build expects of an audit, and the lines that say what isn't as expected. After an error a part of what was
+//! to be added may stand in the text; `text_of_expected` drops it.
 
 ghost use Rattle.std.specs.Prelude.{◌≡◌, ◌++◌, IfOk, OnOk, length, map, string_bytes};
 ghost use Rattle.std.specs.List.{list_all};
@@ -98,7 +99,7 @@ impl Expected {
         self.held.iter().all(is_allowed)
     }
 
-    /// Whether some question of an audit is allowed whose name isn't an accepted one.
+    /// Whether an audit has a question that is allowed and whose name isn't an accepted one.
     pub fn has_unexpected(&self, outcome: &Outcome) -> bool
         ensures { result ≡ has_unexpected self.now.accepted
             outcome.now.questions outcome.now.replies }
@@ -107,8 +108,8 @@ impl Expected {
     }
 }
 
-/// Adds the line of a question of the control with this name, where it isn't allowed: `control`, its name, and `never`
-/// or `unsettled`. Adds nothing where it is allowed. An error where an allocation is refused.
+/// Adds the line of a question of the control that isn't allowed: `control`, its name, and its reply, `never` or
+/// `unsettled`. Adds nothing for a question that is allowed. An error where an allocation is refused.
 fn push_control(text: &mut String, name: &str, reply: Reply) -> Result<(), AllocError>
     ensures { OnOk result (string_bytes text.new ≡ string_bytes text.old
         ++ control_line name.now reply) }
@@ -168,8 +169,9 @@ fn push_unexpected(text: &mut String, name: &str, reply: Reply) -> Result<(), Al
     }
 }
 
-/// Adds the line of a question that isn't as expected: it is accepted and its reply is never, or it is allowed and not
-/// accepted. Adds nothing for another question. An error where an allocation is refused.
+/// Adds a line for a question that isn't as expected: `accepted`, its name, and `never`, where it is accepted and its
+/// reply is never; `unexpected` and its name, where it is allowed and not accepted. Adds nothing for another question.
+/// An error where an allocation is refused.
 fn push_deviation(
     text: &mut String,
     accepted: &[String],
@@ -204,9 +206,10 @@ fn push_questions(
     Ok(())
 }
 
-/// The lines behind a report that say what isn't as expected: first the questions of the control that aren't allowed;
-/// then, in the order of the audit's questions, those that are allowed and not accepted, and those that are accepted
-/// and whose reply is never. Empty where all is as expected. An error where an allocation is refused.
+/// The lines behind a report that say what isn't as expected. First come the lines of the questions of the control that
+/// aren't allowed: `control`, the name, and the reply, `never` or `unsettled`. Then come, in the order of the audit's
+/// questions, the lines that `push_deviation` adds: for a question that is allowed and not accepted, and for one that
+/// is accepted and whose reply is never. Empty where all is as expected. An error where an allocation is refused.
 pub fn text_of_expected(
     alloc: Global,
     expected: &Expected,
@@ -232,8 +235,8 @@ fn is_unexpected(accepted: &[String], name: &str, reply: &Reply) -> bool
     is_allowed(reply) && !is_accepted(accepted, name)
 }
 
-/// Whether some question is allowed whose name isn't an accepted one. The caller's condition: `replies` has the reply
-/// to each question, in the same order.
+/// Whether there is a question that is allowed and whose name isn't an accepted one. The caller's condition: `replies`
+/// has the reply to each question, in the same order.
 fn has_unexpected(accepted: &[String], questions: &[Question], replies: &[Reply]) -> bool
     requires { length questions.now ≡ length replies.now }
     ensures { result

@@ -23,9 +23,10 @@ pub fn an_audit_is_not_refused()
     a_refusal_spells_no_stack();
 }
 
-/// A law for the prover: two audits with the same questions have the same report, where their files spell one stack and
-/// both leave nothing outstanding. Budgets, workers and their order play no part, nor does what stands in fields that
-/// no instruction uses. The remarks on the questions are given, and the same in both.
+/// A law for the prover: two audits with the same questions have the same report, where their files spell one stack,
+/// both leave nothing outstanding, and both reports have the same remarks and both or neither list the regions. So the
+/// report is the same for any two budgets, and for any workers in any order. It is the same too where the files differ
+/// only in fields that no instruction uses.
 pub fn one_report()
     ensures { (files others : List (List ℕ)) (questions : List QuestionData)
         (b c : ℕ) (o p : Found) →
@@ -39,8 +40,8 @@ pub fn one_report()
     replies_have_one_result();
 }
 
-/// A law for the prover: two audits as in `one_report` have the same JSON document too, where they are shown in the
-/// same way and beside the same expectations.
+/// A law for the prover: two audits as in `one_report` have the same JSON document too, where the documents are made
+/// with the same `telling` and the same `expected`.
 pub fn one_document()
     ensures { (files others : List (List ℕ)) (questions : List QuestionData)
         (b c : ℕ) (o p : Found) →

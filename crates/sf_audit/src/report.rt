@@ -14,12 +14,12 @@ use std::alloc::Global;
 use std::io::Write;
 use text::report_of;
 
-/// Writes the report of an outcome, with a line for each settled region where `regions` asks for them. Under the line
-/// of each question stands the remark at its place, which is whole lines; nothing where there is none. Behind the
-/// report stands the text `behind`.
+/// Writes the report of an outcome, with a line for each settled region if `regions`. Under the line of each question
+/// stands its remark, which is the text at the question's place in `remarks`: whole lines, or an empty text. A question
+/// behind the end of `remarks` has no remark. Behind the report stands the text `behind`.
 ///
-/// `Write` where a write fails or takes no byte: a beginning of the text was written then. `Memory` where the text
-/// can't be built: nothing was written then.
+/// `Write` where a write fails or takes no byte: at most a beginning of the text was written then. `Memory` where the
+/// text can't be built: nothing was written then.
 pub fn write_report<W: Write>(
     alloc: Global,
     outcome: &Outcome,

@@ -22,7 +22,7 @@ struct Beside {
     accepted: bool,
     /// Whether it is allowed, and not accepted.
     unexpected: bool,
-    /// The policy file and the line where it stands, as an object; `null` where they aren't known.
+    /// The policy file and, if known, the line where it stands, as an object; `null` where the file isn't known.
     origin: Document,
     /// The remark on it, which says why the stack answers its example as it does; `null` where it has none.
     why: Document,
@@ -111,9 +111,9 @@ fn beside_of(
     })
 }
 
-/// The object of a question: its number, from 1, its name, the word of its reply, its example, and what is shown
-/// beside: where it stands (`origin`), the remark on it (`why`), and whether it is `accepted` or `unexpected`. An error
-/// where an allocation is refused.
+/// The object of a question. It has the question's number, which counts from 1, its name, the word of its reply, its
+/// example (`null` where there is none), and the four fields of `beside`: `origin`, `why`, `accepted` and `unexpected`.
+/// An error where an allocation is refused.
 fn asked_document(
     alloc: Global,
     number: usize,

@@ -1,4 +1,5 @@
-//! The text of a report, part by part.
+//! The text of a report, part by part. After an error a part of what was to be added may stand in the text; `report_of`
+//! drops it.
 
 ghost use Rattle.std.specs.Prelude.{◌≡◌, ◌<◌, ◌^◌, ◌++◌, IfOk, OnOk, length, map, string_bytes};
 ghost use Rattle.sf_check.specs.Stacks.{path_length};
@@ -74,8 +75,9 @@ fn push_shown_regions(
     Ok(())
 }
 
-/// Adds the line of a question: its number, from 1, its name and its reply, and where it is allowed the bytes of the
-/// example as hexadecimal digits. An error where an allocation is refused.
+/// Adds the line of a question: `question`, its number, from 1, its name, and its reply as `never`, `allowed` or
+/// `unsettled`. Behind `allowed` stand the bytes of the example, as `hex_of` gives them. An error where an allocation
+/// is refused.
 fn push_question(
     alloc: Global,
     text: &mut String,
@@ -163,8 +165,9 @@ fn push_size(
     )
 }
 
-/// Adds the line that says how much was audited, as `push_size` writes it: the number of filters of the stack, the
-/// length of the path through them, and the number of questions. An error where an allocation is refused.
+/// Adds the line that says how much was audited, as `push_size` writes it: the number of filters of the explored stack,
+/// the length of the path through them, and `questions`, the number of questions. An error where an allocation is
+/// refused.
 fn push_stack(text: &mut String, settled: &Settled, questions: usize) -> Result<(), AllocError>
     ensures { OnOk result (string_bytes text.new ≡ string_bytes text.old
         ++ size_line (length settled.now.stack) (path_length settled.now.stack) questions) }
@@ -173,8 +176,10 @@ fn push_stack(text: &mut String, settled: &Settled, questions: usize) -> Result<
     push_size(text, stack.programs().len(), stack.path_length(), questions)
 }
 
-/// Adds what stands above the questions: the version of the form of reports, which is 2, how much was audited, and the
-/// counts of the exploration. An error where an allocation is refused.
+/// Adds the three lines above the questions: the name of the program with the version of the form of reports, which is
+/// 2; how many filters there are, the length of the path through them, and how many questions; and the counts of the
+/// exploration, as `push_counts` adds them. `questions` is how many questions there are. An error where an allocation
+/// is refused.
 fn push_head(text: &mut String, settled: &Settled, questions: usize) -> Result<(), AllocError>
     ensures { OnOk result (string_bytes text.new ≡ string_bytes text.old
         ++ head_text settled.now questions) }
@@ -213,8 +218,10 @@ fn push_totals(text: &mut String, replies: &[Reply]) -> Result<(), AllocError>
     )
 }
 
-/// The whole text of a report: its head, the questions with their replies and remarks, the regions where they are asked
-/// for, and the totals. An error where an allocation is refused.
+/// The whole text of a report: its head, the questions with their replies and remarks, the regions if `regions`, and
+/// the totals. The remark on a question stands at the question's place in `remarks`, and is added as it is. A question
+/// behind the end of `remarks` has no remark. The caller gives remarks that are whole lines, or empty texts. An error
+/// where an allocation is refused.
 pub(super) fn report_of(
     alloc: Global,
     outcome: &Outcome,
