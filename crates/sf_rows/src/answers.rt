@@ -15,10 +15,11 @@ use sf_policy::push_action;
 use sf_run::Answer;
 use std::alloc::{AllocError, Global};
 
-/// A number by which answers are put in order: the higher the precedence of the action, the lower the number; and of
-/// one action it rises with the data, which are its lowest 16 bits. It has 48 bits. The action with the lowest number,
-/// taken as signed, has the highest precedence. Adding 0x80000000, with wrapping, makes of these numbers unsigned ones
-/// in the same order.
+/// A number of 48 bits by which answers are put in order. An action with a higher precedence gives a lower number. For
+/// one action the number rises with the data, which are its lowest 16 bits.
+///
+/// The other 32 bits come from the action's own number. As a signed word that number is lower for an action with a
+/// higher precedence. Adding 0x80000000, with wrapping, makes an unsigned word of it and keeps the order.
 pub(crate) fn order_of(answer: Answer) -> u64
     ensures order { result ≡ answer_order answer }
     ensures few { result < 2 ^ 48 }
@@ -78,7 +79,8 @@ pub fn labels_of(
     Ok(labels)
 }
 
-/// Adds an answer: its action as `push_action` writes it, a space, and its data in decimal.
+/// Adds an answer: its action as `push_action` writes it, a space, and its data in decimal. An error where an
+/// allocation is refused; a part of it may stand in the text then.
 pub(crate) fn push_answer(text: &mut String, answer: Answer) -> Result<(), AllocError>
     ensures { OnOk result (string_bytes text.new ≡ string_bytes text.old ++ answer_words answer) }
 {

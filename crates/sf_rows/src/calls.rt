@@ -1,4 +1,6 @@
 //! Rows, shown call by call: for each call that has a name the rows that are about it.
+//!
+//! Where a function here errs, an allocation was refused; a part of what it adds may have been added then.
 
 ghost use Rattle.std.specs.Prelude.{◌≡◌, ◌++◌, IfOk, OnOk, count_by, map, string_bytes};
 ghost use Rattle.std.specs.List.{flat_map, list_all, list_any};
@@ -65,8 +67,8 @@ impl<'a> CallRow<'a> {
     }
 }
 
-/// The number that all inputs of the call with this architecture and this number have on an axis of the word 0, which
-/// is the call's number, or of the word 1, which is the architecture. Any other word is taken for the word 1.
+/// The number that all inputs of a call have on an axis of the word 0 or 1. The word 0 of the inputs is `number`, the
+/// call's number, and the word 1 is `arch`, its architecture. An axis of any other word is taken for one of the word 1.
 fn number_of_call(arch: u32, number: u32, axis: Axis) -> u32
     ensures { result ≡ number_on_axis arch number axis }
 {
@@ -144,7 +146,8 @@ fn has_text(texts: &[&str], text: &str) -> bool
     texts.iter().any(|one| text == *one)
 }
 
-/// Whether a text is one of these. For the prover: its clause speaks of the texts themselves.
+/// The same as `has_text`, whose clause speaks of references to texts. For the prover: the clause here speaks of the
+/// texts themselves.
 fn is_among(texts: &[&str], text: &str) -> bool
     ensures { result ≡ list_any (bytes_eq text.now) (map (λ t. t.now) texts.now) }
 {
@@ -218,9 +221,9 @@ pub(crate) fn count_undetermined(rows: &[CallRow<'_>]) -> usize
     rows.iter().filter(|row| row.is_undetermined()).count()
 }
 
-/// Adds the line of a row of a call: the set of calls, the call's name, the words of the row's labels, and the row's
-/// conditions on other words than the call's number and its architecture. `words` are the words of the labels, each at
-/// its label's place.
+/// Adds the line of a row of a call: the name of the call's set, the call's name, the words of the row's labels, and
+/// the row's conditions on other words than the call's number and its architecture. `words` are the words of the
+/// labels, each at its label's place.
 fn push_call_row(text: &mut String, words: &[String], row: &CallRow<'_>) -> Result<(), AllocError>
     ensures { OnOk result (string_bytes text.new ≡ string_bytes text.old
         ++ call_row_line (map string_bytes words.now) row.now) }

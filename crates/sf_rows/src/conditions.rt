@@ -1,4 +1,6 @@
 //! Conditions of rows, as text.
+//!
+//! Where a function here errs, an allocation was refused; a part of what it adds may stand in the text then.
 
 ghost use Rattle.std.specs.Prelude.{◌≡◌, ◌++◌, [], OnOk, codes, slice_index_or, string_bytes};
 ghost use Rattle.sf_policy.specs.Keys.{word_keys};
@@ -96,8 +98,8 @@ fn is_one(spans: &[Span]) -> bool
     }
 }
 
-/// What stands before the numbers that name a part of the architectures: nothing where it is one number, `in ` where
-/// they are several; for a rest `!= ` or `not in `.
+/// What stands before the numbers that name a part of the architectures. Where one number names the part: nothing, or
+/// `!= ` for a rest. Else: `in `, or `not in ` for a rest.
 fn words_before(part: &Part) -> &'static str
     ensures { result.now ≡ arch_start part.now }
 {
@@ -123,9 +125,9 @@ pub(crate) fn push_arch(text: &mut String, arch: &Option<Part>) -> Result<(), Al
     }
 }
 
-/// Adds the call numbers of a row: `any` where `nr` is `None`, since all are meant; else the spans of the part. A rest
-/// would be written as the numbers that it hasn't. But a row's part of call numbers is never a rest, since each run of
-/// call numbers is a part by itself.
+/// Adds the call numbers of a row: `any` where `nr` is `None`, since all are meant; else the spans of the part, in
+/// `Style::Call`. A rest would be written as the numbers that it hasn't. But a row's part of call numbers is never a
+/// rest, since each run of call numbers is a part by itself.
 pub(crate) fn push_nr(text: &mut String, nr: &Option<Part>) -> Result<(), AllocError>
     ensures { OnOk result (string_bytes text.new ≡ string_bytes text.old ++ nr_words nr.now) }
 {
@@ -135,8 +137,8 @@ pub(crate) fn push_nr(text: &mut String, nr: &Option<Part>) -> Result<(), AllocE
     }
 }
 
-/// What stands between an axis and the numbers that name a part: ` = ` where it is one number, ` in ` where they are
-/// several; for a rest ` != ` or ` not in `.
+/// What stands between an axis and the numbers that name a part. Where one number names the part: ` = `, or ` != ` for
+/// a rest. Else: ` in `, or ` not in ` for a rest.
 fn words_between(part: &Part) -> &'static str
     ensures { result.now ≡ part_start part.now }
 {
@@ -170,8 +172,8 @@ fn push_axis(text: &mut String, axis: Axis) -> Result<(), AllocError>
     push_short(text, axis.mask)
 }
 
-/// Adds a condition: its axis, what `words_between` gives, and the numbers that name its part, which for a rest are
-/// those that it hasn't.
+/// Adds a condition: its axis, what `words_between` gives, and the spans that name its part, in `Style::Short`. For a
+/// rest these are the numbers that it hasn't.
 pub(crate) fn push_condition(text: &mut String, condition: &Condition) -> Result<(), AllocError>
     ensures { OnOk result (string_bytes text.new ≡ string_bytes text.old
         ++ condition_words condition.now) }

@@ -45,8 +45,8 @@ fn total_of(alloc: Global, rows: usize, undetermined: usize) -> Result<Document,
     Ok(Document::object(fields))
 }
 
-/// Rows as JSON, each by itself, and none call by call. `sets` give the names of the calls in a row, and `answers` are
-/// what labels stand for, each at its label's place.
+/// Rows as JSON, each by itself. The result's `rows` has all of them, and its `calls` is `null`. `sets` give the names
+/// of the calls in a row, and `answers` are what labels stand for, each at its label's place.
 fn single_rows(
     alloc: Global,
     sets: &[Names],
@@ -68,10 +68,11 @@ fn single_rows(
     })
 }
 
-/// Rows as JSON, call by call: the rows of the calls whose names are in `wanted`. Where it is empty, the rows of all
-/// calls, and beside them those of the inputs that belong to no call with a name. `sets` give the names of calls, and
-/// `answers` are what labels stand for, each at its label's place. `Memory` where an allocation is refused, or where a
-/// part's spans have too many owners.
+/// Rows as JSON, call by call. The result's `calls` has the rows of those calls of `sets` whose names are in `wanted`.
+/// Where `wanted` is empty, it has the rows of all calls of `sets`. A row stands there once for each of these calls
+/// that it is about. The result's `rows` is empty where `wanted` has names. Else it has the rows of the inputs that
+/// belong to no call with a name. `answers` are what labels stand for, each at its label's place. `Memory` where an
+/// allocation is refused, or where a part's spans have too many owners.
 fn rows_by_call(
     alloc: Global,
     sets: &[Names],
@@ -101,10 +102,13 @@ fn rows_by_call(
     })
 }
 
-/// Rows as JSON. `sets` give the names of calls, and `answers` are what labels stand for, each at its label's place.
-/// Without `calls` each row is shown by itself. Where `calls` names some, the rows of these calls are shown. Where it
-/// names none, the rows of all calls are shown, and beside them those of the inputs that belong to no call with a name.
-/// `Memory` where an allocation is refused, or where a part's spans have too many owners.
+/// Rows as JSON. Where `calls` is `None`, each row is shown by itself. Where `calls` has names, the rows of the calls
+/// of `sets` with these names are shown; a name that no set has adds nothing. Where `calls` is an empty list, the rows
+/// of all calls of `sets` are shown, and beside them those of the inputs that belong to no call with a name.
+///
+/// `sets` give the names of calls, and `answers` are what labels stand for, each at its label's place. A label behind
+/// all places, as that of two answers that are the same, is shown as `null`. `Memory` where an allocation is refused,
+/// or where a part's spans have too many owners.
 pub fn documents_of_rows(
     alloc: Global,
     sets: &[Names],

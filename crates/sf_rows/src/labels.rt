@@ -1,5 +1,5 @@
 //! Labels: each is the place of an answer, or of a pair of answers, in a list that is in order and has each of these
-//! once.
+//! once. Only the label of equal answers of two stacks is behind all places.
 
 ghost use Rattle.std.specs.Prelude.{◌≡◌, ◌≢◌, ◌<◌, ◌≤◌, ◌↔◌, ℕ, Bool, Contains, OnOk, Some, length, slice_get, true};
 ghost use Rattle.std.specs.List.Sorted.{IsNonDecreasingBy};
@@ -20,9 +20,9 @@ pub(crate) trait Labelled: Copy + PartialEq + Drop {
     ghost same: { (a b : Self) → (Self.eq a b ≡ true) ↔ (a ≡ b) };
 }
 
-/// Puts a list in order, in place: by the numbers of `order`, and those with the same number as they stood. Of equal
-/// neighbours it then leaves only one. So each element stands there once, if no two that differ have the same number.
-/// An error where an allocation is refused.
+/// Sorts a list in place by the numbers of `order`; elements with the same number keep their order. Of equal neighbours
+/// it then keeps only the first. So each element stands there once, if no two that differ have the same number. An
+/// error where an allocation is refused.
 pub(crate) fn put_in_order<T: Labelled>(list: &mut Vec<T>) -> Result<(), AllocError>
     ensures keeps { OnOk result ((one : T) → Contains list.old.items one
         → Contains list.new.items one) }

@@ -10,7 +10,7 @@ ghost use Rattle.sf_rows.specs.Calls.{IsOfCall, is_in_line, rows_of_call};
 ghost use Rattle.sf_rows.specs.Rows.{RowData, rows_of, is_in_scope};
 ghost use Rattle.sf_rows.specs.Unnamed.{is_in_named_call, unnamed_rows};
 
-/// Each input lies in exactly one row of a picture, and this row has the labels that the picture shows.
+/// Each input lies in exactly one row of a picture, and this row has the labels that the picture shows the input.
 pub fn each_input_lies_in_one_row()
     ensures one { (p : PictureData) (d : Input) → IsPicture p → IsInput d
         → count_by (λ r. is_in_scope r.scope d) (rows_of p) ≡ 1 }
@@ -29,8 +29,8 @@ pub fn each_input_of_a_call_lies_in_one_line()
     each_input_lies_in_one_row();
 }
 
-/// Where all calls are shown one by one, the rows of `unnamed_rows` follow. Each input that belongs to no call with a
-/// name lies in exactly one of these, and an input of a call with a name lies in none.
+/// Where all rows of a picture are shown for all calls one by one, the rows of `unnamed_rows` follow. Each input that
+/// belongs to no call with a name lies in exactly one of these, and an input of a call with a name lies in none.
 pub fn each_other_input_lies_in_one_row()
     ensures { (p : PictureData) (sets : List NamesData) (d : Input) → IsPicture p → IsInput d
         → count_by (λ r. is_in_scope r.scope d) (unnamed_rows sets (rows_of p))

@@ -1,4 +1,6 @@
 //! The lines of rows.
+//!
+//! Where a function here errs, an allocation was refused; a part of what it adds may stand in the text then.
 
 ghost use Rattle.std.specs.Prelude.{◌≡◌, ◌++◌, [], OnOk, map, slice_index_or, string_bytes};
 ghost use Rattle.std.specs.List.{flat_map};
@@ -20,7 +22,8 @@ fn words_at(words: &[String], label: usize) -> &str
     }
 }
 
-/// Adds the words of labels, with ` | ` between them. `words` are the words of the labels, each at its label's place.
+/// Adds the words of labels, with ` | ` between them. `words` are the words of the labels, each at its label's place; a
+/// label behind all places has no words, and adds an empty text.
 pub(crate) fn push_labels(
     text: &mut String,
     words: &[String],

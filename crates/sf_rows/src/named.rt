@@ -1,4 +1,6 @@
 //! The names of the calls that have a row's architecture and one of its call numbers, as text.
+//!
+//! Where a function here errs, an allocation was refused; a part of what it adds may stand in the text then.
 
 ghost use Rattle.std.specs.Prelude.{◌≡◌, ◌++◌, OnOk, string_bytes};
 ghost use Rattle.sf_names.specs.Names.{names_words};
@@ -40,8 +42,9 @@ pub(crate) fn only_arch(arch: &Option<Part>) -> Option<u32>
     }
 }
 
-/// Adds the names of the calls of an architecture whose numbers are in these spans: ` # ` and then at most eight names
-/// with commas between them, and `..` where there are more. Adds nothing where there are none.
+/// Adds ` # ` and the names of the calls of an architecture whose numbers are in these spans, with commas between them:
+/// span after span, and for each span set after set. Instead of the ninth name it writes `..`, and then nothing more.
+/// Adds nothing where there are no names. `names` are the sets.
 fn push_names_in_spans(
     text: &mut String,
     names: &[Names],
@@ -80,9 +83,10 @@ fn push_names_in_part(
     }
 }
 
-/// Adds the names of the calls that have a row's architecture and one of its call numbers, as `push_names_in_spans`
-/// does; the row's other conditions aren't looked at. Adds nothing where the row is about several architectures, since
-/// one number stands for different calls there; and nothing where it is about all numbers.
+/// Adds ` # ` and the names of the calls that have a row's architecture and one of its call numbers, as
+/// `push_names_in_spans` does: at most eight, and `..` for the others. The row's other conditions aren't looked at.
+/// Adds nothing where there is no such name, or where the row is about all call numbers. Adds nothing where the row is
+/// about more than one architecture, since a number may stand for different calls then.
 pub(crate) fn push_row_names(
     text: &mut String,
     names: &[Names],

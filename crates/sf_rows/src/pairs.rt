@@ -47,10 +47,12 @@ fn push_changed(pairs: &mut Vec<PartAnswers>, both: PartAnswers) -> Result<(), A
     Ok(())
 }
 
-/// Those pairs whose two answers differ, each once, by the old stack's answers and then by those of the new one. The
-/// order of answers is that of `answers_of`: the action with the highest precedence comes first. A label is a place
-/// among the pairs that are returned; their number is the label of two answers that are the same. An error where an
-/// allocation is refused.
+/// Those pairs whose two answers differ, each once. They are in the order of the old stack's answers; pairs with the
+/// same old answer are in the order of the new one's. The order of answers is that of `answers_of`: the action with the
+/// highest precedence comes first.
+///
+/// The label of a pair is its place among the pairs that are returned. Two answers that are the same also have a label:
+/// how many pairs are returned. An error where an allocation is refused.
 pub fn pairs_of(alloc: Global, answers: &[PartAnswers]) -> Result<Vec<PartAnswers>, AllocError>
     ensures each { IfOk result (λ v. All (λ (p : APair). Differ p
         → Contains v.items p) answers.now) }

@@ -20,8 +20,8 @@ pub(crate) struct Span {
     pub(crate) last: u32,
 }
 
-/// Numbers of a fork that lead to one branch. They are those of the spans, or, where the part is the rest, all numbers
-/// but those.
+/// Numbers; those of a fork lead to one branch. They are those of the spans, or, where the part is the rest, all
+/// numbers but those.
 #[derive(Drop)]
 pub(crate) struct Part {
     /// Where the numbers lead. It means nothing in a part that belongs to no fork.
@@ -45,8 +45,9 @@ impl Model for Part {
 }
 
 impl Part {
-    /// The part of the numbers of these spans, or, where it is the rest, of all other numbers. They lead to `next`.
-    /// `Memory` where an allocation is refused.
+    /// The part of the numbers of these spans, or, where it is the rest, of all other numbers. Where the part belongs
+    /// to a fork, its numbers lead to `next`; else `next` means nothing, and may be any branch. `Memory` where an
+    /// allocation is refused.
     pub(crate) fn of(
         alloc: Global,
         next: Branch,
@@ -92,7 +93,8 @@ impl Part {
         self.is_rest
     }
 
-    /// The spans that name it: its own numbers, or, where it is the rest, all that it hasn't.
+    /// The spans that name it: its own numbers, or, where it is the rest, all that it hasn't. In a part of a fork they
+    /// rise and don't touch; in another part they may stand in any order.
     pub(crate) fn spans(&self) -> &[Span]
         ensures { result.now ≡ self.now.spans }
     {
@@ -175,8 +177,8 @@ fn push_span(spans: &mut Vec<Span>, span: Span) -> Result<(), AllocError>
     Ok(())
 }
 
-/// Whether a run that leads to `next` is one of those that name the part of a branch: those that lead to the branch,
-/// or, where the part is the rest, those that lead elsewhere.
+/// Whether a run that leads to `next` is one of the runs that name the part of `branch`. Where the part is the rest
+/// (`is_rest`), these are the runs that lead elsewhere; else they are the runs that lead to `branch`.
 fn is_named(branch: Branch, is_rest: bool, next: Branch) -> bool
     ensures { result ≡ names_part branch is_rest next }
 {
@@ -199,8 +201,9 @@ fn span_from(first: u64, run: Run) -> Span
     }
 }
 
-/// Adds the span of a run from the number `first` on, if the run is one of those that name the part of a branch. The
-/// caller's condition: `first` is at most the run's last number.
+/// Adds the span of a run from the number `first` on, if the run is one of those that name the part of `branch`, as
+/// `is_named` tells. `push_span` adds it, so it may be joined to the last span. The caller's condition: `first` is at
+/// most the run's last number. An error where an allocation is refused.
 fn push_named(
     spans: &mut Vec<Span>,
     is_rest: bool,
@@ -218,8 +221,9 @@ fn push_named(
     Ok(())
 }
 
-/// The spans of the runs that name the part of a branch, as the rest where `is_rest` is true. Spans that touch are
-/// joined. The caller's condition: the last numbers of the runs rise.
+/// The spans of the runs that name the part of `branch`, as `is_named` tells. The part is the rest where `is_rest` is
+/// true. Spans that touch are joined. The caller's condition: the last numbers of the runs rise. An error where an
+/// allocation is refused.
 fn spans_of(
     alloc: Global,
     runs: &[Run],
@@ -249,7 +253,7 @@ fn part_of(alloc: Global, runs: &[Run], is_rest: bool, branch: Branch) -> Result
     Part::of(alloc, branch, is_rest, spans)
 }
 
-/// How many numbers of a run lead to a branch, from the number `first` on: all or none. The caller's condition: `first`
+/// How many of a run's numbers from `first` on lead to a branch: all of these or none. The caller's condition: `first`
 /// is at most the run's last number.
 fn count_in(run: Run, first: u64, branch: Branch) -> u64
     requires { first ≤ run.last }
@@ -311,7 +315,7 @@ fn branches_of(alloc: Global, runs: &[Run]) -> Result<Vec<Branch>, AllocError>
     Ok(branches)
 }
 
-/// The branch to which most numbers lead, among `branch` and `others`. Where equally many lead to several, this is the
+/// The branch to which most numbers lead, among `branch` and `others`. Where this is true of several, it is the
 /// first of them; `branch` stands before `others`. The caller's condition: the last numbers of the runs rise.
 fn largest(runs: &[Run], branch: Branch, others: &[Branch]) -> Branch
     requires { RiseFrom 0 runs.now }
@@ -329,8 +333,8 @@ fn largest(runs: &[Run], branch: Branch, others: &[Branch]) -> Branch
     largest
 }
 
-/// Adds the part that leads to `branch`; adds nothing where this is `rest`, the branch to which the rest leads. The
-/// caller's condition: the last numbers of the runs rise. `Memory` where an allocation is refused.
+/// Adds the part that leads to `branch`, unless `branch` is `rest`, the branch to which the rest leads. The caller's
+/// condition: the last numbers of the runs rise. `Memory` where an allocation is refused.
 fn push_part(
     alloc: Global,
     parts: &mut Vec<Part>,
@@ -370,9 +374,9 @@ fn parts_without(
     Ok(parts)
 }
 
-/// A part for each of some branches, in their order, except that the part with most numbers comes last, as the rest.
-/// Where several parts have equally many, this is the first of them. There is no part where there is no branch. The
-/// caller's condition: the last numbers of the runs rise. `Memory` where an allocation is refused.
+/// A part for each of these branches, in their order, except that the part with most numbers comes last, as the rest.
+/// Where several parts have most numbers, the first of them is the rest. There is no part where there is no
+/// branch. The caller's condition: the last numbers of the runs rise. `Memory` where an allocation is refused.
 fn parts_of_branches(alloc: Global, runs: &[Run], branches: &[Branch]) -> Result<Vec<Part>, Fault>
     requires { RiseFrom 0 runs.now }
     ensures made { IfOk result (λ v. v.items ≡ parts_to runs.now branches.now) }
@@ -388,9 +392,9 @@ fn parts_of_branches(alloc: Global, runs: &[Run], branches: &[Branch]) -> Result
     Ok(parts)
 }
 
-/// The parts of the fork with these runs. The part with most numbers comes last, as the rest; where several have as
-/// many, this is the one with the least number. The others stand in the order of their least numbers. The caller's
-/// condition: the last numbers of the runs rise. `Memory` where an allocation is refused.
+/// The parts of the fork with these runs. The part with most numbers comes last, as the rest. Where several parts have
+/// most numbers, the one of them with the least number is the rest. The others stand in the order of their
+/// least numbers. The caller's condition: the last numbers of the runs rise. `Memory` where an allocation is refused.
 pub(crate) fn parts_of(alloc: Global, runs: &[Run]) -> Result<Vec<Part>, Fault>
     requires { RiseFrom 0 runs.now }
     ensures made { IfOk result (λ v. v.items ≡ fork_parts runs.now) }

@@ -1,4 +1,6 @@
 //! The rows of a picture.
+//!
+//! Where a function here that adds rows errs, some of them may have been added.
 
 ghost use Rattle.std.specs.Prelude.{◌≡◌, ◌++◌, ◌∷◌, ◌≤◌, [], count_by, length, option_map, IfErr, IfOk};
 ghost use Rattle.sf_policy.specs.declared.fault.Fault.TheVariants.{Memory as MemoryFault};
@@ -93,7 +95,8 @@ impl Model for Scope {
     } };
 }
 
-/// A copy of a part, if there is one, which shares its spans. `Memory` where these have too many owners.
+/// A copy of a part; `None` where there is no part. The copy shares the spans of the part. `Memory` where these have
+/// too many owners.
 pub(crate) fn clone_part(part: &Option<Part>) -> Result<Option<Part>, Fault>
     ensures same { IfOk result (λ p. p ≡ part.now) }
     ensures refused { IfErr result (λ e. e ≡ MemoryFault) }
@@ -157,14 +160,14 @@ impl Scope {
         }
     }
 
-    /// The architectures, where not all are meant.
+    /// The architectures; `None` stands for all.
     pub(crate) fn arch(&self) -> &Option<Part>
         ensures { result.now ≡ self.now.arch }
     {
         &self.arch
     }
 
-    /// The call numbers, where not all are meant.
+    /// The call numbers; `None` stands for all.
     pub(crate) fn nr(&self) -> &Option<Part>
         ensures { result.now ≡ self.now.nr }
     {
@@ -193,10 +196,9 @@ impl Scope {
         })
     }
 
-    /// Leaves only those inputs whose numbers on an axis lie in a part. Where the axis is the whole word of the
-    /// architecture or of the call number, and the scope has no part of it yet, the part becomes that of the
-    /// architectures or of the call numbers. Else it becomes one more condition. `Memory` where an allocation is
-    /// refused.
+    /// Leaves only those inputs whose numbers on an axis lie in a part. On the whole word of the architecture the part
+    /// becomes `arch`, if that is `None`; on the whole word of the call number it becomes `nr`, if that is `None`. In
+    /// all other cases it becomes one more condition. `Memory` where an allocation is refused.
     fn narrow(&mut self, axis: Axis, part: Part) -> Result<(), Fault>
         ensures within { IfOk result (λ _. self.new ≡ scope_within self.old axis part) }
         ensures refused { IfErr result (λ e. e ≡ MemoryFault) }
@@ -245,9 +247,9 @@ impl Row {
     }
 }
 
-/// The parts of a fork, as `parts_of` gives them. In a fork on the whole word of the call number each run is a part by
-/// itself, so none is the rest. The caller's condition: the last numbers of the fork's runs rise. `Memory` where an
-/// allocation is refused.
+/// The parts of a fork. In a fork on the whole word of the call number each run is a part by itself, so none is the
+/// rest. For any other fork they are those that `parts_of` gives. The caller's condition: the last numbers of the
+/// fork's runs rise. `Memory` where an allocation is refused.
 fn parts_in(alloc: Global, fork: &Fork) -> Result<Vec<Part>, Fault>
     requires { RiseFrom 0 fork.now.runs }
     ensures made { IfOk result (λ v. v.items ≡ parts_at fork.now) }
@@ -347,7 +349,7 @@ pub(crate) fn all_rows(alloc: Global, picture: &Picture) -> Result<Vec<Row>, Fau
     Ok(rows)
 }
 
-/// The rows that are listed: all rows of the picture, or no row where there is none. `Memory` where an allocation is
+/// The rows that are listed: all rows of the picture; no row where `picture` is `None`. `Memory` where an allocation is
 /// refused, or where a part's spans have too many owners.
 pub fn rows_in(alloc: Global, picture: Option<&Picture>) -> Result<Vec<Row>, Fault>
     ensures all { IfOk result (λ v. v.items ≡ listed_rows

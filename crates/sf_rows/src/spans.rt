@@ -1,4 +1,6 @@
 //! Spans of numbers without some of them.
+//!
+//! Where a function here errs, an allocation was refused; a part of what it adds may have been added then.
 
 ghost use Rattle.std.specs.Prelude.{◌≡◌, ◌==◌, ◌++◌, if◌then◌else◌, IfOk, OnOk};
 ghost use Rattle.std.specs.List.{flat_map};
@@ -8,8 +10,8 @@ use crate::parts::Span;
 use sf_names::{Call, Names};
 use std::alloc::{AllocError, Global};
 
-/// Adds a span without a number: what of it lies below the number, and what of it lies above, each as a span if there
-/// is something.
+/// Adds a span with a number taken out: first the span of its numbers below that number, and then the span of those
+/// above. Nothing is added for a side on which the span has no numbers.
 fn push_without(spans: &mut Vec<Span>, number: u32, span: Span) -> Result<(), AllocError>
     ensures { OnOk result (spans.new.items ≡ spans.old.items ++ span_without number span) }
 {
@@ -30,7 +32,7 @@ fn push_without(spans: &mut Vec<Span>, number: u32, span: Span) -> Result<(), Al
     Ok(())
 }
 
-/// Spans without a number.
+/// Spans with a number taken out, in their order. A span that has the number becomes two spans, one or none.
 fn spans_without(alloc: Global, number: u32, spans: &[Span]) -> Result<Vec<Span>, AllocError>
     ensures { IfOk result (λ v. v.items ≡ spans_without number spans.now) }
 {
@@ -41,7 +43,7 @@ fn spans_without(alloc: Global, number: u32, spans: &[Span]) -> Result<Vec<Span>
     Ok(left)
 }
 
-/// Spans without some numbers.
+/// Spans with these numbers taken out, in their order.
 pub(crate) fn without_numbers(
     alloc: Global,
     numbers: &[u32],
@@ -56,7 +58,7 @@ pub(crate) fn without_numbers(
     Ok(left)
 }
 
-/// Spans without the numbers of calls.
+/// Spans with the numbers of these calls taken out, in their order.
 fn without_calls(alloc: Global, calls: &[Call], spans: Vec<Span>) -> Result<Vec<Span>, AllocError>
     ensures { IfOk result (λ v. v.items ≡ without_calls calls.now spans.items) }
 {

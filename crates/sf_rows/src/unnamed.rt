@@ -1,4 +1,7 @@
-//! Rows that are cut down to the inputs that belong to no call that has a name.
+//! Rows that are cut down to the inputs that belong to no call that has a name: no set of the input's architecture has
+//! a call of its number.
+//!
+//! Where a function here that adds rows errs, some of them may have been added.
 
 ghost use Rattle.std.specs.Prelude.{◌≡◌, ◌==◌, ◌++◌, ◌∷◌, [], true, false, if◌then◌else◌, IfErr, IfOk, OnOk, map};
 ghost use Rattle.std.specs.List.{flat_map};
@@ -74,7 +77,7 @@ fn gaps_at(alloc: Global, sets: &[Names], arch: u32) -> Result<Gaps, AllocError>
     Ok(Gaps { arch, gaps })
 }
 
-/// For each architecture of the sets, once, the call numbers that no call with a name has there.
+/// What `gaps_at` gives for each architecture of the sets: each architecture once, in the order of its first set.
 fn all_gaps(alloc: Global, sets: &[Names]) -> Result<Vec<Gaps>, AllocError>
     ensures { IfOk result (λ v. v.items ≡ all_gaps sets.now) }
 {
@@ -88,8 +91,8 @@ fn all_gaps(alloc: Global, sets: &[Names]) -> Result<Vec<Gaps>, AllocError>
     Ok(all)
 }
 
-/// A part of these spans, or, as a rest, of all other numbers. It belongs to no fork, so its branch means nothing.
-/// `Memory` where an allocation is refused.
+/// The part of the numbers of these spans, or, where `is_rest` is true, of all other numbers. It belongs to no fork, so
+/// its branch means nothing. `Memory` where an allocation is refused.
 fn part_of(alloc: Global, is_rest: bool, spans: Vec<Span>) -> Result<Part, Fault>
     ensures made { IfOk result (λ p. p ≡ part_of is_rest spans.items) }
     ensures refused { IfErr result (λ e. e ≡ MemoryFault) }
@@ -107,7 +110,8 @@ fn part_of_span(alloc: Global, span: Span) -> Result<Part, Fault>
     part_of(alloc, false, spans)
 }
 
-/// The run that a part of call numbers is: its only span. `None` for a rest, or where there isn't exactly one span.
+/// The only span of a part of call numbers, if the part is one run. `None` for a rest, or where there isn't exactly one
+/// span.
 fn run_of(part: &Part) -> Option<Span>
     ensures { result ≡ run_of part.now }
 {
@@ -165,7 +169,7 @@ fn push_kept(conditions: &mut Vec<Condition>, nr: &Option<Part>) -> Result<(), F
 
 /// Adds a row as it is, but with this architecture and with the numbers of `span` as its call numbers. A part of call
 /// numbers that isn't one run stays as a condition. The new row has only inputs of the old one, since each caller
-/// sees to two things: the row is about the architecture, and `span` lies in its run of call numbers, if it has one.
+/// sees to two things: the architecture is one of the row's, and `span` lies in its run of call numbers, if it has one.
 /// `Memory` where an allocation is refused, or where a part's spans have too many owners.
 fn push_row_at(
     alloc: Global,
@@ -190,8 +194,9 @@ fn push_row_at(
     push_scope(alloc, rows, row.labels(), Scope::of(arch, nr, conditions))
 }
 
-/// Adds, for each of these spans, the row that `push_row_at` adds; the caller sees to the same two things. `Memory`
-/// where an allocation is refused, or where a part's spans have too many owners.
+/// Adds, for each of these spans, the row that `push_row_at` adds. Here too the caller sees to two things: the
+/// architecture is one of the row's, and the spans lie in its run of call numbers, if it has one. `Memory` where an
+/// allocation is refused, or where a part's spans have too many owners.
 fn push_rows_in(
     alloc: Global,
     rows: &mut Vec<Row>,
@@ -209,7 +214,8 @@ fn push_rows_in(
     Ok(())
 }
 
-/// Adds rows for those inputs of a row that have the architecture of `gaps` and a call number in these gaps. `Memory`
+/// Adds rows for those inputs of a row that have the architecture of `gaps` and a call number in these gaps: one for
+/// each span that `within_nr` leaves of the gaps. Adds nothing where the architecture is none of the row's. `Memory`
 /// where an allocation is refused, or where a part's spans have too many owners.
 fn push_rows_at(alloc: Global, rows: &mut Vec<Row>, row: &Row, gaps: &Gaps) -> Result<(), Fault>
     ensures added { IfOk result (λ _. rows.new.items
@@ -264,8 +270,9 @@ fn archs_met(alloc: Global, part: &Option<Part>, all: &[Gaps]) -> Result<Vec<u32
     Ok(archs)
 }
 
-/// Adds a row as it is, but with this part as its architectures. `Memory` where an allocation is refused, or where a
-/// part's spans have too many owners.
+/// Adds a row as it is, but with this part as its architectures. The new row has only inputs of the old one, since each
+/// caller sees to it that all numbers of the part are architectures of the row. `Memory` where an allocation is
+/// refused, or where a part's spans have too many owners.
 fn push_with_arch(alloc: Global, rows: &mut Vec<Row>, row: &Row, part: Part) -> Result<(), Fault>
     ensures added { IfOk result (λ _. rows.new.items
         ≡ rows.old.items ++ with_arch row.now part ∷ []) }
@@ -283,7 +290,8 @@ fn push_with_arch(alloc: Global, rows: &mut Vec<Row>, row: &Row, part: Part) -> 
 }
 
 /// Adds a row as it is, but with the numbers of these spans as its architectures. Adds nothing where there is no span.
-/// `Memory` where an allocation is refused, or where a part's spans have too many owners.
+/// The new row has only inputs of the old one, since the caller sees to it that all these numbers are architectures of
+/// the row. `Memory` where an allocation is refused, or where a part's spans have too many owners.
 fn push_row_on(alloc: Global, rows: &mut Vec<Row>, row: &Row, spans: Vec<Span>) -> Result<(), Fault>
     ensures added { IfOk result (λ _. rows.new.items
         ≡ rows.old.items ++ row_on row.now spans.items) }
@@ -296,9 +304,9 @@ fn push_row_on(alloc: Global, rows: &mut Vec<Row>, row: &Row, spans: Vec<Span>) 
     push_with_arch(alloc, rows, row, part)
 }
 
-/// Adds a row as it is, but with all architectures except `archs` and the numbers of `spans`. The new row has only
-/// inputs of the old one, since each caller sees to it that the row is about all architectures except the numbers of
-/// `spans`. `Memory` where an allocation is refused, or where a part's spans have too many owners.
+/// Adds a row as it is, but with all architectures except those in `spans` and those in `archs`. The new row has only
+/// inputs of the old one, since each caller sees to it that the row's architectures are all except those in `spans`.
+/// `Memory` where an allocation is refused, or where a part's spans have too many owners.
 fn push_row_but(
     alloc: Global,
     rows: &mut Vec<Row>,
@@ -316,9 +324,10 @@ fn push_row_but(
     push_with_arch(alloc, rows, row, part)
 }
 
-/// Adds a row for those inputs of a row that have other architectures than `archs`. Where the row is about all
-/// architectures or a rest, the new part is a rest too. Else it is the row's spans without these numbers, and nothing
-/// is added where none is left. `Memory` where an allocation is refused, or where a part's spans have too many owners.
+/// Adds a row for those inputs of a row that have other architectures than `archs`. Where the row's architectures
+/// are all or a rest, the architectures of the new row are a rest. Else they are the row's spans with `archs`
+/// taken out, and nothing is added where no span is left. `Memory` where an allocation is refused, or where a part's
+/// spans have too many owners.
 fn push_beyond(alloc: Global, rows: &mut Vec<Row>, row: &Row, archs: &[u32]) -> Result<(), Fault>
     ensures added { IfOk result (λ _. rows.new.items
         ≡ rows.old.items ++ rows_beyond row.now archs.now row.now.scope.arch) }
@@ -336,8 +345,9 @@ fn push_beyond(alloc: Global, rows: &mut Vec<Row>, row: &Row, archs: &[u32]) -> 
 }
 
 /// Adds a row for those inputs of a row whose architecture isn't one of the sets' architectures. `archs` are those of
-/// the sets' architectures that the row is about; where there are none, the row is added as it is. `Memory` where an
-/// allocation is refused, or where a part's spans have too many owners.
+/// the sets' architectures that are the row's too. Where there are none, the row is added as it is; else what
+/// `push_beyond` adds, which may be nothing. `Memory` where an allocation is refused, or where a part's spans have too
+/// many owners.
 fn push_elsewhere(alloc: Global, rows: &mut Vec<Row>, row: &Row, archs: &[u32]) -> Result<(), Fault>
     ensures added { IfOk result (λ _. rows.new.items
         ≡ rows.old.items ++ rows_elsewhere row.now archs.now) }
@@ -363,10 +373,11 @@ fn push_unnamed(alloc: Global, rows: &mut Vec<Row>, row: &Row, all: &[Gaps]) -> 
     push_elsewhere(alloc, rows, row, archs.as_slice())
 }
 
-/// Rows, each cut down to the inputs that belong to no call with a name. In the place of a row come the rows of these
-/// inputs. For each of the sets' architectures that the row is about, there is one for each span of its call numbers
-/// that no call has there. One more is for the row's other architectures, if it has any. `Memory` where an allocation
-/// is refused, or where a part's spans have too many owners.
+/// Rows, each cut down to its inputs that belong to no call with a name: no set of the input's architecture has a call
+/// of its number. Several rows or none may come in the place of one. First come those at each architecture of the
+/// sets that is one of the row's: the row's call numbers lose the numbers of the calls there, and each span that is
+/// left makes a row. Then comes one row for the row's architectures that no set has, if there are any. `Memory` where
+/// an allocation is refused, or where a part's spans have too many owners.
 pub(crate) fn unnamed_rows(alloc: Global, sets: &[Names], rows: &[Row]) -> Result<Vec<Row>, Fault>
     ensures all { IfOk result (λ v. v.items ≡ unnamed_rows sets.now rows.now) }
     ensures refused { IfErr result (λ e. e ≡ MemoryFault) }

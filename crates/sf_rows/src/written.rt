@@ -40,10 +40,11 @@ pub(crate) fn other_rows(
     Ok(Vec::new(alloc))
 }
 
-/// Adds the lines of the calls whose names are in `wanted`. Where it is empty, adds the lines of all calls, and then
-/// those of the inputs that belong to no call with a name. Returns how many lines were added, and how many of these
-/// have several labels. `Memory` where an allocation is refused, or where a part's spans have too many owners; some
-/// lines may have been added then.
+/// Adds the lines of those calls of `sets` whose names are in `wanted`. Where `wanted` is empty, adds the lines of all
+/// calls of `sets`, and then those of the inputs that belong to no call with a name. `words` are the words of the
+/// labels, each at its label's place. Returns how many lines were added, and how many of these have several labels.
+/// `Memory` where an allocation is refused, or where a part's spans have too many owners; some lines may have been
+/// added then.
 fn push_calls(
     alloc: Global,
     text: &mut String,
@@ -71,11 +72,13 @@ fn push_calls(
     })
 }
 
-/// Adds the lines of rows. `sets` give the names of calls, and `words` are the words of the labels, each at its label's
-/// place. Without `calls` there is a line for each row. Where `calls` names some, the lines are those of these calls.
-/// Where it names none, they are the lines of all calls, and then those of the inputs that belong to no call with a
-/// name. Returns how many lines were added, and how many of these have several labels. `Memory` where an allocation is
-/// refused, or where a part's spans have too many owners; some lines may have been added then.
+/// Adds the lines of rows. Where `calls` is `None`, there is a line for each row. Where `calls` has names, the lines
+/// are those of the calls of `sets` with these names; a name that no set has adds nothing. Where `calls` is an empty
+/// list, they are the lines of all calls of `sets`, and then those of the inputs that belong to no call with a name.
+///
+/// `sets` give the names of calls, and `words` are the words of the labels, each at its label's place. Returns how many
+/// lines were added, and how many of these have several labels. `Memory` where an allocation is refused, or where a
+/// part's spans have too many owners; some lines may have been added then.
 pub fn push_lines(
     alloc: Global,
     text: &mut String,

@@ -49,8 +49,8 @@ fn call_row_document(
     Ok(Document::object(fields))
 }
 
-/// Rows of calls, each as an object, in their order. `answers` are what labels stand for, each at its label's place. An
-/// error where an allocation is refused.
+/// Rows of calls, each as an object, in their order. `answers` are what labels stand for, each at its label's place; a
+/// label behind all places gives `null`. An error where an allocation is refused.
 pub(super) fn call_row_documents(
     alloc: Global,
     answers: &[Document],

@@ -121,7 +121,8 @@ fn names_in_part(
 }
 
 /// The names of the calls that have a row's architecture and one of its call numbers, each as a text; the row's other
-/// conditions aren't looked at. There are none where the row is about several architectures, or about all numbers.
+/// conditions aren't looked at. There are none where the row is about more than one architecture, or about all call
+/// numbers.
 fn row_names(alloc: Global, sets: &[Names], scope: &Scope) -> Result<Vec<Document>, AllocError>
     ensures { IfOk result (λ v. map view v.items ≡ map string (row_names sets.now scope.now)) }
 {

@@ -25,8 +25,7 @@ fn arch_document(alloc: Global, arch: &Option<Part>) -> Result<Document, AllocEr
     Ok(Document::text(text))
 }
 
-/// The call numbers of a row as a text, as `push_nr` writes them; `null` where all are meant. Their part is never a
-/// rest.
+/// The call numbers of a row as a text, as `push_nr` writes them; `null` where all are meant.
 fn nr_document(alloc: Global, nr: &Option<Part>) -> Result<Document, AllocError>
     ensures { IfOk result (λ d. view d ≡ nr_document nr.now) }
 {
@@ -61,8 +60,8 @@ fn condition_documents(alloc: Global, conditions: &[Condition]) -> Result<Vec<Do
     Ok(documents)
 }
 
-/// What a label stands for: a copy of what stands at its place in `answers`; `null` where the label is behind all
-/// places, as that of two answers that are the same is.
+/// What a label stands for: a copy of what stands at its place in `answers`. It is `null` where the label is behind all
+/// places. The label of two answers that are the same is one of these.
 fn label_document(answers: &[Document], label: usize) -> Result<Document, AllocError>
     ensures { IfOk result (λ d. view d ≡ label_document (map view answers.now) label) }
 {
@@ -72,8 +71,8 @@ fn label_document(answers: &[Document], label: usize) -> Result<Document, AllocE
     }
 }
 
-/// What each of some labels stands for, in their order, as `label_document` gives it. An error where an allocation is
-/// refused.
+/// What each of some labels stands for, in their order: a copy of what stands at the label's place in `answers`, or
+/// `null` where the label is behind all places. An error where an allocation is refused.
 pub(super) fn label_documents(
     alloc: Global,
     answers: &[Document],
@@ -89,9 +88,10 @@ pub(super) fn label_documents(
     Ok(documents)
 }
 
-/// A row as an object: `arch` and `nr` are its architectures and call numbers, `conditions` its other conditions,
-/// `answers` what its labels stand for, and `calls` the names that `row_names` gives. The parameter `answers` has what
-/// each label stands for at the label's place.
+/// A row as an object: `arch` and `nr` are its architectures and call numbers, `null` where all are meant, `conditions`
+/// its other conditions, `answers` what its labels stand for, and `calls` the names of the calls that have its
+/// architecture and one of its call numbers, as `row_names` gives them. The parameter `answers` has what each label
+/// stands for at the label's place.
 fn row_document(
     alloc: Global,
     sets: &[Names],
@@ -113,7 +113,7 @@ fn row_document(
 }
 
 /// Rows, each as an object, in their order. `sets` give the names of calls, and `answers` are what labels stand for,
-/// each at its label's place. An error where an allocation is refused.
+/// each at its label's place; a label behind all places gives `null`. An error where an allocation is refused.
 pub(super) fn row_documents(
     alloc: Global,
     sets: &[Names],
