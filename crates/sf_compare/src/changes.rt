@@ -128,8 +128,8 @@ fn is_sought(relation: Relation, both: PartAnswers, found: Change) -> bool
 
 /// What is found of a relation after one more region, whose members get these two answers. `found` is what was found
 /// before this region, and `membership` what a search for a member of it found. Where no example is sought in the
-/// region, or it has no member, `found` stays. A member becomes the example; where the search is in doubt, the result
-/// is `Unsettled`.
+/// region, or the search shows that it has no member, `found` stays. A member becomes the example; where the search is
+/// in doubt, the result is `Unsettled`.
 fn change_after(
     relation: Relation,
     both: PartAnswers,
@@ -152,10 +152,11 @@ fn change_after(
     }
 }
 
-/// What is found of each relation after the region at a place. A member of the region is looked for once for all
-/// relations, and only where an example of one is sought. `old_count` is there for the prover. The caller's conditions:
-/// a region stands at the place, `both` are the answers to its members, and `found` is what is found in the regions
-/// before it. `Memory` where an allocation is refused.
+/// What is found of each relation after one more region, that at `place`. Where an example of some relation is sought
+/// in this region, one search for a member serves all relations; else `found` stays. `old_count` is there for the
+/// prover. The caller's conditions: a region stands at the place, `both` are the answers to its members, and `found` is
+/// what was found in the regions before it. `Memory` where an allocation is refused, or the region's facts have too
+/// many owners.
 fn findings_after(
     alloc: Global,
     settled: &Settled,
@@ -207,14 +208,15 @@ fn change_at_end(settled: &Settled, old_count: usize, relation: Relation, found:
 
 /// What is found of each relation between the answers of an old stack and of a new one, for all inputs. Both were
 /// explored as one stack: its first `old_count` programs are the old stack, and the others the new one. The caller's
-/// condition: `answers` are those of `answers_of_regions`.
+/// condition: `answers` are those of `answers_of_regions` for this exploration and `old_count`.
 ///
 /// Regions are searched in their order, for members whose two answers have the relation. `Found` has the member of the
 /// first region where the search finds one. A region whose answers have the relation is in doubt where the search
 /// neither finds a member nor shows that there is none. Without an example the result is `Unsettled` where a region is
 /// in doubt or a piece is outstanding. Else it is `Never`: no input is changed in this way. On a plain stack no region
 /// is in doubt, and the example is the least member of the first region whose answers have the relation: no member of
-/// this region has a smaller number in any word. `Memory` where an allocation is refused.
+/// this region has a smaller number in any word. `Memory` where an allocation is refused, or a region's facts have too
+/// many owners.
 pub(crate) fn find_changes(
     alloc: Global,
     settled: &Settled,

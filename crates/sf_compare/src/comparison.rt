@@ -79,9 +79,10 @@ impl Comparison {
     }
 }
 
-/// What an exploration of both stacks as one tells of them. The first `old_count` programs of the explored stack are
-/// the old stack, and the others the new one. The caller's condition: the explored stack has at least `old_count`
-/// programs. `Memory` where an allocation is refused.
+/// Makes the comparison from an exploration of both stacks as one: it adds the answers of both stacks to each region,
+/// and what is found of each relation. The first `old_count` programs of the explored stack are the old stack, and the
+/// others the new one. The caller's condition: the explored stack has at least `old_count` programs. `Memory` where an
+/// allocation is refused, or a region's facts have too many owners.
 fn comparison_of(
     alloc: Global,
     settled: Settled,
@@ -103,13 +104,18 @@ fn comparison_of(
 }
 
 /// Compares two stacks, for all inputs. The first `old_count` filter files are those of the old stack, and the others
-/// those of the new one. The files of each stack stand in order of installation, the newest last. Both stacks are
-/// explored as one, by at most `budget` works; where these aren't enough, pieces stay outstanding. The gate sees each
-/// work before it is committed.
+/// those of the new one. The files of each stack stand in order of installation, the newest last. A stack without files
+/// allows each input. Both stacks are explored as one, by at most `budget` works; where these aren't enough, pieces
+/// stay outstanding. The gate sees each work before it is committed.
 ///
-/// The caller's conditions: at least `old_count` files, a budget from 1 to 1,000,000, and 1 to 64 workers (where there
-/// are more than one, each gets a thread, if it can be started). Waits for the workers. Refusals: those of `stack_of`
-/// for the files of both stacks together, as if they were one stack. `Memory` can come anywhere.
+/// The caller's conditions: at least `old_count` files, a budget from 1 to 1,000,000 (the contract holds for others
+/// too), and 1 to 64 workers. Where there are more than one, each gets a thread, unless it can't be started or nothing
+/// is left to do. Waits for the workers.
+///
+/// Refusals, tried in this order for the files of both stacks together, as if they were one stack: `NoFilter` where
+/// there is no file, `TooMany` where there are more than 64; for each file in order `Ragged`, `Empty` or `TooLong` for
+/// its length, or the first fault of its instructions; `PathLength` where the path through all filters is longer than
+/// 32768. `Memory` can come anywhere.
 pub fn compare<R: Threads + Wait + Sync, G: Gate>(
     rt: &R,
     alloc: Global,

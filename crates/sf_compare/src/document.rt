@@ -16,9 +16,9 @@ use sf_json::{Document, Fields, answer_document, counts_document, input_document
 use sf_names::Names;
 use std::alloc::{AllocError, Global};
 
-/// The object with what is found of a relation: the word for it (`result`), an example (`example`), and the answers of
-/// the old stack and of the new one to this input (`old` and `new`). Without an example the caller gives null for all
-/// three. An error where an allocation is refused.
+/// The object with what is found of a relation: the word for it, `never`, `unsettled` or `found` (`result`), an example
+/// (`example`), and the answers of the old stack and of the new one to this input (`old` and `new`). Without an example
+/// the caller gives null for all three. An error where an allocation is refused.
 fn result_document(
     alloc: Global,
     word: &str,
@@ -37,8 +37,8 @@ fn result_document(
     Ok(Document::object(fields))
 }
 
-/// What is found of a relation where there is no example: the object with the word for it, and null in the other
-/// fields. An error where an allocation is refused.
+/// What is found of a relation where there is no example: the object with the word for it, `never` or `unsettled`, and
+/// null in the other fields. An error where an allocation is refused.
 fn bare_document(alloc: Global, word: &str) -> Result<Document, AllocError>
     ensures { IfOk result (λ d. view d ≡ result_document word.now null null null) }
 {
@@ -74,8 +74,9 @@ fn change_document(alloc: Global, names: &[Names], change: Change) -> Result<Doc
     }
 }
 
-/// The size of the old stack, the first `old_count` programs. The caller's condition: the explored stack has at least
-/// `old_count` programs. An error where an allocation is refused.
+/// The size of the old stack as JSON, by `sizes_document`. The old stack is the first `old_count` programs of the
+/// explored one. The caller's condition: the explored stack has at least `old_count` programs. An error where an
+/// allocation is refused.
 fn old_sizes(alloc: Global, settled: &Settled, old_count: usize) -> Result<Document, AllocError>
     requires { old_count ≤ length settled.now.stack }
     ensures { IfOk result (λ d. view d ≡ sizes_document (old_of settled.now old_count)) }
@@ -83,8 +84,9 @@ fn old_sizes(alloc: Global, settled: &Settled, old_count: usize) -> Result<Docum
     sizes_document(alloc, &settled.stack().programs()[..old_count])
 }
 
-/// The size of the new stack, all but the first `old_count` programs. The caller's condition: the explored stack has at
-/// least `old_count` programs. An error where an allocation is refused.
+/// The size of the new stack as JSON, by `sizes_document`. The new stack is all but the first `old_count` programs of
+/// the explored one. The caller's condition: the explored stack has at least `old_count` programs. An error where an
+/// allocation is refused.
 fn new_sizes(alloc: Global, settled: &Settled, old_count: usize) -> Result<Document, AllocError>
     requires { old_count ≤ length settled.now.stack }
     ensures { IfOk result (λ d. view d ≡ sizes_document (new_of settled.now old_count)) }

@@ -57,8 +57,8 @@ pub fn one_document()
     members_have_one_result();
 }
 
-/// A question that names no actions in a policy asks about ALLOW and LOG. These are all actions that let a call get as
-/// far as one of them, as `never_looser_breaks_no_more` wants it.
+/// A question that names no actions in a policy asks about ALLOW and LOG. No other action lets a call get as far as
+/// these two, so the question meets the condition of `never_looser_breaks_no_more`.
 pub fn usual_actions_are_upward()
     ensures { IsUpward (set_of (codes "ALLOW" ∷ codes "LOG" ∷ [])) }
 {}

@@ -29,8 +29,8 @@ fn words_of(alloc: Global, answer: Answer) -> Result<String, AllocError>
 }
 
 /// Adds the line of a relation: the word `relation`, and `never`, `unsettled` or `found`. Behind `found` the line has
-/// the example's bytes in hexadecimal digits, and the answers of the old stack and of the new one to it. An error where
-/// an allocation is refused.
+/// the example's bytes in hexadecimal digits, the old stack's answer to it, `->`, and the new stack's answer. An error
+/// where an allocation is refused: part of the line may be added then.
 fn push_change(
     alloc: Global,
     text: &mut String,
@@ -53,7 +53,7 @@ fn push_change(
 }
 
 /// Adds the lines of the relations: `looser`, `tighter` and `different`, in this order. An error where an allocation is
-/// refused.
+/// refused: part of the lines may be added then.
 fn push_changes(alloc: Global, text: &mut String, comparison: &Comparison) -> Result<(), AllocError>
     ensures { OnOk result (string_bytes text.new ≡ string_bytes text.old
         ++ changes_text comparison.now) }
@@ -68,9 +68,9 @@ fn push_changes(alloc: Global, text: &mut String, comparison: &Comparison) -> Re
     )
 }
 
-/// Adds the line with the size of one of the two stacks: how many filters it has, and the length of the path through
-/// them. `which` says which stack it is: `old` or `new`. The caller's condition: there are at most 64 programs. An
-/// error where an allocation is refused.
+/// Adds the line with the size of one of the two stacks: the word `which`, how many filters the stack has, and the
+/// length of the path through them (`path_length`). `which` is `old` or `new`. The caller's condition: there are at
+/// most 64 programs. An error where an allocation is refused: part of the line may be added then.
 fn push_stack_size(text: &mut String, which: &str, programs: &[Program]) -> Result<(), AllocError>
     requires { length programs.now ≤ 64 }
     ensures { OnOk result (string_bytes text.new ≡ string_bytes text.old
@@ -83,7 +83,8 @@ fn push_stack_size(text: &mut String, which: &str, programs: &[Program]) -> Resu
 
 /// Adds what stands above the relations: the version of the text, the sizes of both stacks, and the counts of the
 /// exploration. The first `old_count` programs are the old stack, and the others the new one. The caller's condition:
-/// the explored stack has at least `old_count` programs. An error where an allocation is refused.
+/// the explored stack has at least `old_count` programs. An error where an allocation is refused: part of the lines may
+/// be added then.
 fn push_head(text: &mut String, settled: &Settled, old_count: usize) -> Result<(), AllocError>
     requires { old_count ≤ length settled.now.stack }
     ensures { OnOk result (string_bytes text.new ≡ string_bytes text.old
@@ -96,7 +97,8 @@ fn push_head(text: &mut String, settled: &Settled, old_count: usize) -> Result<(
     push_counts(text, settled.counts())
 }
 
-/// The whole text of a comparison. An error where an allocation is refused.
+/// The whole text of a comparison: its version, the sizes of both stacks, the counts of the exploration, and a line for
+/// each relation. An error where an allocation is refused.
 pub fn text_of_comparison(alloc: Global, comparison: &Comparison) -> Result<String, AllocError>
     ensures { IfOk result (λ text. string_bytes text ≡ comparison_text comparison.now) }
 {
@@ -108,8 +110,8 @@ pub fn text_of_comparison(alloc: Global, comparison: &Comparison) -> Result<Stri
 
 /// Writes the text of a comparison.
 ///
-/// `Write` where a write fails or takes no byte: a beginning of the text was written then. `Memory` where the text
-/// can't be built: nothing was written then.
+/// `Write` where a write fails or takes no byte: at most a beginning of the text was written then. `Memory` where the
+/// text can't be built: nothing was written then.
 pub fn write_comparison<W: Write>(
     alloc: Global,
     comparison: &Comparison,
