@@ -1,4 +1,5 @@
-//! The text of what differs between the answers of two stacks.
+//! The text of what differs between the answers of two stacks. After an error a part of what was to be added may stand
+//! in the text; `text_of` drops it.
 
 ghost use Rattle.std.specs.Prelude.{◌≡◌, ◌⊎◌, ◌++◌, IfErr, IfOk, OnErr, OnOk, not, option_map, string_bytes};
 ghost use Rattle.std.specs.Io.KnownBytes.{Appends};
@@ -38,15 +39,16 @@ fn is_changed(count: usize, row: &Row) -> bool
     !is_unchanged(count, row.labels())
 }
 
-/// Leaves only the rows that show a difference, where `count` pairs of answers differ.
+/// Leaves only the rows that show a difference, where `count` pairs of answers differ. A row shows none where its only
+/// label is `count`, which stands for equal answers. The rows that are left keep their order.
 fn keep_changed(rows: &mut Vec<Row>, count: usize)
     ensures { rows.new.items ≡ changed_of count rows.old.items }
 {
     rows.retain(|row| is_changed(count, row));
 }
 
-/// Whether the new answer of a pair has this relation to the old one. The two answers of each pair differ, so
-/// `Different` isn't tested.
+/// Whether the new answer of a pair has this relation to the old one. For `Different` it is `true` without a test,
+/// since the two answers of each pair in `Differences` differ.
 fn is_so_related(relation: Relation, pair: &PartAnswers) -> bool
     ensures { result ≡ is_so_related relation pair.now }
 {
@@ -56,8 +58,9 @@ fn is_so_related(relation: Relation, pair: &PartAnswers) -> bool
     }
 }
 
-/// Whether a label stands for a pair of answers with this relation. A label is the place of a pair, or the number of
-/// the pairs: this one stands for equal answers, and `false` is returned.
+/// Whether a label stands for a pair of answers with this relation: the label is the place of such a pair in `pairs`.
+/// `false` for every label that is no place in `pairs`. The number of the pairs is such a label: it stands for equal
+/// answers.
 fn is_label_related(relation: Relation, pairs: &[PartAnswers], label: usize) -> bool
     ensures { result ≡ is_label_related relation pairs.now label }
 {
@@ -67,7 +70,8 @@ fn is_label_related(relation: Relation, pairs: &[PartAnswers], label: usize) -> 
     }
 }
 
-/// Whether some label of a row stands for a pair of answers with this relation.
+/// Whether some label of a row stands for a pair of answers with this relation: the label is the pair's place in
+/// `pairs`. For `Different` every pair counts: the two answers of each are meant to differ.
 fn is_related(relation: Relation, pairs: &[PartAnswers], row: &Row) -> bool
     ensures { result ≡ list_any (is_label_related relation pairs.now) row.now.labels }
 {
@@ -76,7 +80,9 @@ fn is_related(relation: Relation, pairs: &[PartAnswers], row: &Row) -> bool
         .any(|label| is_label_related(relation, pairs, *label))
 }
 
-/// Leaves only the rows of which some label stands for a pair of answers with this relation.
+/// Leaves only the rows that have a label for a pair of answers with this relation: the label is the pair's place in
+/// `pairs`. A label that is no place there, as that of equal answers, keeps no row. For `Different` every pair counts:
+/// the two answers of each are meant to differ. The rows that are left keep their order.
 fn keep_related(rows: &mut Vec<Row>, relation: Relation, pairs: &[PartAnswers])
     ensures { rows.new.items ≡ related_of relation pairs.now rows.old.items }
 {
@@ -89,8 +95,9 @@ pub struct Shown<'a> {
     /// The relation that some pair of a row's answers must have for the row to be shown. `None`: all rows with a
     /// difference are shown.
     pub only: Option<Relation>,
-    /// The names of the calls whose rows are shown, call by call. An empty list stands for all calls; the rows of the
-    /// inputs that belong to no call with a name then come after these. `None`: each row is shown by itself.
+    /// The names of the calls whose rows are shown, call by call. A name that no set of names has adds nothing. An
+    /// empty list stands for all calls; the rows of the inputs that belong to no call with a name then come after
+    /// these. `None`: each row is shown by itself.
     pub calls: Option<Vec<&'a str>>,
 }
 
@@ -106,9 +113,9 @@ impl<'a> Model for Shown<'a> {
     } };
 }
 
-/// The rows that are shown: those with a difference, and where `only` is given, of these only the rows of which some
-/// pair of answers has this relation. There are no rows where a piece is outstanding, since there is no picture then.
-/// `Memory` where an allocation is refused.
+/// The rows that are shown: the rows with a difference. Where `only` is given, a row is shown only if one of its pairs
+/// of answers has this relation. There are no rows where a piece is outstanding, since there is no picture then.
+/// `Memory` where an allocation is refused, or where a part's spans have too many owners.
 pub(crate) fn rows_of(
     alloc: Global,
     differences: &Differences,
@@ -137,8 +144,8 @@ pub(crate) fn word_of(only: Option<Relation>) -> &'static str
     }
 }
 
-/// Adds the line that counts the lines of the rows: the word of `word_of` for `only`, how many lines there are, and
-/// how many of them have several labels.
+/// Adds the line that counts the lines of the rows: `total`, the word of `word_of` for `only`, how many lines there
+/// are, and how many of them have several labels. An error where an allocation is refused.
 fn push_total(text: &mut String, only: Option<Relation>, lines: Lines) -> Result<(), AllocError>
     ensures { OnOk result (string_bytes text.new ≡ string_bytes text.old
         ++ changed_line only lines.count lines.undetermined) }
@@ -149,7 +156,8 @@ fn push_total(text: &mut String, only: Option<Relation>, lines: Lines) -> Result
     write!(text, "total {shown} {count} undetermined {undetermined}\n")
 }
 
-/// Adds the line of `push_total`. Adds nothing where there is no picture, since a piece is outstanding.
+/// Adds the line of `push_total`. Adds nothing where there is no picture, since a piece is outstanding. An error where
+/// an allocation is refused.
 fn push_drawn(
     text: &mut String,
     picture: Option<&Picture>,
@@ -166,9 +174,12 @@ fn push_drawn(
     }
 }
 
-/// Adds the lines of the rows, with the names of calls from these sets, and the line that counts them, unless a piece
-/// is outstanding. The caller's condition: `rows` are those of `rows_of` for `shown.only`. `Memory` where an allocation
-/// is refused; some lines may have been added then.
+/// Adds the lines of the rows, with the names of calls from these sets, and then the line that counts them. `shown`
+/// says whether they are added call by call. Adds nothing where a piece is outstanding: there are no rows then. The
+/// caller's condition: `rows` are those of `rows_of` for `shown.only`.
+///
+/// `Memory` where an allocation is refused, or where a part's spans have too many owners; some lines may have been
+/// added then.
 fn push_differences(
     alloc: Global,
     text: &mut String,
@@ -188,8 +199,9 @@ fn push_differences(
     Ok(())
 }
 
-/// The whole text: that of the comparison, and then what `push_differences` adds. The caller's condition: `rows` are
-/// those of `rows_of` for `shown.only`. `Memory` where an allocation is refused.
+/// The whole text: that of the comparison, and then what `push_differences` adds: the lines of the rows, and the line
+/// that counts them. The caller's condition: `rows` are those of `rows_of` for `shown.only`. `Memory` where an
+/// allocation is refused, or where a part's spans have too many owners.
 fn text_of(
     alloc: Global,
     comparison: &Comparison,
@@ -208,13 +220,13 @@ fn text_of(
     Ok(text)
 }
 
-/// Writes the text of a comparison, then the rows in which the answers of the two stacks differ, with the names of
-/// calls from these sets, and a line that counts them: how many lines they have, and how many of these lines have
-/// several labels. `shown` says which of the rows are shown, and how. Where a piece is outstanding, there are no rows
-/// and no such line. `differences` are meant to be those of `draw_differences` for this comparison.
+/// Writes the text of a comparison. Then come the rows in which the answers of the two stacks may differ, with names of
+/// calls from these sets; `shown` says which of the rows are shown, and how. Last comes a line that counts the lines of
+/// the rows, and those of them that have several labels. Where a piece is outstanding, there are no rows and no such
+/// line. `differences` are meant to be those of `draw_differences` for this comparison.
 ///
-/// `Write` where a write fails or takes no byte: a beginning of the text was written then. `Memory` where the text
-/// can't be built: nothing was written then.
+/// `Write` where a write fails or takes no byte: at most a beginning of the text was written then. `Memory` where the
+/// text can't be built: nothing was written then.
 pub fn write_differences<W: Write>(
     alloc: Global,
     comparison: &Comparison,

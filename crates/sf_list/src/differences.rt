@@ -16,9 +16,9 @@ use sf_run::PartAnswers;
 use std::alloc::Global;
 use std::marker::Model;
 
-/// What differs between the answers of two stacks: the pairs of answers that differ, and where no piece is outstanding
-/// a picture of both stacks. A label of the picture is the place of a pair; the number of the pairs is the label of
-/// answers that are equal.
+/// What differs between the answers of two stacks: the regions' pairs of answers that differ, and where no piece is
+/// outstanding a picture of both stacks. A label of the picture is the place of a pair; the number of the pairs is the
+/// label of answers that are equal.
 #[derive(Drop)]
 pub struct Differences {
     pairs: Vec<PartAnswers>,
@@ -34,9 +34,9 @@ impl Model for Differences {
 }
 
 impl Differences {
-    /// The pairs of answers that differ, each once; `older` is the old stack's answer. They stand in the order of the
-    /// old stack's answers, and where these are equal, in that of the new one's: from the action with the highest
-    /// precedence to the one with the lowest, and those of one action by rising data.
+    /// The regions' pairs of answers that differ, each once; `older` is the old stack's answer. They stand in the order
+    /// of the old stack's answers, and where these are equal, in that of the new one's: from the action with the
+    /// highest precedence to the one with the lowest, and those of one action by rising data.
     pub fn pairs(&self) -> &[PartAnswers]
         ensures { result.now ≡ self.now.pairs }
     {
@@ -56,7 +56,8 @@ impl Differences {
 /// of the regions. The label of a region is the place of its two answers among `pairs`, or the number of the pairs
 /// where the two are equal. Once `leaves` leaves are drawn, no fork is begun any more. The caller's conditions: the
 /// first `old_count` programs are the old stack; `pairs` are those of the answers that differ, in the order of
-/// `pairs_of`; and no piece is outstanding. `Memory` where an allocation is refused.
+/// `pairs_of`; and no piece is outstanding. `Memory` where an allocation is refused, or something that is shared has
+/// too many owners.
 fn picture_by(
     alloc: Global,
     settled: &Settled,
@@ -86,7 +87,7 @@ fn picture_by(
 /// What differs between the answers of two stacks that were explored as one. There is no picture where a piece is
 /// outstanding; once `leaves` leaves of it are drawn, no fork is begun any more. The caller's conditions: the first
 /// `old_count` programs are the old stack, and `answers` are those of both stacks to each region, in the order of the
-/// regions. `Memory` where an allocation is refused.
+/// regions. `Memory` where an allocation is refused, or something that is shared has too many owners.
 fn differences_by(
     alloc: Global,
     settled: &Settled,
@@ -113,9 +114,11 @@ fn differences_by(
     })
 }
 
-/// The pairs of answers in which the two stacks of a comparison differ, and a picture of both, unless a piece is
-/// outstanding. Once `leaves` leaves are drawn, no fork is begun any more, so a leaf may have several labels. `Memory`
-/// where an allocation is refused.
+/// The regions' pairs of answers that differ in a comparison, and a picture of the two stacks. Only the picture is
+/// missing where a piece is outstanding. Once `leaves` leaves are drawn, no fork is begun any more, so a leaf may have
+/// several labels; on a stack that isn't plain it may have them in any case. Forks that were begun before are still
+/// finished, so more than `leaves` leaves may be drawn. `Memory` where an allocation is refused, or something that is
+/// shared has too many owners.
 pub fn draw_differences(
     alloc: Global,
     comparison: &Comparison,

@@ -29,7 +29,7 @@ pub struct ListingDocument {
     pub is_whole: bool,
 }
 
-/// Answers as JSON, one by one.
+/// Answers as JSON, one by one. An error where an allocation is refused.
 fn answer_documents(alloc: Global, answers: &[Answer]) -> Result<Vec<Document>, AllocError>
     ensures { IfOk result (λ v. map view v.items ≡ map answer_document answers.now) }
 {
@@ -40,9 +40,9 @@ fn answer_documents(alloc: Global, answers: &[Answer]) -> Result<Vec<Document>, 
     Ok(documents)
 }
 
-/// A listing as JSON, with the names of calls from these sets: the fields of `listing_document`. `answers` are meant to
-/// be those of the listing, as JSON, and `rows` those of its picture. `calls` says how these are shown. `Memory` where
-/// an allocation is refused.
+/// The document of `listing_document`, from parts of it. `answers` are meant to be the answers of the listing, as JSON,
+/// and `rows` the rows of its picture. `calls` says how the rows are shown, as at `listing_document`. `Memory` where an
+/// allocation is refused, or where a part's spans have too many owners.
 fn rows_listed(
     alloc: Global,
     listing: &Listing,
@@ -69,12 +69,15 @@ fn rows_listed(
     Ok(Document::object(fields))
 }
 
-/// A listing as JSON, with the names of calls from these sets: the size of the stack, the counts of its exploration,
-/// its rows, and how many these are. Beside the document it is said whether each input lies in a row with one answer.
+/// A listing as JSON, with the names of calls from these sets. The object has the name of the command (`list`, in the
+/// field `seccomp_audit`), the version of the form, the size of the stack, the counts of its exploration, its rows
+/// (`calls` and `rows`, as `RowDocuments` has them), and how many rows there are, and how many of these have several
+/// answers (`total`). Beside the document stands whether each input lies in a row with one answer.
 ///
-/// Without `calls` each row is shown by itself. Where `calls` names some, the rows of these calls are shown. Where it
-/// names none, the rows of all calls are shown, and then those of the inputs that belong to no call with a name. There
-/// are no rows where a piece is outstanding. `Memory` where an allocation is refused.
+/// Without `calls` each row is shown by itself. Where `calls` names some, the rows of these calls are shown; a name
+/// that no set has adds nothing. Where it names none, the rows of all calls are shown, and then those of the inputs
+/// that belong to no call with a name. There are no rows where a piece is outstanding. `Memory` where an allocation is
+/// refused, or where a part's spans have too many owners.
 pub fn listing_document(
     alloc: Global,
     listing: &Listing,
@@ -94,7 +97,8 @@ pub fn listing_document(
     Ok(ListingDocument { document, is_whole })
 }
 
-/// A pair of answers as JSON: that of the old stack, and that of the new one.
+/// A pair of answers as an object: the answer of the old stack (`old`), and that of the new one (`new`). An error where
+/// an allocation is refused.
 fn pair_document(alloc: Global, both: PartAnswers) -> Result<Document, AllocError>
     ensures { IfOk result (λ d. view d ≡ pair_document both) }
 {
@@ -104,7 +108,7 @@ fn pair_document(alloc: Global, both: PartAnswers) -> Result<Document, AllocErro
     Ok(Document::object(fields))
 }
 
-/// Pairs of answers as JSON, one by one.
+/// Pairs of answers as JSON, one by one. An error where an allocation is refused.
 fn pair_documents(alloc: Global, pairs: &[PartAnswers]) -> Result<Vec<Document>, AllocError>
     ensures { IfOk result (λ v. map view v.items ≡ map pair_document pairs.now) }
 {
@@ -115,7 +119,8 @@ fn pair_documents(alloc: Global, pairs: &[PartAnswers]) -> Result<Vec<Document>,
     Ok(documents)
 }
 
-/// The total of the rows, where there is a picture; `null` where there is none, since a piece is outstanding.
+/// Gives `total`, the total of the rows, where there is a picture. Gives the document `null` where there is no picture,
+/// since a piece is outstanding.
 fn total_if_drawn(picture: Option<&Picture>, total: Document) -> Document
     ensures { view result ≡ total_if_drawn (option_map (λ p. p.now) picture.entry) (view total) }
 {
@@ -125,8 +130,8 @@ fn total_if_drawn(picture: Option<&Picture>, total: Document) -> Document
     }
 }
 
-/// A comparison as JSON, with the names of calls from these sets: the fields of `differences_document`. `rows` are
-/// meant to be those of `rows_of` for `shown.only`. `Memory` where an allocation is refused.
+/// The document of `differences_document`, from the rows that are shown: `rows` are meant to be those of `rows_of` for
+/// `shown.only`. `Memory` where an allocation is refused, or where a part's spans have too many owners.
 fn rows_compared(
     alloc: Global,
     comparison: &Comparison,
@@ -151,11 +156,13 @@ fn rows_compared(
     Ok(Document::object(fields))
 }
 
-/// A comparison as JSON, and the rows in which the answers of its two stacks differ, with the names of calls from these
-/// sets: the fields of `comparison_fields`, the word for what the rows have in common, the rows, and how many they are.
-/// `shown` says which of the rows are shown, and how. Where a piece is outstanding, there are no rows, and `null`
-/// stands for their count. `differences` are meant to be those of `draw_differences` for this comparison. `Memory`
-/// where an allocation is refused.
+/// A comparison as JSON, with the rows in which the answers of its two stacks may differ, and with the names of calls
+/// from these sets. The object has the fields of `comparison_fields`, the word of `word_of` (`shown`), the rows
+/// (`calls` and `rows`), and how many there are (`total`). `shown` says which of the rows are shown, and how. Where a
+/// piece is outstanding, there are no rows, and `total` is `null`.
+///
+/// `differences` are meant to be those of `draw_differences` for this comparison. `Memory` where an allocation is
+/// refused, or where a part's spans have too many owners.
 pub fn differences_document(
     alloc: Global,
     comparison: &Comparison,

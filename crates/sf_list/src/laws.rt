@@ -63,8 +63,9 @@ pub fn each_row_has_its_differences()
     each_input_lies_in_one_row();
 }
 
-/// On plain stacks, where the picture isn't spent, a row that shows a difference has one pair of answers. The two
-/// answers differ, and the two stacks give them to each input of the row.
+/// On plain stacks a row that shows a difference has one pair of answers, if the picture isn't spent: the number of
+/// leaves that was allowed was enough for it. The two answers differ, and the two stacks give them to each input of the
+/// row.
 pub fn each_plain_row_has_one_difference()
     ensures { (s : BookData) (old_count : ℕ) (x : DifferencesData) (p : PictureData) (d : Input)
         (r : RowData) → IsSettled s → AreDifferences s old_count x → x.picture ≡ Some p
@@ -77,8 +78,9 @@ pub fn each_plain_row_has_one_difference()
     each_input_lies_in_one_row();
 }
 
-/// Two listings of one stack have the same text, where both leave nothing outstanding, and both were allowed the same
-/// number of leaves: whatever their budgets, whoever worked and in whatever order.
+/// Two listings of one stack have the same text, where both leave nothing outstanding, both were allowed the same
+/// number of leaves, and both are written with the same `sets` and `calls`. So the text is the same for any two
+/// budgets that suffice, and for any workers in any order.
 pub fn one_text()
     ensures { (files others : List (List ℕ)) (b c leaves : ℕ) (o p : Listed) →
         IsListing files b o → IsListing others c p →
@@ -106,8 +108,8 @@ pub fn one_document()
     pictures_have_one_result();
 }
 
-/// Two comparisons of the same stacks have the same text with their rows, where both leave nothing outstanding, and
-/// both were allowed the same number of leaves.
+/// Two comparisons of the same old and new stack have the same text with their rows, where both leave nothing
+/// outstanding, both were allowed the same number of leaves, and both are written with the same `sets` and `shown`.
 pub fn one_text_with_rows()
     ensures { (files others : List (List ℕ)) (old_count b c leaves : ℕ) (o p : Compared)
         (x y : DifferencesData) → IsComparisonWithRows files old_count b leaves o x

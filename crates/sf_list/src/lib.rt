@@ -1,5 +1,5 @@
 //! The whole picture of a stack of filter files, as rows: for each architecture and each run of call numbers what the
-//! stack answers, and on which words that depends. Also the rows in which the answers of two stacks differ.
+//! stack answers, and on which words that depends. Also the rows in which the answers of two stacks may differ.
 #![tactic(auto)]
 
 mod changed;

@@ -68,9 +68,11 @@ impl Listing {
 }
 
 /// The picture of an exploration, in which the label of a region is the first place of its answer among `answers`.
-/// `None` where a piece is outstanding. Once `leaves` leaves are drawn, no fork is begun any more. The caller's
-/// conditions: `answers` has the answer of each region, and is in the order of `answers_of`. `Memory` where an
-/// allocation is refused.
+/// `None` where a piece is outstanding. Once `leaves` leaves are drawn, no fork is begun any more, so a leaf may have
+/// several labels; on a stack that isn't plain it may have them in any case.
+///
+/// The caller's conditions: `answers` has the answer of each region, and is in the order of `answers_of`. `Memory`
+/// where an allocation is refused, or something that is shared has too many owners.
 fn picture_by(
     alloc: Global,
     settled: &Settled,
@@ -97,7 +99,8 @@ fn picture_by(
 }
 
 /// The listing of an exploration; it has no picture where a piece is outstanding. Once `leaves` leaves of the picture
-/// are drawn, no fork is begun any more. `Memory` where an allocation is refused.
+/// are drawn, no fork is begun any more, so a leaf may have several labels; on a stack that isn't plain it may have
+/// them in any case. `Memory` where an allocation is refused, or something that is shared has too many owners.
 fn listing_of(alloc: Global, settled: Settled, leaves: usize) -> Result<Listing, Fault>
     ensures same { IfOk result (λ l. l.settled ≡ settled) }
     ensures picture { IfOk result (λ l. MatchOption l.picture (0 < length settled.outstanding)
@@ -117,10 +120,16 @@ fn listing_of(alloc: Global, settled: Settled, leaves: usize) -> Result<Listing,
 
 /// Explores the stack that filter files spell, by at most `budget` works, and draws its picture, unless a piece is
 /// outstanding. The files stand in order of installation, the newest last. Once `leaves` leaves are drawn, no fork is
-/// begun any more, so a leaf may have several labels. The gate sees each work before it is committed.
+/// begun any more, so a leaf may have several labels; on a stack that isn't plain it may have them in any case. The
+/// gate sees each work before it is committed.
 ///
-/// The caller's conditions: a budget from 1 to 1,000,000, and 1 to 64 workers (where there are more than one, each gets
-/// a thread, if it can be started). Refusals: those of `stack_of`. `Memory` can come anywhere. Waits for the workers.
+/// The caller's conditions: a budget from 1 to 1,000,000 (the contract holds for others too), and 1 to 64 workers.
+/// Where there are more than one, each gets a thread, unless it can't be started or nothing is left to do. Waits for
+/// the workers.
+///
+/// Refusals, tried in this order: `NoFilter` where there is no file, `TooMany` where there are more than 64; for each
+/// file in order `Ragged`, `Empty` or `TooLong` for its length, or the first fault of its instructions; `PathLength`
+/// where the path through all filters is longer than 32768. `Memory` can come anywhere.
 pub fn list<R: Threads + Wait + Sync, G: Gate>(
     rt: &R,
     alloc: Global,

@@ -1,4 +1,4 @@
-//! The text of a listing.
+//! The text of a listing. After an error a part of what was to be added may stand in the text; `text_of` drops it.
 
 ghost use Rattle.std.specs.Prelude.{◌≡◌, ◌⊎◌, ◌++◌, ◌≤◌, IfOk, IfErr, OnOk, OnErr, count_by, length, map, option_map, string_bytes};
 ghost use Rattle.std.specs.Io.KnownBytes.{Appends};
@@ -19,7 +19,7 @@ use std::alloc::{AllocError, Global};
 use std::io::Write;
 
 /// Adds the line with the size of the stack: how many filters it has, and the length of the path through them. The
-/// caller's condition: there are at most 64 programs.
+/// caller's condition: there are at most 64 programs. An error where an allocation is refused.
 fn push_stack(text: &mut String, programs: &[Program]) -> Result<(), AllocError>
     requires { length programs.now ≤ 64 }
     ensures { OnOk result (string_bytes text.new ≡ string_bytes text.old
@@ -43,8 +43,8 @@ fn title_of(calls: &Option<Vec<&str>>) -> &'static str
     }
 }
 
-/// The word for what the last line counts: `lines` where `calls` is given, since each call has lines of its own then;
-/// else `rows`.
+/// The word for what the last line counts: `lines` where `calls` is given, since each call that is shown has its own
+/// lines then; else `rows`.
 fn counted_of(calls: &Option<Vec<&str>>) -> &'static str
     ensures { result.now
         ≡ counted_words (option_map (λ v. map (λ t. t.now) v.items) calls.now) }
@@ -53,6 +53,7 @@ fn counted_of(calls: &Option<Vec<&str>>) -> &'static str
 }
 
 /// Adds what stands above the rows: the line of `title_of`, the size of the stack, and the counts of the exploration.
+/// An error where an allocation is refused.
 fn push_head(
     text: &mut String,
     calls: &Option<Vec<&str>>,
@@ -66,7 +67,8 @@ fn push_head(
     push_counts(text, settled.counts())
 }
 
-/// Adds the last line: the word of `counted_of`, how many lines show rows, and how many of them have several answers.
+/// Adds the last line: `total`, the word of `counted_of`, how many lines show rows (`lines.count`), and how many of
+/// them have several answers. An error where an allocation is refused.
 fn push_total(text: &mut String, calls: &Option<Vec<&str>>, lines: Lines) -> Result<(), AllocError>
     ensures { OnOk result (string_bytes text.new ≡ string_bytes text.old
         ++ rows_total_line (option_map (λ v. map (λ t. t.now) v.items) calls.now)
@@ -81,9 +83,10 @@ fn push_total(text: &mut String, calls: &Option<Vec<&str>>, lines: Lines) -> Res
     )
 }
 
-/// The whole text of a listing, with the names of calls from these sets. `calls` says how the rows are shown, as at
+/// The whole text of a listing, with the names of calls from these sets: its title, the size of the stack, the counts
+/// of the exploration, the lines of the rows, and a line that counts these. `calls` says how the rows are shown, as at
 /// `write_listing`. The caller's condition: `rows` are those of the listing's picture; none where it has no picture.
-/// `Memory` where an allocation is refused.
+/// `Memory` where an allocation is refused, or where a part's spans have too many owners.
 fn text_of(
     alloc: Global,
     listing: &Listing,
@@ -116,12 +119,12 @@ pub(crate) fn is_whole(listing: &Listing, undetermined: usize) -> bool
 /// Writes the text of a listing, with the names of calls from these sets. Returns whether each input lies in a row with
 /// one answer: no piece is outstanding, and no row has several answers.
 ///
-/// Without `calls` each row has a line. Where `calls` names some, each row of each of these calls has one. Where it
-/// names none, each row of all calls has one, and then each row of the inputs that belong to no call with a name. There
-/// are no rows where a piece is outstanding.
+/// Without `calls` each row has a line. Where `calls` names some, each row of each of these calls has one; a name that
+/// no set has adds none. Where it names none, each row of all calls has one, and then each row of the inputs that
+/// belong to no call with a name. There are no rows where a piece is outstanding.
 ///
-/// `Write` where a write fails or takes no byte: a beginning of the text was written then. `Memory` where the text
-/// can't be built: nothing was written then.
+/// `Write` where a write fails or takes no byte: at most a beginning of the text was written then. `Memory` where the
+/// text can't be built: nothing was written then.
 pub fn write_listing<W: Write>(
     alloc: Global,
     listing: &Listing,
