@@ -11,8 +11,9 @@ use sf_insn::Input;
 use sf_json::{Document, Fields, input_document};
 use std::alloc::{AllocError, Global};
 
-/// A filter as JSON: its number, from 1, the word for what was found of it, and an example; `example` is `null` where
-/// there is none.
+/// The object of one filter: its number, counted from 1 (`number`), the word for what was found of it, which is
+/// `needed`, `spare` or `unsettled` (`result`), and an example (`example`). Without an example the caller gives null
+/// for it. An error where an allocation is refused.
 fn finding_object(
     alloc: Global,
     number: usize,
@@ -28,8 +29,8 @@ fn finding_object(
     Ok(Document::object(fields))
 }
 
-/// A filter that is needed, as JSON: its number, the word `needed`, and as the example this input, which gets further
-/// without the filter. The call of the example isn't named.
+/// The object of a filter that is needed: its number, the word `needed`, and as the example this input, which gets
+/// further without the filter. The call of the example isn't named. An error where an allocation is refused.
 fn needed_document(alloc: Global, number: usize, input: &Input) -> Result<Document, AllocError>
     ensures { IfOk result (λ d. view d ≡ needed_document number input.now) }
 {
@@ -37,7 +38,8 @@ fn needed_document(alloc: Global, number: usize, input: &Input) -> Result<Docume
     finding_object(alloc, number, "needed", example)
 }
 
-/// A filter as JSON: its number, what was found of it, and an example where it is needed.
+/// The object of one filter: its number, what was found of it, and an example, which is null where the filter isn't
+/// needed. An error where an allocation is refused.
 fn finding_document(alloc: Global, number: usize, finding: Change) -> Result<Document, AllocError>
     ensures { IfOk result (λ d. view d ≡ finding_document number finding) }
 {
@@ -48,7 +50,8 @@ fn finding_document(alloc: Global, number: usize, finding: Change) -> Result<Doc
     }
 }
 
-/// All filters as JSON, in their order, with numbers from 1.
+/// The objects of all filters (`finding_document`), in their order, with numbers from 1. An error where an allocation
+/// is refused.
 fn finding_documents(alloc: Global, findings: &[Change]) -> Result<Vec<Document>, AllocError>
     ensures { IfOk result (λ v. map view v.items ≡ finding_documents 1 findings.now) }
 {
@@ -61,7 +64,7 @@ fn finding_documents(alloc: Global, findings: &[Change]) -> Result<Vec<Document>
 }
 
 /// The numbers, from 1, of the filters at the places that are kept, each as JSON. The caller's condition: each place is
-/// below 64.
+/// below 64. An error where an allocation is refused.
 fn kept_documents(alloc: Global, kept: &[usize]) -> Result<Vec<Document>, AllocError>
     requires { All (λ p. p < 64) kept.now }
     ensures { IfOk result (λ v. map view v.items ≡ map (λ p. count (p + 1)) kept.now) }
@@ -73,7 +76,8 @@ fn kept_documents(alloc: Global, kept: &[usize]) -> Result<Vec<Document>, AllocE
     Ok(documents)
 }
 
-/// The size of the stack as JSON: how many filters it has, and the length of the path through them.
+/// The size of the stack as JSON: how many filters it has, and the length of the path through them. An error where an
+/// allocation is refused.
 fn size_document(alloc: Global, needs: &Needs) -> Result<Document, AllocError>
     ensures { IfOk result (λ d. view d ≡ size_document needs.now) }
 {
@@ -83,7 +87,8 @@ fn size_document(alloc: Global, needs: &Needs) -> Result<Document, AllocError>
     Ok(Document::object(fields))
 }
 
-/// The totals as JSON: how many filters were found needed, spare and unsettled, and how many are kept.
+/// The totals as JSON: how many filters were found needed, spare and unsettled, and how many are kept. An error where
+/// an allocation is refused.
 fn totals_document(alloc: Global, needs: &Needs) -> Result<Document, AllocError>
     ensures { IfOk result (λ d. view d ≡ needed_totals_document needs.now) }
 {
@@ -95,9 +100,9 @@ fn totals_document(alloc: Global, needs: &Needs) -> Result<Document, AllocError>
     Ok(Document::object(fields))
 }
 
-/// Which filters of a stack are needed, as JSON: the size of the stack, what was found of each filter with an example
-/// where it is needed, the numbers of the filters that are kept, and how many filters are needed, spare, unsettled and
-/// kept. An error where an allocation is refused.
+/// Which filters of a stack are needed, as JSON. The object has the name of the command (`needed`, in the field
+/// `seccomp_audit`), the version of the form, the size of the stack, what was found of each filter, the numbers of the
+/// filters that are kept, and the totals. An error where an allocation is refused.
 pub fn needs_document(alloc: Global, needs: &Needs) -> Result<Document, AllocError>
     ensures { IfOk result (λ d. view d ≡ needs_document needs.now) }
 {

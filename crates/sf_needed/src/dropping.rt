@@ -15,8 +15,10 @@ use std::thread::Threads;
 /// Compares the stack of the filters at the places `kept` with the same stack without one of them: the one at `place`
 /// of the list `kept`. While no filter has been dropped, the result is taken from `trials`. The caller's conditions:
 /// `trials` are those of `try_each` for the task; `kept` is what is left of the whole stack where filters are dropped
-/// one after another, as `drop_while_alike` does; and `place` is below the length of `kept`. Refusals: those of
-/// `try_without`.
+/// one after another, as `drop_while_alike` does; and `place` is below the length of `kept`.
+///
+/// The only error is `Memory`. The contract permits the refusals of `try_without` too, but they don't come: `trials`
+/// are of larger stacks, which weren't refused.
 fn trial_of<R: Threads + Wait + Sync, G: Gate>(
     rt: &R,
     task: &Task<'_>,
@@ -49,8 +51,12 @@ fn is_never(change: Change) -> bool
 }
 
 /// Whether the filter at `place` of the list `kept` can be dropped: a comparison finds that the others that are left
-/// answer each input as before. Where the comparison is unsettled, the filter can't be dropped. The caller's conditions
-/// and the refusals are those of `trial_of`.
+/// answer each input as before. Where the comparison is unsettled, the filter can't be dropped.
+///
+/// The caller's conditions: `trials` are those of `try_each` for the task; `kept` is what is left of the whole stack
+/// where filters are dropped one after another, as `drop_while_alike` does; and `place` is below the length of `kept`.
+/// The gate sees each work of the comparison before it is committed. The only error is `Memory`; `trial_of` says why no
+/// other refusal comes.
 fn is_droppable<R: Threads + Wait + Sync, G: Gate>(
     rt: &R,
     task: &Task<'_>,
@@ -85,8 +91,11 @@ fn place_to_try(place: usize, count: usize) -> usize
 /// Drops filters of `kept` one after another, each where a comparison finds that the others that are left answer each
 /// input as before. Tries them in order, and after the last one begins again, until each filter that is left has been
 /// tried since the last drop. The caller's conditions: `kept` has the places of all filters, or what is left of them by
-/// such drops, and `trials` are those of `try_each` for the task. Refusals: those of `try_without`; `kept` lacks the
-/// filters that were dropped until then.
+/// such drops, and `trials` are those of `try_each` for the task. In the end `kept` may be empty: a stack without
+/// filters allows each input.
+///
+/// The gate sees each work of the comparisons before it is committed. The only error is `Memory`: `kept` lacks the
+/// filters that were dropped until then. `trial_of` says why no other refusal comes.
 pub(crate) fn drop_while_alike<R: Threads + Wait + Sync, G: Gate>(
     rt: &R,
     task: &Task<'_>,

@@ -9,7 +9,7 @@ ghost use Rattle.sf_needed.specs.Needs.{AnswerAlike, Describes, IsFoundWithout, 
 
 use sf_check::laws::one_program_of_a_file;
 
-/// However many filters were dropped one after another, those that are left answer each input as the whole stack does.
+/// However many filters `drop_while_alike` has dropped, those that are left answer each input as the whole stack does.
 pub fn dropping_changes_no_answer()
     ensures { (files : List (List ℕ)) (budget : ℕ) (places : List ℕ) →
         IsLeft files budget places → AnswerAlike files places }
@@ -17,8 +17,9 @@ pub fn dropping_changes_no_answer()
     one_program_of_a_file();
 }
 
-/// What a comparison of a stack with the stack without one of its filters finds of this filter is true. Where it is
-/// found spare, no input gets further without it; where it is found needed, its example does.
+/// A comparison of a stack with the stack without one of its filters finds the truth about this filter. Where it finds
+/// the filter spare, no input gets further without the filter. Where it finds the filter needed, the example gets
+/// further without the filter.
 pub fn a_finding_describes_its_filter()
     ensures { (files : List (List ℕ)) (place budget : ℕ) (finding : Change)
         (programs : List (List Insn)) → IsFoundWithout files place budget Looser finding

@@ -1,5 +1,6 @@
 //! Which filters of a stack are needed, for all inputs: each is looked at by a comparison of the whole stack with the
-//! stack without it. And a set of the filters that answers as the whole stack does, and of which none can be dropped.
+//! stack without it. And a set of the filters that answers as the whole stack does, and of which no comparison finds
+//! one that can be dropped.
 #![tactic(auto)]
 
 mod counting;

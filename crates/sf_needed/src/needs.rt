@@ -55,7 +55,8 @@ impl Needs {
         self.findings.as_slice()
     }
 
-    /// The places, from 0, of the filters that are kept, in rising order.
+    /// The places, from 0, of the filters that are kept, in rising order. Empty where all filters were dropped: a stack
+    /// without filters allows each input.
     pub fn kept(&self) -> &[usize]
         ensures same { result.now ≡ self.now.kept }
         ensures few { AreFewFilters self.now }
@@ -92,7 +93,8 @@ impl Needs {
     }
 }
 
-/// The places of this many filters: the numbers from 0 on that are below `count`, in rising order.
+/// The places of this many filters: the numbers from 0 on that are below `count`, in rising order. An error where an
+/// allocation is refused.
 fn places_of(alloc: Global, count: usize) -> Result<Vec<usize>, AllocError>
     ensures { IfOk result (λ v. v.items ≡ range_with_len 0 count) }
 {
@@ -104,8 +106,12 @@ fn places_of(alloc: Global, count: usize) -> Result<Vec<usize>, AllocError>
 }
 
 /// For each filter of the task, in their order, compares the whole stack with the stack without this filter. The
-/// caller's condition: `all` has the places of all filters of the task, in rising order. Refusals: those of
-/// `try_without`.
+/// caller's condition: `all` has the places of all filters of the task, in rising order.
+///
+/// Refusals: `TooMany` where both stacks of a comparison have more than 64 filters together, `PathLength` where the
+/// path through both is longer than 32768. `Memory` can come anywhere. Where the files of the task spell no stack,
+/// the other refusals of `stack_of` come too; `needed` has seen that they spell one. The gate sees each work of the
+/// comparisons before it is committed.
 fn try_each<R: Threads + Wait + Sync, G: Gate>(
     rt: &R,
     task: &Task<'_>,
@@ -125,7 +131,8 @@ fn try_each<R: Threads + Wait + Sync, G: Gate>(
     Ok(trials)
 }
 
-/// What was found of each filter by its trial: whether some input gets further without it.
+/// What each trial found of its filter, in the same order: whether some input gets further without the filter. An error
+/// where an allocation is refused.
 fn findings_of(alloc: Global, trials: &[Trial]) -> Result<Vec<Change>, AllocError>
     ensures { IfOk result (λ v. v.items ≡ map (λ t. t.looser) trials.now) }
 {
@@ -143,15 +150,19 @@ fn findings_of(alloc: Global, trials: &[Trial]) -> Result<Vec<Change>, AllocErro
 ///
 /// A filter is needed where some input gets further without it, and spare where none does; it is unsettled where
 /// neither is found. Then filters that can be dropped are dropped one after another, in order and again from the first,
-/// until no filter that is left can be dropped. Where the comparison doesn't settle whether a filter can be dropped, it
-/// is kept. Where the only filter of a stack is left out, a filter that allows all stands in its place.
+/// until no filter that is left can be dropped. Where a comparison doesn't settle whether a filter can be dropped, it
+/// isn't dropped then. Where the only filter of a stack is left out, a filter that allows all stands in its place; so
+/// it may be that no filter is kept.
 ///
-/// The caller's conditions: a budget of works, for each comparison, from 1 to 1,000,000, and 1 to 64 workers (where
-/// there are more than one, each gets a thread, if it can be started). The gate sees each work before it is committed.
+/// The caller's conditions: a budget of works, for each comparison, from 1 to 1,000,000 (the contract holds for others
+/// too), and 1 to 64 workers. Where there are more than one, each gets a thread, unless it can't be started or nothing
+/// is left to do. The gate sees each work before it is committed.
 ///
-/// Refusals, tried in this order: those of `stack_of` for the files; `TooMany` where the stack and the stack without
-/// one filter have more than 64 filters together; `PathLength` where the path through both is longer than 32768.
-/// `Memory` can come anywhere. Waits for the workers.
+/// Refusals, tried in this order: `NoFilter` where there is no file, `TooMany` where there are more than 64; for each
+/// file in order `Ragged`, `Empty` or `TooLong` for its length, or the first fault of its instructions; `PathLength`
+/// where the path through all filters is longer than 32768; `TooMany` where the stack and the stack without one filter
+/// have more than 64 filters together; `PathLength` where the path through both is longer than 32768. `Memory` can come
+/// anywhere. Waits for the workers.
 pub fn needed<R: Threads + Wait + Sync, G: Gate>(
     rt: &R,
     alloc: Global,

@@ -12,8 +12,9 @@ use sf_policy::{Fault, hex_of, write_bytes};
 use std::alloc::{AllocError, Global};
 use std::io::Write;
 
-/// Adds the line of a filter: its number, from 1, what was found of it, and where it is needed the hexadecimal digits
-/// of its example's bytes.
+/// Adds the line of a filter: `filter`, its number, from 1, and a word for what was found of it. The word is `spare`
+/// for `Never`, `unsettled` for `Unsettled`, and `needed` for `Found`. Behind `needed` come the bytes of the example's
+/// input as hexadecimal digits. An error where an allocation is refused; a part of the line may be added then.
 fn push_finding(
     alloc: Global,
     text: &mut String,
@@ -33,7 +34,8 @@ fn push_finding(
     }
 }
 
-/// Adds the lines of all filters, in their order, with numbers from 1.
+/// Adds the lines of all filters, in their order, with numbers from 1. An error where an allocation is refused: part of
+/// the lines may be added then.
 fn push_findings(alloc: Global, text: &mut String, findings: &[Change]) -> Result<(), AllocError>
     ensures { OnOk result (string_bytes text.new ≡ string_bytes text.old
         ++ finding_lines 1 findings.now) }
@@ -45,7 +47,8 @@ fn push_findings(alloc: Global, text: &mut String, findings: &[Change]) -> Resul
 }
 
 /// Adds the numbers, from 1, of the filters at the places that are kept, each after a blank. Where there are none, adds
-/// a blank and a dash. The caller's condition: each place is below 64.
+/// a blank and a dash. The caller's condition: each place is below 64. An error where an allocation is refused: some
+/// numbers may be added then.
 fn push_numbers(text: &mut String, kept: &[usize]) -> Result<(), AllocError>
     requires { All (λ p. p < 64) kept.now }
     ensures { OnOk result (string_bytes text.new ≡ string_bytes text.old ++ kept_words kept.now) }
@@ -59,8 +62,8 @@ fn push_numbers(text: &mut String, kept: &[usize]) -> Result<(), AllocError>
     Ok(())
 }
 
-/// Adds the line of the filters that are kept: the word `kept` and their numbers. The caller's condition: each place is
-/// below 64.
+/// Adds the line of the filters that are kept: the word `kept`, and what `push_numbers` adds. The caller's condition:
+/// each place is below 64. An error where an allocation is refused: part of the line may be added then.
 fn push_kept(text: &mut String, kept: &[usize]) -> Result<(), AllocError>
     requires { All (λ p. p < 64) kept.now }
     ensures { OnOk result (string_bytes text.new ≡ string_bytes text.old ++ kept_line kept.now) }
@@ -70,7 +73,8 @@ fn push_kept(text: &mut String, kept: &[usize]) -> Result<(), AllocError>
     text.push_str("\n")
 }
 
-/// Adds the line with the size of the stack: how many filters it has, and the length of the path through them.
+/// Adds the line with the size of the stack: how many filters it has, and the length of the path through them. An error
+/// where an allocation is refused: part of the line may be added then.
 fn push_size(text: &mut String, filters: usize, path: usize) -> Result<(), AllocError>
     ensures { OnOk result (string_bytes text.new ≡ string_bytes text.old
         ++ needed_size_line filters path) }
@@ -78,7 +82,8 @@ fn push_size(text: &mut String, filters: usize, path: usize) -> Result<(), Alloc
     write!(text, "filters {filters} path {path}\n")
 }
 
-/// Adds what stands above the lines of the filters: the version of the text, and the size of the stack.
+/// Adds the two lines above those of the filters: the version of the text, and the size of the stack. An error where an
+/// allocation is refused: part of the lines may be added then.
 fn push_head(text: &mut String, needs: &Needs) -> Result<(), AllocError>
     ensures { OnOk result (string_bytes text.new ≡ string_bytes text.old
         ++ needed_head_text needs.now) }
@@ -87,7 +92,8 @@ fn push_head(text: &mut String, needs: &Needs) -> Result<(), AllocError>
     push_size(text, needs.findings().len(), needs.path_length())
 }
 
-/// Adds the last line: how many filters were found needed, spare and unsettled, and how many are kept.
+/// Adds the last line: how many filters were found needed, spare and unsettled, and how many are kept. An error where
+/// an allocation is refused: part of the line may be added then.
 fn push_total(text: &mut String, needs: &Needs) -> Result<(), AllocError>
     ensures { OnOk result (string_bytes text.new ≡ string_bytes text.old
         ++ needed_total_line needs.now) }
@@ -102,8 +108,8 @@ fn push_total(text: &mut String, needs: &Needs) -> Result<(), AllocError>
     )
 }
 
-/// The whole text that says which filters are needed: the size of the stack, a line for each filter, the filters that
-/// are kept, and the totals. An error where an allocation is refused.
+/// The whole text that says which filters are needed. Its lines are the version of the text, the size of the stack, one
+/// line for each filter, the filters that are kept, and the totals. An error where an allocation is refused.
 pub fn text_of_needs(alloc: Global, needs: &Needs) -> Result<String, AllocError>
     ensures { IfOk result (λ text. string_bytes text ≡ needs_text needs.now) }
 {
@@ -117,8 +123,8 @@ pub fn text_of_needs(alloc: Global, needs: &Needs) -> Result<String, AllocError>
 
 /// Writes the text that says which filters are needed.
 ///
-/// `Write` where a write fails or takes no byte: a beginning of the text was written then. `Memory` where the text
-/// can't be built: nothing was written then.
+/// `Write` where a write fails or takes no byte: at most a beginning of the text was written then. `Memory` where the
+/// text can't be built: nothing was written then.
 pub fn write_needed<W: Write>(alloc: Global, needs: &Needs, out: &mut W) -> Result<(), Fault>
     // The text is written, where the writer's bytes are known.
     ensures written { OnOk result (Appends (W.contents out.old) (W.contents out.new)

@@ -57,7 +57,7 @@ pub(crate) struct Trial {
     pub(crate) different: Change,
 }
 
-/// A copy of a filter file.
+/// A copy of a filter file. An error where an allocation is refused.
 fn copy_of(filter: &Vec<u8>) -> Result<Vec<u8>, AllocError>
     ensures { IfOk result (λ v. v.items ≡ filter.now.items) }
 {
@@ -66,7 +66,7 @@ fn copy_of(filter: &Vec<u8>) -> Result<Vec<u8>, AllocError>
 }
 
 /// Adds copies of the filter files at these places, in the order of the places. The caller's condition: each place is
-/// that of a filter file. Where an allocation is refused, `files` has got some of the copies.
+/// that of a filter file. An error where an allocation is refused: `files` may have got some of the copies then.
 fn push_filters(
     files: &mut Vec<Vec<u8>>,
     filters: &[Vec<u8>],
@@ -109,9 +109,9 @@ fn push_rest(
     push_filters(files, filters, &places[place + 1..])
 }
 
-/// Copies of the files of two stacks, one after the other: first the filter files at these places, and then what
-/// `push_rest` adds, the stack without the one at `place` of the list `places`. The caller's conditions: each place is
-/// that of a filter file, and `place` is below the length of `places`.
+/// Copies of the files of two stacks, one after the other: first the filter files at these places, and then the same
+/// files without the one at `place` of the list `places`, as `push_rest` adds them. The caller's conditions: each place
+/// is that of a filter file, and `place` is below the length of `places`. An error where an allocation is refused.
 fn files_of_both(
     alloc: Global,
     filters: &[Vec<u8>],
@@ -129,10 +129,14 @@ fn files_of_both(
     Ok(files)
 }
 
-/// Compares the stack of the filters at these places, as the old one, with the stack without the one at `place` of the
-/// list `places`; where this is the only one, a filter that allows all stands in its place. The caller's conditions:
-/// each place is that of a filter of the task, and `place` is below the length of `places`. Refusals: those of
-/// `stack_of` for the files of both stacks together. `Memory` can come anywhere. Waits for the workers.
+/// Compares an old and a new stack. The old one has the task's filters at these places. The new one has the same
+/// filters without the one at `place` of the list `places`; where none is left, it has one filter, which allows all.
+/// The gate sees each work before it is committed. Waits for the workers.
+///
+/// The caller's conditions: each place is that of a filter of the task, and `place` is below the length of `places`.
+/// Refusals, tried in this order for the files of both stacks together: `TooMany` where there are more than 64; for
+/// each file in order `Ragged`, `Empty` or `TooLong` for its length, or the first fault of its instructions;
+/// `PathLength` where the path through all filters is longer than 32768. `Memory` can come anywhere.
 pub(crate) fn try_without<R: Threads + Wait + Sync, G: Gate>(
     rt: &R,
     task: &Task<'_>,
