@@ -94,7 +94,7 @@ pub struct AuditTask<'t, 'p, 'm, 'a> {
 struct AskedContents {
     /// The questions of the policies.
     questions: Vec<Question>,
-    /// For each of these questions, at its place, the policy file and the line where it stands, as an object.
+    /// For each of these questions, at its place, the policy file and, if known, the line where it stands: an object.
     origins: Vec<Document>,
     /// The questions of the control; none where no control is given.
     control: Vec<Question>,
@@ -102,9 +102,14 @@ struct AskedContents {
     accepted: Vec<String>,
 }
 
-/// Reads the policy files, then that of the control, and then that of the questions that may be allowed. The notes get
-/// what the three functions keep in them. The refusal is that of the first file that is refused, as `all_questions_in`,
-/// `control_in` or `accepted_in` refuses it. `Memory` can come anywhere.
+/// Reads the policy files by `all_questions_in`, then that of the control by `control_in`, and then the file of the
+/// questions that may be allowed by `accepted_in`. The notes count each file that is read. They keep the bytes of the
+/// last policy or control that was read, and why it is refused, if it is.
+///
+/// The refusal is that of the first file that is refused: `Read` where it can't be read or is too long; `Syntax` where
+/// it isn't UTF-8; then, for a policy or the control, what `read_policy` of `sf_policy` refuses, and for the file of
+/// questions that may be allowed `Accepted`, where a line has two words or more, or a word that isn't the name of
+/// exactly one question of the policies. `Memory` can come anywhere.
 fn read_questions<F: Files>(
     alloc: Global,
     asked: &Asked<'_, '_>,
@@ -128,7 +133,7 @@ fn read_questions<F: Files>(
 
 /// The replies to the questions of a control, in their order, by an exploration that has ended; an empty list where
 /// there are no questions. The gate sees each sheet of verdicts before it is entered. The caller's condition: 1 to 64
-/// workers. `Count` where there are more than 256 questions, `Memory` where an allocation is refused.
+/// workers. Refusals: `Count` where there are more than 256 questions. `Memory` can come anywhere.
 fn replies_to<R: Threads + Wait + Sync, G: Gate>(
     means: &Means<'_, '_, R, G>,
     settled: &Settled,
@@ -147,10 +152,14 @@ fn replies_to<R: Threads + Wait + Sync, G: Gate>(
 }
 
 /// Audits the stack of these filters with the questions that were read, and finds by the same exploration the replies
-/// to the questions of the control. Gives the outcome; the control, its replies and the accepted names; and the origins
-/// that were read. Of the options only the budget and the number of workers count. The caller's condition: 1 to 64
-/// workers. Refusals: those of `audit` of `sf_audit`, and then `Count` where the control has more than 256 questions.
-/// `Memory` can come anywhere.
+/// to the questions of the control. Gives three values: the outcome; an `Expected` of the control, its replies and the
+/// accepted names; and the origins that were read. Only the budget and the number of workers are taken from the
+/// terms.
+///
+/// The gate sees each work before it is committed, and each sheet of verdicts before it is entered. The caller's
+/// conditions: 1 to 64 workers, and a budget from 1 to 1,000,000. Refusals, tried in this order: what `stack_of`
+/// refuses, as a wrong filter or too many of them; `Count` where there are no questions or more than 256, or where the
+/// control has more than 256. `Memory` can come anywhere.
 fn audit_filters<R: Threads + Wait + Sync, G: Gate>(
     means: &Means<'_, '_, R, G>,
     filters: &[Vec<u8>],
@@ -209,8 +218,8 @@ fn remark_of(alloc: Global, names: &[Names], stack: &Stack, reply: Reply) -> Res
     }
 }
 
-/// The remarks on replies, in their order: for each why the stack answers its example as it does, or an empty text.
-/// `Memory` where an allocation is refused.
+/// The remarks on these replies, in the same order, one for each, as `remark_of` gives it. `Memory` where an allocation
+/// is refused.
 fn remarks_of(
     alloc: Global,
     names: &[Names],
@@ -247,9 +256,10 @@ fn remarks_if_asked(
     remarks_of(alloc, names, outcome.settled().stack(), outcome.replies())
 }
 
-/// Writes what an audit found: the report, and behind it what isn't as expected; or if `json` one JSON document.
-/// `telling` says which parts of this are shown, and has the remarks. `Write` where writing fails (a beginning may be
-/// written then). `Memory` where an allocation is refused; nothing is written then.
+/// Writes what an audit found: if `json` one JSON document, and else the report, with the lines of `lines_behind`
+/// behind it. `telling` says which parts of this are shown, and has the remarks; for the document it also has the names
+/// of calls and where each question stands. `Write` where writing fails (a beginning may be written then). `Memory`
+/// where an allocation is refused; nothing is written then.
 fn write_audit<O: Write>(
     alloc: Global,
     json: bool,
@@ -279,18 +289,23 @@ fn write_audit<O: Write>(
 }
 
 /// Reads the files that ask and then the filter files, which are named in order of installation. Audits the stack of
-/// the filters, writes the report, and behind it what isn't as expected, and gives the exit status, as
-/// `status_of_audit` has it. The options can ask for a line for each settled region; for lines under each allowed
-/// question that say why the stack answers its example as it does, with the names of the task; and for one JSON
-/// document in place of all that text. The notes count the files, and get the warnings. The gate sees each work before
-/// it is committed, and each sheet of verdicts before it is entered. The caller's condition: 1 to 64 workers.
+/// the filters, writes the report, and gives the exit status: 2 where the control doesn't hold; else 1 where an allowed
+/// question has a name that isn't an accepted one; else 2 where some question is unsettled; else 0. Where a control or
+/// a file of questions that may be allowed is given, the lines that say what isn't as expected stand behind the report.
 ///
-/// Refusals, tried in this order: those of the policy files, then that of the control, then that of the file of
-/// questions that may be allowed, each of which is `Read` where the file can't be read, `Syntax` where it isn't UTF-8,
-/// or what `read_policy` or `read_accepted` refuses; `Read` where a filter file can't be read; what `audit` of
-/// `sf_audit` refuses; `Count` where the control has more than 256 questions; `Write` where standard output can't be
-/// written (a beginning of the report may be written then). `Memory` can come anywhere. After any error but `Write`
-/// nothing is written.
+/// The terms can ask for a line for each settled region; for lines under each allowed question that say why the stack
+/// answers its example as it does, with the names of the task; and for one JSON document in place of all that text. The
+/// notes count the files, and get the warnings. The gate sees each work before it is committed, and each sheet of
+/// verdicts before it is entered. At the end `files` takes over the outcome. The caller's conditions: 1 to 64 workers,
+/// and a budget from 1 to 1,000,000.
+///
+/// Refusals, tried in this order (`Fault` says when each comes): for each policy file and then for the control `Read`,
+/// `Syntax`, `Version`, `TopKey`, `Count`, or `Key`, `Name`, `Range`, `Mask` or `Actions` of a question; for the file
+/// of questions that may be allowed `Read`, `Syntax` or `Accepted`; `Read` where a filter file can't be read or is too
+/// long; `NoFilter`, `TooMany`, a fault of one filter (`Ragged` to `Scratch`) or `PathLength`; `Count` where there are
+/// no questions or more than 256, or where the control has more; `Write` where standard output can't be written (a
+/// beginning of the text may be written then). `Memory` can come anywhere. After any error but `Write` nothing is
+/// written.
 pub fn audit<R: Threads + Wait + Sync, F: Files, G: Gate, O: Write>(
     means: &Means<'_, '_, R, G>,
     task: &AuditTask<'_, '_, '_, '_>,

@@ -57,7 +57,7 @@ pub struct ComparisonTask<'t, 'm, 'a> {
 
 /// The bytes of the old filter files and then those of the new ones, in one list; and how many of the files in the list
 /// are old. Of each stack only the first 65 files are kept, as by `read_all`. The notes count the files that were read.
-/// The refusals are those of `read_all`, first for the old files.
+/// `Read` at the first file that can't be read or is too long; `Memory` where an allocation is refused.
 fn read_both<F: Files>(
     alloc: Global,
     old: &[&str],
@@ -101,10 +101,10 @@ fn write_found<O: Write>(
     write_document(alloc, &document, out)
 }
 
-/// Writes what is found of two stacks, and of the rows in which their answers differ those that the task asks for: a
-/// text, or one JSON document where the task asks for that. `differences` are meant to be those of `draw_differences`
-/// for this comparison. `Write` where writing fails (a beginning may be written then). `Memory` where an allocation is
-/// refused; nothing is written then.
+/// Writes what is found of two stacks, with the rows in which their answers differ: a text, or one JSON document if
+/// `task.terms.json`. `task.shown` says which of these rows are shown, and how. `differences` are meant to be those of
+/// `draw_differences` for this comparison. `Write` where writing fails (a beginning may be written then). `Memory`
+/// where the text can't be built; nothing is written then.
 fn write_rows<O: Write>(
     alloc: Global,
     comparison: &Comparison,
@@ -126,9 +126,9 @@ fn write_rows<O: Write>(
     write_document(alloc, &document, out)
 }
 
-/// Writes what is found of two stacks. Where the task asks for rows, these are drawn, and those that it asks for are
-/// written too. `Write` where writing fails (a beginning may be written then). `Memory` where an allocation is refused;
-/// nothing is written then.
+/// Writes what is found of two stacks. If `task.terms.rows`, the rows in which their answers differ are drawn and
+/// written too, as by `write_rows`. `Write` where writing fails (a beginning may be written then). `Memory` where the
+/// rows can't be drawn or the text can't be built; nothing is written then.
 fn write_compared<O: Write>(
     alloc: Global,
     comparison: &Comparison,
@@ -150,13 +150,15 @@ fn write_compared<O: Write>(
 }
 
 /// Reads the old filter files and then the new ones, each named in order of installation. Compares their stacks, writes
-/// what is found, and gives the exit status: what `status_of_change` has for the relation that is asked for. The notes
-/// count the files, and get the warnings. The gate sees each work before it is committed. The caller's condition: 1 to
-/// 64 workers.
+/// what is found, and gives the exit status: 0 where no input has the relation `task.terms.asked` between its two
+/// answers, 1 where an example is found, 2 where neither is known. The notes count the files, and get the warnings. The
+/// gate sees each work before it is committed. At the end `files` takes over the comparison. The caller's conditions: 1
+/// to 64 workers, and a budget and leaves from 1 to 1,000,000.
 ///
-/// Refusals, tried in this order: `Read` where a file can't be read; what `compare` of `sf_compare` refuses; `Write`
-/// where standard output can't be written (a beginning of the text may be written then). `Memory` can come anywhere.
-/// After any error but `Write` nothing is written.
+/// Refusals, tried in this order: `Read` where a file can't be read or is too long; what `stack_of` refuses for the
+/// files of both stacks together, as if they were one stack; `Write` where standard output can't be written (a
+/// beginning of the text may be written then). `Memory` can come anywhere. After any error but `Write` nothing is
+/// written.
 pub fn compare<R: Threads + Wait + Sync, F: Files, G: Gate, O: Write>(
     means: &Means<'_, '_, R, G>,
     task: &ComparisonTask<'_, '_, '_>,

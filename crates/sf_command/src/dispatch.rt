@@ -39,7 +39,11 @@ use std::io::Write;
 use std::sync::Wait;
 use std::thread::Threads;
 
-/// The sets of calls in the files that `--names` gives, file after file. The refusals are those of `read_all_names`.
+/// The sets of calls in the files that `--names` gives, file after file; an empty list where the option isn't given.
+/// The notes count the files, and the sets of each. The caller's condition: the notes have counted no file before.
+///
+/// The refusal is that of the first file that is refused: `Read`, `Syntax`, `NamesKey` or `NamesRange` (`Fault` says
+/// when each comes). `Memory` can come anywhere.
 fn names_of<F: Files>(
     alloc: Global,
     found: &ArgMatches<'_>,
@@ -71,8 +75,11 @@ fn with_gate<'r, 'g, R, M, G>(means: &Means<'r, '_, R, M>, gate: &'g G) -> Means
     }
 }
 
-/// Runs `audit` as the matches of the subcommand say, and gives its exit status, 0 to 2, as `command` explains it. The
-/// refusals are those of the files of names, and then those of `audit`.
+/// Runs `audit` as the matches of the subcommand say, and gives the exit status that it gives, 0 to 2. The caller has
+/// seen by `words_fit_for` that the words fit, and the notes have counted no file before.
+///
+/// Refusals, tried in this order: `Read`, `Syntax`, `NamesKey` or `NamesRange` for a file of names; those of `audit`.
+/// `Memory` can come anywhere. After any error but `Write` nothing is written.
 fn run_audit<R: Threads + Wait + Sync, F: Files, M: Meter, O: Write>(
     means: &Means<'_, '_, R, M>,
     found: &ArgMatches<'_>,
@@ -114,8 +121,10 @@ fn run_audit<R: Threads + Wait + Sync, F: Files, M: Meter, O: Write>(
     audit(&with_gate(means, &gate), &task, files, notes, out)
 }
 
-/// Runs `check` on the filter files that the matches of the subcommand name. The exit status is 0. The refusals are
-/// those of `check`.
+/// Runs `check` on the filter files that the matches of the subcommand name. The exit status is 0.
+///
+/// Refusals, tried in this order: `Read` where a file can't be read or is too long; what `stack_of` refuses; `Write`
+/// where standard output can't be written. `Memory` can come anywhere. After any error but `Write` nothing is written.
 fn run_check<F: Files, O: Write>(
     alloc: Global,
     found: &ArgMatches<'_>,
@@ -139,10 +148,14 @@ fn run_check<F: Files, O: Write>(
 }
 
 /// Runs `eval` on the input that the words of the subcommand ask for, and on the filter files that they name. The
-/// caller has seen by `words_fit_for` that the words have the right form. The exit status is 0.
+/// caller has seen by `words_fit_for` that the words have the right form, and the notes have counted no file before.
+/// The exit status is 0.
 ///
-/// Refusals, tried in this order: `Input` where no input is spelled, or a number is too wide; those of the files of
-/// names; `UnknownName` where a name that is given is none of theirs; and those of `evaluate`.
+/// Refusals, tried in this order: `Input` where `--input` spells no input, or a number is too wide, as `numbers_fit`
+/// says; `Read`, `Syntax`, `NamesKey` or `NamesRange` for a file of names; `UnknownName` where no set has the name
+/// behind `--arch`, or that set has no call with the name behind `--call`; `Read` where a filter file can't be read or
+/// is too long; what `stack_of` refuses; `Write` where standard output can't be written. `Memory` can come anywhere.
+/// After any error but `Write` nothing is written.
 fn run_eval<F: Files, O: Write>(
     alloc: Global,
     found: &ArgMatches<'_>,
@@ -201,7 +214,8 @@ fn relation_named(word: &str) -> Relation
 }
 
 /// The relation that `--only` names: only rows that have it are shown. `None` where the option isn't given: then all
-/// rows with a difference are shown.
+/// rows with a difference are shown. The caller has seen by `rows_fit` that the word is `looser`, `tighter` or
+/// `different`; any other would give `Different`.
 fn relation_of_rows(found: &ArgMatches<'_>) -> Option<Relation>
     ensures { result ≡ relation_of_rows (first_of (codes "only") (rows_of (found_of found.now))) }
 {
@@ -211,9 +225,12 @@ fn relation_of_rows(found: &ArgMatches<'_>) -> Option<Relation>
     }
 }
 
-/// Runs `compare` as the matches of the subcommand say, and gives its exit status, 0 to 2, as `command` explains it.
-/// The refusals are those of the files of names, `UnknownName` where `--calls` names a call that no set has, and then
-/// those of `compare`.
+/// Runs `compare` as the matches of the subcommand say, and gives the exit status that it gives, 0 to 2. The caller has
+/// seen by `words_fit_for` that the words fit, and the notes have counted no file before.
+///
+/// Refusals, tried in this order: `Read`, `Syntax`, `NamesKey` or `NamesRange` for a file of names; `UnknownName` where
+/// `--calls` names a call that no set has; those of `compare`. `Memory` can come anywhere. After any error but `Write`
+/// nothing is written.
 fn run_compare<R: Threads + Wait + Sync, F: Files, M: Meter, O: Write>(
     means: &Means<'_, '_, R, M>,
     found: &ArgMatches<'_>,
@@ -257,9 +274,12 @@ fn run_compare<R: Threads + Wait + Sync, F: Files, M: Meter, O: Write>(
     compare(&with_gate(means, &gate), &task, files, notes, out)
 }
 
-/// Runs `list` as the matches of the subcommand say, and gives its exit status, 0 or 2, as `command` explains it. The
-/// refusals are those of the files of names, `UnknownName` where `--calls` names a call that no set has, and then those
-/// of `list`.
+/// Runs `list` as the matches of the subcommand say, and gives the exit status that it gives, 0 or 2. The caller has
+/// seen by `words_fit_for` that the words fit, and the notes have counted no file before.
+///
+/// Refusals, tried in this order: `Read`, `Syntax`, `NamesKey` or `NamesRange` for a file of names; `UnknownName` where
+/// `--calls` names a call that no set has; those of `list`. `Memory` can come anywhere. After any error but `Write`
+/// nothing is written.
 fn run_list<R: Threads + Wait + Sync, F: Files, M: Meter, O: Write>(
     means: &Means<'_, '_, R, M>,
     found: &ArgMatches<'_>,
@@ -295,8 +315,8 @@ fn run_list<R: Threads + Wait + Sync, F: Files, M: Meter, O: Write>(
     list(&with_gate(means, &gate), &task, files, notes, out)
 }
 
-/// Runs `needed` as the matches of the subcommand say, and gives its exit status, 0 to 2, as `command` explains it. The
-/// refusals are those of `needed`.
+/// Runs `needed` as the matches of the subcommand say, and gives the exit status that it gives, 0 to 2. The refusals
+/// are those of `needed`: `Read`, a fault of the filters, `Write` or `Memory`.
 fn run_needed<R: Threads + Wait + Sync, F: Files, M: Meter, O: Write>(
     means: &Means<'_, '_, R, M>,
     found: &ArgMatches<'_>,
@@ -321,9 +341,10 @@ fn run_needed<R: Threads + Wait + Sync, F: Files, M: Meter, O: Write>(
     needed(&with_gate(means, &gate), paths, terms, files, notes, out)
 }
 
-/// Whether the words of the subcommand with this name fit: each option has a word of a form that it takes, and the
-/// options go together. True for any other name: `clap` has checked everything else. This is asked before any file is
-/// read.
+/// Whether the words of the subcommand with this name fit: each option but `--input` has a word of a form that it
+/// takes, and the options go together. Only the words of the five subcommands below are looked at, as the functions
+/// called here say.
+/// `true` for any other name, since `clap` has checked everything else. `run` asks this before any file is read.
 fn words_fit_for(name: &str, found: &ArgMatches<'_>) -> bool
     ensures { result ≡ words_fit_for name.now (rows_of (found_of found.now)) }
 {
@@ -337,9 +358,13 @@ fn words_fit_for(name: &str, found: &ArgMatches<'_>) -> bool
     }
 }
 
-/// Runs the subcommand that the command line names, and gives its exit status. It is 4 where none of the seven is
-/// named, or where the subcommand's words don't fit; no file is read then, and nothing is written. The refusals are
-/// those of the subcommand.
+/// Runs the subcommand that the command line names, and gives its exit status. The status is 4 where none of the seven
+/// subcommands below is named, or where the subcommand's words don't fit, as `words_fit_for` and `profile` say; no file
+/// is read then, and nothing is written. Otherwise it is 0 to 2. The caller's condition: the notes have counted no file
+/// before.
+///
+/// The refusals are those of the subcommand: the fault of a file, a name or an input that is refused; `Read`, `Write`
+/// or `Memory`. The function that is called for it lists them. After any error but `Write` nothing is written.
 fn run<R: Threads + Wait + Sync, F: Files, M: Meter, O: Write>(
     means: &Means<'_, '_, R, M>,
     matches: &ArgMatches<'_>,
@@ -375,10 +400,15 @@ fn run<R: Threads + Wait + Sync, F: Files, M: Meter, O: Write>(
     }
 }
 
-/// Does what the words of the command line ask for, and gives the exit status, or the fault for which that could not be
-/// done. The lines that explain a fault of a subcommand are kept in the notes. The warnings of a subcommand without a
-/// fault, and lines about words that don't fit, are written to standard error. Where `clap` gives no matches, as where
-/// help is asked for, `write_usage` writes its text and gives the status.
+/// Does what the words after the program's name ask for, and gives the exit status, or the fault for which that could
+/// not be done. After a fault of a subcommand the notes have what `explain` keeps in them: which policy is refused, and
+/// the lines that explain the fault, if they are asked for. After a subcommand without a fault its warnings are written
+/// to standard error, unless `--quiet` is given. Where the words of a subcommand don't fit, lines that say so are
+/// written there instead, if there is memory for them.
+///
+/// Where `clap` gives no matches, as where help is asked for, `write_usage` writes its text and gives the status, 0 or
+/// 4. The fault is then `Write` or `Memory`; else it is that of `run`, or `Memory` from before a subcommand is run.
+/// After any fault but `Write` nothing is written to standard output. The caller's condition: the notes are new.
 fn run_words<R: Threads + Wait + Sync, F: Files, M: Meter, O: Write, E: Write>(
     means: &Means<'_, '_, R, M>,
     words: &[String],
@@ -415,24 +445,25 @@ fn run_words<R: Threads + Wait + Sync, F: Files, M: Meter, O: Write, E: Write>(
 
 /// Does what the words after the program's name ask for, and gives the exit status:
 ///
-/// - 0: done. After an audit the control holds, and each question is never, or allowed with an accepted name. After a
-///   comparison the relation that is asked for is never. After a listing each input lies in a row with one answer.
-///   After `needed` each filter is needed.
-/// - 1: the control of an audit holds, but some question is allowed whose name isn't accepted; the relation that is
+/// - 0: done, also where help or the version is asked for. After an audit the control holds, and each question is
+///   never, or allowed with an accepted name. After a comparison the relation that is asked for is never. After a
+///   listing each input lies in a row with one answer. After `needed` each filter is needed.
+/// - 1: the control of an audit holds, but an allowed question has a name that isn't accepted; or the relation that is
 ///   asked for is found; or some filter is spare.
 /// - 2: the control of an audit doesn't hold; or nothing gives status 1, and some question, the relation or some filter
-///   is unsettled; after a listing some row has several answers, or a piece is outstanding.
-/// - 3: the filters, a policy, a profile, a file of names, the file of `--accept`, a name behind `--calls` or the input
-///   are refused. Standard output is left as it was.
+///   is unsettled; or, after a listing, some row has several answers or a piece is outstanding.
+/// - 3: the filters, a policy, a profile, a file of names, the file of `--accept`, a name behind `--calls`, `--call` or
+///   `--arch`, or the input is refused. Standard output is left as it was.
 /// - 4: the command line is refused. No file was read, standard output is left as it was, and standard error has the
-///   text of `clap`, or of `tell_wrong_words`.
+///   text of `clap`, or that of `tell_wrong_words` if there was memory for it, and else nothing.
 /// - 5: reading, writing or memory failed. Standard output is left as it was, unless writing failed.
 ///
 /// The gate of the means sees each work and each sheet of verdicts where `--progress` is given. Else it isn't called.
 ///
-/// At 0 to 2 standard error gets the warnings, unless `--quiet` is given. At 3 and 5 one line on standard error names
-/// the fault: `error`, its number, its name and its place. With `--explain-errors`, or where `files` say so, lines for
-/// a person follow.
+/// At 0 to 2 standard error gets the warnings, or a line that there was no memory for them, unless `--quiet` is given.
+/// At 3 and 5 one line on standard error names the fault: `error`, its number, its name and its place, if it has one.
+/// With `--explain-errors`, or where `files` say so, lines for a person follow the fault of a subcommand, if there is
+/// memory for them. It isn't looked at whether standard error can be written.
 pub fn command<R: Threads + Wait + Sync, F: Files, M: Meter, O: Write, E: Write>(
     means: &Means<'_, '_, R, M>,
     words: &[String],

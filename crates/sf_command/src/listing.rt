@@ -41,7 +41,7 @@ pub struct ListingTask<'t, 'm, 'a> {
     /// Sets of calls, by which calls are named.
     pub sets: &'t [Names],
     /// The names of the calls whose rows are written, call by call. An empty list stands for all calls; the rows of the
-    /// inputs that belong to no call with a name then come after these. `None`: each row has a line of its own.
+    /// inputs that belong to no call with a name then come after these. `None`: each row is written by itself.
     pub calls: &'t Option<Vec<&'a str>>,
     /// How the listing is done and written.
     pub terms: ListingTerms,
@@ -49,7 +49,7 @@ pub struct ListingTask<'t, 'm, 'a> {
 
 /// Writes a listing, as text or if `json` as one JSON document. `sets` and `calls` are as in `ListingTask`. Gives
 /// whether the listing is whole: each input lies in a row with one answer. `Write` where writing fails (a beginning may
-/// be written then). `Memory` where an allocation is refused; nothing is written then.
+/// be written then). `Memory` where the text can't be built; nothing is written then.
 fn write_listed<O: Write>(
     alloc: Global,
     listing: &Listing,
@@ -76,11 +76,12 @@ fn write_listed<O: Write>(
 /// Reads the filter files, which are named in order of installation, explores their stack and writes its rows, with the
 /// names of calls from the sets. Where the task has `calls`, the rows are written call by call, as `ListingTask` says.
 /// The exit status is 0 where each input lies in a row with one answer, and else 2. The notes count the files, and get
-/// the warnings. The gate sees each work before it is committed. The caller's condition: 1 to 64 workers.
+/// the warnings. The gate sees each work before it is committed. At the end `files` takes over the listing. The
+/// caller's conditions: 1 to 64 workers, and a budget and leaves from 1 to 1,000,000.
 ///
-/// Refusals, tried in this order: `Read` where a file can't be read; what `list` of `sf_list` refuses; `Write` where
-/// standard output can't be written (a beginning of the text may be written then). `Memory` can come anywhere. After
-/// any error but `Write` nothing is written.
+/// Refusals, tried in this order: `Read` where a file can't be read or is too long; what `stack_of` refuses;
+/// `Write` where standard output can't be written (a beginning of the text may be written then). `Memory` can come
+/// anywhere. After any error but `Write` nothing is written.
 pub fn list<R: Threads + Wait + Sync, F: Files, G: Gate, O: Write>(
     means: &Means<'_, '_, R, G>,
     task: &ListingTask<'_, '_, '_>,

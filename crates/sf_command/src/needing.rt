@@ -44,14 +44,16 @@ fn write_needs<O: Write>(alloc: Global, needs: &Needs, json: bool, out: &mut O) 
     write_document(alloc, &document, out)
 }
 
-/// Reads the filter files, which are named in order of installation. Finds which of the filters are needed, by
-/// comparisons of which each commits at most `terms.budget` works. Writes what is found, and gives the exit status, as
-/// `status_of_needs` has it. The notes count the files. The gate sees each work before it is committed. The caller's
-/// condition: 1 to 64 workers.
+/// Reads the filter files, which are named in order of installation. Finds which of the filters are needed, as `needed`
+/// of `sf_needed` does; each of its comparisons commits at most `terms.budget` works. Writes what is found, and gives
+/// the exit status: 1 where some filter is spare, else 2 where some is unsettled, else 0. The notes count the files.
+/// The gate sees each work before it is committed. The caller's conditions: 1 to 64 workers, and a budget from 1 to
+/// 1,000,000.
 ///
-/// Refusals, tried in this order: `Read` where a file can't be read; what `needed` of `sf_needed` refuses; `Write`
-/// where standard output can't be written (a beginning of the text may be written then). `Memory` can come anywhere.
-/// After any error but `Write` nothing is written.
+/// Refusals, tried in this order: `Read` where a file can't be read or is too long; what `stack_of` refuses; `TooMany`
+/// where the stack and the stack without one filter have more than 64 filters together; `PathLength` where the path
+/// through both is longer than 32768; `Write` where standard output can't be written (a beginning of the text may be
+/// written then). `Memory` can come anywhere. After any error but `Write` nothing is written.
 pub fn needed<R: Threads + Wait + Sync, F: Files, G: Gate, O: Write>(
     means: &Means<'_, '_, R, G>,
     paths: &[&str],

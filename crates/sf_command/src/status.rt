@@ -7,8 +7,8 @@ use sf_audit::{Expected, Outcome, count_unsettled};
 use sf_compare::Change;
 use sf_needed::Needs;
 
-/// The exit status of an audit: 2 where the control doesn't hold; else 1 where some question is allowed whose name
-/// isn't an accepted one; else 2 where some question is unsettled; else 0.
+/// The exit status of an audit: 2 where the control doesn't hold; else 1 where an allowed question has a name that
+/// isn't an accepted one; else 2 where some question of the audit is unsettled; else 0.
 pub fn status_of_audit(expected: &Expected, outcome: &Outcome) -> u8
     ensures status { result ≡ audit_status expected.now outcome.now }
     ensures few { result ≤ 2 }

@@ -25,8 +25,8 @@ pub(crate) struct Watched<'a, M> {
 }
 
 impl<'a, M: Meter> Watched<'a, M> {
-    /// The gate that passes calls on to this meter if `is_wanted`. If so, it gives the meter the budget here; else the
-    /// meter isn't called at all.
+    /// The gate that passes calls on to this meter if `is_wanted`. The meter is given the budget here then, by `begin`.
+    /// Else the meter isn't called at all.
     pub(crate) fn of(meter: &'a M, is_wanted: bool, budget: u32) -> Watched<'a, M> {
         if is_wanted {
             meter.begin(budget);
