@@ -56,9 +56,10 @@ fn bytes_of<R: FileSystem + AllocGlobal>(rt: &R, path: &str) -> io::Result<Vec<u
 }
 
 impl<R: FileSystem + Input + AllocGlobal> Disk<'_, R> {
-    /// The bytes of the file at a path, or of standard input where the path is `-`: this counts as read from then on,
-    /// also after an error. At most one byte more than `MOST_BYTES` is read. The errors are those of `bytes_of` and
-    /// `bytes_of_input`.
+    /// The bytes of the file at a path, or of standard input where the path is `-`. Standard input counts as read
+    /// (`is_input_read`) from then on, also after an error. At most one byte more than `MOST_BYTES` is read, which
+    /// shows the caller that it is too long. An error where the file can't be opened, where it or standard input can't
+    /// be read, or where an allocation is refused.
     fn bytes_at(&mut self, path: &str) -> io::Result<Vec<u8>> {
         if path != STANDARD_INPUT {
             return bytes_of(self.rt, path);
@@ -132,12 +133,14 @@ impl<R: Env> Env for AfterName<'_, R> {
         }
     }
 
-    /// Hands on to `rt`.
+    /// Hands on to `rt`: writes into `buf` the value of the variable with this name, and gives its length in bytes, or
+    /// an error where there is no such variable, or `buf` is too short for it.
     fn var(&self, name: &str, buf: &mut [u8]) -> Result<usize, FillError> {
         self.rt.var(name, buf)
     }
 
-    /// Hands on to `rt`.
+    /// Hands on to `rt`: writes into `buf` the variable at the place `i`, from 0, usually as `NAME=value`. Gives its
+    /// length in bytes, or an error where there is none at this place, or `buf` is too short for it.
     fn var_at(&self, i: usize, buf: &mut [u8]) -> Result<usize, FillError> {
         self.rt.var_at(i, buf)
     }
@@ -156,8 +159,9 @@ fn asks_to_explain<R: Env>(rt: &R) -> bool {
     matches!(rt.var(EXPLAIN, &mut value), Ok(1)) && value[0] == b'1'
 }
 
-/// Writes to standard error why there are no words. Gives the exit status: 4 where a word is no UTF-8, and 5, that of
-/// refused memory, where an allocation was refused. These are the errors of `words_of`.
+/// Writes to standard error why there are no words, and gives the exit status. `error` is meant to be one of
+/// `words_of`. The status is 5, that of `Memory`, where an allocation was refused. Otherwise a word isn't UTF-8, and
+/// the status is 4. It isn't looked at whether the write succeeds.
 fn no_words<E: Write>(error: &io::Error, err: &mut E) -> u8 {
     if error.kind() == ErrorKind::OutOfMemory {
         return tell_fault(&Fault::Memory, err);
