@@ -172,7 +172,7 @@ def differences(page, part):
             yield f"{file} is one of laws, and a contract reaches what it defines"
     paragraphs = "\n".join(page[at:end]).split("\n\n")
     for paragraph in filter(None, (part.told, part.types)):
-        yield "" if paragraph in map(str.strip, paragraphs) else f"lacks this paragraph: {paragraph}"
+        yield "" if paragraph in map(str.strip, paragraphs) else f"lacks this paragraph: {' '.join(paragraph.splitlines())}"
     for word in part.lost:
         yield f"`{word}` is named there or in {PROVED}, and no crate has it"
 
@@ -200,4 +200,6 @@ def look(words):
         lines = text_of(PAGE).splitlines()
     found = [f"{PAGE}: {part.title}: {one}" if one else "" for part in parts for one in differences(lines, part)]
     failed = [one for one in found if one]
+    if not failed and written(lines, parts) != text_of(PAGE):
+        failed.append(f"{PAGE}: a row or a count stands there twice, or out of its place: see what --write makes of it")
     return failed, len(found) - len(failed)

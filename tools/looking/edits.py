@@ -6,11 +6,13 @@
 Edits are of two tiers: the gate tries those of `must-fail/`, and `tools/try_edits` those of `must-fail-more/`. An edit
 is of the function whose text holds the first text that it replaces, and each text that it replaces stands once in its
 file. A crate's exported functions are those that its lib.rt hands out: `pub fn` items that a `pub use` names, and the
-`pub fn` methods of exported types. Laws, whose bodies do nothing, are left out. The others have an edit of either tier,
-or a line in `must-fail-more/WITHOUT.md` of their crate that says why not: one `- `NAME`: WHY` a function, and none for
-a function with an edit. Edits, exported functions and lines of those files are counted.
+`pub fn` methods of exported types. Laws, whose bodies do nothing, are left out: the functions of a `laws.rt` that have
+no result. The others have an edit of either tier, or a line in `must-fail-more/WITHOUT.md` of their crate that says why
+not: one `- `NAME`: WHY` a function, and none for a function with an edit. Looked at are crates with a folder of edits,
+and all whose names begin with `sf_`. Edits, exported functions and lines of those files are counted.
 """
 import re
+from collections import Counter
 
 from looking.rattle import functions_of, handed_out, replacements
 from looking.tree import crates, sources
@@ -40,16 +42,18 @@ def exported(crate):
     library = crate / "src/lib.rt"
     names, modules = handed_out(library.read_text()) if library.exists() else (set(), [])
     for source in sources(crate):
-        for it in functions_of(source.read_text()) if source.stem != "laws" else []:
-            if it.is_public and ((it.owner or it.name) in names or source.stem in modules):
+        text = source.read_text()
+        for it in functions_of(text):
+            is_law = source.stem == "laws" and "->" not in text[it.start : it.end]
+            if it.is_public and not is_law and ((it.owner or it.name) in names or source.stem in modules):
                 yield str(source.relative_to(crate)), it.name
 
 
 def reasons(crate):
-    """The functions that have no edit, by the crate's own list, and why."""
+    """The functions that have no edit, by the lines of the crate's own list, and why."""
     path = crate / "must-fail-more/WITHOUT.md"
     text = path.read_text() if path.exists() else ""
-    return dict(re.findall(r"^- `([^`]+)`: (.+)$", text, re.M))
+    return re.findall(r"^- `([^`]+)`: (.+)$", text, re.M)
 
 
 def faults(crate, is_shown):
@@ -64,10 +68,12 @@ def faults(crate, is_shown):
             edits += 1
     functions = list(exported(crate))
     bare = [name for file, name in functions if (file, name) not in covered]
-    told, right = reasons(crate), edits - len(wrong) + len(functions) - len(bare)
+    told, right = dict(reasons(crate)), edits - len(wrong) + len(functions) - len(bare)
     wrong += [f"{name}: no edit in its body, and no line that says why" for name in bare if name not in told]
     others = [name for name in told if name not in bare]
     wrong += [f"{name}: in WITHOUT.md, but not an exported function without an edit" for name in others]
+    counts = Counter(name for name, _ in reasons(crate))
+    wrong += [f"{name}: {count} lines in WITHOUT.md" for name, count in counts.items() if count > 1]
     if is_shown:
         print(f"{crate.name}: {edits} edits, {len(functions)} exported functions, {len(bare)} of them without one")
         print("\n".join(rows + [f"  without: {name}: {told[name]}" for name in bare if name in told]))
@@ -76,6 +82,6 @@ def faults(crate, is_shown):
 
 def look(names):
     """The faults of the crates that are named, or of all, and how many edits, functions and lines are right."""
-    some = [crate for crate in crates(names) if any((crate / tier).is_dir() for tier in TIERS)]
+    some = [one for one in crates(names) if one.name.startswith("sf_") or any((one / tier).is_dir() for tier in TIERS)]
     every = [faults(crate, bool(names)) for crate in some]
     return [fault for found, _ in every for fault in found], sum(right for _, right in every)

@@ -6,14 +6,14 @@ past 100 bytes.
 
 In crates/ the .antt files are looked at, but for their `use` lines, and in .rt files comments, clauses (`requires`,
 `ensures`) and ghost items. The bytes of clauses are counted, as many tools do, so a clause of symbols is broken earlier.
-A paragraph of a comment is filled anew, as one of a document is. A line is
-broken at a space, where it belongs together least: outside brackets rather than inside, and there before an arrow
-rather than between a function and what it is applied to. What comes after goes on below, four columns further in. The
-tokens stay what they are, so nothing changes for the prover.
+A paragraph of a comment is filled anew, as one of a document is; one behind code is broken by hand. A line is broken at
+a space, where it belongs together least: outside brackets rather than inside, and there before an arrow rather than
+between a function and what it is applied to. What comes after goes on below, four columns further in. The tokens stay
+what they are, so nothing changes for the prover.
 
 Documents are the .md files that git knows outside crates/. A row of a table may be longer there, and in a block what a
 command prints, or a line with the digits of an input. --write fills each paragraph anew that has a long line; commands
-are broken by hand. Files are counted.
+and headings are broken by hand. Files are counted.
 """
 import re
 import subprocess
@@ -41,6 +41,7 @@ CLAUSE = re.compile(r"^\s*(ensures|requires)\b[^{]*\{ ")
 GHOST = re.compile(r"^(\s*ghost \w+(?: =|:) \{ )(.*) (\}[;,])$")
 USE = re.compile(r"(pub )?use ")
 COMMENT = re.compile(r" *//[/!]?(?= |$)")
+BEHIND = re.compile(r"\S +// ")
 
 # In a document: lines that belong to no paragraph, an entry of a list, the indent and mark of a line, the digits of an
 # input, and words that make something else of a line which begins with them.
@@ -245,6 +246,8 @@ def of_document(text, width=OF_DOCUMENTS):
         done += paragraph
         if is_block:
             long += is_long(line, done[-1].endswith("\\"), width)
+        elif start.startswith(("#", "<!--")):
+            long += len(line) > width
         is_block ^= is_fence
         paragraph = [line] if not is_block and ENTRY.match(start) else []
         done += [] if paragraph else [line]
@@ -267,6 +270,7 @@ def of_source(text):
             head = mark[0]
             block.append(line)
         else:
+            long += len(line) > OF_COMMENTS and bool(BEHIND.search(line))
             done.append(line)
     return "\n".join(done[:-1]), long
 

@@ -128,7 +128,7 @@ def modules_in(library):
 def names_declared(text):
     """The names that a module declares, and the labels of its clauses."""
     text = re.sub(r"//.*", "", text)
-    found = set(re.findall(r"\b(?:fn|struct|enum|trait|type|const|static|mod)\s+(\w+)", text))
+    found = set(re.findall(r"\b(?:fn|struct|enum|trait|type|const(?! fn)|static|mod)\s+(\w+)", text))
     found |= set(re.findall(r"\b(?:requires|ensures|ghost)\s+(\w+)\s*[{:]", text))
     # Fields and parameters.
     found |= set(re.findall(r"(?:^ +(?:pub(?:\(\w+\))? )?|[(,]\s*(?:mut )?)(\w+): (?!:)", text, re.M))
@@ -210,10 +210,9 @@ def lines_of(text):
 
 
 def lemma_of(line):
-    """The name of the lemma that a line begins, or None: it is no record and no `unfoldable` definition."""
+    """The name of the lemma or definition that a line begins, or None."""
     head = head_of(line)
-    is_lemma = head and head.indent == 0 and not {"record", "data", "unfoldable"}.intersection(head.words)
-    return head.name if is_lemma else None
+    return head.name if head and head.indent == 0 else None
 
 
 def lemmas_in(text):
@@ -239,17 +238,17 @@ def is_field(head):
 
 
 def names_used(text):
-    """The names that stand in a file, beside the imports. The first word of a clause defines it, and isn't a use."""
+    """The names that stand in a file, beside imports and comments. The first word of a clause defines it, and isn't a use."""
     found = set()
-    for line in lines_of(text):
+    for line in (re.sub(r" (--|//) .*", "", line) for line in lines_of(text)):
         own = lemma_of(line) or (line.split(" ", 1)[0] if line[:1].strip() else None)
         found.update(name for name in re.findall(r"[A-Za-z+][\w'≡≤<+-]*", line) if name != own)
     return found
 
 
 def proofs_imported(text):
-    """The crates from whose `proofs/` a file imports."""
-    return set(re.findall(r"(?m)^use Rattle\.(\w+)\.proofs\b", text))
+    """The crates from whose `proofs/` a file imports, or whose lemmas it cites for a tactic."""
+    return set(re.findall(r"\b(\w+)(?:\.|::)proofs\b", text))
 
 
 # ---- edits

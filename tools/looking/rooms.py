@@ -4,18 +4,24 @@
 
 `proofs/MODULE/FUNCTION` has answers for a function of that module, and `proofs/MODULE/TYPE/METHOD` for a method of a
 type that the module declares, whichever module has the method. The other files of `specs/` and `proofs/` are those that
-their `Lib.antt` names, none is named for a module but for the case of its letters, and files whose names end in `Laws`
-hold no definition that others may cite. No crate imports from the `proofs/` of another. An edit is a file `NAME.edit`
-of `must-fail/`, which the gate tries, or of `must-fail-more/`, and no name is in both; beside the latter's may stand
-`WITHOUT.md`. The gate tries at most 70 of all crates. Folders with answers and files are counted.
+their `Lib.antt` names, none of `proofs/` is named for a module but for the case of its letters, and files whose names
+end in `Laws` hold no definition that others may cite. No crate imports from the `proofs/` of another, or cites it. An
+edit is a file `NAME.edit` of `must-fail/`, which the gate tries, or of `must-fail-more/`, and no name is in both; beside
+the latter's may stand `WITHOUT.md`. The gate tries at most 70 of all crates. A crate has no further files, but for what
+a program is run on, and what comes of that. Folders with answers and files are counted.
 """
 from collections import namedtuple
 
+from looking.edits import TIERS
 from looking.rattle import functions_of, has_public_definition, modules_in, proofs_imported, types_of
 from looking.tree import CRATES, crates, shown, sources
 
 # How many edits the gate tries at most, of all crates.
 MOST_EDITS = 70
+
+# What a crate has beside its folders of edits and `out`; and for the folders of its code and proofs how a file's name ends.
+RUN_ON = {"args", "stdin", "stdout", "status", "data"}
+ENDS = {"src": ".rt", "specs": ".antt", "proofs": ".antt"}
 
 # What a module has, and what there is where there is no module.
 Module = namedtuple("Module", "functions types")
@@ -72,7 +78,7 @@ def files(crate, known):
 def imports(crate):
     """Faults of files that import from the proofs of another crate."""
     found = []
-    for path in sorted([*crate.glob("specs/*.antt"), *crate.glob("proofs/**/*.antt")]):
+    for path in sorted([*crate.glob("specs/*.antt"), *crate.glob("proofs/**/*.antt"), *sources(crate)]):
         others = sorted(proofs_imported(path.read_text()) - {crate.name})
         found += [f"{path}: imports from the proofs of {other}" for other in others if (crate.parent / other).is_dir()]
     return found
@@ -89,12 +95,22 @@ def edits(crate):
     return found, len(gate) + len(more)
 
 
+def elsewhere(crate):
+    """Faults of files that stand in no room of a crate."""
+    found = [path for path in crate.iterdir() if path.name not in {*RUN_ON, *ENDS, *TIERS, "out"}]
+    for room, end in ENDS.items():
+        found += [path for path in (crate / room).rglob("*") if path.is_file() and path.suffix != end]
+    found += (crate / "specs").glob("*/**/*.antt")
+    return [f"{path}: no room of a crate has such a file" for path in sorted(found)]
+
+
 def look(names):
     """The faults of the crates that are named, or of all, and how many folders and files are right."""
     faults, passed = [], 0
     for crate in crates(names):
         known = modules(crate)
-        for found, count in (answers(crate, known), files(crate, known), edits(crate), (imports(crate), 0)):
+        others = imports(crate) + elsewhere(crate)
+        for found, count in (answers(crate, known), files(crate, known), edits(crate), (others, 0)):
             faults += map(shown, found)
             passed += max(0, count - len(found))
     tried = len(list(CRATES.glob("*/must-fail/*.edit")))
