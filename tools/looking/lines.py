@@ -37,7 +37,7 @@ BEFORE.update({word: 2 for word in CONNECTIVES})
 BEFORE.update({word: 4 for word in ("++", "∷", "≡", "≤", "<", "≢", "==")})
 WORST = 7
 
-CLAUSE = re.compile(r"^\s*(ensures|requires)\b[^{]*\{ ")
+CLAUSE = re.compile(r"^\s*((ensures|requires)\b[^{]*|ghost \w+( =|:) )\{ ")
 GHOST = re.compile(r"^(\s*ghost \w+(?: =|:) \{ )(.*) (\}[;,])$")
 USE = re.compile(r"(pub )?use ")
 COMMENT = re.compile(r" *//[/!]?(?= |$)")
