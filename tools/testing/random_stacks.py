@@ -8,7 +8,7 @@ The kinds, all if none is given, are those of `random_filters.py`: each is aimed
 many CASES of each are tried, 1000 if no number is given. Each stack is audited with its regions, so names, counts,
 answers and replies are compared, and the exit statuses. A stack on which the two differ is named by its kind, seed and
 number, and its filters are shown as hexadecimal digits where they are short. A line for each kind counts its cases. The
-status is 1 where one differed.
+last line is `N agree, M differ`; the status is 1 where M isn't 0.
 """
 import argparse
 import os
@@ -93,4 +93,5 @@ def main():
     kinds = [NAMED[name] for name in asked.kinds or NAMED]
     with tempfile.TemporaryDirectory() as folder:
         differ = sum(compare(programs, kind, asked.seed, asked.cases, folder) for kind in kinds)
+    print(f"{len(kinds) * asked.cases - differ} agree, {differ} differ")
     sys.exit(1 if differ else 0)
