@@ -6,14 +6,20 @@ import os
 import shutil
 import subprocess
 import sys
+from collections import namedtuple
 
 ROOT = os.path.dirname(os.path.dirname(os.path.dirname(os.path.abspath(__file__))))
 OUT = os.path.join(ROOT, "out")
+KNOWN_COSTS = os.path.join(ROOT, ".ci/costs")
 PROGRAM = "seccomp_audit"
 
 # The kits that the proofs were made with, and what they have in common: the logic that each proof is in.
 KITS = ("rattle-kit-13b", "rattle-kit-13f")
 LOGIC = "dac8208d650f15bf"
+
+
+# What a proof costs: the modules of libraries that it loads, its functions, and seconds of one processor.
+Cost = namedtuple("Cost", "modules functions seconds")
 
 
 class Refused(Exception):
@@ -71,6 +77,13 @@ def crates_below(name=PROGRAM):
             found.add(name)
             left += uses[name]
     return sorted(found)
+
+
+def known_costs():
+    """What each crate's proof is known to cost, by .ci/costs."""
+    with open(KNOWN_COSTS) as file:
+        rows = [line.split() for line in file if line.strip() and not line.startswith("#")]
+    return {crate: Cost(*map(int, numbers)) for crate, *numbers in rows}
 
 
 def sum_of_sources():

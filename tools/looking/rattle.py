@@ -17,8 +17,8 @@ USE_OR_COMMENT = re.compile(r"\s*(ghost )?use |\s*--|\s*//")
 # clauses, its body and where that begins.
 Item = namedtuple("Item", "start end is_public kind header clauses body inside")
 
-# A function: its name with its type, where it stands, whether it is public, and its type.
-Function = namedtuple("Function", "name start end is_public owner")
+# A function: its name with its type, where it stands, whether it is public, its type, and of what trait it is.
+Function = namedtuple("Function", "name start end is_public owner trait", defaults=[""])
 
 # The head of a definition: how far it is indented, the words before its name, and the name.
 Head = namedtuple("Head", "indent words name")
@@ -96,7 +96,7 @@ def functions_of(text):
             if method.kind == "fn":
                 places = method.start + item.inside, method.end + item.inside
                 is_public = method.is_public and not trait
-                yield Function(f"{owner}::{name_of(method)}", *places, is_public, owner)
+                yield Function(f"{owner}::{name_of(method)}", *places, is_public, owner, re.sub(r"\W", "", trait))
 
 
 def fields_of(item, origins):
