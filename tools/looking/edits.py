@@ -3,11 +3,11 @@
     tools/look edits               what is wrong
     tools/look edits CRATE ..      the same for these crates, with the function of each edit
 
-Edits are of two tiers: the gate tries those of `must-fail/`, and `tools/try_edits` those of `must-fail-more/`. An edit
-is of the function whose text holds the first text that it replaces, and each text that it replaces stands once in its
-file. A crate's exported functions are those that its lib.rt hands out: `pub fn` items that a `pub use` names, and the
+Edits are of three tiers, each a folder: `rt ci` tries those of `must-fail/`; each gate tries those of `must-fail-always/`
+by `tools/try_edits`, and in turn some of `must-fail-more/`. An edit is of the function whose text holds the first text
+that it replaces, and each text that it replaces stands once in its file. A crate's exported functions are those that its lib.rt hands out: `pub fn` items that a `pub use` names, and the
 `pub fn` methods of exported types. Laws, whose bodies do nothing, are left out: the functions of a `laws.rt` that have
-no result. The others have an edit of either tier, or a line in `must-fail-more/WITHOUT.md` of their crate that says why
+no result. The others have an edit of some tier, or a line in `must-fail-more/WITHOUT.md` of their crate that says why
 not: one `- `NAME`: WHY` a function, and none for a function with an edit. Looked at are crates with a folder of edits,
 and all whose names begin with `sf_`. Edits, exported functions and lines of those files are counted.
 """
@@ -17,8 +17,8 @@ from collections import Counter
 from looking.rattle import functions_of, handed_out, replacements
 from looking.tree import crates, sources
 
-# The folders of edits: what the gate tries, and what `tools/try_edits` tries.
-TIERS = ("must-fail", "must-fail-more")
+# The folders of edits: what `rt ci` tries in each gate, what `tools/try_edits` tries in each, and what it tries in turn.
+TIERS = ("must-fail", "must-fail-always", "must-fail-more")
 
 
 def place_of(crate, path):
@@ -64,7 +64,7 @@ def faults(crate, is_shown):
             place, why = place_of(crate, path)
             covered.add(place)
             wrong += [why] if why else []
-            rows += [] if why else [f"  {path.stem}: {place[1]} ({place[0]}){'' if tier == TIERS[0] else ', more'}"]
+            rows += [] if why else [f"  {path.stem}: {place[1]} ({place[0]}){', more' if tier == TIERS[-1] else ''}"]
             edits += 1
     functions = list(exported(crate))
     bare = [name for file, name in functions if (file, name) not in covered]

@@ -6,17 +6,17 @@
 type that the module declares, whichever module has the method. The other files of `specs/` and `proofs/` are those that
 their `Lib.antt` names, none of `proofs/` is named for a module but for the case of its letters, and files whose names
 end in `Laws` hold no definition that others may cite. No crate imports from the `proofs/` of another, or cites it. An
-edit is a file `NAME.edit` of `must-fail/`, which the gate tries, or of `must-fail-more/`, and no name is in both; beside
-the latter's may stand `WITHOUT.md`. The gate tries at most 70 of all crates. A crate has no further files, but for what
+edit is a file `NAME.edit` of `must-fail/` or `must-fail-always/`, which each gate tries, or of `must-fail-more/`, and no
+name is in two of them; beside the last one's may stand `WITHOUT.md`. Each gate tries at most 70 of all crates. A crate has no further files, but for what
 a program is run on, and what comes of that. Folders with answers and files are counted.
 """
-from collections import namedtuple
+from collections import Counter, namedtuple
 
 from looking.edits import TIERS
 from looking.rattle import functions_of, has_public_definition, modules_in, proofs_imported, types_of
 from looking.tree import CRATES, crates, shown, sources
 
-# How many edits the gate tries at most, of all crates.
+# How many edits each gate tries at most, of all crates, beside those in turn.
 MOST_EDITS = 70
 
 # What a crate has beside its folders of edits and `out`; and for the folders of its code and proofs how a file's name ends.
@@ -86,13 +86,12 @@ def imports(crate):
 
 def edits(crate):
     """Faults of the folders of edits, and how many files there are."""
-    gate = sorted((crate / "must-fail").glob("*"))
-    more = sorted((crate / "must-fail-more").glob("*"))
-    found = [f"{path}: no edit" for path in gate if path.suffix != ".edit"]
-    found += [f"{path}: no edit" for path in more if path.suffix != ".edit" and path.name != "WITHOUT.md"]
-    twice = [path for path in more if path.suffix == ".edit" and path.name in {it.name for it in gate}]
-    found += [f"{path}: of that name the gate tries one" for path in twice]
-    return found, len(gate) + len(more)
+    paths = [path for tier in TIERS for path in sorted((crate / tier).glob("*"))]
+    reasons = crate / TIERS[-1] / "WITHOUT.md"
+    found = [f"{path}: no edit" for path in paths if path.suffix != ".edit" and path != reasons]
+    names = Counter(path.name for path in paths if path.suffix == ".edit")
+    found += [f"{crate.name}: edits of {count} tiers have the name {name}" for name, count in names.items() if count > 1]
+    return found, len(paths)
 
 
 def elsewhere(crate):
@@ -113,7 +112,7 @@ def look(names):
         for found, count in (answers(crate, known), files(crate, known), edits(crate), (others, 0)):
             faults += map(shown, found)
             passed += max(0, count - len(found))
-    tried = len(list(CRATES.glob("*/must-fail/*.edit")))
+    tried = sum(len(list(CRATES.glob(f"*/{tier}/*.edit"))) for tier in TIERS[:-1])
     if tried > MOST_EDITS:
-        faults.append(f"the gate tries {tried} edits, and not {MOST_EDITS} at most")
+        faults.append(f"each gate tries {tried} edits, and not {MOST_EDITS} at most")
     return faults, passed

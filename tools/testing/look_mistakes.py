@@ -1,6 +1,7 @@
 """The mistakes that tools/look promises to find, each planted alone in the tree of look_tree."""
 from collections import namedtuple
 
+from looking.edits import TIERS
 from testing.look_tree import FILES, clause, wide
 
 # A mistake: the look that has to find it, what it is, the files that it changes with their new texts (None: the file is
@@ -233,12 +234,17 @@ def rooms():
     yield found("the same in code", source, f"{AUDIT}: ")
     tactic = other(AUDIT, "/// Audits.", "/// Audits.\n#[tactic(auto, using(sf_dom::proofs::FactLemmas::zero_within))]")
     yield found("a lemma of another crate for a tactic", tactic, f"{AUDIT}: ")
-    for what, place in (("an edit that isn't named as one", "must-fail/new.txt"), ("the same", "must-fail-more/new.txt"),
-                        ("reasons beside the edits of the gate", "must-fail/WITHOUT.md"),
-                        ("a name in both folders", "must-fail-more/learns_two.edit")):
-        yield found(what, more(f"crates/sf_dom/{place}", FILES[GATE]), f"crates/sf_dom/{place}: ")
-    edit = {f"crates/sf_dom/must-fail/new_{at}.edit": FILES[GATE] for at in range(69)}
-    yield found("71 edits for the gate", edit, "the gate tries 71 edits")
+    for tier in TIERS:
+        place = f"crates/sf_dom/{tier}/new.txt"
+        yield found("an edit that isn't named as one", more(place, FILES[GATE]), f"{place}: ")
+    for tier in TIERS[:-1]:
+        place = f"crates/sf_dom/{tier}/WITHOUT.md"
+        yield found("reasons beside the edits of each gate", more(place, FILES[GATE]), f"{place}: ")
+    for tier in TIERS[1:]:
+        twice = more(f"crates/sf_dom/{tier}/learns_two.edit", FILES[GATE])
+        yield found("a name in two folders", twice, "sf_dom: edits of 2 tiers have the name learns_two.edit")
+    edit = {f"crates/sf_dom/{TIERS[at % 2]}/new_{at}.edit": FILES[GATE] for at in range(69)}
+    yield found("71 edits for each gate", edit, "each gate tries 71 edits")
     for place in ("notes.md", "specs/deep/New.antt", "specs/new.rt", "src/new.antt", "proofs/facts/learn/new.txt"):
         yield found("a file where none belongs", more(f"crates/sf_dom/{place}", "-- Nothing.\n"), f"crates/sf_dom/{place}: ")
     yield found("a folder where none belongs", more("crates/sf_dom/must_fail/new.edit", FILES[GATE]), "crates/sf_dom/must_fail: ")
