@@ -1,6 +1,9 @@
-//! Tests of listings and of what differs between stacks, over filters that are worked by hand.
+//! Tests of listings and of what differs between stacks, over filters that are worked by hand; of files of names; and
+//! of numbers with blanks.
 #![tactic(auto)]
 
+#[cfg(test)]
+mod blanks;
 #[cfg(test)]
 mod differences;
 #[cfg(test)]

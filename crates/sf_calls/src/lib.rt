@@ -3,8 +3,6 @@
 
 mod call;
 mod numbers;
-#[cfg(test)]
-mod tests;
 mod text;
 
 pub use call::call_input;

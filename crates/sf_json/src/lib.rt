@@ -5,8 +5,6 @@ mod answer;
 mod document;
 mod exploration;
 mod input;
-#[cfg(test)]
-mod tests;
 mod writing;
 
 pub use answer::{action_document, answer_document};
