@@ -38,11 +38,6 @@ pub fn eight_divided() -> [RawInsn; 5] {
     ]
 }
 
-/// Returns 1 shifted by 40, which shifts by 40 modulo 32, so by 8: `ld #1; ldx #40; lsh x; ret a`.
-pub fn shift_filter() -> [RawInsn; 4] {
-    [op(0x00, 1), op(0x01, 40), op(0x6c, 0), op(0x16, 0)]
-}
-
 /// Returns ERRNO, whose data is those bits of word 4 that the mask has: `ld [16]; and #mask; or #0x50000; ret a`. The
 /// mask lies within the low 16 bits.
 pub fn low_bits(mask: u32) -> [RawInsn; 4] {
@@ -102,16 +97,5 @@ pub fn late_contradiction() -> [RawInsn; 6] {
         raw(0x35, 0, 1, 102),
         raw(0x25, 0, 0, 104),
         op(0x06, 0x80010000),
-    ]
-}
-
-/// `check` refuses it, since one path doesn't store what it loads: `ld [0]; jeq 1 0 1; st M[0]; ld M[0]; ret a`.
-pub fn unset_scratch() -> [RawInsn; 5] {
-    [
-        op(0x20, 0),
-        raw(0x15, 0, 1, 1),
-        op(0x02, 0),
-        op(0x60, 0),
-        op(0x16, 0),
     ]
 }

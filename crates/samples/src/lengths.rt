@@ -3,13 +3,6 @@ use crate::insns::{ALLOW, op};
 use sf_insn::RawInsn;
 use std::alloc::{AllocError, Global};
 
-/// This many times `neg`, and then `ret 0x7fff0000`. `AllocError` where an allocation is refused.
-pub fn negation_filter(alloc: Global, negations: usize) -> Result<Vec<RawInsn>, AllocError> {
-    let mut raws = vec![in alloc; op(0x84, 0); negations]?;
-    raws.push(ALLOW)?;
-    Ok(raws)
-}
-
 /// `ld [0]`, this many tests whether A is 0, 1, 2 and so on, each of which goes on at the next instruction, and then
 /// `ret 0x7fff0000`. `AllocError` where an allocation is refused.
 pub fn equality_tests(alloc: Global, tests: u32) -> Result<Vec<RawInsn>, AllocError> {
