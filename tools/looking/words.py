@@ -49,7 +49,7 @@ TRIED = {
     "pieces_tests": {"sf_piece", "sf_book", "sf_ask"},
     "crew_tests": {"sf_crew"},
     "picture_tests": {"sf_picture"},
-    "list_tests": {"sf_list", "sf_rows", "sf_picture"},
+    "list_tests": {"sf_list", "sf_rows"},
     "memory_run": BELOW["memory_run"],
     "command_run": {"sf_command_line", "sf_evaluate", "sf_command"},
     "examples_run": {"sf_audit", "sf_compare", "sf_list", "sf_run", "sf_check"},

@@ -1,4 +1,4 @@
-"""Compares the rows of `seccomp_audit list` with what `seccomp_audit eval` answers to inputs.
+"""Compares the rows of `list` and of `compare --rows` with what `eval` answers to inputs.
 
     tools/test list_agrees [--names FILE] [--random N] [--seed SEED] [--program PROGRAM] FILE..
     tools/test list_agrees --programs N [--names FILE] [--random N] [--seed SEED] [--program PROGRAM]
@@ -7,13 +7,16 @@ FILE.. is a stack, as the program takes it; --programs makes so many random ones
 of single bits, every fourth with whole words and constants only. For each stack N inputs are made: a half lies in rows
 that are drawn by lot, the other half is aimed at the numbers in the filters. Each has to lie in exactly one row, which
 has its answer. The counts of the last line and the exit status have to fit the rows, and where whole words are compared
-with constants only, each row has to have one answer. With --names, the lines of `list --calls` are compared, with this
-file of sets: those of the named calls, and the rows behind them.
+with constants only, each row has to have one answer; such a random stack is given all leaves that there may be. With
+--names, the lines of `list --calls` are compared, with this file of sets: those of the named calls, and the rows behind
+them.
+
+Each random stack is compared with another one too, on as many inputs. An input that both answer alike lies in no row, or
+in one that says `unchanged`; any other lies in exactly one row, which has both answers.
 
 Each difference gets a line. The last line is `N agree, M differ`; the status is 1 where M isn't 0 or N is.
 """
 import argparse
-import itertools
 import os
 import random
 import re
@@ -32,9 +35,12 @@ X86_64, I386, ARM_64 = 0xC000003E, 0x40000003, 0xC00000B7
 WORDS = ["nr", "arch", "ip_lo", "ip_hi"] + [f"arg{n}_{half}" for n in range(6) for half in ("lo", "hi")]
 NUMBERS = r"(?:\w+(?:\.\.\w+)?(?:,\w+(?:\.\.\w+)?)*)"
 ANSWER = r"[A-Z_]+(?::0x\w+)? \d+"
-ROW = re.compile(rf"arch ((?:in |!= |not in )?{NUMBERS}) nr ({NUMBERS}) ({ANSWER}(?: \| {ANSWER})*)(?: if (.+))?")
+OUTCOME = rf"(?:{ANSWER}(?: -> {ANSWER})?|unchanged)"
+ROW = re.compile(rf"arch ((?:in |!= |not in )?{NUMBERS}) nr ({NUMBERS}) ({OUTCOME}(?: \| {OUTCOME})*)(?: if (.+))?")
 CALL = re.compile(rf"(\w+) (\w+) ({ANSWER}(?: \| {ANSWER})*)(?: if (.+))?")
 CONDITION = re.compile(rf"(\w+)(?: & 0x(\w+))? (=|!=|in|not in) ({NUMBERS})")
+# For stacks of which each row has to have one answer.
+MOST_LEAVES = ("--leaves", "1000000")
 ACTIONS = (0x7FFF0000, 0x7FFF0000, 0x80000000, 0x00050001, 0x00050026, 0x7FF00007, 0x00000000)
 
 
@@ -70,11 +76,11 @@ def span(text):
 
 
 def head_of(line, names):
-    """The parts of a line's architectures and call numbers, and its answers and conditions."""
+    """The parts of a line's architectures and call numbers, and its outcomes and conditions."""
     if found := ROW.fullmatch(line):
-        arch, nr, answers, conditions = found.groups()
+        arch, nr, outcomes, conditions = found.groups()
         how, _, numbers = arch.rpartition(" ")
-        return [Part(1, ALL, how in ("!=", "not in"), numbers), Part(0, ALL, False, nr)], answers, conditions
+        return [Part(1, ALL, how in ("!=", "not in"), numbers), Part(0, ALL, False, nr)], outcomes, conditions
     if not (found := CALL.fullmatch(line)):
         sys.exit(f"no row: {line}")
     chosen, call, answers, conditions = found.groups()
@@ -83,15 +89,15 @@ def head_of(line, names):
 
 
 def row_of(line, names):
-    """The answers of a row, and the parts that an input has to lie in."""
-    parts, answers, conditions = head_of(line, names)
+    """The outcomes of a row, and the parts that an input has to lie in."""
+    parts, outcomes, conditions = head_of(line, names)
     for text in conditions.split(" and ") if conditions else []:
         condition = CONDITION.fullmatch(text)
         if not condition:
             sys.exit(f"no condition: {text}")
         word, mask, how, numbers = condition.groups()
         parts.append(Part(WORDS.index(word), int(mask, 16) if mask else ALL, how in ("!=", "not in"), numbers))
-    return answers.split(" | "), parts
+    return outcomes.split(" | "), parts
 
 
 def sets_of(path):
@@ -101,7 +107,7 @@ def sets_of(path):
 
 
 def is_same(row, other):
-    """Whether two rows are about the same inputs, with the same answers."""
+    """Whether two rows are about the same inputs, with the same outcomes."""
     return row[0] == other[0] and [vars(part) for part in row[1]] == [vars(part) for part in other[1]]
 
 
@@ -148,33 +154,65 @@ def inside(rng, known, parts):
     return words
 
 
-def differences(program, paths, rng, count, plain, named):
-    """What differs for a stack, how many inputs agree, and how many rows have several answers."""
-    status, text = run(program, "list", "--quiet", *paths, *(("--calls", "--names", named) if named else ()))
+def answer_of(program, digits, paths):
+    return run(program, "eval", "--input", digits, *paths)[1].strip()
+
+
+def rows_in(lines, names, last):
+    """The rows of lines, how many have several outcomes, and what is wrong with the last line, which counts both."""
+    rows = [row_of(line, names) for line in lines[:-1]]
+    several = sum(len(outcomes) > 1 for outcomes, _ in rows)
+    due = f"{last} {len(rows)} undetermined {several}"
+    return rows, several, [] if lines[-1] == due else [f"{lines[-1]!r} in place of {due!r}"]
+
+
+def strays(rows, outcome, rng, count, paths):
+    """The inputs whose outcome isn't that of the row in which they lie. Those in no row are `unchanged`."""
+    known = sorted({constant for path in paths for constant in code_of(path)}) or [0]
+    for n in range(count):
+        words = inside(rng, known, rng.choice(rows)[1]) if n % 2 and rows else aimed(rng, known)
+        found = [outcomes for outcomes, parts in rows if all(part.has(words) for part in parts)]
+        told = outcome(digits_of(words))
+        if len(found) > 1 or told not in (found or [["unchanged"]])[0]:
+            yield f"{digits_of(words)}: {told}, in rows {found}"
+
+
+def of_list(program, paths, rng, count, plain, named):
+    """What differs for the list of a stack, how many inputs agree, and how many rows have several answers."""
+    leaves = MOST_LEAVES if plain else ()
+    status, text = run(program, "list", "--quiet", *leaves, *paths, *(("--calls", "--names", named) if named else ()))
     if status not in (0, 2):
         return [f"status {status}: {text.strip()}"], 0, 0
-    lines = text.split("\n")
     names = sets_of(named) if named else {}
-    lined = [row_of(line, names) for line in lines[3:-2]]
-    several = sum(len(answers) > 1 for answers, _ in lined)
-    wrong = []
-    if lines[-2] != f"total {'lines' if named else 'rows'} {len(lined)} undetermined {several}" or lines[-1] or status != (2 if several else 0):
-        wrong.append(f"status {status}, {len(lined)} rows, {several} undetermined: {lines[-2]}")
-    # Two names of one call have the same lines.
-    rows = [row for n, row in enumerate(lined) if not any(is_same(row, other) for other in lined[:n][-20:])]
+    lined, several, wrong = rows_in(text.split("\n")[3:-1], names, "total lines" if named else "total rows")
+    if status != (2 if several else 0):
+        wrong.append(f"status {status}, {several} undetermined")
     if plain and several:
         wrong.append(f"{several} rows of whole words have several answers")
-    known = sorted({constant for path in paths for constant in code_of(path)}) or [0]
-    agree = 0
-    for n in range(count):
-        words = inside(rng, known, rng.choice(rows)[1]) if n % 2 else aimed(rng, known)
-        found = [answers for answers, parts in rows if all(part.has(words) for part in parts)]
-        told = run(program, "eval", "--input", digits_of(words), *paths)[1].strip()
-        if len(found) == 1 and told in found[0]:
-            agree += 1
-        else:
-            wrong.append(f"{digits_of(words)}: {told}, in rows {found}")
-    return wrong, agree, several
+    # Two names of one call have the same lines.
+    rows = [row for n, row in enumerate(lined) if not any(is_same(row, other) for other in lined[:n][-20:])]
+    stray = list(strays(rows, lambda digits: answer_of(program, digits, paths), rng, count, paths))
+    return wrong + stray, count - len(stray), several
+
+
+def of_comparison(program, old, new, rng, count, plain):
+    """The same for the rows in which two stacks differ."""
+    leaves = MOST_LEAVES if plain else ()
+    status, text = run(program, "compare", "--quiet", "--rows", *leaves, "--old", *old, "--new", *new)
+    if status not in (0, 1, 2):
+        return [f"status {status}: {text.strip()}"], 0, 0
+    lines = text.split("\n")
+    begin = next(n for n, line in enumerate(lines) if line.startswith("different ")) + 1
+    rows, several, wrong = rows_in(lines[begin:-1], {}, "total changed")
+    if plain and several:
+        wrong.append(f"{several} rows of whole words have several pairs of answers")
+
+    def outcome(digits):
+        before, after = (answer_of(program, digits, paths) for paths in (old, new))
+        return "unchanged" if before == after else f"{before} -> {after}"
+
+    stray = list(strays(rows, outcome, rng, count, [*old, *new]))
+    return wrong + stray, count - len(stray), several
 
 
 def number(rng):
@@ -225,16 +263,21 @@ def some_program(rng, plain):
     return encoded(code)
 
 
+def some_stack(rng, plain, folder, name):
+    """The paths of a stack of one filter, or now and then of two."""
+    paths = [os.path.join(folder, f"{name}{i}") for i in range(rng.choice((1, 1, 1, 2)))]
+    for path in paths:
+        with open(path, "wb") as file:
+            file.write(some_program(rng, plain))
+    return paths
+
+
 def random_stacks(count, seed, folder):
-    """Random stacks of one filter, or now and then of two, each with whether only whole words are compared with constants."""
+    """Random stacks, each with another one, and with whether only whole words are compared with constants."""
     for n in range(count):
         rng = random.Random(f"{seed}/{n}")
         plain = n % 4 == 0
-        paths = [os.path.join(folder, str(i)) for i in range(rng.choice((1, 1, 1, 2)))]
-        for path in paths:
-            with open(path, "wb") as file:
-                file.write(some_program(rng, plain))
-        yield f"case {seed}/{n}", paths, rng, plain
+        yield f"case {seed}/{n}", some_stack(rng, plain, folder, "old"), some_stack(rng, plain, folder, "new"), rng, plain
 
 
 def main():
@@ -247,13 +290,22 @@ def main():
     parser.add_argument("files", nargs="*", metavar="FILE")
     asked = parser.parse_args()
     agree = differ = several = stacks = 0
+
+    def add(name, paths, found):
+        nonlocal agree, differ, several
+        wrong, right, undetermined = found
+        agree, differ, several = agree + right, differ + len(wrong), several + undetermined
+        for line in wrong:
+            print(f"{name}: {line}", *map(digits_in, paths))
+
+    if asked.files:
+        stacks += 1
+        add("the stack", [], of_list(asked.program, asked.files, random.Random(asked.seed), asked.random, None, asked.names))
     with tempfile.TemporaryDirectory() as folder:
-        given = [("the stack", asked.files, random.Random(asked.seed), None)] if asked.files else []
-        for name, paths, rng, plain in itertools.chain(given, random_stacks(asked.programs, asked.seed, folder)):
-            wrong, right, undetermined = differences(asked.program, paths, rng, asked.random, plain, asked.names)
-            agree, differ, stacks, several = agree + right, differ + len(wrong), stacks + 1, several + undetermined
-            for line in wrong:
-                print(f"{name}: {line}", *([digits_in(path) for path in paths] if plain is not None else []))
+        for name, old, new, rng, plain in random_stacks(asked.programs, asked.seed, folder):
+            stacks += 1
+            add(name, old, of_list(asked.program, old, rng, asked.random, plain, asked.names))
+            add(f"{name}, compared", [*old, *new], of_comparison(asked.program, old, new, rng, asked.random, plain))
     print(f"{stacks} stacks, {several} rows with several answers")
     print(f"{agree} agree, {differ} differ")
     sys.exit(0 if agree and not differ else 1)

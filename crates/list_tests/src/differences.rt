@@ -1,15 +1,12 @@
 //! What differs between two stacks, worked by hand.
-use crate::listings::{bytes_of, labels_at, random_program, some_input, text_of};
+use crate::listings::{bytes_of, text_of};
 use crate::names::names_of;
 use crate::profiles::{bits, forgetful, profile, words};
 use samples::ALLOW;
-use sf_check::Stack;
 use sf_compare::{Comparison, compare};
 use sf_crew::Open;
-use sf_insn::{Input, RawInsn};
-use sf_list::{Differences, Shown, draw_differences, write_differences};
-use sf_policy::stack_of;
-use sf_run::{PartAnswers, answer};
+use sf_insn::RawInsn;
+use sf_list::{Shown, draw_differences, write_differences};
 use std::alloc::Global;
 use std::sync::Wait;
 use std::test::Fail;
@@ -161,66 +158,5 @@ total changed 1 undetermined 1
 fn no_rows_while_a_piece_is_left(rt: HostRuntime) -> Result<(), Fail> {
     let text = changed_rows_with(&rt, rt.alloc(), &profile(), &forgetful(), 3, &[])?;
     assert_eq!(rt; text.as_str(), "");
-    Ok(())
-}
-
-/// The answers of an old and of a new stack to an input.
-fn both_answers(old: &Stack, new: &Stack, input: &Input) -> PartAnswers {
-    PartAnswers {
-        older: answer(old, input),
-        newer: answer(new, input),
-    }
-}
-
-/// Whether two answers are among those of the leaf at which an input lies.
-fn shows_pair(differences: &Differences, input: &Input, both: PartAnswers) -> Option<bool> {
-    let pairs = differences.pairs();
-    for label in labels_at(differences.picture()?, input)? {
-        let shown = match pairs.get(*label) {
-            Some(pair) => *pair == both,
-            None => both.older == both.newer,
-        };
-        if shown {
-            return Some(true);
-        }
-    }
-    Some(false)
-}
-
-/// The stack of one filter.
-fn stack_of_one(alloc: Global, insns: &[RawInsn]) -> Result<Stack, Fail> {
-    let mut files = Vec::new(alloc);
-    files.push(bytes_of(alloc, insns)?)?;
-    Ok(stack_of(alloc, files.as_slice())?)
-}
-
-/// Whether the picture of two random programs shows the answers to 100 inputs.
-fn shows_random_pairs<R: Threads + Wait + Sync>(
-    rt: &R,
-    alloc: Global,
-    state: &mut u64,
-) -> Result<bool, Fail> {
-    let old = random_program(alloc, state)?;
-    let new = random_program(alloc, state)?;
-    let comparison = comparison_of(rt, alloc, old.as_slice(), new.as_slice(), 10000)?;
-    let differences = draw_differences(alloc, &comparison, 20000)?;
-    let before = stack_of_one(alloc, old.as_slice())?;
-    let after = stack_of_one(alloc, new.as_slice())?;
-    for _ in 0..100 {
-        let input = some_input(state);
-        let both = both_answers(&before, &after, &input);
-        if shows_pair(&differences, &input, both) != Some(true) {
-            return Ok(false);
-        }
-    }
-    Ok(true)
-}
-
-#[test]
-fn random_inputs_of_two_random_programs(rt: HostRuntime) -> Result<(), Fail> {
-    let mut state = 20261127u64;
-    for _ in 0..100 {
-        assert!(rt; shows_random_pairs(&rt, rt.alloc(), &mut state)?);
-    }
     Ok(())
 }

@@ -2,10 +2,8 @@
 use crate::profiles::{bits, profile, words};
 use samples::{ALLOW, op, raw};
 use sf_crew::Open;
-use sf_insn::{Input, RawInsn};
+use sf_insn::RawInsn;
 use sf_list::{Listing, list, write_listing};
-use sf_picture::{Branch, Picture};
-use sf_run::answer;
 use std::alloc::Global;
 use std::sync::Wait;
 use std::test::Fail;
@@ -167,137 +165,5 @@ arch any nr 0x10000..0xFFFFFFFF KILL_PROCESS 0
 total rows 4 undetermined 0
 "
     );
-    Ok(())
-}
-
-/// The next number of a sequence that looks random.
-fn random(state: &mut u64) -> u32 {
-    *state = state
-        .wrapping_mul(6364136223846793005)
-        .wrapping_add(1442695040888963407);
-    ((*state >> 33) & 0xffffffff) as u32
-}
-
-/// A number near those that the programs below test.
-fn near(state: &mut u64) -> u32 {
-    let few = random(state) % 6;
-    match random(state) % 5 {
-        0 => few,
-        1 => 59u32.wrapping_add(few).wrapping_sub(2),
-        2 => 0x40000000u32.wrapping_add(few).wrapping_sub(2),
-        3 => random(state) & 0xf0f0,
-        _ => random(state),
-    }
-}
-
-/// A random program of tests of a few words, with masks, sums and shifts: each path ends in one of four answers.
-pub(crate) fn random_program(alloc: Global, state: &mut u64) -> Result<Vec<RawInsn>, Fail> {
-    let mut insns = Vec::new(alloc);
-    let tests = 2 + random(state) % 6;
-    for _ in 0..tests {
-        let word = match random(state) % 4 {
-            0 => 0,
-            1 => 4,
-            2 => 16,
-            _ => 24,
-        };
-        insns.push(op(0x20, word))?;
-        match random(state) % 8 {
-            0 => insns.push(op(0x54, near(state)))?,
-            1 => insns.push(op(0x14, random(state) % 100))?,
-            2 => insns.push(op(0x54, 1 << (random(state) % 32)))?,
-            3 => {
-                insns.push(op(0x54, near(state)))?;
-                insns.push(op(0x54, near(state)))?;
-            }
-            4 => insns.push(op(0x74, random(state) % 8))?,
-            _ => {}
-        }
-        let code = match random(state) % 4 {
-            0 => 0x15,
-            1 => 0x25,
-            2 => 0x35,
-            _ => 0x45,
-        };
-        let number = near(state);
-        let answer = match random(state) % 3 {
-            0 => 0x50001,
-            1 => 0x80000000,
-            _ => 0x50002,
-        };
-        insns.push(raw(code, 0, 1, number))?;
-        insns.push(op(0x06, answer))?;
-    }
-    insns.push(ALLOW)?;
-    Ok(insns)
-}
-
-/// The leaf of a picture to which an input is led, as its labels.
-pub(crate) fn labels_at<'a>(picture: &'a Picture, input: &Input) -> Option<&'a [usize]> {
-    let mut at = picture.root();
-    for _ in 0..1000 {
-        match at {
-            Branch::Leaf(place) => {
-                if place >= picture.leaf_count() {
-                    return None;
-                }
-                return Some(picture.leaf(place));
-            }
-            Branch::Fork(place) => {
-                if place >= picture.fork_count() {
-                    return None;
-                }
-                let fork = picture.fork(place);
-                let axis = fork.axis();
-                let number = *input.words.get(axis.word)? & axis.mask;
-                at = fork.runs().iter().find(|run| number <= run.last)?.next;
-            }
-        }
-    }
-    None
-}
-
-/// Whether the answer of the listed stack to an input is among those of the leaf at which the input lies.
-fn shows_answer(listing: &Listing, input: &Input) -> Option<bool> {
-    let told = answer(listing.settled().stack(), input);
-    for label in labels_at(listing.picture()?, input)? {
-        if *listing.answers().get(*label)? == told {
-            return Some(true);
-        }
-    }
-    Some(false)
-}
-
-/// An input whose first words are near the numbers that random programs test.
-pub(crate) fn some_input(state: &mut u64) -> Input {
-    let mut words = [0; 16];
-    for word in 0..8 {
-        words[word] = near(state);
-    }
-    Input { words }
-}
-
-/// Whether the listing of a random program shows the answers to 200 inputs.
-fn shows_random_answers<R: Threads + Wait + Sync>(
-    rt: &R,
-    alloc: Global,
-    state: &mut u64,
-) -> Result<bool, Fail> {
-    let program = random_program(alloc, state)?;
-    let listing = listing_of(rt, alloc, program.as_slice(), 20000)?;
-    for _ in 0..200 {
-        if shows_answer(&listing, &some_input(state)) != Some(true) {
-            return Ok(false);
-        }
-    }
-    Ok(true)
-}
-
-#[test]
-fn random_inputs_of_random_programs(rt: HostRuntime) -> Result<(), Fail> {
-    let mut state = 20261126u64;
-    for _ in 0..400 {
-        assert!(rt; shows_random_answers(&rt, rt.alloc(), &mut state)?);
-    }
     Ok(())
 }
