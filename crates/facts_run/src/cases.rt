@@ -17,6 +17,15 @@ pub enum Step {
     Push(Node),
 }
 
+/// What is shown of a case.
+#[derive(Clone, Copy)]
+pub enum Shown {
+    /// What its steps leave of the node at this place.
+    Node(usize),
+    /// What all facts tell after each step.
+    All,
+}
+
 /// A case.
 #[derive(Drop)]
 pub struct Case {
@@ -24,8 +33,8 @@ pub struct Case {
     pub nodes: Vec<Node>,
     /// The steps that the facts of the pool take, in order.
     pub steps: Vec<Step>,
-    /// The place of the node that is shown.
-    pub at: usize,
+    /// What is shown.
+    pub shown: Shown,
 }
 
 /// A number in decimal digits, or after `0x` in hexadecimal ones; `None` of any other text.
@@ -135,29 +144,29 @@ fn steps_of(alloc: Global, text: &str) -> Result<Option<Vec<Step>>, AllocError> 
     Ok(Some(steps))
 }
 
+/// What a text says is to be shown: `all`, or the place of a node.
+fn shown_of(text: &str) -> Option<Shown> {
+    match text {
+        "all" => Some(Shown::All),
+        _ => Some(Shown::Node(place(text)?)),
+    }
+}
+
 /// The case of a line; `None` where it isn't one.
 pub fn case_of(alloc: Global, line: &str) -> Result<Option<Case>, AllocError> {
     let parts: Vec<&str> = line.split('|').collect(alloc)?;
-    let [nodes, steps, at] = parts.as_slice() else {
+    let [nodes, steps, shown] = parts.as_slice() else {
         return Ok(None);
     };
     let (Some(nodes), Some(steps)) = (nodes_of(alloc, nodes)?, steps_of(alloc, steps)?) else {
         return Ok(None);
     };
-    match place(at.trim()) {
-        Some(at) => Ok(Some(Case { nodes, steps, at })),
+    match shown_of(shown.trim()) {
+        Some(shown) => Ok(Some(Case {
+            nodes,
+            steps,
+            shown,
+        })),
         None => Ok(None),
-    }
-}
-
-/// The count and the seed of made cases that a line names, as `made COUNT SEED`; `None` of any other line.
-pub fn made_of(alloc: Global, line: &str) -> Result<Option<(u32, u32)>, AllocError> {
-    let words: Vec<&str> = line.split_whitespace().collect(alloc)?;
-    let ["made", count, seed] = words.as_slice() else {
-        return Ok(None);
-    };
-    match (number(count), number(seed)) {
-        (Some(count), Some(seed)) => Ok(Some((count, seed))),
-        _ => Ok(None),
     }
 }

@@ -5,14 +5,14 @@ ghost use Rattle.sf_sym.specs.Pool.{IsCondBelow, OperandsBelow, Extends};
 ghost use Rattle.sf_dom.specs.Facts.{Covers};
 
 use crate::cases::{Case, Step};
-use sf_dom::Facts;
+use sf_dom::{Facts, Known};
 use sf_insn::Test;
 use sf_sym::{Cond, Node, NodeId, Pool};
 use std::alloc::Global;
 use std::test::Fail;
 
 /// Whether the operands of a node are in the pool.
-pub fn is_lawful(pool: &Pool, node: Node) -> bool
+fn is_lawful(pool: &Pool, node: Node) -> bool
     ensures { IsTrue result → OperandsBelow (length pool.now) node }
 {
     let count = pool.len();
@@ -73,7 +73,7 @@ fn learn(alloc: Global, facts: &mut Facts, pool: &Pool, cond: &Cond) -> Result<b
 }
 
 /// A pool with one more node.
-pub fn longer(pool: &Pool, node: Node) -> Result<Pool, Fail>
+fn longer(pool: &Pool, node: Node) -> Result<Pool, Fail>
     ensures { IfOk result (Extends pool.now) }
 {
     if !is_lawful(pool, node) {
@@ -196,6 +196,19 @@ fn outcome(steps: &[Step], taken: bool, is_same: bool) -> &'static str {
     }
 }
 
+/// Writes what is known of a node, and its number, where it has only one.
+pub fn write_known(text: &mut String, known: Known, decided: Option<u32>) -> Result<(), Fail> {
+    let (low, high, zeros, ones) = (known.low, known.high, known.zeros, known.ones);
+    write!(
+        text,
+        "from {low} to {high}, zeros {zeros:08x}, ones {ones:08x}"
+    )?;
+    if let Some(number) = decided {
+        write!(text, ", decided {number}")?;
+    }
+    Ok(())
+}
+
 /// What is known of the node at the place, as text. The least number of a word has to be the low end.
 fn node_text(
     alloc: Global,
@@ -209,29 +222,24 @@ fn node_text(
     if at >= pool.len() {
         return Err(Fail::from("no node is shown"));
     }
-    let known = facts.known(NodeId(at as u32));
-    let (low, high, zeros, ones) = (known.low, known.high, known.zeros, known.ones);
-    if at < 16 && facts.least(at) != Some(low) {
+    let node = NodeId(at as u32);
+    let known = facts.known(node);
+    if at < 16 && facts.least(at) != Some(known.low) {
         return Err(Fail::from("another number is the least"));
     }
     let mut text = String::new(alloc);
-    write!(
-        &mut text,
-        "{outcome}, from {low} to {high}, zeros {zeros:08x}, ones {ones:08x}"
-    )?;
-    if let Some(number) = facts.decided(pool, NodeId(at as u32)) {
-        write!(&mut text, ", decided {number}")?;
-    }
+    write!(&mut text, "{outcome}, ")?;
+    write_known(&mut text, known, facts.decided(pool, node))?;
     Ok(text)
 }
 
-/// What is known of the node that the case shows, after its steps. Those after one that contradicts are not taken.
-pub fn look(alloc: Global, case: &Case) -> Result<String, Fail> {
+/// What is known of the node at a place, after the steps of a case. Those after one that contradicts are not taken.
+pub fn look(alloc: Global, case: &Case, at: usize) -> Result<String, Fail> {
     let mut pool = pool_of(alloc, &case.nodes)?;
     let mut facts = facts_of(alloc, &pool)?;
     let before = facts.fork()?;
     let taken = take_all(alloc, &mut facts, &mut pool, &case.steps)?;
     see_together(alloc, &pool, &case.steps, &facts, taken)?;
     let outcome = outcome(&case.steps, taken, facts.is_same(&before));
-    node_text(alloc, &facts, &pool, case.at, outcome)
+    node_text(alloc, &facts, &pool, at, outcome)
 }

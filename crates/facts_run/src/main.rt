@@ -1,59 +1,36 @@
-//! Shows what facts know of symbolic words, and compares it with what the rules say.
+//! Shows what facts know of symbolic words.
 //!
 //! Each line of standard input is a case. It has three parts, with bars between them: nodes that are pushed to a pool,
-//! steps that its facts take, and the place of the node that is shown. For example, `const 255; and 0 16 | 17 > 16
-//! false | 17` pushes the number 255 at place 16 and its AND with word 0 at place 17, learns that the AND isn't above
-//! 255, and shows the AND. A line that begins with `#` says what the next ones are about.
+//! steps that its facts take, and what is shown. For example, `const 255; and 0 16 | 17 > 16 false | 17` pushes the
+//! number 255 at place 16 and its AND with word 0 at place 17, learns that the AND isn't above 255, and shows the AND.
+//! A line that begins with `#` says what the next ones are about.
 //!
-//! The rules are computed beside, by plain functions that say what the definitions say. After each step all nodes and
-//! all excluded numbers are compared. A line `made COUNT SEED` stands for so many cases that are made by chance: it
-//! shows those in which facts and rules differ, and what all of them reach.
+//! Where the third part is a place, the steps are taken up to one that contradicts, and what is known of the node there
+//! is written behind the line.
+//!
+//! Where it is `all`, all steps are taken, also those after one that contradicts. Behind the line come
+//!
+//! - `at first`: what is known before the first step;
+//! - for each step `taken`, `nothing new` or `contradicts`;
+//! - `in the end`: once a constant is pushed for each number that is the only one of some node.
+//!
+//! Below the first of these, and below each step, stand the nodes of which something else is known than before: the
+//! interval, the known bits, the number where there is only one, and the least number of a word. (Before it is there
+//! nothing is known of a node.) Below a step that brought something new, and in the end, `1 != 17` stands where word 1
+//! is known not to be the number of node 17: to learn this changes nothing. It is tried with each node that has only
+//! one number and from which no known bits go back, and with the first four words; in the end with all words.
+//!
+//! `tools/test facts_agree` compares such lines with the rules.
 #![tactic(auto)]
 
 mod cases;
-mod comparing;
-mod lines;
+mod following;
 mod looking;
-mod making;
-mod plain;
-mod reaching;
-mod rules;
 
-use crate::cases::{Case, case_of, made_of};
-use crate::comparing::difference;
-use crate::lines::line_of;
+use crate::cases::{Shown, case_of};
+use crate::following::follow;
 use crate::looking::look;
-use crate::making::Maker;
-use crate::reaching::Reached;
 use std::test::Fail;
-
-/// Compares facts and rules on a case, and shows where they differ. `false`: they do.
-fn compare<R: Print + AllocGlobal>(
-    rt: &R,
-    case: &Case,
-    reached: &mut Reached,
-) -> Result<bool, Fail> {
-    let Some(text) = difference(rt.alloc(), case, reached)? else {
-        return Ok(true);
-    };
-    println!(rt; "{}: the rules differ {text}", line_of(rt.alloc(), case)?)?;
-    Ok(false)
-}
-
-/// Compares facts and rules on cases that are made by chance, and shows what these reach.
-fn compare_made<R: Print + AllocGlobal>(rt: &R, count: u32, seed: u32) -> Result<(), Fail> {
-    let mut maker = Maker::of_seed(seed);
-    let mut reached = Reached::default();
-    let mut differ: u32 = 0;
-    for _ in 0..count {
-        let case = maker.case(rt.alloc())?;
-        if !compare(rt, &case, &mut reached)? {
-            differ = differ.saturating_add(1);
-        }
-    }
-    println!(rt; "{count} made cases from seed {seed}: {differ} differ. {reached}")?;
-    Ok(())
-}
 
 /// Shows what one case leaves.
 fn show<R: Print + AllocGlobal>(rt: &R, line: &str) -> Result<(), Fail> {
@@ -61,20 +38,18 @@ fn show<R: Print + AllocGlobal>(rt: &R, line: &str) -> Result<(), Fail> {
         println!(rt; "{line}: no case")?;
         return Ok(());
     };
-    println!(rt; "{line}: {}", look(rt.alloc(), &case)?)?;
-    compare(rt, &case, &mut Reached::default())?;
+    match case.shown {
+        Shown::Node(at) => println!(rt; "{line}: {}", look(rt.alloc(), &case, at)?)?,
+        Shown::All => print!(rt; "{line}\n{}", follow(rt.alloc(), &case)?)?,
+    }
     Ok(())
 }
 
 fn main(rt: HostRuntime) -> Result<(), Fail> {
     for line in rt.lines(rt.alloc()) {
         let line = line?;
-        if line.is_empty() || line.starts_with('#') {
-            continue;
-        }
-        match made_of(rt.alloc(), line.as_str())? {
-            Some((count, seed)) => compare_made(&rt, count, seed)?,
-            None => show(&rt, line.as_str())?,
+        if !line.is_empty() && !line.starts_with('#') {
+            show(&rt, line.as_str())?;
         }
     }
     Ok(())
