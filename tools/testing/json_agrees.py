@@ -12,12 +12,14 @@ Each difference gets a line. The last line is `N passed, M failed`; the status i
 """
 import itertools
 import json
+import os
 import pathlib
 import re
 import struct
 import subprocess
 import sys
 import tempfile
+from concurrent.futures import ThreadPoolExecutor
 
 from reporting.schema import faults
 
@@ -246,22 +248,44 @@ def words_of(line):
             yield from [part] * int(count or 1)
 
 
-def lines_of_script(program, room):
-    """The command lines of crates/command_run/stdin that this script compares; their files are made as they come."""
-    for line in (ROOT / "crates/command_run/stdin").read_text().split("\n"):
-        word, _, rest = line.partition(" ")
-        name, _, content = rest.partition(" ")
-        if word == "file":
-            (room / name).write_bytes(bytes.fromhex("".join(map(digits_of, content.split()))))
-        elif word == "text":
-            (room / name).write_text("".join(part + "\n" for part in content.split("|")))
-        elif word in ("keep", "make"):
-            ran = subprocess.run([program, *words_of(content)], cwd=room, capture_output=True, stdin=subprocess.DEVNULL)
-            (room / name).write_bytes(ran.stdout)
-        elif word in ("run", "count", "limit", "interrupt"):
-            words = list(words_of(rest))
-            if words and words[0] in TEXTS and not {"--json", "--help", "-h", "-"} & set(words):
-                yield schema_of(words), words
+class Script:
+    """The command lines of crates/command_run/stdin, with the files that each one names."""
+
+    def __init__(self, program, room):
+        self.program, self.room, self.files, self.count = program, room, {}, itertools.count()
+
+    def put(self, name, content):
+        """Makes a file. What had its name before stays for the command lines that came before."""
+        self.files[name] = self.room / f"file{next(self.count)}"
+        self.files[name].write_bytes(content)
+
+    def folder_of(self, words):
+        """A folder of its own for a command line, with the files that it names."""
+        folder = self.room / f"line{next(self.count)}"
+        folder.mkdir()
+        for name in {word.rpartition("=")[2] for word in words} & self.files.keys():
+            (folder / name).hardlink_to(self.files[name])
+        return folder
+
+    def made(self, words):
+        """What a command line writes, of which a file is made."""
+        return subprocess.run([self.program, *words], cwd=self.folder_of(words), capture_output=True, stdin=subprocess.DEVNULL).stdout
+
+    def lines(self):
+        """The command lines that this script compares, each with its schema and its folder."""
+        for line in (ROOT / "crates/command_run/stdin").read_text().split("\n"):
+            word, _, rest = line.partition(" ")
+            name, _, content = rest.partition(" ")
+            if word == "file":
+                self.put(name, bytes.fromhex("".join(map(digits_of, content.split()))))
+            elif word == "text":
+                self.put(name, "".join(part + "\n" for part in content.split("|")).encode())
+            elif word in ("keep", "make"):
+                self.put(name, self.made(list(words_of(content))))
+            elif word in ("run", "count", "limit", "interrupt"):
+                words = list(words_of(rest))
+                if words and words[0] in TEXTS and not {"--json", "--help", "-h", "-"} & set(words):
+                    yield schema_of(words), words, self.folder_of(words)
 
 
 def schema_of(words):
@@ -339,12 +363,12 @@ def differences(program, name, words, place):
 def main():
     program = str(pathlib.Path(sys.argv[1]).resolve() if len(sys.argv) > 1 else BUILT)
     agree = differ = 0
-    with tempfile.TemporaryDirectory() as room:
+    with tempfile.TemporaryDirectory() as room, ThreadPoolExecutor(len(os.sched_getaffinity(0))) as pool:
         room = pathlib.Path(room)
-        ours = ((name, words, ROOT) for name, words in command_lines(room))
-        theirs = ((name, words, room) for name, words in lines_of_script(program, room))
-        for name, words, place in itertools.chain(ours, theirs):
-            wrong = list(differences(program, name, words, place))
+        ours = [(name, words, ROOT) for name, words in command_lines(room)]
+        lines = [*ours, *Script(program, room).lines()]
+        compared_line = lambda line: list(differences(program, *line))
+        for (_, words, _), wrong in zip(lines, pool.map(compared_line, lines)):
             agree, differ = agree + (not wrong), differ + bool(wrong)
             for line in wrong:
                 print(f"{' '.join(words)}: {line}")
