@@ -1,0 +1,95 @@
+"""Looks at the ready policies and the files of names: whether what is asked about has a name.
+
+    tools/test policies
+
+It takes no program. Each case that fails gets a line. The last line is `N passed, M failed`; where M isn't 0, the status
+is 1.
+"""
+import re
+import sys
+import tomllib
+
+from building.kit import ROOT
+
+SETS = ("x86_64", "i386", "x32", "aarch64", "arm")
+X32_BIT = 0x40000000
+# From this number on a call has the same one on all architectures, and the last of them that must have a name.
+FIRST_EQUAL, NEWEST = 424, 472
+# How policies write the calls that a question is about. Some ranges have expressions, as `2 * __X32_SYSCALL_BIT - 1`.
+NUMBERS = re.compile(r"nr = [^#]*# (.+)")
+NAME = re.compile(r"(?!__)\w+")
+
+
+def text_of(path):
+    with open(f"{ROOT}/{path}", encoding="utf-8") as file:
+        return file.read()
+
+
+def table_of(path):
+    return tomllib.loads(text_of(path))
+
+
+def plain(number):
+    """A number without the bit of x32."""
+    return number & ~X32_BIT
+
+
+class Policy:
+    """A ready policy, and the names of its set."""
+
+    def __init__(self, name):
+        self.name, self.path = name, f"policies/{name}.toml"
+        self.calls = table_of(f"policies/names/{name}.toml")["calls"]
+        self.named = set(self.calls.values())
+        tables = text_of(self.path).split("[[question]]")[1:]
+        self.questions = table_of(self.path)["question"]
+        # What stands behind the numbers of each question: names, or why there are none.
+        self.comments = [(found := NUMBERS.search(table)) and found[1] for table in tables]
+
+    def asked(self):
+        """The names of calls that questions are about, each with its number."""
+        for question, comment in zip(self.questions, self.comments):
+            if comment and not comment.startswith("declared:"):
+                number = question["nr"]
+                ends = number if isinstance(number, list) else [number]
+                yield from ((name, at) for name, at in zip(comment.split(", "), ends) if NAME.fullmatch(name))
+
+
+def of_names(policies):
+    """Whether all calls that are asked about have names, in each set that has them."""
+    together = table_of("policies/names.toml")
+    for policy in policies:
+        apart = table_of(f"policies/names/{policy.name}.toml")
+        yield f"{policy.name}: names.toml has the same set", together.get(policy.name) == apart, len(apart["calls"])
+        newest = max(plain(number) for number in policy.named if plain(number) < 512)
+        yield f"{policy.name}: names go up to {NEWEST}", newest >= NEWEST, newest
+        wrong = [(name, number) for name, number in policy.asked() if policy.calls.get(name) != number]
+        yield f"{policy.name}: each call that is asked about has its name", not wrong, wrong
+    newer = {(name, plain(at)) for policy in policies for name, at in policy.asked()}
+    newer = {(name, number) for name, number in newer if FIRST_EQUAL <= number < 512}
+    for policy in policies:
+        wrong = sorted((name, number) for name, number in newer if plain(policy.calls.get(name, -1)) != number)
+        yield f"{policy.name}: calls that other policies ask about have their names too", not wrong, wrong
+    heads = {text_of(f"policies/names/{name}.toml").split(" from ")[1].split(". ")[0] for name in SETS}
+    release = re.fullmatch(r"the headers of Linux (\d+\.\d+)\S*", heads.pop()) if len(heads) == 1 else None
+    yield "names: all are from the headers of one release", release is not None, heads
+    said = re.search(r"`policies/names.toml` has the calls of Linux (\S+)\.\s", text_of("docs/REFERENCE.md"))
+    yield "names: docs/REFERENCE.md says which", release and said and said[1] == release[1], said and said[1]
+    seen = [line for line in text_of("policies/names/x86_64.toml").splitlines() if "no filter sees it" in line]
+    due = ["uretprobe", "uprobe"]
+    yield "names: the calls that no filter sees are marked", [line.split(" = ")[0] for line in seen] == due, seen
+
+
+def main():
+    policies = [Policy(name) for name in SETS]
+    passed = failed = 0
+    for what, is_well, got in of_names(policies):
+        passed, failed = passed + bool(is_well), failed + (not is_well)
+        if not is_well:
+            print(f"{what}: {str(got)[:300]}")
+    print(f"{passed} passed, {failed} failed")
+    return 1 if failed or not passed else 0
+
+
+if __name__ == "__main__":
+    sys.exit(main())
