@@ -1,8 +1,9 @@
-"""Looks at the ready policies and the files of names: whether what is asked about has a name.
+"""Looks at the ready policies and the files of names: what has a name, and what is asked about.
 
     tools/test policies
 
-It takes no program. Each case that fails gets a line. The last line is `N passed, M failed`; where M isn't 0, the status
+Each call that a policy asks about has a name, and each number of a set has a name, or a question of its policy is about
+it. It takes no program and no headers. Each case that fails gets a line. The last line is `N passed, M failed`; where M isn't 0, the status
 is 1.
 """
 import re
@@ -15,6 +16,10 @@ SETS = ("x86_64", "i386", "x32", "aarch64", "arm")
 X32_BIT = 0x40000000
 # From this number on a call has the same one on all architectures, and the last of them that must have a name.
 FIRST_EQUAL, NEWEST = 424, 472
+# The numbers that a call can have: a set's first, and the last of all.
+BEGINS, LAST = {"x32": X32_BIT}, 0x7FFFFFFF
+# The most questions of a ready policy. A policy may have 256: the rest is room for those of users.
+MOST = 240
 # How policies write the calls that a question is about. Some ranges have expressions, as `2 * __X32_SYSCALL_BIT - 1`.
 NUMBERS = re.compile(r"nr = [^#]*# (.+)")
 NAME = re.compile(r"(?!__)\w+")
@@ -80,10 +85,44 @@ def of_names(policies):
     yield "names: the calls that no filter sees are marked", [line.split(" = ")[0] for line in seen] == due, seen
 
 
+def spans_of(number):
+    """The numbers that a question is about, as pairs of the first and the last."""
+    if isinstance(number, dict):
+        low, high = number.get("low", 0), number.get("high", LAST)
+        return [(it, it) for it in range(low, high + 1) if it & number["mask"] == number["value"]]
+    return [tuple(number) if isinstance(number, list) else (number, number)]
+
+
+def between(spans, first):
+    """The numbers that lie in no span, as pairs of the first and the last."""
+    for low, high in [*sorted(spans), (LAST + 1, LAST + 1)]:
+        if first < low:
+            yield first, low - 1
+        first = max(first, high + 1)
+
+
+def of_numbers(policies):
+    """Whether all numbers have names or are asked about, those without a name by no other condition."""
+    for policy in policies:
+        whole = [spans_of(it["nr"]) for it in policy.questions if "nr" in it and not set(it) - {"name", "arch", "nr"}]
+        spans = [span for spans in whole for span in spans] + [(number, number) for number in policy.named]
+        open_spans = list(between(spans, BEGINS.get(policy.name, 0)))
+        yield f"{policy.name}: no number lies between, without a name and a question", not open_spans, open_spans
+        wrong = [(question["name"], number) for question, comment in zip(policy.questions, policy.comments)
+                 if comment and comment.startswith("declared:")
+                 for low, high in spans_of(question["nr"]) for number in policy.named if low <= number <= high]
+        yield f"{policy.name}: no call is among the numbers without a name", not wrong, wrong
+    counts = {policy.name: len(policy.questions) for policy in policies}
+    yield f"policies: at most {MOST} questions", max(counts.values()) <= MOST, counts
+    said = dict(re.findall(r"^\| `(\w+)\.toml` \| .+ \| (\d+) \| .+ \|$", text_of("docs/POLICIES.md"), re.M))
+    wrong = {name: count for name, count in counts.items() if said.get(name) != str(count)}
+    yield "policies: docs/POLICIES.md says how many questions there are", not wrong, wrong
+
+
 def main():
     policies = [Policy(name) for name in SETS]
     passed = failed = 0
-    for what, is_well, got in of_names(policies):
+    for what, is_well, got in [*of_names(policies), *of_numbers(policies)]:
         passed, failed = passed + bool(is_well), failed + (not is_well)
         if not is_well:
             print(f"{what}: {str(got)[:300]}")

@@ -112,7 +112,7 @@ def of_audits(maker):
         text = text_of(maker.audit(stack, *making.CONTROL, *making.NAMES))
         yield said(f"{stack}: what is known of it", text, [*due, "The control holds.", outside], CLOSED[stack])
     text = text_of(maker.audit(making.SSHD, *making.CONTROL))
-    due = ["203 never, 0 allowed, 0 unsettled. The control holds."]
+    due = ["204 never, 0 allowed, 0 unsettled. The control holds."]
     yield said("sshd: all is closed", text, due, ["Allowed and", "Accepted", "Unsettled (", "**"])
     text = text_of(maker.audit(making.DOCKER, *making.CONTROL), groups=None)
     due = ["Allowed and not accepted (102):\n\n- `i386-calls`, `x32-calls`, `ptrace`", "and 94 more\n"]
@@ -128,7 +128,7 @@ def of_order(maker):
     line = re.search(r"^- .+devices\*\* \(27\): (`[a-z0-9-]+`,? ){8}and 19 more$", text, re.M)
     yield "markdown: many names are cut", line is not None, text
     lines = text_of(maker.audit(maker.file("traced.bpf", making.TRACED))).split("\n")
-    place = next((at for at, line in enumerate(lines) if line.startswith("202 never, 1 allowed")), -3)
+    place = next((at for at, line in enumerate(lines) if line.startswith("203 never, 1 allowed")), -3)
     is_well = lines[place + 2].startswith("**Calls are handed to another process**, for example `arch ")
     yield "markdown: what is handed over comes first", is_well and "- **What is handed" not in "\n".join(lines), lines
 
