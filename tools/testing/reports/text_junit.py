@@ -83,7 +83,7 @@ def of_real(maker):
     text = junit.text([maker.audit(making.DOCKER, *making.CONTROL, *making.NAMES, "--why")])
     yield "junit: docker: the rules hold", faults(text) == [], faults(text)
     tests = tests_in(text)
-    yield "junit: docker: a test for each question and the control's five", len(tests) == 209, len(tests)
+    yield "junit: docker: a test for each question and the control's five", len(tests) == 226, len(tests)
     names, passed = set(failed(text, "allowed")), {name for (_, name), test in tests.items() if not len(test)}
     open_ones = {"ptrace", "chroot", "fanotify-mark", "i386-calls"}
     closed = {"handed-to-another-process", "process-vm-readv", "pidfd-getfd", "mount", "pivot-root", "keyctl"}

@@ -106,7 +106,7 @@ def of_real(maker):
     yield "sarif: docker: results for what is open, and for nothing else", is_well, names
     yield "sarif: docker: each is an error", {result["level"] for result in results} == {"error"}, ""
     wrong = list(lines_of(results))
-    yield "sarif: each line is that of its question", not wrong and len(results) == 102, (wrong, len(results))
+    yield "sarif: each line is that of its question", not wrong and len(results) == 113, (wrong, len(results))
     rules = value["runs"][0]["tool"]["driver"]["rules"]
     wrong = [result for result in results if rules[result["ruleIndex"]]["id"] != result["ruleId"]]
     yield "sarif: each result has its rule", not wrong and len({rule["id"] for rule in rules}) == len(rules), wrong
