@@ -2,9 +2,10 @@
 
     tools/test policies
 
-Each call that a policy asks about has a name, and each number of a set has a name, or a question of its policy is about
-it. It takes no program and no headers. Each case that fails gets a line. The last line is `N passed, M failed`; where M isn't 0, the status
-is 1.
+Each call that a policy asks about has a name. Each number of a set has a name, or a question of its policy is about it.
+Each call of x86-64 has a question, or docs/POLICIES.md says why it has none. It takes no program and no headers.
+
+Each case that fails gets a line. The last line is `N passed, M failed`; where M isn't 0, the status is 1.
 """
 import re
 import sys
@@ -23,6 +24,13 @@ MOST = 240
 # How policies write the calls that a question is about. Some ranges have expressions, as `2 * __X32_SYSCALL_BIT - 1`.
 NUMBERS = re.compile(r"nr = [^#]*# (.+)")
 NAME = re.compile(r"(?!__)\w+")
+
+
+def spans_of(number):
+    """The numbers that a question is about, as pairs of the first and the last. With a mask they have both ends."""
+    if isinstance(number, dict):
+        return [(it, it) for it in range(number["low"], number["high"] + 1) if it & number["mask"] == number["value"]]
+    return [tuple(number) if isinstance(number, list) else (number, number)]
 
 
 def text_of(path):
@@ -44,20 +52,27 @@ class Policy:
 
     def __init__(self, name):
         self.name, self.path = name, f"policies/{name}.toml"
-        self.calls = table_of(f"policies/names/{name}.toml")["calls"]
+        names = table_of(f"policies/names/{name}.toml")
+        self.arch, self.calls = names["arch"], names["calls"]
         self.named = set(self.calls.values())
         tables = text_of(self.path).split("[[question]]")[1:]
         self.questions = table_of(self.path)["question"]
         # What stands behind the numbers of each question: names, or why there are none.
         self.comments = [(found := NUMBERS.search(table)) and found[1] for table in tables]
 
-    def asked(self):
-        """The names of calls that questions are about, each with its number."""
+    def said(self):
+        """The names of calls behind the numbers of questions, each with its number."""
         for question, comment in zip(self.questions, self.comments):
             if comment and not comment.startswith("declared:"):
                 number = question["nr"]
                 ends = number if isinstance(number, list) else [number]
                 yield from ((name, at) for name, at in zip(comment.split(", "), ends) if NAME.fullmatch(name))
+
+    def asked(self):
+        """The names of all calls that questions are about, under conditions or not."""
+        own = [question["nr"] for question in self.questions if "nr" in question and question["arch"] == self.arch]
+        spans = [span for number in own for span in spans_of(number)]
+        return {name for name, number in self.calls.items() if any(low <= number <= high for low, high in spans)}
 
 
 def of_names(policies):
@@ -68,9 +83,9 @@ def of_names(policies):
         yield f"{policy.name}: names.toml has the same set", together.get(policy.name) == apart, len(apart["calls"])
         newest = max(plain(number) for number in policy.named if plain(number) < 512)
         yield f"{policy.name}: names go up to {NEWEST}", newest >= NEWEST, newest
-        wrong = [(name, number) for name, number in policy.asked() if policy.calls.get(name) != number]
+        wrong = [(name, number) for name, number in policy.said() if policy.calls.get(name) != number]
         yield f"{policy.name}: each call that is asked about has its name", not wrong, wrong
-    newer = {(name, plain(at)) for policy in policies for name, at in policy.asked()}
+    newer = {(name, plain(at)) for policy in policies for name, at in policy.said()}
     newer = {(name, number) for name, number in newer if FIRST_EQUAL <= number < 512}
     for policy in policies:
         wrong = sorted((name, number) for name, number in newer if plain(policy.calls.get(name, -1)) != number)
@@ -85,14 +100,6 @@ def of_names(policies):
     yield "names: the calls that no filter sees are marked", [line.split(" = ")[0] for line in seen] == due, seen
 
 
-def spans_of(number):
-    """The numbers that a question is about, as pairs of the first and the last."""
-    if isinstance(number, dict):
-        low, high = number.get("low", 0), number.get("high", LAST)
-        return [(it, it) for it in range(low, high + 1) if it & number["mask"] == number["value"]]
-    return [tuple(number) if isinstance(number, list) else (number, number)]
-
-
 def between(spans, first):
     """The numbers that lie in no span, as pairs of the first and the last."""
     for low, high in [*sorted(spans), (LAST + 1, LAST + 1)]:
@@ -104,8 +111,8 @@ def between(spans, first):
 def of_numbers(policies):
     """Whether all numbers have names or are asked about, those without a name by no other condition."""
     for policy in policies:
-        whole = [spans_of(it["nr"]) for it in policy.questions if "nr" in it and not set(it) - {"name", "arch", "nr"}]
-        spans = [span for spans in whole for span in spans] + [(number, number) for number in policy.named]
+        whole = [it["nr"] for it in policy.questions if set(it) == {"name", "arch", "nr"} and it["arch"] == policy.arch]
+        spans = [span for number in whole for span in spans_of(number)] + [(number, number) for number in policy.named]
         open_spans = list(between(spans, BEGINS.get(policy.name, 0)))
         yield f"{policy.name}: no number lies between, without a name and a question", not open_spans, open_spans
         wrong = [(question["name"], number) for question, comment in zip(policy.questions, policy.comments)
@@ -119,10 +126,30 @@ def of_numbers(policies):
     yield "policies: docs/POLICIES.md says how many questions there are", not wrong, wrong
 
 
+def of_calls(policies):
+    """Whether each call of x86-64 has a question, or stands among those without one; and whether others have it too."""
+    policy = policies[0]
+    part = text_of("docs/POLICIES.md").split("\n## Calls without a question\n")[1].split("\n## ")[0]
+    told = [name for row in re.findall(r"^\| .+ \| `(.+)` \|$", part, re.M) for name in row.split()]
+    asked = policy.asked()
+    lost = sorted(policy.calls.keys() - asked - set(told))
+    yield f"{policy.name}: each call has a question, or docs/POLICIES.md says why not", not lost, lost
+    wrong = sorted(set(told) & asked | set(told) - policy.calls.keys())
+    yield f"{policy.name}: the calls without a question are calls, and have none", not wrong, wrong
+    twice = sorted({name for name in told if told.count(name) > 1})
+    yield f"{policy.name}: each call without a question is told once", not twice, twice
+    said = re.search(r"asks about (\d+) of the (\d+) calls", part)
+    due = (str(len(asked)), str(len(policy.calls)))
+    yield f"{policy.name}: docs/POLICIES.md says how many calls have a question", said and said.groups() == due, due
+    for other in policies[1:]:
+        lost = sorted(asked & other.calls.keys() - other.asked())
+        yield f"{other.name}: what {policy.name} asks about is asked about, where there is such a call", not lost, lost
+
+
 def main():
     policies = [Policy(name) for name in SETS]
     passed = failed = 0
-    for what, is_well, got in [*of_names(policies), *of_numbers(policies)]:
+    for what, is_well, got in [*of_names(policies), *of_numbers(policies), *of_calls(policies)]:
         passed, failed = passed + bool(is_well), failed + (not is_well)
         if not is_well:
             print(f"{what}: {str(got)[:300]}")
