@@ -1,6 +1,6 @@
-/* Reads back the seccomp filters of a thread, and writes them to PREFIX01.bpf, PREFIX02.bpf and so on, the oldest first.
+/* Reads back the seccomp filters of a thread, and writes them to PREFIX01.bpf, PREFIX02.bpf and so on, oldest first.
 
-   cc -O2 -o read_filters read_filters.c
+   cc -O2 -o read_filters read_filters.c read_thread.c
    ./read_filters THREAD [PREFIX]
    ./read_filters --all-threads PROCESS [PREFIX]
 
@@ -8,30 +8,27 @@
    PREFIXthread-N, where N is the first thread that has this set, with the filters in 01.bpf and so on (none where these
    threads have no filter). A line for each folder says how many filters are in it, and which threads have them.
 
-   It must run as root and under no seccomp filter itself, on a kernel with CONFIG_CHECKPOINT_RESTORE. The threads are
-   stopped meanwhile, all at once, and get no signal. A file or a folder that is there already is left alone: the tool
-   fails. It fails also if it read another number of filters than /proc has (since Linux 5.9). */
+   It must run as root and under no seccomp filter itself, on a kernel with CONFIG_CHECKPOINT_RESTORE. A file or folder
+   that is there already is left alone: the tool fails. It fails also if it read another number of filters than /proc
+   has (since Linux 5.9).
+
+   One thread is stopped at a time, while it is read. It gets no signal, but some calls in which it may wait return
+   early, as after a signal with a handler. epoll_wait, epoll_pwait, semop, semtimedop, sigtimedwait, sigwaitinfo,
+   io_getevents and calls of sockets with a timeout (SO_RCVTIMEO, SO_SNDTIMEO) return -1 with EINTR, or what they have
+   done so far. Others go on, such as poll, select, nanosleep, read, accept, recv without a timeout, futex and waitpid.
+
+   A thread that doesn't stop within 2 seconds, as one in vfork(), is let go. Each thread that can't be read gets a
+   line on standard error that says why. The others are read, and the status is 1. */
 #include <dirent.h>
-#include <errno.h>
-#include <linux/filter.h>
 #include <stdio.h>
 #include <stdlib.h>
 #include <string.h>
-#include <sys/ptrace.h>
 #include <sys/stat.h>
-#include <sys/wait.h>
 
-#ifndef PTRACE_SECCOMP_GET_FILTER
-#define PTRACE_SECCOMP_GET_FILTER 0x420c
-#endif
+#include "read_thread.h"
 
-enum { NAME = 4096 };
-
-/* The filters of a thread, the oldest first, and how many there are by /proc, or -1. */
-struct stack {
-    long count, told;
-    struct sock_fprog *filters;
-};
+/* How long a name may be, and how often the threads of a process are looked for. */
+enum { NAME = 4096, LOOKS = 100 };
 
 /* A set of filters, and the threads that have it, in the order in which they were read. */
 struct group {
@@ -40,89 +37,19 @@ struct group {
     pid_t *threads;
 };
 
-/* A thread that is stopped, and the signal that is handed on to it when it goes on: one that stopped it before us. */
-struct stopped {
-    pid_t thread;
-    long signal;
+/* The threads of a process that were met, the sets of filters that they have, and how many threads weren't read. */
+struct process {
+    long count, groups_count, unread;
+    pid_t *threads;
+    struct group *groups;
 };
 
-static void end_if(int failed, const char *what)
-{
-    if (failed) {
-        perror(what);
-        exit(1);
-    }
-}
-
-/* An array with room for one member more. */
-static void *grown(void *array, long count, size_t size)
-{
-    array = realloc(array, (count + 1) * size);
-    end_if(!array, "memory");
-    return array;
-}
-
-/* How many filters the thread has by /proc, or -1 where it has some and /proc doesn't say. */
-static long told_by_proc(pid_t thread)
-{
-    char line[256];
-    int mode = 0;
-    long told = -1;
-    snprintf(line, sizeof line, "/proc/%d/status", thread);
-    FILE *status = fopen(line, "r");
-    end_if(!status, line);
-    while (fgets(line, sizeof line, status)) {
-        sscanf(line, "Seccomp: %d", &mode);
-        sscanf(line, "Seccomp_filters: %ld", &told);
-    }
-    fclose(status);
-    return mode == 2 ? told : 0;
-}
-
-/* Stops a thread. Whether that went well: it doesn't where the thread has ended and that is no fault. */
-static int stop(pid_t thread, int may_have_ended, struct stopped *stopped)
-{
-    int status;
-    if (ptrace(PTRACE_SEIZE, thread, 0, 0) != 0) {
-        end_if(!may_have_ended || errno != ESRCH, "seize");
-        return 0;
-    }
-    end_if(ptrace(PTRACE_INTERRUPT, thread, 0, 0) != 0 && errno != ESRCH, "interrupt");
-    end_if(waitpid(thread, &status, __WALL) != thread, "wait");
-    end_if(!WIFSTOPPED(status) && !may_have_ended, "wait");
-    stopped->thread = thread;
-    stopped->signal = status >> 16 ? 0 : WSTOPSIG(status);
-    return WIFSTOPPED(status);
-}
-
-static void let_go(const struct stopped *stopped)
-{
-    end_if(ptrace(PTRACE_DETACH, stopped->thread, 0, stopped->signal) != 0, "detach");
-}
-
-/* The filters of a stopped thread. */
-static struct stack read_stack(pid_t thread)
-{
-    struct stack stack = {0, told_by_proc(thread), NULL};
-    while (stack.told != 0) {
-        long length = ptrace(PTRACE_SECCOMP_GET_FILTER, thread, stack.count, NULL);
-        if (length < 0 && errno == ENOENT)
-            break;
-        end_if(length < 0, "read");
-        struct sock_filter *code = grown(NULL, length, sizeof *code);
-        end_if(ptrace(PTRACE_SECCOMP_GET_FILTER, thread, stack.count, code) != length, "read");
-        stack.filters = grown(stack.filters, stack.count, sizeof *stack.filters);
-        stack.filters[stack.count++] = (struct sock_fprog){length, code};
-    }
-    return stack;
-}
-
 /* Whether /proc has another number of filters. Says so then. */
-static int is_other_number(const struct stack *stack)
+static int is_other_number(pid_t thread, const struct stack *stack)
 {
     int is_other = stack->told >= 0 && stack->told != stack->count;
     if (is_other)
-        fprintf(stderr, "/proc tells of %ld\n", stack->told);
+        fprintf(stderr, "thread %d: /proc tells of %ld filters, %ld were read\n", thread, stack->told, stack->count);
     return is_other;
 }
 
@@ -184,83 +111,102 @@ static void write_group(const char *prefix, const struct group *group)
     write_stack(name, &group->stack);
 }
 
-static int has_thread(const struct stopped *all, long count, pid_t thread)
+static int has_thread(const struct process *process, pid_t thread)
 {
-    while (count > 0 && all[count - 1].thread != thread)
+    long count = process->count;
+    while (count > 0 && process->threads[count - 1] != thread)
         count--;
     return count > 0;
 }
 
-/* Whether a thread of /proc has ended, and only its process hasn't. */
-static int has_ended(pid_t thread)
+static void say(pid_t thread, const char *why)
 {
-    char line[256], state = 'Z';
-    snprintf(line, sizeof line, "/proc/%d/status", thread);
-    FILE *status = fopen(line, "r");
-    while (status && fgets(line, sizeof line, status))
-        sscanf(line, "State: %c", &state);
-    if (status)
-        fclose(status);
-    return state == 'Z' || state == 'X';
+    fprintf(stderr, "thread %d: %s\n", thread, why);
 }
 
-/* Stops the threads of a process that aren't stopped yet. Gives all that are. */
-static struct stopped *stop_more(pid_t process, struct stopped *all, long *count)
+/* Reads a thread that wasn't met yet, and adds it to its group. */
+static void meet(struct process *process, pid_t thread)
+{
+    struct stack stack;
+    char why[WHY];
+    process->threads = grown(process->threads, process->count, sizeof *process->threads);
+    process->threads[process->count++] = thread;
+    enum reading reading = read_thread(thread, &stack, why);
+    if (reading == READ)
+        process->groups = add_to_groups(process->groups, &process->groups_count, thread, stack);
+    if (reading == UNREAD) {
+        say(thread, why);
+        process->unread++;
+    }
+}
+
+/* Reads the threads of a process that weren't met yet, or says that it is too late. Gives how many there are. */
+static long meet_more(struct process *process, pid_t id, int is_too_late)
 {
     char name[64];
-    snprintf(name, sizeof name, "/proc/%d/task", process);
+    long before = process->count, late = 0;
+    snprintf(name, sizeof name, "/proc/%d/task", id);
     DIR *folder = opendir(name);
-    end_if(!folder, name);
-    for (struct dirent *entry; (entry = readdir(folder));) {
+    end_if(!folder && before == 0, name);
+    for (struct dirent *entry; folder && (entry = readdir(folder));) {
         pid_t thread = atoi(entry->d_name);
-        if (thread <= 0 || has_thread(all, *count, thread) || has_ended(thread))
+        if (thread <= 0 || has_thread(process, thread) || has_ended(thread))
             continue;
-        all = grown(all, *count, sizeof *all);
-        *count += stop(thread, 1, &all[*count]);
+        if (is_too_late) {
+            say(thread, "started too late: the process goes on starting threads");
+            late++;
+        } else
+            meet(process, thread);
     }
-    closedir(folder);
-    return all;
+    if (folder)
+        closedir(folder);
+    process->unread += late;
+    return process->count - before + late;
 }
 
 static int by_thread(const void *one, const void *other)
 {
-    return ((const struct stopped *)one)->thread - ((const struct stopped *)other)->thread;
+    return *(const pid_t *)one - *(const pid_t *)other;
 }
 
-static int read_process(pid_t process, const char *prefix)
+static int by_first_thread(const void *one, const void *other)
 {
-    struct stopped *all = NULL;
-    struct group *groups = NULL;
-    long count = 0, before, groups_count = 0;
-    /* A thread that isn't stopped yet may start another one: so look again until all were stopped before. */
-    do {
-        before = count;
-        all = stop_more(process, all, &count);
-    } while (count != before);
-    qsort(all, count, sizeof *all, by_thread);
-    for (long at = 0; at < count; at++)
-        groups = add_to_groups(groups, &groups_count, all[at].thread, read_stack(all[at].thread));
-    for (long at = 0; at < count; at++)
-        let_go(&all[at]);
-    int failed = count == 0;
-    for (long at = 0; at < groups_count; at++) {
-        write_group(prefix, &groups[at]);
-        failed |= is_other_number(&groups[at].stack);
+    return by_thread(((const struct group *)one)->threads, ((const struct group *)other)->threads);
+}
+
+static int read_process(pid_t id, const char *prefix)
+{
+    struct process process = {0, 0, 0, NULL, NULL};
+    /* A thread may start another one while others are read: so look again until there is none that wasn't met. */
+    for (int look = 1; look <= LOOKS && meet_more(&process, id, look == LOOKS); look++)
+        ;
+    for (long at = 0; at < process.groups_count; at++)
+        qsort(process.groups[at].threads, process.groups[at].count, sizeof *process.groups[at].threads, by_thread);
+    qsort(process.groups, process.groups_count, sizeof *process.groups, by_first_thread);
+    int failed = process.unread > 0;
+    for (long at = 0; at < process.groups_count; at++) {
+        write_group(prefix, &process.groups[at]);
+        failed |= is_other_number(process.groups[at].threads[0], &process.groups[at].stack);
     }
-    if (count == 0)
+    if (process.groups_count == 0 && process.unread == 0) {
         fprintf(stderr, "no thread runs\n");
+        failed = 1;
+    }
     return failed;
 }
 
-static int read_thread(pid_t thread, const char *prefix)
+static int read_one(pid_t thread, const char *prefix)
 {
-    struct stopped stopped;
-    stop(thread, 0, &stopped);
-    struct stack stack = read_stack(thread);
-    let_go(&stopped);
+    struct stack stack;
+    char why[WHY];
+    enum reading reading = read_thread(thread, &stack, why);
+    if (reading != READ) {
+        say(thread, reading == ENDED ? "there is no such thread" : why);
+        return 1;
+    }
     write_stack(prefix, &stack);
     printf("%ld filters\n", stack.count);
-    return is_other_number(&stack);
+    return is_other_number(thread, &stack);
 }
 
 int main(int count, char **words)
@@ -273,5 +219,5 @@ int main(int count, char **words)
         return 2;
     }
     const char *prefix = left == 2 ? words[2 + is_all] : "";
-    return is_all ? read_process(id, prefix) : read_thread(id, prefix);
+    return is_all ? read_process(id, prefix) : read_one(id, prefix);
 }

@@ -32,12 +32,12 @@ FOLDERS = [
     ("docs/schema", (".json",), "share/seccomp_audit/schema"),
 ]
 
-# Helpers in Python, and what a C compiler makes: the source below tools/, the compiler's options, the target.
+# Helpers in Python, and what a C compiler makes: the sources below tools/, the compiler's options, the target.
 # `kernel_agrees` does nothing without `ask_kernel`, so it goes where that goes.
 FILTER_OF_PROFILE = ("tools/filter_of_profile", "bin/seccomp_audit_filter_of_profile")
 KERNEL_AGREES = ("tools/kernel_agrees", "bin/seccomp_audit_kernel_agrees")
-READ_FILTERS = ("read_filters.c", (), "bin/seccomp_audit_read_filters")
-ASK_KERNEL = ("ask_kernel.c", ("-pthread",), "libexec/seccomp_audit/ask_kernel")
+READ_FILTERS = (("read_filters.c", "read_thread.c"), (), "bin/seccomp_audit_read_filters")
+ASK_KERNEL = (("ask_kernel.c",), ("-pthread",), "libexec/seccomp_audit/ask_kernel")
 COMPILED = (READ_FILTERS[2], ASK_KERNEL[2])
 
 
@@ -47,11 +47,11 @@ def copy(source, target, mode=0o644):
     os.chmod(target, mode)
 
 
-def is_compiled(source, options, target):
-    """Compiles a source of tools/. Whether that went well: it doesn't where there is no compiler, or another machine."""
+def is_compiled(sources, options, target):
+    """Compiles sources of tools/. Whether that went well: it doesn't where there is no compiler, or another machine."""
     with tempfile.TemporaryDirectory() as room:
         made = os.path.join(room, "made")
-        words = [os.environ.get("CC") or "cc", "-O2", "-s", *options, "-o", made, source]
+        words = [os.environ.get("CC") or "cc", "-O2", "-s", *options, "-o", made, *sources]
         try:
             ran = subprocess.run(words, cwd=os.path.join(ROOT, "tools"), stdin=subprocess.DEVNULL, capture_output=True)
         except FileNotFoundError:

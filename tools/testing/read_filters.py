@@ -6,14 +6,19 @@ It takes a C compiler. A process is read only by root with CAP_SYS_ADMIN, where 
 cases are left out, and a line says so. The last line is `N passed, M failed`; where M isn't 0, or nothing was tried,
 the status is 1.
 """
+import ctypes
+import functools
 import os
+import signal
 import subprocess
 import sys
 import tempfile
+import time
 
 from building.kit import ROOT
 
-SOURCE = os.path.join(ROOT, "tools/read_filters.c")
+SOURCE, ONE_THREAD, WAITING = (
+    os.path.join(ROOT, "tools", name) for name in ("read_filters.c", "read_thread.c", "testing/waiting.c"))
 FILTERS = [os.path.join(ROOT, "examples", path) for path in ("p1.bpf", "snap-default/02.bpf")]
 
 # Groups threads 10 to 15, of which 11, 12 and 15 have one filter, 13 the same twice, and 14 one of the same length.
@@ -76,6 +81,10 @@ if sys.argv[1] == "ends":
 time.sleep(1000)
 """
 
+# The most seconds that a case takes, where all goes wrong.
+MOST = 60
+CAP_SYS_ADMIN, DROP_FROM_BOUNDS = 21, 24
+
 passed = failed = 0
 
 
@@ -87,12 +96,16 @@ def tell(well, what, got):
 
 
 def said(*words, **how):
-    return subprocess.run(words, stdin=subprocess.DEVNULL, capture_output=True, text=True, **how)
+    """How a command ends, or None where it doesn't end in time."""
+    try:
+        return subprocess.run(words, stdin=subprocess.DEVNULL, capture_output=True, text=True, timeout=MOST, **how)
+    except subprocess.TimeoutExpired as ran:
+        return subprocess.CompletedProcess(words, None, ran.stdout or "", ran.stderr or "")
 
 
-def compiled(room, name, source):
+def compiled(room, name, *sources):
     path = os.path.join(room, name)
-    words = [os.environ.get("CC") or "cc", "-Wall", "-Wextra", "-Werror", "-O2", "-o", path, source]
+    words = [os.environ.get("CC") or "cc", "-Wall", "-Wextra", "-Werror", "-O2", "-pthread", "-o", path, *sources]
     subprocess.run([*words, "-I", os.path.dirname(SOURCE)], check=True)
     return path
 
@@ -106,7 +119,7 @@ def bytes_below(folder):
 def try_groups(room):
     with open(os.path.join(room, "groups.c"), "w") as file:
         file.write(GROUPS)
-    groups = compiled(room, "groups", os.path.join(room, "groups.c"))
+    groups = compiled(room, "groups", os.path.join(room, "groups.c"), ONE_THREAD)
     here = os.path.join(room, "grouped")
     os.mkdir(here)
     ran = said(groups, cwd=here)
@@ -126,11 +139,47 @@ def started(first, *paths):
     return child, child.stdout.readline().split()
 
 
-def is_free(thread):
-    """Whether a thread is neither stopped nor traced."""
+def status_of(thread):
+    """A thread's state, as a letter, and who traces it."""
     with open(f"/proc/{thread}/status") as file:
         lines = dict(line.rstrip("\n").split(":\t", 1) for line in file)
-    return lines["State"][0] in "RS" and lines["TracerPid"] == "0"
+    return lines["State"][0], lines["TracerPid"]
+
+
+def is_free(thread):
+    """Whether a thread is neither stopped nor traced."""
+    state, tracer = status_of(thread)
+    return state in "RS" and tracer == "0"
+
+
+def comes(condition):
+    """Whether something comes true in time."""
+    end = time.monotonic() + MOST
+    while not condition():
+        if time.monotonic() > end:
+            return False
+        time.sleep(0.001)
+    return True
+
+
+def is_in(thread, call):
+    """Whether a thread waits in a call."""
+    with open(f"/proc/{thread}/syscall") as file:
+        return file.read().split()[0] == call
+
+
+def waiting(program, *kinds):
+    """A process whose threads wait so, and for each kind the number of its thread. Where one is traced: by whom, too."""
+    child = subprocess.Popen([program, *kinds], stdout=subprocess.PIPE, text=True)
+    threads = {}
+    for _ in kinds:
+        kind, thread, call = child.stdout.readline().split()
+        threads[kind] = thread
+        if kind == "traced":
+            threads["tracer"] = call
+        elif kind != "starts":
+            comes(functools.partial(is_in, thread, call))
+    return child, threads
 
 
 def try_process(reader, room):
@@ -162,6 +211,85 @@ def try_process(reader, room):
     finally:
         child.kill()
         child.wait()
+
+
+def try_unread(reader, waits, room):
+    """A thread that doesn't stop, and one that is traced: both are named, and the others read, and they run meanwhile."""
+    child, threads = waiting(waits, "pause", "vfork", "traced", "recv")
+    first, held, tracer = str(child.pid), threads["vfork"], threads.pop("tracer")
+    reading = subprocess.Popen([reader, "--all-threads", first, f"{room}/unread-"], stdout=-1, stderr=-1, text=True)
+    try:
+        begun = comes(lambda: status_of(held)[1] != "0")
+        others = [first, threads["pause"], threads["recv"]]
+        tell(begun and all(map(is_free, others)), "one thread at a time", list(map(status_of, others)))
+        out, err = reading.communicate(timeout=MOST)
+        whys = {f"thread {held}: did not stop within 2 s", f"thread {threads['traced']}: is traced by {tracer}"}
+        tell(reading.returncode == 1 and set(err.splitlines()) == whys, "threads that can't be read", (reading.returncode, err))
+        read = f"{room}/unread-thread-{first}: 0 filters, of threads {' '.join(sorted(others, key=int))}\n"
+        tell(out == read, "the others are read", out)
+        tell(status_of(held) == ("D", "0") and all(map(is_free, others)), "each is let go", list(map(status_of, threads.values())))
+        ran = said(reader, threads["traced"], f"{room}/alone-")
+        tell(ran.returncode == 1 and ran.stderr == f"thread {threads['traced']}: is traced by {tracer}\n", "alone", ran)
+        reading = subprocess.Popen([reader, held, f"{room}/killed-"], stdout=-1, stderr=-1)
+        begun = comes(lambda: status_of(held)[1] != "0")
+        reading.kill()
+        reading.communicate()
+        tell(begun and comes(lambda: status_of(held) == ("D", "0")), "let go where the reader is ended", status_of(held))
+    finally:
+        reading.kill()
+        child.kill()
+        child.wait()
+    ran = said(reader, first, f"{room}/gone-")
+    tell(ran.returncode == 1 and ran.stderr == f"thread {first}: there is no such thread\n", "a thread that isn't there", ran)
+
+
+def try_calls(reader, waits, room):
+    """The calls that return early are those of which the page tells, and others go on."""
+    child, threads = waiting(waits, "epoll_wait", "recv_timeout", "recv", "poll", "pause")
+    try:
+        ran = said(reader, "--all-threads", str(child.pid), f"{room}/calls-")
+        returned = {child.stdout.readline(), child.stdout.readline()} if ran.returncode == 0 else {}
+        tell(returned == {"epoll_wait -1 EINTR\n", "recv_timeout -1 EINTR\n"}, "calls that return early", (returned, ran))
+        tell(all(map(is_free, threads.values())), "all threads wait again", threads)
+    finally:
+        child.kill()
+    left = child.stdout.read()
+    tell(left == "", "other calls go on", left)
+    child.wait()
+
+
+def try_states(reader, waits, room):
+    """A process that is stopped stays so. One that goes on starting threads is read, in a time that has an end."""
+    child, _ = waiting(waits, "pause")
+    child.send_signal(signal.SIGSTOP)
+    comes(lambda: status_of(child.pid)[0] == "T")
+    ran = said(reader, "--all-threads", str(child.pid), f"{room}/stopped-")
+    well = ran.returncode == 0 and comes(lambda: status_of(child.pid) == ("T", "0"))
+    tell(well, "a process that is stopped", (ran, status_of(child.pid)))
+    child.kill()
+    child.wait()
+    child, _ = waiting(waits, "starts")
+    ran = said(reader, "--all-threads", str(child.pid), f"{room}/starts-")
+    late = [line for line in ran.stderr.splitlines() if line.startswith("thread ") and "started too late" in line]
+    well = ran.returncode == (1 if late else 0) and len(late) == ran.stderr.count("\n")
+    tell(well and f"starts-thread-{child.pid}: 0 filters" in ran.stdout, "a process that starts threads", ran)
+    child.kill()
+    child.wait()
+
+
+def drop_admin():
+    ctypes.CDLL(None).prctl(DROP_FROM_BOUNDS, CAP_SYS_ADMIN, 0, 0, 0)
+
+
+def try_rights(reader, room):
+    """Without CAP_SYS_ADMIN a thread that has a filter can't be read, and one that has none can."""
+    child, numbers = started("waits", FILTERS[0])
+    ran = said(reader, "--all-threads", str(child.pid), f"{room}/rights-", preexec_fn=drop_admin)
+    read = f"{room}/rights-thread-{numbers[0]}: 0 filters, of threads {numbers[0]}\n"
+    well = ran.returncode == 1 and ran.stdout == read and ran.stderr == f"thread {numbers[1]}: needs CAP_SYS_ADMIN\n"
+    tell(well, "without CAP_SYS_ADMIN", ran)
+    child.kill()
+    child.wait()
 
 
 def try_ended(reader, room):
@@ -201,7 +329,7 @@ def can_read(reader, room):
 def main():
     with tempfile.TemporaryDirectory(prefix="read-filters-") as room:
         try:
-            reader = compiled(room, "read_filters", SOURCE)
+            reader = compiled(room, "read_filters", SOURCE, ONE_THREAD)
         except FileNotFoundError as why:
             print(f"there is no C compiler: {why.filename}")
         else:
@@ -210,7 +338,12 @@ def main():
                 tell(ran.returncode == 2 and "usage" in ran.stderr, f"words {words}", ran)
             try_groups(room)
             if os.geteuid() == 0 and can_read(reader, room):
+                waits = compiled(room, "waiting", WAITING)
                 try_process(reader, room)
+                try_unread(reader, waits, room)
+                try_calls(reader, waits, room)
+                try_states(reader, waits, room)
+                try_rights(reader, room)
                 try_ended(reader, room)
     print(f"{passed} passed, {failed} failed")
     return 1 if failed or not passed else 0
