@@ -18,6 +18,7 @@ FILES = [
     ("docs/POLICIES.md", "share/doc/{doc}/POLICIES.md"),
     ("examples/ci/github.yml", "share/doc/{doc}/ci/github.yml"),
     ("examples/ci/gitlab.yml", "share/doc/{doc}/ci/gitlab.yml"),
+    ("tools/showing.py", "libexec/seccomp_audit/showing.py"),
 ]
 POLICIES = "share/seccomp_audit/policies"
 

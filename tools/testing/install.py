@@ -2,7 +2,8 @@
 
     tools/test install
 
-A stand-in takes the program's place, so nothing has to be built. Cases that need a C compiler, or dpkg and objdump, are
+A stand-in takes the program's place, so nothing has to be built. The cases of filter_of_profile are tried on the one that
+is installed. Cases that need a C compiler, or dpkg and objdump, are
 left out where these aren't there, and a line says so. The last line is `N passed, M failed`; where M isn't 0, the
 status is 1.
 """
@@ -17,6 +18,7 @@ import tempfile
 
 from building import installing
 from building.kit import PROGRAM, ROOT
+from testing import profiles
 
 HELPERS = ["seccomp_audit_filter_of_profile", "seccomp_audit_kernel_agrees", "seccomp_audit_read_filters", "seccomp_audit_report"]
 PROFILE = os.path.join(ROOT, "examples/profiles/sockets.json")
@@ -27,7 +29,8 @@ COMPILER = shutil.which(os.environ.get("CC") or "cc")
 PLACES = """
     bin/seccomp_audit bin/seccomp_audit_filter_of_profile bin/seccomp_audit_kernel_agrees bin/seccomp_audit_read_filters
     bin/seccomp_audit_report
-    libexec/seccomp_audit/ask_kernel share/bash-completion/completions/seccomp_audit share/doc/{doc}/GUIDE.md
+    libexec/seccomp_audit/ask_kernel libexec/seccomp_audit/showing.py
+    share/bash-completion/completions/seccomp_audit share/doc/{doc}/GUIDE.md
     share/doc/{doc}/GETTING-FILTERS.md share/doc/{doc}/POLICIES.md share/doc/{doc}/REFERENCE.md
     share/doc/{doc}/ci/github.yml share/doc/{doc}/ci/gitlab.yml
     share/fish/vendor_completions.d/seccomp_audit.fish share/man/man1/seccomp_audit.1 share/zsh/vendor-completions/_seccomp_audit
@@ -104,6 +107,8 @@ def try_install(room):
     ran = subprocess.run([f"{prefix}/bin/{HELPERS[0]}", "--machine", "x86_64", PROFILE], capture_output=True)
     lacks = b"libseccomp.so.2: cannot open" in ran.stderr
     tell(lacks or ran.returncode == 0 and len(ran.stdout) > 8 and len(ran.stdout) % 8 == 0, HELPERS[0], ran)
+    for what, is_well, got in profiles.cases(f"{prefix}/bin/{HELPERS[0]}", room):
+        tell(is_well, f"{HELPERS[0]}: {what}", got)
     # No path leads to a compiler, or to another program: so `ask_kernel` and the program are those beside it.
     environment = {"PATH": os.path.dirname(sys.executable), "CC": "/nowhere"}
     words = [sys.executable, f"{prefix}/bin/{HELPERS[1]}", "--input", f"3b0000003e0000c0{0:0112x}", FILTER]

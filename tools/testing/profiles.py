@@ -1,0 +1,148 @@
+"""Tries filter_of_profile: which files it refuses, and that it ends. `tools/test install` runs these cases."""
+import json
+import os
+import shutil
+import subprocess
+
+from building.kit import ROOT
+
+# A rule, a profile with it, and one that is a whole config.json.
+RULE = {"names": ["ptrace"], "action": "SCMP_ACT_ERRNO", "errnoRet": 1}
+PROFILE = {"defaultAction": "SCMP_ACT_ALLOW", "syscalls": [RULE]}
+CONFIG = {"ociVersion": "1.0.2", "process": {"Linux": 1}, "linux": {"resources": {"SECCOMP": 1}, "seccomp": PROFILE}}
+ARGUMENT = {"index": 0, "value": 1, "op": "SCMP_CMP_EQ"}
+
+
+def with_rule(**more):
+    return PROFILE | {"syscalls": [RULE | more]}
+
+
+def renamed(value, key, other):
+    """An object, a key of which has another name."""
+    return {other if it == key else it: member for it, member in value.items()}
+
+
+# Files that are read, and files that are refused, with what the line says.
+READ = {
+    "a profile": PROFILE,
+    "a config.json": CONFIG,
+    "an errno that is the name": with_rule(errno="EPERM"),
+    "an errno in digits": with_rule(errno="1"),
+    "a default that agrees": PROFILE | {"defaultErrnoRet": 38, "defaultErrno": "ENOSYS"},
+    "keys of others": PROFILE | {"x-comment": {"Names": 1}},
+    "nulls": PROFILE | {"architectures": None, "syscalls": [RULE | {"args": None, "includes": None}]},
+}
+REFUSED = {
+    "a key twice": ('{"defaultAction":"SCMP_ACT_ALLOW","syscalls":[],"syscalls":[]}', "syscalls comes twice"),
+    "a key twice, deep": ('{"defaultAction":"SCMP_ACT_ALLOW","x":[{"y":{"names":1,"names":1}}]}', "names comes twice"),
+    "a profile beside linux": (CONFIG | PROFILE, "beside linux stands defaultAction, syscalls"),
+    "an empty list beside linux": (CONFIG | {"syscalls": []}, "beside linux stands syscalls"),
+    "a profile beside linux, in capitals": (CONFIG | {"SysCalls": []}, "'SysCalls'"),
+    "Linux beside linux": (CONFIG | {"Linux": {"seccomp": PROFILE}}, "'Linux'"),
+    "Seccomp": (CONFIG | {"linux": {"seccomp": PROFILE, "Seccomp": None}}, "'Seccomp'"),
+    "Syscalls": (renamed(PROFILE, "syscalls", "Syscalls"), "'Syscalls'"),
+    "a long s": (PROFILE | {"\u017fyscalls": []}, "\\u017fyscalls"),
+    "a sign of kelvins": (with_rule(includes={"min\u212aernel": "5.0"}), "'min\\u212aernel'"),
+    "Names": (PROFILE | {"syscalls": [renamed(RULE, "names", "Names")]}, "'Names'"),
+    "ERRNORET": (with_rule(ERRNORET=38), "'ERRNORET'"),
+    "Value": (with_rule(args=[renamed(ARGUMENT, "value", "Value")]), "'Value'"),
+    "Caps": (with_rule(includes={"Caps": []}), "'Caps'"),
+    "SubArchitectures": (PROFILE | {"archMap": [{"architecture": "SCMP_ARCH_X86_64", "SubArchitectures": []}]}, "'SubA"),
+    "another errno": (with_rule(errno="ENOSYS"), "errno ENOSYS beside errnoRet 1"),
+    "errno 0": (with_rule(errno="0"), "errno 0 beside errnoRet 1"),
+    "no errno": (with_rule(errno="errorcode"), "errno errorcode beside"),
+    "errno alone": ({"defaultAction": "SCMP_ACT_ALLOW", "syscalls": [renamed(RULE, "errnoRet", "errno") | {"errno": "EPERM"}]},
+                    "without errnoRet"),
+    "another default": (PROFILE | {"defaultErrnoRet": 38, "defaultErrno": "EPERM"}, "defaultErrno EPERM beside"),
+    "no JSON": ("{", "no JSON"),
+    "deep": ("[" * 100_000, "no JSON"),
+    "a list": ([], "no object"),
+    "nothing": ("", "no JSON"),
+    "linux without seccomp": ({"linux": {}}, "linux has no seccomp"),
+    "an unknown action": (with_rule(action="SCMP_ACT_\x1b[31m"), "SCMP_ACT_\\u001b[31m"),
+    "an unknown comparison": (with_rule(args=[ARGUMENT | {"op": "SCMP_CMP_"}]), "without an op"),
+    "a number of 65 bits": (with_rule(args=[ARGUMENT | {"value": 1 << 64}]), "no whole number"),
+    "an unknown capability": (with_rule(includes={"caps": ["\x1b\n\x9b"]}), "\\u001b\\n\\u009b"),
+    "a rule that is a text": (PROFILE | {"syscalls": ["read"]}, "syscalls[0] is no object"),
+}
+
+# A libseccomp that doesn't end: at a rule of the call `ever`, and where the action is LOG, when the filter is written.
+ENDLESS = r"""
+static unsigned action;
+void *seccomp_init(unsigned given) { action = given; return &action; }
+void seccomp_release(void *filter) { (void)filter; }
+unsigned seccomp_arch_resolve_name(const char *name) { return *name; }
+unsigned seccomp_arch_native(void) { return 'x'; }
+int seccomp_arch_add(void *filter, unsigned arch) { (void)filter; return arch * 0; }
+int seccomp_arch_remove(void *filter, unsigned arch) { (void)filter; return arch * 0; }
+int seccomp_syscall_resolve_name(const char *name) { return *name; }
+int seccomp_rule_add_array(void *filter, unsigned to, int call, unsigned count, const void *array)
+{
+    (void)filter, (void)to, (void)count, (void)array;
+    for (volatile int more = call == 'e'; more;)
+        ;
+    return 0;
+}
+int seccomp_export_bpf(void *filter, int file)
+{
+    (void)filter, (void)file;
+    for (volatile int more = action == 0x7ffc0000; more;)
+        ;
+    return 0;
+}
+"""
+
+
+def ran(program, room, value, **how):
+    """What the tool says of a file."""
+    path = os.path.join(room, "profile.json")
+    with open(path, "w", encoding="utf-8") as file:
+        file.write(value if isinstance(value, str) else json.dumps(value))
+    words = [program, "--machine", "x86_64", path]
+    try:
+        return subprocess.run(words, capture_output=True, timeout=60, **how)
+    except subprocess.TimeoutExpired:
+        return subprocess.CompletedProcess(words, None, b"", b"it doesn't end")
+
+
+def endless_cases(program, room):
+    """Whether the tool ends where libseccomp doesn't: a copy of it that waits for a second only."""
+    compiler = shutil.which(os.environ.get("CC") or "cc")
+    if not compiler:
+        return
+    with open(program) as file:
+        text = file.read()
+    yield "it waits for 10 s", "\nSECONDS = 10\n" in text, ""
+    short = os.path.join(room, "short")
+    with open(short, "w") as file:
+        file.write(text.replace("\nSECONDS = 10\n", "\nSECONDS = 1\n"))
+    os.chmod(short, 0o755)
+    shutil.copy(os.path.join(ROOT, "tools/showing.py"), room)
+    source = os.path.join(room, "endless.c")
+    with open(source, "w") as file:
+        file.write(ENDLESS)
+    subprocess.run([compiler, "-shared", "-fPIC", "-O1", "-o", f"{room}/libseccomp.so.2", source], check=True)
+    environment = {**os.environ, "LD_LIBRARY_PATH": room}
+    for what, value, said in (
+        ("ends", PROFILE, ""),
+        ("does not end at a rule", PROFILE | {"syscalls": [RULE, RULE | {"names": ["read", "ever"]}]},
+         "libseccomp did not end within 1 s at the rule of ever in syscalls[1]\n"),
+        ("does not end afterwards", PROFILE | {"defaultAction": "SCMP_ACT_LOG"},
+         "libseccomp did not end within 1 s when all rules were there, and it wrote the filter\n"),
+    ):
+        got = ran(short, room, value, env=environment)
+        yield f"libseccomp {what}", got.returncode == bool(said) and got.stderr.decode() == said and not got.stdout, got
+
+
+def cases(program, room):
+    """What is tried, whether it is well, and what came."""
+    for what, value in READ.items():
+        got = ran(program, room, value)
+        lacks = b"libseccomp.so.2: cannot open" in got.stderr
+        yield what, lacks or got.returncode == 0 and len(got.stdout) == 72, got
+    for what, (value, why) in REFUSED.items():
+        got = ran(program, room, value)
+        text = got.stderr.decode(errors="replace")
+        is_line = text.count("\n") == 1 and text[:-1].isprintable() and why in text
+        yield what, got.returncode == 1 and is_line and not got.stdout, got
+    yield from endless_cases(program, room)
