@@ -14,6 +14,11 @@ def numbered(character):
     return f"\\u{ord(character):04x}" if ord(character) <= 0xFFFF else f"\\U{ord(character):08x}"
 
 
+def say(text, file=None):
+    """Prints a line, to standard output if no other file is given."""
+    print(visible(text), file=file)
+
+
 class Parser(argparse.ArgumentParser):
     """Reads a command line. What it says of a word that doesn't fit is fit for a terminal."""
 

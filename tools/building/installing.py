@@ -4,7 +4,7 @@ import shutil
 import subprocess
 import tempfile
 
-from building.kit import PROGRAM, ROOT
+from building.kit import PROGRAM, ROOT, Refused
 
 # What is copied beside the program: from where in the repository, and to where below PREFIX. {doc} is the folder of pages.
 FILES = [
@@ -27,7 +27,6 @@ OWN = ["libexec/seccomp_audit", "share/doc/{doc}", "share/seccomp_audit"]
 
 # The report's modules and the schemas of the documents that it reads: the folder in the repository, what is copied of it,
 # and the folder below PREFIX.
-REPORT = ("tools/report", "bin/seccomp_audit_report")
 FOLDERS = [
     ("tools/reporting", (".py", ".css", ".js"), "libexec/seccomp_audit/reporting"),
     ("docs/schema", (".json",), "share/seccomp_audit/schema"),
@@ -35,79 +34,92 @@ FOLDERS = [
 
 # Helpers in Python, and what a C compiler makes: the sources below tools/, the compiler's options, the target.
 # `kernel_agrees` does nothing without `ask_kernel`, so it goes where that goes.
-FILTER_OF_PROFILE = ("tools/filter_of_profile", "bin/seccomp_audit_filter_of_profile")
+HELPERS = [(f"tools/{name}", f"bin/seccomp_audit_{name}") for name in ("filter_of_profile", "report", "call_names", "policy_numbers")]
 KERNEL_AGREES = ("tools/kernel_agrees", "bin/seccomp_audit_kernel_agrees")
 READ_FILTERS = (("read_filters.c", "read_thread.c"), (), "bin/seccomp_audit_read_filters")
 ASK_KERNEL = (("ask_kernel.c",), ("-pthread",), "libexec/seccomp_audit/ask_kernel")
 COMPILED = (READ_FILTERS[2], ASK_KERNEL[2])
 
-
-def copy(source, target, mode=0o644):
-    os.makedirs(os.path.dirname(target), exist_ok=True)
-    shutil.copyfile(source, target)
-    os.chmod(target, mode)
+# The rights of folders and of programs, and those of other files.
+OPEN, PLAIN = 0o755, 0o644
 
 
-def is_compiled(sources, options, target):
+def make_folders(folder):
+    """Makes a folder and those above it, where they aren't there. Everybody may look into those that it makes."""
+    if folder and not os.path.isdir(folder):
+        make_folders(os.path.dirname(folder))
+        os.mkdir(folder)
+        os.chmod(folder, OPEN)
+
+
+def copy(source, target, mode):
+    """Copies a file: beside the target first, which it then replaces. So each is whole at any time, also one that runs."""
+    make_folders(os.path.dirname(target))
+    number, beside = tempfile.mkstemp(dir=os.path.dirname(target), prefix=f".{os.path.basename(target)}.")
+    try:
+        with open(source, "rb") as file, os.fdopen(number, "wb") as out:
+            shutil.copyfileobj(file, out)
+            os.fchmod(out.fileno(), mode)
+        os.replace(beside, target)
+    except BaseException:
+        os.remove(beside)
+        raise
+
+
+def is_compiled(sources, options, made):
     """Compiles sources of tools/. Whether that went well: it doesn't where there is no compiler, or another machine."""
-    with tempfile.TemporaryDirectory() as room:
-        made = os.path.join(room, "made")
-        words = [os.environ.get("CC") or "cc", "-O2", "-s", *options, "-o", made, *sources]
-        try:
-            ran = subprocess.run(words, cwd=os.path.join(ROOT, "tools"), stdin=subprocess.DEVNULL, capture_output=True)
-        except FileNotFoundError:
-            return False
-        if ran.returncode == 0:
-            copy(made, target, 0o755)
-        return ran.returncode == 0
+    words = [os.environ.get("CC") or "cc", "-O2", "-s", *options, "-o", made, *sources]
+    try:
+        ran = subprocess.run(words, cwd=os.path.join(ROOT, "tools"), stdin=subprocess.DEVNULL, capture_output=True)
+    except FileNotFoundError:
+        return False
+    return ran.returncode == 0
 
 
-def install_helpers(prefix):
-    """Installs the helpers. Gives the places of those that are written, and the names of those that are left out."""
-    written, left_out = [FILTER_OF_PROFILE[1], REPORT[1]], []
-    for source, target in (FILTER_OF_PROFILE, REPORT):
-        copy(os.path.join(ROOT, source), f"{prefix}/{target}", 0o755)
-    if is_compiled(READ_FILTERS[0], READ_FILTERS[1], f"{prefix}/{READ_FILTERS[2]}"):
-        written.append(READ_FILTERS[2])
-    else:
-        left_out.append(os.path.basename(READ_FILTERS[2]))
-    if is_compiled(ASK_KERNEL[0], ASK_KERNEL[1], f"{prefix}/{ASK_KERNEL[2]}"):
-        copy(os.path.join(ROOT, KERNEL_AGREES[0]), f"{prefix}/{KERNEL_AGREES[1]}", 0o755)
-        written += [ASK_KERNEL[2], KERNEL_AGREES[1]]
-    else:
-        left_out.append(os.path.basename(KERNEL_AGREES[1]))
-    return written, left_out
+def helpers(room):
+    """The helpers, as `plan` has files, and the names of those that are left out. What is compiled stands in a room."""
+    found = [(os.path.join(ROOT, source), target, OPEN) for source, target in HELPERS]
+    left_out = []
+    for (sources, options, target), entry in ((READ_FILTERS, None), (ASK_KERNEL, KERNEL_AGREES)):
+        made = os.path.join(room, os.path.basename(target))
+        if is_compiled(sources, options, made):
+            found.append((made, target, OPEN))
+            found += [(os.path.join(ROOT, entry[0]), entry[1], OPEN)] if entry else []
+        else:
+            left_out.append(os.path.basename(entry[1] if entry else target))
+    return found, left_out
 
 
-def install_policies(prefix):
-    """Installs the policies and the names of calls, and gives their places."""
-    written = []
-    for folder in ("", "names/"):
-        for name in sorted(os.listdir(os.path.join(ROOT, "policies", folder))):
-            if name.endswith(".toml"):
-                copy(os.path.join(ROOT, "policies", folder, name), f"{prefix}/{POLICIES}/{folder}{name}")
-                written.append(f"{POLICIES}/{folder}{name}")
-    return written
+def policies():
+    """The policies and the names of calls, with their places."""
+    names = [f"{folder}{name}" for folder in ("", "names/") for name in sorted(os.listdir(os.path.join(ROOT, "policies", folder)))]
+    return [(f"policies/{name}", f"{POLICIES}/{name}") for name in names if name.endswith(".toml")]
 
 
-def install_folders(prefix):
-    """Installs the report's modules and the schemas, and gives their places."""
-    places = [(f"{source}/{name}", f"{target}/{name}") for source, ends, target in FOLDERS
-              for name in sorted(os.listdir(os.path.join(ROOT, source))) if name.endswith(ends)]
-    for source, target in places:
-        copy(os.path.join(ROOT, source), f"{prefix}/{target}")
-    return [target for _, target in places]
+def folders():
+    """The report's modules and the schemas, with their places."""
+    return [(f"{source}/{name}", f"{target}/{name}") for source, ends, target in FOLDERS
+            for name in sorted(os.listdir(os.path.join(ROOT, source))) if name.endswith(ends)]
+
+
+def plan(program, room, doc):
+    """All files: where each is, where below PREFIX it goes, and its rights. And the names of the helpers that are left out."""
+    made, left_out = helpers(room)
+    plain = [*((source, target.format(doc=doc)) for source, target in FILES), *policies(), *folders()]
+    files = [(os.path.join(ROOT, source), target, PLAIN) for source, target in plain]
+    return [(program, f"bin/{PROGRAM}", OPEN), *made, *files], left_out
 
 
 def install(program, prefix, doc=PROGRAM):
     """Copies all. Gives the paths that it has written (files, and in their place folders of its own), and the names of the
-    helpers that it has left out, since no C compiler makes them here."""
-    copy(program, f"{prefix}/bin/{PROGRAM}", 0o755)
-    helpers, left_out = install_helpers(prefix)
-    files = [(source, target.format(doc=doc)) for source, target in FILES]
-    for source, target in files:
-        copy(os.path.join(ROOT, source), f"{prefix}/{target}")
-    written = [f"bin/{PROGRAM}", *helpers, *(target for _, target in files), *install_policies(prefix), *install_folders(prefix)]
+    helpers that it has left out, since no C compiler makes them here. Refused where a target is a link."""
+    with tempfile.TemporaryDirectory() as room:
+        files, left_out = plan(program, room, doc)
+        for _, target, _ in files:
+            if os.path.islink(f"{prefix}/{target}"):
+                raise Refused(f"{prefix}/{target} is a link, to {os.readlink(f'{prefix}/{target}')}: remove it first")
+        for source, target, mode in files:
+            copy(source, f"{prefix}/{target}", mode)
     own = [folder.format(doc=doc) for folder in OWN]
-    told = [next((folder for folder in own if path.startswith(f"{folder}/")), path) for path in written]
+    told = [next((folder for folder in own if path.startswith(f"{folder}/")), path) for _, path, _ in files]
     return [f"{prefix}/{path}" for path in dict.fromkeys(told)], left_out

@@ -86,6 +86,10 @@ FILES = [
      "Compares what eval says of inputs with what this machine's kernel does. It takes python3."),
     ("/usr/bin/seccomp_audit_report",
      "Makes a page, a summary, or what build systems read, of what --json wrote. It takes python3."),
+    ("/usr/bin/seccomp_audit_policy_numbers",
+     "Compares the numbers of policies with the names behind them, by the kernel's headers. It takes python3."),
+    ("/usr/bin/seccomp_audit_call_names",
+     "Makes files of names of calls of the kernel's headers. It takes python3 and a C compiler."),
 ]
 WHERE = [
     "These are the places of Debian's package.",

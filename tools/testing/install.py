@@ -21,6 +21,7 @@ from building.kit import PROGRAM, ROOT
 from testing import profiles
 
 HELPERS = ["seccomp_audit_filter_of_profile", "seccomp_audit_kernel_agrees", "seccomp_audit_read_filters", "seccomp_audit_report"]
+BY_HEADERS = ["seccomp_audit_call_names", "seccomp_audit_policy_numbers"]
 PROFILE = os.path.join(ROOT, "examples/profiles/sockets.json")
 FILTER = os.path.join(ROOT, "examples/p1.bpf")
 COMPILER = shutil.which(os.environ.get("CC") or "cc")
@@ -28,7 +29,7 @@ COMPILER = shutil.which(os.environ.get("CC") or "cc")
 # What is installed below PREFIX, without the policies; {doc} is the folder of pages.
 PLACES = """
     bin/seccomp_audit bin/seccomp_audit_filter_of_profile bin/seccomp_audit_kernel_agrees bin/seccomp_audit_read_filters
-    bin/seccomp_audit_report
+    bin/seccomp_audit_report bin/seccomp_audit_call_names bin/seccomp_audit_policy_numbers
     libexec/seccomp_audit/ask_kernel libexec/seccomp_audit/showing.py
     share/bash-completion/completions/seccomp_audit share/doc/{doc}/GUIDE.md
     share/doc/{doc}/GETTING-FILTERS.md share/doc/{doc}/POLICIES.md share/doc/{doc}/REFERENCE.md
@@ -96,11 +97,12 @@ def try_install(room):
     tell(files_below(prefix) == sorted(places) and not left_out, "install: the files", (files_below(prefix), left_out))
     both = policies_below(os.path.join(ROOT, "policies")), policies_below(os.path.join(prefix, installing.POLICIES))
     tell(both[0] == both[1], "install: the policies", both)
-    for name in HELPERS:
+    for name in HELPERS + BY_HEADERS:
         tell(os.access(f"{prefix}/bin/{name}", os.X_OK), name, "can't be run")
     ran = said(f"{prefix}/bin/{HELPERS[2]}")
     tell(ran.returncode == 2 and "THREAD" in ran.stderr, HELPERS[2], ran)
     try_report(prefix)
+    try_by_headers(prefix, room)
     for name in HELPERS[:2]:
         ran = said(f"{prefix}/bin/{name}", "--help")
         tell(ran.returncode == 0 and f"{prefix}/bin/{name} [" in ran.stdout and "tools/filter" not in ran.stdout, name, ran)
@@ -130,6 +132,91 @@ def try_report(prefix):
     ran = subprocess.run([f"{prefix}/bin/{name}", "--html", "-"], input=DOCUMENT, capture_output=True, text=True)
     tell(ran.returncode == 0 and "All rows" in ran.stdout, f"{name} --html", ran)
     tell(files_below(prefix) == before, f"{name} leaves", files_below(prefix))
+
+
+def try_by_headers(prefix, room):
+    """The helpers that read headers run at their new place, over headers that have one call, and leave nothing there."""
+    before, own = files_below(prefix), os.path.join(room, "own")
+    names, numbers = (f"{prefix}/bin/{name}" for name in BY_HEADERS)
+    headers = os.path.join(room, "usr/include/x86_64-linux-gnu/asm")
+    os.makedirs(headers)
+    with open(f"{headers}/unistd_64.h", "w") as file:
+        file.write("#define __NR_getpid 39\n")
+    policy = os.path.join(room, "policy.toml")
+    with open(policy, "w") as file:
+        file.write('[[question]]\nname = "a"\narch = 0xC000003E\nnr = 39  # getpid\n[[question]]\nnr = 1  # \x9b2J\n')
+    ran = said(numbers, "--root", room, policy)
+    tell("\n1 checked, 0 not found, 1 wrong\n" in ran.stdout and "no expression: \\u009b2J" in ran.stdout, BY_HEADERS[1], ran)
+    ran = said(numbers, "--root", room)
+    tell(f"{installing.POLICIES}/x86_64.toml" in ran.stdout and not ran.stderr, f"{BY_HEADERS[1]} on the ready policies", ran.stderr)
+    ran = said(names, "--root", room, own)
+    with open(f"{own}.toml") as file:
+        text = file.read()
+    tell(ran.returncode == 0 and text.endswith("[x86_64.calls]\ngetpid = 39\n"), BY_HEADERS[0], (ran, text))
+    ran = said(names, "--root", room, "--check")
+    tell(ran.returncode == 0 and ran.stdout.endswith("1 names compared, 0 wrong\n"), f"{BY_HEADERS[0]} --check", ran)
+    ran = said(names, "--root", room)
+    tell(ran.returncode == 2 and "FOLDER has to be given" in ran.stderr, f"{BY_HEADERS[0]} without a folder", ran)
+    for path in (names, numbers):
+        ran = said(path, "--help")
+        tell(ran.returncode == 0 and f"    {path} [" in ran.stdout and "tools/call" not in ran.stdout, f"{path} --help", ran)
+        ran = said(path, "--\x1b[31m")
+        tell(ran.returncode == 2 and "\x1b" not in ran.stderr, f"{path}, and a word that doesn't fit", ran)
+    tell(files_below(prefix) == before, "what reads headers leaves", files_below(prefix))
+
+
+def try_replacing(room):
+    """A program that runs is replaced, and a file is whole or as it was. The umask changes no rights, and no link is followed."""
+    prefix, sleep = os.path.join(room, "replaced"), shutil.which("sleep")
+    installing.install(sleep, prefix)
+    program = f"{prefix}/bin/{PROGRAM}"
+    runs, before = subprocess.Popen([program, "1000"]), os.stat(program).st_ino
+    try:
+        installing.install(sleep, prefix)
+        well = runs.poll() is None and os.stat(program).st_ino != before
+    except OSError as why:
+        well = why
+    tell(well is True, "install: beside a program that runs", well)
+    runs.kill()
+    runs.wait()
+    files, move = files_below(prefix), os.replace
+    os.replace = lambda source, target: os.remove("/nowhere/at all")
+    try:
+        installing.install(stand_in(room), prefix)
+        well = "it went well"
+    except OSError:
+        well = os.path.getsize(program) == os.path.getsize(sleep) and files_below(prefix) == files
+    finally:
+        os.replace = move
+    tell(well is True, "install: a file that can't be put in its place", well)
+    before = os.umask(0o077)
+    installing.install(sleep, f"{prefix}/more/of it")
+    os.umask(before)
+    modes = {f"{at}/{name}": os.stat(f"{at}/{name}").st_mode & 0o777 for at, folders, names in os.walk(f"{prefix}/more")
+             for name in folders + names}
+    wrong = {path: oct(mode) for path, mode in modes.items()
+             if mode != (0o755 if os.path.isdir(path) or "/bin/" in path or path.endswith("/ask_kernel") else 0o644)}
+    tell(not wrong and os.stat(f"{prefix}/more").st_mode & 0o777 == 0o755, "install: rights under umask 077", wrong)
+    victim, prefix = os.path.join(room, "victim"), os.path.join(room, "linked")
+    page = f"{prefix}/share/man/man1/seccomp_audit.1"
+    os.makedirs(os.path.dirname(page))
+    open(victim, "w").close()
+    os.symlink(victim, page)
+    try:
+        installing.install(sleep, prefix)
+        said_of_it = "it isn't refused"
+    except installing.Refused as why:
+        said_of_it = str(why)
+    well = f"{page} is a link, to {victim}" in said_of_it and not os.path.getsize(victim)
+    tell(well and files_below(prefix) == ["share/man/man1/seccomp_audit.1"], "install: a link", (said_of_it, files_below(prefix)))
+
+
+def try_empty(room):
+    """An empty PREFIX is refused. That is tried on a copy that has no program, which could install nothing."""
+    shutil.copytree(os.path.join(ROOT, "tools"), os.path.join(room, "copy/tools"))
+    for words in ([""], ["--unproved", ""]):
+        ran = said(os.path.join(room, "copy/tools/install"), *words)
+        tell(ran.returncode == 1 and ran.stderr.startswith("tools/install: PREFIX is empty"), f"tools/install {words}", ran)
 
 
 def try_without_compiler(room):
@@ -200,6 +287,8 @@ def try_removal(package, system):
 def main():
     with tempfile.TemporaryDirectory(prefix="install-") as room:
         try_without_compiler(room)
+        try_empty(room)
+        try_replacing(room)
         if COMPILER:
             try_install(room)
         else:
