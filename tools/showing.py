@@ -7,7 +7,10 @@ SHORT = {"\n": "\\n", "\r": "\\r", "\t": "\\t"}
 def visible(text):
     """A text in which each character that can't be seen is written as its number: so all are on one line, and none has a
     meaning for a terminal."""
-    return "".join(it if it.isprintable() else SHORT.get(it) or numbered(it) for it in str(text))
+    text = str(text)
+    if text.isprintable():
+        return text
+    return "".join(it if it.isprintable() else SHORT.get(it) or numbered(it) for it in text)
 
 
 def numbered(character):

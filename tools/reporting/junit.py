@@ -6,7 +6,9 @@ A suite for each audit, and a test for each question of its policies and of its 
 from collections import Counter
 from xml.sax.saxutils import escape, quoteattr
 
-from .phrases import MADE_BY, UNSETTLED, audits_of, call_of, control_of, counted, not_complete, source_of, visible
+from showing import visible
+
+from .phrases import MADE_BY, UNSETTLED, audits_of, call_of, control_of, counted, not_complete, source_of
 
 CONTROL = "control"
 
@@ -86,7 +88,7 @@ def told_apart(tests):
 
 
 def attributes(**named):
-    return "".join(f" {name}={quoteattr(visible(str(value)))}" for name, value in named.items())
+    return "".join(f" {name}={quoteattr(visible(value))}" for name, value in named.items())
 
 
 def element_of(test, before):

@@ -1,7 +1,7 @@
 """Texts in Markdown in which nothing of a stranger's works: no mark, no HTML, no link."""
 import re
 
-from .phrases import visible
+from showing import visible
 
 # The most characters that are shown of a name, and of a longer text.
 LONGEST_NAME = 80

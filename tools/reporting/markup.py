@@ -1,12 +1,12 @@
 """Text as HTML. What comes from a document or a file is a stranger's: it shows as text, whatever it says."""
 import html
 
-from .phrases import visible
+from showing import visible
 
 
 def escaped(text):
     """A text for HTML, inside an element or between double quotes."""
-    return html.escape(visible(str(text)), quote=True)
+    return html.escape(visible(text), quote=True)
 
 
 def breakable(text):

@@ -47,7 +47,7 @@ def sets_of(path):
             tables = tomllib.load(file)
     except OSError as error:
         raise Refused(f"{path}: {error.strerror}") from None
-    except (tomllib.TOMLDecodeError, UnicodeDecodeError) as error:
+    except (ValueError, RecursionError) as error:
         raise Refused(f"{path}: no TOML ({error!s:.80})") from None
     if "arch" in tables:
         only = set_of("", tables, path)

@@ -1,20 +1,12 @@
 """What the texts for reviews and for build systems say alike."""
+from showing import visible
+
 from .documents import KINDS, Refused
 
 # What made a text, and how far that can be trusted.
 MADE_BY = "Made by seccomp_audit's report, outside the proofs, from what the program printed."
 
-SHORT = {"\n": "\\n", "\r": "\\r", "\t": "\\t"}
 UNSETTLED = "no example was found, and no proof that there is none"
-
-
-def visible(text):
-    """A text in which each character that can't be seen is written as its number."""
-    return "".join(it if it.isprintable() else SHORT.get(it) or numbered(it) for it in text)
-
-
-def numbered(character):
-    return f"\\u{ord(character):04x}" if ord(character) <= 0xFFFF else f"\\U{ord(character):08x}"
 
 
 def counted(number, one, several):

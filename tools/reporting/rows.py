@@ -13,8 +13,8 @@ for place in range(6):
     WORDS[f"arg{place}_lo"] = f"arg{place} low half"
     WORDS[f"arg{place}_hi"] = f"arg{place} high half"
 
-CONDITION = re.compile(r"(\w+)(?: & (0x[0-9A-F]+))? (=|!=|in|not in) ([0-9A-Fa-fx.,]+)")
-NUMBER = re.compile(r"0x[0-9A-F]+|[0-9]+")
+CONDITION = re.compile(r"(\w+)(?: & (0x[0-9A-F]{1,8}))? (=|!=|in|not in) ([0-9A-Fa-fx.,]+)")
+NUMBER = re.compile(r"0x[0-9A-F]{1,8}|0|[1-9][0-9]{0,9}")
 
 
 class Row(NamedTuple):
@@ -45,8 +45,16 @@ def number_of(text):
 
 def spans_of(text):
     """The spans that numbers stand for, as `1..5,9`."""
-    ends = [[number_of(end) for end in span.split("..")] for span in text.split(",")]
-    return [(span[0], span[-1]) for span in ends]
+    return [span_of(part) for part in text.split(",")]
+
+
+def span_of(text):
+    """A span: one number, or its two ends. Refused where it is none."""
+    low, sign, high = text.partition("..")
+    span = number_of(low), number_of(high if sign else low)
+    if span[0] > span[1]:
+        raise Refused(f"no span of a row: {text!r:.40}")
+    return span
 
 
 def others(spans):
@@ -105,7 +113,7 @@ def row_of_call(fields, sets):
     """A row of a named call. Refused where no set has the call."""
     found = next((it for it in sets if it.name == fields["set"]), None)
     if found is None or fields["call"] not in found.calls:
-        whose = f"{fields['set']} {fields['call']}"
+        whose = f"{fields['set']:.80} {fields['call']:.80}"
         raise Refused(f"no set has {whose}: give the file of names that the document was made with")
     number = found.calls[fields["call"]]
     conditions = [in_words(text) for text in fields["conditions"]]

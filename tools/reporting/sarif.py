@@ -3,7 +3,9 @@ import hashlib
 import json
 from urllib.parse import quote
 
-from .phrases import MADE_BY, UNSETTLED, audits_of, call_of, control_of, not_complete, source_of, visible
+from showing import visible
+
+from .phrases import MADE_BY, UNSETTLED, audits_of, call_of, control_of, not_complete, source_of
 
 SCHEMA = "https://docs.oasis-open.org/sarif/sarif/v2.1.0/errata01/os/schemas/sarif-schema-2.1.0.json"
 

@@ -16,6 +16,11 @@ def same(value, other):
     return type(value) is type(other) and value == other
 
 
+def fits_pattern(value, pattern):
+    """Whether a text fits a pattern. The end of a pattern is that of the text: Python would pass over a last newline."""
+    return re.search(re.sub(r"\$$", r"\\Z", pattern), value) is not None
+
+
 def faults(schema, value, whole, at="the document"):
     """Where a value doesn't fit a schema. `whole` is the schema that has the definitions."""
     unknown = set(schema) - KEYWORDS
@@ -32,7 +37,7 @@ def faults(schema, value, whole, at="the document"):
     if "type" in schema and not is_kind(value, schema["type"]):
         yield f"{at} is no {schema['type']}: {value!r:.80}"
         return
-    if isinstance(value, str) and not re.search(schema.get("pattern", ""), value):
+    if isinstance(value, str) and not fits_pattern(value, schema.get("pattern", "")):
         yield f"{at} doesn't fit {schema['pattern']}: {value!r:.80}"
     if is_kind(value, "integer") and not schema.get("minimum", value) <= value <= schema.get("maximum", value):
         yield f"{at} is out of its range: {value}"
@@ -54,4 +59,4 @@ def faults_of_members(schema, value, whole, at):
         if key in known:
             yield from faults(known[key], member, whole, f"{at}.{key}")
         elif schema.get("additionalProperties", True) is False:
-            yield f"{at} has an unknown member {key}"
+            yield f"{at} has an unknown member {key!r:.80}"

@@ -2,8 +2,12 @@
 import copy
 import json
 import pathlib
+import random
 import subprocess
 import tempfile
+
+from reporting import documents, groups, markdown, page
+from reporting.naming import sets_of
 
 from . import agreement
 from .dom import Page
@@ -16,6 +20,9 @@ STACKS = sorted(path.name for path in DATA.iterdir())
 
 # What a stranger may call something.
 HOSTILE = ["<script>alert(1)</script>", '"><img src=x onerror=alert(1)>', "a\u202eb", "</title></style>", "&lt;", "\u0001"]
+
+# How many documents of each kind are changed by lot.
+BROKEN = 60
 
 # How a page begins that isn't the whole truth.
 BANNER = '<p class="banner" role="alert">Not complete: '
@@ -114,9 +121,99 @@ def refusals(program):
         "nothing": ("", "cut"),
     }
     for what, (given, why) in cases.items():
-        status, out, err = made(given)
-        well = status == 1 and not out and err.startswith("error: ") and err.count("\n") == 1 and why in err
-        yield f"{what} is refused", well, (status, out[:80], err)
+        ran = made(given)
+        yield f"{what} is refused", is_refused(ran, why), ran
+
+
+def is_refused(ran, why=""):
+    """Whether there is no report, and one line says why, in which nothing has a meaning for a terminal."""
+    status, out, err = ran
+    return status == 1 and not out and err.startswith("error: ") and err[:-1].isprintable() and err.endswith("\n") and why in err
+
+
+def malformed(program):
+    """Whether documents that fit no row, and names in them that would work on a terminal, are refused with one line."""
+    value = json.loads(listed(program, [ROOT / "examples/p1.bpf"]))
+    told = {"conditions": [], "answers": [{"action": "ALLOW", "data": 0}]}
+    row, call = {"arch": "0xC000003E", "nr": "1", "calls": [], **told}, {"set": "x86_64", "call": "read", **told}
+    yield "a row", made(json.dumps(value | {"rows": [row], "calls": [call]}) + "\n")[0] == 0, "isn't taken"
+    numbers = ("007", "5..1", "1..2..3", "1..", "..", "", "1,", "0x", "0xa", "0x100000000", "4294967296", "1" * 5000, "\x1b[31m", "١")
+    for text in numbers:
+        for key in ("nr", "arch"):
+            ran = made(json.dumps(value | {"rows": [row | {key: text}]}) + "\n")
+            yield f"{key} {text:.20}", is_refused(ran, "no number of a row") or is_refused(ran, "no span of a row"), ran
+    for text in ("arg0_lo = 007", "arg0_lo in 5..1", "nr & 0xFFFFFFFFFF = 0x1", "\x1b[31m = 1", "arg0_lo", "arg0_lo = 0x1\n"):
+        ran = made(json.dumps(value | {"rows": [row | {"conditions": [text]}]}) + "\n", "--markdown")
+        yield f"condition {text}", is_refused(ran, " of a row"), ran
+    cases = {
+        "no answers": {"rows": [row | {"answers": []}]},
+        "no answers of a call": {"calls": [call | {"answers": []}]},
+        "an action with a newline": {"rows": [row | {"answers": [{"action": "ALLOW\n", "data": 0}]}]},
+        "a member": {"\x1b[31m": 1},
+        "a member of a row": {"rows": [row | {"\x9b31m\n": 1}]},
+        "a set": {"calls": [call | {"set": "\x1b[31m\nerror: "}]},
+        "a call": {"calls": [call | {"call": "\u202e\x07\ud800"}]},
+        "a version": {"version": "\x1b"},
+        "a kind": {"seccomp_audit": "\x1b"},
+    }
+    for what, more in cases.items():
+        ran = made(json.dumps(value | more) + "\n")
+        yield f"{what} that doesn't fit", is_refused(ran), ran
+    for words in (("--html", "/nowhere/\x1b[31m\n"), ("--html", "--names", "\x1b[31m"), ("--html", "--groups", "\x9b"),
+                  ("--html", "--warnings", "\x1b")):
+        ran = run(REPORT, *words, given=json.dumps(value) + "\n")
+        yield f"a path behind {words[-2]}", is_refused((ran.returncode, ran.stdout, ran.stderr)), ran
+    ran = run(REPORT, "--html", "--\x1b[31m")
+    yield "a word that is no option", ran.returncode == 2 and "\x1b" not in ran.stderr and "\\u001b" in ran.stderr, ran
+
+
+def broken(value, rng):
+    """A document in which one part, drawn by lot, is left out, comes twice, or is another one."""
+    value = copy.deepcopy(value)
+
+    def places(part):
+        if isinstance(part, dict | list) and part:
+            for key, member in part.items() if isinstance(part, dict) else enumerate(part):
+                yield part, key
+                yield from places(member)
+
+    part, key = rng.choice(list(places(value)))
+    others = (None, True, 0, -1, 1 << 70, 0.5, "", "\x1b[31m", "\ud800", "0", "0x1", "any", "ALLOW\n", [], [[]], {}, {"a": 1})
+    way = rng.randrange(4)
+    if way == 0 and isinstance(part, list):
+        part.append(copy.deepcopy(part[key]))
+    elif way == 1:
+        del part[key]
+    elif way == 2 and isinstance(part, dict):
+        part[rng.choice(("", "\x1b", "rows", "why", "\ud800"))] = part.pop(key)
+    else:
+        part[key] = rng.choice(others)
+    return value
+
+
+def broken_ones(program):
+    """Whether each document that is changed by lot is refused with one line, or makes a text in which nothing works."""
+    paths, policy = filters_of("snap-default-profile-alone"), ROOT / "policies/terminal-injection.toml"
+    asked = [("list", "--names", NAMES, "--calls", "ptrace,read", *paths), ("audit", "--why", "--policy", policy, *paths),
+             ("compare", "--rows", "--old", *paths, "--new", ROOT / "examples/p1.bpf"), ("needed", *paths)]
+    rng, sets, known, faulty, taken = random.Random(1), sets_of(str(NAMES)), groups.load(ROOT / "policies/groups.toml"), [], 0
+    with tempfile.TemporaryDirectory() as room:
+        path = pathlib.Path(room) / "one.json"
+        for words in asked:
+            value = json.loads(run(program, words[0], "--quiet", "--json", *words[1:]).stdout)
+            for one in (broken(value, rng) for _ in range(BROKEN)):
+                path.write_text(json.dumps(one) + "\n")
+                try:
+                    report = page.Report([documents.read(str(path))], sets, known, None, [])
+                    for text in (page.text(report), markdown.text(report)):
+                        taken += 1
+                        faulty += [one] if any(not it.isprintable() and it != "\n" for it in text) else []
+                        text.encode()
+                except documents.Refused:
+                    pass
+                except Exception as error:
+                    faulty.append((repr(error), one))
+    yield f"{4 * BROKEN} broken documents", not faulty and taken, (len(faulty), taken, faulty[:1])
 
 
 def not_whole(program):
@@ -154,5 +251,5 @@ def sizes(program):
 def cases(program, count):
     """All of these, each as what is tried, whether it is well, and what came."""
     yield from agreements(program, count)
-    for part in (facts, strangers, refusals, not_whole, sizes):
+    for part in (facts, strangers, refusals, malformed, broken_ones, not_whole, sizes):
         yield from part(program)
