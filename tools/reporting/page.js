@@ -3,10 +3,12 @@
 const told = document.getElementById("told");
 const dialog = document.querySelector("dialog");
 
-// The rows that a cell or a band is about, as copies of those of its table.
+// The rows of its table that a cell or a band is about. Where they are many, their list stands elsewhere.
 function rowsOf(place) {
   const table = document.getElementById(place.closest("[data-table]").dataset.table);
-  return (place.dataset.r || "").split(" ").filter(Boolean).map((number) => table.tBodies[0].rows[Number(number)]);
+  const told = place.dataset.r || "";
+  const list = told.startsWith("#") ? document.getElementById(told.slice(1)).dataset.r : told;
+  return list.split(" ").filter(Boolean).map((number) => table.tBodies[0].rows[Number(number)]);
 }
 
 function inWords(row) {

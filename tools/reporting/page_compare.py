@@ -35,13 +35,11 @@ class Changes:
     """Where a comparison has a change."""
 
     def __init__(self, picture):
-        self.picture, self.numbers = picture, {}
+        self.picture = picture
 
     def between(self, arch, first, last):
         """Whether anything is changed for these numbers of an architecture."""
-        if arch not in self.numbers:
-            self.numbers[arch] = self.picture.numbers_of(arch)
-        return any(it.effect != "same" for it in self.picture.bands(self.numbers[arch], first, last))
+        return any(it.effect != "same" for it in self.picture.bands(self.picture.numbers_of(arch), first, last))
 
 
 def both_maps(lists, sets, changes, identity):

@@ -6,8 +6,9 @@ from .rows import number_in_words
 
 MARKS = {**EFFECTS, **CHANGES}
 
-# The most names of a row that are shown at once.
+# The most names of a row that are shown at once, and the most rows that a place of a map tells by itself.
 MOST_NAMES = 8
+MOST_PLACES = 8
 
 
 def range_in_words(first, last):
@@ -16,32 +17,47 @@ def range_in_words(first, last):
     return number_in_words(first) if first == last else f"{number_in_words(first)} to {number_in_words(last)}"
 
 
-def places_of(rows):
-    return " ".join(map(str, rows))
+class Lists:
+    """The rows that places of a map are about: where these are many, their list stands once for all places that have it."""
+
+    def __init__(self, identity):
+        self.identity, self.found = identity, {}
+
+    def told(self, rows):
+        """What stands at a place: its rows, or where their list is. Equal lists are one object, as `Picture` gives them."""
+        if len(rows) <= MOST_PLACES:
+            return " ".join(map(str, rows))
+        number, _ = self.found.setdefault(id(rows), (len(self.found), rows))
+        return f"#{self.identity}-list-{number}"
+
+    def elements(self):
+        """The lists, as elements that aren't shown."""
+        return "".join(element("div", "", hidden="", id=f"{self.identity}-list-{number}", data_r=" ".join(map(str, rows)))
+                       for number, rows in self.found.values())
 
 
-def cell(it, is_first, is_changed):
+def cell(it, is_first, is_changed, lists):
     """A cell of a map, as a button."""
     words, mark = MARKS[it.effect]
     note = ", changed" if is_changed else ""
     label = f"{number_in_words(it.number)} {listed(it.names) or '(no name)'}: {words}{note}"
     kinds = [it.effect, *([] if it.names else ["unnamed"]), *(["changed"] if is_changed else [])]
-    return element("button", mark, class_=" ".join(kinds), data_n=it.number, data_r=places_of(it.rows),
+    return element("button", mark, class_=" ".join(kinds), data_n=it.number, data_r=lists.told(it.rows),
                    aria_label=label, tabindex="0" if is_first else "-1")
 
 
-def strip(it, is_changed):
-    cells = "".join(cell(one, place == 0, is_changed(one.number, one.number)) for place, one in enumerate(it.cells))
+def strip(it, is_changed, lists):
+    cells = "".join(cell(one, place == 0, is_changed(one.number, one.number), lists) for place, one in enumerate(it.cells))
     head = f"{it.name}: {range_in_words(it.cells[0].number, it.cells[-1].number)}"
     return element("h4", escaped(head)) + element("div", cells, class_="cells", role="group", aria_label=head)
 
 
-def band(it, is_changed):
+def band(it, is_changed, lists):
     words, mark = MARKS[it.effect]
     kinds, note = ("band changed", ", changed") if is_changed(it.first, it.last) else ("band", "")
     inside = f"{mark} {escaped(range_in_words(it.first, it.last))}: {words}{note}"
     return element("button", inside, class_=f"{kinds} {it.effect}", data_first=it.first, data_last=it.last,
-                   data_r=places_of(it.rows))
+                   data_r=lists.told(it.rows))
 
 
 def archs_in_words(spans):
@@ -50,14 +66,14 @@ def archs_in_words(spans):
     return ", ".join(shown[:3] + ([f"and {len(shown) - 3} more ranges"] if len(shown) > 3 else []))
 
 
-def one_map(it, changed):
+def one_map(it, changed, lists):
     """The map of an architecture. `changed` says whether numbers of an architecture are marked."""
     first, last = it.archs[0]
 
     def is_changed(low, high):
         return changed(first, low, high)
 
-    parts = "".join(band(part, is_changed) if isinstance(part, Band) else strip(part, is_changed) for part in it.parts)
+    parts = "".join((band if isinstance(part, Band) else strip)(part, is_changed, lists) for part in it.parts)
     about = "" if first == last else element("p", escaped(archs_in_words(it.archs)), class_="soft mono")
     spans = " ".join(f"{low}-{high}" for low, high in it.archs)
     return element("section", element("h3", escaped(it.title)) + about + parts, class_="map", data_archs=spans)
@@ -65,7 +81,9 @@ def one_map(it, changed):
 
 def maps(found, identity, changed=lambda arch, first, last: False):
     """The maps of a document, whose rows stand in the table of that identity."""
-    return element("div", "".join(one_map(it, changed) for it in found), data_table=identity)
+    lists = Lists(identity)
+    inside = "".join(one_map(it, changed, lists) for it in found)
+    return element("div", lists.elements() + inside, data_table=identity)
 
 
 def kinds_in(found):

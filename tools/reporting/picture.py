@@ -54,73 +54,130 @@ class Map(NamedTuple):
 
 
 class Segments:
-    """The numbers from 0 to the last, cut where a row begins or ends: `rows[k]` are about those from `starts[k]` on."""
+    """The numbers from 0 to the last, cut where spans begin or end: what has the numbers from `starts[k]` on is
+    `holders[k]`, in rising order."""
 
-    def __init__(self, spans_of_rows):
-        """Takes the place of each row with its spans."""
+    def __init__(self, spans_of_holders):
+        """Takes each holder, a number, with its spans."""
         begins, ends = {0: []}, {}
-        for place, spans in spans_of_rows:
-            for low, high in spans:
-                begins.setdefault(low, []).append(place)
-                ends.setdefault(high + 1, []).append(place)
-        self.starts, self.rows = [], []
-        now = Counter()
+        for holder, spans in spans_of_holders:
+            for low, high in joined_spans(spans):
+                begins.setdefault(low, []).append(holder)
+                ends.setdefault(high + 1, []).append(holder)
+        self.starts, self.holders = [], []
+        now = set()
         for number in sorted({*begins, *ends} - {LAST + 1}):
-            now.subtract(ends.get(number, ()))
+            now.difference_update(ends.get(number, ()))
             now.update(begins.get(number, ()))
-            now = +now
             self.starts.append(number)
-            self.rows.append(sorted(now))
+            self.holders.append(tuple(sorted(now)))
+
+    def place_of(self, number):
+        """The place of the part that a number lies in."""
+        return bisect.bisect_right(self.starts, number) - 1
 
     def at(self, number):
-        return self.rows[bisect.bisect_right(self.starts, number) - 1]
+        return self.holders[self.place_of(number)]
 
     def between(self, first, last):
-        """The parts of a range, each as its ends and its rows."""
-        for place in range(bisect.bisect_right(self.starts, first) - 1, bisect.bisect_right(self.starts, last)):
+        """The parts of a range, each as its ends and what has it."""
+        for place in range(self.place_of(first), bisect.bisect_right(self.starts, last)):
             end = self.starts[place + 1] - 1 if place + 1 < len(self.starts) else LAST
-            yield max(first, self.starts[place]), min(last, end), self.rows[place]
+            yield max(first, self.starts[place]), min(last, end), self.holders[place]
+
+
+class Numbers:
+    """Which kinds of rows are about each number of an architecture.
+
+    In a part between cuts, kinds without a condition on bits of the call are about each number. The others are found by
+    the bits under the mask of their first condition, so that not each is looked at for each number.
+    """
+
+    def __init__(self, arch, kinds, row_of_kind):
+        self.arch, self.row_of_kind = arch, row_of_kind
+        self.segments = Segments((kind, row_of_kind[kind].nr) for kind in kinds)
+        self.known = {}
+
+    def axes_of(self, place):
+        """Of a part: the kinds without a condition, and for each word and mask the others, by the bits under it."""
+        free, axes = [], {}
+        for kind in self.segments.holders[place]:
+            on_call = self.row_of_kind[kind].on_call
+            if on_call:
+                word, mask, spans = on_call[0]
+                axes.setdefault((word, mask), []).append((kind, spans))
+            else:
+                free.append(kind)
+        return tuple(free), [(*axis, Segments(members)) for axis, members in axes.items()]
+
+    def at(self, number):
+        """The kinds of rows that a number lies in."""
+        place = self.segments.place_of(number)
+        if place not in self.known:
+            self.known[place] = self.axes_of(place)
+        free, axes = self.known[place]
+        found = []
+        for word, mask, members in axes:
+            for kind in members.at((number if word == "nr" else self.arch) & mask):
+                if all(is_met(one, self.arch, number) for one in self.row_of_kind[kind].on_call[1:]):
+                    found.append(kind)
+        return tuple(sorted((*free, *found))) if found else free
+
+    def between(self, first, last):
+        """The parts of a range, each as its ends and its kinds of rows, also those that conditions on bits rule out."""
+        return self.segments.between(first, last)
 
 
 class Picture:
-    """The rows of a document, with how far the inputs of each get, or what the change is."""
+    """The rows of a document, with how far the inputs of each get, or what the change is.
+
+    Rows of one kind have the same architectures and numbers and the same conditions on bits of the call, so they are
+    about the same calls. `kinds` has the places of the rows of each kind, and `row_of_kind` the first of these rows.
+    """
 
     def __init__(self, rows, sets, is_of_change=False):
         self.rows, self.sets = rows, sets
         self.join = joined_changes if is_of_change else joined
         of_one = change_of if is_of_change else effect_of
         self.effects = [self.join(of_one(told) for told in row.answers) for row in rows]
-        self.archs = Segments((place, row.arch) for place, row in enumerate(rows))
+        kinds = {}
+        for place, row in enumerate(rows):
+            kinds.setdefault((row.words, tuple(row.on_call)), []).append(place)
+        self.kinds = list(kinds.values())
+        self.row_of_kind = [rows[places[0]] for places in self.kinds]
+        self.archs = Segments((kind, row.arch) for kind, row in enumerate(self.row_of_kind))
+        self.numbers, self.known = {}, {}
 
-    def effect_at(self, places):
-        """How far inputs get that lie in one of these rows."""
-        return self.join(self.effects[place] for place in places)
+    def told_of(self, kinds):
+        """How far inputs get that lie in a row of one of these kinds, and the places of these rows. The same kinds give the
+        very same list."""
+        if kinds not in self.known:
+            places = sorted(place for kind in kinds for place in self.kinds[kind])
+            self.known[kinds] = self.join({self.effects[place] for place in places}), places
+        return self.known[kinds]
 
     def numbers_of(self, arch):
-        """The segments of the numbers of an architecture."""
-        return Segments((place, self.rows[place].nr) for place in self.archs.at(arch))
-
-    def rows_at(self, numbers, arch, number):
-        """The places of the rows that a number of an architecture lies in."""
-        return [it for it in numbers.at(number) if all(is_met(one, arch, number) for one in self.rows[it].on_call)]
+        """The kinds of rows that the numbers of an architecture lie in."""
+        if arch not in self.numbers:
+            self.numbers[arch] = Numbers(arch, self.archs.at(arch), self.row_of_kind)
+        return self.numbers[arch]
 
     def bands(self, numbers, first, last):
         """Bands of the numbers of a range."""
-        found = []
-        for low, high, rows in numbers.between(first, last):
-            if found and found[-1].rows == rows:
+        found, before = [], None
+        for low, high, kinds in numbers.between(first, last):
+            if kinds == before:
                 found[-1] = found[-1]._replace(last=high)
             else:
-                found.append(Band(low, high, self.effect_at(rows), rows))
+                found.append(Band(low, high, *self.told_of(kinds)))
+            before = kinds
         return found
 
-    def strip(self, numbers, arch, sets, run):
+    def strip(self, numbers, sets, run):
         """The cells of a run of named numbers: those between two of them too."""
         names = names_by_number(sets)
-        cells = []
-        for number in range(run[0], run[-1] + 1):
-            rows = self.rows_at(numbers, arch, number)
-            cells.append(Cell(number, names.get(number, []), self.effect_at(rows), rows))
+        cells = [Cell(number, names.get(number, []), *self.told_of(numbers.at(number)))
+                 for number in range(run[0], run[-1] + 1)]
         named = set(run)
         return Strip(" and ".join(it.name for it in sets if named & set(it.calls.values())), cells)
 
@@ -129,7 +186,7 @@ class Picture:
         numbers = self.numbers_of(arch)
         parts, begin = [], 0
         for run in runs_of(sorted(names_by_number(sets))):
-            strip = self.strip(numbers, arch, sets, run)
+            strip = self.strip(numbers, sets, run)
             if is_uniform(strip):
                 continue
             parts += self.bands(numbers, begin, run[0] - 1) if begin < run[0] else []
@@ -141,11 +198,11 @@ class Picture:
         """The maps: of each architecture that has names or a row of its own, and of all others together."""
         order = list(dict.fromkeys(it.arch for it in self.sets))
         own, rest = set(order), {}
-        for first, last, rows in self.archs.between(0, LAST):
+        for first, last, kinds in self.archs.between(0, LAST):
             if first == last:
                 own.add(first)
             for span in spans_without(first, last, sorted(arch for arch in own if first <= arch <= last)):
-                rest.setdefault(tuple(rows), []).append(span)
+                rest.setdefault(kinds, []).append(span)
         found = []
         for arch in [*order, *sorted(own - set(order))]:
             sets = [it for it in self.sets if it.arch == arch]
@@ -160,7 +217,7 @@ class Picture:
         found = {}
         for it in self.sets:
             numbers = self.numbers_of(it.arch)
-            found[it.name] = Counter(self.effect_at(self.rows_at(numbers, it.arch, one)) for one in it.calls.values())
+            found[it.name] = Counter(self.told_of(numbers.at(one))[0] for one in it.calls.values())
         return found
 
 
@@ -185,7 +242,19 @@ def runs_of(numbers):
 
 def is_uniform(strip):
     """Whether one row is about all cells of a strip, or none is."""
-    return all(cell.rows == strip.cells[0].rows for cell in strip.cells) and len(strip.cells[0].rows) <= 1
+    first = strip.cells[0].rows
+    return len(first) <= 1 and all(cell.rows == first for cell in strip.cells)
+
+
+def joined_spans(spans):
+    """The same numbers as spans that rise, and neither overlap nor touch."""
+    found = []
+    for low, high in sorted(spans):
+        if found and low <= found[-1][1] + 1:
+            found[-1] = found[-1][0], max(high, found[-1][1])
+        else:
+            found.append((low, high))
+    return found
 
 
 def spans_without(first, last, numbers):

@@ -1,4 +1,5 @@
 """Rows of a list or of a comparison, read from the words in which a document has them."""
+import functools
 import re
 from typing import NamedTuple
 
@@ -13,8 +14,12 @@ for place in range(6):
     WORDS[f"arg{place}_lo"] = f"arg{place} low half"
     WORDS[f"arg{place}_hi"] = f"arg{place} high half"
 
+# How many conditions are kept that were read: most rows have some that others have too.
+KEPT = 1 << 12
+
 CONDITION = re.compile(r"(\w+)(?: & (0x[0-9A-F]{1,8}))? (=|!=|in|not in) ([0-9A-Fa-fx.,]+)")
 NUMBER = re.compile(r"0x[0-9A-F]{1,8}|0|[1-9][0-9]{0,9}")
+NUMBERS = re.compile(rf"(?:{NUMBER.pattern})(?:(?:,|\.\.)(?:{NUMBER.pattern}))*")
 
 
 class Row(NamedTuple):
@@ -37,24 +42,19 @@ class Row(NamedTuple):
     names: list
 
 
-def number_of(text):
-    if not NUMBER.fullmatch(text) or int(text, 0) > LAST:
-        raise Refused(f"no number of a row: {text!r:.40}")
-    return int(text, 0)
-
-
 def spans_of(text):
-    """The spans that numbers stand for, as `1..5,9`."""
+    """The spans that numbers stand for, as `1..5,9`. Refused where they don't."""
+    if not NUMBERS.fullmatch(text):
+        raise Refused(f"no numbers of a row: {text!r:.40}")
     return [span_of(part) for part in text.split(",")]
 
 
 def span_of(text):
-    """A span: one number, or its two ends. Refused where it is none."""
-    low, sign, high = text.partition("..")
-    span = number_of(low), number_of(high if sign else low)
-    if span[0] > span[1]:
+    """A span of numbers: one, or its two ends. Refused where it is none."""
+    ends = [int(end, 0) for end in text.split("..")]
+    if len(ends) > 2 or not ends[0] <= ends[-1] <= LAST:
         raise Refused(f"no span of a row: {text!r:.40}")
-    return span
+    return ends[0], ends[-1]
 
 
 def others(spans):
@@ -85,9 +85,13 @@ def condition_of(text):
         raise Refused(f"no condition of a row: {text!r:.80}")
     word, mask, sign, numbers = found.groups()
     spans = spans_of(numbers)
-    return word, int(mask or "0xFFFFFFFF", 0), others(spans) if sign in ("!=", "not in") else spans
+    return word, int(mask or "0xFFFFFFFF", 0), tuple(others(spans) if sign in ("!=", "not in") else spans)
 
 
+condition_on_call = functools.lru_cache(KEPT)(condition_of)
+
+
+@functools.lru_cache(KEPT)
 def in_words(text):
     """A condition in words: `arg1_lo = 0x5412` is `arg1 low half = 0x5412`. Refused where it is none."""
     condition_of(text)
@@ -97,7 +101,7 @@ def in_words(text):
 
 def row_of(fields):
     """A row that is shown by itself."""
-    on_call = [condition_of(text) for text in fields["conditions"] if text.startswith(("nr ", "arch "))]
+    on_call = [condition_on_call(text) for text in fields["conditions"] if text.startswith(("nr ", "arch "))]
     nr = ALL if fields["nr"] is None else spans_of(fields["nr"])
     conditions = [in_words(text) for text in fields["conditions"]]
     words = fields["arch"] or "any", fields["nr"] or "any"

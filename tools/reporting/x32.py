@@ -29,5 +29,6 @@ def can_meet(condition):
 
 def effect_of_x32(picture):
     """How far x32 calls get, taken together. A row counts whose conditions some x32 call meets, each by itself."""
-    places = {place for _, _, rows in picture.numbers_of(X86_64).between(FIRST, LAST) for place in rows}
-    return picture.effect_at(place for place in sorted(places) if all(map(can_meet, picture.rows[place].on_call)))
+    kinds = {kind for _, _, found in picture.numbers_of(X86_64).between(FIRST, LAST) for kind in found}
+    met = (kind for kind in sorted(kinds) if all(map(can_meet, picture.row_of_kind[kind].on_call)))
+    return picture.told_of(tuple(met))[0]

@@ -25,7 +25,7 @@ class Page(html.parser.HTMLParser):
     def __init__(self, text):
         super().__init__()
         self.maps, self.tables, self.tags, self.text = [], {}, set(), ""
-        self.table, self.row, self.button, self.skips = None, None, None, 0
+        self.table, self.row, self.button, self.skips, self.lists = None, None, None, 0, {}
         self.feed(text)
         self.close()
 
@@ -36,10 +36,12 @@ class Page(html.parser.HTMLParser):
         if name == "section" and "data-archs" in marks:
             spans = [tuple(map(int, span.split("-"))) for span in marks["data-archs"].split()]
             self.maps.append((spans, []))
+        elif "hidden" in marks and "data-r" in marks:
+            self.lists[f"#{marks['id']}"] = marks["data-r"]
         elif name == "button" and "data-r" in marks:
             first, last = (marks["data-n"],) * 2 if "data-n" in marks else (marks["data-first"], marks["data-last"])
             kinds = set(marks["class"].split()) - {"band", "changed", "unnamed"}
-            rows = [int(one) for one in marks["data-r"].split()]
+            rows = [int(one) for one in self.lists.get(marks["data-r"], marks["data-r"]).split()]
             self.maps[-1][1].append(Place(int(first), int(last), *kinds, rows, marks.get("aria-label", "")))
         elif name == "table" and "id" in marks:
             self.table = self.tables.setdefault(marks["id"], [])

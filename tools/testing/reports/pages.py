@@ -3,6 +3,7 @@ import copy
 import json
 import pathlib
 import random
+import resource
 import subprocess
 import tempfile
 
@@ -21,6 +22,9 @@ STACKS = sorted(path.name for path in DATA.iterdir())
 # What a stranger may call something.
 HOSTILE = ["<script>alert(1)</script>", '"><img src=x onerror=alert(1)>', "a\u202eb", "</title></style>", "&lt;", "\u0001"]
 
+# The most seconds that one run may take, on a machine that has much else to do.
+SECONDS = 100
+
 # How many documents of each kind are changed by lot.
 BROKEN = 60
 
@@ -29,7 +33,7 @@ BANNER = '<p class="banner" role="alert">Not complete: '
 
 
 def run(*words, given=None):
-    return subprocess.run([str(word) for word in words], input=given, capture_output=True, text=True)
+    return subprocess.run([str(word) for word in words], input=given, capture_output=True, text=True, timeout=SECONDS)
 
 
 def filters_of(stack):
@@ -141,7 +145,7 @@ def malformed(program):
     for text in numbers:
         for key in ("nr", "arch"):
             ran = made(json.dumps(value | {"rows": [row | {key: text}]}) + "\n")
-            yield f"{key} {text:.20}", is_refused(ran, "no number of a row") or is_refused(ran, "no span of a row"), ran
+            yield f"{key} {text:.20}", is_refused(ran, "no numbers of a row") or is_refused(ran, "no span of a row"), ran
     for text in ("arg0_lo = 007", "arg0_lo in 5..1", "nr & 0xFFFFFFFFFF = 0x1", "\x1b[31m = 1", "arg0_lo", "arg0_lo = 0x1\n"):
         ran = made(json.dumps(value | {"rows": [row | {"conditions": [text]}]}) + "\n", "--markdown")
         yield f"condition {text}", is_refused(ran, " of a row"), ran
@@ -248,8 +252,34 @@ def sizes(program):
     yield "a list without rows has a page", status == 0 and 'class="band unknown"' in out, err
 
 
+def of_many_rows(value, count):
+    """A list whose rows are all about each number without bit 30, and differ in an argument."""
+    answers = [{"action": "ALLOW", "data": 0}, {"action": "ERRNO", "data": 1}]
+    rows = [{"arch": None, "nr": None, "calls": [], "answers": [answers[place % 2]],
+             "conditions": ["nr & 0x40000000 = 0x0", f"arg0_lo = 0x{place:X}"]} for place in range(count)]
+    return json.dumps(value | {"rows": rows, "total": {"rows": count, "undetermined": 0}}) + "\n"
+
+
+def many_rows(program):
+    """Whether many rows of one number are all found there, and take no time for each number."""
+    value = json.loads(listed(program, [ROOT / "examples/p1.bpf"]))
+    for count in (8, 9, 100):
+        found = Page(page_of(of_many_rows(value, count))).places_of(0xC000003E, 1)
+        well = [(it.rows, it.effect) for it in found] == [(list(range(count)), "partly")]
+        yield f"{count} rows of a number", well, found
+    before = resource.getrusage(resource.RUSAGE_CHILDREN)
+    try:
+        status, out, err = made(of_many_rows(value, 15_000), "--html")
+    except subprocess.TimeoutExpired:
+        status, out, err = None, "", "no end"
+    after = resource.getrusage(resource.RUSAGE_CHILDREN)
+    seconds = after.ru_utime + after.ru_stime - before.ru_utime - before.ru_stime
+    yield "a page of 15,000 rows takes 10 s at most", status == 0 and seconds <= 10, (status, seconds, err[:300])
+    yield "a page of 15,000 rows has 10 MB at most", len(out.encode()) <= 10_000_000, len(out)
+
+
 def cases(program, count):
     """All of these, each as what is tried, whether it is well, and what came."""
     yield from agreements(program, count)
-    for part in (facts, strangers, refusals, malformed, broken_ones, not_whole, sizes):
+    for part in (facts, strangers, refusals, malformed, broken_ones, not_whole, sizes, many_rows):
         yield from part(program)

@@ -63,7 +63,9 @@ function cells() {
   some.click();
   const dialog = document.querySelector("dialog");
   const rows = dialog.querySelectorAll("tbody tr").length;
-  const due = some.dataset.r.split(" ").filter(Boolean).length;
+  const told = some.dataset.r || "";
+  const list = told.startsWith("#") ? document.getElementById(told.slice(1)).dataset.r : told;
+  const due = list.split(" ").filter(Boolean).length;
   found["a click opens the rows"] = dialog.open && rows === due ? "" : `${dialog.open} ${rows} of ${due}`;
   found["the dialog says what it is about"] = dialog.querySelector("h2").textContent === some.ariaLabel ? "" : "it doesn't";
   dialog.close();
