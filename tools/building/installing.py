@@ -112,14 +112,14 @@ def plan(program, room, doc):
 
 def install(program, prefix, doc=PROGRAM):
     """Copies all. Gives the paths that it has written (files, and in their place folders of its own), and the names of the
-    helpers that it has left out, since no C compiler makes them here. Refused where a target is a link."""
+    helpers that it has left out, since no C compiler makes them here. Refused where one of these is a link."""
     with tempfile.TemporaryDirectory() as room:
         files, left_out = plan(program, room, doc)
-        for _, target, _ in files:
-            if os.path.islink(f"{prefix}/{target}"):
-                raise Refused(f"{prefix}/{target} is a link, to {os.readlink(f'{prefix}/{target}')}: remove it first")
+        own = [folder.format(doc=doc) for folder in OWN]
+        for path in (f"{prefix}/{it}" for it in (*own, *(target for _, target, _ in files))):
+            if os.path.islink(path):
+                raise Refused(f"{path} is a link, to {os.readlink(path)}: remove it first")
         for source, target, mode in files:
             copy(source, f"{prefix}/{target}", mode)
-    own = [folder.format(doc=doc) for folder in OWN]
     told = [next((folder for folder in own if path.startswith(f"{folder}/")), path) for _, path, _ in files]
     return [f"{prefix}/{path}" for path in dict.fromkeys(told)], left_out

@@ -197,18 +197,24 @@ def try_replacing(room):
     wrong = {path: oct(mode) for path, mode in modes.items()
              if mode != (0o755 if os.path.isdir(path) or "/bin/" in path or path.endswith("/ask_kernel") else 0o644)}
     tell(not wrong and os.stat(f"{prefix}/more").st_mode & 0o777 == 0o755, "install: rights under umask 077", wrong)
-    victim, prefix = os.path.join(room, "victim"), os.path.join(room, "linked")
-    page = f"{prefix}/share/man/man1/seccomp_audit.1"
-    os.makedirs(os.path.dirname(page))
-    open(victim, "w").close()
-    os.symlink(victim, page)
-    try:
-        installing.install(sleep, prefix)
-        said_of_it = "it isn't refused"
-    except installing.Refused as why:
-        said_of_it = str(why)
-    well = f"{page} is a link, to {victim}" in said_of_it and not os.path.getsize(victim)
-    tell(well and files_below(prefix) == ["share/man/man1/seccomp_audit.1"], "install: a link", (said_of_it, files_below(prefix)))
+    try_links(room, sleep)
+
+
+def try_links(room, program):
+    """No link is followed: neither where a file goes, nor where a folder of its own does."""
+    for number, (place, kind) in enumerate({"share/man/man1/seccomp_audit.1": "a file", "share/seccomp_audit": "a folder"}.items()):
+        victim, prefix = os.path.join(room, f"victim{number}"), os.path.join(room, f"linked{number}")
+        os.makedirs(victim) if kind == "a folder" else open(victim, "w").close()
+        os.makedirs(os.path.dirname(f"{prefix}/{place}"))
+        os.symlink(victim, f"{prefix}/{place}")
+        try:
+            installing.install(program, prefix)
+            got = "it isn't refused"
+        except installing.Refused as why:
+            got = str(why)
+        untouched = not os.listdir(victim) if kind == "a folder" else not os.path.getsize(victim)
+        well = f"{prefix}/{place} is a link, to {victim}" in got and untouched and not os.path.exists(f"{prefix}/bin")
+        tell(well, f"install: a link at the place of {kind}", got)
 
 
 def try_empty(room):
