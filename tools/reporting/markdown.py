@@ -76,7 +76,7 @@ def of_list(document, report):
     lines = [title_of(document, f"What {stack_of(document.value['stack'])} lets through"), ""]
     if document.open:
         return [*lines, "There are no rows, since the list isn't complete.", ""]
-    picture = Picture(rows_of(document.value, report.sets), report.sets)
+    picture = Picture(rows_of(document, report.sets), report.sets)
     lines += table_of(picture.counts()) if report.sets else ["Calls aren't counted, since no names are given.", ""]
     undetermined = document.value["total"]["undetermined"]
     if undetermined:

@@ -77,7 +77,7 @@ def list_part(document, sets, identity):
     """The section of a list: what calls get, in sentences, maps and rows."""
     if document.open:
         return section("What it does", paragraph("There are no rows: the exploration stopped before its end."))
-    picture = Picture(rows_of(document.value, sets), sets)
+    picture = Picture(rows_of(document, sets), sets)
     found = picture.maps()
     told = counts_in_words(picture.counts()) + of_other_architectures(picture, found)
     kinds = kinds_in(found)

@@ -46,7 +46,7 @@ def both_maps(lists, sets, changes, identity):
     """The maps of both stacks, with what is changed marked, and their rows, in tables whose identities begin so."""
     parts, shown = [], []
     for name, document in zip(("OLD", "NEW"), lists):
-        picture = Picture(rows_of(document.value, sets), sets)
+        picture = Picture(rows_of(document, sets), sets)
         found = picture.maps()
         shown += found
         own = f"{identity}-{name.lower()}"
@@ -72,7 +72,7 @@ def change_maps(found, identity):
 
 def rows_part(document, sets, lists, identity):
     """The rows of a comparison, and where they are: marked in the maps of both stacks, if their lists are there."""
-    plain = Picture(rows_of(document.value, sets), sets, is_of_change=True)
+    plain = Picture(rows_of(document, sets), sets, is_of_change=True)
     picture = Picture(looser_first(plain.rows, plain.effects), sets, is_of_change=True)
     heading = element("h3", f"The rows that are {escaped(document.value['shown'])}")
     where = both_maps(lists, sets, Changes(picture), identity) if lists else change_maps(picture.maps(), identity)

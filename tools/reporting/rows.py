@@ -126,10 +126,13 @@ def row_of_call(fields, sets):
     return Row(words, arch, nr, [], conditions, fields["answers"], [fields["call"]])
 
 
-def rows_of(value, sets):
-    """The rows of a document: of calls, and then the others."""
-    calls = [row_of_call(fields, sets) for fields in value["calls"] or []]
-    return calls + [row_of(fields) for fields in value["rows"]]
+def rows_of(document, sets):
+    """The rows of a document: of calls, and then the others. Refused where one has another form."""
+    try:
+        calls = [row_of_call(fields, sets) for fields in document.value["calls"] or []]
+        return calls + [row_of(fields) for fields in document.value["rows"]]
+    except Refused as why:
+        raise Refused(f"{document.path}: {why}") from None
 
 
 def is_in(number, spans):

@@ -146,6 +146,8 @@ def malformed(program):
         for key in ("nr", "arch"):
             ran = made(json.dumps(value | {"rows": [row | {key: text}]}) + "\n")
             yield f"{key} {text:.20}", is_refused(ran, "no numbers of a row") or is_refused(ran, "no span of a row"), ran
+    ran = made(json.dumps(value | {"rows": [row | {"nr": "5..1"}]}) + "\n")
+    yield "the document is named", ran[2] == "error: -: no span of a row: '5..1'\n", ran
     for text in ("arg0_lo = 007", "arg0_lo in 5..1", "nr & 0xFFFFFFFFFF = 0x1", "\x1b[31m = 1", "arg0_lo", "arg0_lo = 0x1\n"):
         ran = made(json.dumps(value | {"rows": [row | {"conditions": [text]}]}) + "\n", "--markdown")
         yield f"condition {text}", is_refused(ran, " of a row"), ran
