@@ -5,8 +5,8 @@ SHORT = {"\n": "\\n", "\r": "\\r", "\t": "\\t"}
 
 
 def visible(text):
-    """A text in which each character that can't be seen is written as its number: so all are on one line, and none has a
-    meaning for a terminal."""
+    """A text in which each character that can't be seen is written as its number: so all are on one line, and none has
+    a meaning for a terminal."""
     text = str(text)
     if text.isprintable():
         return text

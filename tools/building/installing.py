@@ -34,7 +34,8 @@ FOLDERS = [
 
 # Helpers in Python, and what a C compiler makes: the sources below tools/, the compiler's options, the target.
 # `kernel_agrees` does nothing without `ask_kernel`, so it goes where that goes.
-HELPERS = [(f"tools/{name}", f"bin/seccomp_audit_{name}") for name in ("filter_of_profile", "report", "call_names", "policy_numbers")]
+HELPERS = [(f"tools/{name}", f"bin/seccomp_audit_{name}")
+           for name in ("filter_of_profile", "report", "call_names", "policy_numbers")]
 KERNEL_AGREES = ("tools/kernel_agrees", "bin/seccomp_audit_kernel_agrees")
 READ_FILTERS = (("read_filters.c", "read_thread.c"), (), "bin/seccomp_audit_read_filters")
 ASK_KERNEL = (("ask_kernel.c",), ("-pthread",), "libexec/seccomp_audit/ask_kernel")
@@ -53,7 +54,7 @@ def make_folders(folder):
 
 
 def copy(source, target, mode):
-    """Copies a file: beside the target first, which it then replaces. So each is whole at any time, also one that runs."""
+    """Copies a file: beside the target first, which it then replaces. So each is whole at any time, and may run."""
     make_folders(os.path.dirname(target))
     number, beside = tempfile.mkstemp(dir=os.path.dirname(target), prefix=f".{os.path.basename(target)}.")
     try:
@@ -92,7 +93,8 @@ def helpers(room):
 
 def policies():
     """The policies and the names of calls, with their places."""
-    names = [f"{folder}{name}" for folder in ("", "names/") for name in sorted(os.listdir(os.path.join(ROOT, "policies", folder)))]
+    names = [f"{folder}{name}" for folder in ("", "names/")
+             for name in sorted(os.listdir(os.path.join(ROOT, "policies", folder)))]
     return [(f"policies/{name}", f"{POLICIES}/{name}") for name in names if name.endswith(".toml")]
 
 
@@ -103,7 +105,7 @@ def folders():
 
 
 def plan(program, room, doc):
-    """All files: where each is, where below PREFIX it goes, and its rights. And the names of the helpers that are left out."""
+    """All files: where each is, where below PREFIX it goes, and its rights. And the helpers that are left out."""
     made, left_out = helpers(room)
     plain = [*((source, target.format(doc=doc)) for source, target in FILES), *policies(), *folders()]
     files = [(os.path.join(ROOT, source), target, PLAIN) for source, target in plain]

@@ -18,13 +18,13 @@ def range_in_words(first, last):
 
 
 class Lists:
-    """The rows that places of a map are about: where these are many, their list stands once for all places that have it."""
+    """The rows that places of a map are about. Where these are many, their list stands once for all such places."""
 
     def __init__(self, identity):
         self.identity, self.found = identity, {}
 
     def told(self, rows):
-        """What stands at a place: its rows, or where their list is. Equal lists are one object, as `Picture` gives them."""
+        """What stands at a place: its rows, or where their list is. Equal lists of a `Picture` are one object."""
         if len(rows) <= MOST_PLACES:
             return " ".join(map(str, rows))
         number, _ = self.found.setdefault(id(rows), (len(self.found), rows))
@@ -32,8 +32,8 @@ class Lists:
 
     def elements(self):
         """The lists, as elements that aren't shown."""
-        return "".join(element("div", "", hidden="", id=f"{self.identity}-list-{number}", data_r=" ".join(map(str, rows)))
-                       for number, rows in self.found.values())
+        lists = ((f"{self.identity}-list-{number}", " ".join(map(str, rows))) for number, rows in self.found.values())
+        return "".join(element("div", "", hidden="", id=identity, data_r=rows) for identity, rows in lists)
 
 
 def cell(it, is_first, is_changed, lists):
@@ -47,7 +47,7 @@ def cell(it, is_first, is_changed, lists):
 
 
 def strip(it, is_changed, lists):
-    cells = "".join(cell(one, place == 0, is_changed(one.number, one.number), lists) for place, one in enumerate(it.cells))
+    cells = "".join(cell(one, one is it.cells[0], is_changed(one.number, one.number), lists) for one in it.cells)
     head = f"{it.name}: {range_in_words(it.cells[0].number, it.cells[-1].number)}"
     return element("h4", escaped(head)) + element("div", cells, class_="cells", role="group", aria_label=head)
 

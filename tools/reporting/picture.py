@@ -149,8 +149,8 @@ class Picture:
         self.numbers, self.known = {}, {}
 
     def told_of(self, kinds):
-        """How far inputs get that lie in a row of one of these kinds, and the places of these rows. The same kinds give the
-        very same list."""
+        """How far inputs get that lie in a row of one of these kinds, and the places of these rows. The same kinds give
+        the very same list."""
         if kinds not in self.known:
             places = sorted(place for kind in kinds for place in self.kinds[kind])
             self.known[kinds] = self.join({self.effects[place] for place in places}), places

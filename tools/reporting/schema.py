@@ -17,7 +17,7 @@ def same(value, other):
 
 
 def fits_pattern(value, pattern):
-    """Whether a text fits a pattern. The end of a pattern is that of the text: Python would pass over a last newline."""
+    """Whether a text fits a pattern, whose end is that of the text: Python would pass over a last newline."""
     return re.search(re.sub(r"\$$", r"\\Z", pattern), value) is not None
 
 

@@ -2,8 +2,8 @@
 
     tools/test install
 
-A stand-in takes the program's place, so nothing has to be built. The cases of filter_of_profile are tried on the one that
-is installed. Cases that need a C compiler, or dpkg and objdump, are
+A stand-in takes the program's place, so nothing has to be built. The cases of filter_of_profile are tried on the one
+that is installed. Cases that need a C compiler, or dpkg and objdump, are
 left out where these aren't there, and a line says so. The last line is `N passed, M failed`; where M isn't 0, the
 status is 1.
 """
@@ -135,7 +135,7 @@ def try_report(prefix):
 
 
 def try_by_headers(prefix, room):
-    """The helpers that read headers run at their new place, over headers that have one call, and leave nothing there."""
+    """The helpers that read headers run at their new place, over headers with one call, and leave nothing there."""
     before, own = files_below(prefix), os.path.join(room, "own")
     names, numbers = (f"{prefix}/bin/{name}" for name in BY_HEADERS)
     headers = os.path.join(room, "usr/include/x86_64-linux-gnu/asm")
@@ -146,9 +146,11 @@ def try_by_headers(prefix, room):
     with open(policy, "w") as file:
         file.write('[[question]]\nname = "a"\narch = 0xC000003E\nnr = 39  # getpid\n[[question]]\nnr = 1  # \x9b2J\n')
     ran = said(numbers, "--root", room, policy)
-    tell("\n1 checked, 0 not found, 1 wrong\n" in ran.stdout and "no expression: \\u009b2J" in ran.stdout, BY_HEADERS[1], ran)
+    well = "\n1 checked, 0 not found, 1 wrong\n" in ran.stdout and "no expression: \\u009b2J" in ran.stdout
+    tell(well, BY_HEADERS[1], ran)
     ran = said(numbers, "--root", room)
-    tell(f"{installing.POLICIES}/x86_64.toml" in ran.stdout and not ran.stderr, f"{BY_HEADERS[1]} on the ready policies", ran.stderr)
+    well = f"{installing.POLICIES}/x86_64.toml" in ran.stdout and not ran.stderr
+    tell(well, f"{BY_HEADERS[1]} on the ready policies", ran.stderr)
     ran = said(names, "--root", room, own)
     with open(f"{own}.toml") as file:
         text = file.read()
@@ -159,14 +161,15 @@ def try_by_headers(prefix, room):
     tell(ran.returncode == 2 and "FOLDER has to be given" in ran.stderr, f"{BY_HEADERS[0]} without a folder", ran)
     for path in (names, numbers):
         ran = said(path, "--help")
-        tell(ran.returncode == 0 and f"    {path} [" in ran.stdout and "tools/call" not in ran.stdout, f"{path} --help", ran)
+        well = ran.returncode == 0 and f"    {path} [" in ran.stdout and "tools/call" not in ran.stdout
+        tell(well, f"{path} --help", ran)
         ran = said(path, "--\x1b[31m")
         tell(ran.returncode == 2 and "\x1b" not in ran.stderr, f"{path}, and a word that doesn't fit", ran)
     tell(files_below(prefix) == before, "what reads headers leaves", files_below(prefix))
 
 
 def try_replacing(room):
-    """A program that runs is replaced, and a file is whole or as it was. The umask changes no rights, and no link is followed."""
+    """A program that runs is replaced, and a file is whole or as it was. The umask changes no rights."""
     prefix, sleep = os.path.join(room, "replaced"), shutil.which("sleep")
     installing.install(sleep, prefix)
     program = f"{prefix}/bin/{PROGRAM}"
@@ -202,8 +205,8 @@ def try_replacing(room):
 
 def try_links(room, program):
     """No link is followed: neither where a file goes, nor where a folder of its own does."""
-    for number, (place, kind) in enumerate({"share/man/man1/seccomp_audit.1": "a file", "share/seccomp_audit": "a folder"}.items()):
-        victim, prefix = os.path.join(room, f"victim{number}"), os.path.join(room, f"linked{number}")
+    for place, kind in (("share/man/man1/seccomp_audit.1", "a file"), ("share/seccomp_audit", "a folder")):
+        victim, prefix = os.path.join(room, f"victim of {kind}"), os.path.join(room, f"linked by {kind}")
         os.makedirs(victim) if kind == "a folder" else open(victim, "w").close()
         os.makedirs(os.path.dirname(f"{prefix}/{place}"))
         os.symlink(victim, f"{prefix}/{place}")
@@ -222,7 +225,8 @@ def try_empty(room):
     shutil.copytree(os.path.join(ROOT, "tools"), os.path.join(room, "copy/tools"))
     for words in ([""], ["--unproved", ""]):
         ran = said(os.path.join(room, "copy/tools/install"), *words)
-        tell(ran.returncode == 1 and ran.stderr.startswith("tools/install: PREFIX is empty"), f"tools/install {words}", ran)
+        well = ran.returncode == 1 and ran.stderr.startswith("tools/install: PREFIX is empty")
+        tell(well, f"tools/install {words}", ran)
 
 
 def try_without_compiler(room):

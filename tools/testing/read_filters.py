@@ -169,7 +169,7 @@ def is_in(thread, call):
 
 
 def waiting(program, *kinds):
-    """A process whose threads wait so, and for each kind the number of its thread. Where one is traced: by whom, too."""
+    """A process whose threads wait so, and the number of the thread of each kind; of a traced one also by whom."""
     child = subprocess.Popen([program, *kinds], stdout=subprocess.PIPE, text=True)
     threads = {}
     for _ in kinds:
@@ -214,7 +214,7 @@ def try_process(reader, room):
 
 
 def try_unread(reader, waits, room):
-    """A thread that doesn't stop, and one that is traced: both are named, and the others read, and they run meanwhile."""
+    """A thread that doesn't stop, and one that is traced: both are named. The others are read, and run meanwhile."""
     child, threads = waiting(waits, "pause", "vfork", "traced", "recv")
     first, held, tracer = str(child.pid), threads["vfork"], threads.pop("tracer")
     reading = subprocess.Popen([reader, "--all-threads", first, f"{room}/unread-"], stdout=-1, stderr=-1, text=True)
@@ -224,23 +224,27 @@ def try_unread(reader, waits, room):
         tell(begun and all(map(is_free, others)), "one thread at a time", list(map(status_of, others)))
         out, err = reading.communicate(timeout=MOST)
         whys = {f"thread {held}: did not stop within 2 s", f"thread {threads['traced']}: is traced by {tracer}"}
-        tell(reading.returncode == 1 and set(err.splitlines()) == whys, "threads that can't be read", (reading.returncode, err))
+        well = reading.returncode == 1 and set(err.splitlines()) == whys
+        tell(well, "threads that can't be read", (reading.returncode, err))
         read = f"{room}/unread-thread-{first}: 0 filters, of threads {' '.join(sorted(others, key=int))}\n"
         tell(out == read, "the others are read", out)
-        tell(status_of(held) == ("D", "0") and all(map(is_free, others)), "each is let go", list(map(status_of, threads.values())))
+        well = status_of(held) == ("D", "0") and all(map(is_free, others))
+        tell(well, "each is let go", list(map(status_of, threads.values())))
         ran = said(reader, threads["traced"], f"{room}/alone-")
         tell(ran.returncode == 1 and ran.stderr == f"thread {threads['traced']}: is traced by {tracer}\n", "alone", ran)
         reading = subprocess.Popen([reader, held, f"{room}/killed-"], stdout=-1, stderr=-1)
         begun = comes(lambda: status_of(held)[1] != "0")
         reading.kill()
         reading.communicate()
-        tell(begun and comes(lambda: status_of(held) == ("D", "0")), "let go where the reader is ended", status_of(held))
+        well = begun and comes(lambda: status_of(held) == ("D", "0"))
+        tell(well, "let go where the reader is ended", status_of(held))
     finally:
         reading.kill()
         child.kill()
         child.wait()
     ran = said(reader, first, f"{room}/gone-")
-    tell(ran.returncode == 1 and ran.stderr == f"thread {first}: there is no such thread\n", "a thread that isn't there", ran)
+    well = ran.returncode == 1 and ran.stderr == f"thread {first}: there is no such thread\n"
+    tell(well, "a thread that isn't there", ran)
 
 
 def try_calls(reader, waits, room):
@@ -249,7 +253,8 @@ def try_calls(reader, waits, room):
     try:
         ran = said(reader, "--all-threads", str(child.pid), f"{room}/calls-")
         returned = {child.stdout.readline(), child.stdout.readline()} if ran.returncode == 0 else {}
-        tell(returned == {"epoll_wait -1 EINTR\n", "recv_timeout -1 EINTR\n"}, "calls that return early", (returned, ran))
+        early = {"epoll_wait -1 EINTR\n", "recv_timeout -1 EINTR\n"}
+        tell(returned == early, "calls that return early", (returned, ran))
         tell(all(map(is_free, threads.values())), "all threads wait again", threads)
     finally:
         child.kill()

@@ -132,7 +132,8 @@ def refusals(program):
 def is_refused(ran, why=""):
     """Whether there is no report, and one line says why, in which nothing has a meaning for a terminal."""
     status, out, err = ran
-    return status == 1 and not out and err.startswith("error: ") and err[:-1].isprintable() and err.endswith("\n") and why in err
+    is_line = err.startswith("error: ") and err[:-1].isprintable() and err.endswith("\n")
+    return status == 1 and not out and is_line and why in err
 
 
 def malformed(program):
@@ -141,14 +142,16 @@ def malformed(program):
     told = {"conditions": [], "answers": [{"action": "ALLOW", "data": 0}]}
     row, call = {"arch": "0xC000003E", "nr": "1", "calls": [], **told}, {"set": "x86_64", "call": "read", **told}
     yield "a row", made(json.dumps(value | {"rows": [row], "calls": [call]}) + "\n")[0] == 0, "isn't taken"
-    numbers = ("007", "5..1", "1..2..3", "1..", "..", "", "1,", "0x", "0xa", "0x100000000", "4294967296", "1" * 5000, "\x1b[31m", "١")
+    numbers = ("007", "5..1", "1..2..3", "1..", "..", "", "1,", "0x", "0xa", "0x100000000", "4294967296", "1" * 5000,
+               "\x1b[31m", "١")
     for text in numbers:
         for key in ("nr", "arch"):
             ran = made(json.dumps(value | {"rows": [row | {key: text}]}) + "\n")
-            yield f"{key} {text:.20}", is_refused(ran, "no numbers of a row") or is_refused(ran, "no span of a row"), ran
+            yield f"{key} {text:.20}", is_refused(ran, " of a row: "), ran
     ran = made(json.dumps(value | {"rows": [row | {"nr": "5..1"}]}) + "\n")
     yield "the document is named", ran[2] == "error: -: no span of a row: '5..1'\n", ran
-    for text in ("arg0_lo = 007", "arg0_lo in 5..1", "nr & 0xFFFFFFFFFF = 0x1", "\x1b[31m = 1", "arg0_lo", "arg0_lo = 0x1\n"):
+    conditions = ("arg0_lo = 007", "arg0_lo in 5..1", "nr & 0xFFFFFFFFFF = 0x1", "\x1b[31m = 1", "nr", "nr = 0x1\n")
+    for text in conditions:
         ran = made(json.dumps(value | {"rows": [row | {"conditions": [text]}]}) + "\n", "--markdown")
         yield f"condition {text}", is_refused(ran, " of a row"), ran
     cases = {
@@ -184,7 +187,7 @@ def broken(value, rng):
                 yield from places(member)
 
     part, key = rng.choice(list(places(value)))
-    others = (None, True, 0, -1, 1 << 70, 0.5, "", "\x1b[31m", "\ud800", "0", "0x1", "any", "ALLOW\n", [], [[]], {}, {"a": 1})
+    others = (None, True, 0, -1, 1 << 70, 0.5, "", "\x1b[31m", "\ud800", "0", "0x1", "any", "ALLOW\n", [], [[]], {})
     way = rng.randrange(4)
     if way == 0 and isinstance(part, list):
         part.append(copy.deepcopy(part[key]))
@@ -200,9 +203,11 @@ def broken(value, rng):
 def broken_ones(program):
     """Whether each document that is changed by lot is refused with one line, or makes a text in which nothing works."""
     paths, policy = filters_of("snap-default-profile-alone"), ROOT / "policies/terminal-injection.toml"
-    asked = [("list", "--names", NAMES, "--calls", "ptrace,read", *paths), ("audit", "--why", "--policy", policy, *paths),
+    asked = [("list", "--names", NAMES, "--calls", "ptrace,read", *paths),
+             ("audit", "--why", "--policy", policy, *paths),
              ("compare", "--rows", "--old", *paths, "--new", ROOT / "examples/p1.bpf"), ("needed", *paths)]
-    rng, sets, known, faulty, taken = random.Random(1), sets_of(str(NAMES)), groups.load(ROOT / "policies/groups.toml"), [], 0
+    sets, known = sets_of(str(NAMES)), groups.load(ROOT / "policies/groups.toml")
+    rng, faulty, taken = random.Random(1), [], 0
     with tempfile.TemporaryDirectory() as room:
         path = pathlib.Path(room) / "one.json"
         for words in asked:
