@@ -1,24 +1,27 @@
 -- Each step of a handle keeps the rule of the bench.
-use Rattle.std.proofs.Common.{◌≡◌, ◌≢◌, ℕ, zero, suc, ◌+◌, ◌-◌, ◌<◌, ◌≤◌, ◌⊎◌, min, List, [], ◌∷◌, ◌++◌, All, get_or, length, drop, set, slice_get, Option, Some, None, MatchOption, sym, refl, ap, ◌∙◌, subst, inl, inr, ⊎_elim, append_assoc, append-nil, length-append, length-drop, length-set, add-one, arith}
+use Rattle.std.proofs.Common.{◌≡◌, ◌≢◌, ℕ, zero, suc, ◌+◌, ◌-◌, ◌<◌, ◌≤◌, ◌⊎◌, min, List, [], ◌∷◌, ◌++◌, All, get_or, length, drop, set, slice_get, Option, Some, None, MatchOption, Result, Ok, Err, MatchResult, sym, refl, ap, ◌∙◌, subst, inl, inr, ⊎_elim, append_assoc, append-nil, length-append, length-drop, length-set, add-one, arith}
 use mathlib.Core.Option.{some, some-injective, some-ne-none}
 use lib.ListN.{get_elem?}
-use Rattle.std.proofs.lemmas.Option.{slice_get_past}
 use Rattle.std.proofs.lemmas.List.Elements.{All-nil, All-push}
 use Rattle.atomic_table.proofs.Lists.{at_set}
-use Rattle.crossbeam_deque.specs.Tasks.{Pushes, Takes, Finds, FindsFew, Forks}
+use Rattle.crossbeam_deque.specs.Tasks.{Pushes, Takes, Finds, FindsFew, Forks, Learns}
+use Rattle.crossbeam_deque.specs.Steals.{MatchSteal}
+use Rattle.crossbeam_deque.specs.declared.steal.Steal.{Steal}
+use Rattle.crossbeam_deque.specs.declared.steal.Steal.TheVariants.{Empty, Success, Retry}
 use Rattle.sf_crew.specs.declared.benches.history.Event.{Event}
 use Rattle.sf_crew.specs.declared.benches.history.Event.TheVariants.{Put, Got}
+use Rattle.sf_crew.specs.declared.benches.history.End.{End}
 use Rattle.sf_crew.specs.declared.benches.history.HandleView.{HandleView}
-use Rattle.sf_crew.specs.History.{handle_view, handle_of, OfOthers, HasNoThief, put_items, got_count, first_left, IsLawfulFrom, IsLawfulHistory, HasHistory, GetsFirst, AllGot}
-use Rattle.sf_crew.specs.BenchRule.{Fits, BenchKept, PutsAll, GetsAll, owner_with_thief, new_thief_view}
+use Rattle.sf_crew.specs.History.{end_of, handle_view, new_view, handle_of, put_items, got_count, first_left, IsLawfulFrom, IsLawfulHistory, FitsEnd, FitEnds, HasHistory, number_of, with_own, view_after, AllGot}
+use Rattle.sf_crew.specs.BenchRule.{AreAt, IsOwnFirst, Sits, BenchKept, PutsAll, GetsAll, Leaves, owner_with_thief, new_thief_view}
 
 module _ {T : Type 0} where
   -- no step of these was made by the handle i
-  abbrev NotBy : ℕ → List (Event T) → Type 0
+  abbrev pub NotBy : ℕ → List (Event T) → Type 0
   NotBy i es = All (λ (e : Event T). handle_of e ≢ i) es
 
   -- all steps are by handles below n
-  abbrev AllByHandlesBelow : ℕ → List (Event T) → Type 0
+  abbrev pub AllByHandlesBelow : ℕ → List (Event T) → Type 0
   AllByHandlesBelow n es = All (λ (e : Event T). handle_of e < n) es
 
   below_more : (i j : ℕ) (h : List (Event T)) → i ≤ j → AllByHandlesBelow i h → AllByHandlesBelow j h
@@ -26,14 +29,6 @@ module _ {T : Type 0} where
 
   below_notby : (i : ℕ) (h : List (Event T)) → AllByHandlesBelow i h → NotBy i h
   below_notby i h below = λ k d there is. let lt : handle_of (get_or h k d) < i = below k d there in omega arith
-
-  -- what holds of all steps holds of the later ones
-  all_right : (P : Event T → Type 0) (a b : List (Event T)) → All P (a ++ b) → All P b
-  all_right P [] b h = h
-  all_right P (e ∷ a) b h = all_right P a b (λ k d there. h (suc k) d (omega arith))
-
-  all_part : (P : Event T → Type 0) (a b h : List (Event T)) → h ≡ a ++ b → All P h → All P b
-  all_part P a b h e all = all_right P a b (subst (λ (l : List (Event T)). All P l) e all)
 
   puts_put : (h : List (Event T)) (x : T) → put_items (h ++ Put x ∷ []) ≡ put_items h ++ x ∷ []
   puts_put [] x = refl
@@ -84,7 +79,8 @@ module _ {T : Type 0} where
   dropped (y ∷ l) zero x xs e = (ap (λ (z : T). Some z) (cc), cc, omega arith)
   dropped (y ∷ l) (suc n) x xs e = let r = dropped l n x xs e in (r.0, r.1, (let lt = r.2 in omega arith))
 
-  at_below : (views : List (HandleView T)) (port : ℕ) (v : HandleView T) → get_elem? views port ≡ some v
+  -- a view stands at a place that there is
+  pub at_below : (views : List (HandleView T)) (port : ℕ) (v : HandleView T) → get_elem? views port ≡ some v
       → port < length views
   at_below [] port v e = absurd (some-ne-none v (sym e))
   at_below (x ∷ l) zero v e = omega arith
@@ -99,96 +95,139 @@ module _ {T : Type 0} where
   at_end (x ∷ xs) a b (suc j) e = ⊎_elim (λ (y : get_elem? xs j ≡ some b). inl y)
       (λ (y : (j ≡ length xs) × (a ≡ b)). inr (ap suc y.0, y.1)) (at_end xs a b j e)
 
+  -- ---- one more event
+
+  -- an end still fits when another handle makes a step
+  fits_more : (h : List (Event T)) (s : Event T) (e : End T) → handle_of s ≢ e.number → FitsEnd h e
+      → FitsEnd (h ++ s ∷ []) e
+  fits_more h s e other f = (
+    f.0 ++ s ∷ [],
+    ap (λ (l : List (Event T)). l ++ s ∷ []) f.1 ∙ append_assoc e.events f.0 (s ∷ []),
+    All-push (λ (y : Event T). handle_of y ≢ e.number) f.0 s f.2 other,
+  )
+
+  -- so do the ends that lie elsewhere
+  fit_more : (home : ℕ → ℕ) (port j : ℕ) (h : List (Event T)) (s : Event T) (es : List (End T)) → home (handle_of s) ≡ port
+      → j ≢ port → AreAt home j es → FitEnds h es → FitEnds (h ++ s ∷ []) es
+  fit_more home port j h s [] is other at f = tt
+  fit_more home port j h s (e ∷ es) is other at f = (
+    fits_more h s e (λ (same : handle_of s ≡ e.number). other (sym at.0 ∙ ap home (sym same) ∙ is)) f.0,
+    fit_more home port j h s es is other at.1 f.1,
+  )
+
+  -- and the ends that were joined into the handle that makes the step
+  fit_others : (port : ℕ) (h : List (Event T)) (s : Event T) (es : List (End T)) → handle_of s ≡ port
+      → All (λ (o : End T). o.number ≢ port) es → FitEnds h es → FitEnds (h ++ s ∷ []) es
+  fit_others port h s [] is apart f = tt
+  fit_others port h s (e ∷ es) is apart f = (
+    fits_more h s e (λ (same : handle_of s ≡ e.number). apart 0 e (omega arith) (sym same ∙ is)) f.0,
+    fit_others port h s es is (λ k d there. apart (suc k) d (omega arith)) f.1,
+  )
+
+  -- the view of the handle that makes the step
+  own_sits : (home : ℕ → ℕ) (port : ℕ) (h : List (Event T)) (s : Event T) (n : ℕ) (es : List (End T)) → handle_of s ≡ port
+      → Sits h home port (handle_view n es) → Sits (h ++ s ∷ []) home port (handle_view n (with_own es (h ++ s ∷ [])))
+  own_sits home port h s n [] is sits = record { fits = tt; at = tt; own = tt }
+  own_sits home port h s n (e ∷ es) is sits = record {
+    fits = (
+      ([], sym (append-nil (h ++ s ∷ [])), All-nil (λ (y : Event T). handle_of y ≢ e.number)),
+      fit_others port h s es is sits.own.1 sits.fits.1,
+    );
+    at = sits.at;
+    own = sits.own;
+  }
+
   -- one more event, of this handle
   grown : (items rest : List T) (views : List (HandleView T)) (port : ℕ) (v : HandleView T) (e : Event T)
       (k : BenchKept items views)
-      → get_elem? views port ≡ some v → handle_of e ≡ port → IsLawfulHistory (k.history ++ e ∷ [])
+      → get_elem? views port ≡ some v → handle_of e ≡ port → k.home port ≡ port → IsLawfulHistory (k.history ++ e ∷ [])
       → rest ≡ drop (got_count (k.history ++ e ∷ [])) (put_items (k.history ++ e ∷ []))
-      → BenchKept rest (set views port (handle_view v.me v.made (k.history ++ e ∷ [])))
-  grown items rest views port v e k at mine lawful left =
-      let h : List (Event T) = k.history ++ e ∷ [] in let w : HandleView T = handle_view v.me v.made h in
+      → BenchKept rest (set views port (view_after v (k.history ++ e ∷ [])))
+  grown items rest views port v e k at mine mineat lawful left =
+      let h : List (Event T) = k.history ++ e ∷ [] in let w : HandleView T = view_after v h in
       let long : length (set views port w) ≡ length views = length-set views port w in record {
         history = h;
+        home = k.home;
         lawful = lawful;
         left = left;
         ports = subst (λ n. AllByHandlesBelow n h) (sym long)
             (All-push (λ (y : Event T). handle_of y < length views) k.history e k.ports
             (let lt = at_below views port v at in omega arith));
+        fresh = λ i le. k.fresh i (omega arith);
         each = λ j u there. ⊎_elim
-            (λ (x : (j ≡ port) × (w ≡ u)). subst (λ (y : ℕ × HandleView T). Fits h y.0 y.1) (λ i. (sym x.0 i, x.1 i))
-            ((k.each port v at).0, ([], sym (append-nil h), All-nil (λ (y : Event T). handle_of y ≢ port))))
-            (λ (x : (j ≢ port) × (get_elem? views j ≡ some u)). let f = k.each j u x.1 in (
-              f.0,
-              (
-                f.1.0 ++ e ∷ [],
-                ap (λ (l : List (Event T)). l ++ e ∷ []) f.1.1 ∙ append_assoc u.events f.1.0 (e ∷ []),
-                All-push (λ (y : Event T). handle_of y ≢ j) f.1.0 e f.1.2 (λ is. x.0 (sym is ∙ mine)),
-              ),
-            ))
+            (λ (x : (j ≡ port) × (w ≡ u)). subst (λ (y : ℕ × HandleView T). Sits h k.home y.0 y.1)
+            (λ i. (sym x.0 i, x.1 i))
+            (own_sits k.home port k.history e v.made v.ends mine (k.each port v at)))
+            (λ (x : (j ≢ port) × (get_elem? views j ≡ some u)). let f = k.each j u x.1 in record {
+              fits = fit_more k.home port j k.history e u.ends (ap k.home mine ∙ mineat) x.0 f.at f.fits;
+              at = f.at;
+              own = f.own;
+            })
             (at_set views port j w u there);
-        all_made = λ u there. ⊎_elim
-            (λ (x : (0 ≡ port) × (w ≡ u)). ap (λ (y : HandleView T). y.made) (sym x.1)
-            ∙ k.all_made v (subst (λ j. get_elem? views j ≡ some v) (sym x.0) at) ∙ sym long)
-            (λ (x : (0 ≢ port) × (get_elem? views 0 ≡ some u)). k.all_made u x.1 ∙ sym long)
-            (at_set views port 0 w u there);
+        all_made = λ j u there some_made. ⊎_elim
+            (λ (x : (j ≡ port) × (w ≡ u)).
+            let made : u.made ≡ v.made = ap (λ (y : HandleView T). y.made) (sym x.1) in
+            let old = k.all_made port v at (omega arith) in (x.0 ∙ old.0, made ∙ old.1 ∙ sym long))
+            (λ (x : (j ≢ port) × (get_elem? views j ≡ some u)). let old = k.all_made j u x.1 some_made in
+            (old.0, old.1 ∙ sym long))
+            (at_set views port j w u there);
       }
 
-  -- what the owner doesn't know of was done by the handles that it made
-  others : (items : List T) (views : List (HandleView T)) (port : ℕ) (v : HandleView T) (k : BenchKept items views)
-      (at : get_elem? views port ≡ some v) → OfOthers v ((k.each port v at).1.0)
-  others items views port v k at = let f = k.each port v at in (
-    subst (λ i. NotBy i f.1.0) (sym f.0) f.1.2,
-    λ owner.
-        let made : v.made ≡ length views = k.all_made v
-        (subst (λ j. get_elem? views j ≡ some v) (sym f.0 ∙ owner) at) in
-        subst (λ n. AllByHandlesBelow n f.1.0) (sym made)
-        (all_part (λ (y : Event T). handle_of y < length views) v.events f.1.0 k.history f.1.1 k.ports),
-  )
+  -- a handle's own end has the number of the handle, and lies in its view
+  own_number : (home : ℕ → ℕ) (port : ℕ) (h : List (Event T)) (n : ℕ) (es : List (End T)) → 0 < length es
+      → Sits h home port (handle_view n es) → (number_of es ≡ port) × (home port ≡ port)
+  own_number home port h n [] live sits = absurd (omega arith)
+  own_number home port h n (e ∷ es) live sits = (sits.own.0, ap home (sym sits.own.0) ∙ sits.at.0)
 
   pub moment : (items : List T) (views : List (HandleView T)) (port : ℕ) (v : HandleView T) (k : BenchKept items views)
-      (at : get_elem? views port ≡ some v) → HasHistory v ((k.each port v at).1.0) k.history
-  moment items views port v k at = let f = k.each port v at in (others items views port v k at, f.1.1, k.lawful)
+      (at : get_elem? views port ≡ some v) → HasHistory v k.history
+  moment items views port v k at = record {
+    lawful = k.lawful;
+    ends = (k.each port v at).fits;
+    made = λ some_made. let m = k.all_made port v at some_made in
+        subst (λ n. AllByHandlesBelow n k.history) (sym m.1) k.ports;
+  }
 
-  pub pushes : (port : ℕ) (v : HandleView T) (x : T) → port ≡ 0 → Pushes BenchKept port v (x ∷ []) (PutsAll v (x ∷ []))
-  pushes port v x zeroth items views k at =
-      let h : List (Event T) = k.history in let le = lawful_le 0 0 h (omega arith) k.lawful in (
-        handle_view v.me v.made (h ++ Put x ∷ []),
-        grown items (items ++ x ∷ []) views port v (Put x) k at (sym zeroth) (lawful_put 0 0 h x k.lawful)
+  pub pushes : (port : ℕ) (v : HandleView T) (x : T) → port ≡ 0 → 0 < length v.ends
+      → Pushes BenchKept port v (x ∷ []) (PutsAll v (x ∷ []))
+  pushes port v x zeroth live items views k at =
+      let h : List (Event T) = k.history in let le = lawful_le 0 0 h (omega arith) k.lawful in
+      let own = own_number k.home port h v.made v.ends live (k.each port v at) in (
+        view_after v (h ++ Put x ∷ []),
+        grown items (items ++ x ∷ []) views port v (Put x) k at (sym zeroth) own.1 (lawful_put 0 0 h x k.lawful)
             (ap (λ (l : List T). l ++ x ∷ []) k.left ∙ sym (drop_snoc (put_items h) (got_count h) x (omega arith))
             ∙ (λ i. drop (sym (gots_put h x) i) (sym (puts_put h x) i))),
         λ y e. let same : x ≡ y = cc (e) in (
-          (k.each port v at).1.0,
           h,
           moment items views port v k at,
-          ap (λ (z : T). handle_view v.me v.made (h ++ Put z ∷ [])) same,
+          ap (λ (z : T). view_after v (h ++ Put z ∷ [])) same,
         ),
       )
 
-  takes_one : (port : ℕ) (v : HandleView T) (xs items : List T) (views : List (HandleView T))
+  takes_one : (port : ℕ) (v : HandleView T) (xs items : List T) (views : List (HandleView T)) → 0 < length v.ends
       → 0 < length xs → length xs < 2
       → BenchKept (xs ++ items) views → get_elem? views port ≡ some v → (w : HandleView T)
       × BenchKept items (set views port w)
       × GetsAll v xs w
-  takes_one port v [] items views some_one one k at = absurd (omega arith)
-  takes_one port v (x ∷ []) items views some_one one k at =
+  takes_one port v [] items views live some_one one k at = absurd (omega arith)
+  takes_one port v (x ∷ []) items views live some_one one k at =
       let h : List (Event T) = k.history in let d = dropped (put_items h) (got_count h) x items (sym k.left) in
-      let f = k.each port v at in (
-        handle_view v.me v.made (h ++ Got port ∷ []),
-        grown (x ∷ items) items views port v (Got port) k at refl
+      let own = own_number k.home port h v.made v.ends live (k.each port v at) in (
+        view_after v (h ++ Got port ∷ []),
+        grown (x ∷ items) items views port v (Got port) k at refl own.1
             (lawful_got 0 0 h port k.lawful (let lt = d.2 in omega arith))
             (sym d.1 ∙ (λ i. drop ((sym (gots_got h port ∙ add-one (got_count h))) i) (sym (puts_got h port) i))),
         λ y e. let same : x ≡ y = cc (e) in (
-          f.1.0,
           h,
           moment (x ∷ items) views port v k at,
           d.0 ∙ ap (λ (z : T). Some z) same,
-          ap (λ j. handle_view v.me v.made (h ++ Got j ∷ [])) (sym f.0),
+          ap (λ j. view_after v (h ++ Got j ∷ [])) (sym own.0),
         ),
       )
-  takes_one port v (x ∷ y ∷ xs) items views some_one one k at = absurd (omega arith)
+  takes_one port v (x ∷ y ∷ xs) items views live some_one one k at = absurd (omega arith)
 
-  pub takes : (port : ℕ) (v : HandleView T) → Takes BenchKept port v 1 (GetsAll v)
-  takes port v xs items views some_one one k at = takes_one port v xs items views some_one one k at
+  pub takes : (port : ℕ) (v : HandleView T) → 0 < length v.ends → Takes BenchKept port v 1 (GetsAll v)
+  takes port v live xs items views some_one one k at = takes_one port v xs items views live some_one one k at
 
   all_got : (port : ℕ) (v : HandleView T) (items : List T) (views : List (HandleView T)) → length items ≡ 0
       → BenchKept items views
@@ -197,7 +236,7 @@ module _ {T : Type 0} where
       let h : List (Event T) = k.history in let le = lawful_le 0 0 h (omega arith) k.lawful in
       let e : length items ≡ length (put_items h) - got_count h = ap (λ (l : List T). length l) k.left
       ∙ length-drop (got_count h) (put_items h) in
-      ((k.each port v at).1.0, h, moment items views port v k at, omega arith)
+      (h, moment items views port v k at, omega arith)
 
   pub finds : (port : ℕ) (v : HandleView T) → Finds BenchKept port v (AllGot v)
   finds port v views k at = all_got port v [] views refl k at
@@ -206,69 +245,109 @@ module _ {T : Type 0} where
       → FindsFew BenchKept (min flavor 1) port v (AllGot v)
   finds_few flavor port v fifo items views few k at = all_got port v items views (omega arith) k at
 
-  pub forks : (port : ℕ) (v : HandleView T) → port ≡ 0 → Forks BenchKept port v (owner_with_thief v) (new_thief_view v)
-  forks port v zeroth items views k at =
+  pub learns : (port : ℕ) (v : HandleView T) → Learns BenchKept port v (Leaves v)
+  learns port v items views k at = (k.history, moment items views port v k at, k.left)
+
+  -- ---- a new thief
+
+  pub forks : (port : ℕ) (v : HandleView T) → 0 < v.made
+      → Forks BenchKept port v (owner_with_thief v) (new_thief_view v)
+  forks port v owns items views k at =
       let l : HandleView T = owner_with_thief v in let r : HandleView T = new_thief_view v in
       let vs : List (HandleView T) = set views port l in
       let h : List (Event T) = k.history in
       let long : length vs ≡ length views = length-set views port l in
       let more : length (vs ++ r ∷ []) ≡ length views + 1 = (length-append vs (r ∷ [])) ∙ omega arith in
-      let mine = k.each port v at in let made : v.made ≡ length views =
-      k.all_made v (subst (λ j. get_elem? views j ≡ some v) zeroth at) in record {
+      let mine = k.each port v at in let m = k.all_made port v at owns in
+      let made : v.made ≡ length views = m.1 in record {
         history = h;
+        home = k.home;
         lawful = k.lawful;
         left = k.left;
         ports = subst (λ n. AllByHandlesBelow n h) (sym more)
             (below_more (length views) (length views + 1) h (omega arith) k.ports);
+        fresh = λ i le. k.fresh i (omega arith);
         each = λ j u there. ⊎_elim
             (λ (x : get_elem? vs j ≡ some u). ⊎_elim
-            (λ (y : (j ≡ port) × (l ≡ u)). subst (λ (z : ℕ × HandleView T). Fits h z.0 z.1)
-            (λ i. (sym y.0 i, y.1 i)) mine)
+            (λ (y : (j ≡ port) × (l ≡ u)). subst (λ (z : ℕ × HandleView T). Sits h k.home z.0 z.1)
+            (λ i. (sym y.0 i, y.1 i)) (record { fits = mine.fits; at = mine.at; own = mine.own }))
             (λ (y : (j ≢ port) × (get_elem? views j ≡ some u)). k.each j u y.1) (at_set views port j l u x))
-            (λ (x : (j ≡ length vs) × (r ≡ u)). subst (λ (z : ℕ × HandleView T). Fits h z.0 z.1)
-            (λ i. (sym x.0 i, x.1 i)) (
-              made ∙ sym long,
-              (
-                mine.1.0,
-                mine.1.1,
-                all_part (λ (y : Event T). handle_of y ≢ length vs) v.events mine.1.0 h mine.1.1
-                    (subst (λ n. NotBy n h) (sym long) (below_notby (length views) h k.ports)),
-              ),
-            ))
+            (λ (x : (j ≡ length vs) × (r ≡ u)). subst (λ (z : ℕ × HandleView T). Sits h k.home z.0 z.1)
+            (λ i. (sym x.0 i, x.1 i)) (record {
+              fits = (
+                (h, refl, below_notby v.made h (subst (λ n. AllByHandlesBelow n h) (sym made) k.ports)),
+                tt,
+              );
+              at = (k.fresh v.made (omega arith) ∙ made ∙ sym long, tt);
+              own = (made ∙ sym long, All-nil (λ (o : End T). o.number ≢ length vs));
+            }))
             (at_end vs r u j there);
-        all_made = λ u there. ⊎_elim
-            (λ (x : get_elem? vs 0 ≡ some u). ⊎_elim
-            (λ (y : (0 ≡ port) × (l ≡ u)). ap (λ (z : HandleView T). z.made) (sym y.1)
-            ∙ ap (λ n. n + 1) made ∙ sym more)
-            (λ (y : (0 ≢ port) × (get_elem? views 0 ≡ some u)). absurd (y.0 (sym zeroth))) (at_set views port 0 l u x))
-            (λ (x : (0 ≡ length vs) × (r ≡ u)). absurd (let lt = at_below views port v at in
-            let e = x.0 in omega arith))
-            (at_end vs r u 0 there);
+        all_made = λ j u there some_made. ⊎_elim
+            (λ (x : get_elem? vs j ≡ some u). ⊎_elim
+            (λ (y : (j ≡ port) × (l ≡ u)). let is : u.made ≡ v.made + 1 = ap (λ (z : HandleView T). z.made) (sym y.1) in
+            (y.0 ∙ m.0, omega arith))
+            (λ (y : (j ≢ port) × (get_elem? views j ≡ some u)). let old = k.all_made j u y.1 some_made in
+            absurd (y.0 (old.0 ∙ sym m.0))) (at_set views port j l u x))
+            (λ (x : (j ≡ length vs) × (r ≡ u)).
+            let none : u.made ≡ 0 = ap (λ (z : HandleView T). z.made) (sym x.1) in absurd (omega arith))
+            (at_end vs r u j there);
       }
 
-  -- ---- without thieves nothing is unknown to the owner
+  -- ---- what the bodies need
 
-  no_others : (es : List (Event T)) → NotBy 0 es → AllByHandlesBelow 1 es → es ≡ []
-  no_others [] n b = refl
-  no_others (e ∷ es) n b = let other : handle_of e ≢ 0 = n 0 e (omega arith) in
-      let lt : handle_of e < 1 = b 0 e (omega arith) in absurd (other (omega arith))
+  opened_at : (port : ℕ) (v : HandleView T) → get_elem? (new_view 0 1 ∷ []) port ≡ some v → Sits [] (λ i. i) port v
+  opened_at zero v at = subst (λ (u : HandleView T). Sits [] (λ i. i) 0 u) (some-injective (new_view 0 1) v at) (record {
+    fits = (([], refl, All-nil (λ (y : Event T). handle_of y ≢ 0)), tt);
+    at = (refl, tt);
+    own = (refl, All-nil (λ (o : End T). o.number ≢ 0));
+  })
+  opened_at (suc port) v at = absurd (some-ne-none v (sym at))
 
-  known_whole : (v : HandleView T) (between h : List (Event T)) → HasNoThief v → HasHistory v between h → h ≡ v.events
-  known_whole v between h one at =
-      let below : AllByHandlesBelow 1 between = subst (λ n. AllByHandlesBelow n between) one.1 (at.0.1 one.0) in
-      let none : between ≡ [] = no_others between (subst (λ i. NotBy i between) one.0 at.0.0) below in
-      at.1 ∙ ap (λ (es : List (Event T)). v.events ++ es) none ∙ append-nil v.events
+  opened_made : (port : ℕ) (v : HandleView T) → get_elem? (new_view 0 1 ∷ []) port ≡ some v
+      → (port ≡ 0) × (v.made ≡ 1)
+  opened_made zero v at = (refl, ap (λ (u : HandleView T). u.made) (sym (some-injective (new_view 0 1) v at)))
+  opened_made (suc port) v at = absurd (some-ne-none v (sym at))
 
-  none_left : (v : HandleView T) → HasNoThief v → AllGot v → first_left v.events ≡ None
-  none_left v one g =
-      let all : got_count g.1 ≡ length (put_items g.1) = g.3 in
-      ap first_left (sym (known_whole v g.0 g.1 one g.2)) ∙ slice_get_past (put_items g.1) (got_count g.1) (omega arith)
+  pub opened : BenchKept {T = T} [] (new_view 0 1 ∷ [])
+  opened = record {
+    history = [];
+    home = λ i. i;
+    lawful = tt;
+    left = refl;
+    ports = All-nil (λ (e : Event T). handle_of e < 1);
+    fresh = λ i le. refl;
+    each = λ port v at. opened_at port v at;
+    all_made = λ port v at some_made. opened_made port v at;
+  }
 
-  first_got : (v w : HandleView T) (x : T) → HasNoThief v → GetsFirst v x w → first_left v.events ≡ Some x
-  first_got v w x one g = ap first_left (sym (known_whole v g.0 g.1 one g.2)) ∙ g.3
+  with_own_long : (es : List (End T)) (h : List (Event T)) → length (with_own es h) ≡ length es
+  with_own_long [] h = refl
+  with_own_long (e ∷ es) h = refl
 
-  -- what a take finds on a bench without thieves
-  pub first_taken : (v w : HandleView T) (found : Option T) → HasNoThief v
-      → MatchOption found ((w ≡ v) × AllGot v) (λ x. GetsAll v (x ∷ []) w) → found ≡ first_left v.events
-  first_taken v w None one h = sym (none_left v one h.1)
-  first_taken v w (Some x) one h = sym (first_got v w x one (h x refl))
+  long_moved : (v w : HandleView T) (h : List (Event T)) → w ≡ view_after v h → length w.ends ≡ length v.ends
+  long_moved v w h is = ap (λ (u : HandleView T). length u.ends) is ∙ with_own_long v.ends h
+
+  pub live_gets : (v w : HandleView T) (x : T) → 0 < length v.ends → GetsAll v (x ∷ []) w → 0 < length w.ends
+  live_gets v w x live g = let s = g x refl in let e = long_moved v w _ s.3 in omega arith
+
+  pub live_puts : (v w : HandleView T) (x : T) → 0 < length v.ends → PutsAll v (x ∷ []) w → 0 < length w.ends
+  live_puts v w x live g = let s = g x refl in let e = long_moved v w _ s.2 in omega arith
+
+  pub live_same : (v w : HandleView T) → 0 < length v.ends → w ≡ v → 0 < length w.ends
+  live_same v w live is = subst (λ (u : HandleView T). 0 < length u.ends) (sym is) live
+
+  pub live_put : (v w : HandleView T) (x : T) (X A B C : Type 0) (done : Result X T) → 0 < length v.ends
+      → MatchResult done (λ _. PutsAll v (x ∷ []) w × A) (λ y. (y ≡ x) × (w ≡ v) × B × C) → 0 < length w.ends
+  live_put v w x X A B C (Ok _) live h = live_puts v w x live h.0
+  live_put v w x X A B C (Err y) live h = live_same v w live h.1
+
+  pub live_taken : (v w : HandleView T) (found : Option T) → 0 < length v.ends
+      → MatchOption found ((w ≡ v) × AllGot v) (λ x. GetsAll v (x ∷ []) w) → 0 < length w.ends
+  live_taken v w None live h = live_same v w live h.0
+  live_taken v w (Some x) live h = live_gets v w x live h
+
+  pub live_stolen : (v w : HandleView T) (P : Type 0) (found : Steal T) → 0 < length v.ends
+      → MatchSteal found ((w ≡ v) × AllGot v) ((w ≡ v) × P) (λ x. GetsAll v (x ∷ []) w) → 0 < length w.ends
+  live_stolen v w P Empty live h = live_same v w live h.0
+  live_stolen v w P Retry live h = live_same v w live h.0
+  live_stolen v w P (Success x) live h = live_gets v w x live h

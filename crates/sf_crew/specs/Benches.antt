@@ -4,7 +4,7 @@ use Rattle.crossbeam_deque.specs.Handles.{view, worker_view, worker_deque, steal
 use Rattle.sf_crew.specs.declared.benches.handles.Owner.{Owner}
 use Rattle.sf_crew.specs.declared.benches.handles.Thief.{Thief}
 use Rattle.sf_crew.specs.declared.benches.history.HandleView.{HandleView}
-use Rattle.sf_crew.specs.History.{handle_view}
+use Rattle.sf_crew.specs.History.{new_view}
 
 module _ {T : Type 0} where
   -- what the owner knows of the bench
@@ -30,4 +30,4 @@ module _ {T : Type 0} where
   -- new thieves, which know of no step yet, and whose numbers are n, n + 1 and so on
   abbrev pub AreThieves : ℕ → List (Thief T) → Type 0
   AreThieves n [] = Unit {0}
-  AreThieves n (t ∷ ts) = (thief_view t ≡ handle_view n 0 []) × AreThieves (n + 1) ts
+  AreThieves n (t ∷ ts) = (thief_view t ≡ new_view n 0) × AreThieves (n + 1) ts

@@ -1,27 +1,38 @@
 -- The history of a bench: one list of the items that were put, of which each handle has got some, each item at most
 -- once and first in, first out. An item is a lease, or a lease of which more is known.
-use Rattle.std.specs.Prelude.{◌≡◌, ◌≢◌, ℕ, ◌+◌, ◌<◌, List, [], ◌∷◌, ◌++◌, All, length, Option, Some, slice_get}
+use Rattle.std.specs.Prelude.{◌≡◌, ◌≢◌, ℕ, ◌+◌, ◌<◌, List, [], ◌∷◌, ◌++◌, All, Any, length, drop, Option, Some, slice_get}
 use Rattle.sf_crew.specs.declared.benches.history.Event.{Event}
 use Rattle.sf_crew.specs.declared.benches.history.Event.TheVariants.{Put, Got}
+use Rattle.sf_crew.specs.declared.benches.history.End.{End}
 use Rattle.sf_crew.specs.declared.benches.history.HandleView.{HandleView}
 
 module _ {T : Type 0} where
-  -- what the handle of number i knows after the history h, where there are n handles
-  abbrev pub handle_view : ℕ → ℕ → List (Event T) → HandleView T
-  handle_view i n h = record { me = i; made = n; events = h }
+  -- the handle of number i, which has made no step after the history h
+  abbrev pub end_of : ℕ → List (Event T) → End T
+  end_of i h = record { number = i; events = h }
+
+  -- what a handle knows by these ends, where there are n handles; of a thief n is 0
+  abbrev pub handle_view : ℕ → List (End T) → HandleView T
+  handle_view n es = record { made = n; ends = es }
+
+  -- what a handle of number i knows that has made no step
+  abbrev pub new_view : ℕ → ℕ → HandleView T
+  new_view i n = handle_view n (end_of i [] ∷ [])
+
+  -- the handle's own number
+  abbrev pub number_of : List (End T) → ℕ
+  number_of [] = 0
+  number_of (e ∷ es) = e.number
+
+  -- the history that the handle itself knows
+  abbrev pub history_of : List (End T) → List (Event T)
+  history_of [] = []
+  history_of (e ∷ es) = e.events
 
   -- the handle that made the step; only the owner puts, and it has the number 0
   abbrev pub handle_of : Event T → ℕ
   handle_of (Put x) = 0
   handle_of (Got i) = i
-
-  -- Steps of other handles. The owner has made all handles, so it knows which there are; a thief doesn't.
-  abbrev pub OfOthers : HandleView T → List (Event T) → Type 0
-  OfOthers v es = All (λ e. handle_of e ≢ v.me) es × (v.me ≡ 0 → All (λ e. handle_of e < v.made) es)
-
-  -- the owner of a bench without thieves
-  abbrev pub HasNoThief : HandleView T → Type 0
-  HasNoThief v = (v.me ≡ 0) × (v.made ≡ 1)
 
   -- the list of the items that were put
   abbrev pub put_items : List (Event T) → List T
@@ -35,7 +46,11 @@ module _ {T : Type 0} where
   got_count (Put x ∷ es) = got_count es
   got_count (Got i ∷ es) = 1 + got_count es
 
-  -- the first item that was put and that no handle has got, if there is one
+  -- the items that were put and that no handle has got
+  abbrev pub left_items : List (Event T) → List T
+  left_items h = drop (got_count h) (put_items h)
+
+  -- the first of them, if there is one
   abbrev pub first_left : List (Event T) → Option T
   first_left h = slice_get (put_items h) (got_count h)
 
@@ -49,23 +64,58 @@ module _ {T : Type 0} where
   abbrev pub IsLawfulHistory : List (Event T) → Type 0
   IsLawfulHistory h = IsLawfulFrom 0 0 h
 
-  -- at some moment the history was h: what the handle knew, and then only steps of other handles
-  abbrev pub HasHistory : HandleView T → List (Event T) → List (Event T) → Type 0
-  HasHistory v between h = OfOthers v between × (h ≡ v.events ++ between) × IsLawfulHistory h
+  -- the end is a beginning of the history, and its handle has made no step after that
+  abbrev pub FitsEnd : List (Event T) → End T → Type 0
+  FitsEnd h e = (rest : List (Event T)) × (h ≡ e.events ++ rest) × All (λ s. handle_of s ≢ e.number) rest
+
+  -- so is each of these ends
+  abbrev pub FitEnds : List (Event T) → List (End T) → Type 0
+  FitEnds h [] = Unit {0}
+  FitEnds h (e ∷ es) = FitsEnd h e × FitEnds h es
+
+  -- By all that the handle knows, the history may be h at some moment: h is lawful, and fits the handle's own end and
+  -- the ends that were joined into it. The owner has made all handles, so it knows which there are; a thief doesn't.
+  pub record HasHistory (v : HandleView T) (h : List (Event T)) : Type 0 where
+    pub lawful : IsLawfulHistory h
+    pub ends : FitEnds h v.ends
+    pub made : 0 < v.made → All (λ s. handle_of s < v.made) h
+
+  -- the handle itself has seen this history
+  abbrev pub with_own : List (End T) → List (Event T) → List (End T)
+  with_own [] h = []
+  with_own (e ∷ es) h = end_of e.number h ∷ es
+
+  -- what it knows after that
+  abbrev pub view_after : HandleView T → List (Event T) → HandleView T
+  view_after v h = handle_view v.made (with_own v.ends h)
 
   -- at some moment the handle put the item, behind all that were put before
   abbrev pub Puts : HandleView T → T → HandleView T → Type 0
-  Puts v x w = (between : List (Event T)) × (h : List (Event T)) × HasHistory v between h
-      × (w ≡ handle_view v.me v.made (h ++ Put x ∷ []))
+  Puts v x w = (h : List (Event T)) × HasHistory v h × (w ≡ view_after v (h ++ Put x ∷ []))
 
   -- at some moment the handle got the item: the first one that no handle had got
   abbrev pub GetsFirst : HandleView T → T → HandleView T → Type 0
-  GetsFirst v x w = (between : List (Event T)) × (h : List (Event T)) × HasHistory v between h × (first_left h ≡ Some x)
-      × (w ≡ handle_view v.me v.made (h ++ Got v.me ∷ []))
+  GetsFirst v x w = (h : List (Event T)) × HasHistory v h × (first_left h ≡ Some x)
+      × (w ≡ view_after v (h ++ Got (number_of v.ends) ∷ []))
 
-  -- At some moment each item that was put had been got. Of steps of other handles a handle knows only that the history
-  -- was lawful with them. So an owner with thieves, and any thief, learns here no more than that others may have got
-  -- what it didn't get itself. An owner without thieves learns that it got all.
+  -- At some moment each item that was put had been got. While other handles live, a handle knows of their steps only
+  -- that the history was lawful with them. So it learns here no more than that they may have got what it and those that
+  -- were joined into it didn't get. Where all handles are joined, it learns that these got all.
   abbrev pub AllGot : HandleView T → Type 0
-  AllGot v = (between : List (Event T)) × (h : List (Event T)) × HasHistory v between h
-      × (got_count h ≡ length (put_items h))
+  AllGot v = (h : List (Event T)) × HasHistory v h × (got_count h ≡ length (put_items h))
+
+  -- what the owner knows after it took in another handle
+  abbrev pub view_of_both : HandleView T → HandleView T → HandleView T
+  view_of_both v w = handle_view v.made (v.ends ++ w.ends)
+
+  -- all that both handles know are beginnings of one lawful history
+  abbrev pub HaveOneHistory : HandleView T → HandleView T → Type 0
+  HaveOneHistory v w = (h : List (Event T)) × HasHistory (view_of_both v w) h
+
+  -- all handles that were made are joined here
+  abbrev pub IsWhole : HandleView T → Type 0
+  IsWhole v = (0 < v.made) × ((i : ℕ) → i < v.made → Any (λ e. e.number ≡ i) v.ends)
+
+  -- it is the first item that is left, by each history that fits what is known
+  abbrev pub IsKnownFirst : HandleView T → Option T → Type 0
+  IsKnownFirst v found = (h : List (Event T)) → HasHistory v h → found ≡ first_left h

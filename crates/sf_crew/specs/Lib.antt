@@ -1,5 +1,6 @@
 pub mod Explorations
 pub mod History
+pub mod Gets
 pub mod Benches
 pub mod Workers
 pub mod BenchRule

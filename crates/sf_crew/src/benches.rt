@@ -4,17 +4,18 @@
 mod handles;
 mod history;
 
-ghost use Rattle.std.specs.Prelude.{◌≡◌, ℕ, ◌+◌, ◌<◌, [], All, IfOk, IfErr, MatchResult, MatchOption, vec_len};
+ghost use Rattle.std.specs.Prelude.{◌≡◌, ℕ, ◌+◌, ◌<◌, All, IfOk, IfErr, MatchResult, MatchOption, vec_len};
 ghost use Rattle.crossbeam_deque.specs.Steals.{MatchSteal};
-ghost use Rattle.sf_crew.specs.History.{Puts, GetsFirst, AllGot, HasNoThief, first_left, handle_view};
+ghost use Rattle.sf_crew.specs.History.{Puts, GetsFirst, AllGot, HaveOneHistory, IsWhole, IsKnownFirst, new_view, view_of_both};
+ghost use Rattle.sf_crew.specs.BenchRule.{owner_with_thief, new_thief_view};
 ghost use Rattle.sf_crew.specs.Benches.{owner_view, thief_view, AreThieves, IsOnBench, IsSameBench, IsSameThief};
 ghost use Rattle.sf_crew.specs.declared.fault.Fault.TheVariants.{Memory};
 
 use crate::fault::Fault;
 use crossbeam_deque::{Steal, Worker};
 pub use handles::{Owner, Thief};
-pub use history::{Event, HandleView};
-use history::{AddingThief, Getting, Putting};
+pub use history::{End, Event, HandleView};
+use history::{AddingThief, Getting, Joining, Putting, Recalling};
 use std::alloc::{AllocError, Global};
 
 /// How many items a new bench has room for. A bench makes more room where it needs it.
@@ -23,7 +24,7 @@ const ROOM: usize = 64;
 /// A new bench without items: its owner, and this many thieves, 0 to 63. `Memory` where an allocation is refused.
 pub fn bench<T: Drop>(alloc: Global, thieves: usize) -> Result<(Owner<T>, Vec<Thief<T>>), Fault>
     requires { thieves < 64 }
-    ensures owner { IfOk result (λ b. owner_view b.0 ≡ handle_view 0 (thieves + 1) []) }
+    ensures owner { IfOk result (λ b. owner_view b.0 ≡ new_view 0 (thieves + 1)) }
     ensures thieves { IfOk result (λ b. (vec_len b.1 ≡ thieves) × AreThieves 1 b.1.items) }
     ensures one { IfOk result (λ b. All (λ t. IsOnBench b.0 t) b.1.items) }
     ensures err { IfErr result (λ f. f ≡ Memory) }
@@ -35,7 +36,7 @@ pub fn bench<T: Drop>(alloc: Global, thieves: usize) -> Result<(Owner<T>, Vec<Th
 
 /// The owner of a new bench without thieves. `Memory` where an allocation is refused.
 fn open_bench<T: Drop>(alloc: Global) -> Result<Owner<T>, Fault>
-    ensures ok { IfOk result (λ owner. owner_view owner ≡ handle_view 0 1 []) }
+    ensures ok { IfOk result (λ owner. owner_view owner ≡ new_view 0 1) }
     ensures err { IfErr result (λ f. f ≡ Memory) }
 {
     Ok(Owner {
@@ -50,8 +51,8 @@ fn make_thieves<T: Drop>(
     owner: &mut Owner<T>,
     thieves: usize,
 ) -> Result<Vec<Thief<T>>, Fault>
-    requires { (owner_view owner.old ≡ handle_view 0 1 []) × (thieves < 64) }
-    ensures owner { IfOk result (λ _. owner_view owner.new ≡ handle_view 0 (thieves + 1) []) }
+    requires { (owner_view owner.old ≡ new_view 0 1) × (thieves < 64) }
+    ensures owner { IfOk result (λ _. owner_view owner.new ≡ new_view 0 (thieves + 1)) }
     ensures thieves { IfOk result (λ ts. (vec_len ts ≡ thieves) × AreThieves 1 ts.items) }
     ensures one { IfOk result (λ ts. All (λ t. IsOnBench owner.new t) ts.items) }
     ensures err { IfErr result (λ f. f ≡ Memory) }
@@ -65,15 +66,12 @@ fn make_thieves<T: Drop>(
 }
 
 impl<T> Owner<T> {
-    /// Makes one more thief. `AllocError` where an allocation is refused. The caller's condition: nothing was put on
-    /// the bench yet.
+    /// Makes one more thief. `AllocError` where an allocation is refused.
     fn add_thief(&mut self) -> Result<Thief<T>, AllocError>
-        requires { (owner_view self.old).events ≡ [] }
-        ensures owner { IfOk result (λ _. owner_view self.new ≡ handle_view
-            (owner_view self.old).me
-            ((owner_view self.old).made + 1) []) }
-        ensures thief { IfOk result (λ t. thief_view t ≡ handle_view
-            (owner_view self.old).made 0 []) }
+        requires { 0 < (owner_view self.old).made }
+        ensures owner { IfOk result (λ _. owner_view self.new
+            ≡ owner_with_thief (owner_view self.old)) }
+        ensures thief { IfOk result (λ t. thief_view t ≡ new_thief_view (owner_view self.old)) }
         ensures one { IfOk result (λ t. IsOnBench self.new t × IsSameBench self.old self.new) }
     {
         let stealer = self.worker.stealer()?;
@@ -93,18 +91,36 @@ impl<T> Owner<T> {
     }
 
     /// Takes the first item that no handle has got, at one moment of the call. `None` where each item that was put had
-    /// been got, by the owner or by a thief of the bench. The owner doesn't know what thieves got. So where there are
-    /// thieves, the contract says only that some gets of theirs lead to this result. Where there are none, it says
-    /// exactly what is got.
+    /// been got, by the owner or by a thief of the bench. The owner doesn't know what live thieves got. So while there
+    /// are some, the contract says only that some gets of theirs lead to this result. Where all thieves are joined, or
+    /// there never was one, it says exactly what is got.
     pub fn take(&mut self) -> Option<T>
         ensures got { MatchOption result ((owner_view self.new ≡ owner_view self.old)
             × AllGot (owner_view self.old))
             (λ l. GetsFirst (owner_view self.old) l (owner_view self.new)) }
-        ensures alone { HasNoThief (owner_view self.old) → result
-            ≡ first_left (owner_view self.old).events }
+        ensures whole { IsWhole (owner_view self.old) → IsKnownFirst (owner_view self.old) result }
         ensures same { IsSameBench self.old self.new }
     {
         self.worker.pop_as::<Getting>()
+    }
+}
+
+impl<T: Drop> Owner<T> {
+    /// Joins a thief of this bench into the owner, which then knows all that the thief knew. So what the two did was
+    /// done in one lawful history. The caller's condition: the thief is on this bench.
+    pub fn join(&mut self, thief: Thief<T>)
+        requires { IsOnBench self.old thief }
+        ensures both { owner_view self.new ≡ view_of_both (owner_view self.old) (thief_view thief) }
+        ensures one { HaveOneHistory (owner_view self.old) (thief_view thief) }
+        ensures same { IsSameBench self.old self.new }
+    {
+        let Thief {
+            stealer: _stealer,
+            pass,
+        } = thief;
+        self.worker.absorb::<Joining>(pass);
+        // For the prover: by the rule of the bench there is one history.
+        self.worker.len_as::<Recalling>();
     }
 }
 

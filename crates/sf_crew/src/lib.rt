@@ -6,10 +6,11 @@ mod benches;
 mod board;
 mod fault;
 mod gate;
+pub mod laws;
 mod sweeping;
 mod workers;
 
-pub use benches::{Event, HandleView, Owner, Thief, bench};
+pub use benches::{End, Event, HandleView, Owner, Thief, bench};
 pub use board::{Board, BoardKey, EnteredSheet, Note, Seat, Tally, View};
 pub use fault::Fault;
 pub use gate::{Gate, Open};

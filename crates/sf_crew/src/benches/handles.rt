@@ -1,8 +1,8 @@
 //! The two kinds of handle of a bench.
-ghost use Rattle.std.specs.Prelude.{◌≡◌};
+ghost use Rattle.std.specs.Prelude.{◌≡◌, ◌<◌, length};
 ghost use Rattle.std.specs.Coded.{Coded-set};
 ghost use Rattle.std.proofs.Props.{props};
-ghost use Rattle.crossbeam_deque.specs.Handles.{IsPassOf, stealer_deque, stealer_flavor, worker_flavor, worker_port};
+ghost use Rattle.crossbeam_deque.specs.Handles.{IsPassOf, stealer_deque, stealer_flavor, worker_flavor, worker_port, worker_view, view};
 
 use crate::benches::history::{HandleView, InOrder};
 use crossbeam_deque::{Pass, Stealer, Worker};
@@ -16,6 +16,7 @@ pub struct Owner<T = Lease> {
     pub(crate) worker: Worker<T, Global, HandleView<T>, InOrder>,
     ghost fifo: { worker_flavor worker ≡ 0 },
     ghost port: { worker_port worker ≡ 0 },
+    ghost live: { 0 < length (worker_view worker).ends },
 }
 
 /// A thief of a bench: a handle for another thread, which only gets items.
@@ -24,6 +25,7 @@ pub struct Thief<T = Lease> {
     pub(crate) stealer: Stealer<T, Global, HandleView<T>, InOrder>,
     pub(crate) pass: Pass<T, HandleView<T>, Global>,
     ghost fifo: { stealer_flavor stealer ≡ 0 },
+    ghost live: { 0 < length (view pass).ends },
     ghost seated: { IsPassOf (stealer_deque stealer)
         pass } by { Prim.hlevel (props, Coded-set T.code) },
 }

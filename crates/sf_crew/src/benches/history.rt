@@ -1,5 +1,5 @@
 //! What the handles of a bench know of it, for proofs only.
-use crossbeam_deque::protocol::{Outcome, Protocol, Split};
+use crossbeam_deque::protocol::{Join, Lesson, Outcome, Protocol, Split};
 use sf_book::Lease;
 use std::collections::LinkedList;
 
@@ -11,30 +11,35 @@ pub enum Event<T = Lease> {
     Got(usize),
 }
 
-/// What a handle knows: its number, how many handles there are (only the owner knows that), and the history up to its
-/// last step. For proofs only: no value of it is made.
-pub struct HandleView<T = Lease> {
+/// A handle's number, and the history up to its last step.
+pub struct End<T = Lease> {
     /// The handle's number; the owner has 0.
-    pub me: usize,
-    /// How many handles the owner has made, itself included; 0 for a thief.
-    pub made: usize,
+    pub number: usize,
     /// The history up to the handle's last step, oldest first.
     pub events: LinkedList<Event<T>>,
+}
+
+/// What a handle knows: how many handles there are (only the owner knows that), its own end, and the ends of the thieves
+/// that were joined into it. For proofs only: no value of it is made.
+pub struct HandleView<T = Lease> {
+    /// How many handles the owner has made, itself included; 0 for a thief.
+    pub made: usize,
+    /// The handle's own end, and then those that were joined into it.
+    pub ends: LinkedList<End<T>>,
 }
 
 /// The rule of a bench: it holds the items that were put and not yet got, in the order of putting.
 pub(crate) struct InOrder;
 
 impl<T> Protocol<T, HandleView<T>> for InOrder {
-    ghost use Rattle.std.specs.Prelude.{[]};
     ghost use Rattle.sf_crew.specs.BenchRule.{BenchKept};
-    ghost use Rattle.sf_crew.specs.History.{handle_view};
+    ghost use Rattle.sf_crew.specs.History.{new_view};
 
     ghost holds = { BenchKept };
 
-    ghost first = { handle_view 0 1 [] };
+    ghost first = { new_view 0 1 };
 
-    ghost guest = { handle_view 0 1 [] };
+    ghost guest = { new_view 0 1 };
 }
 
 /// The step of the owner that puts an item.
@@ -67,4 +72,25 @@ impl<T> Split<HandleView<T>> for AddingThief {
     ghost left = { owner_with_thief };
 
     ghost right = { new_thief_view };
+}
+
+/// The step of the owner that takes in a thief.
+pub(crate) struct Joining;
+
+impl<T> Join<HandleView<T>> for Joining {
+    ghost use Rattle.sf_crew.specs.History.{view_of_both};
+    ghost use Rattle.sf_crew.specs.BenchRule.{spent_view};
+
+    ghost both = { view_of_both };
+
+    ghost spent = { spent_view };
+}
+
+/// What the owner learns from a look at the bench: some lawful history fits all that it knows.
+pub(crate) struct Recalling;
+
+impl<T> Lesson<T, HandleView<T>> for Recalling {
+    ghost use Rattle.sf_crew.specs.BenchRule.{Leaves};
+
+    ghost fact = { Leaves };
 }

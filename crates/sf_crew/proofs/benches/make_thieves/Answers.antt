@@ -1,7 +1,7 @@
-use Rattle.std.proofs.Common.{◌≡◌, ◌+◌, List, [], All, length, length-append, sym, ap, ◌∙◌, subst, arith}
+use Rattle.std.proofs.Common.{◌≡◌, ◌+◌, List, All, length, length-append, sym, ap, ◌∙◌, subst, arith}
 use Rattle.sf_crew.specs.declared.benches.history.HandleView.{HandleView}
 use Rattle.sf_crew.specs.declared.benches.handles.Thief.{Thief}
-use Rattle.sf_crew.specs.History.{handle_view}
+use Rattle.sf_crew.specs.History.{new_view}
 use Rattle.sf_crew.specs.Benches.{IsOnBench, thief_view}
 use Rattle.sf_crew.proofs.NewThieves.{one_thief_more, one_more_on}
 use Rattle.sf_crew.proofs.benches.make_thieves.Goals as goal
@@ -9,8 +9,8 @@ use Rattle.sf_crew.proofs.benches.make_thieves.Goals as goal
 pub loop-given-preserved : goal.loop-given-preserved
 loop-given-preserved g c =
     let i = c.loop-given.invariant in
-    let seen : thief_view c.in_ok-thief.thief ≡ handle_view (c.loop-given.given + 1) 0 [] =
-    c.in_ok-thief.ensures.thief ∙ ap (λ (e : HandleView g.row.T.Denot). handle_view e.made 0 []) i.owner in
+    let seen : thief_view c.in_ok-thief.thief ≡ new_view (c.loop-given.given + 1) 0 =
+    c.in_ok-thief.ensures.thief ∙ ap (λ (e : HandleView g.row.T.Denot). new_view e.made 0) i.owner in
     let long : length c.loop-given.new_thieves.items ≡ c.loop-given.given = i.long in
     record {
       owner = search arith;

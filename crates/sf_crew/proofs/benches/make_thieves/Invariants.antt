@@ -1,11 +1,11 @@
-use Rattle.std.proofs.Common.{◌≡◌, ◌+◌, [], All, length, vec_len}
-use Rattle.sf_crew.specs.History.{handle_view}
+use Rattle.std.proofs.Common.{◌≡◌, ◌+◌, All, length, vec_len}
+use Rattle.sf_crew.specs.History.{new_view}
 use Rattle.sf_crew.specs.Benches.{owner_view, AreThieves, IsOnBench}
 use Rattle.sf_crew.proofs.benches.make_thieves.Given as goal
 
 abbrev pub invariant-loop-given : goal.invariant-loop-given
 invariant-loop-given g l = record {
-  owner : owner_view l.owner ≡ handle_view 0 (l.given + 1) [];
+  owner : owner_view l.owner ≡ new_view 0 (l.given + 1);
   count : vec_len l.new_thieves ≡ l.given;
   long : length l.new_thieves.items ≡ l.given;
   thieves : AreThieves 1 l.new_thieves.items;

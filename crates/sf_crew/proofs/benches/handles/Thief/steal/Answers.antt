@@ -1,8 +1,11 @@
-use Rattle.sf_crew.proofs.Histories.{takes, finds_few}
+use Rattle.sf_crew.proofs.Histories.{takes, finds_few, live_stolen}
 use Rattle.sf_crew.proofs.benches.handles.Thief.steal.Goals as goal
 
 pub steal_as-requires-clause-takes : goal.steal_as-requires-clause-takes
-steal_as-requires-clause-takes g c = takes _ _
+steal_as-requires-clause-takes g c = takes _ _ c.args.self.now.live
 
 pub steal_as-requires-clause-empty : goal.steal_as-requires-clause-empty
 steal_as-requires-clause-empty g c = finds_few _ _ _ c.args.self.now.fifo
+
+pub invariant_of-self-clause-live : goal.invariant_of-self-clause-live
+invariant_of-self-clause-live g c = live_stolen _ _ _ _ c.args.self.now.live c.steal_as.ensures.rule

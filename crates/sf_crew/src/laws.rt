@@ -1,0 +1,20 @@
+//! Laws of benches, for the reader.
+
+ghost use Rattle.std.specs.Prelude.{List};
+ghost use Rattle.sf_crew.specs.declared.benches.history.Event.{Event};
+ghost use Rattle.sf_crew.specs.declared.benches.history.HandleView.{HandleView};
+ghost use Rattle.sf_crew.specs.History.{HasHistory, IsWhole};
+ghost use Rattle.sf_crew.specs.Gets.{IsSharedOut, IsAllKnown};
+
+/// For the prover: handles of one bench, joined or not, share out what was put. No place of the list of what was put
+/// goes to two of them, what all got together is a beginning of this list, and each item that was got was the first
+/// that no handle had.
+pub fn handles_share_what_was_put<T>()
+    ensures { (v : HandleView T) (h : List (Event T)) → HasHistory v h → IsSharedOut v h }
+{}
+
+/// For the prover: where all handles of a bench are joined, what they know fits just one history, and each item that was
+/// got went to one of them. If nothing is left to take then, each item that was put was got.
+pub fn joined_handles_know_all<T>()
+    ensures { (v : HandleView T) (h : List (Event T)) → IsWhole v → HasHistory v h → IsAllKnown v h }
+{}
