@@ -8,7 +8,7 @@ use Rattle.sf_crew.specs.declared.benches.history.HandleView.{HandleView}
 use Rattle.sf_crew.specs.History.{handle_of, put_items, got_count, first_left, IsLawfulFrom, IsLawfulHistory, FitsEnd, FitEnds, HasHistory, IsWhole, IsKnownFirst}
 use Rattle.sf_crew.specs.Gets.{getter, IsSharedOut, IsAllKnown}
 use Rattle.sf_crew.proofs.Histories.{NotBy, AllByHandlesBelow, lawful_le}
-use Rattle.sf_crew.proofs.WholeBenches.{fits_at, pinned}
+use Rattle.sf_crew.proofs.WholeBenches.{fits_at, joined_end, pinned}
 
 module _ {T : Type 0} where
   -- a place below the number of gets has a getter
@@ -140,7 +140,7 @@ module _ {T : Type 0} where
   one_got v h whole has k lt =
       let got = getter_below h k lt in
       let made : got.0 < v.made = getter_made h k got.0 v.made (has.made whole.0) got.1 in
-      let j = whole.1 got.0 made in (
+      let j = joined_end v.ends got.0 (whole.1 got.0 made) in (
         j.0,
         j.1,
         j.2,

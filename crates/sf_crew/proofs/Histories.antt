@@ -2,6 +2,7 @@
 use Rattle.std.proofs.Common.{◌≡◌, ◌≢◌, ℕ, zero, suc, ◌+◌, ◌-◌, ◌<◌, ◌≤◌, ◌⊎◌, min, List, [], ◌∷◌, ◌++◌, All, get_or, length, drop, set, slice_get, Option, Some, None, MatchOption, Result, Ok, Err, MatchResult, sym, refl, ap, ◌∙◌, subst, inl, inr, ⊎_elim, append_assoc, append-nil, length-append, length-drop, length-set, add-one, arith}
 use mathlib.Core.Option.{some, some-injective, some-ne-none}
 use lib.ListN.{get_elem?}
+use Rattle.std.proofs.lemmas.List.{length-map}
 use Rattle.std.proofs.lemmas.List.Elements.{All-nil, All-push}
 use Rattle.atomic_table.proofs.Lists.{at_set}
 use Rattle.crossbeam_deque.specs.Tasks.{Pushes, Takes, Finds, FindsFew, Forks, Learns}
@@ -12,7 +13,7 @@ use Rattle.sf_crew.specs.declared.benches.history.Event.{Event}
 use Rattle.sf_crew.specs.declared.benches.history.Event.TheVariants.{Put, Got}
 use Rattle.sf_crew.specs.declared.benches.history.End.{End}
 use Rattle.sf_crew.specs.declared.benches.history.HandleView.{HandleView}
-use Rattle.sf_crew.specs.History.{end_of, handle_view, new_view, handle_of, put_items, got_count, first_left, IsLawfulFrom, IsLawfulHistory, FitsEnd, FitEnds, HasHistory, number_of, with_own, view_after, AllGot}
+use Rattle.sf_crew.specs.History.{end_of, handle_view, new_view, handle_of, put_items, got_count, first_left, IsLawfulFrom, IsLawfulHistory, FitsEnd, FitEnds, HasHistory, number_of, with_own, view_after, AllGot, numbers_of, KeepsHandles}
 use Rattle.sf_crew.specs.BenchRule.{AreAt, IsOwnFirst, Sits, BenchKept, PutsAll, GetsAll, Leaves, owner_with_thief, new_thief_view}
 
 module _ {T : Type 0} where
@@ -320,34 +321,47 @@ module _ {T : Type 0} where
     all_made = λ port v at some_made. opened_made port v at;
   }
 
-  with_own_long : (es : List (End T)) (h : List (Event T)) → length (with_own es h) ≡ length es
-  with_own_long [] h = refl
-  with_own_long (e ∷ es) h = refl
+  numbers_own : (es : List (End T)) (h : List (Event T)) → numbers_of (with_own es h) ≡ numbers_of es
+  numbers_own [] h = refl
+  numbers_own (e ∷ es) h = refl
 
-  long_moved : (v w : HandleView T) (h : List (Event T)) → w ≡ view_after v h → length w.ends ≡ length v.ends
-  long_moved v w h is = ap (λ (u : HandleView T). length u.ends) is ∙ with_own_long v.ends h
+  keeps_after : (v w : HandleView T) (h : List (Event T)) → w ≡ view_after v h → KeepsHandles v w
+  keeps_after v w h is = record {
+    made = ap (λ (u : HandleView T). u.made) is;
+    numbers = ap (λ (u : HandleView T). numbers_of u.ends) is ∙ numbers_own v.ends h;
+  }
 
-  pub live_gets : (v w : HandleView T) (x : T) → 0 < length v.ends → GetsAll v (x ∷ []) w → 0 < length w.ends
-  live_gets v w x live g = let s = g x refl in let e = long_moved v w _ s.3 in omega arith
+  keeps_same : (v w : HandleView T) → w ≡ v → KeepsHandles v w
+  keeps_same v w is = record {
+    made = ap (λ (u : HandleView T). u.made) is;
+    numbers = ap (λ (u : HandleView T). numbers_of u.ends) is;
+  }
 
-  pub live_puts : (v w : HandleView T) (x : T) → 0 < length v.ends → PutsAll v (x ∷ []) w → 0 < length w.ends
-  live_puts v w x live g = let s = g x refl in let e = long_moved v w _ s.2 in omega arith
+  keeps_got : (v w : HandleView T) (x : T) → GetsAll v (x ∷ []) w → KeepsHandles v w
+  keeps_got v w x gets = let g = gets x refl in keeps_after v w (g.0 ++ Got (number_of v.ends) ∷ []) g.3
 
-  pub live_same : (v w : HandleView T) → 0 < length v.ends → w ≡ v → 0 < length w.ends
-  live_same v w live is = subst (λ (u : HandleView T). 0 < length u.ends) (sym is) live
+  keeps_put : (v w : HandleView T) (x : T) → PutsAll v (x ∷ []) w → KeepsHandles v w
+  keeps_put v w x puts = let p = puts x refl in keeps_after v w (p.0 ++ Put x ∷ []) p.2
 
-  pub live_put : (v w : HandleView T) (x : T) (X A B C : Type 0) (done : Result X T) → 0 < length v.ends
-      → MatchResult done (λ _. PutsAll v (x ∷ []) w × A) (λ y. (y ≡ x) × (w ≡ v) × B × C) → 0 < length w.ends
-  live_put v w x X A B C (Ok _) live h = live_puts v w x live h.0
-  live_put v w x X A B C (Err y) live h = live_same v w live h.1
+  -- a put, a take and a steal keep the handles, whatever becomes of them
+  pub put_keeps : (v w : HandleView T) (x : T) (X A B C : Type 0) (done : Result X T)
+      → MatchResult done (λ _. PutsAll v (x ∷ []) w × A) (λ y. (y ≡ x) × (w ≡ v) × B × C) → KeepsHandles v w
+  put_keeps v w x X A B C (Ok _) h = keeps_put v w x h.0
+  put_keeps v w x X A B C (Err y) h = keeps_same v w h.1
 
-  pub live_taken : (v w : HandleView T) (found : Option T) → 0 < length v.ends
-      → MatchOption found ((w ≡ v) × AllGot v) (λ x. GetsAll v (x ∷ []) w) → 0 < length w.ends
-  live_taken v w None live h = live_same v w live h.0
-  live_taken v w (Some x) live h = live_gets v w x live h
+  pub take_keeps : (v w : HandleView T) (found : Option T)
+      → MatchOption found ((w ≡ v) × AllGot v) (λ x. GetsAll v (x ∷ []) w) → KeepsHandles v w
+  take_keeps v w None h = keeps_same v w h.0
+  take_keeps v w (Some x) h = keeps_got v w x h
 
-  pub live_stolen : (v w : HandleView T) (P : Type 0) (found : Steal T) → 0 < length v.ends
-      → MatchSteal found ((w ≡ v) × AllGot v) ((w ≡ v) × P) (λ x. GetsAll v (x ∷ []) w) → 0 < length w.ends
-  live_stolen v w P Empty live h = live_same v w live h.0
-  live_stolen v w P Retry live h = live_same v w live h.0
-  live_stolen v w P (Success x) live h = live_gets v w x live h
+  pub steal_keeps : (v w : HandleView T) (P : Type 0) (found : Steal T)
+      → MatchSteal found ((w ≡ v) × AllGot v) ((w ≡ v) × P) (λ x. GetsAll v (x ∷ []) w) → KeepsHandles v w
+  steal_keeps v w P Empty h = keeps_same v w h.0
+  steal_keeps v w P Retry h = keeps_same v w h.0
+  steal_keeps v w P (Success x) h = keeps_got v w x h
+
+  -- a view that has an end keeps one
+  pub live_kept : (v w : HandleView T) → 0 < length v.ends → KeepsHandles v w → 0 < length w.ends
+  live_kept v w live keeps =
+      let n : length (numbers_of w.ends) ≡ length (numbers_of v.ends) = ap (λ (l : List ℕ). length l) keeps.numbers in
+      omega (arith, length-map w.ends (λ (e : End T). e.number), length-map v.ends (λ (e : End T). e.number))

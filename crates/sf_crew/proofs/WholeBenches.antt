@@ -1,10 +1,10 @@
 -- Where all handles are joined there is just one history.
-use Rattle.std.proofs.Common.{◌≡◌, ◌≢◌, ℕ, zero, suc, ◌+◌, ◌-◌, ◌<◌, ◌≤◌, ◌⊎◌, List, [], ◌∷◌, ◌++◌, get_or, length, Option, Some, None, MatchOption, sym, refl, ap, ◌∙◌, subst, inl, inr, ⊎_elim, append_assoc, append-nil, length-append, arith}
+use Rattle.std.proofs.Common.{◌≡◌, ◌≢◌, ℕ, zero, suc, ◌+◌, ◌-◌, ◌<◌, ◌≤◌, ◌⊎◌, List, [], ◌∷◌, ◌++◌, Any, Contains, get_or, length, Option, Some, None, MatchOption, sym, refl, ap, ◌∙◌, subst, inl, inr, ⊎_elim, append_assoc, append-nil, length-append, arith}
 use Rattle.std.proofs.lemmas.Option.{slice_get_past}
 use Rattle.sf_crew.specs.declared.benches.history.Event.{Event}
 use Rattle.sf_crew.specs.declared.benches.history.End.{End}
 use Rattle.sf_crew.specs.declared.benches.history.HandleView.{HandleView}
-use Rattle.sf_crew.specs.History.{handle_of, put_items, got_count, first_left, FitsEnd, FitEnds, HasHistory, GetsFirst, AllGot, IsWhole, IsKnownFirst}
+use Rattle.sf_crew.specs.History.{handle_of, put_items, got_count, first_left, FitsEnd, FitEnds, HasHistory, numbers_of, GetsFirst, AllGot, IsWhole, IsKnownFirst}
 use Rattle.sf_crew.specs.BenchRule.{GetsAll}
 
 module _ {T : Type 0} where
@@ -29,6 +29,17 @@ module _ {T : Type 0} where
   fits_at h [] k e within is f = absurd (omega arith)
   fits_at h (x ∷ es) zero e within is f = subst (λ (y : End T). FitsEnd h y) is f.0
   fits_at h (x ∷ es) (suc k) e within is f = fits_at h es k e (omega arith) is f.1
+
+  -- the end of a handle that is joined
+  end_at : (es : List (End T)) (i k : ℕ) → k < length (numbers_of es) → get_or (numbers_of es) k i ≡ i
+      → (e : End T) × (k < length es) × (get_or es k e ≡ e) × (e.number ≡ i)
+  end_at [] i k within is = absurd (omega arith)
+  end_at (x ∷ es) i zero within is = (x, omega arith, refl, is)
+  end_at (x ∷ es) i (suc k) within is = let r = end_at es i k (omega arith) is in
+      (r.0, (let lt = r.1 in omega arith), r.2, r.3)
+
+  pub joined_end : (es : List (End T)) (i : ℕ) → Contains (numbers_of es) i → Any (λ (e : End T). e.number ≡ i) es
+  joined_end es i there = let r = end_at es i there.0 there.1 there.2 in (there.0, r.0, r.1, r.2, r.3)
 
   same_last : (a b : List (Event T)) (s t : Event T) → a ++ s ∷ [] ≡ b ++ t ∷ [] → s ≡ t
   same_last [] [] s t e = cc
@@ -66,7 +77,7 @@ module _ {T : Type 0} where
       let is : get_or h (length x.0) x.1 ≡ x.1 =
       ap (λ (l : List (Event T)). get_or l (length x.0) x.1) x.2 ∙ at_last x.0 x.1 x.1 in
       let lt : handle_of x.1 < v.made = subst (λ (y : Event T). handle_of y < v.made) is below in
-      let j = whole.1 (handle_of x.1) lt in
+      let j = joined_end v.ends (handle_of x.1) (whole.1 (handle_of x.1) lt) in
       let ph : FitsEnd h j.1 = fits_at h v.ends j.0 j.1 j.2 j.3 p.ends in
       let qk : FitsEnd k j.1 = fits_at k v.ends j.0 j.1 j.2 j.3 q.ends in
       let all : x.0 ++ x.1 ∷ [] ≡ j.1.events = knows_all x.0 x.1 j.1 (sym j.4)

@@ -24,7 +24,8 @@ module _ {T : Type 0} where
     pub own : All (λ e. (k : ℕ) → getter h k ≡ Some e.number → getter e.events k ≡ Some e.number) v.ends
     -- a get is of the item that was the first left at that moment: all places before it had a getter
     pub items : All (λ e. (before after : List (Event T)) (i : ℕ) → e.events ≡ before ++ Got i ∷ after
-        → (getter h (got_count before) ≡ Some i) × (slice_get (put_items h) (got_count before) ≡ first_left before)) v.ends
+        → (getter h (got_count before) ≡ Some i)
+        × (slice_get (put_items h) (got_count before) ≡ first_left before)) v.ends
 
   -- what is known where all handles are joined
   pub record IsAllKnown (v : HandleView T) (h : List (Event T)) : Type 0 where

@@ -1,6 +1,6 @@
 -- The history of a bench: one list of the items that were put, of which each handle has got some, each item at most
 -- once and first in, first out. An item is a lease, or a lease of which more is known.
-use Rattle.std.specs.Prelude.{◌≡◌, ◌≢◌, ℕ, ◌+◌, ◌<◌, List, [], ◌∷◌, ◌++◌, All, Any, length, drop, Option, Some, slice_get}
+use Rattle.std.specs.Prelude.{◌≡◌, ◌≢◌, ℕ, ◌+◌, ◌<◌, List, [], ◌∷◌, ◌++◌, All, Contains, map, length, drop, Option, Some, slice_get}
 use Rattle.sf_crew.specs.declared.benches.history.Event.{Event}
 use Rattle.sf_crew.specs.declared.benches.history.Event.TheVariants.{Put, Got}
 use Rattle.sf_crew.specs.declared.benches.history.End.{End}
@@ -112,9 +112,18 @@ module _ {T : Type 0} where
   abbrev pub HaveOneHistory : HandleView T → HandleView T → Type 0
   HaveOneHistory v w = (h : List (Event T)) × HasHistory (view_of_both v w) h
 
+  -- the numbers of the handles that are joined here, the handle's own first
+  abbrev pub numbers_of : List (End T) → List ℕ
+  numbers_of es = map (λ e. e.number) es
+
+  -- the same handles are joined here as before, and as many were made
+  pub record KeepsHandles (v w : HandleView T) : Type 0 where
+    pub made : w.made ≡ v.made
+    pub numbers : numbers_of w.ends ≡ numbers_of v.ends
+
   -- all handles that were made are joined here
   abbrev pub IsWhole : HandleView T → Type 0
-  IsWhole v = (0 < v.made) × ((i : ℕ) → i < v.made → Any (λ e. e.number ≡ i) v.ends)
+  IsWhole v = (0 < v.made) × ((i : ℕ) → i < v.made → Contains (numbers_of v.ends) i)
 
   -- it is the first item that is left, by each history that fits what is known
   abbrev pub IsKnownFirst : HandleView T → Option T → Type 0

@@ -6,7 +6,7 @@ mod history;
 
 ghost use Rattle.std.specs.Prelude.{◌≡◌, ℕ, ◌+◌, ◌<◌, All, IfOk, IfErr, MatchResult, MatchOption, vec_len};
 ghost use Rattle.crossbeam_deque.specs.Steals.{MatchSteal};
-ghost use Rattle.sf_crew.specs.History.{Puts, GetsFirst, AllGot, HaveOneHistory, IsWhole, IsKnownFirst, new_view, view_of_both};
+ghost use Rattle.sf_crew.specs.History.{Puts, GetsFirst, AllGot, HaveOneHistory, IsWhole, IsKnownFirst, KeepsHandles, new_view, view_of_both};
 ghost use Rattle.sf_crew.specs.BenchRule.{owner_with_thief, new_thief_view};
 ghost use Rattle.sf_crew.specs.Benches.{owner_view, thief_view, AreThieves, IsOnBench, IsSameBench, IsSameThief};
 ghost use Rattle.sf_crew.specs.declared.fault.Fault.TheVariants.{Memory};
@@ -85,6 +85,7 @@ impl<T> Owner<T> {
         ensures put { MatchResult result
             (λ _. Puts (owner_view self.old) item (owner_view self.new))
             (λ l. (l ≡ item) × (owner_view self.new ≡ owner_view self.old)) }
+        ensures handles { KeepsHandles (owner_view self.old) (owner_view self.new) }
         ensures same { IsSameBench self.old self.new }
     {
         self.worker.push_as::<Putting>(item)
@@ -99,6 +100,7 @@ impl<T> Owner<T> {
             × AllGot (owner_view self.old))
             (λ l. GetsFirst (owner_view self.old) l (owner_view self.new)) }
         ensures whole { IsWhole (owner_view self.old) → IsKnownFirst (owner_view self.old) result }
+        ensures handles { KeepsHandles (owner_view self.old) (owner_view self.new) }
         ensures same { IsSameBench self.old self.new }
     {
         self.worker.pop_as::<Getting>()
@@ -133,6 +135,7 @@ impl<T> Thief<T> {
         ensures got { MatchSteal result ((thief_view self.new ≡ thief_view self.old)
             × AllGot (thief_view self.old)) (thief_view self.new ≡ thief_view self.old)
             (λ l. GetsFirst (thief_view self.old) l (thief_view self.new)) }
+        ensures handles { KeepsHandles (thief_view self.old) (thief_view self.new) }
         ensures same { IsSameThief self.old self.new }
     {
         self.stealer.steal_as::<Getting>(&mut self.pass)
