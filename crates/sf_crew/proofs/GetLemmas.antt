@@ -1,11 +1,11 @@
 -- Which handle of a bench got which item.
-use Rattle.std.proofs.Common.{◌≡◌, ◌≢◌, ℕ, zero, suc, ◌+◌, ◌<◌, ◌≤◌, true, List, [], ◌∷◌, ◌++◌, All, Any, get_or, length, Option, Some, None, is_some, IsSome, slice_get, sym, refl, ap, ◌∙◌, subst, append_assoc, length-append, add-one, arith}
+use Rattle.std.proofs.Common.{◌≡◌, ◌≢◌, ℕ, zero, suc, ◌+◌, ◌<◌, ◌≤◌, true, List, [], ◌∷◌, ◌++◌, All, Any, length, Some, None, is_some, IsSome, slice_get, sym, refl, ap, ◌∙◌, subst, append_assoc, arith}
 use Rattle.std.proofs.lemmas.List.Elements.{All-nil, All-cons, All-tail}
 use Rattle.sf_crew.specs.declared.benches.history.Event.{Event}
 use Rattle.sf_crew.specs.declared.benches.history.Event.TheVariants.{Put, Got}
 use Rattle.sf_crew.specs.declared.benches.history.End.{End}
 use Rattle.sf_crew.specs.declared.benches.history.HandleView.{HandleView}
-use Rattle.sf_crew.specs.History.{handle_of, put_items, got_count, first_left, IsLawfulFrom, IsLawfulHistory, FitsEnd, FitEnds, HasHistory, IsWhole, IsKnownFirst}
+use Rattle.sf_crew.specs.History.{handle_of, put_items, got_count, first_left, IsLawfulFrom, IsLawfulHistory, FitsEnd, FitEnds, HasHistory, IsWhole}
 use Rattle.sf_crew.specs.Gets.{getter, IsSharedOut, IsAllKnown}
 use Rattle.sf_crew.proofs.Histories.{NotBy, AllByHandlesBelow, lawful_le}
 use Rattle.sf_crew.proofs.WholeBenches.{fits_at, joined_end, pinned}

@@ -13,8 +13,8 @@ use Rattle.sf_crew.specs.declared.benches.history.Event.{Event}
 use Rattle.sf_crew.specs.declared.benches.history.Event.TheVariants.{Put, Got}
 use Rattle.sf_crew.specs.declared.benches.history.End.{End}
 use Rattle.sf_crew.specs.declared.benches.history.HandleView.{HandleView}
-use Rattle.sf_crew.specs.History.{end_of, handle_view, new_view, handle_of, put_items, got_count, first_left, IsLawfulFrom, IsLawfulHistory, FitsEnd, FitEnds, HasHistory, number_of, with_own, view_after, AllGot, numbers_of, KeepsHandles}
-use Rattle.sf_crew.specs.BenchRule.{AreAt, IsOwnFirst, Sits, BenchKept, PutsAll, GetsAll, Leaves, owner_with_thief, new_thief_view}
+use Rattle.sf_crew.specs.History.{handle_view, new_view, handle_of, put_items, got_count, IsLawfulFrom, IsLawfulHistory, FitsEnd, FitEnds, HasHistory, number_of, with_own, view_after, AllGot, numbers_of, KeepsHandles}
+use Rattle.sf_crew.specs.BenchRule.{AreAt, Sits, BenchKept, PutsAll, GetsAll, Leaves, owner_with_thief, new_thief_view}
 
 module _ {T : Type 0} where
   -- no step of these was made by the handle i
@@ -365,3 +365,10 @@ module _ {T : Type 0} where
   live_kept v w live keeps =
       let n : length (numbers_of w.ends) ≡ length (numbers_of v.ends) = ap (λ (l : List ℕ). length l) keeps.numbers in
       omega (arith, length-map w.ends (λ (e : End T). e.number), length-map v.ends (λ (e : End T). e.number))
+
+  -- where a steal came too late, that is all that became of it
+  pub steal_late : (w v : HandleView T) (P : Type 0) (found : Steal T)
+      → MatchSteal found ((w ≡ v) × AllGot v) ((w ≡ v) × P) (λ x. GetsAll v (x ∷ []) w) → found ≡ Retry → P
+  steal_late w v P Empty h is = absurd (cc)
+  steal_late w v P Retry h is = h.1
+  steal_late w v P (Success x) h is = absurd (cc)

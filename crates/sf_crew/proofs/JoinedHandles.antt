@@ -1,6 +1,6 @@
 -- A thief that joins its owner keeps the rule of the bench.
 use Rattle.std.proofs.lemmas.Bool.Decides.{nat_tests}
-use Rattle.std.proofs.Common.{◌≡◌, ◌≢◌, ℕ, zero, suc, ◌+◌, ◌<◌, ◌≤◌, ◌⊎◌, List, [], ◌∷◌, ◌++◌, All, get_or, length, set, ◌==◌, if◌then◌else◌, sym, ap, ◌∙◌, subst, ⊎_elim, length-set, arith}
+use Rattle.std.proofs.Common.{◌≡◌, ◌≢◌, ℕ, zero, suc, ◌<◌, List, [], ◌∷◌, ◌++◌, All, get_or, length, set, ◌==◌, if◌then◌else◌, sym, ap, ◌∙◌, subst, ⊎_elim, length-set, arith}
 use mathlib.Core.Option.{some}
 use lib.ListN.{get_elem?}
 use Rattle.std.proofs.lemmas.List.Elements.{All-nil, All-append}
@@ -10,7 +10,7 @@ use Rattle.sf_crew.specs.declared.benches.history.Event.{Event}
 use Rattle.sf_crew.specs.declared.benches.history.End.{End}
 use Rattle.sf_crew.specs.declared.benches.history.HandleView.{HandleView}
 use Rattle.sf_crew.specs.History.{handle_view, FitEnds, view_of_both}
-use Rattle.sf_crew.specs.BenchRule.{AreAt, IsOwnFirst, Sits, BenchKept, spent_view}
+use Rattle.sf_crew.specs.BenchRule.{AreAt, Sits, BenchKept, spent_view}
 use Rattle.sf_crew.proofs.Histories.{AllByHandlesBelow, at_below}
 
 -- what lay at the place `from` lies at `to` now

@@ -1,6 +1,6 @@
 -- The handles of a bench.
 use Rattle.std.specs.Prelude.{◌≡◌, ℕ, ◌+◌, List, [], ◌∷◌}
-use Rattle.crossbeam_deque.specs.Handles.{view, worker_view, worker_deque, stealer_deque}
+use Rattle.crossbeam_deque.specs.Handles.{view, taken, worker_view, worker_deque, stealer_deque}
 use Rattle.sf_crew.specs.declared.benches.handles.Owner.{Owner}
 use Rattle.sf_crew.specs.declared.benches.handles.Thief.{Thief}
 use Rattle.sf_crew.specs.declared.benches.history.HandleView.{HandleView}
@@ -14,6 +14,10 @@ module _ {T : Type 0} where
   -- what a thief knows of its bench
   abbrev pub thief_view : Thief T → HandleView T
   thief_view t = view t.pass
+
+  -- how many items the thief has seen to have left the bench, whoever got them
+  abbrev pub seen_gone : Thief T → ℕ
+  seen_gone t = taken t.pass
 
   -- the thief is on the owner's bench
   abbrev pub IsOnBench : Owner T → Thief T → Type 0

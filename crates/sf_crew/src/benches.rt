@@ -4,11 +4,11 @@
 mod handles;
 mod history;
 
-ghost use Rattle.std.specs.Prelude.{◌≡◌, ℕ, ◌+◌, ◌<◌, All, IfOk, IfErr, MatchResult, MatchOption, vec_len};
+ghost use Rattle.std.specs.Prelude.{◌≡◌, ℕ, ◌+◌, ◌<◌, ◌⊎◌, All, IfOk, IfErr, MatchResult, MatchOption, vec_len};
 ghost use Rattle.crossbeam_deque.specs.Steals.{MatchSteal};
 ghost use Rattle.sf_crew.specs.History.{Puts, GetsFirst, AllGot, HaveOneHistory, IsWhole, IsKnownFirst, KeepsHandles, new_view, view_of_both};
 ghost use Rattle.sf_crew.specs.BenchRule.{owner_with_thief, new_thief_view};
-ghost use Rattle.sf_crew.specs.Benches.{owner_view, thief_view, AreThieves, IsOnBench, IsSameBench, IsSameThief};
+ghost use Rattle.sf_crew.specs.Benches.{owner_view, thief_view, seen_gone, AreThieves, IsOnBench, IsSameBench, IsSameThief};
 ghost use Rattle.sf_crew.specs.declared.fault.Fault.TheVariants.{Memory};
 
 use crate::fault::Fault;
@@ -128,13 +128,15 @@ impl<T: Drop> Owner<T> {
 
 impl<T> Thief<T> {
     /// Tries to take the first item that no handle has got, at one moment of the call: `Success` has it. `Empty` where
-    /// each item that was put had been got. `Retry` where another handle came first, and this one got nothing. A thief
-    /// doesn't know what other handles put and got, so the contract says only that some steps of theirs lead to this
-    /// result.
+    /// each item that was put had been got. `Retry` where another handle came first, so that the thief saw one more item
+    /// leave the bench, and got nothing. A thief doesn't know what other live handles put and got, so of them the
+    /// contract says only that some steps of theirs lead to this result.
     pub fn steal(&mut self) -> Steal<T>
         ensures got { MatchSteal result ((thief_view self.new ≡ thief_view self.old)
             × AllGot (thief_view self.old)) (thief_view self.new ≡ thief_view self.old)
             (λ l. GetsFirst (thief_view self.old) l (thief_view self.new)) }
+        ensures retry { result ≡ Steal.Retry → (seen_gone self.old < seen_gone self.new)
+            ⊎ AllGot (thief_view self.old) }
         ensures handles { KeepsHandles (thief_view self.old) (thief_view self.new) }
         ensures same { IsSameThief self.old self.new }
     {

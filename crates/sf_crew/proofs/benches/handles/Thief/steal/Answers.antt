@@ -1,4 +1,4 @@
-use Rattle.sf_crew.proofs.Histories.{takes, finds_few, steal_keeps, live_kept}
+use Rattle.sf_crew.proofs.Histories.{takes, finds_few, steal_keeps, steal_late, live_kept}
 use Rattle.sf_crew.proofs.benches.handles.Thief.steal.Goals as goal
 
 pub steal_as-requires-clause-takes : goal.steal_as-requires-clause-takes
@@ -13,3 +13,6 @@ invariant_of-self-clause-live g c = live_kept _ _ c.args.self.now.live
 
 pub returns-clause-handles : goal.returns-clause-handles
 returns-clause-handles g c = steal_keeps _ _ _ _ c.steal_as.ensures.rule
+
+pub returns-clause-retry : goal.returns-clause-retry
+returns-clause-retry g c = steal_late _ _ _ _ c.steal_as.ensures.rule
