@@ -13,8 +13,8 @@ use Rattle.sf_crew.specs.declared.benches.history.Event.{Event}
 use Rattle.sf_crew.specs.declared.benches.history.Event.TheVariants.{Put, Got}
 use Rattle.sf_crew.specs.declared.benches.history.End.{End}
 use Rattle.sf_crew.specs.declared.benches.history.HandleView.{HandleView}
-use Rattle.sf_crew.specs.History.{handle_view, new_view, handle_of, put_items, got_count, IsLawfulFrom, IsLawfulHistory, FitsEnd, FitEnds, HasHistory, number_of, with_own, view_after, AllGot, numbers_of, KeepsHandles}
-use Rattle.sf_crew.specs.BenchRule.{AreAt, Sits, BenchKept, PutsAll, GetsAll, Leaves, owner_with_thief, new_thief_view}
+use Rattle.sf_crew.specs.History.{handle_view, new_view, handle_of, put_items, got_count, IsLawfulFrom, IsLawfulHistory, FitsEnd, FitEnds, HasHistory, own_number, with_own, view_after, AllGot, numbers_of, KeepsHandles}
+use Rattle.sf_crew.specs.BenchRule.{AreAt, Sits, BenchKept, PutsAll, GetsAll, WereLeft, owner_with_thief, new_thief_view}
 
 module _ {T : Type 0} where
   -- no step of these was made by the handle i
@@ -108,7 +108,8 @@ module _ {T : Type 0} where
   )
 
   -- so do the ends that lie elsewhere
-  fit_more : (home : ℕ → ℕ) (port j : ℕ) (h : List (Event T)) (s : Event T) (es : List (End T)) → home (handle_of s) ≡ port
+  fit_more : (home : ℕ → ℕ) (port j : ℕ) (h : List (Event T)) (s : Event T) (es : List (End T))
+      → home (handle_of s) ≡ port
       → j ≢ port → AreAt home j es → FitEnds h es → FitEnds (h ++ s ∷ []) es
   fit_more home port j h s [] is other at f = tt
   fit_more home port j h s (e ∷ es) is other at f = (
@@ -126,7 +127,8 @@ module _ {T : Type 0} where
   )
 
   -- the view of the handle that makes the step
-  own_sits : (home : ℕ → ℕ) (port : ℕ) (h : List (Event T)) (s : Event T) (n : ℕ) (es : List (End T)) → handle_of s ≡ port
+  own_sits : (home : ℕ → ℕ) (port : ℕ) (h : List (Event T)) (s : Event T) (n : ℕ) (es : List (End T))
+      → handle_of s ≡ port
       → Sits h home port (handle_view n es) → Sits (h ++ s ∷ []) home port (handle_view n (with_own es (h ++ s ∷ [])))
   own_sits home port h s n [] is sits = record { fits = tt; at = tt; own = tt }
   own_sits home port h s n (e ∷ es) is sits = record {
@@ -175,10 +177,10 @@ module _ {T : Type 0} where
       }
 
   -- a handle's own end has the number of the handle, and lies in its view
-  own_number : (home : ℕ → ℕ) (port : ℕ) (h : List (Event T)) (n : ℕ) (es : List (End T)) → 0 < length es
-      → Sits h home port (handle_view n es) → (number_of es ≡ port) × (home port ≡ port)
-  own_number home port h n [] live sits = absurd (omega arith)
-  own_number home port h n (e ∷ es) live sits = (sits.own.0, ap home (sym sits.own.0) ∙ sits.at.0)
+  own_at : (home : ℕ → ℕ) (port : ℕ) (h : List (Event T)) (n : ℕ) (es : List (End T)) → 0 < length es
+      → Sits h home port (handle_view n es) → (own_number es ≡ port) × (home port ≡ port)
+  own_at home port h n [] live sits = absurd (omega arith)
+  own_at home port h n (e ∷ es) live sits = (sits.own.0, ap home (sym sits.own.0) ∙ sits.at.0)
 
   pub moment : (items : List T) (views : List (HandleView T)) (port : ℕ) (v : HandleView T) (k : BenchKept items views)
       (at : get_elem? views port ≡ some v) → HasHistory v k.history
@@ -193,7 +195,7 @@ module _ {T : Type 0} where
       → Pushes BenchKept port v (x ∷ []) (PutsAll v (x ∷ []))
   pushes port v x zeroth live items views k at =
       let h : List (Event T) = k.history in let le = lawful_le 0 0 h (omega arith) k.lawful in
-      let own = own_number k.home port h v.made v.ends live (k.each port v at) in (
+      let own = own_at k.home port h v.made v.ends live (k.each port v at) in (
         view_after v (h ++ Put x ∷ []),
         grown items (items ++ x ∷ []) views port v (Put x) k at (sym zeroth) own.1 (lawful_put 0 0 h x k.lawful)
             (ap (λ (l : List T). l ++ x ∷ []) k.left ∙ sym (drop_snoc (put_items h) (got_count h) x (omega arith))
@@ -213,7 +215,7 @@ module _ {T : Type 0} where
   takes_one port v [] items views live some_one one k at = absurd (omega arith)
   takes_one port v (x ∷ []) items views live some_one one k at =
       let h : List (Event T) = k.history in let d = dropped (put_items h) (got_count h) x items (sym k.left) in
-      let own = own_number k.home port h v.made v.ends live (k.each port v at) in (
+      let own = own_at k.home port h v.made v.ends live (k.each port v at) in (
         view_after v (h ++ Got port ∷ []),
         grown (x ∷ items) items views port v (Got port) k at refl own.1
             (lawful_got 0 0 h port k.lawful (let lt = d.2 in omega arith))
@@ -246,7 +248,7 @@ module _ {T : Type 0} where
       → FindsFew BenchKept (min flavor 1) port v (AllGot v)
   finds_few flavor port v fifo items views few k at = all_got port v items views (omega arith) k at
 
-  pub learns : (port : ℕ) (v : HandleView T) → Learns BenchKept port v (Leaves v)
+  pub learns : (port : ℕ) (v : HandleView T) → Learns BenchKept port v (WereLeft v)
   learns port v items views k at = (k.history, moment items views port v k at, k.left)
 
   -- ---- a new thief
@@ -297,11 +299,12 @@ module _ {T : Type 0} where
   -- ---- what the bodies need
 
   opened_at : (port : ℕ) (v : HandleView T) → get_elem? (new_view 0 1 ∷ []) port ≡ some v → Sits [] (λ i. i) port v
-  opened_at zero v at = subst (λ (u : HandleView T). Sits [] (λ i. i) 0 u) (some-injective (new_view 0 1) v at) (record {
-    fits = (([], refl, All-nil (λ (y : Event T). handle_of y ≢ 0)), tt);
-    at = (refl, tt);
-    own = (refl, All-nil (λ (o : End T). o.number ≢ 0));
-  })
+  opened_at zero v at = subst (λ (u : HandleView T). Sits [] (λ i. i) 0 u)
+      (some-injective (new_view 0 1) v at) (record {
+        fits = (([], refl, All-nil (λ (y : Event T). handle_of y ≢ 0)), tt);
+        at = (refl, tt);
+        own = (refl, All-nil (λ (o : End T). o.number ≢ 0));
+      })
   opened_at (suc port) v at = absurd (some-ne-none v (sym at))
 
   opened_made : (port : ℕ) (v : HandleView T) → get_elem? (new_view 0 1 ∷ []) port ≡ some v
@@ -338,7 +341,7 @@ module _ {T : Type 0} where
   }
 
   keeps_got : (v w : HandleView T) (x : T) → GetsAll v (x ∷ []) w → KeepsHandles v w
-  keeps_got v w x gets = let g = gets x refl in keeps_after v w (g.0 ++ Got (number_of v.ends) ∷ []) g.3
+  keeps_got v w x gets = let g = gets x refl in keeps_after v w (g.0 ++ Got (own_number v.ends) ∷ []) g.3
 
   keeps_put : (v w : HandleView T) (x : T) → PutsAll v (x ∷ []) w → KeepsHandles v w
   keeps_put v w x puts = let p = puts x refl in keeps_after v w (p.0 ++ Put x ∷ []) p.2

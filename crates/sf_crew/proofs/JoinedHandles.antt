@@ -50,7 +50,8 @@ module _ {T : Type 0} where
   at_moved home from to (e ∷ es) a = (rehomed_moved home from to e.number a.0, at_moved home from to es a.1)
 
   -- ends that lie elsewhere are of other handles than the one whose own end lies here
-  not_here_at : (home : ℕ → ℕ) (port other : ℕ) (es : List (End T)) → home port ≡ port → other ≢ port → AreAt home other es
+  not_here_at : (home : ℕ → ℕ) (port other : ℕ) (es : List (End T)) → home port ≡ port → other ≢ port
+      → AreAt home other es
       → (k : ℕ) (d : End T) → k < length es → (get_or es k d).number ≢ port
   not_here_at home port other [] here ne a k d there is = omega arith
   not_here_at home port other (e ∷ es) here ne a zero d there is = ne (sym a.0 ∙ ap home is ∙ here)
@@ -89,7 +90,8 @@ module _ {T : Type 0} where
       → Merges BenchKept port v other w (view_of_both v w) spent_view
   merges port v other w live items views k at ne there =
       let b : HandleView T = view_of_both v w in let vs : List (HandleView T) = set views port b in
-      let long : length (set vs other spent_view) ≡ length views = length-set vs other spent_view ∙ length-set views port b in
+      let long : length (set vs other spent_view) ≡ length views =
+      length-set vs other spent_view ∙ length-set views port b in
       let others : get_elem? views other ≡ some w = ⊎_elim
       (λ (x : (other ≡ port) × (b ≡ w)). absurd (ne x.0))
       (λ (x : (other ≢ port) × (get_elem? views other ≡ some w)). x.1) (at_set views port other b w there) in
@@ -103,10 +105,12 @@ module _ {T : Type 0} where
         fresh = λ i le. let is : k.home i ≡ i = k.fresh i (omega arith) in
             rehomed_same k.home other port i (λ (x : k.home i ≡ other). omega arith) ∙ is;
         each = λ j u here. ⊎_elim
-            (λ (x : (j ≡ other) × (spent_view ≡ u)). subst (λ (y : HandleView T). Sits k.history (rehomed k.home other port) j y)
+            (λ (x : (j ≡ other) × (spent_view ≡ u)).
+            subst (λ (y : HandleView T). Sits k.history (rehomed k.home other port) j y)
             x.1 (record { fits = tt; at = tt; own = tt }))
             (λ (x : (j ≢ other) × (get_elem? vs j ≡ some u)). ⊎_elim
-            (λ (y : (j ≡ port) × (b ≡ u)). subst (λ (z : ℕ × HandleView T). Sits k.history (rehomed k.home other port) z.0 z.1)
+            (λ (y : (j ≡ port) × (b ≡ u)). subst (λ (z : ℕ × HandleView T).
+            Sits k.history (rehomed k.home other port) z.0 z.1)
             (λ i. (sym y.0 i, y.1 i))
             (both_sit k.home port other k.history v.made w.made v.ends w.ends live ne (k.each port v at)
             (k.each other w others)))

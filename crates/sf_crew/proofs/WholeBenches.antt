@@ -93,7 +93,8 @@ module _ {T : Type 0} where
       let lb : length h ≡ length k + length b.0 = ap (λ (l : List (Event T)). length l) b.1 ∙ length-append k b.0 in
       ⊎_elim
       (λ (x : a.0 ≡ []). sym (a.1 ∙ ap (λ (l : List (Event T)). h ++ l) x ∙ append-nil h))
-      (λ (x : HasLast a.0). let lx : length a.0 ≡ length (x.0 ++ x.1 ∷ []) = ap (λ (l : List (Event T)). length l) x.2 in
+      (λ (x : HasLast a.0). let lx : length a.0 ≡ length (x.0 ++ x.1 ∷ []) =
+      ap (λ (l : List (Event T)). length l) x.2 in
       let m = length-append x.0 (x.1 ∷ []) in absurd (omega arith))
       (last_of a.0)
 

@@ -47,8 +47,8 @@ module _ {T : Type 0} where
   GetsAll v xs w = (x : T) → xs ≡ x ∷ [] → GetsFirst v x w
 
   -- at some moment these items were left
-  abbrev pub Leaves : HandleView T → List T → Type 0
-  Leaves v items = (h : List (Event T)) × HasHistory v h × (items ≡ left_items h)
+  abbrev pub WereLeft : HandleView T → List T → Type 0
+  WereLeft v items = (h : List (Event T)) × HasHistory v h × (items ≡ left_items h)
 
   -- what the owner knows after it made one more thief
   abbrev pub owner_with_thief : HandleView T → HandleView T

@@ -8,8 +8,8 @@ use Rattle.sf_crew.specs.declared.benches.history.HandleView.{HandleView}
 
 module _ {T : Type 0} where
   -- the handle of number i, which has made no step after the history h
-  abbrev pub end_of : ℕ → List (Event T) → End T
-  end_of i h = record { number = i; events = h }
+  abbrev pub handle_end : ℕ → List (Event T) → End T
+  handle_end i h = record { number = i; events = h }
 
   -- what a handle knows by these ends, where there are n handles; of a thief n is 0
   abbrev pub handle_view : ℕ → List (End T) → HandleView T
@@ -17,17 +17,17 @@ module _ {T : Type 0} where
 
   -- what a handle of number i knows that has made no step
   abbrev pub new_view : ℕ → ℕ → HandleView T
-  new_view i n = handle_view n (end_of i [] ∷ [])
+  new_view i n = handle_view n (handle_end i [] ∷ [])
 
   -- the handle's own number
-  abbrev pub number_of : List (End T) → ℕ
-  number_of [] = 0
-  number_of (e ∷ es) = e.number
+  abbrev pub own_number : List (End T) → ℕ
+  own_number [] = 0
+  own_number (e ∷ es) = e.number
 
   -- the history that the handle itself knows
-  abbrev pub history_of : List (End T) → List (Event T)
-  history_of [] = []
-  history_of (e ∷ es) = e.events
+  abbrev pub own_history : List (End T) → List (Event T)
+  own_history [] = []
+  own_history (e ∷ es) = e.events
 
   -- the handle that made the step; only the owner puts, and it has the number 0
   abbrev pub handle_of : Event T → ℕ
@@ -83,7 +83,7 @@ module _ {T : Type 0} where
   -- the handle itself has seen this history
   abbrev pub with_own : List (End T) → List (Event T) → List (End T)
   with_own [] h = []
-  with_own (e ∷ es) h = end_of e.number h ∷ es
+  with_own (e ∷ es) h = handle_end e.number h ∷ es
 
   -- what it knows after that
   abbrev pub view_after : HandleView T → List (Event T) → HandleView T
@@ -96,7 +96,7 @@ module _ {T : Type 0} where
   -- at some moment the handle got the item: the first one that no handle had got
   abbrev pub GetsFirst : HandleView T → T → HandleView T → Type 0
   GetsFirst v x w = (h : List (Event T)) × HasHistory v h × (first_left h ≡ Some x)
-      × (w ≡ view_after v (h ++ Got (number_of v.ends) ∷ []))
+      × (w ≡ view_after v (h ++ Got (own_number v.ends) ∷ []))
 
   -- At some moment each item that was put had been got. While other handles live, a handle knows of their steps only
   -- that the history was lawful with them. So it learns here no more than that they may have got what it and those that

@@ -99,7 +99,8 @@ impl<T> Owner<T> {
         ensures got { MatchOption result ((owner_view self.new ≡ owner_view self.old)
             × AllGot (owner_view self.old))
             (λ l. GetsFirst (owner_view self.old) l (owner_view self.new)) }
-        ensures whole { IsWhole (owner_view self.old) → IsKnownFirst (owner_view self.old) result }
+        ensures whole { IsWhole (owner_view self.old)
+            → IsKnownFirst (owner_view self.old) result }
         ensures handles { KeepsHandles (owner_view self.old) (owner_view self.new) }
         ensures same { IsSameBench self.old self.new }
     {
@@ -112,7 +113,8 @@ impl<T: Drop> Owner<T> {
     /// done in one lawful history. The caller's condition: the thief is on this bench.
     pub fn join(&mut self, thief: Thief<T>)
         requires { IsOnBench self.old thief }
-        ensures both { owner_view self.new ≡ view_of_both (owner_view self.old) (thief_view thief) }
+        ensures both { owner_view self.new ≡ view_of_both (owner_view self.old)
+            (thief_view thief) }
         ensures one { HaveOneHistory (owner_view self.old) (thief_view thief) }
         ensures same { IsSameBench self.old self.new }
     {
@@ -128,8 +130,8 @@ impl<T: Drop> Owner<T> {
 
 impl<T> Thief<T> {
     /// Tries to take the first item that no handle has got, at one moment of the call: `Success` has it. `Empty` where
-    /// each item that was put had been got. `Retry` where another handle came first, so that the thief saw one more item
-    /// leave the bench, and got nothing. A thief doesn't know what other live handles put and got, so of them the
+    /// each item that was put had been got. `Retry` where another handle came first, so that the thief saw one more
+    /// item leave the bench, and got nothing. A thief doesn't know what other live handles put and got, so of them the
     /// contract says only that some steps of theirs lead to this result.
     pub fn steal(&mut self) -> Steal<T>
         ensures got { MatchSteal result ((thief_view self.new ≡ thief_view self.old)

@@ -13,8 +13,9 @@ pub fn handles_share_what_was_put<T>()
     ensures { (v : HandleView T) (h : List (Event T)) → HasHistory v h → IsSharedOut v h }
 {}
 
-/// For the prover: where all handles of a bench are joined, what they know fits just one history, and each item that was
-/// got went to one of them. If nothing is left to take then, each item that was put was got.
+/// For the prover: where all handles of a bench are joined, what they know fits just one history, and each item that
+/// was got went to one of them. If nothing is left to take then, each item that was put was got.
 pub fn joined_handles_know_all<T>()
-    ensures { (v : HandleView T) (h : List (Event T)) → IsWhole v → HasHistory v h → IsAllKnown v h }
+    ensures { (v : HandleView T) (h : List (Event T)) → IsWhole v → HasHistory v h
+        → IsAllKnown v h }
 {}

@@ -19,8 +19,8 @@ pub struct End<T = Lease> {
     pub events: LinkedList<Event<T>>,
 }
 
-/// What a handle knows: how many handles there are (only the owner knows that), its own end, and the ends of the thieves
-/// that were joined into it. For proofs only: no value of it is made.
+/// What a handle knows: how many handles there are (only the owner knows that), its own end, and the ends of the
+/// thieves that were joined into it. For proofs only: no value of it is made.
 pub struct HandleView<T = Lease> {
     /// How many handles the owner has made, itself included; 0 for a thief.
     pub made: usize,
@@ -90,7 +90,7 @@ impl<T> Join<HandleView<T>> for Joining {
 pub(crate) struct Recalling;
 
 impl<T> Lesson<T, HandleView<T>> for Recalling {
-    ghost use Rattle.sf_crew.specs.BenchRule.{Leaves};
+    ghost use Rattle.sf_crew.specs.BenchRule.{WereLeft};
 
-    ghost fact = { Leaves };
+    ghost fact = { WereLeft };
 }

@@ -1,7 +1,7 @@
 //! The handles of benches that a worker has: its own bench, and a thief on each other one.
 ghost use Rattle.std.specs.Prelude.{◌≡◌, length};
 ghost use Rattle.sf_crew.specs.Benches.{owner_view};
-ghost use Rattle.sf_crew.specs.History.{history_of};
+ghost use Rattle.sf_crew.specs.History.{own_history};
 
 use crate::benches::{Owner, Thief};
 use crate::workers::hands::Held;
@@ -13,7 +13,7 @@ use std::alloc::{AllocError, Global};
 #[derive(Drop)]
 pub(crate) struct NewBench<N: Naming> {
     owner: Owner<NamedLease<N>>,
-    ghost unused: { length (history_of (owner_view owner).ends) ≡ 0 },
+    ghost unused: { length (own_history (owner_view owner).ends) ≡ 0 },
 }
 
 /// A worker's own bench. It can't be dropped: `close` ends it, once nothing is left on it.
@@ -30,7 +30,7 @@ pub(crate) struct Thieves<N: Naming> {
 impl<N: Naming> NewBench<N> {
     /// The bench of this owner. The caller's condition: nothing was put on the bench yet.
     pub(crate) fn of(owner: Owner<NamedLease<N>>) -> NewBench<N>
-        requires { length (history_of (owner_view owner).ends) ≡ 0 }
+        requires { length (own_history (owner_view owner).ends) ≡ 0 }
     {
         NewBench { owner }
     }
