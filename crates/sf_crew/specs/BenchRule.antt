@@ -1,13 +1,17 @@
 -- The rule of a bench, which each step of a handle keeps.
-use Rattle.std.specs.Prelude.{◌≡◌, ◌≢◌, ℕ, ◌+◌, ◌<◌, ◌≤◌, List, [], ◌∷◌, All, length}
+use Rattle.std.specs.Prelude.{◌≡◌, ◌≢◌, ℕ, ◌+◌, ◌<◌, ◌≤◌, List, [], ◌∷◌, All, length, drop}
 use mathlib.Core.Option.{some}
 use lib.ListN.{get_elem?}
 use Rattle.sf_crew.specs.declared.benches.history.Event.{Event}
 use Rattle.sf_crew.specs.declared.benches.history.End.{End}
 use Rattle.sf_crew.specs.declared.benches.history.HandleView.{HandleView}
-use Rattle.sf_crew.specs.History.{handle_view, new_view, handle_of, left_items, HasHistory, IsLawfulHistory, FitEnds, Puts, GetsFirst}
+use Rattle.sf_crew.specs.History.{handle_view, new_view, handle_of, put_items, got_count, HasHistory, IsLawfulHistory, FitEnds, Puts, GetsFirst}
 
 module _ {T : Type 0} where
+  -- the items that were put and that no handle has got
+  abbrev pub left_items : List (Event T) → List T
+  left_items h = drop (got_count h) (put_items h)
+
   -- each of the ends lies in the view at this place
   abbrev pub AreAt : (ℕ → ℕ) → ℕ → List (End T) → Type 0
   AreAt home port [] = Unit {0}

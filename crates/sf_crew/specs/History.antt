@@ -1,6 +1,6 @@
 -- The history of a bench: one list of the items that were put, of which each handle has got some, each item at most
 -- once and first in, first out. An item is a lease, or a lease of which more is known.
-use Rattle.std.specs.Prelude.{◌≡◌, ◌≢◌, ℕ, ◌+◌, ◌<◌, List, [], ◌∷◌, ◌++◌, All, Contains, map, length, drop, Option, Some, slice_get}
+use Rattle.std.specs.Prelude.{◌≡◌, ◌≢◌, ℕ, ◌+◌, ◌<◌, List, [], ◌∷◌, ◌++◌, All, Contains, map, length, Option, Some, slice_get}
 use Rattle.sf_crew.specs.declared.benches.history.Event.{Event}
 use Rattle.sf_crew.specs.declared.benches.history.Event.TheVariants.{Put, Got}
 use Rattle.sf_crew.specs.declared.benches.history.End.{End}
@@ -46,11 +46,7 @@ module _ {T : Type 0} where
   got_count (Put x ∷ es) = got_count es
   got_count (Got i ∷ es) = 1 + got_count es
 
-  -- the items that were put and that no handle has got
-  abbrev pub left_items : List (Event T) → List T
-  left_items h = drop (got_count h) (put_items h)
-
-  -- the first of them, if there is one
+  -- the first item that was put and that no handle has got, if there is one
   abbrev pub first_left : List (Event T) → Option T
   first_left h = slice_get (put_items h) (got_count h)
 
