@@ -1,4 +1,9 @@
 //! One bench with several handles.
+
+ghost use Rattle.std.specs.Prelude.{◌≡◌, [], ◌∷◌, IfSome};
+ghost use Rattle.sf_crew.specs.Benches.{owner_view, thief_view, IsOnBench, IsSameBench, IsSameThief};
+ghost use Rattle.sf_crew.specs.History.{numbers_of, KeepsHandles, IsWhole};
+
 use crossbeam_deque::Steal;
 use samples::execve_stack;
 use sf_book::Lease;
@@ -68,7 +73,10 @@ fn execve_root(alloc: Global) -> Result<Arc<Piece>, Fail> {
 }
 
 /// Puts leases of the piece under this many ids, from 0. False: one was not put.
-fn put_many(owner: &mut Owner, piece: &Arc<Piece>, count: u64) -> bool {
+fn put_many(owner: &mut Owner, piece: &Arc<Piece>, count: u64) -> bool
+    ensures same { IsSameBench owner.old owner.new }
+    ensures handles { KeepsHandles (owner_view owner.old) (owner_view owner.new) }
+{
     for id in 0..count {
         let Ok(piece) = Arc::try_clone(piece) else {
             return false;
@@ -82,7 +90,10 @@ fn put_many(owner: &mut Owner, piece: &Arc<Piece>, count: u64) -> bool {
 
 /// What a thief steals: the id. A `Retry`, which comes only where several handles are used at once, counts as
 /// `u64::MAX`.
-fn stolen_id(thief: &mut Thief) -> Option<u64> {
+fn stolen_id(thief: &mut Thief) -> Option<u64>
+    ensures same { IsSameThief thief.old thief.new }
+    ensures handles { KeepsHandles (thief_view thief.old) (thief_view thief.new) }
+{
     match thief.steal() {
         Steal::Success(lease) => Some(lease.id),
         Steal::Retry => Some(u64::MAX),
@@ -192,5 +203,81 @@ fn a_bench_is_first_in_first_out(rt: HostRuntime) -> Result<(), Fail> {
         None,
     ];
     assert_eq!(rt; ids.as_slice(), wanted.as_slice());
+    Ok(())
+}
+
+/// An owner that has put four leases, and its one thief. `None` where it is otherwise.
+fn owner_and_thief(alloc: Global, piece: &Arc<Piece>) -> Option<(Owner, Thief)>
+    ensures bench { IfSome result (λ b. IsOnBench b.0 b.1) }
+    ensures two { IfSome result (λ b. ((owner_view b.0).made ≡ 2)
+        × (numbers_of (owner_view b.0).ends ≡ 0 ∷ [])
+        × (numbers_of (thief_view b.1).ends ≡ 1 ∷ [])) }
+{
+    let (mut owner, mut thieves) = bench(alloc, 1).ok()?;
+    let thief = thieves.pop()?;
+    if !put_many(&mut owner, piece, 4) {
+        return None;
+    }
+    Some((owner, thief))
+}
+
+/// The owner takes a lease and the thief steals one, each on a thread of its own: the ids. Then the thief is joined
+/// into the owner.
+fn get_and_join<R: Threads>(rt: &R, owner: Owner, thief: Thief) -> (Owner, Option<u64>, Option<u64>)
+    requires bench { IsOnBench owner thief }
+    requires two { ((owner_view owner).made ≡ 2)
+        × (numbers_of (owner_view owner).ends ≡ 0 ∷ [])
+        × (numbers_of (thief_view thief).ends ≡ 1 ∷ []) }
+    ensures { IsWhole (owner_view result.0) }
+{
+    let (owning, stealing) = thread::join(
+        rt,
+        move || -> (Owner, Option<u64>)
+            ensures { IsSameBench owner result.0
+                × KeepsHandles (owner_view owner) (owner_view result.0) }
+        {
+            let mut mine = owner;
+            let id = mine.take().map(|lease| lease.id);
+            (mine, id)
+        },
+        move || -> (Thief, Option<u64>)
+            ensures { IsSameThief thief result.0
+                × KeepsHandles (thief_view thief) (thief_view result.0) }
+        {
+            let mut mine = thief;
+            let id = stolen_id(&mut mine);
+            (mine, id)
+        },
+    );
+    let (mut all, taken) = owning;
+    let (joined, stolen) = stealing;
+    all.join(joined);
+    (all, taken, stolen)
+}
+
+/// What an owner and a thief get that are then joined, and what the owner takes after that: the ids, in rising order.
+fn ids_of_joined<R: Threads>(rt: &R, alloc: Global) -> Result<Vec<u64>, Fail> {
+    let piece = execve_root(alloc)?;
+    let (owner, thief) = owner_and_thief(alloc, &piece).ok_or("a lease was not put")?;
+    let (mut all, taken, stolen) = get_and_join(rt, owner, thief);
+    let mut ids = Vec::new(alloc);
+    for id in [taken, stolen] {
+        if let Some(id) = id {
+            ids.push(id)?;
+        }
+    }
+    take_all(&mut all, &mut ids)?;
+    ids.sort()?;
+    Ok(ids)
+}
+
+#[test]
+fn joined_handles_have_got_each_lease_once(rt: HostRuntime) -> Result<(), Fail> {
+    let mut ids = ids_of_joined(&rt, rt.alloc())?;
+    // A steal that came to nothing.
+    if ids.last() == Some(&u64::MAX) {
+        ids.pop();
+    }
+    assert_eq!(rt; ids.as_slice(), [0, 1, 2, 3].as_slice());
     Ok(())
 }
