@@ -130,9 +130,9 @@ impl<T: Drop> Owner<T> {
 
 impl<T> Thief<T> {
     /// Tries to take the first item that no handle has got, at one moment of the call: `Success` has it. `Empty` where
-    /// each item that was put had been got. `Retry` where another handle came first, so that the thief saw one more
-    /// item leave the bench, and got nothing. A thief doesn't know what other live handles put and got, so of them the
-    /// contract says only that some steps of theirs lead to this result.
+    /// each item that was put had been got. `Retry` where another handle came first: the thief saw an item leave the
+    /// bench, or each had been got. It got nothing then. A thief doesn't know what other live handles put and got, so
+    /// of them the contract says only that some steps of theirs lead to this result.
     pub fn steal(&mut self) -> Steal<T>
         ensures got { MatchSteal result ((thief_view self.new ≡ thief_view self.old)
             × AllGot (thief_view self.old)) (thief_view self.new ≡ thief_view self.old)

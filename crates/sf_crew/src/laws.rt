@@ -6,9 +6,9 @@ ghost use Rattle.sf_crew.specs.declared.benches.history.HandleView.{HandleView};
 ghost use Rattle.sf_crew.specs.History.{HasHistory, IsWhole};
 ghost use Rattle.sf_crew.specs.Gets.{IsSharedOut, IsAllKnown};
 
-/// For the prover: handles of one bench, joined or not, share out what was put. No place of the list of what was put
-/// goes to two of them, what all got together is a beginning of this list, and each item that was got was the first
-/// that no handle had.
+/// For the prover: handles of a bench that are joined share out what was put, by each history that fits what they know.
+/// No place of the list of what was put goes to two handles, what all got together is a beginning of this list, and
+/// each item that was got was the first that no handle had.
 pub fn handles_share_what_was_put<T>()
     ensures { (v : HandleView T) (h : List (Event T)) → HasHistory v h → IsSharedOut v h }
 {}
