@@ -21,7 +21,9 @@ LOADER.exec_module(beside)
 ONE_CASE = ("--only", "sshd-preauth")
 REPORT = "report 2\\nfilters 1 path 99 questions 1\\nregions 3 open 0 emptied 0 splits 2 commits 5\\n"
 PRINTS = f"printf '{REPORT}'"
-COUNTS_FIRST = "i=0; while [ $i -lt 6000 ]; do i=$((i + 1)); done; " + PRINTS
+# Whether the audit is of a filter of more than one instruction, as a case is and what is taken off it isn't.
+IS_CASE = "for last; do :; done; [ $(wc -c < \"$last\") -gt 8 ]"
+COUNTS = "i=0; while [ $i -lt 6000 ]; do i=$((i + 1)); done"
 
 MOST_FILTERS, MOST_INSTRUCTIONS, MOST_PATH = 64, 4096, 32768
 
@@ -60,13 +62,14 @@ class Told(unittest.TestCase):
     def assert_told(self, peer, told, ours=PRINTS):
         status, text = self.beside(self.program("ours", ours), self.program("peer", peer))
         self.assertIn(told, text)
-        self.assertIn("1 cases, 1 different or without a report", text)
+        self.assertIn("2 cases, 2 different or without a report", text)
         self.assertEqual(status, 1)
 
     def test_equal_reports_pass(self):
         status, text = self.beside(self.program("ours", PRINTS), self.program("peer", PRINTS))
-        self.assertIn("1 cases, 0 different or without a report", text)
+        self.assertIn("2 cases, 0 different or without a report", text)
         self.assertIn("commits       5", text)
+        self.assertLess(text.index("exploring real stacks: least"), text.index("\nreal stacks: least"))
         self.assertEqual(status, 0)
 
     def test_an_altered_byte_is_told(self):
@@ -84,14 +87,20 @@ class Told(unittest.TestCase):
         self.assert_told(PRINTS + "; exit 1", "DIFFERENT: status 0 and 1")
 
     def test_a_signal_is_told(self):
-        self.assert_told(PRINTS + "; kill -9 $$", "DIFFERENT: status 0 and -9")
+        self.assert_told(f"{PRINTS}; {IS_CASE} && kill -9 $$", "DIFFERENT: status 0 and -9")
 
     def test_one_different_run_is_enough(self):
         once = os.path.join(self.folder.name, "once")
         self.assert_told(f"{PRINTS}; [ -e {once} ] && exit 2; touch {once}", "DIFFERENT: status 0 and 2")
 
     def test_refusals_are_no_reports(self):
-        self.assert_told("exit 3", "NO REPORT: status 3", ours="exit 3")
+        refuses = f"{IS_CASE} && exit 3; {PRINTS}"
+        self.assert_told(refuses, "NO REPORT: status 3", ours=refuses)
+
+    def test_a_program_that_refuses_one_instruction_is_refused(self):
+        status, text = self.beside(self.program("ours", PRINTS), self.program("peer", "exit 3"))
+        self.assertIn("01.bpf ends with status 3", text)
+        self.assertEqual(status, 1)
 
     def test_a_program_without_help_is_refused(self):
         status, text = self.beside(self.program("ours", PRINTS), self.program("peer", PRINTS, help_status=4))
@@ -101,7 +110,7 @@ class Told(unittest.TestCase):
     @unittest.skipUnless(shutil.which("cargo"), "no cargo")
     def test_the_plain_program_is_the_peer_if_none_is_given(self):
         ran = subprocess.run([sys.executable, BESIDE, plain(), *ONE_CASE], capture_output=True, text=True)
-        self.assertIn("1 cases, 0 different or without a report", ran.stdout)
+        self.assertIn("2 cases, 0 different or without a report", ran.stdout)
         self.assertEqual(ran.returncode, 0)
 
     def test_a_program_that_is_not_there_is_told(self):
@@ -116,9 +125,9 @@ class Told(unittest.TestCase):
 
     def assert_limited(self, *options):
         """A program that counts first is above a limit, and its peer isn't where the two change places."""
-        slow, fast = self.program("slow", COUNTS_FIRST), self.program("fast", PRINTS)
+        slow, fast = self.program("slow", f"{IS_CASE} && {{ {COUNTS}; }}; {PRINTS}"), self.program("fast", PRINTS)
         status, text = self.beside(slow, fast, "--limit", "2", *options)
-        self.assertIn("0 different or without a report, 1 above 2", text)
+        self.assertIn("0 different or without a report, 2 above 2", text)
         self.assertEqual(status, 1)
         status, text = self.beside(fast, slow, "--limit", "2", *options)
         self.assertIn("0 different or without a report, 0 above 2", text)
@@ -147,7 +156,7 @@ class Runs(unittest.TestCase):
 
     def test_processor_time_is_that_of_the_run(self):
         self.assertLess(run(["sleep", "0.2"]).processor, 0.1)
-        self.assertGreater(run(["sh", "-c", COUNTS_FIRST]).processor, 2 * run(["true"]).processor)
+        self.assertGreater(run(["sh", "-c", COUNTS]).processor, 2 * run(["true"]).processor)
 
 
 class Cases(unittest.TestCase):
