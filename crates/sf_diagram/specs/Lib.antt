@@ -1,0 +1,13 @@
+pub mod Trees
+pub mod TreeCode
+pub mod Stores
+pub mod Nodes
+pub mod Parts
+pub mod Choices
+pub mod Operations
+pub mod Merges
+pub mod LeastInputs
+pub mod Index
+pub mod Remembered
+pub mod Numbers
+pub mod KeepLaws

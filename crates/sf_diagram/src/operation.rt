@@ -1,0 +1,112 @@
+//! What a merge makes of two numbers.
+
+ghost use Rattle.std.specs.Prelude.{◌≡◌, true};
+ghost use Rattle.sf_diagram.specs.Operations.{action_bits, folded_of, looser_of, merged_of, pair_of, rank, reach_by, without_allowed_data};
+
+/// SECCOMP_RET_ALLOW: the call is carried out.
+const ALLOW: u32 = 0x7fff0000;
+
+/// What is made of the numbers that two trees have on an input.
+#[derive(Clone, Copy, Debug, PartialEq, Eq)]
+pub enum Operation {
+    /// The answer of filters: the first number is the answer of the newer ones, and the second is that of the older
+    /// ones, or what a single older one returns. The older one counts where its action has precedence. ALLOW has no
+    /// data.
+    Fold,
+    /// 1 where a call gets further by the second answer than by the first, else 0.
+    Looser,
+    /// 1 where a call gets less far by the second answer than by the first, else 0.
+    Tighter,
+    /// 1 where the numbers differ, else 0.
+    Different,
+    /// 0 where the numbers are equal; else both as one number, the first in the upper half of its bits. This tells
+    /// numbers below 65,536 apart, as the places of answers in a list.
+    Pair,
+}
+
+/// The rank of an action's number; the action of the lowest rank has precedence. The unsigned order of ranks is the
+/// signed order of these numbers.
+fn rank_of(number: u32) -> u32
+    ensures { result ≡ rank number }
+{
+    number.wrapping_add(0x80000000)
+}
+
+/// A return value as an answer: without its data where it is an ALLOW.
+fn answer_of(value: u32) -> u32
+    ensures { result ≡ without_allowed_data value }
+{
+    if value & 0xffff0000 == ALLOW {
+        ALLOW
+    } else {
+        value
+    }
+}
+
+/// Of two return values the one that counts, as an answer.
+fn folded(newer: u32, older: u32) -> u32
+    ensures { result ≡ folded_of newer older }
+{
+    if rank_of(older & 0xffff0000) < rank_of(newer & 0xffff0000) {
+        answer_of(older)
+    } else {
+        answer_of(newer)
+    }
+}
+
+/// How far an action lets a call get: 2, it is carried out; 1, another process decides; 0, it is refused.
+fn reach(action: u32) -> u32
+    ensures { result ≡ reach_by action }
+{
+    if action == 0x7fff0000 || action == 0x7ffc0000 {
+        2
+    } else if action == 0x7ff00000 || action == 0x7fc00000 {
+        1
+    } else {
+        0
+    }
+}
+
+/// 1 where a call gets further by the second answer than by the first, else 0.
+fn looser(before: u32, after: u32) -> u32
+    ensures { result ≡ looser_of before after }
+{
+    if reach(before & 0xffff0000) < reach(after & 0xffff0000) {
+        1
+    } else {
+        0
+    }
+}
+
+/// 0 for equal numbers, else both as one number.
+fn pair(first: u32, second: u32) -> u32
+    ensures { result ≡ pair_of first second }
+{
+    if first == second {
+        0
+    } else {
+        first % 65536 * 65536 + second % 65536
+    }
+}
+
+impl Operation {
+    /// What the operation makes of two numbers.
+    pub fn apply(self, first: u32, second: u32) -> u32
+        ensures { result ≡ merged_of self first second }
+    {
+        match self {
+            Operation::Fold => folded(first, second),
+            Operation::Looser => looser(first, second),
+            Operation::Tighter => looser(second, first),
+            Operation::Different => { if first == second { 0 } else { 1 } }
+            Operation::Pair => pair(first, second),
+        }
+    }
+}
+
+/// Whether two operations are the same one.
+pub(crate) fn is_same_operation(a: Operation, b: Operation) -> bool
+    ensures { result ≡ true → a ≡ b }
+{
+    a == b
+}

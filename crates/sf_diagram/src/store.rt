@@ -1,0 +1,254 @@
+//! A store of decision trees, in which equal trees are one node.
+
+ghost use Rattle.std.specs.Prelude.{◌≡◌, ◌≢◌, ◌↔◌, suc, ◌<◌, length, OnErr, IfOk, IfErr, IfSome};
+ghost use Rattle.sf_diagram.specs.Trees.{Leaf, Fork, IsJoined, IsOrderedTree, IsOrderedFrom, IsReducedTree};
+ghost use Rattle.sf_diagram.specs.Stores.{empty_store, tree_at, KeepsStore, IsLawfulStore, HasNoRoom};
+ghost use Rattle.sf_diagram.specs.Nodes.{OperandsBelow, tree_of};
+ghost use Rattle.sf_diagram.specs.Choices.{IsChosen};
+ghost use Rattle.sf_diagram.specs.Merges.{IsMerged};
+
+use crate::cache::{Remembered, place};
+use crate::fault::Fault;
+use crate::index::{Id, Indexed, Node};
+use crate::operation::{Operation, is_same_operation};
+use std::alloc::Global;
+use std::marker::Model;
+
+/// Decision trees, oldest first. Each is ordered and reduced, and none stands twice.
+#[derive(Drop)]
+pub struct Store {
+    // The nodes. The operands of each are older.
+    nodes: Indexed,
+    // Results of operations. A new one takes the place of an older one.
+    cache: Vec<Remembered>,
+    // How many nodes are allowed.
+    most: u32,
+}
+
+impl Model for Store {
+    ghost use Rattle.sf_diagram.specs.Stores.{StoreData, store_code};
+    ghost use Rattle.sf_diagram.specs.Nodes.{trees_of};
+    ghost use Rattle.sf_diagram.specs.Remembered.{IsSound};
+
+    ghost Value = { StoreData };
+
+    ghost coded = { store_code };
+
+    ghost view = { λ s. record { trees = trees_of s.nodes; most = s.most } };
+
+    ghost invariant = { λ s. IsSound s.nodes s.most s.cache.items };
+}
+
+impl Store {
+    /// A store without trees, which takes at most `most` nodes. `Memory` where an allocation is refused.
+    pub fn new(alloc: Global, most: u32) -> Result<Store, Fault>
+        ensures store { IfOk result (λ s. s ≡ empty_store most) }
+        ensures memory { IfErr result (λ e. e ≡ Fault.Memory) }
+    {
+        Ok(Store {
+            nodes: Indexed::new(alloc)?,
+            cache: Vec::new(alloc),
+            most,
+        })
+    }
+
+    /// The node at a place. The caller's condition: there is one.
+    pub fn node(&self, id: Id) -> Node
+        requires { id < length self.now.trees }
+        ensures tree { tree_at self.now.trees id ≡ tree_of self.now.trees result }
+        ensures older { OperandsBelow id result }
+        ensures lawful { IsLawfulStore self.now }
+    {
+        self.nodes.node(id as usize)
+    }
+
+    /// The node: one that is there already, or a new one. The caller's conditions: its operands are there, and its tree
+    /// is ordered and reduced. `Spent` where it would be one more than are allowed, `Memory` where an allocation is
+    /// refused; nothing changes then.
+    fn intern(&mut self, node: Node) -> Result<Id, Fault>
+        requires operands { OperandsBelow (length self.old.trees) node }
+        requires ordered { IsOrderedTree (tree_of self.old.trees node) }
+        requires reduced { IsReducedTree (tree_of self.old.trees node) }
+        ensures within { IfOk result (λ id. id < length self.new.trees) }
+        ensures tree { IfOk result (λ id.
+            tree_at self.new.trees id ≡ tree_of self.old.trees node) }
+        ensures keeps { KeepsStore self.old self.new }
+        ensures lawful { IsLawfulStore self.new }
+        ensures err { OnErr result (self.new ≡ self.old) }
+        ensures spent { result ≡ Err Fault.Spent
+            ↔ HasNoRoom self.old (tree_of self.old.trees node) }
+    {
+        if let Some(at) = self.nodes.find(node) {
+            return Ok(at as Id);
+        }
+        let at = self.nodes.len();
+        if at >= self.most as usize {
+            return Err(Fault::Spent);
+        }
+        self.nodes.add(node)?;
+        Ok(at as Id)
+    }
+
+    /// The leaf with this number: one that is there already, or a new one. `Spent` where it would be one more node than
+    /// are allowed, `Memory` where an allocation is refused; nothing changes then.
+    pub fn leaf(&mut self, number: u32) -> Result<Id, Fault>
+        ensures within { IfOk result (λ id. id < length self.new.trees) }
+        ensures tree { IfOk result (λ id. tree_at self.new.trees id ≡ Leaf number) }
+        ensures keeps { KeepsStore self.old self.new }
+        ensures lawful { IsLawfulStore self.new }
+        ensures err { OnErr result (self.new ≡ self.old) }
+        ensures spent { result ≡ Err Fault.Spent ↔ HasNoRoom self.old (Leaf number) }
+    {
+        self.intern(Node::Number(number))
+    }
+
+    /// The tree that leads to `lower` where the variable is false, and to `higher` where it is true: a fork, or, where
+    /// the two are the same, this one. The caller's conditions: the two are there, and their variables are greater.
+    /// `Spent` where the fork would be one more node than are allowed, `Memory` where an allocation is refused; nothing
+    /// changes then.
+    pub fn fork(&mut self, variable: u16, lower: Id, higher: Id) -> Result<Id, Fault>
+        requires lower { lower < length self.old.trees }
+        requires higher { higher < length self.old.trees }
+        requires below_lower { IsOrderedFrom (suc variable) (tree_at self.old.trees lower) }
+        requires below_higher { IsOrderedFrom (suc variable) (tree_at self.old.trees higher) }
+        ensures within { IfOk result (λ id. id < length self.new.trees) }
+        ensures tree { IfOk result (λ id. IsJoined variable (tree_at self.old.trees lower)
+            (tree_at self.old.trees higher) (tree_at self.new.trees id)) }
+        ensures keeps { KeepsStore self.old self.new }
+        ensures lawful { IsLawfulStore self.new }
+        ensures err { OnErr result (self.new ≡ self.old) }
+        ensures spent { result ≡ Err Fault.Spent ↔ ((lower ≢ higher) × HasNoRoom self.old
+            (Fork variable (tree_at self.old.trees lower) (tree_at self.old.trees higher))) }
+    {
+        // For the prover: the trees of the store are canonical.
+        let _node = self.node(lower);
+        if lower == higher {
+            return Ok(lower);
+        }
+        self.intern(Node::Choice(variable, lower, higher))
+    }
+
+    /// The tree that is 1 where the variable is true, else 0. `Spent` where a node would be one more than are allowed,
+    /// `Memory` where an allocation is refused; leaves may have been added then.
+    pub fn literal(&mut self, variable: u16) -> Result<Id, Fault>
+        ensures within { IfOk result (λ id. id < length self.new.trees) }
+        ensures tree { IfOk result (λ id.
+            tree_at self.new.trees id ≡ Fork variable (Leaf 0) (Leaf 1)) }
+        ensures keeps { KeepsStore self.old self.new }
+        ensures lawful { IsLawfulStore self.new }
+        ensures spent { IfErr result (λ e. e ≡ Fault.Spent
+            → HasNoRoom self.new (Fork variable (Leaf 0) (Leaf 1))) }
+    {
+        let zero = self.leaf(0)?;
+        let one = self.leaf(1)?;
+        let literal = self.fork(variable, zero, one)?;
+        Ok(literal)
+    }
+
+    /// The result of choosing by these three, where it is remembered.
+    pub(crate) fn recall_chosen(&self, test: Id, taken: Id, other: Id) -> Option<Id>
+        ensures within { IfSome result (λ id. id < length self.now.trees) }
+        ensures chosen { IfSome result (λ id. IsChosen (tree_at self.now.trees test)
+            (tree_at self.now.trees taken) (tree_at self.now.trees other)
+            (tree_at self.now.trees id)) }
+    {
+        if self.cache.is_empty() {
+            return None;
+        }
+        match self.cache[place(test, taken, other, self.cache.len())] {
+            Remembered::Chosen(a, b, c, result) if a == test && b == taken && c == other => {
+                Some(result)
+            }
+            _ => None,
+        }
+    }
+
+    /// Makes room for as many results as there are nodes, and forgets all results if there was less. `Memory` where an
+    /// allocation is refused.
+    fn make_room(&mut self) -> Result<(), Fault>
+        ensures same { self.new ≡ self.old }
+        ensures memory { IfErr result (λ e. e ≡ Fault.Memory) }
+    {
+        if self.cache.len() >= self.nodes.len() {
+            return Ok(());
+        }
+        let alloc = *self.cache.allocator();
+        let places = self.nodes.len().saturating_mul(2).saturating_add(1023);
+        self.cache = vec![in alloc; Remembered::Nothing; places]?;
+        Ok(())
+    }
+
+    /// Remembers the result of choosing by these three. `Memory` where an allocation is refused. The caller's
+    /// conditions: the four are there, and the result is right.
+    pub(crate) fn remember_chosen(
+        &mut self,
+        test: Id,
+        taken: Id,
+        other: Id,
+        chosen: Id,
+    ) -> Result<(), Fault>
+        requires test { test < length self.old.trees }
+        requires taken { taken < length self.old.trees }
+        requires other { other < length self.old.trees }
+        requires within { chosen < length self.old.trees }
+        requires chosen { IsChosen (tree_at self.old.trees test) (tree_at self.old.trees taken)
+            (tree_at self.old.trees other) (tree_at self.old.trees chosen) }
+        ensures same { self.new ≡ self.old }
+        ensures memory { IfErr result (λ e. e ≡ Fault.Memory) }
+    {
+        self.make_room()?;
+        if self.cache.is_empty() {
+            return Ok(());
+        }
+        let at = place(test, taken, other, self.cache.len());
+        self.cache[at] = Remembered::Chosen(test, taken, other, chosen);
+        Ok(())
+    }
+
+    /// The result of merging these two by the operation, where it is remembered.
+    pub(crate) fn recall_merged(&self, operation: Operation, first: Id, second: Id) -> Option<Id>
+        ensures within { IfSome result (λ id. id < length self.now.trees) }
+        ensures merged { IfSome result (λ id. IsMerged operation (tree_at self.now.trees first)
+            (tree_at self.now.trees second) (tree_at self.now.trees id)) }
+    {
+        if self.cache.is_empty() {
+            return None;
+        }
+        match self.cache[place(first, second, 1, self.cache.len())] {
+            Remembered::Merged(by, a, b, result) => {
+                if is_same_operation(by, operation) && a == first && b == second {
+                    Some(result)
+                } else {
+                    None
+                }
+            }
+            _ => None,
+        }
+    }
+
+    /// Remembers the result of merging these two by the operation. `Memory` where an allocation is refused. The
+    /// caller's conditions: the three are there, and the result is right.
+    pub(crate) fn remember_merged(
+        &mut self,
+        operation: Operation,
+        first: Id,
+        second: Id,
+        merged: Id,
+    ) -> Result<(), Fault>
+        requires first { first < length self.old.trees }
+        requires second { second < length self.old.trees }
+        requires within { merged < length self.old.trees }
+        requires merged { IsMerged operation (tree_at self.old.trees first)
+            (tree_at self.old.trees second) (tree_at self.old.trees merged) }
+        ensures same { self.new ≡ self.old }
+        ensures memory { IfErr result (λ e. e ≡ Fault.Memory) }
+    {
+        self.make_room()?;
+        if self.cache.is_empty() {
+            return Ok(());
+        }
+        let at = place(first, second, 1, self.cache.len());
+        self.cache[at] = Remembered::Merged(operation, first, second, merged);
+        Ok(())
+    }
+}
