@@ -7,6 +7,8 @@ mod blanks;
 #[cfg(test)]
 mod differences;
 #[cfg(test)]
+mod joining;
+#[cfg(test)]
 mod limits;
 #[cfg(test)]
 mod listings;

@@ -33,7 +33,7 @@ fn is_one_set(alloc: Global, text: &str, set: &str) -> bool {
 }
 
 /// A line for each set, with its calls.
-fn text_of(alloc: Global, sets: &[Names]) -> Result<String, Fail> {
+pub(crate) fn text_of(alloc: Global, sets: &[Names]) -> Result<String, Fail> {
     let mut text = String::new(alloc);
     for names in sets {
         write!(text, "{} {:x}", names.set(), names.arch())?;

@@ -1,2 +1,3 @@
+pub mod JoinLemmas
 pub mod NeverSyntax
 pub mod SetLemmas

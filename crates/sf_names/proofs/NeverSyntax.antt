@@ -1,10 +1,10 @@
 -- No tree is refused as `Syntax`.
-use Rattle.std.proofs.Common.{◌≡◌, ℕ, Bool, true, false, List, [], codes, Option, Some, None, Result, Ok, Err, refl, ap, sym, ◌∙◌, if◌then◌else◌}
+use Rattle.std.proofs.Common.{◌≡◌, ℕ, nat_lt, Bool, true, false, List, [], codes, Option, Some, None, Result, Ok, Err, refl, ap, sym, ◌∙◌, if◌then◌else◌}
 use Rattle.std.proofs.lemmas.Bool.{false≢true}
 use Rattle.toml.specs.Data.{Data, string, integer, float, boolean, datetime, array, table, Members, no_members, member, get_member}
 use Rattle.sf_names.specs.declared.fault.Fault.{Fault}
 use Rattle.sf_names.specs.declared.fault.Fault.TheVariants as faults
-use Rattle.sf_names.specs.Names.{CallData, GivesNames, NamesData, arch_at, arch_of_value, arch_where_word, call_cons, call_of_value, call_where_word, calls_at, calls_of, calls_of_value, has_names_keys, is_call_name, sets_of_file, set_cons, set_from, set_of_parts, set_of_value, sets_of_table, with_usual_set, word_in}
+use Rattle.sf_names.specs.Names.{CallData, GivesNames, NamesData, arch_at, arch_of_value, arch_where_word, call_cons, call_of_value, call_where_word, calls_at, calls_of, calls_of_value, has_names_keys, is_call_name, key_count, sets_of_file, set_cons, set_from, set_of_parts, set_of_value, sets_of_table, with_usual_set, word_in}
 
 -- the refusal is `Syntax`
 abbrev pub is_syntax : {X : Type 0} → Result X Fault → Bool
@@ -47,7 +47,7 @@ of_table (float x) = refl
 of_table (boolean b) = refl
 of_table (datetime t) = refl
 of_table (array ds) = refl
-of_table (table ms) = of_members ms
+of_table (table ms) = choice (nat_lt 1024 (key_count ms)) _ _ refl (of_members ms)
 
 of_calls : (o : Option Data) → is_syntax (calls_at o) ≡ false
 of_calls None = refl
@@ -103,7 +103,8 @@ named (Ok n) p = refl
 named (Err fault) p = p
 
 of_tree : (ms : Members) → is_syntax (sets_of_file ms) ≡ false
-of_tree ms = choice (has_names_keys ms) _ _ (before_sets _ (Ok []) (named _ (from_table [] ms)) refl) (of_sets ms)
+of_tree ms = choice (has_names_keys ms) _ _ (before_sets _ (Ok []) (named _ (from_table [] ms)) refl)
+    (choice (nat_lt 64 (key_count ms)) _ _ refl (of_sets ms))
 
 -- a function that gives the sets of a tree never answers `Syntax`
 pub no_syntax : {X : Type 0} (view : X → List NamesData) (r : Result X Fault) (ms : Members)

@@ -1,17 +1,22 @@
 -- The calls of a set and the sets of a file, one more at a time.
-use Rattle.std.proofs.Common.{◌≡◌, List, [], ◌∷◌, ◌++◌, ◌&&◌, append_assoc, Result, Ok, Err, refl, ap, sym, ◌∙◌, String, Global, string_bytes}
+use Rattle.std.proofs.Common.{arith, ◌≡◌, length, List, [], ◌∷◌, ◌++◌, ◌&&◌, append_assoc, Result, Ok, Err, refl, ap, sym, ◌∙◌, String, Global, string_bytes}
 use Rattle.std.specs.List.{list_all}
 use Rattle.std.specs.Map.{keys_of}
 use Rattle.toml.specs.View.{members_view}
 use Rattle.toml.specs.declared.value.Value.{Value}
 use Rattle.sf_names.specs.declared.fault.Fault.{Fault}
-use Rattle.sf_names.specs.Names.{HaveOrderedCalls, CallData, GivesSet, IsOrdered, NamesData, has_names_keys, is_names_key, list_of_one_set, set_cons}
+use Rattle.sf_names.specs.Names.{HaveOrderedCalls, CallData, GivesSet, IsOrdered, NamesData, has_names_keys, is_names_key, list_of_one_set, key_count, set_cons}
 
 -- the keys of a set, at the list that the code goes through
 pub keys_view : (es : List (String Global × Value))
     → has_names_keys (members_view es) ≡ list_all (λ key. is_names_key (string_bytes key)) (keys_of es)
 keys_view [] = refl
 keys_view (e ∷ es) = ap (λ b. is_names_key (string_bytes e.0) && b) (keys_view es)
+
+-- the number of a table's keys, at the list that the code counts
+pub count_view : (es : List (String Global × Value)) → key_count (members_view es) ≡ length es
+count_view [] = refl
+count_view (e ∷ es) = let rest = count_view es in omega (arith, rest)
 
 -- the calls that were read, in front of those that are left
 abbrev pub with_calls : List CallData → Result (List CallData) Fault → Result (List CallData) Fault

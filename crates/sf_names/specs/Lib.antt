@@ -1,2 +1,4 @@
 pub mod Names
 pub mod NamesLaws
+pub mod Joined
+pub mod JoinedLaws

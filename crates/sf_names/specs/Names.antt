@@ -54,6 +54,11 @@ abbrev pub word_in : ℤ → Option ℕ
 word_in (pos n) = if nat_lt n (2 ^ 32) then Some n else None
 word_in (negsuc n) = None
 
+-- the number of a table's keys
+abbrev pub key_count : Members → ℕ
+key_count no_members = 0
+key_count (member key d rest) = 1 + key_count rest
+
 -- a key that the table of a set may have
 abbrev pub is_names_key : List ℕ → Bool
 is_names_key key = bytes_eq key (codes "arch") || bytes_eq key (codes "calls")
@@ -97,9 +102,13 @@ abbrev pub calls_of : Members → Result (List CallData) Fault
 calls_of no_members = Ok []
 calls_of (member name d rest) = call_cons (call_of name d) (calls_of rest)
 
+-- the calls of a table, which has at most 1,024
+abbrev pub few_calls_of : Members → Result (List CallData) Fault
+few_calls_of ms = if nat_lt 1024 (key_count ms) then Err faults.Count else calls_of ms
+
 -- the calls of a value, which is a table
 abbrev pub calls_of_value : Data → Result (List CallData) Fault
-calls_of_value (table ms) = calls_of ms
+calls_of_value (table ms) = few_calls_of ms
 calls_of_value _ = Err faults.Key
 
 -- the calls at the key `calls`, which must be there
@@ -192,9 +201,12 @@ abbrev pub list_of_one_set : Result NamesData Fault → Result (List NamesData) 
 list_of_one_set n = set_cons n (Ok [])
 
 -- The sets of a file, or its first refusal. A file whose top has only keys of a set is one set; another one has a set
--- at each key.
+-- at each key, at most 64.
 abbrev pub sets_of_file : Members → Result (List NamesData) Fault
-sets_of_file ms = if has_names_keys ms then list_of_one_set (only_set ms) else sets_of_table ms
+sets_of_file ms =
+    if has_names_keys ms then list_of_one_set (only_set ms)
+    else if nat_lt 64 (key_count ms) then Err faults.Count
+    else sets_of_table ms
 
 -- these calls, by their numbers: those with one number keep their order
 pub record AreByNumber (file calls : List CallData) : Type 0 where

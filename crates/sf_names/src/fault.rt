@@ -13,9 +13,13 @@ pub enum Fault {
     #[error("no TOML")]
     Syntax,
     /// A key is unknown or missing, a value is of another kind, or the name of a set or of a call isn't 1 to 64
-    /// letters, digits and `_`.
-    #[error("an unknown key, a missing one, a value of another kind, or a wrong name")]
+    /// letters, digits and `_`. Or a file adds to a set of another one, and the number of the architecture, the number
+    /// of a name or the name of a number isn't the one that is there.
+    #[error("an unknown key, a missing one, a value of another kind, a wrong name, or another number or name than before")]
     Key,
+    /// A file has more than 64 sets, or a set more than 1,024 calls, where several files add to it too.
+    #[error("more than 64 sets in a file, or more than 1024 calls in a set")]
+    Count,
     /// A number is outside 32 bits.
     #[error("a number outside 32 bits")]
     Range,

@@ -2,11 +2,13 @@
 #![tactic(auto)]
 
 mod fault;
+mod joining;
 mod names;
 mod reading;
 mod text;
 
 pub use fault::Fault;
+pub use joining::join_sets;
 pub use names::{Call, Names, find_set, is_call_name};
 pub use reading::read_names;
 pub use text::push_names_between;

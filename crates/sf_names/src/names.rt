@@ -6,6 +6,9 @@ ghost use Rattle.sf_names.specs.Names.{has_name, has_set, is_call_name, is_name_
 
 use std::marker::Model;
 
+/// The most calls of a set. Linux has fewer than 500 on each architecture.
+pub(crate) const MOST_CALLS: usize = 1024;
+
 /// A call: its number and its name.
 #[derive(Debug, Drop)]
 pub struct Call {
@@ -47,7 +50,7 @@ pub struct Names {
     pub(crate) set: String,
     /// The number of the architecture, as in the word `arch` of an input.
     pub(crate) arch: u32,
-    /// The calls. `read_names` hands them out in the order of their numbers.
+    /// The calls. `read_names` hands them out in the order of their numbers, and `join_sets` keeps that order.
     pub(crate) calls: Vec<Call>,
 }
 
@@ -79,7 +82,7 @@ impl Names {
         self.arch
     }
 
-    /// The calls. `read_names` has put them in the order of their numbers.
+    /// The calls. `read_names` has put them in the order of their numbers, and `join_sets` keeps that order.
     pub fn calls(&self) -> &[Call]
         ensures { result.now ≡ self.now.calls }
     {

@@ -7,12 +7,15 @@ ghost use Rattle.toml.specs.Data.{Members, get_member};
 ghost use Rattle.toml.specs.Parse.{parse_document};
 ghost use Rattle.toml.specs.View.{table_view, view};
 ghost use Rattle.sf_names.specs.declared.fault.Fault.TheVariants.{Memory as MemoryFault};
-ghost use Rattle.sf_names.specs.Names.{AreByNumber, Gives, GivesNames, GivesSet, IsOrdered, arch_at, arch_of_value, arch_where_word, call_of, call_where_word, calls_at, calls_of, calls_of_value, has_names_keys, is_low_call, is_names_key, known_set, sets_of_file, list_of_one_set, only_set, set_from, set_of_key, set_of_table, set_of_value, sets_of_table, usual_set, word_in};
+ghost use Rattle.sf_names.specs.Names.{AreByNumber, Gives, GivesNames, GivesSet, IsOrdered, arch_at, arch_of_value, arch_where_word, call_of, call_where_word, calls_at, calls_of, calls_of_value, few_calls_of, has_names_keys, is_low_call, is_names_key, known_set, key_count, sets_of_file, list_of_one_set, only_set, set_from, set_of_key, set_of_table, set_of_value, sets_of_table, usual_set, word_in};
 
 use crate::fault::Fault;
-use crate::names::{Call, Names, is_call_name};
+use crate::names::{Call, MOST_CALLS, Names, is_call_name};
 use std::alloc::{AllocError, Global};
 use toml::{Table, Value};
+
+/// The most sets of a file. Five are known.
+const MOST_SETS: usize = 64;
 
 /// A number as a word of 32 bits; `None` where it is negative or has more bits.
 fn word_from(number: i64) -> Option<u32>
@@ -42,6 +45,13 @@ fn has_names_keys(table: &Table) -> bool
     ensures { result ≡ has_names_keys (table_view table.now) }
 {
     has_only_names_keys(table)
+}
+
+/// The number of a table's keys.
+fn key_count(table: &Table) -> usize
+    ensures { result ≡ key_count (table_view table.now) }
+{
+    table.len()
 }
 
 /// The call with this name and this number. The caller has checked the name by `is_call_name`. `Range` where the number
@@ -86,19 +96,29 @@ fn calls_of(alloc: Global, table: &Table) -> Result<Vec<Call>, Fault>
     Ok(calls)
 }
 
+/// As `calls_of`, but `Count` where the table has more than 1,024 keys, before a call is made.
+fn few_calls_of(alloc: Global, table: &Table) -> Result<Vec<Call>, Fault>
+    ensures { Gives (λ v. v.items) result (few_calls_of (table_view table.now)) }
+{
+    if key_count(table) > MOST_CALLS {
+        return Err(Fault::Count);
+    }
+    calls_of(alloc, table)
+}
+
 /// The calls of the value at a set's key `calls`, in the order of their names. `Key` where it is no table; then what
-/// `calls_of` refuses.
+/// `few_calls_of` refuses.
 fn calls_of_value(alloc: Global, value: &Value) -> Result<Vec<Call>, Fault>
     ensures { Gives (λ v. v.items) result (calls_of_value (view value.now)) }
 {
     match value {
-        Value::Table(calls) => calls_of(alloc, calls),
+        Value::Table(calls) => few_calls_of(alloc, calls),
         _ => Err(Fault::Key),
     }
 }
 
 /// The calls at the key `calls` of a set's table, in the order of their names. `Key` where the key is missing, or its
-/// value is no table; then what `calls_of` refuses.
+/// value is no table; then what `few_calls_of` refuses.
 fn calls_in(alloc: Global, table: &Table) -> Result<Vec<Call>, Fault>
     ensures { Gives (λ v. v.items) result
         (calls_at (get_member (codes "calls") (table_view table.now))) }
@@ -252,7 +272,7 @@ fn only_set(alloc: Global, table: &Table) -> Result<Names, Fault>
 
 /// Puts calls in the order of their numbers, in place; calls with the same number keep their order. An error where an
 /// allocation is refused; nothing is promised of the list then.
-fn put_by_number(calls: &mut Vec<Call>) -> Result<(), AllocError>
+pub(crate) fn put_by_number(calls: &mut Vec<Call>) -> Result<(), AllocError>
     ensures { OnOk result (AreByNumber calls.old.items calls.new.items) }
 {
     calls.sort_by_key(|call| call.number)
@@ -293,8 +313,9 @@ fn ordered_only_set(alloc: Global, table: &Table) -> Result<Names, Fault>
 
 /// The sets of the table at the top of a file that has a set at each key. They stand in the order of the keys, and the
 /// calls of each in the order of their numbers. The refusal is that of the first set that is refused: `Key` where the
-/// set's name, its value or a part of it is of a wrong form, or a key in it is missing or unknown; `Range` where a
-/// number in it is negative or has more than 32 bits. `Memory` where an allocation is refused.
+/// set's name, its value or a part of it is of a wrong form, or a key in it is missing or unknown; `Count` where it has
+/// more than 1,024 calls; `Range` where a number in it is negative or has more than 32 bits. `Memory` where an
+/// allocation is refused.
 fn sets_of(alloc: Global, table: &Table) -> Result<Vec<Names>, Fault>
     ensures { GivesNames (λ v. v.items) result (sets_of_table (table_view table.now)) }
 {
@@ -325,6 +346,7 @@ fn list_of_one_set(alloc: Global, table: &Table) -> Result<Vec<Names>, Fault>
 /// and `calls`, also an empty one, is itself one set, with the usual name of its architecture. Any other table has a
 /// set at each key.
 ///
+/// `Count` where such a table has more than 64 keys, before a set is made, or where a set has more than 1,024 calls;
 /// `Key` where a set's name, its value or a part of it is of a wrong form, or a key in it is missing or unknown;
 /// `Range` where a number in it is negative or has more than 32 bits; `Memory` where an allocation is refused.
 /// `read_names` says in which order this is tried.
@@ -333,6 +355,8 @@ fn names_of(alloc: Global, table: &Table) -> Result<Vec<Names>, Fault>
 {
     if has_names_keys(table) {
         list_of_one_set(alloc, table)
+    } else if key_count(table) > MOST_SETS {
+        Err(Fault::Count)
     } else {
         sets_of(alloc, table)
     }
@@ -347,11 +371,12 @@ fn names_of(alloc: Global, table: &Table) -> Result<Vec<Names>, Fault>
 /// number with eight hexadecimal digits, in capitals. In any other file each key at the top is the name of a set, and
 /// the value there is the set; the sets come in the order of their names.
 ///
-/// Refusals, tried in this order: `Syntax` where the text is no TOML; then, set after set, `Key` where the set's name
-/// isn't 1 to 64 letters, digits and `_`, or the set is no table, or has an unknown key; `Key` where its architecture
-/// is missing or no whole number, and `Range` where it hasn't 32 bits; `Key` where its calls are missing or no table;
-/// then, call after call in the order of the names, `Key` where the name isn't 1 to 64 letters, digits and `_`, or the
-/// value is no whole number, and `Range` where the number hasn't 32 bits. `Memory` can come anywhere.
+/// Refusals, tried in this order: `Syntax` where the text is no TOML; `Count` where it has more than 64 sets; then, set
+/// after set, `Key` where the set's name isn't 1 to 64 letters, digits and `_`, or the set is no table, or has an
+/// unknown key; `Key` where its architecture is missing or no whole number, and `Range` where it hasn't 32 bits; `Key`
+/// where its calls are missing or no table, and `Count` where they are more than 1,024; then, call after call in the
+/// order of the names, `Key` where the name isn't 1 to 64 letters, digits and `_`, or the value is no whole number, and
+/// `Range` where the number hasn't 32 bits. `Memory` can come anywhere.
 pub fn read_names(alloc: Global, text: &str) -> Result<Vec<Names>, Fault>
     // Where the text is TOML, the sets or the refusal are those of its tree.
     ensures read { (tree : Members) → parse_document text.now ≡ Some tree
