@@ -27,6 +27,7 @@ fn settings_of(alloc: Global) -> Result<Settings, Refused> {
         kernel: None,
         conflicts: Reading::Strictest,
         newer: false,
+        skip_unknown: true,
         calls,
     })
 }

@@ -8,9 +8,10 @@ use Rattle.sf_profile.specs.declared.fault.Fault.TheVariants as faults
 use Rattle.sf_profile.specs.declared.settings.Settings.{Settings}
 use Rattle.sf_profile.specs.Form.{form}
 use Rattle.sf_profile.specs.Plans.{plan_of}
-use Rattle.sf_profile.specs.Refusals.{profile_in, profile_refusal, refusal_of}
+use Rattle.sf_profile.specs.Configs.{profile_in}
+use Rattle.sf_profile.specs.Refusals.{profile_refusal, refusal_of}
 use Rattle.sf_profile.specs.Filters.{IsFilterOf, MakesFilter, IsRefused}
-use Rattle.sf_profile.specs.Notes.{AreNotesOf, AreNotesOfFile, AreUnknownIn, name_word, unknown_names}
+use Rattle.sf_profile.specs.Notes.{AreNotesOf, AreNotesOfFile, AreUnknownIn, name_word, nowhere_names}
 
 pub file_made : {V : Type 0} (r : Result V Fault) (items : V → List ℕ) (s : Settings) (file profile : Data)
     → profile_in file ≡ Some profile → IfOk r (λ v. profile_refusal s profile ≡ None)
@@ -45,7 +46,7 @@ file_told (Ok v) text s file profile e n = record { profile = profile; is_there 
 file_told (Err fault) text s file profile e n = tt
 
 pub file_unknown : {V : Type 0} (r : Result V Fault) (words : V → List ℕ) (s : Settings) (file profile : Data)
-    → profile_in file ≡ Some profile → IfOk r (λ v. words v ≡ flat_map name_word (unknown_names s profile))
+    → profile_in file ≡ Some profile → IfOk r (λ v. words v ≡ flat_map name_word (nowhere_names s profile))
     → IfOk r (λ v. AreUnknownIn s file (words v))
 file_unknown (Ok v) words s file profile e h = record { profile = profile; is_there = e; words_are = h }
 file_unknown (Err fault) words s file profile e h = tt

@@ -1,4 +1,7 @@
 pub mod TreeLemmas
+pub mod TextLemmas
+pub mod ConfigLemmas
+pub mod RepeatLemmas
 pub mod Returns
 pub mod RunLemmas
 pub mod JumpLemmas
@@ -18,3 +21,5 @@ pub mod RuleTurns
 pub mod FileLemmas
 pub mod LawLemmas
 pub mod NoteLemmas
+pub mod LimitLemmas
+pub mod CautionLemmas

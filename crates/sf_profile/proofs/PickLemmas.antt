@@ -95,7 +95,7 @@ comparing_small : (cs : List Comparison) → comparing_last cs < 8
 comparing_small [] = omega arith
 comparing_small (c ∷ cs) = omega arith
 
-order_small : (reading : Reading) (rule : RuleData) → order reading rule < 8
+pub order_small : (reading : Reading) (rule : RuleData) → order reading rule < 8
 order_small Strictest rule = strictness_small rule.response
 order_small Mildest rule = omega arith
 order_small First rule = comparing_small rule.comparisons

@@ -1,6 +1,8 @@
 -- What it is to be the filter of a profile, and why there is none.
-use Rattle.std.specs.Prelude.{◌≡◌, ◌≢◌, ◌⊎◌, ◌<◌, All, ℕ, length, List, [], ◌∷◌, Some, None}
+use Rattle.std.specs.Prelude.{◌≡◌, ◌≢◌, ◌⊎◌, ◌<◌, All, ℕ, length, List, [], ◌∷◌, Some, None, IsSomeAnd}
 use Rattle.std.specs.Str.{IsUtf8}
+use Rattle.json.specs.Json.{document}
+use Rattle.json.specs.Strict.{HasUniqueKeys}
 use Rattle.serde_json.specs.Data.{Data}
 use Rattle.serde_json.specs.Read.{read}
 use Rattle.sf_insn.specs.declared.input.Input.{Input}
@@ -17,7 +19,9 @@ use Rattle.sf_profile.specs.Data.{SetRulesData, PlanData, RuleData}
 use Rattle.sf_profile.specs.Meaning.{meaning}
 use Rattle.sf_profile.specs.Form.{form}
 use Rattle.sf_profile.specs.declared.settings.Settings.{Settings}
-use Rattle.sf_profile.specs.Refusals.{profile_in, profile_refusal, refusal_of}
+use Rattle.sf_profile.specs.Repeats.{last_rules, IsFaultOfRepeat}
+use Rattle.sf_profile.specs.Configs.{profile_in}
+use Rattle.sf_profile.specs.Refusals.{profile_refusal, refusal_of}
 use Rattle.sf_profile.specs.Plans.{plan_of}
 
 -- a comparison of all bits of an argument
@@ -58,10 +62,12 @@ abbrev pub IsRefused : Settings → Data → Fault → Type 0
 IsRefused s file fault =
     (fault ≡ faults.Memory) ⊎ ((refusal_of s file ≡ Some fault) ⊎ ((fault ≡ faults.TooLong) × IsTooLong s file))
 
--- the bytes are JSON, and this is the tree
+-- The bytes are JSON, no object of which has a key twice, and this is the tree. Readers of JSON differ in which of two
+-- equal keys they take.
 pub record IsTree (text : List ℕ) (file : Data) : Type 0 where
   pub utf8 : IsUtf8 text
   pub tree : read text ≡ Some file
+  pub unique : IsSomeAnd (document text) HasUniqueKeys
 
 -- the filter of the profile in a file
 pub record MakesFilterOf (s : Settings) (text bytes : List ℕ) : Type 0 where
@@ -69,8 +75,20 @@ pub record MakesFilterOf (s : Settings) (text bytes : List ℕ) : Type 0 where
   pub is_tree : IsTree text file
   pub makes : MakesFilter s file bytes
 
--- why there is no filter of a file's bytes: they are no JSON, or the tree is refused
-abbrev pub IsRefusedText : Settings → List ℕ → Fault → Type 0
-IsRefusedText s text fault =
+-- the bytes are JSON, but an object has a key twice, and the fault is that of the rule, or of the head
+pub record RepeatsKey (text : List ℕ) (fault : Fault) : Type 0 where
+  pub utf8 : IsUtf8 text
+  pub file : Data
+  pub is_read : read text ≡ Some file
+  pub repeats : IsSomeAnd (document text) (λ whole. ¬ HasUniqueKeys whole)
+  pub at : IsSomeAnd (document text) (λ whole. IsFaultOfRepeat 1 (last_rules whole) fault)
+
+-- why there is no tree of a file's bytes: they are no JSON; or memory was refused; or a key comes twice
+abbrev pub HasNoTree : List ℕ → Fault → Type 0
+HasNoTree text fault =
     ((fault ≡ faults.Syntax) × (IsUtf8 text → read text ≡ None))
-    ⊎ ((fault ≡ faults.Memory) ⊎ ((file : Data) × IsTree text file × IsRefused s file fault))
+    ⊎ ((fault ≡ faults.Memory) ⊎ RepeatsKey text fault)
+
+-- why there is no filter of a file's bytes: they have no tree, or the tree is refused
+abbrev pub IsRefusedText : Settings → List ℕ → Fault → Type 0
+IsRefusedText s text fault = HasNoTree text fault ⊎ ((file : Data) × IsTree text file × IsRefused s file fault)

@@ -1,6 +1,9 @@
 pub mod Faults
 pub mod Trees
 pub mod Profiles
+pub mod Errors
+pub mod Repeats
+pub mod Configs
 pub mod Settings
 pub mod Refusals
 pub mod Plans
@@ -9,3 +12,7 @@ pub mod Meaning
 pub mod Form
 pub mod Filters
 pub mod Notes
+pub mod Others
+pub mod Known
+pub mod Limits
+pub mod Cautions

@@ -1,5 +1,5 @@
 -- What is told of a profile.
-use Rattle.std.specs.Prelude.{◌≡◌, ℕ, ◌+◌, ◌/◌, Bool, not, List, [], ◌∷◌, ◌++◌, codes, length, filter, fold, Some, None, is_some, if◌then◌else◌}
+use Rattle.std.specs.Prelude.{◌≡◌, ℕ, ◌+◌, ◌/◌, List, [], ◌∷◌, ◌++◌, codes, length, filter, fold, Some, None, if◌then◌else◌}
 use Rattle.std.specs.List.{list_any, flat_map}
 use Rattle.std.specs.Str.{bytes_eq}
 use Rattle.std.specs.Fmt.{decimal}
@@ -8,12 +8,13 @@ use Rattle.sf_profile.specs.declared.rules.CallSet.{CallSet}
 use Rattle.sf_profile.specs.declared.rules.CallSet.TheVariants.{X64, X32, I386, Aarch64, Arm}
 use Rattle.sf_profile.specs.declared.rules.Response.{Response}
 use Rattle.sf_profile.specs.declared.rules.Response.TheVariants.{KillProcess, KillThread, Trap, Errno, Notify, Tracer, Log, Allow}
-use Rattle.sf_profile.specs.declared.settings.Calls.{Calls}
 use Rattle.sf_profile.specs.declared.settings.Settings.{Settings}
 use Rattle.sf_profile.specs.Trees.{at, listed}
-use Rattle.sf_profile.specs.Settings.{number_where}
+use Rattle.sf_profile.specs.Settings.{is_unknown}
+use Rattle.sf_profile.specs.Known.{is_nowhere}
 use Rattle.sf_profile.specs.Plans.{applies, rule_names, response_at, sets_of, plan_of}
-use Rattle.sf_profile.specs.Refusals.{profile_in, profile_refusal}
+use Rattle.sf_profile.specs.Configs.{profile_in}
+use Rattle.sf_profile.specs.Refusals.{profile_refusal}
 use Rattle.sf_profile.specs.Filters.{IsFilterOf, IsTree}
 
 -- the parts of a line one blank apart, and a line feed
@@ -34,13 +35,14 @@ with_name names name = if list_any (bytes_eq name) names then names else names +
 abbrev pub applied_names : Settings → Data → List (List ℕ)
 applied_names s d = fold with_name [] (flat_map (names_where s) (listed (at (codes "syscalls") d)))
 
--- no file of names has the name
-abbrev pub is_unknown : Settings → List ℕ → Bool
-is_unknown s name = not (list_any (λ (c : Calls). is_some (number_where (Some c) name)) s.calls.items)
-
 -- the names that no file has
 abbrev pub unknown_names : Settings → Data → List (List ℕ)
 unknown_names s d = filter (is_unknown s) (applied_names s d)
+
+-- those of them that no other machine has either, and that i386 hasn't behind another call: each makes the profile
+-- refused, unless such names are passed over
+abbrev pub nowhere_names : Settings → Data → List (List ℕ)
+nowhere_names s d = filter (is_nowhere s) (applied_names s d)
 
 -- how many rules apply
 abbrev pub applied_count : Settings → List Data → ℕ
@@ -125,17 +127,17 @@ pub record AreNotesOfText (s : Settings) (text notes : List ℕ) : Type 0 where
   pub is_tree : IsTree text file
   pub notes_are : AreNotesOfFile s file notes
 
--- ---- names that no file has
+-- ---- names that are passed over
 
 -- a name, with a blank before it
 abbrev pub name_word : List ℕ → List ℕ
 name_word name = 32 ∷ name
 
--- the names of the profile in a file that no file of names has, with a blank before each
+-- the names of the profile in a file that no machine has, with a blank before each
 pub record AreUnknownIn (s : Settings) (file : Data) (words : List ℕ) : Type 0 where
   pub profile : Data
   pub is_there : profile_in file ≡ Some profile
-  pub words_are : words ≡ flat_map name_word (unknown_names s profile)
+  pub words_are : words ≡ flat_map name_word (nowhere_names s profile)
 
 -- the same, from the bytes of the file
 pub record AreUnknownOf (s : Settings) (text words : List ℕ) : Type 0 where

@@ -14,10 +14,9 @@ use Rattle.sf_profile.specs.declared.names.Version.{Version}
 use Rattle.sf_profile.specs.Data.{RuleData, SetRulesData, PlanData}
 use Rattle.sf_profile.specs.Meaning.{word_of}
 use Rattle.sf_profile.specs.Trees.{at, listed, text_in, text_where, whole_where}
-use Rattle.sf_profile.specs.Profiles.{set_named, arch_name_of_set, response_named, comparing_named, up_to_or, argument_numbered, version_of, is_at_least}
+use Rattle.sf_profile.specs.Profiles.{set_named, name_of_set, arch_name_of_set, response_named, comparing_named, up_to_or, argument_numbered, version_of, is_at_least}
 use Rattle.sf_profile.specs.declared.settings.Settings.{Settings}
 use Rattle.sf_profile.specs.Settings.{is_same_set, number_of, has_cap}
-use Rattle.sf_profile.specs.Refusals.{is_own_item}
 
 -- ---- which rules apply
 
@@ -164,6 +163,10 @@ rule_of s set d cs = record {
   response = response_at (codes "action") (codes "errnoRet") d;
 }
 
+-- For the prover: the rule of one comparison, of calls that are known.
+abbrev pub rule_of_one : List Call → Response → Comparison → RuleData
+rule_of_one calls response c = record { calls = calls; comparisons = c ∷ []; response = response }
+
 -- the rules of a rule in a set
 abbrev pub rules_of : Settings → CallSet → Data → List RuleData
 rules_of s set d =
@@ -175,6 +178,10 @@ rules_of s set d =
 abbrev pub with_set : List CallSet → Option CallSet → List CallSet
 with_set sets None = sets
 with_set sets (Some set) = if list_any (is_same_set set) sets then sets else sets ++ set ∷ []
+
+-- the entry of `archMap` is the machine's
+abbrev pub is_own_item : Settings → Data → Bool
+is_own_item s d = bytes_eq (text_where (at (codes "architecture") d)) (name_of_set s.machine)
 
 -- the names of sets that an entry of `archMap` has, if it is the machine's
 abbrev pub item_sets : Settings → Data → List (List ℕ)

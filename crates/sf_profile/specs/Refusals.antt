@@ -1,7 +1,6 @@
 -- Why a profile is refused: the first refusal, in the profile's head and then rule after rule.
-use Rattle.std.specs.Prelude.{ℕ, ◌+◌, ◌-◌, ◌^◌, Bool, true, false, not, ◌&&◌, ◌||◌, if◌then◌else◌, List, [], ◌∷◌, codes, Option, Some, None, is_some}
+use Rattle.std.specs.Prelude.{ℕ, ◌+◌, ◌-◌, ◌^◌, Bool, true, false, not, ◌&&◌, ◌||◌, if◌then◌else◌, List, [], ◌∷◌, codes, Option, Some, None, is_some, option_and_then}
 use Rattle.std.specs.List.{list_all}
-use Rattle.std.specs.Str.{bytes_eq}
 use Rattle.serde_json.specs.Data.{Data}
 use Rattle.serde_json.specs.Find.{as_array}
 use Rattle.sf_names.specs.Names.{is_call_name}
@@ -9,20 +8,23 @@ use Rattle.sf_profile.specs.declared.fault.Fault.{Fault}
 use Rattle.sf_profile.specs.declared.fault.Fault.TheVariants as faults
 use Rattle.sf_profile.specs.declared.rules.CallSet.{CallSet}
 use Rattle.sf_profile.specs.declared.rules.Response.{Response}
-use Rattle.sf_profile.specs.Trees.{at, listed, absent_or, present, is_text, is_list_of, is_whole_number, text_in, text_where, whole_where, is_object_of}
-use Rattle.sf_profile.specs.Profiles.{profile_keys, map_keys, rule_keys, argument_keys, condition_keys, set_named, name_of_set, response_named, has_data, comparing_named, up_to_or, version_of}
+use Rattle.sf_profile.specs.Trees.{at, is_absent, listed, absent_or, present, is_text, is_list_of, is_whole_number, text_in, text_where, whole_where, is_object_of}
+use Rattle.sf_profile.specs.Profiles.{profile_keys, map_keys, rule_keys, argument_keys, condition_keys, set_named, response_named, has_data, comparing_named, up_to, up_to_or, version_of}
+use Rattle.sf_profile.specs.Errors.{is_error_name}
+use Rattle.sf_profile.specs.Configs.{profile_in}
 use Rattle.sf_profile.specs.declared.settings.Settings.{Settings}
 use Rattle.sf_profile.specs.Settings.{has_calls}
+use Rattle.sf_profile.specs.Plans.{is_own_item}
+use Rattle.sf_profile.specs.Limits.{has_few_parts, size_of_rule}
+use Rattle.sf_profile.specs.Known.{may_have_names}
 
 -- ---- parts
 
--- a key without a value
-abbrev pub is_absent : List ℕ → Data → Bool
-is_absent key d = not (is_some (at key d))
-
--- an error number is given under a name only where the number is given too
-abbrev pub has_number_if_named : List ℕ → List ℕ → Data → Bool
-has_number_if_named name number d = is_absent name d || is_some (at number d)
+-- an error's name stands only beside the error's number
+abbrev pub has_right_error_name : List ℕ → List ℕ → Data → Bool
+has_right_error_name name number d =
+    absent_or (λ given. is_error_name (text_in given) (option_and_then (up_to 65535) (whole_where (at number d))))
+    (at name d)
 
 -- a number stands only beside an action that has data; an unknown action is refused elsewhere
 abbrev pub takes_number : Option Response → Bool
@@ -59,7 +61,7 @@ has_names_or_name d =
 -- what a rule does
 abbrev pub is_action_of_rule : List ℕ → List ℕ → List ℕ → Data → Bool
 is_action_of_rule action number name d =
-    present is_text (at action d) && absent_or is_whole_number (at number d) && has_number_if_named name number d
+    present is_text (at action d) && absent_or is_whole_number (at number d) && has_right_error_name name number d
     && fits_action action number d
 
 -- a rule whose keys are all known and of their kinds
@@ -107,11 +109,13 @@ has_ranges d =
 
 -- ---- rules
 
--- why the rule with a number is refused, if it is
-abbrev pub rule_refusal : Settings → ℕ → Data → Option Fault
-rule_refusal s n d =
+-- why the rule with the number n is refused, if it is, where `left` rules and names may still come
+abbrev pub rule_refusal : Settings → ℕ → ℕ → Data → Option Fault
+rule_refusal s n left d =
     if not (is_rule s d) then Some (faults.RuleKey n)
+    else if not (has_few_parts left d) then Some (faults.RuleCount n)
     else if not (has_right_names d) then Some (faults.RuleName n)
+    else if not (may_have_names s d) then Some (faults.RuleUnknown n)
     else if not (knows_action_and_ops d) then Some (faults.RuleActions n)
     else if not (has_ranges d) then Some (faults.RuleRange n)
     else None
@@ -121,10 +125,11 @@ abbrev pub or_later : Option Fault → Option Fault → Option Fault
 or_later None later = later
 or_later (Some fault) later = Some fault
 
--- the first refusal of rules, the first of which has this number
-abbrev pub rules_refusal : Settings → ℕ → List Data → Option Fault
-rules_refusal s n [] = None
-rules_refusal s n (d ∷ ds) = or_later (rule_refusal s n d) (rules_refusal s (n + 1) ds)
+-- the first refusal of rules, the first of which has the number n, where `left` rules and names may still come
+abbrev pub rules_refusal : Settings → ℕ → ℕ → List Data → Option Fault
+rules_refusal s n left [] = None
+rules_refusal s n left (d ∷ ds) =
+    or_later (rule_refusal s n left d) (rules_refusal s (n + 1) (left - size_of_rule d) ds)
 
 -- ---- the head
 
@@ -159,10 +164,6 @@ knows_set s (Some set) = has_calls s set
 abbrev pub names_given_set : Settings → Data → Bool
 names_given_set s d = knows_set s (set_named (text_in d))
 
--- the entry of `archMap` is the machine's
-abbrev pub is_own_item : Settings → Data → Bool
-is_own_item s d = bytes_eq (text_where (at (codes "architecture") d)) (name_of_set s.machine)
-
 -- the sets of an entry of `archMap` are known, if it is the machine's
 abbrev pub knows_sets_of_item : Settings → Data → Bool
 knows_sets_of_item s d = not (is_own_item s d) || list_all (names_given_set s)
@@ -174,22 +175,14 @@ knows_sets s d =
     has_calls s s.machine && list_all (names_given_set s) (listed (at (codes "architectures") d))
     && list_all (knows_sets_of_item s) (listed (at (codes "archMap") d))
 
--- why a profile is refused, if it is
+-- why a profile is refused, if it is: of its rules and their names together, at most 8,192 may come
 abbrev pub profile_refusal : Settings → Data → Option Fault
 profile_refusal s d =
     if not (is_profile d) then Some faults.Key
     else if not (knows_action (codes "defaultAction") d) then Some faults.Actions
     else if not (has_error_number_or_none (codes "defaultErrnoRet") d) then Some faults.Range
     else if not (knows_sets s d) then Some faults.Set
-    else rules_refusal s 1 (listed (at (codes "syscalls") d))
-
--- the profile in a file: in a whole config.json it is `seccomp` of `linux`
-abbrev pub profile_where : Option Data → Data → Option Data
-profile_where None d = Some d
-profile_where (Some l) d = at (codes "seccomp") l
-
-abbrev pub profile_in : Data → Option Data
-profile_in d = profile_where (at (codes "linux") d) d
+    else rules_refusal s 1 8192 (listed (at (codes "syscalls") d))
 
 abbrev pub refusal_where : Settings → Option Data → Option Fault
 refusal_where s None = Some faults.Key

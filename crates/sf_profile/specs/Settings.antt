@@ -1,5 +1,5 @@
 -- What a profile is read for: a machine, a container and a kernel, with the numbers of calls.
-use Rattle.std.specs.Prelude.{ℕ, Bool, ◌==◌, if◌then◌else◌, List, find, count_by, Option, Some, None, option_map, string_bytes}
+use Rattle.std.specs.Prelude.{ℕ, Bool, ◌==◌, not, if◌then◌else◌, List, find, count_by, Option, Some, None, is_some, option_map, string_bytes}
 use Rattle.std.specs.List.{list_any}
 use Rattle.std.specs.Str.{bytes_eq}
 use Rattle.sf_names.specs.Names.{NamesData, is_low_call, number_of_call}
@@ -30,6 +30,10 @@ number_where (Some c) name = number_of_call c.names name
 
 abbrev pub number_of : Settings → CallSet → List ℕ → Option ℕ
 number_of s set name = number_where (find (λ (c : Calls). is_same_set c.set set) s.calls.items) name
+
+-- no given set has a call of this name
+abbrev pub is_unknown : Settings → List ℕ → Bool
+is_unknown s name = not (list_any (λ (c : Calls). is_some (number_where (Some c) name)) s.calls.items)
 
 -- the container has a capability
 abbrev pub has_cap : Settings → List ℕ → Bool

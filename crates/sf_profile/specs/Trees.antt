@@ -1,5 +1,5 @@
 -- Reading a JSON tree.
-use Rattle.std.specs.Prelude.{ℕ, ℤ, Bool, true, false, ◌&&◌, if◌then◌else◌, List, [], ◌∷◌, Option, Some, None, is_some, option_and_then, unwrap_or}
+use Rattle.std.specs.Prelude.{ℕ, ℤ, Bool, true, false, not, ◌&&◌, if◌then◌else◌, List, [], ◌∷◌, Option, Some, None, is_some, option_and_then, unwrap_or}
 use Rattle.std.specs.List.{list_any, list_all}
 use Rattle.std.specs.Str.{bytes_eq}
 use Rattle.serde_json.specs.Data.{Data, array, object, Items, no_items, item, Members, no_members, member}
@@ -13,6 +13,10 @@ given (Some d) = if is_some (as_null d) then None else Some d
 -- what an object has at a key
 abbrev pub at : List ℕ → Data → Option Data
 at key d = given (get key d)
+
+-- a key without a value
+abbrev pub is_absent : List ℕ → Data → Bool
+is_absent key d = not (is_some (at key d))
 
 -- the items of an array
 abbrev pub items_in : Items → List Data
@@ -63,12 +67,16 @@ abbrev pub whole_where : Option Data → Option ℤ
 whole_where None = None
 whole_where (Some d) = whole_in d
 
--- each key of the members is one of these
-abbrev pub keys_are_among : List (List ℕ) → Members → Bool
-keys_are_among keys no_members = true
-keys_are_among keys (member key d rest) = list_any (bytes_eq key) keys && keys_are_among keys rest
+-- the test is true of each key of the members
+abbrev pub all_keys : (List ℕ → Bool) → Members → Bool
+all_keys test no_members = true
+all_keys test (member key d rest) = test key && all_keys test rest
+
+-- an object, of each key of which the test is true
+abbrev pub is_object_with : (List ℕ → Bool) → Data → Bool
+is_object_with test (object ms) = all_keys test ms
+is_object_with test _ = false
 
 -- an object that has only these keys
 abbrev pub is_object_of : List (List ℕ) → Data → Bool
-is_object_of keys (object ms) = keys_are_among keys ms
-is_object_of keys _ = false
+is_object_of keys d = is_object_with (λ key. list_any (bytes_eq key) keys) d

@@ -24,14 +24,14 @@ struct Asked {
 }
 
 /// The low half of a number.
-fn low(value: u64) -> u32
+pub(crate) fn low(value: u64) -> u32
     ensures { result ≡ low value }
 {
     (value & 0xffff_ffff) as u32
 }
 
 /// The high half of a number.
-fn high(value: u64) -> u32
+pub(crate) fn high(value: u64) -> u32
     ensures { result ≡ high value }
 {
     (value >> 32) as u32

@@ -37,6 +37,13 @@ pub enum Fault {
     /// A name of a rule isn't 1 to 64 letters, digits and `_`.
     #[error("44 Name rule {rule}")]
     RuleName { rule: usize },
+    /// No call of the given sets has a name of a rule, nor has one of another machine.
+    #[error("44 Name rule {rule}")]
+    RuleUnknown { rule: usize },
+    /// A rule has more than 1,024 names or 64 comparisons, or counts with the rules before it for more than 8,192: each
+    /// rule for one, and each of its names for one.
+    #[error("45 Count rule {rule}")]
+    RuleCount { rule: usize },
     /// The profile is no UTF-8, is no JSON, nests deeper than 127, or has a number beyond a float's range or half a
     /// surrogate pair.
     #[error("46 Syntax")]
@@ -59,7 +66,8 @@ impl Fault {
             Fault::Key | Fault::RuleKey { .. } => 41,
             Fault::Range | Fault::RuleRange { .. } => 42,
             Fault::Actions | Fault::RuleActions { .. } => 43,
-            Fault::RuleName { .. } => 44,
+            Fault::RuleName { .. } | Fault::RuleUnknown { .. } => 44,
+            Fault::RuleCount { .. } => 45,
             Fault::Syntax => 46,
             Fault::Set => 49,
             Fault::Memory => 60,

@@ -5,23 +5,29 @@ ghost use Rattle.std.specs.List.{flat_map};
 ghost use Rattle.serde_json.specs.View.{view};
 ghost use Rattle.sf_profile.specs.Filters.{IsFilterOf, IsRefused, IsRefusedText, MakesFilter, MakesFilterOf};
 ghost use Rattle.sf_profile.specs.Form.{form};
-ghost use Rattle.sf_profile.specs.Notes.{AreNotesOf, AreNotesOfFile, AreNotesOfText, AreUnknownIn, AreUnknownOf, name_word, unknown_names as names_without_number};
+ghost use Rattle.sf_profile.specs.Notes.{AreNotesOf, AreNotesOfFile, AreNotesOfText, AreUnknownIn, AreUnknownOf, name_word, nowhere_names};
 ghost use Rattle.sf_profile.specs.Plans.{plan_of};
 ghost use Rattle.sf_profile.specs.Refusals.{profile_refusal};
 
+use crate::config::profile_in;
 use crate::fault::Fault;
 use crate::filter::filter_of;
 use crate::plan::plan_of;
-use crate::refusal::{profile_in, profile_refusal};
+use crate::refusal::profile_refusal;
 use crate::settings::Settings;
-use crate::telling::{notes_text, unknown_words};
+use crate::telling::{notes_text, nowhere_words};
+use crate::text::tree_of;
 use serde_json::Value;
 use std::alloc::Global;
 
 /// The filter of the profile `value`, as bytes. The refusal is that of `profile_refusal`, where it gives one; then
 /// `TooLong` where the filter would have more than 4096 instructions; `Memory` where an allocation is refused.
 #[tactic(auto, using(crate::proofs::ShortLemmas::profile_long))]
-fn filter_of_profile(alloc: Global, settings: &Settings, value: &Value) -> Result<Vec<u8>, Fault>
+pub(crate) fn filter_of_profile(
+    alloc: Global,
+    settings: &Settings,
+    value: &Value,
+) -> Result<Vec<u8>, Fault>
     ensures accepted { IfOk result (λ v. profile_refusal settings.now (view value.now) ≡ None) }
     ensures made { IfOk result (λ v. IsFilterOf v.items (plan_of settings.now (view value.now))) }
     ensures refused { IfErr result (λ e. (e ≡ Fault.Memory)
@@ -51,26 +57,19 @@ fn filter_of_file(alloc: Global, settings: &Settings, value: &Value) -> Result<V
 /// comparing with what is installed, and not for installing. `bytes` are those of the profile's file.
 ///
 /// Refusals, tried in this order: `Syntax` where the bytes are no UTF-8, no JSON, nest deeper than 127, or have a
-/// number beyond a float's range or half a surrogate pair; `Key` where there is no profile, or a key of its head is
-/// unknown or missing, has a value of a wrong kind (not all values are looked at: see `is_profile`), or doesn't go with
-/// another key; `Actions` where the default is an unknown action; `Range` where its number hasn't 16 bits; `Set` where
-/// a set that the profile is for isn't known, or its calls aren't given exactly once; then, rule after rule, `RuleKey`,
-/// `RuleName`, `RuleActions` and `RuleRange`, with the number of the rule from 1; then `TooLong` where the filter would
-/// have more than 4096 instructions. `Memory` can come anywhere.
+/// number beyond a float's range or half a surrogate pair; `RuleKey` or `Key` where a key comes twice; `Key` where
+/// there is no profile, or not all runtimes would find the same one (see `profile_in`), or a key of its head is unknown
+/// or missing, has a value of a wrong kind (not all values are looked at: see `is_profile`), or doesn't go with another
+/// key; `Actions` where the default is an unknown action; `Range` where its number hasn't 16 bits; `Set` where a set
+/// that the profile is for isn't known, or its calls aren't given exactly once; then, rule after rule, `RuleKey`,
+/// `RuleCount`, `RuleName`, `RuleUnknown`, `RuleActions` and `RuleRange`, with the number of the rule from 1; then
+/// `TooLong` where the filter would have more than 4096 instructions. `Memory` can come anywhere.
 pub fn profile(alloc: Global, settings: &Settings, bytes: &[u8]) -> Result<Vec<u8>, Fault>
     ensures made { IfOk result (λ v. MakesFilterOf settings.now bytes.now v.items) }
     ensures refused { IfErr result (λ e. IsRefusedText settings.now bytes.now e) }
 {
-    match Value::from_slice(alloc, bytes) {
-        Ok(value) => filter_of_file(alloc, settings, &value),
-        Err(error) => {
-            if error.is_memory() {
-                Err(Fault::Memory)
-            } else {
-                Err(Fault::Syntax)
-            }
-        }
-    }
+    let value = tree_of(alloc, bytes)?;
+    filter_of_file(alloc, settings, &value)
 }
 
 /// The notes on the profile `value`, as `notes_text` writes them. The refusals are those of `filter_of_profile`.
@@ -107,26 +106,18 @@ pub fn notes(alloc: Global, settings: &Settings, bytes: &[u8]) -> Result<String,
     ensures notes { IfOk result (λ t. AreNotesOfText settings.now bytes.now (string_bytes t)) }
     ensures refused { IfErr result (λ e. IsRefusedText settings.now bytes.now e) }
 {
-    match Value::from_slice(alloc, bytes) {
-        Ok(value) => notes_of_file(alloc, settings, &value),
-        Err(error) => {
-            if error.is_memory() {
-                Err(Fault::Memory)
-            } else {
-                Err(Fault::Syntax)
-            }
-        }
-    }
+    let value = tree_of(alloc, bytes)?;
+    notes_of_file(alloc, settings, &value)
 }
 
-/// The names in the profile `value` for which no set in `settings.calls` has a call, each once, with a blank before
-/// each. Only rules that apply count. `Memory` where an allocation is refused.
+/// The names in the profile `value` that no machine has, as far as the sets in `settings.calls` tell: each once, with a
+/// blank before each. Only rules that apply count. `Memory` where an allocation is refused.
 fn unknown_in_profile(alloc: Global, settings: &Settings, value: &Value) -> Result<String, Fault>
     ensures words { IfOk result (λ t. string_bytes t
-        ≡ flat_map name_word (names_without_number settings.now (view value.now))) }
+        ≡ flat_map name_word (nowhere_names settings.now (view value.now))) }
     ensures refused { IfErr result (λ e. e ≡ Fault.Memory) }
 {
-    let words = unknown_words(alloc, settings, value)?;
+    let words = nowhere_words(alloc, settings, value)?;
     Ok(words)
 }
 
@@ -143,21 +134,15 @@ fn unknown_in_file(alloc: Global, settings: &Settings, value: &Value) -> Result<
     }
 }
 
-/// The names in a profile for which no set in `settings.calls` has a call, each once, with a blank before each. Only
-/// rules that apply count. `bytes` are those of the profile's file. Refusals: `Syntax` as by `profile`; `Key` where
-/// there is no profile; `Memory` where an allocation is refused. Other faults of the profile aren't looked for.
+/// The names in a profile that are passed over where `settings.skip_unknown` is true, each once, with a blank before
+/// each: no set in `settings.calls` has a call with such a name, nor has another machine that libseccomp knows. Only
+/// rules that apply count. `bytes` are those of the profile's file. Refusals: `Syntax` as by `profile`; `Key` where a
+/// key comes twice, or there is no profile; `Memory` where an allocation is refused. Other faults of the profile aren't
+/// looked for.
 pub fn unknown_names(alloc: Global, settings: &Settings, bytes: &[u8]) -> Result<String, Fault>
     ensures words { IfOk result (λ t. AreUnknownOf settings.now bytes.now (string_bytes t)) }
     ensures refused { IfErr result (λ e. IsRefusedText settings.now bytes.now e) }
 {
-    match Value::from_slice(alloc, bytes) {
-        Ok(value) => unknown_in_file(alloc, settings, &value),
-        Err(error) => {
-            if error.is_memory() {
-                Err(Fault::Memory)
-            } else {
-                Err(Fault::Syntax)
-            }
-        }
-    }
+    let value = tree_of(alloc, bytes)?;
+    unknown_in_file(alloc, settings, &value)
 }

@@ -1,18 +1,19 @@
 //! The keys of a profile, and whether its parts are of their kinds.
 
-ghost use Rattle.std.specs.Prelude.{◌≡◌, codes};
+ghost use Rattle.std.specs.Prelude.{◌≡◌, codes, option_and_then};
 ghost use Rattle.std.specs.List.{list_all};
 ghost use Rattle.serde_json.specs.View.{items_view, view};
-ghost use Rattle.sf_profile.specs.Refusals.{fits_action, has_sets, is_absent, is_action_of_rule, is_comparison, is_array, is_condition, is_comparable_kernel, is_map_item, has_names_or_name, is_profile, is_rule, has_number_if_named, takes_number};
-ghost use Rattle.sf_profile.specs.Trees.{absent_or, at, is_object_of, is_list_of, items_in};
-ghost use Rattle.sf_profile.specs.Profiles.{argument_keys, condition_keys, map_keys, profile_keys, rule_keys};
+ghost use Rattle.sf_profile.specs.Refusals.{fits_action, has_sets, is_action_of_rule, is_comparison, is_array, is_condition, is_comparable_kernel, is_map_item, has_names_or_name, has_right_error_name, is_profile, is_rule, takes_number};
+ghost use Rattle.sf_profile.specs.Trees.{absent_or, at, is_absent, is_object_of, is_list_of, items_in, whole_where};
+ghost use Rattle.sf_profile.specs.Profiles.{argument_keys, condition_keys, map_keys, profile_keys, rule_keys, up_to};
 
-use crate::names::{has_data, response_named, version_of};
+use crate::errors::is_error_name;
+use crate::names::{has_data, response_named, up_to, version_of};
 use crate::rules::Response;
 use crate::settings::Settings;
 use crate::tree::{
     at, has_only, has_text, has_texts, has_texts_or_none, has_whole, has_whole_or_none, text_at,
-    text_of,
+    text_of, whole_at,
 };
 use serde_json::Value;
 
@@ -86,12 +87,23 @@ pub(crate) fn is_absent(value: &Value, key: &str) -> bool
     at(value, key).is_none()
 }
 
-/// Whether the key `name` is absent, or the key `number` is there. `number` is the key of an error number, and `name`
-/// that of the number's name: a name alone isn't enough.
-pub(crate) fn has_number_if_named(value: &Value, name: &str, number: &str) -> bool
-    ensures { result ≡ has_number_if_named name.now number.now (view value.now) }
+/// The error number at a key; `None` where the key is absent, or its value is no whole number from 0 to 65535.
+fn error_number_at(value: &Value, key: &str) -> Option<u64>
+    ensures { result ≡ option_and_then (up_to 65535)
+        (whole_where (at key.now (view value.now))) }
 {
-    is_absent(value, name) || !is_absent(value, number)
+    up_to(65535, whole_at(value, key)?)
+}
+
+/// Whether the key `name` is absent, or has the name of the error whose number is at the key `number`. podman follows
+/// the name, and other runtimes the number.
+pub(crate) fn has_right_error_name(value: &Value, name: &str, number: &str) -> bool
+    ensures { result ≡ has_right_error_name name.now number.now (view value.now) }
+{
+    match at(value, name) {
+        Some(given) => is_error_name(text_of(given), error_number_at(value, number)),
+        None => true,
+    }
 }
 
 /// Whether a number may stand beside a response: ERRNO and TRACE take one. `None` is an unknown action. A number may
@@ -208,15 +220,15 @@ pub(crate) fn is_named(value: &Value) -> bool
 }
 
 /// Whether an action is well given: there is a text at the key `action`; at the key `number`, that of its error number,
-/// there is a whole number of 64 bits or nothing; the key `name`, that of the number's name, doesn't stand without
-/// `number`; and `number` doesn't stand beside an action that takes none. The action may be unknown: `profile_refusal`
-/// and `rule_refusal` look at that.
+/// there is a whole number of 64 bits or nothing; the key `name` is absent, or has the name of this number; and
+/// `number` doesn't stand beside an action that takes none. The action may be unknown: `profile_refusal` and
+/// `rule_refusal` look at that.
 pub(crate) fn has_action_fields(value: &Value, action: &str, number: &str, name: &str) -> bool
     ensures { result ≡ is_action_of_rule action.now number.now name.now (view value.now) }
 {
     has_text(value, action)
         && has_whole_or_none(value, number)
-        && has_number_if_named(value, name, number)
+        && has_right_error_name(value, name, number)
         && fits_action(value, action, number)
 }
 
@@ -225,8 +237,8 @@ pub(crate) fn has_action_fields(value: &Value, action: &str, number: &str, name:
 /// or have the right form. False also where `includes` or `excludes` has a `minKernel`, and the kernel's version isn't
 /// given.
 ///
-/// The values of `errno` and `comment` aren't looked at. Nor is whether the names are right, the action and each `op`
-/// are known, and the numbers are in their ranges: `rule_refusal` looks at that.
+/// The value of `comment` isn't looked at. Nor is whether the names are right, the action and each `op` are known, and
+/// the numbers are in their ranges: `rule_refusal` looks at that.
 pub(crate) fn is_rule(settings: &Settings, value: &Value) -> bool
     ensures { result ≡ is_rule settings.now (view value.now) }
 {

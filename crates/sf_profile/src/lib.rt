@@ -2,27 +2,41 @@
 #![tactic(auto)]
 
 mod applying;
+mod cautions;
 mod comparing;
+mod config;
+mod errors;
 mod fault;
-mod faulty;
 mod file;
 mod filter;
 mod form;
 mod instruction;
 mod keys;
+mod known;
 pub mod laws;
+mod limits;
 mod names;
 mod naming;
+mod nearest;
+mod others;
 mod plan;
+mod reason;
 mod refusal;
+mod repeated;
+mod repeats;
 mod rules;
 mod settings;
 mod telling;
+mod text;
 mod tree;
+mod wording;
+mod zeros;
 
+pub use cautions::{loose_masks, zero_errors};
 pub use fault::Fault;
-pub use faulty::wrong_key;
 pub use file::{notes, profile, unknown_names};
 pub use names::{Version, version_of};
+pub use reason::refused;
 pub use rules::{CallSet, Reading};
 pub use settings::{Calls, Settings, set_of_names};
+pub use wording::{Refused, Why};

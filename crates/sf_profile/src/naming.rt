@@ -53,7 +53,7 @@ const IPC_CALLS: [&str; 12] = [
 ];
 
 /// The first place of a name among `names`, counted from 0; `None` where it isn't among them.
-fn place_of(name: &str, names: &[&str]) -> Option<usize>
+pub(crate) fn place_of(name: &str, names: &[&str]) -> Option<usize>
     ensures value { result ≡ place_from 0 name.now (map (λ n. n.now) names.now) }
     ensures small { IfSome result (λ n. n < length names.now) }
 {
@@ -66,7 +66,7 @@ fn place_of(name: &str, names: &[&str]) -> Option<usize>
 }
 
 /// The place of a name among the calls behind `socketcall`, counted from 0; `None` where it isn't among them.
-fn place_of_socket_call(name: &str) -> Option<usize>
+pub(crate) fn place_of_socket_call(name: &str) -> Option<usize>
     ensures value { result ≡ place_from 0 name.now socket_calls }
     ensures small { IfSome result (λ n. n < 20) }
 {
@@ -74,7 +74,7 @@ fn place_of_socket_call(name: &str) -> Option<usize>
 }
 
 /// The place of a name among the calls behind `ipc`, counted from 0; `None` where it isn't among them.
-fn place_of_ipc_call(name: &str) -> Option<usize>
+pub(crate) fn place_of_ipc_call(name: &str) -> Option<usize>
     ensures value { result ≡ place_from 0 name.now ipc_calls }
     ensures small { IfSome result (λ n. n < 12) }
 {

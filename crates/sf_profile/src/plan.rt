@@ -1,19 +1,23 @@
 //! The rules of a profile, in each of its sets of calls.
 
-ghost use Rattle.std.specs.Prelude.{◌≡◌, ◌∷◌, [], ◌++◌, map, fold, IfOk, OnOk, unwrap_or};
+ghost use Rattle.std.specs.Prelude.{◌≡◌, ◌⊎◌, ◌<◌, ◌∷◌, [], length, map, fold, true, IfErr, IfOk, OnOk, unwrap_or};
 ghost use Rattle.std.specs.List.{flat_map, list_any};
 ghost use Rattle.serde_json.specs.View.{view};
 ghost use Rattle.sf_profile.specs.Trees.{at, text_in, whole_where};
 ghost use Rattle.sf_profile.specs.Profiles.{set_named, up_to_or};
 ghost use Rattle.sf_profile.specs.Settings.{is_same_set};
-ghost use Rattle.sf_profile.specs.Plans.{alternatives, comparison_of, compares_twice, item_sets, is_of_same, rules_of_set, plan_of, response_at, rule_of, rules_of, sets_of, with_set};
+ghost use Rattle.sf_profile.specs.Form.{form};
+ghost use Rattle.sf_profile.specs.Limits.{has_long_part, have_many_calls};
+ghost use Rattle.sf_profile.specs.Plans.{alternatives, comparison_of, compares_twice, item_sets, is_of_same, rules_of_set, plan_of, response_at, rule_of, rule_of_one, rules_of, sets_of, with_set};
 
 use crate::applying::applies;
 use crate::comparing::word_of;
+use crate::fault::Fault;
+use crate::limits::{MOST_CALLS, calls_left};
 use crate::names::{argument_numbered, comparing_named, response_named, set_named, up_to_or};
 use crate::naming::{Place, calls_of};
 use crate::refusal::is_own_item;
-use crate::rules::{CallSet, Comparing, Comparison, Part, Plan, Response, Rule};
+use crate::rules::{Call, CallSet, Comparing, Comparison, Part, Plan, Response, Rule};
 use crate::settings::Settings;
 use crate::tree::{items_at, text_at, text_of, whole_at};
 use serde_json::Value;
@@ -43,7 +47,7 @@ pub(crate) fn response_at(value: &Value, action: &str, number: &str) -> Response
 
 /// The comparison that a value describes. A number that is absent or out of its range counts as 0, and a missing or
 /// unknown `op` as `Equal`. In a profile that isn't refused, `valueTwo` may be absent, and nothing else of this occurs.
-fn comparison_of(value: &Value) -> Comparison
+pub(crate) fn comparison_of(value: &Value) -> Comparison
     ensures { result ≡ comparison_of (view value.now) }
 {
     Comparison {
@@ -107,111 +111,134 @@ fn rule_of(
     })
 }
 
-/// A list of one comparison. An error where an allocation is refused.
-fn list_of_one(alloc: Global, comparison: Comparison) -> Result<Vec<Comparison>, AllocError>
-    ensures { IfOk result (λ v. v.items ≡ comparison ∷ []) }
+/// The rule of one comparison, with these calls. An error where an allocation is refused.
+fn rule_of_one(
+    alloc: Global,
+    calls: &[Call],
+    response: Response,
+    comparison: Comparison,
+) -> Result<Rule, AllocError>
+    ensures { IfOk result (λ r. r ≡ rule_of_one calls.now response comparison) }
 {
     let mut comparisons = Vec::new(alloc);
     comparisons.push(comparison)?;
-    Ok(comparisons)
+    Ok(Rule {
+        calls: Vec::from_slice(alloc, calls)?,
+        response,
+        comparisons,
+    })
 }
 
-/// Adds a rule for each of these comparisons, which are those of the profile's rule `value`: each rule has only its own
-/// comparison. An error where an allocation is refused; some of the rules may have been added then.
-fn push_each(
+/// A rule for each of these comparisons, with these calls: each rule has only its own comparison. An error where an
+/// allocation is refused.
+fn rules_of_each(
     alloc: Global,
-    rules: &mut Vec<Rule>,
+    calls: &[Call],
+    response: Response,
+    comparisons: &[Comparison],
+) -> Result<Vec<Rule>, AllocError>
+    ensures { IfOk result (λ v. v.items ≡ map (rule_of_one calls.now response)
+        comparisons.now) }
+{
+    let mut rules = Vec::new(alloc);
+    for comparison in comparisons {
+        rules.push(rule_of_one(alloc, calls, response, *comparison)?)?;
+    }
+    Ok(rules)
+}
+
+/// A rule for each of these comparisons, which are those of the profile's rule `value`: each rule has only its own
+/// comparison. The names of `value` are looked up once, for all of them. An error where an allocation is refused.
+#[tactic(auto, using(crate::proofs::PlanLemmas::each_rule))]
+fn alternatives_of(
+    alloc: Global,
     settings: &Settings,
     set: CallSet,
     value: &Value,
     comparisons: &[Comparison],
-) -> Result<(), AllocError>
-    ensures { OnOk result (rules.new.items ≡ rules.old.items
-        ++ map (rule_of settings.now set (view value.now)) (map (λ c. c ∷ []) comparisons.now)) }
+) -> Result<Vec<Rule>, AllocError>
+    ensures { IfOk result (λ v. v.items ≡ map (rule_of settings.now set (view value.now))
+        (map (λ c. c ∷ []) comparisons.now)) }
 {
-    for comparison in comparisons {
-        let rule = rule_of(
-            alloc,
-            settings,
-            set,
-            value,
-            list_of_one(alloc, *comparison)?,
-        )?;
-        rules.push(rule)?;
-    }
-    Ok(())
+    let place = Place { set, alone: false };
+    let calls = calls_of(alloc, settings, place, value)?;
+    let response = response_at(value, "action", "errnoRet");
+    rules_of_each(alloc, &calls, response, comparisons)
 }
 
-/// Adds the rules that the profile's rule `value` makes in a set. `comparisons` are all comparisons of `value`. Usually
+/// The rules that the profile's rule `value` makes in a set. `comparisons` are all comparisons of `value`. Usually
 /// `value` makes one rule with all of them. Where one argument is compared more than once, it makes a rule for each
 /// comparison, so that it is enough that one holds. Of more than six comparisons two are always of one of the six
-/// arguments, so `compares_twice` isn't asked then.
-///
-/// An error where an allocation is refused; some of the rules may have been added then.
-fn push_alternatives(
+/// arguments, so `compares_twice` isn't asked then. An error where an allocation is refused.
+fn rules_with(
     alloc: Global,
-    rules: &mut Vec<Rule>,
     settings: &Settings,
     set: CallSet,
     value: &Value,
     comparisons: Vec<Comparison>,
-) -> Result<(), AllocError>
-    ensures { OnOk result (rules.new.items ≡ rules.old.items
-        ++ map (rule_of settings.now set (view value.now)) (alternatives comparisons.items)) }
+) -> Result<Vec<Rule>, AllocError>
+    ensures { IfOk result (λ v. v.items ≡ map (rule_of settings.now set (view value.now))
+        (alternatives comparisons.items)) }
 {
     if comparisons.len() > 6 || compares_twice(&comparisons) {
-        return push_each(alloc, rules, settings, set, value, &comparisons);
+        return alternatives_of(alloc, settings, set, value, &comparisons);
     }
+    let mut rules = Vec::new(alloc);
     let rule = rule_of(alloc, settings, set, value, comparisons)?;
     rules.push(rule)?;
-    Ok(())
+    Ok(rules)
 }
 
-/// Adds the rules that the profile's rule `value` makes in a set, as `push_alternatives` does; nothing where the rule
-/// doesn't apply. An error where an allocation is refused; some of the rules may have been added then.
-fn push_rules_of(
+/// The rules that the profile's rule `value` makes in a set, as `rules_with` gives them; none where the rule doesn't
+/// apply. An error where an allocation is refused.
+fn rules_of(
     alloc: Global,
-    rules: &mut Vec<Rule>,
     settings: &Settings,
     set: CallSet,
     value: &Value,
-) -> Result<(), AllocError>
-    ensures { OnOk result (rules.new.items ≡ rules.old.items
-        ++ rules_of settings.now set (view value.now)) }
+) -> Result<Vec<Rule>, AllocError>
+    ensures { IfOk result (λ v. v.items ≡ rules_of settings.now set (view value.now)) }
 {
     if !applies(settings, value) {
-        return Ok(());
+        return Ok(Vec::new(alloc));
     }
     let comparisons = comparisons_of(alloc, items_at(value, "args"))?;
-    push_alternatives(alloc, rules, settings, set, value, comparisons)
+    rules_with(alloc, settings, set, value, comparisons)
 }
 
-/// The rules that a profile's rules make in a set, in their order. An error where an allocation is refused.
+/// The rules that a profile's rules make in a set, in their order. `TooLong` where they have more than `MOST_CALLS`
+/// calls in all: no more than these calls and those of one rule are ever held. `Memory` where an allocation is refused.
 fn rules_in(
     alloc: Global,
     settings: &Settings,
     set: CallSet,
     items: &[Value],
-) -> Result<Vec<Rule>, AllocError>
-    ensures { IfOk result (λ v. v.items
+) -> Result<Vec<Rule>, Fault>
+    ensures made { IfOk result (λ v. v.items
         ≡ flat_map (rules_of settings.now set) (map view items.now)) }
+    ensures refused { IfErr result (λ e. (e ≡ Fault.Memory) ⊎ ((e ≡ Fault.TooLong)
+        × (have_many_calls (flat_map (rules_of settings.now set) (map view items.now))
+        ≡ true))) }
 {
     let mut rules = Vec::new(alloc);
+    let mut left = MOST_CALLS;
     for value in items {
-        push_rules_of(alloc, &mut rules, settings, set, value)?;
+        let mut more = rules_of(alloc, settings, set, value)?;
+        let Some(rest) = calls_left(left, &more) else {
+            return Err(Fault::TooLong);
+        };
+        left = rest;
+        rules.append(&mut more)?;
     }
     Ok(rules)
 }
 
 /// The part of the plan for one set: the set, and the rules that the profile's rules, at the key `syscalls` of the
-/// profile `value`, make in it. An error where an allocation is refused.
-fn part_of(
-    alloc: Global,
-    settings: &Settings,
-    value: &Value,
-    set: CallSet,
-) -> Result<Part, AllocError>
-    ensures { IfOk result (λ p. p ≡ rules_of_set settings.now (view value.now) set) }
+/// profile `value`, make in it. The refusals are those of `rules_in`.
+fn part_of(alloc: Global, settings: &Settings, value: &Value, set: CallSet) -> Result<Part, Fault>
+    ensures made { IfOk result (λ p. p ≡ rules_of_set settings.now (view value.now) set) }
+    ensures refused { IfErr result (λ e. (e ≡ Fault.Memory) ⊎ ((e ≡ Fault.TooLong)
+        × (have_many_calls (rules_of_set settings.now (view value.now) set).rules ≡ true))) }
 {
     Ok(Part {
         set,
@@ -307,16 +334,19 @@ pub(crate) fn sets_of(
     Ok(sets)
 }
 
-/// The parts of the plan of the profile `value`, one for each of these sets, in their order. An error where an
-/// allocation is refused.
+/// The parts of the plan of the profile `value`, one for each of these sets, in their order. The refusals are those of
+/// `rules_in`.
+#[tactic(auto, using(crate::proofs::LimitLemmas::long_at))]
 fn parts_of(
     alloc: Global,
     settings: &Settings,
     value: &Value,
     sets: &[CallSet],
-) -> Result<Vec<Part>, AllocError>
-    ensures { IfOk result (λ v. v.items
+) -> Result<Vec<Part>, Fault>
+    ensures made { IfOk result (λ v. v.items
         ≡ map (rules_of_set settings.now (view value.now)) sets.now) }
+    ensures refused { IfErr result (λ e. (e ≡ Fault.Memory) ⊎ ((e ≡ Fault.TooLong)
+        × (has_long_part (map (rules_of_set settings.now (view value.now)) sets.now) ≡ true))) }
 {
     let mut parts = Vec::new(alloc);
     for set in sets {
@@ -326,9 +356,13 @@ fn parts_of(
 }
 
 /// The plan of the profile `value`: what the profile says, set by set. The caller has seen by `profile_refusal` that
-/// the profile isn't refused. An error where an allocation is refused.
-pub(crate) fn plan_of(alloc: Global, settings: &Settings, value: &Value) -> Result<Plan, AllocError>
-    ensures { IfOk result (λ p. p ≡ plan_of settings.now (view value.now)) }
+/// the profile isn't refused. `TooLong` where the filter of the plan would have more than 4096 instructions, as far as
+/// the number of its calls tells, before a plan of that size is made. `Memory` where an allocation is refused.
+#[tactic(auto, using(crate::proofs::LimitLemmas::plan_long))]
+pub(crate) fn plan_of(alloc: Global, settings: &Settings, value: &Value) -> Result<Plan, Fault>
+    ensures made { IfOk result (λ p. p ≡ plan_of settings.now (view value.now)) }
+    ensures refused { IfErr result (λ e. (e ≡ Fault.Memory) ⊎ ((e ≡ Fault.TooLong)
+        × (4096 < length (form (plan_of settings.now (view value.now)))))) }
 {
     let sets = sets_of(alloc, settings, value)?;
     Ok(Plan {

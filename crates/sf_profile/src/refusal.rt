@@ -1,13 +1,16 @@
 //! Why a profile is refused.
 
-ghost use Rattle.std.specs.Prelude.{◌≡◌, codes, map, option_map};
+ghost use Rattle.std.specs.Prelude.{◌≡◌, codes, map};
 ghost use Rattle.std.specs.List.{list_all};
 ghost use Rattle.serde_json.specs.View.{view};
-ghost use Rattle.sf_profile.specs.Refusals.{knows_action_and_ops, has_argument_range, has_error_number_or_none, can_be_name, has_right_names, has_ranges, is_own_item, names_given_set, knows_sets_of_item, knows_action, knows_comparison, knows_set, knows_sets, profile_in, profile_refusal, rule_refusal, rules_refusal};
+ghost use Rattle.sf_profile.specs.Refusals.{knows_action_and_ops, has_argument_range, has_error_number_or_none, can_be_name, has_right_names, has_ranges, names_given_set, knows_sets_of_item, knows_action, knows_comparison, knows_set, knows_sets, profile_refusal, rule_refusal, rules_refusal};
+ghost use Rattle.sf_profile.specs.Plans.{is_own_item};
 ghost use Rattle.sf_profile.specs.Trees.{absent_or, at};
 
 use crate::fault::Fault;
 use crate::keys::{is_profile, is_rule};
+use crate::known::may_have_names;
+use crate::limits::{MOST_IN_ALL, has_few_parts, size_of_rule};
 use crate::names::{comparing_named, name_of_set, response_named, set_named, up_to_or};
 use crate::rules::CallSet;
 use crate::settings::Settings;
@@ -131,16 +134,23 @@ fn has_ranges(value: &Value) -> bool
     has_error_number_or_none(value, "errnoRet") && have_argument_ranges(items_at(value, "args"))
 }
 
-/// Why the rule `value` is refused; `None` where it isn't. `rule` is its number, from 1, for the fault. The faults are
-/// tried in this order: `RuleKey`, `RuleName`, `RuleActions`, `RuleRange`.
-fn rule_refusal(settings: &Settings, rule: usize, value: &Value) -> Option<Fault>
-    ensures { result ≡ rule_refusal settings.now rule (view value.now) }
+/// Why the rule `value` is refused; `None` where it isn't. `rule` is its number, from 1, for the fault, and `left` what
+/// it may count for, as `size_of_rule` counts. The faults are tried in this order: `RuleKey`, `RuleCount`, `RuleName`,
+/// `RuleUnknown`, `RuleActions`, `RuleRange`.
+fn rule_refusal(settings: &Settings, rule: usize, left: usize, value: &Value) -> Option<Fault>
+    ensures { result ≡ rule_refusal settings.now rule left (view value.now) }
 {
     if !is_rule(settings, value) {
         return Some(Fault::RuleKey { rule });
     }
+    if !has_few_parts(left, value) {
+        return Some(Fault::RuleCount { rule });
+    }
     if !has_right_names(value) {
         return Some(Fault::RuleName { rule });
+    }
+    if !may_have_names(settings, value) {
+        return Some(Fault::RuleUnknown { rule });
     }
     if !knows_action_and_ops(value) {
         return Some(Fault::RuleActions { rule });
@@ -155,13 +165,15 @@ fn rule_refusal(settings: &Settings, rule: usize, value: &Value) -> Option<Fault
 /// from 1.
 #[tactic(auto, using(crate::proofs::RuleTurns::next_rule))]
 fn rules_refusal(settings: &Settings, items: &[Value]) -> Option<Fault>
-    ensures { result ≡ rules_refusal settings.now 1 (map view items.now) }
+    ensures { result ≡ rules_refusal settings.now 1 8192 (map view items.now) }
 {
+    let mut left = MOST_IN_ALL;
     for (i, value) in items.iter().enumerate() {
-        let refusal = rule_refusal(settings, i + 1, value);
+        let refusal = rule_refusal(settings, i + 1, left, value);
         if refusal.is_some() {
             return refusal;
         }
+        left = left.saturating_sub(size_of_rule(value));
     }
     None
 }
@@ -257,16 +269,4 @@ pub(crate) fn profile_refusal(settings: &Settings, value: &Value) -> Option<Faul
         return Some(Fault::Set);
     }
     rules_refusal(settings, items_at(value, "syscalls"))
-}
-
-/// The profile in a file's tree. Where there is a key `linux`, the file is a whole config.json, whose profile is at the
-/// key `seccomp` below `linux`; `None` where there is no `seccomp`. Where there is no `linux`, the tree itself is the
-/// profile.
-pub(crate) fn profile_in(value: &Value) -> Option<&Value>
-    ensures { option_map (λ v. view v.now) result ≡ profile_in (view value.now) }
-{
-    match at(value, "linux") {
-        Some(linux) => at(linux, "seccomp"),
-        None => Some(value),
-    }
 }

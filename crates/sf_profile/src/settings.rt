@@ -35,6 +35,9 @@ pub struct Settings {
     /// Whether ENOSYS is asked for at calls that are newer than all that the rules that apply name. It isn't heeded
     /// where the default lets calls through, or leaves them to a tracer.
     pub newer: bool,
+    /// Whether names of calls that no machine has are passed over: no set in `calls` has them, nor has another machine.
+    /// Else a profile is refused for such a name.
+    pub skip_unknown: bool,
     /// The calls of sets. A profile is refused where those of a set that it needs aren't among them exactly once.
     pub calls: Vec<Calls>,
 }
@@ -108,6 +111,11 @@ impl Calls {
         Some(Calls { set, names })
     }
 
+    /// The calls.
+    pub(crate) fn calls(&self) -> &[Call] {
+        self.names.calls()
+    }
+
     /// The number of the first call with this name; `None` where there is no such call.
     pub(crate) fn number_of(&self, name: &str) -> Option<u32>
         ensures { result ≡ number_where (Some self.now) name.now }
@@ -152,6 +160,14 @@ impl Settings {
         match calls_of(&self.calls, set) {
             Some(calls) => calls.number_of(name),
             None => None,
+        }
+    }
+
+    /// The calls of a set; none where they aren't given. If they are given more than once, the first ones count.
+    pub(crate) fn calls_in(&self, set: CallSet) -> &[Call] {
+        match calls_of(&self.calls, set) {
+            Some(calls) => calls.calls(),
+            None => &[],
         }
     }
 

@@ -1,18 +1,19 @@
 //! The notes on a profile.
 
-ghost use Rattle.std.specs.Prelude.{◌≡◌, ◌++◌, Some, codes, filter, fold, is_some, map, IfOk, OnOk, string_bytes};
-ghost use Rattle.std.specs.List.{flat_map, list_any};
+ghost use Rattle.std.specs.Prelude.{◌≡◌, ◌++◌, codes, filter, fold, map, IfOk, OnOk, string_bytes};
+ghost use Rattle.std.specs.List.{flat_map};
 ghost use Rattle.serde_json.specs.View.{view};
-ghost use Rattle.sf_profile.specs.Notes.{applied_count, applied_names, rules_line, default_line, is_unknown, name_word, names_where, notes_text, response_data, response_name, set_name_in_notes, set_words, sets_line, unknown_line, unknown_names, with_name};
+ghost use Rattle.sf_profile.specs.Notes.{applied_count, applied_names, rules_line, default_line, name_word, names_where, notes_text, nowhere_names, response_data, response_name, set_name_in_notes, set_words, sets_line, unknown_line, unknown_names, with_name};
 ghost use Rattle.sf_profile.specs.Plans.{rule_names, one_name};
-ghost use Rattle.sf_profile.specs.Settings.{number_where};
-ghost use Rattle.sf_profile.specs.declared.settings.Calls.{Calls as ACalls};
+ghost use Rattle.sf_profile.specs.Known.{is_nowhere};
+ghost use Rattle.sf_profile.specs.Settings.{is_unknown};
 ghost use Rattle.sf_profile.specs.Trees.{at, text_in};
 
 use crate::applying::applies;
+use crate::known::{is_nowhere, is_unknown};
 use crate::plan::{response_at, sets_of};
 use crate::rules::{CallSet, Response};
-use crate::settings::{Calls, Settings};
+use crate::settings::Settings;
 use crate::tree::{at, is_among, items_at, text_of};
 use serde_json::Value;
 use std::alloc::{AllocError, Global};
@@ -139,21 +140,6 @@ pub(crate) fn applied_names<'a>(
     Ok(names)
 }
 
-/// Whether at least one of the sets in `calls` has a call with this name. The profile need not be for this set.
-fn is_known(calls: &[Calls], name: &str) -> bool
-    ensures { result ≡ list_any (λ (c : ACalls). is_some
-        (number_where (Some c) name.now)) calls.now }
-{
-    calls.iter().any(|one| one.number_of(name).is_some())
-}
-
-/// Whether none of the sets in `settings.calls` has a call with this name.
-fn is_unknown(settings: &Settings, name: &str) -> bool
-    ensures { result ≡ is_unknown settings.now name.now }
-{
-    !is_known(&settings.calls, name)
-}
-
 /// Those of the names that are unknown, as `is_unknown` says, in their order. An error where an allocation is refused.
 fn unknown_names<'a>(
     alloc: Global,
@@ -170,6 +156,24 @@ fn unknown_names<'a>(
         }
     }
     Ok(unknown)
+}
+
+/// Those of the names that are nowhere, as `is_nowhere` says, in their order. An error where an allocation is refused.
+fn nowhere_names<'a>(
+    alloc: Global,
+    settings: &Settings,
+    names: &[&'a str],
+) -> Result<Vec<&'a str>, AllocError>
+    ensures { IfOk result (λ v. map (λ n. n.now) v.items
+        ≡ filter (is_nowhere settings.now) (map (λ n. n.now) names.now)) }
+{
+    let mut nowhere = Vec::new(alloc);
+    for name in names {
+        if is_nowhere(settings, name) {
+            nowhere.push(*name)?;
+        }
+    }
+    Ok(nowhere)
 }
 
 /// How many of these rules apply.
@@ -288,19 +292,19 @@ fn words_of(alloc: Global, names: &[&str]) -> Result<String, AllocError>
     Ok(text)
 }
 
-/// The unknown names, as `is_unknown` says, of those rules of the profile `value` that apply: each once, in the order
-/// of first mention, with a blank before each. An error where an allocation is refused.
-pub(crate) fn unknown_words(
+/// The names that are nowhere, as `is_nowhere` says, of those rules of the profile `value` that apply: each once, in
+/// the order of first mention, with a blank before each. An error where an allocation is refused.
+pub(crate) fn nowhere_words(
     alloc: Global,
     settings: &Settings,
     value: &Value,
 ) -> Result<String, AllocError>
     ensures { IfOk result (λ text. string_bytes text
-        ≡ flat_map name_word (unknown_names settings.now (view value.now))) }
+        ≡ flat_map name_word (nowhere_names settings.now (view value.now))) }
 {
     let names = applied_names(alloc, settings, value)?;
-    let unknown = unknown_names(alloc, settings, &names)?;
-    words_of(alloc, &unknown)
+    let nowhere = nowhere_names(alloc, settings, &names)?;
+    words_of(alloc, &nowhere)
 }
 
 /// The notes on the profile `value`. Their lines are: the form of the notes (`seccomp_audit profile 1`), the default,

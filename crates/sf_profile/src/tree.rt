@@ -5,7 +5,7 @@ ghost use Rattle.std.specs.BTreeMap.{keys};
 ghost use Rattle.std.specs.List.{list_any, list_all};
 ghost use Rattle.std.specs.Str.{bytes_eq};
 ghost use Rattle.serde_json.specs.View.{items_view, members_view, view};
-ghost use Rattle.sf_profile.specs.Trees.{absent_or, at, is_object_of, is_list_of, is_text, is_whole_number, items_in, listed, keys_are_among, present, text_in, text_where, whole_in, whole_where};
+ghost use Rattle.sf_profile.specs.Trees.{absent_or, at, is_object_of, is_list_of, is_text, is_whole_number, items_in, listed, all_keys, present, text_in, text_where, whole_in, whole_where};
 
 use serde_json::{Map, Value};
 
@@ -94,7 +94,7 @@ fn has_only_keys(map: &Map<String, Value>, known: &[&str]) -> bool
 
 /// The same as `has_only_keys`. For the prover: its clause speaks of the members of the object's tree.
 fn keys_are_among(object: &Map<String, Value>, known: &[&str]) -> bool
-    ensures { result ≡ keys_are_among (map (λ k. k.now) known.now)
+    ensures { result ≡ all_keys (λ key. list_any (bytes_eq key) (map (λ k. k.now) known.now))
         (members_view object.now.entries) }
 {
     has_only_keys(object, known)

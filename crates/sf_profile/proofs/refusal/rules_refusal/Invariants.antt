@@ -5,4 +5,5 @@ use Rattle.sf_profile.proofs.refusal.rules_refusal.Given as goal
 
 abbrev pub invariant-loop-i : goal.invariant-loop-i
 invariant-loop-i l =
-    rules_refusal l.settings 1 (map view l.items) ≡ rules_refusal l.settings (l.i + 1) (map view (drop l.i l.items))
+    rules_refusal l.settings 1 8192 (map view l.items)
+    ≡ rules_refusal l.settings (l.i + 1) l.left (map view (drop l.i l.items))

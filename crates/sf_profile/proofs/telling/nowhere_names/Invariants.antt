@@ -1,0 +1,9 @@
+use Rattle.std.proofs.Common.{◌≡◌, take, map}
+use Rattle.std.specs.Prelude.{filter}
+use Rattle.sf_profile.specs.Known.{is_nowhere}
+use Rattle.sf_profile.proofs.telling.nowhere_names.Given as goal
+
+abbrev pub invariant-loop-name : goal.invariant-loop-name
+invariant-loop-name l =
+    map (λ n. n.now) l.nowhere.items
+    ≡ filter (is_nowhere l.settings) (map (λ n. n.now) (take l.name-index l.names))

@@ -1,0 +1,85 @@
+-- What a profile says, and its writer may not mean.
+use Rattle.std.specs.Prelude.{◌≡◌, ℕ, ◌+◌, Bool, true, false, not, ◌&&◌, ◌==◌, bit_and, All, List, [], ◌∷◌, ◌++◌, codes, Some, None}
+use Rattle.std.specs.List.{list_any}
+use Rattle.serde_json.specs.Data.{Data}
+use Rattle.sf_insn.specs.declared.input.Input.{Input}
+use Rattle.sf_insn.specs.Inputs.{IsInput}
+use Rattle.sf_check.specs.declared.insn.Insn.{Insn}
+use Rattle.sf_check.specs.Programs.{SpellsProgram}
+use Rattle.sf_run.specs.declared.action.Action.TheVariants as actions
+use Rattle.sf_run.specs.Answers.{Answers}
+use Rattle.sf_profile.specs.declared.rules.Comparing.{Comparing}
+use Rattle.sf_profile.specs.declared.rules.Comparing.TheVariants.{MaskedEqual}
+use Rattle.sf_profile.specs.declared.rules.Comparison.{Comparison}
+use Rattle.sf_profile.specs.declared.settings.Settings.{Settings}
+use Rattle.sf_profile.specs.Trees.{at, listed}
+use Rattle.sf_profile.specs.Meaning.{number_in}
+use Rattle.sf_profile.specs.Plans.{applies, comparison_of, plan_of}
+use Rattle.sf_profile.specs.Configs.{profile_in}
+use Rattle.sf_profile.specs.Refusals.{profile_refusal}
+use Rattle.sf_profile.specs.Filters.{IsFilterOf, IsTree}
+
+-- ---- comparisons under a mask
+
+abbrev pub is_masked : Comparing → Bool
+is_masked MaskedEqual = true
+is_masked _ = false
+
+-- under a mask, the number that is asked for has a bit outside the mask, which counts for nothing
+abbrev pub is_loose : Comparison → Bool
+is_loose c = is_masked c.comparing && not (bit_and c.value_two c.value == c.value_two)
+
+-- a rule applies, and has such a comparison
+abbrev pub has_loose_mask : Settings → Data → Bool
+has_loose_mask s d = applies s d && list_any (λ v. is_loose (comparison_of v)) (listed (at (codes "args") d))
+
+abbrev pub number_if : Bool → ℕ → List ℕ
+number_if true n = n ∷ []
+number_if false n = []
+
+-- the numbers of these rules that do, where the first of them has this number
+abbrev pub loose_from : Settings → ℕ → List Data → List ℕ
+loose_from s n [] = []
+loose_from s n (d ∷ ds) = number_if (has_loose_mask s d) n ++ loose_from s (n + 1) ds
+
+-- the numbers of a profile's rules that do, from 1
+abbrev pub loose_masks : Settings → Data → List ℕ
+loose_masks s d = loose_from s 1 (listed (at (codes "syscalls") d))
+
+-- ---- ERRNO 0
+
+-- Programs answer ERRNO 0 at an input of this number: the call isn't made, and reports success.
+pub record AnswerZero (programs : List (List Insn)) (number : ℕ) : Type 0 where
+  pub input : Input
+  pub is_input : IsInput input
+  pub is_number : number_in input ≡ number
+  pub answers : Answers programs input (record { action = actions.Errno; info = 0 })
+
+-- the one program that bytes spell
+pub record AreProgramOf (bytes : List ℕ) (programs : List (List Insn)) : Type 0 where
+  pub program : List Insn
+  pub spelled : SpellsProgram bytes program
+  pub only : programs ≡ program ∷ []
+
+-- numbers of inputs that the filter of a profile answers ERRNO 0
+pub record HaveZeroErrors (s : Settings) (profile : Data) (numbers : List ℕ) : Type 0 where
+  pub accepted : profile_refusal s profile ≡ None
+  pub bytes : List ℕ
+  pub filter : IsFilterOf bytes (plan_of s profile)
+  pub programs : List (List Insn)
+  pub are_program : AreProgramOf bytes programs
+  pub zero : All (AnswerZero programs) numbers
+
+-- ---- files
+
+-- something is true of the profile in a file's tree
+pub record IsInFile (is_true : Data → Type 0) (file : Data) : Type 0 where
+  pub profile : Data
+  pub is_there : profile_in file ≡ Some profile
+  pub holds : is_true profile
+
+-- the same, from the bytes of the file
+pub record IsInText (is_true : Data → Type 0) (text : List ℕ) : Type 0 where
+  pub file : Data
+  pub is_tree : IsTree text file
+  pub holds : IsInFile is_true file

@@ -1,0 +1,147 @@
+//! What a profile says, and its writer may not mean: comparisons under a mask with a bit outside it, and ERRNO 0.
+
+ghost use Rattle.std.specs.Prelude.{◌≡◌, ◌++◌, codes, map, IfErr, IfOk, OnOk};
+ghost use Rattle.std.specs.List.{list_any};
+ghost use Rattle.serde_json.specs.View.{view};
+ghost use Rattle.sf_profile.specs.Cautions.{HaveZeroErrors, IsInFile, IsInText, has_loose_mask, is_loose, is_masked, loose_from, loose_masks, number_if};
+ghost use Rattle.sf_profile.specs.Filters.{IsRefused, IsRefusedText};
+ghost use Rattle.sf_profile.specs.Plans.{comparison_of};
+
+use crate::applying::applies;
+use crate::config::profile_in;
+use crate::fault::Fault;
+use crate::plan::comparison_of;
+use crate::rules::{Comparing, Comparison};
+use crate::settings::Settings;
+use crate::text::tree_of;
+use crate::tree::items_at;
+use crate::zeros::zeros_of_profile;
+use serde_json::Value;
+use std::alloc::{AllocError, Global};
+
+/// Whether a comparison looks only at the bits under a mask.
+fn is_masked(comparing: Comparing) -> bool
+    ensures { result ≡ is_masked comparing }
+{
+    matches!(comparing, Comparing::MaskedEqual)
+}
+
+/// Whether a comparison under a mask asks for a number with a bit outside the mask. That bit counts for nothing: only
+/// the bits under the mask are compared.
+fn is_loose(comparison: Comparison) -> bool
+    ensures { result ≡ is_loose comparison }
+{
+    is_masked(comparison.comparing)
+        && comparison.value_two & comparison.value != comparison.value_two
+}
+
+/// Whether one of the comparisons that values describe is loose, as `is_loose` says.
+fn is_some_loose(items: &[Value]) -> bool
+    ensures { result ≡ list_any (λ v. is_loose (comparison_of (view v))) items.now }
+{
+    items.iter().any(|value| is_loose(comparison_of(value)))
+}
+
+/// The same as `is_some_loose`. For the prover: its clause speaks of the list of the values' JSON trees.
+fn has_loose(items: &[Value]) -> bool
+    ensures { result ≡ list_any (λ v. is_loose (comparison_of v)) (map view items.now) }
+{
+    is_some_loose(items)
+}
+
+/// Whether a rule applies and has a loose comparison, as `is_loose` says.
+fn has_loose_mask(settings: &Settings, value: &Value) -> bool
+    ensures { result ≡ has_loose_mask settings.now (view value.now) }
+{
+    applies(settings, value) && has_loose(items_at(value, "args"))
+}
+
+/// Adds the number if `wanted`; else nothing. An error where an allocation is refused.
+fn push_if(numbers: &mut Vec<usize>, wanted: bool, number: usize) -> Result<(), AllocError>
+    ensures { OnOk result (numbers.new.items ≡ numbers.old.items ++ number_if wanted number) }
+{
+    if wanted {
+        numbers.push(number)?;
+    }
+    Ok(())
+}
+
+/// The numbers, from 1, of those of these rules of which `has_loose_mask` is true. An error where an allocation is
+/// refused.
+#[tactic(auto, using(crate::proofs::CautionLemmas::more_loose))]
+fn loose_rules(
+    alloc: Global,
+    settings: &Settings,
+    items: &[Value],
+) -> Result<Vec<usize>, AllocError>
+    ensures { IfOk result (λ v. v.items ≡ loose_from settings.now 1 (map view items.now)) }
+{
+    let mut numbers = Vec::new(alloc);
+    for (i, value) in items.iter().enumerate() {
+        push_if(&mut numbers, has_loose_mask(settings, value), i + 1)?;
+    }
+    Ok(numbers)
+}
+
+/// The numbers, from 1, of those rules of the profile `value` of which `has_loose_mask` is true. `Memory` where an
+/// allocation is refused.
+fn loose_in_profile(alloc: Global, settings: &Settings, value: &Value) -> Result<Vec<usize>, Fault>
+    ensures loose { IfOk result (λ v. v.items ≡ loose_masks settings.now (view value.now)) }
+    ensures refused { IfErr result (λ e. e ≡ Fault.Memory) }
+{
+    let numbers = loose_rules(alloc, settings, items_at(value, "syscalls"))?;
+    Ok(numbers)
+}
+
+/// What `loose_in_profile` gives for the profile in a file's tree. `Key` where there is no profile; `Memory` where an
+/// allocation is refused.
+fn loose_in_file(alloc: Global, settings: &Settings, value: &Value) -> Result<Vec<usize>, Fault>
+    ensures loose { IfOk result (λ v. IsInFile (λ p. v.items ≡ loose_masks settings.now p)
+        (view value.now)) }
+    ensures refused { IfErr result (λ e. IsRefused settings.now (view value.now) e) }
+{
+    match profile_in(value) {
+        Some(profile) => loose_in_profile(alloc, settings, profile),
+        None => Err(Fault::Key),
+    }
+}
+
+/// The numbers, from 1, of the rules of a profile that apply and have an `SCMP_CMP_MASKED_EQ` whose `valueTwo` has a
+/// bit outside its mask, which is `value`. The comparison doesn't ask for that bit. `bytes` are those of the profile's
+/// file. Refusals: `Syntax` as by `profile`; `Key` where a key comes twice, or there is no profile; `Memory` where an
+/// allocation is refused. Other faults of the profile aren't looked for.
+pub fn loose_masks(alloc: Global, settings: &Settings, bytes: &[u8]) -> Result<Vec<usize>, Fault>
+    ensures loose { IfOk result (λ v. IsInText (λ p. v.items ≡ loose_masks settings.now p)
+        bytes.now) }
+    ensures refused { IfErr result (λ e. IsRefusedText settings.now bytes.now e) }
+{
+    let value = tree_of(alloc, bytes)?;
+    loose_in_file(alloc, settings, &value)
+}
+
+/// What `zeros_of_profile` gives for the profile in a file's tree. `Key` where there is no profile; then what
+/// `zeros_of_profile` refuses.
+fn zeros_in_file(alloc: Global, settings: &Settings, value: &Value) -> Result<Vec<u32>, Fault>
+    ensures zeros { IfOk result (λ v. IsInFile (λ p. HaveZeroErrors settings.now p v.items)
+        (view value.now)) }
+    ensures refused { IfErr result (λ e. IsRefused settings.now (view value.now) e) }
+{
+    match profile_in(value) {
+        Some(profile) => zeros_of_profile(alloc, settings, profile),
+        None => Err(Fault::Key),
+    }
+}
+
+/// Numbers of calls that a profile answers by ERRNO 0: the call isn't made, and the program is told that it succeeded.
+/// Each is there once, and each is the number of an input that the profile's filter answers so. These inputs are found
+/// by trying what the rules suggest, so a number may be missing; but each call that a rule answers so, and each of a
+/// set's calls where the default does, is tried. `bytes` are those of the profile's file. The refusals are those of
+/// `profile`.
+pub fn zero_errors(alloc: Global, settings: &Settings, bytes: &[u8]) -> Result<Vec<u32>, Fault>
+    ensures zeros { IfOk result (λ v. IsInText (λ p. HaveZeroErrors settings.now p v.items)
+        bytes.now) }
+    ensures refused { IfErr result (λ e. IsRefusedText settings.now bytes.now e) }
+{
+    let value = tree_of(alloc, bytes)?;
+    zeros_in_file(alloc, settings, &value)
+}

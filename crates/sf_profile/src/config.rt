@@ -1,0 +1,207 @@
+//! Where the profile stands in a file.
+
+ghost use Rattle.std.specs.Prelude.{◌≡◌, ◌==◌, codes, map, option_map, string_bytes};
+ghost use Rattle.std.specs.BTreeMap.{keys};
+ghost use Rattle.std.specs.Char.{to_ascii_lowercase};
+ghost use Rattle.std.specs.List.{list_any, list_all};
+ghost use Rattle.serde_json.specs.View.{members_view, view};
+ghost use Rattle.sf_profile.specs.Configs.{are_clear_annotations, folded, has_zero, is_clear, is_clear_config, is_oci_profile, is_oci_rule, is_taken_for, profile_in};
+ghost use Rattle.sf_profile.specs.Profiles.{profile_keys};
+ghost use Rattle.sf_profile.specs.Trees.{absent_or, all_keys, at, is_object_with};
+
+use crate::keys::{PROFILE_KEYS, is_absent};
+use crate::tree::{at, items_at};
+use serde_json::{Map, Value};
+
+/// The annotation at which crun takes a filter, as bytes in base64: crun(1).
+pub(crate) const OTHER_FILTER: &str = "run.oci.seccomp_bpf_data";
+
+/// A character without its case, as Go's `encoding/json` compares keys. U+212A, the sign of kelvins, is a k, and
+/// U+017F, the long s, an s; no other character counts as an ASCII letter.
+fn folded(letter: char) -> char
+    ensures { result ≡ folded letter }
+{
+    if letter == '\u{212A}' {
+        return 'k';
+    }
+    if letter == '\u{17F}' {
+        return 's';
+    }
+    letter.to_ascii_lowercase()
+}
+
+/// Whether a character and a byte, which is ASCII, differ at most in case.
+fn is_letter(letter: char, byte: u8) -> bool
+    ensures { result ≡ (folded letter == to_ascii_lowercase byte) }
+{
+    folded(letter) == char::from(byte.to_ascii_lowercase())
+}
+
+/// Whether a key has just these letters, in whatever case.
+fn has_letters(key: &str, letters: &[u8]) -> bool
+    ensures { result ≡ is_taken_for key.now letters.now }
+{
+    let mut place = 0usize;
+    for letter in key.chars() {
+        if place >= letters.len() {
+            return false;
+        }
+        if !is_letter(letter, letters[place]) {
+            return false;
+        }
+        place += 1;
+    }
+    place == letters.len()
+}
+
+/// Whether Go takes a key for the known one, which is ASCII: they are equal, or differ only in case.
+pub(crate) fn is_taken_for(key: &str, known: &str) -> bool
+    ensures { result ≡ is_taken_for key.now known.now }
+{
+    has_letters(key, known.as_bytes())
+}
+
+/// Whether Go takes a key for one of these.
+fn is_taken_for_one(key: &str, known: &[&str]) -> bool
+    ensures { result ≡ list_any (λ k. is_taken_for key.now k.now) known.now }
+{
+    known.iter().any(|k| is_taken_for(key, *k))
+}
+
+/// The same as `is_taken_for_one`. For the prover: its clause speaks of the list of the known keys' texts.
+fn is_taken_for_any(key: &str, known: &[&str]) -> bool
+    ensures { result ≡ list_any (is_taken_for key.now) (map (λ k. k.now) known.now) }
+{
+    is_taken_for_one(key, known)
+}
+
+/// Whether a key has a byte 0. crun's reader, libyajl, ends it there.
+pub(crate) fn has_zero(key: &str) -> bool
+    ensures { result ≡ has_zero key.now }
+{
+    key.as_bytes().contains(&0)
+}
+
+/// Whether a key is `own`, or has no byte 0, and Go takes it neither for `own` nor for one of the others.
+fn is_clear(key: &str, own: &str, others: &[&str]) -> bool
+    ensures { result ≡ is_clear own.now (map (λ k. k.now) others.now) key.now }
+{
+    key == own || !(has_zero(key) || is_taken_for(key, own) || is_taken_for_any(key, others))
+}
+
+/// Whether each key of an object is clear, as `is_clear` says.
+fn has_clear_keys(object: &Map<String, Value>, own: &str, others: &[&str]) -> bool
+    ensures { result ≡ list_all (λ key. is_clear own.now (map (λ k. k.now) others.now)
+        (string_bytes key)) (keys object.now) }
+{
+    object.keys().all(|key| is_clear(key.as_str(), own, others))
+}
+
+/// The same as `has_clear_keys`. For the prover: its clause speaks of the members of the object's tree.
+fn keys_are_clear(object: &Map<String, Value>, own: &str, others: &[&str]) -> bool
+    ensures { result ≡ all_keys (is_clear own.now (map (λ k. k.now) others.now))
+        (members_view object.now.entries) }
+{
+    has_clear_keys(object, own, others)
+}
+
+/// Whether a value is an object, and each of its keys is clear, as `is_clear` says.
+fn is_clear_object(value: &Value, own: &str, others: &[&str]) -> bool
+    ensures { result ≡ is_object_with (is_clear own.now (map (λ k. k.now) others.now))
+        (view value.now) }
+{
+    match value {
+        Value::Object(object) => keys_are_clear(object, own, others),
+        _ => false,
+    }
+}
+
+/// Whether no key of a whole config.json stands beside `linux` that Go takes for `linux` or for a key of a profile.
+fn is_clear_file(value: &Value) -> bool
+    ensures { result ≡ is_object_with (is_clear (codes "linux") profile_keys) (view value.now) }
+{
+    is_clear_object(value, "linux", PROFILE_KEYS.as_slice())
+}
+
+/// Whether annotations are an object whose keys have no byte 0, without a filter that crun would install.
+fn are_clear_annotations(value: &Value) -> bool
+    ensures { result ≡ are_clear_annotations (view value.now) }
+{
+    is_clear_object(value, "", &[]) && is_absent(value, OTHER_FILTER)
+}
+
+/// Whether the annotations of a whole config.json are absent, or clear, as `are_clear_annotations` says.
+fn has_clear_annotations(value: &Value) -> bool
+    ensures { result ≡ absent_or are_clear_annotations
+        (at (codes "annotations") (view value.now)) }
+{
+    match at(value, "annotations") {
+        Some(annotations) => are_clear_annotations(annotations),
+        None => true,
+    }
+}
+
+/// Whether a rule is in OCI's form: none of its keys is one that only docker and podman know.
+fn is_oci_rule(value: &Value) -> bool
+    ensures { result ≡ is_oci_rule (view value.now) }
+{
+    is_absent(value, "name") && is_absent(value, "includes") && is_absent(value, "excludes")
+}
+
+/// Whether each rule is in OCI's form, as `is_oci_rule` says.
+fn are_each_oci_rules(items: &[Value]) -> bool
+    ensures { result ≡ list_all (λ v. is_oci_rule (view v)) items.now }
+{
+    items.iter().all(|value| is_oci_rule(value))
+}
+
+/// The same as `are_each_oci_rules`. For the prover: its clause speaks of the list of the values' JSON trees.
+fn are_oci_rules(items: &[Value]) -> bool
+    ensures { result ≡ list_all is_oci_rule (map view items.now) }
+{
+    are_each_oci_rules(items)
+}
+
+/// Whether a profile is in OCI's form: neither it nor one of its rules has a key that only docker and podman know.
+fn is_oci_profile(value: &Value) -> bool
+    ensures { result ≡ is_oci_profile (view value.now) }
+{
+    is_absent(value, "archMap") && are_oci_rules(items_at(value, "syscalls"))
+}
+
+/// Whether `linux` of a whole config.json has no `seccomp`, or one in OCI's form, as `is_oci_profile` says.
+fn has_oci_profile(linux: &Value) -> bool
+    ensures { result ≡ absent_or is_oci_profile (at (codes "seccomp") (view linux.now)) }
+{
+    match at(linux, "seccomp") {
+        Some(profile) => is_oci_profile(profile),
+        None => true,
+    }
+}
+
+/// Whether all runtimes find the same `linux` in a whole config.json and the same `seccomp` in it, know each key of
+/// this, and find no key of a profile beside `linux`, and no other filter. Such keys are no unknown ones: podman reads
+/// a profile at the top, and Go takes keys for others that differ from them in case.
+fn is_clear_config(value: &Value, linux: &Value) -> bool
+    ensures { result ≡ is_clear_config (view value.now) (view linux.now) }
+{
+    is_clear_file(value)
+        && is_clear_object(linux, "seccomp", &[])
+        && has_clear_annotations(value)
+        && has_oci_profile(linux)
+}
+
+/// The profile in a file's tree. Where there is a key `linux`, the file is a whole config.json, whose profile is at the
+/// key `seccomp` below `linux`; `None` where there is no `seccomp`, or not all runtimes would take this one, as
+/// `is_clear_config` says. Where there is no `linux`, the tree itself is the profile.
+pub(crate) fn profile_in(value: &Value) -> Option<&Value>
+    ensures { option_map (λ v. view v.now) result ≡ profile_in (view value.now) }
+{
+    let Some(linux) = at(value, "linux") else {
+        return Some(value);
+    };
+    if !is_clear_config(value, linux) {
+        return None;
+    }
+    at(linux, "seccomp")
+}
