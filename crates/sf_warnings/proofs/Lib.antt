@@ -1,2 +1,3 @@
 pub mod ReachingLemmas
 pub mod PassingLemmas
+pub mod ZeroErrorLemmas

@@ -1,6 +1,7 @@
 //! The lines of warnings. They are for a person, so contracts say nothing of their words.
 
 use crate::equal::first_same;
+use crate::errno::zero_errors;
 use crate::passing::{lets_none_through, may_let_through};
 use crate::reaching::reached;
 use sf_book::Settled;
@@ -78,10 +79,33 @@ pub fn warnings_of_files(
     Ok(text)
 }
 
+/// How many numbers of calls a line names.
+const MOST_NAMED: usize = 3;
+
+/// Adds the warning that these calls report success without being made: their answer is ERRNO with data 0. It names the
+/// first three numbers, and says how many more there are. Adds nothing where there are none. An error where an
+/// allocation is refused; a part of the line may stand in the text then.
+pub fn push_zero_errors(text: &mut String, numbers: &[u32]) -> Result<(), AllocError> {
+    if numbers.is_empty() {
+        return Ok(());
+    }
+    text.push_str("warning: ERRNO 0 reports success without making the call:")?;
+    for (i, number) in numbers.iter().take(MOST_NAMED).enumerate() {
+        let comma = if i == 0 { "" } else { "," };
+        write!(text, "{comma} nr {number}")?;
+    }
+    let more = numbers.len().saturating_sub(MOST_NAMED);
+    if more > 0 {
+        write!(text, " and {more} more")?;
+    }
+    text.push_str("\n")
+}
+
 /// The warnings for a stack that was explored, each a line. First come those of its files, as `warnings_of_files` has
-/// them. The last one says that no call gets through; it comes where nothing is outstanding and no region has the
-/// action ALLOW, LOG, TRACE or USER_NOTIF. Empty where there are none. The caller's condition: `files` are those of the
-/// stack's programs, in the same order. An error where an allocation is refused.
+/// them. Then one says that no call gets through; it comes where nothing is outstanding and no region has the action
+/// ALLOW, LOG, TRACE or USER_NOTIF. The last one is that of `push_zero_errors`, for the calls of `zero_errors`. Empty
+/// where there are none. The caller's condition: `files` are those of the stack's programs, in the same order. An error
+/// where an allocation is refused, or where a region's facts have too many owners.
 pub fn warnings_of_stack(
     alloc: Global,
     files: &[Vec<u8>],
@@ -91,6 +115,7 @@ pub fn warnings_of_stack(
     if lets_none_through(settled) {
         text.push_str("warning: no call gets through: are these filters of one process?\n")?;
     }
+    push_zero_errors(&mut text, &zero_errors(alloc, settled)?)?;
     Ok(text)
 }
 
