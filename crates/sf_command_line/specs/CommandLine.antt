@@ -158,17 +158,18 @@ needed_line = with_rule (with_rule (with_rule (with_rule (with_rule (with_rule (
     (switch_rule (codes "explain-errors")))
     filters_rule
 
--- `profile --machine MACHINE [--names FILE].. [--cap NAME].. [--kernel X.Y] [--conflicts RULE] [--newer] [--notes]
--- [--quiet] [--explain-errors] PROFILE`
+-- `profile --machine MACHINE [--names FILE].. [--cap NAME].. [--kernel X.Y] [--conflicts RULE] [--newer]
+-- [--skip-unknown] [--notes] [--quiet] [--explain-errors] PROFILE`
 abbrev pub profile_line : App
 profile_line = with_rule (with_rule (with_rule (with_rule (with_rule (with_rule (with_rule (with_rule (with_rule
-    (with_rule (new_app (codes "profile"))
+    (with_rule (with_rule (new_app (codes "profile"))
     (needed_rule (codes "machine")))
     (repeated_rule (codes "names")))
     (repeated_rule (codes "cap")))
     (option_rule (codes "kernel")))
     (word_rule (codes "conflicts") (codes "strictest")))
     (switch_rule (codes "newer")))
+    (switch_rule (codes "skip-unknown")))
     (switch_rule (codes "notes")))
     (switch_rule (codes "quiet")))
     (switch_rule (codes "explain-errors")))

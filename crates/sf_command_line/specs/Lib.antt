@@ -3,3 +3,4 @@ pub mod CommandLineLaws
 pub mod SubcommandLaws
 pub mod Options
 pub mod OptionsLaws
+pub mod Terminal

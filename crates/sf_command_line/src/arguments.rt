@@ -357,6 +357,14 @@ pub(crate) fn newer<'a>(alloc: Global) -> Arg<'a>
     )
 }
 
+/// `--skip-unknown`: whether names of a profile that no set of calls has are passed over, where it would be refused.
+pub(crate) fn skip_unknown<'a>(alloc: Global) -> Arg<'a>
+    ensures rule { rule_of result ≡ switch_rule (codes "skip-unknown") }
+    ensures own { result.global ≡ false }
+{
+    switch(alloc, "skip-unknown").help("Pass over names that no set of calls has")
+}
+
 /// `--notes`: whether notes on the profile are written, and no filter.
 pub(crate) fn notes<'a>(alloc: Global) -> Arg<'a>
     ensures rule { rule_of result ≡ switch_rule (codes "notes") }

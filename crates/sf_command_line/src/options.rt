@@ -118,6 +118,13 @@ pub fn wants_newer(found: &ArgMatches<'_>) -> bool
     is_on(found, "newer")
 }
 
+/// Whether `--skip-unknown` is given: names of the profile that no set of calls has are then passed over.
+pub fn skips_unknown(found: &ArgMatches<'_>) -> bool
+    ensures { IsSwitch (one_of (codes "skip-unknown") (rows_of (found_of found.now))) result }
+{
+    is_on(found, "skip-unknown")
+}
+
 /// Whether `--notes` is given: notes on the profile are then written, and no filter.
 pub fn wants_notes(found: &ArgMatches<'_>) -> bool
     ensures { IsSwitch (one_of (codes "notes") (rows_of (found_of found.now))) result }

@@ -6,13 +6,14 @@ ghost use Rattle.sf_command_line.specs.CommandLine.{audit_line, check_line, comm
 use crate::arguments::{
     accept, arch, arguments, budget, call, calls, cap, conflicts, control, explain, files, filters,
     input, instructions, json, kernel, leaves, machine, names, newer, notes, nr, only, policy,
-    profile_file, progress, quiet, regions, rows, same_switch, trace, trace_true, why, workers,
+    profile_file, progress, quiet, regions, rows, same_switch, skip_unknown, trace, trace_true,
+    why, workers,
 };
 use clap::Command;
 use std::alloc::{AllocError, Global};
 
 /// The version of the program, as `--version` shows it.
-const VERSION: &str = "1.5.0";
+const VERSION: &str = "1.6.0";
 
 /// What stands at the end of the program's `--help`.
 const AFTER_HELP: &str = "Exit status:
@@ -167,6 +168,7 @@ fn profile<'a>(alloc: Global) -> Result<Command<'a>, AllocError>
         .arg(kernel(alloc))?
         .arg(conflicts(alloc))?
         .arg(newer(alloc))?
+        .arg(skip_unknown(alloc))?
         .arg(notes(alloc))?
         .arg(quiet(alloc))?
         .arg(explain(alloc))?

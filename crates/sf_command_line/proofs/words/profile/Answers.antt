@@ -17,10 +17,13 @@ returns c =
     ∙ ap₂ with_rule with_kernel c.conflicts.ensures.rule in
     let with_newer = c.in_ok-arg-6.ensures.shape c.newer.ensures.own
     ∙ ap₂ with_rule with_conflicts c.newer.ensures.rule in
-    let with_notes = c.in_ok-arg-7.ensures.shape c.notes.ensures.own ∙ ap₂ with_rule with_newer c.notes.ensures.rule in
-    let with_quiet = c.in_ok-arg-8.ensures.shape c.quiet.ensures.own ∙ ap₂ with_rule with_notes c.quiet.ensures.rule in
-    let with_explain = c.in_ok-arg-9.ensures.shape c.explain.ensures.own
+    let with_skip_unknown = c.in_ok-arg-7.ensures.shape c.skip_unknown.ensures.own
+    ∙ ap₂ with_rule with_newer c.skip_unknown.ensures.rule in
+    let with_notes = c.in_ok-arg-8.ensures.shape c.notes.ensures.own
+    ∙ ap₂ with_rule with_skip_unknown c.notes.ensures.rule in
+    let with_quiet = c.in_ok-arg-9.ensures.shape c.quiet.ensures.own ∙ ap₂ with_rule with_notes c.quiet.ensures.rule in
+    let with_explain = c.in_ok-arg-10.ensures.shape c.explain.ensures.own
     ∙ ap₂ with_rule with_quiet c.explain.ensures.rule in
-    IfOk-weaker c.arg-10.result _ _ (λ r h. h.shape c.profile_file.ensures.own
+    IfOk-weaker c.arg-11.result _ _ (λ r h. h.shape c.profile_file.ensures.own
     ∙ ap₂ with_rule with_explain c.profile_file.ensures.rule)
-    c.arg-10.ensures
+    c.arg-11.ensures
