@@ -42,8 +42,8 @@ use std::thread::Threads;
 /// The sets of calls in the files that `--names` gives, file after file; an empty list where the option isn't given.
 /// The notes count the files, and the sets of each. The caller's condition: the notes have counted no file before.
 ///
-/// The refusal is that of the first file that is refused: `Read`, `Syntax`, `NamesKey` or `NamesRange` (`Fault` says
-/// when each comes). `Memory` can come anywhere.
+/// The refusal is that of the first file that is refused: `Read`, `Syntax`, `NamesKey`, `NamesCount` or `NamesRange`
+/// (`Fault` says when each comes). `Memory` can come anywhere.
 fn names_of<F: Files>(
     alloc: Global,
     found: &ArgMatches<'_>,
@@ -78,8 +78,8 @@ fn with_gate<'r, 'g, R, M, G>(means: &Means<'r, '_, R, M>, gate: &'g G) -> Means
 /// Runs `audit` as the matches of the subcommand say, and gives the exit status that it gives, 0 to 2. The caller has
 /// seen by `words_fit_for` that the words fit, and the notes have counted no file before.
 ///
-/// Refusals, tried in this order: `Read`, `Syntax`, `NamesKey` or `NamesRange` for a file of names; those of `audit`.
-/// `Memory` can come anywhere. After any error but `Write` nothing is written.
+/// Refusals, tried in this order: `Read`, `Syntax`, `NamesKey`, `NamesCount` or `NamesRange` for a file of names; those
+/// of `audit`. `Memory` can come anywhere. After any error but `Write` nothing is written.
 fn run_audit<R: Threads + Wait + Sync, F: Files, M: Meter, O: Write>(
     means: &Means<'_, '_, R, M>,
     found: &ArgMatches<'_>,
@@ -152,10 +152,10 @@ fn run_check<F: Files, O: Write>(
 /// The exit status is 0.
 ///
 /// Refusals, tried in this order: `Input` where `--input` spells no input, or a number is too wide, as `numbers_fit`
-/// says; `Read`, `Syntax`, `NamesKey` or `NamesRange` for a file of names; `UnknownName` where no set has the name
-/// behind `--arch`, or that set has no call with the name behind `--call`; `Read` where a filter file can't be read or
-/// is too long; what `stack_of` refuses; `Write` where standard output can't be written. `Memory` can come anywhere.
-/// After any error but `Write` nothing is written.
+/// says; `Read`, `Syntax`, `NamesKey`, `NamesCount` or `NamesRange` for a file of names; `UnknownName` where no set has
+/// the name behind `--arch`, or that set has no call with the name behind `--call`; `Read` where a filter file can't be
+/// read or is too long; what `stack_of` refuses; `Write` where standard output can't be written. `Memory` can come
+/// anywhere. After any error but `Write` nothing is written.
 fn run_eval<F: Files, O: Write>(
     alloc: Global,
     found: &ArgMatches<'_>,
@@ -228,9 +228,9 @@ fn relation_of_rows(found: &ArgMatches<'_>) -> Option<Relation>
 /// Runs `compare` as the matches of the subcommand say, and gives the exit status that it gives, 0 to 2. The caller has
 /// seen by `words_fit_for` that the words fit, and the notes have counted no file before.
 ///
-/// Refusals, tried in this order: `Read`, `Syntax`, `NamesKey` or `NamesRange` for a file of names; `UnknownName` where
-/// `--calls` names a call that no set has; those of `compare`. `Memory` can come anywhere. After any error but `Write`
-/// nothing is written.
+/// Refusals, tried in this order: `Read`, `Syntax`, `NamesKey`, `NamesCount` or `NamesRange` for a file of names;
+/// `UnknownName` where `--calls` names a call that no set has; those of `compare`. `Memory` can come anywhere. After
+/// any error but `Write` nothing is written.
 fn run_compare<R: Threads + Wait + Sync, F: Files, M: Meter, O: Write>(
     means: &Means<'_, '_, R, M>,
     found: &ArgMatches<'_>,
@@ -277,9 +277,9 @@ fn run_compare<R: Threads + Wait + Sync, F: Files, M: Meter, O: Write>(
 /// Runs `list` as the matches of the subcommand say, and gives the exit status that it gives, 0 or 2. The caller has
 /// seen by `words_fit_for` that the words fit, and the notes have counted no file before.
 ///
-/// Refusals, tried in this order: `Read`, `Syntax`, `NamesKey` or `NamesRange` for a file of names; `UnknownName` where
-/// `--calls` names a call that no set has; those of `list`. `Memory` can come anywhere. After any error but `Write`
-/// nothing is written.
+/// Refusals, tried in this order: `Read`, `Syntax`, `NamesKey`, `NamesCount` or `NamesRange` for a file of names;
+/// `UnknownName` where `--calls` names a call that no set has; those of `list`. `Memory` can come anywhere. After any
+/// error but `Write` nothing is written.
 fn run_list<R: Threads + Wait + Sync, F: Files, M: Meter, O: Write>(
     means: &Means<'_, '_, R, M>,
     found: &ArgMatches<'_>,
@@ -404,11 +404,11 @@ fn run<R: Threads + Wait + Sync, F: Files, M: Meter, O: Write>(
 /// not be done. After a fault of a subcommand the notes have what `explain` keeps in them: which policy is refused, and
 /// the lines that explain the fault, if they are asked for. After a subcommand without a fault its warnings are written
 /// to standard error, unless `--quiet` is given. Where the words of a subcommand don't fit, lines that say so are
-/// written there instead, if there is memory for them.
+/// written there instead.
 ///
-/// Where `clap` gives no matches, as where help is asked for, `write_usage` writes its text and gives the status, 0 or
-/// 4. The fault is then `Write` or `Memory`; else it is that of `run`, or `Memory` from before a subcommand is run.
-/// After any fault but `Write` nothing is written to standard output. The caller's condition: the notes are new.
+/// Where `clap` gives no matches, as where help is asked for, `write_usage` writes a text and gives the status, 0 or 4.
+/// The fault is then `Write` or `Memory`; else it is that of `run`, or `Memory` from before a subcommand is run. After
+/// any fault but `Write` nothing is written to standard output. The caller's condition: the notes are new.
 fn run_words<R: Threads + Wait + Sync, F: Files, M: Meter, O: Write, E: Write>(
     means: &Means<'_, '_, R, M>,
     words: &[String],
@@ -439,7 +439,7 @@ fn run_words<R: Threads + Wait + Sync, F: Files, M: Meter, O: Write, E: Write>(
             }
             ran
         }
-        Err(error) => write_usage(alloc, &error, out, err),
+        Err(error) => write_usage(alloc, &meant, &error, out, err),
     }
 }
 
@@ -455,7 +455,7 @@ fn run_words<R: Threads + Wait + Sync, F: Files, M: Meter, O: Write, E: Write>(
 /// - 3: the filters, a policy, a profile, a file of names, the file of `--accept`, a name behind `--calls`, `--call` or
 ///   `--arch`, or the input is refused. Standard output is left as it was.
 /// - 4: the command line is refused. No file was read, standard output is left as it was, and standard error has the
-///   text of `clap`, or that of `tell_wrong_words` if there was memory for it, and else nothing.
+///   text of `refusal_text` or that of `tell_wrong_words`, as far as it can be written.
 /// - 5: reading, writing or memory failed. Standard output is left as it was, unless writing failed.
 ///
 /// The gate of the means sees each work and each sheet of verdicts where `--progress` is given. Else it isn't called.

@@ -3,21 +3,52 @@
 ghost use Rattle.std.specs.Prelude.{◌≡◌, ◌≢◌, ◌<◌, ◌≤◌, ◌⊎◌, ◌++◌, length, map, string_bytes, true, IfOk, IfErr, OnOk};
 ghost use Rattle.clap.specs.Words.{kind_of};
 ghost use Rattle.sf_policy.specs.declared.fault.Fault.TheVariants.{Memory as MemoryFault, Write as WriteFault};
+ghost use Rattle.sf_command_line.specs.Terminal.{visible};
 ghost use Rattle.sf_command.specs.Runs.{IsHelp, WritesText, begins_with_help, meant_words};
 
 use clap::error::ErrorKind;
+use sf_command_line::{command_form, visible};
 use sf_evaluate::print;
 use sf_policy::Fault;
 use std::alloc::{AllocError, Global};
 use std::io::Write;
 
-/// Writes the text that `clap` has in place of matches, and gives the exit status. The help or the version, where that
-/// was asked for, goes to standard output, and the status is 0. Any other text says why the command line is refused. It
-/// goes to standard error, and the status is 4, also where standard error can't be written. `Memory` where an
-/// allocation was refused, to `clap` or here; nothing is written then. `Write` where standard output can't be written
-/// (a beginning of the text may be written then).
+/// The words as a terminal shows them, as `visible` makes them. An error where an allocation is refused.
+fn visible_words(alloc: Global, words: &[String]) -> Result<Vec<String>, AllocError>
+    ensures { IfOk result (λ v. map string_bytes v.items
+        ≡ map visible (map string_bytes words.now)) }
+{
+    let mut all = Vec::new(alloc);
+    for word in words {
+        all.push(visible(alloc, word.as_str())?)?;
+    }
+    Ok(all)
+}
+
+/// Why `clap` refuses the words. It writes a word as it gets it, so it gets the words here as a terminal shows them. It
+/// refuses these too: no option, subcommand or number has a hidden character or a `\`. Were they not refused, the text
+/// would be empty. An error where an allocation is refused.
+fn refusal_text(alloc: Global, words: &[String]) -> Result<String, AllocError> {
+    let shown = visible_words(alloc, words)?;
+    match command_form(alloc)?.try_get_matches_from(&shown) {
+        Ok(_) => Ok(String::new(alloc)),
+        Err(error) => {
+            if error.kind() == ErrorKind::OutOfMemory {
+                return Err(AllocError);
+            }
+            error.to_string(alloc)
+        }
+    }
+}
+
+/// Writes what is said in place of matches of the words, for which `clap` gives `error`, and gives the exit status. The
+/// help or the version, where that was asked for, goes to standard output, and the status is 0. Otherwise the text of
+/// `refusal_text` goes to standard error, and the status is 4, also where standard error can't be written. `Memory`
+/// where an allocation was refused, to `clap` or here; nothing is written then. `Write` where standard output can't be
+/// written (a beginning of the text may be written then).
 pub(crate) fn write_usage<O: Write, E: Write>(
     alloc: Global,
+    words: &[String],
     error: &clap::Error,
     out: &mut O,
     err: &mut E,
@@ -35,13 +66,14 @@ pub(crate) fn write_usage<O: Write, E: Write>(
     if error.kind() == ErrorKind::OutOfMemory {
         return Err(Fault::Memory);
     }
-    let text = error.to_string(alloc)?;
     match error.kind() {
         ErrorKind::DisplayHelp | ErrorKind::DisplayVersion => {
+            let text = error.to_string(alloc)?;
             print(&text, out)?;
             Ok(0)
         }
         _ => {
+            let text = refusal_text(alloc, words)?;
             let _ = err.write_all(text.as_bytes());
             Ok(4)
         }

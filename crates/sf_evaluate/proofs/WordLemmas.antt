@@ -37,8 +37,8 @@ pub settings_said : (rows : List Row) (s : Settings) (machine conflicts kernel :
     → conflicts ≡ text_of (codes "conflicts") rows → s.conflicts ≡ unwrap_or (reading_named conflicts) Strictest
     → kernel ≡ text_of (codes "kernel") rows → s.kernel ≡ version_of kernel
     → map string_bytes s.caps.items ≡ paths_of (codes "cap") rows → IsSwitch (one_of (codes "newer") rows) s.newer
-    → AreSettings rows s
-settings_said rows s machine conflicts kernel fits m m_is r r_is k k_is caps newer =
+    → IsSwitch (one_of (codes "skip-unknown") rows) s.skip_unknown → AreSettings rows s
+settings_said rows s machine conflicts kernel fits m m_is r r_is k k_is caps newer skip =
     let hold = first_hold (is_some (machine_named (text_of (codes "machine") rows)))
     (is_some (reading_named (text_of (codes "conflicts") rows))) (is_kernel_or_none (text_of (codes "kernel") rows))
     (list_all is_capability (paths_of (codes "cap") rows)) fits in
@@ -50,5 +50,6 @@ settings_said rows s machine conflicts kernel fits m m_is r r_is k k_is caps new
       conflicts = some_or (reading_named (text_of (codes "conflicts") rows)) Strictest hold.1
           ∙ ap Some (sym (r_is ∙ ap (λ w. unwrap_or (reading_named w) Strictest) r));
       newer = newer;
+      skip_unknown = skip;
       fits = fits;
     }

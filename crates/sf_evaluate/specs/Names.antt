@@ -1,14 +1,15 @@
 -- Files of names of calls.
-use Rattle.std.specs.Prelude.{◌≡◌, ◌⊎◌, ℕ, ◌<◌, ◌≤◌, List, ◌++◌, count_by, take, Option, Some, None, Ok, Err, slice_get}
+use Rattle.std.specs.Prelude.{◌≡◌, ◌⊎◌, ℕ, List, [], take, Option, Some, None, Ok, Err, slice_get}
 use Rattle.std.specs.Borrow.{Bor}
 use Rattle.std.specs.List.{flat_map}
 use Rattle.std.specs.Str.{IsUtf8}
 use Rattle.toml.specs.Data.{Members}
 use Rattle.toml.specs.Parse.{parse_document}
 use Rattle.sf_names.specs.declared.fault.Fault.{Fault as NamesFault}
-use Rattle.sf_names.specs.Names.{HaveOrderedCalls, NamesData, has_set, sets_of_file}
+use Rattle.sf_names.specs.Names.{HaveOrderedCalls, NamesData, sets_of_file}
+use Rattle.sf_names.specs.Joined.{AreSetsJoined, AreSetsUnfit}
 use Rattle.sf_policy.specs.declared.fault.Fault.{Fault}
-use Rattle.sf_policy.specs.declared.fault.Fault.TheVariants.{Memory, NamesKey, Read, Syntax}
+use Rattle.sf_policy.specs.declared.fault.Fault.TheVariants.{Memory, Read, Syntax}
 use Rattle.sf_policy.specs.Faults.{of_names}
 use Rattle.sf_evaluate.specs.Files.{AreKnownBytes, HasUnknown}
 use Rattle.sf_evaluate.specs.Pairs.{Pairwise}
@@ -33,21 +34,12 @@ AreNamesFiles holds paths files = Pairwise (λ path sets. IsNamesFile (holds pat
 abbrev pub all_sets : List (List NamesData) → List NamesData
 all_sets files = flat_map (λ (sets : List NamesData). sets) files
 
--- no two of the sets have one name
-abbrev pub AreOnce : List NamesData → Type 0
-AreOnce sets = (set : List ℕ) → count_by (has_set set) sets ≤ 1
-
--- two of the sets have one name
-abbrev pub HasTwice : List NamesData → Type 0
-HasTwice sets = (set : List ℕ) × (1 < count_by (has_set set) sets)
-
--- the sets of the files at the paths, one file after the other, are these, and no two of them have one name
+-- the sets of the files at the paths, joined one after the other, are these
 pub record AreNamesRead (holds : List ℕ → Option (List ℕ)) (paths : List (Bor (List ℕ)))
     (names : List NamesData) : Type 0 where
   pub files : List (List NamesData)
   pub read : AreNamesFiles holds paths files
-  pub all : names ≡ all_sets files
-  pub once : AreOnce names
+  pub joined : AreSetsJoined [] (all_sets files) names
 
 -- Why the bytes are no file of names: they are no UTF-8 or no TOML, or they break the rules of such a file.
 abbrev pub RefusesNames : List ℕ → Fault → Type 0
@@ -67,22 +59,20 @@ pub record HasNoNames (holds : List ℕ → Option (List ℕ)) (paths : List (Bo
   pub at : slice_get paths place ≡ Some path
   pub refused : RefusesNamesFile (holds path.now) fault
 
--- The file at one of the paths brings a set whose name was there before. No two sets of the files before it have one
--- name.
-pub record RepeatsSet (holds : List ℕ → Option (List ℕ)) (paths : List (Bor (List ℕ))) : Type 0 where
-  pub place : ℕ
-  pub path : Bor (List ℕ)
-  pub at : slice_get paths place ≡ Some path
-  pub files : List (List NamesData)
-  pub before : AreNamesFiles holds (take place paths) files
-  pub once : AreOnce (all_sets files)
-  pub sets : List NamesData
-  pub read : IsNamesFile (holds path.now) sets
-  pub twice : HasTwice (all_sets files ++ sets)
+-- The sets of the files at the first of the paths, one after the other, can't be joined for this reason.
+pub record CannotBeJoined (holds : List ℕ → Option (List ℕ)) (paths : List (Bor (List ℕ))) (fault : Fault) : Type 0
+  where
+    pub count : ℕ
+    pub files : List (List NamesData)
+    pub read : AreNamesFiles holds (take count paths) files
+    pub joined : List NamesData
+    pub why : NamesFault
+    pub unfit : AreSetsUnfit [] (all_sets files) joined why
+    pub is : fault ≡ of_names why
 
 -- Why files of names are refused: one whose bytes aren't known can't be read; memory ran out; one is no such file; or
--- two sets have one name.
+-- a set can't be joined to those before it.
 abbrev pub RefusesNaming : (List ℕ → Option (List ℕ)) → List (Bor (List ℕ)) → Fault → Type 0
 RefusesNaming holds paths fault =
     ((fault ≡ Read) × HasUnknown holds paths) ⊎ (fault ≡ Memory) ⊎ HasNoNames holds paths fault
-    ⊎ ((fault ≡ NamesKey) × RepeatsSet holds paths)
+    ⊎ CannotBeJoined holds paths fault

@@ -80,6 +80,7 @@ pub record AreSettings (rows : List Row) (s : Settings) : Type 0 where
   pub kernel : s.kernel ≡ version_of (text_of (codes "kernel") rows)
   pub conflicts : reading_named (text_of (codes "conflicts") rows) ≡ Some s.conflicts
   pub newer : IsSwitch (one_of (codes "newer") rows) s.newer
+  pub skip_unknown : IsSwitch (one_of (codes "skip-unknown") rows) s.skip_unknown
   pub fits : profile_words_fit rows ≡ true
 
 -- ---- names, as the calls of sets

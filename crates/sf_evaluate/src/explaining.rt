@@ -34,6 +34,7 @@ use sf_ask::Question;
 use sf_calls::{read_arguments, read_word};
 use sf_command_line::{text_of, wants_explanation};
 use sf_policy::{Fault, Refusal};
+use sf_profile::Refused;
 use std::alloc::{AllocError, Global};
 
 /// What a run notes for a person beside its result: what was read, what was refused, warnings, and the text that
@@ -44,15 +45,16 @@ pub struct Notes {
     pub policy: Vec<u8>,
     /// Why `read_policy_at` refused a policy, and what was read of the policy; `None` where it refused none.
     pub refusal: Option<Refusal>,
-    /// The key for which a profile is refused; `Ok(None)` where none is known, and an error where there was no memory
-    /// for it.
-    pub key: Result<Option<String>, AllocError>,
+    /// The key for which a profile is refused, and why, as far as they are known; an error where there was no memory
+    /// for that.
+    pub refused: Result<Refused, AllocError>,
     /// The first set of names that is none of the five of `CallSet`, for which the subcommand `profile` is refused;
     /// `Ok(None)` where there is none, and an error where there was no memory for it.
     pub(crate) other: Result<Option<OtherSet>, AllocError>,
-    /// How many sets each file of names has, in the order in which these files were read. Where an allocation was
-    /// refused for the number of a file, the list ends before that file.
-    sets: Vec<usize>,
+    /// For each file of names, in the order in which these files were read: how many sets it has, and how many there
+    /// are when they are joined to those of the files before it. Where an allocation was refused for the numbers of a
+    /// file, the list ends before that file.
+    sets: Vec<(usize, usize)>,
     /// How many files were read, of whatever kind.
     pub files: usize,
     /// What each of these files seems to hold, in the order in which they were read. Where an allocation was refused
@@ -82,7 +84,11 @@ impl Notes {
         Notes {
             policy: Vec::new(alloc),
             refusal: None,
-            key: Ok(None),
+            refused: Ok(Refused {
+                rule: None,
+                key: None,
+                why: None,
+            }),
             other: Ok(None),
             sets: Vec::new(alloc),
             files: 0,
@@ -105,23 +111,21 @@ impl Notes {
         self.files = self.files.saturating_add(1);
     }
 
-    /// Keeps how many sets a file of names has. The caller has counted this file just before, with `count_file`, and
-    /// only files of names before it. Where there is no memory for the number, nothing is kept for this file nor for
-    /// later ones.
-    pub(crate) fn count_sets(&mut self, count: usize) {
+    /// Keeps how many sets a file of names has, and how many there are in `all`, to which they are joined. The caller
+    /// has counted this file just before, with `count_file`, and only files of names before it. Where there is no
+    /// memory for the numbers, nothing is kept for this file nor for later ones.
+    pub(crate) fn count_sets(&mut self, count: usize, all: usize) {
         if self.sets.len().saturating_add(1) == self.files {
-            let _ = self.sets.push(count);
+            let _ = self.sets.push((count, all));
         }
     }
 
-    /// The place of the file of names that has the set at `place`, and how many sets that file has; `None` where the
-    /// file isn't known, since the files whose numbers of sets were kept have no more than `place` sets. Both places
-    /// count from 0: that of the set among all sets that were read, that of the file among the files of names.
+    /// The place of the file of names that has the set at `place` first, and how many sets that file has; `None` where
+    /// the file isn't known, since the files whose numbers of sets were kept have no more than `place` sets. Both
+    /// places count from 0: that of the set among all sets, that of the file among the files of names.
     pub(crate) fn file_of_set(&self, place: usize) -> Option<(usize, usize)> {
-        let mut before = 0usize;
-        for (file, count) in self.sets.iter().enumerate() {
-            before = before.saturating_add(*count);
-            if place < before {
+        for (file, (count, all)) in self.sets.iter().enumerate() {
+            if place < *all {
                 return Some((file, *count));
             }
         }
@@ -362,6 +366,7 @@ fn is_of_policy_or_names(fault: &Fault) -> bool {
         | Fault::Name { .. }
         | Fault::Mask { .. }
         | Fault::NamesKey
+        | Fault::NamesCount
         | Fault::NamesRange => true,
         _ => false,
     }

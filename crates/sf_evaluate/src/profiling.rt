@@ -15,22 +15,68 @@ use sf_command_line::{text_of, wants_notes, wants_quiet};
 use sf_names::Names;
 use sf_policy::{Fault, write_bytes};
 use sf_profile::{
-    Settings, notes as notes_of, profile as filter_of, set_of_names, unknown_names, wrong_key,
+    Settings, loose_masks, notes as notes_of, profile as filter_of, refused, set_of_names,
+    unknown_names, zero_errors,
 };
+use sf_warnings::push_zero_errors;
 use std::alloc::{AllocError, Global};
 use std::io::Write;
 
-/// The line that warns of names in a profile for which no set in `settings.calls` has a call; empty where there are no
-/// such names. `bytes` are those of the profile's file. Only rules that apply with these settings count.
-///
-/// The caller has made the filter of this profile with these settings before. So an error comes only where an
-/// allocation is refused.
-fn warning_of(alloc: Global, settings: &Settings, bytes: &[u8]) -> Result<String, AllocError> {
+/// The most rules of which a warning tells one by one.
+const MOST_RULES: usize = 3;
+
+/// Adds the line that warns of names in a profile that are passed over, since no set in `settings.calls` has them; adds
+/// nothing where there are no such names. `bytes` are those of the profile's file. The caller's condition and the error
+/// are those of `warnings_of`.
+fn push_unknown_names(
+    alloc: Global,
+    text: &mut String,
+    settings: &Settings,
+    bytes: &[u8],
+) -> Result<(), AllocError> {
     let names = unknown_names(alloc, settings, bytes).map_err(|_| AllocError)?;
-    let mut text = String::new(alloc);
-    if !names.is_empty() {
-        write!(text, "warning: no file of names has{names}\n")?;
+    if names.is_empty() {
+        return Ok(());
     }
+    write!(text, "warning: no file of names has{names}\n")
+}
+
+/// Adds a line for each of these rules, whose comparison asks for a bit outside its mask; of more than `MOST_RULES`,
+/// the last line tells only how many more there are. An error where an allocation is refused.
+fn push_loose(text: &mut String, rules: &[usize]) -> Result<(), AllocError> {
+    for rule in rules.iter().take(MOST_RULES) {
+        write!(
+            text,
+            "warning: rule {rule}: SCMP_CMP_MASKED_EQ has a bit of valueTwo outside its mask: it counts only on the mask\n"
+        )?;
+    }
+    match rules.len().saturating_sub(MOST_RULES) {
+        0 => Ok(()),
+        1 => text.push_str("warning: .. and 1 rule more\n"),
+        more => write!(text, "warning: .. and {more} rules more\n"),
+    }
+}
+
+/// The lines that warn of a profile: of names that are passed over, unless the notes on the profile are written, which
+/// have them; of calls that fail with the error number 0; and of comparisons under a mask. Empty where there are none.
+/// `bytes` are those of the profile's file. Only rules that apply with these settings count.
+///
+/// The caller has made the filter of this profile, or the notes on it, with these settings before. So an error comes
+/// only where an allocation is refused.
+fn warnings_of(
+    alloc: Global,
+    settings: &Settings,
+    wants_notes: bool,
+    bytes: &[u8],
+) -> Result<String, AllocError> {
+    let mut text = String::new(alloc);
+    if !wants_notes {
+        push_unknown_names(alloc, &mut text, settings, bytes)?;
+    }
+    let calls = zero_errors(alloc, settings, bytes).map_err(|_| AllocError)?;
+    push_zero_errors(&mut text, &calls)?;
+    let rules = loose_masks(alloc, settings, bytes).map_err(|_| AllocError)?;
+    push_loose(&mut text, &rules)?;
     Ok(text)
 }
 
@@ -78,8 +124,9 @@ fn other_set(alloc: Global, names: &[Names]) -> Result<Option<OtherSet>, AllocEr
 /// of the five of `CallSet`, or an error where there is no memory for it. That error alone doesn't end the function.
 ///
 /// The caller's conditions: the words behind the options fit, as `profile_words_fit` says; and the notes have counted
-/// no file yet. Refusals, tried in this order: `Read`, `Syntax`, `NamesKey` and `NamesRange`, when `read_all_names`
-/// says; `Profile(Set)` where one of the sets is none of the five of `CallSet`. `Memory` can come anywhere.
+/// no file yet. Refusals, tried in this order: `Read`, `Syntax`, `NamesKey`, `NamesCount` and `NamesRange`, when
+/// `read_all_names` says; `Profile(Set)` where one of the sets is none of the five of `CallSet`. `Memory` can come
+/// anywhere.
 fn read_settings<F: Files>(
     alloc: Global,
     found: &ArgMatches<'_>,
@@ -99,29 +146,32 @@ fn read_settings<F: Files>(
     settings_of(alloc, found, calls)
 }
 
-/// Keeps in `notes.warnings` what `warning_of` gives: the line that warns of names that no file of names has, or an
-/// error where there was no memory for it. Does nothing where `--quiet` is given, or `--notes`: the text that `--notes`
-/// asks for has these names already. The caller's condition: `bytes` are those of the profile's file, and the filter or
-/// that text was made of them with these settings.
-fn keep_warning(
+/// Keeps in `notes.warnings` what `warnings_of` gives, or an error where there was no memory for it. Does nothing where
+/// `--quiet` is given. The caller's condition is that of `warnings_of`.
+fn keep_warnings(
     alloc: Global,
     found: &ArgMatches<'_>,
     settings: &Settings,
     bytes: &[u8],
     notes: &mut Notes,
 ) {
-    if !wants_notes(found) && !wants_quiet(found) {
-        notes.warnings = warning_of(alloc, settings, bytes);
+    if !wants_quiet(found) {
+        notes.warnings = warnings_of(alloc, settings, wants_notes(found), bytes);
     }
 }
 
-/// Keeps in `notes.key` what `wrong_key` gives: the key for which a profile is refused, `None` where none is known, or
-/// an error where there is no memory for it. Does nothing where `fault` isn't `Fault::Profile`. The caller's condition:
-/// `bytes` are those of the profile's file, and if `fault` is `Fault::Profile`, they were refused with this fault and
-/// these settings.
-fn keep_key(alloc: Global, settings: &Settings, bytes: &[u8], fault: &Fault, notes: &mut Notes) {
+/// Keeps in `notes.refused` for which key a profile is refused, and why, as `refused` gives it, or an error where there
+/// is no memory for that. Does nothing where `fault` isn't `Fault::Profile`. The caller's condition: `bytes` are those
+/// of the profile's file, and if `fault` is `Fault::Profile`, they were refused with this fault and these settings.
+fn keep_refused(
+    alloc: Global,
+    settings: &Settings,
+    bytes: &[u8],
+    fault: &Fault,
+    notes: &mut Notes,
+) {
     if let Fault::Profile(refusal) = fault {
-        notes.key = wrong_key(alloc, settings, bytes, *refusal);
+        notes.refused = refused(alloc, settings, bytes, *refusal);
     }
 }
 
@@ -130,18 +180,16 @@ fn keep_key(alloc: Global, settings: &Settings, bytes: &[u8], fault: &Fault, not
 /// profile are written, and no filter. The status is 0; or 4 where a word isn't one that its option takes: then no file
 /// is read, and nothing is written.
 ///
-/// `notes` count the files, and keep how many sets each file of names has. Once the filter is written, they get a
-/// warning of names in the profile that no file of names has, unless `--quiet` is given. Where a profile is refused,
-/// they get the set of names or the key for which it is refused, if that is known. The caller's condition: the notes
-/// have counted no file before.
+/// `notes` count the files, and keep how many sets each file of names has. Once the filter or the notes on the profile
+/// are written, they get the lines of `warnings_of`, unless `--quiet` is given. Where a profile is refused, they get
+/// the set of names, or the key and the reason for which it is refused, if that is known. The caller's condition: the
+/// notes have counted no file before.
 ///
-/// Refusals, tried in this order: for each file of names, `Read` where it can't be read, or has more than `MOST_BYTES`
-/// bytes, `Syntax` where it is no UTF-8 or no TOML, `NamesKey` where a key is missing or unknown, or a name or the kind
-/// of a value is wrong, `NamesRange` where a number is outside 32 bits, and `NamesKey` where an earlier file has a set
-/// of the same name; `Profile(Set)` where one of the sets of names is none of the five sets of `CallSet`; `Read` where
-/// the profile can't be read, or has more than `MOST_BYTES` bytes; `Profile` with the fault for which `profile` of
-/// `sf_profile` refuses it; `Write` where standard output can't be written (a beginning may be written then). `Memory`
-/// can come anywhere. After any error but `Write` nothing is written.
+/// Refusals, tried in this order: those of `read_all_names` for the files of names, `Read`, `Syntax`, `NamesKey`,
+/// `NamesCount` and `NamesRange`; `Profile(Set)` where one of the sets of names is none of the five sets of `CallSet`;
+/// `Read` where the profile can't be read, or has more than `MOST_BYTES` bytes; `Profile` with the fault for which
+/// `profile` of `sf_profile` refuses it; `Write` where standard output can't be written (a beginning may be written
+/// then). `Memory` can come anywhere. After any error but `Write` nothing is written.
 pub fn profile<F: Files, O: Write>(
     alloc: Global,
     found: &ArgMatches<'_>,
@@ -167,11 +215,11 @@ pub fn profile<F: Files, O: Write>(
     notes.count_file(bytes.as_slice());
     match write_of(alloc, &settings, wants_notes(found), &bytes, out) {
         Ok(()) => {
-            keep_warning(alloc, found, &settings, &bytes, notes);
+            keep_warnings(alloc, found, &settings, &bytes, notes);
             Ok(0)
         }
         Err(fault) => {
-            keep_key(alloc, &settings, &bytes, &fault, notes);
+            keep_refused(alloc, &settings, &bytes, &fault, notes);
             Err(fault)
         }
     }

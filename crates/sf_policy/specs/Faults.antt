@@ -13,6 +13,7 @@ use Rattle.sf_policy.specs.declared.policy.refusal.Refusal.{Refusal}
 abbrev pub of_names : NamesFault → Fault
 of_names names_faults.Syntax = faults.Syntax
 of_names names_faults.Key = faults.NamesKey
+of_names names_faults.Count = faults.NamesCount
 of_names names_faults.Range = faults.NamesRange
 of_names names_faults.Memory = faults.Memory
 
@@ -45,6 +46,7 @@ fault_number faults.Syntax = 46
 fault_number faults.Input = 47
 fault_number (faults.Mask question) = 48
 fault_number faults.NamesKey = 41
+fault_number faults.NamesCount = 45
 fault_number faults.NamesRange = 42
 fault_number faults.UnknownName = 44
 fault_number (faults.Accepted at) = 44

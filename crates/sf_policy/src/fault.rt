@@ -80,9 +80,13 @@ pub enum Fault {
     #[error("48 Mask question {question}")]
     Mask { question: usize },
     /// A file of names has an unknown key, lacks one, has a value of a wrong kind, or a name that isn't 1 to 64
-    /// letters, digits and `_`; or it has a set of a name that an earlier file has.
+    /// letters, digits and `_`; or it adds to a set of an earlier file, and gives the set another number of its
+    /// architecture, a name in it a second number, or a number in it a second name.
     #[error("41 Key")]
     NamesKey,
+    /// A file of names has more than 64 sets, or a set more than 1,024 calls, where several files add to it too.
+    #[error("45 Count")]
+    NamesCount,
     /// A file of names has a number outside 32 bits.
     #[error("42 Range")]
     NamesRange,
@@ -130,7 +134,7 @@ impl Fault {
             Fault::Range { .. } | Fault::NamesRange => 42,
             Fault::Actions { .. } => 43,
             Fault::Name { .. } | Fault::UnknownName | Fault::Accepted { .. } => 44,
-            Fault::Count => 45,
+            Fault::Count | Fault::NamesCount => 45,
             Fault::Syntax => 46,
             Fault::Input => 47,
             Fault::Mask { .. } => 48,
@@ -174,12 +178,13 @@ impl From<sf_names::Fault> for Fault {
 
     ghost from_gives = { λ e f. f ≡ of_names e };
 
-    /// The same fault. `Key` and `Range` become `NamesKey` and `NamesRange`, since the faults `Key` and `Range` of this
-    /// type have the number of a question.
+    /// The same fault. `Key`, `Count` and `Range` become `NamesKey`, `NamesCount` and `NamesRange`: this type has
+    /// faults of those names for policies.
     fn from(e: sf_names::Fault) -> Fault {
         match e {
             sf_names::Fault::Syntax => Fault::Syntax,
             sf_names::Fault::Key => Fault::NamesKey,
+            sf_names::Fault::Count => Fault::NamesCount,
             sf_names::Fault::Range => Fault::NamesRange,
             sf_names::Fault::Memory => Fault::Memory,
         }

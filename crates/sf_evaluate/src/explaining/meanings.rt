@@ -31,8 +31,9 @@ pub(crate) fn meaning_of(fault: &Fault) -> &'static str {
         Fault::Mask { .. } => "a value with a bit outside its mask",
         Fault::Profile(refusal) => meaning_of_profile_fault(*refusal),
         Fault::NamesKey => {
-            "an unknown key, a missing one, a value of another kind, a name with other signs than letters, digits and _, or a set of calls that was there before"
+            "an unknown key, a missing one, a value of another kind, a name with other signs than letters, digits and _, or a set of calls that was there with another number or name"
         }
+        Fault::NamesCount => "more than 64 sets of calls, or more than 1024 calls in one",
         Fault::NamesRange => "a number outside 0 to 4294967295",
         Fault::UnknownName => {
             "a name that no file of names has for a call or a set of calls, or not in the set that --arch names"
@@ -62,6 +63,11 @@ fn meaning_of_profile_fault(refusal: sf_profile::Fault) -> &'static str {
             "an unknown action or comparison"
         }
         sf_profile::Fault::RuleName { .. } => "a name that isn't 1 to 64 letters, digits and _",
+        sf_profile::Fault::RuleUnknown { .. } => {
+            "a name that no set of calls has: mistyped, or newer than the files of names? --skip-unknown passes over it"
+        }
+        sf_profile::Fault::RuleCount { .. } =>
+            "more than 1024 names or 64 comparisons, or with the rules before more than 8192 rules and names",
         sf_profile::Fault::Syntax => "the profile is no UTF-8 or no JSON, or nests deeper than 127",
         sf_profile::Fault::Set => {
             "a set of calls that isn't known, or that no file of names has: policies/names.toml has all five"

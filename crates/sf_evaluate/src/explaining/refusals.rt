@@ -8,7 +8,7 @@ use std::alloc::AllocError;
 /// A set of calls of a file of names that is none of the five of `CallSet`.
 #[derive(Drop)]
 pub(crate) struct OtherSet {
-    /// Its place among all sets that were read, counted from 0.
+    /// Its place among all sets, counted from 0.
     pub(crate) place: usize,
     /// Its name.
     pub(crate) name: String,
@@ -37,8 +37,8 @@ fn push_unknown_set(
     Ok(())
 }
 
-/// Adds the line of the profile, and that of the key for which it is refused, where one is known. An error where there
-/// was no memory to keep the key, or an allocation is refused.
+/// Adds the line of the profile, and those of the key for which it is refused and of the reason, where they are known.
+/// An error where there was no memory to keep them, or an allocation is refused.
 fn push_refused_profile(
     text: &mut String,
     found: &ArgMatches<'_>,
@@ -46,11 +46,16 @@ fn push_refused_profile(
 ) -> Result<(), AllocError> {
     let path = text_of(found, "profile");
     write!(text, "profile {path:?}\n")?;
-    match &notes.key {
-        Ok(Some(key)) => push_key(text, key),
-        Ok(None) => Ok(()),
-        Err(_) => Err(AllocError),
+    let Ok(refused) = &notes.refused else {
+        return Err(AllocError);
+    };
+    if let Some(key) = &refused.key {
+        write!(text, "key {key:?}\n")?;
     }
+    if let Some(why) = &refused.why {
+        write!(text, "why {why}\n")?;
+    }
+    Ok(())
 }
 
 /// Adds the lines of what `profile` refuses: of the set of calls that the notes have as `other`, or else of the
@@ -65,9 +70,4 @@ pub(crate) fn push_profile(
         Ok(None) => push_refused_profile(text, found, notes),
         Err(_) => Err(AllocError),
     }
-}
-
-/// Adds the line of a key. An error where an allocation is refused.
-fn push_key(text: &mut String, key: &str) -> Result<(), AllocError> {
-    write!(text, "key {key:?}\n")
 }

@@ -1,7 +1,7 @@
 //! Words of the command line that don't fit together, in words for a person. No contract speaks of them.
 
 use super::asking::{has_names, is_given};
-use super::settings::tell_wrong_profile_word;
+use super::settings::wrong_word_text;
 use super::wanted::{calls_fit, push_wrong_calls, push_wrong_rows};
 use clap::ArgMatches;
 use sf_calls::{are_arguments, is_number};
@@ -204,8 +204,9 @@ fn wrong_control_text(alloc: Global, found: &ArgMatches<'_>) -> Result<String, A
 }
 
 /// Writes to standard error which words of the command line don't fit, if a run ended for that reason: then `ran` has
-/// the status 4, and the matches name a subcommand. Nothing is written otherwise, nor where there is no memory for the
-/// lines. An error of the write is ignored. The caller's condition: `ran` is how the run of these matches ended.
+/// the status 4, and the matches name a subcommand. Where there is no memory for the lines, one line says so. Nothing
+/// is written otherwise. An error of the write is ignored. The caller's condition: `ran` is how the run of these
+/// matches ended.
 pub fn tell_wrong_words<E: Write>(
     alloc: Global,
     matches: &ArgMatches<'_>,
@@ -219,9 +220,11 @@ pub fn tell_wrong_words<E: Write>(
         "audit" => wrong_control_text(alloc, found),
         "eval" => misfit_text(alloc, found),
         "list" | "compare" => wrong_rows_text(alloc, found),
-        _ => return tell_wrong_profile_word(alloc, matches, ran, err),
+        _ => wrong_word_text(alloc, found),
     };
-    if let Ok(text) = text {
-        let _ = err.write_all(text.as_bytes());
-    }
+    let text = match &text {
+        Ok(text) => text.as_str(),
+        Err(_) => "error: words don't fit, and there was no memory to tell which\n",
+    };
+    let _ = err.write_all(text.as_bytes());
 }

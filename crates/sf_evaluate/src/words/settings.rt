@@ -9,11 +9,10 @@ ghost use Rattle.sf_policy.specs.declared.fault.Fault.TheVariants.{Memory as Mem
 ghost use Rattle.sf_evaluate.specs.Profiles.{AreSettings, capabilities, is_capability, is_kernel_or_none, machine_named, reading_named, profile_words_fit};
 
 use clap::ArgMatches;
-use sf_command_line::{text_of, wants_newer};
+use sf_command_line::{skips_unknown, text_of, wants_newer};
 use sf_policy::Fault;
 use sf_profile::{CallSet, Calls, Reading, Settings, version_of};
 use std::alloc::{AllocError, Global};
-use std::io::Write;
 
 /// The names of the capabilities of linux/capability.h, in the order of their numbers, which are 0 to 40.
 const CAPABILITIES: [&str; 41] = [
@@ -176,6 +175,7 @@ pub(crate) fn settings_of(
         kernel: version_of(text_of(found, "kernel")),
         conflicts: reading_named(text_of(found, "conflicts")).unwrap_or(Reading::Strictest),
         newer: wants_newer(found),
+        skip_unknown: skips_unknown(found),
         calls,
     })
 }
@@ -215,7 +215,7 @@ fn wrong_word<'a>(found: &ArgMatches<'a>) -> Option<(&'static str, &'a str, &'st
 /// The lines that tell the first word of `profile` that its option doesn't take, and what the option takes, in the form
 /// in which `clap` says it. The last line points to `--help`. The text is empty where each option takes its words. An
 /// error where an allocation is refused.
-fn wrong_word_text(alloc: Global, found: &ArgMatches<'_>) -> Result<String, AllocError> {
+pub(crate) fn wrong_word_text(alloc: Global, found: &ArgMatches<'_>) -> Result<String, AllocError> {
     let mut text = String::new(alloc);
     if let Some((option, word, taken)) = wrong_word(found) {
         write!(text, "error: invalid value {word:?} for '{option}'\n")?;
@@ -223,22 +223,4 @@ fn wrong_word_text(alloc: Global, found: &ArgMatches<'_>) -> Result<String, Allo
         text.push_str("For more information, try '--help'.\n")?;
     }
     Ok(text)
-}
-
-/// Writes to standard error which word of the command line isn't one that its option takes, if a run of `profile` ended
-/// for that reason: then `ran` has the status 4. Nothing is written where `ran` is something else, where the matches
-/// name no subcommand, or where there is no memory for the lines. An error of the write is ignored. The caller's
-/// condition: where `ran` has the status 4, it is how a run of `profile` with these matches ended.
-pub(crate) fn tell_wrong_profile_word<E: Write>(
-    alloc: Global,
-    matches: &ArgMatches<'_>,
-    ran: &Result<u8, Fault>,
-    err: &mut E,
-) {
-    let (Ok(4), Some((_, found))) = (ran, matches.subcommand()) else {
-        return;
-    };
-    if let Ok(text) = wrong_word_text(alloc, found) {
-        let _ = err.write_all(text.as_bytes());
-    }
 }

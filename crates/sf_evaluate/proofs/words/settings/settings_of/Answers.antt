@@ -17,3 +17,4 @@ returns-clause-words c =
     (c.unwrap_or.ensures ∙ ap (λ o. unwrap_or o X64) c.machine_named.ensures) c.text_of-3.ensures
     (c.unwrap_or-2.ensures ∙ ap (λ o. unwrap_or o Strictest) c.reading_named.ensures) c.text_of-2.ensures
     c.version_of.ensures (c.in_ok-strings_of.ensures ∙ caps) c.wants_newer.ensures
+    c.skips_unknown.ensures

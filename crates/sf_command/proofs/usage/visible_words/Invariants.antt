@@ -1,0 +1,6 @@
+use Rattle.std.proofs.Common.{◌≡◌, map, string_bytes, take}
+use Rattle.sf_command_line.specs.Terminal.{visible}
+use Rattle.sf_command.proofs.usage.visible_words.Given as goal
+
+abbrev pub invariant-loop-word : goal.invariant-loop-word
+invariant-loop-word l = map string_bytes l.all.items ≡ map visible (map string_bytes (take l.word-index l.words))
