@@ -3,6 +3,7 @@
 //! first.
 
 use std::alloc::{AllocError, Global};
+use std::test::Fail;
 
 /// The text of a fragment, and how often it is repeated.
 fn parts_of(fragment: &str) -> (&str, usize) {
@@ -59,8 +60,14 @@ fn join(alloc: Global, fragments: &str) -> Result<String, AllocError> {
     Ok(text)
 }
 
-/// Adds the words that a word of a script stands for: `allow*64` is sixty-four words, and `@00*63,02` is one.
-fn push_words(alloc: Global, words: &mut Vec<String>, word: &str) -> Result<(), AllocError> {
+/// Adds the words that a word of a script stands for: `allow*64` is sixty-four words, `@00*63,02` is one, and so is
+/// `%1b5b`, whose bytes these are.
+fn push_words(alloc: Global, words: &mut Vec<String>, word: &str) -> Result<(), Fail> {
+    if let Some(digits) = word.strip_prefix('%') {
+        let bytes = hex::decode(alloc, digits)?;
+        words.push(String::from_str(alloc, std::str::from_utf8(&bytes)?)?)?;
+        return Ok(());
+    }
     if let Some(fragments) = word.strip_prefix('@') {
         let text = join(alloc, fragments)?;
         words.push(text)?;
@@ -74,7 +81,7 @@ fn push_words(alloc: Global, words: &mut Vec<String>, word: &str) -> Result<(), 
 }
 
 /// The words that a line of a script stands for.
-pub fn words_of(alloc: Global, line: &str) -> Result<Vec<String>, AllocError> {
+pub fn words_of(alloc: Global, line: &str) -> Result<Vec<String>, Fail> {
     let mut words = Vec::new(alloc);
     for word in line.split_whitespace() {
         push_words(alloc, &mut words, word)?;
