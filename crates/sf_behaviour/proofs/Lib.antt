@@ -1,0 +1,5 @@
+pub mod BitLemmas
+pub mod WordLemmas
+pub mod StepLemmas
+pub mod LoopLemmas
+pub mod ShiftLemmas

@@ -1,0 +1,143 @@
+-- What operations and tests make of two numbers with one more bit each.
+use Rattle.std.proofs.Common.{◌≡◌, ℕ, zero, suc, ◌+◌, ◌-◌, ◌*◌, ◌%◌, ◌<◌, ◌≤◌, ◌^◌, ◌==◌, Bool, true, false, not, refl, sym, ap, ◌∙◌, arith}
+use Rattle.std.specs.Prelude.{bit_and, bit_or, nat_lt, nat_le, if◌then◌else◌}
+use Rattle.std.specs.Int.{bit_at}
+use Rattle.std.specs.Int.Bits.{and_block, or_block, xor_block}
+use Rattle.std.proofs.lemmas.Bool.{eqb-true, eq-eqb, ltb-true, lt-ltb, le-ltb, leb-true, le-leb, lt-leb, ne_eqb}
+use Rattle.std.proofs.lemmas.Bool.Decides.{same_from_decides}
+use Rattle.std.proofs.Math.Nat.{pow-suc}
+use Rattle.std.proofs.lemmas.Nat.{pow_pos, and_le_l, mod-pow-add}
+use Rattle.sf_insn.specs.Words.{passes}
+use Rattle.sf_insn.specs.declared.ops.Test.{Test}
+use Rattle.sf_insn.specs.declared.ops.Test.TheVariants.{Equal, Greater, GreaterOrEqual, AnyBit}
+use Rattle.sf_behaviour.specs.Combining.{combined, tested_bits}
+use Rattle.sf_behaviour.specs.declared.combining.Bitwise.{Bitwise}
+use Rattle.sf_behaviour.specs.declared.combining.Bitwise.TheVariants.{And, Or, Xor}
+
+pub combined-more : (o : Bitwise) (n a b x y : ℕ) → a < 2 ^ n → b < 2 ^ n
+    → combined o (x * 2 ^ n + a) (y * 2 ^ n + b) ≡ combined o x y * 2 ^ n + combined o a b
+combined-more And n a b x y la lb = and_block n x y a b la lb
+combined-more Or n a b x y la lb = or_block n x y a b la lb
+combined-more Xor n a b x y la lb = xor_block n x y a b la lb
+
+-- a difference of n bits, with one more bit
+pub less-more : (n a b c d x y z e : ℕ) → d + b ≡ a + c * 2 ^ n → z + y + c ≡ x + 2 * e
+    → (z * 2 ^ n + d) + (y * 2 ^ n + b) ≡ (x * 2 ^ n + a) + e * 2 ^ (n + 1)
+less-more n a b c d x y z e low high =
+    let next : n + 1 ≡ suc n = omega arith in
+    let scaled : (z + y + c) * 2 ^ n ≡ (x + 2 * e) * 2 ^ n = ap (λ (m : ℕ). m * 2 ^ n) high in
+    let double : 2 ^ (n + 1) ≡ 2 ^ n * 2 = ap (λ (m : ℕ). 2 ^ m) next ∙ pow-suc 2 n in
+    let last : e * 2 ^ (n + 1) ≡ e * (2 ^ n * 2) = ap (λ (m : ℕ). e * m) double in
+    omega (arith, low, scaled, last)
+
+-- a difference of 32 bits
+pub less-all : (a b c d : ℕ) → a < 2 ^ 32 → b < 2 ^ 32 → d < 2 ^ 32 → d + b ≡ a + c * 2 ^ 32
+    → d ≡ (a + (2 ^ 32 - b)) % 2 ^ 32
+less-all a b c d la lb ld e = omega arith
+
+-- less minus b is plus b
+pub sum-of : (a b : ℕ) → b < 2 ^ 32 → (a + (2 ^ 32 - (2 ^ 32 - b) % 2 ^ 32)) % 2 ^ 32 ≡ (a + b) % 2 ^ 32
+sum-of a b l = omega arith
+
+-- ---- a number by its bits
+
+pub low-more : (a n : ℕ) → bit_at a n * 2 ^ n + a % 2 ^ n ≡ a % 2 ^ (n + 1)
+low-more a n =
+    let next : n + 1 ≡ 1 + n = omega arith in
+    sym (mod-pow-add a 1 n) ∙ ap (λ (m : ℕ). a % 2 ^ m) (sym next)
+
+pub bit-if : (n : ℕ) → n < 2 → (if n == 1 then 1 else 0) ≡ n
+bit-if zero l = refl
+bit-if (suc zero) l = refl
+bit-if (suc (suc n)) l = absurd (omega arith)
+
+-- ---- tests
+
+-- what a test says, as a number
+abbrev pub truth_of : Test → ℕ → ℕ → ℕ
+truth_of test a b = if passes test a b then 1 else 0
+
+-- one truth as a number
+abbrev number_of : Bool → ℕ
+number_of t = if t then 1 else 0
+
+same-equal : (a b c d : ℕ) → (a ≡ b → c ≡ d) → (c ≡ d → a ≡ b) → (a == b) ≡ (c == d)
+same-equal a b c d to from = same_from_decides {P = a ≡ b} (a == b) (c == d) (eqb-true a b, eq-eqb a b)
+    (λ t. from (eqb-true c d t), λ e. eq-eqb c d (to e))
+
+same-less : (a b c d : ℕ) → (a < b → c < d) → (c < d → a < b) → nat_lt a b ≡ nat_lt c d
+same-less a b c d to from = same_from_decides {P = a < b} (nat_lt a b) (nat_lt c d) (ltb-true a b, lt-ltb a b)
+    (λ t. from (ltb-true c d t), λ e. lt-ltb c d (to e))
+
+same-most : (a b c d : ℕ) → (a ≤ b → c ≤ d) → (c ≤ d → a ≤ b) → nat_le a b ≡ nat_le c d
+same-most a b c d to from = same_from_decides {P = a ≤ b} (nat_le a b) (nat_le c d) (leb-true a b, le-leb a b)
+    (λ t. from (leb-true c d t), λ e. le-leb c d (to e))
+
+equal-more : (p a b x y : ℕ) → a < p → b < p → x < 2 → y < 2
+    → tested_bits Equal x y (truth_of Equal a b) ≡ truth_of Equal (x * p + a) (y * p + b)
+equal-more p a b zero zero la lb lx ly =
+    ap number_of (same-equal a b (0 * p + a) (0 * p + b) (λ e. omega arith) (λ e. omega arith))
+equal-more p a b zero (suc zero) la lb lx ly =
+    ap number_of (sym (ne_eqb (0 * p + a) (1 * p + b) (λ e. absurd (omega arith))))
+equal-more p a b (suc zero) zero la lb lx ly =
+    ap number_of (sym (ne_eqb (1 * p + a) (0 * p + b) (λ e. absurd (omega arith))))
+equal-more p a b (suc zero) (suc zero) la lb lx ly =
+    ap number_of (same-equal a b (1 * p + a) (1 * p + b) (λ e. omega arith) (λ e. omega arith))
+equal-more p a b zero (suc (suc y)) la lb lx ly = absurd (omega arith)
+equal-more p a b (suc zero) (suc (suc y)) la lb lx ly = absurd (omega arith)
+equal-more p a b (suc (suc x)) y la lb lx ly = absurd (omega arith)
+
+greater-more : (p a b x y : ℕ) → a < p → b < p → x < 2 → y < 2
+    → tested_bits Greater x y (truth_of Greater a b) ≡ truth_of Greater (x * p + a) (y * p + b)
+greater-more p a b zero zero la lb lx ly =
+    ap number_of (same-less b a (0 * p + b) (0 * p + a) (λ e. omega arith) (λ e. omega arith))
+greater-more p a b zero (suc zero) la lb lx ly = ap number_of (sym (le-ltb (1 * p + b) (0 * p + a) (omega arith)))
+greater-more p a b (suc zero) zero la lb lx ly = ap number_of (sym (lt-ltb (0 * p + b) (1 * p + a) (omega arith)))
+greater-more p a b (suc zero) (suc zero) la lb lx ly =
+    ap number_of (same-less b a (1 * p + b) (1 * p + a) (λ e. omega arith) (λ e. omega arith))
+greater-more p a b zero (suc (suc y)) la lb lx ly = absurd (omega arith)
+greater-more p a b (suc zero) (suc (suc y)) la lb lx ly = absurd (omega arith)
+greater-more p a b (suc (suc x)) y la lb lx ly = absurd (omega arith)
+
+least-more : (p a b x y : ℕ) → a < p → b < p → x < 2 → y < 2 → tested_bits GreaterOrEqual x y
+    (truth_of GreaterOrEqual a b) ≡ truth_of GreaterOrEqual (x * p + a) (y * p + b)
+least-more p a b zero zero la lb lx ly =
+    ap number_of (same-most b a (0 * p + b) (0 * p + a) (λ e. omega arith) (λ e. omega arith))
+least-more p a b zero (suc zero) la lb lx ly = ap number_of (sym (lt-leb (1 * p + b) (0 * p + a) (omega arith)))
+least-more p a b (suc zero) zero la lb lx ly = ap number_of (sym (le-leb (0 * p + b) (1 * p + a) (omega arith)))
+least-more p a b (suc zero) (suc zero) la lb lx ly =
+    ap number_of (same-most b a (1 * p + b) (1 * p + a) (λ e. omega arith) (λ e. omega arith))
+least-more p a b zero (suc (suc y)) la lb lx ly = absurd (omega arith)
+least-more p a b (suc zero) (suc (suc y)) la lb lx ly = absurd (omega arith)
+least-more p a b (suc (suc x)) y la lb lx ly = absurd (omega arith)
+
+or-clear : (b : Bool) → bit_or (if not b then 1 else 0) 0 ≡ (if not b then 1 else 0)
+or-clear true = refl
+or-clear false = refl
+
+or-set : (b : Bool) → bit_or (if not b then 1 else 0) 1 ≡ 1
+or-set true = refl
+or-set false = refl
+
+-- some bit is set among n bits or in one more
+any-one : (n m c : ℕ) → c < 2 → bit_or (if not (m == 0) then 1 else 0) c ≡ (if not (c * 2 ^ n + m == 0) then 1 else 0)
+any-one n m zero lc =
+    let same : 0 * 2 ^ n + m ≡ m = omega arith in
+    or-clear (m == 0) ∙ ap (λ (k : ℕ). if not (k == 0) then 1 else 0) (sym same)
+any-one n m (suc zero) lc =
+    let some : (1 * 2 ^ n + m == 0) ≡ false = ne_eqb (1 * 2 ^ n + m) 0 (λ e. absurd (omega (arith, e, pow_pos n))) in
+    or-set (m == 0) ∙ ap (λ (b : Bool). if not b then 1 else 0) (sym some)
+any-one n m (suc (suc c)) lc = absurd (omega arith)
+
+any-more : (n a b x y : ℕ) → a < 2 ^ n → b < 2 ^ n → x < 2 → y < 2
+    → tested_bits AnyBit x y (truth_of AnyBit a b) ≡ truth_of AnyBit (x * 2 ^ n + a) (y * 2 ^ n + b)
+any-more n a b x y la lb lx ly =
+    any-one n (bit_and a b) (bit_and x y) (omega (arith, and_le_l x y))
+    ∙ ap (λ (k : ℕ). if not (k == 0) then 1 else 0) (sym (and_block n x y a b la lb))
+
+pub test-more : (test : Test) (n a b x y : ℕ) → a < 2 ^ n → b < 2 ^ n → x < 2 → y < 2
+    → tested_bits test x y (truth_of test a b) ≡ truth_of test (x * 2 ^ n + a) (y * 2 ^ n + b)
+test-more Equal n a b x y la lb lx ly = equal-more (2 ^ n) a b x y la lb lx ly
+test-more Greater n a b x y la lb lx ly = greater-more (2 ^ n) a b x y la lb lx ly
+test-more GreaterOrEqual n a b x y la lb lx ly = least-more (2 ^ n) a b x y la lb lx ly
+test-more AnyBit n a b x y la lb lx ly = any-more n a b x y la lb lx ly

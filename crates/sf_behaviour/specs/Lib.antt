@@ -1,0 +1,4 @@
+pub mod InputBits
+pub mod Words
+pub mod Combining
+pub mod Shifting

@@ -1,0 +1,57 @@
+//! Operations on words, bit by bit.
+
+ghost use Rattle.std.specs.Prelude.{◌≡◌, IfOk, IfErr};
+ghost use Rattle.sf_diagram.specs.Trees.{value};
+ghost use Rattle.sf_diagram.specs.Stores.{tree_at, KeepsStore, IsFull};
+ghost use Rattle.sf_behaviour.specs.Words.{word_value, IsTruth, IsTruthOf, IsWord, IsWordOf};
+ghost use Rattle.sf_behaviour.specs.Combining.{combined};
+
+use crate::truths::{differ, pick};
+use crate::words::Word;
+use sf_diagram::{Fault, Id, Store};
+
+/// An operation on two words that treats each bit by itself.
+#[derive(Clone, Copy, Debug, PartialEq, Eq)]
+pub enum Bitwise {
+    /// Bitwise and.
+    And,
+    /// Bitwise or.
+    Or,
+    /// Bitwise exclusive or.
+    Xor,
+}
+
+/// What an operation makes of two bits. `Spent` and `Memory` as the store has them; nodes may have been added then.
+pub(crate) fn combine_bits(store: &mut Store, operation: Bitwise, a: Id, b: Id) -> Result<Id, Fault>
+    requires a { IsTruth store.old.trees a }
+    requires b { IsTruth store.old.trees b }
+    ensures truth { IfOk result (λ id. IsTruthOf store.new.trees id (λ bits. combined operation
+        (value (tree_at store.old.trees a) bits) (value (tree_at store.old.trees b) bits))) }
+    ensures keeps { KeepsStore store.old store.new }
+    ensures spent { IfErr result (λ e. e ≡ Fault.Spent → IsFull store.new) }
+{
+    match operation {
+        Bitwise::And => pick(store, b, a, b),
+        Bitwise::Or => pick(store, b, b, a),
+        Bitwise::Xor => differ(store, a, b),
+    }
+}
+
+/// What an operation makes of two words. The caller's condition: they are words of the store. `Spent` and `Memory` as
+/// the store has them; nodes may have been added then.
+pub fn combine(store: &mut Store, operation: Bitwise, a: &Word, b: &Word) -> Result<Word, Fault>
+    requires a { IsWord store.old.trees a.now.bits }
+    requires b { IsWord store.old.trees b.now.bits }
+    ensures word { IfOk result (λ w. IsWordOf store.new.trees w.bits (λ bits. combined operation
+        (word_value store.old.trees a.now.bits bits)
+        (word_value store.old.trees b.now.bits bits))) }
+    ensures keeps { KeepsStore store.old store.new }
+    ensures spent { IfErr result (λ e. e ≡ Fault.Spent → IsFull store.new) }
+{
+    let mut bits: [Id; 32] = [0; 32];
+    for i in 0..32 {
+        let bit = combine_bits(store, operation, a.bits[i], b.bits[i])?;
+        bits[i] = bit;
+    }
+    Ok(Word { bits })
+}

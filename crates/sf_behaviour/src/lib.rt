@@ -1,0 +1,15 @@
+//! What filters do, as decision diagrams over the bits of an input.
+#![tactic(auto)]
+
+mod combining;
+mod differences;
+mod shifting;
+mod testing;
+mod truths;
+mod words;
+
+pub use combining::{Bitwise, combine};
+pub use differences::{difference, negation, sum};
+pub use shifting::{Direction, shift};
+pub use testing::test_words;
+pub use words::{Word, constant_word, input_word};
