@@ -47,6 +47,7 @@ CASES = [
     ("seccomp_audit help lis", "seccomp_audit help list"),
     ("seccomp_audit pro", "seccomp_audit profile"),
     ("seccomp_audit profile --conf", "seccomp_audit profile --conflicts"),
+    ("seccomp_audit profile --sk", "seccomp_audit profile --skip-unknown"),
 ]
 
 # How each shell is started, and which commands it gets first.

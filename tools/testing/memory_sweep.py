@@ -26,10 +26,10 @@ Audits, comparisons and lists are by 1, 2 and 8 workers. A run is right where it
 of the run that got all (of several workers, the run by one). Where a growth was refused it may also end with status 5,
 nothing on standard output and the line `error 60 Memory` on standard error; and where `--explain-errors` is given, with
 some of the lines that it has to write there, the first among them, or with what that line of refused memory means under
-it. In place of warnings it may say there that it had no memory to look for them. Where several workers spend a budget,
-which pieces are left is open: then the counts must agree with each other and with the lines, each region must be one of
-the whole exploration, each example must break its question by the program's own `eval`, and no question is `never`. A
-run that takes 20 seconds hangs.
+it. In place of warnings, and of words that don't fit together, it may say there that it had no memory for them. Where
+several workers spend a budget, which pieces are left is open: then the counts must agree with each other and with the
+lines, each region must be one of the whole exploration, each example must break its question by the program's own
+`eval`, and no question is `never`. A run that takes 20 seconds hangs.
 
 Needs a C compiler: `cc`, or what the variable CC names. Prints each wrong run, and for each part how many runs there
 were, how many of them were refused something, how many answered Memory (of CALLS: in how many a call did), and how many

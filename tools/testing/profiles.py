@@ -6,9 +6,10 @@ import subprocess
 
 from building.kit import ROOT
 
-# A rule, a profile with it, and one that is a whole config.json.
+# A rule, a profile with it, one that refuses all but a call, and one that is a whole config.json.
 RULE = {"names": ["ptrace"], "action": "SCMP_ACT_ERRNO", "errnoRet": 1}
 PROFILE = {"defaultAction": "SCMP_ACT_ALLOW", "syscalls": [RULE]}
+STRICT = {"defaultAction": "SCMP_ACT_ERRNO", "syscalls": [{"names": ["read"], "action": "SCMP_ACT_ALLOW"}]}
 CONFIG = {"ociVersion": "1.0.2", "process": {"Linux": 1}, "linux": {"resources": {"SECCOMP": 1}, "seccomp": PROFILE}}
 ARGUMENT = {"index": 0, "value": 1, "op": "SCMP_CMP_EQ"}
 
@@ -27,9 +28,9 @@ READ = {
     "a profile": PROFILE,
     "a config.json": CONFIG,
     "an errno that is the name": with_rule(errno="EPERM"),
-    "an errno in digits": with_rule(errno="1"),
-    "a default that agrees": PROFILE | {"defaultErrnoRet": 38, "defaultErrno": "ENOSYS"},
+    "a default that agrees": STRICT | {"defaultErrnoRet": 38, "defaultErrno": "ENOSYS"},
     "keys of others": PROFILE | {"x-comment": {"Names": 1}},
+    "no names": PROFILE | {"syscalls": [RULE, RULE | {"names": []}]},
     "nulls": PROFILE | {"architectures": None, "syscalls": [RULE | {"args": None, "includes": None}]},
 }
 REFUSED = {
@@ -49,15 +50,25 @@ REFUSED = {
     "Caps": (with_rule(includes={"Caps": []}), "'Caps'"),
     "SubArchitectures": (PROFILE | {"archMap": [{"architecture": "SCMP_ARCH_X86_64", "SubArchitectures": 1}]}, "'SubA"),
     "another errno": (with_rule(errno="ENOSYS"), "errno ENOSYS beside errnoRet 1"),
-    "errno 0": (with_rule(errno="0"), "errno 0 beside errnoRet 1"),
+    "errno in digits": (with_rule(errno="1"), "errno 1 beside errnoRet 1"),
     "no errno": (with_rule(errno="errorcode"), "errno errorcode beside"),
     "errno alone": (with_rule(errnoRet=None, errno="EPERM"), "without errnoRet"),
-    "another default": (PROFILE | {"defaultErrnoRet": 38, "defaultErrno": "EPERM"}, "defaultErrno EPERM beside"),
+    "another default": (STRICT | {"defaultErrnoRet": 38, "defaultErrno": "EPERM"}, "defaultErrno EPERM beside"),
     "no JSON": ("{", "no JSON"),
     "deep": ("[" * 100_000, "no JSON"),
     "a list": ([], "no object"),
     "nothing": ("", "no JSON"),
     "linux without seccomp": ({"linux": {}}, "linux has no seccomp"),
+    "a character 0 in a key": (CONFIG | {"linux\0": {}}, "the key linux\\u0000 has a character 0"),
+    "a character 0 in a name": (with_rule(names=["ptrace\0"]), "syscalls[0].names[0] has a character 0"),
+    "half of a pair": (with_rule(names=["ptrace\ud800"]), "surrogates not allowed"),
+    "a filter for crun": (CONFIG | {"annotations": {"run.oci.seccomp_bpf_data": ""}}, "run.oci.seccomp_bpf_data is"),
+    "includes in a config.json": (CONFIG | {"linux": {"seccomp": with_rule(includes={})}}, "has the key includes"),
+    "names and name": (with_rule(name="read"), "both names and name"),
+    "a name that is null": (with_rule(names=[None]), "syscalls[0].names[0] is null"),
+    "an index of 2^32": (with_rule(args=[ARGUMENT | {"index": 1 << 32}]), "without an index up to 5"),
+    "a number that an action hasn't": (with_rule(action="SCMP_ACT_LOG"), "errnoRet 1, which doesn't fit SCMP_ACT_LOG"),
+    "a set of calls under another name": (PROFILE | {"architectures": ["x86"]}, "no set of calls: x86"),
     "an unknown action": (with_rule(action="SCMP_ACT_\x1b[31m"), "SCMP_ACT_\\u001b[31m"),
     "an unknown comparison": (with_rule(args=[ARGUMENT | {"op": "SCMP_CMP_"}]), "without an op"),
     "a number of 65 bits": (with_rule(args=[ARGUMENT | {"value": 1 << 64}]), "no whole number"),

@@ -13,6 +13,7 @@ SECONDS = 20
 MEMORY = (5, b"", b"error 60 Memory\n")
 EXPLAINED_MEMORY = (5, b"", b"error 60 Memory\nmemory ran out\n")
 UNWARNED = b"warning: there was no memory to look for warnings\n"
+UNTOLD = b"error: words don't fit, and there was no memory to tell which\n"
 
 # In its first exploration CALLS has two workers, and the growth of a bench is among the first EARLY growths, at a place
 # that differs from run to run: each of these is refused so often.
@@ -116,7 +117,7 @@ class Sweep:
         if ran.refused_growths and (ran.ended == MEMORY or is_brief(case, ran.ended)):
             return None
         status, out, err = ran.ended
-        if ran.refused_growths and status in (0, 1, 2) and err == UNWARNED:
+        if ran.refused_growths and (status in (0, 1, 2) and err == UNWARNED or status == 4 and err == UNTOLD):
             err = case.wanted[2]
         if case.whole and status in (0, 1, 2):
             return self.why_unlawful(case, (status, out, err))
