@@ -9,7 +9,7 @@ _seccomp_audit() {
         compare) options="--old --new --budget --workers --same --rows --only --calls --leaves --names --json --progress --quiet --explain-errors --help" ;;
         list) options="--budget --workers --leaves --names --calls --json --progress --quiet --explain-errors --help" ;;
         needed) options="--budget --workers --json --progress --quiet --explain-errors --help" ;;
-        profile) options="--machine --names --cap --kernel --conflicts --newer --notes --quiet --explain-errors --help" ;;
+        profile) options="--machine --names --cap --kernel --conflicts --newer --skip-unknown --notes --quiet --explain-errors --help" ;;
     esac
     COMPREPLY=()
     case $before in

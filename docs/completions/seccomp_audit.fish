@@ -86,6 +86,7 @@ complete -c seccomp_audit -n '__fish_seen_subcommand_from profile' -l cap -x -d 
 complete -c seccomp_audit -n '__fish_seen_subcommand_from profile' -l kernel -x -d 'The version of the kernel, such as 6.12'
 complete -c seccomp_audit -n '__fish_seen_subcommand_from profile' -l conflicts -x -d 'Which rule counts where several speak of one call: strictest, mildest or first [default: strictest]'
 complete -c seccomp_audit -n '__fish_seen_subcommand_from profile' -l newer -d 'Let calls that are newer than the profile fail with ENOSYS, as runc does'
+complete -c seccomp_audit -n '__fish_seen_subcommand_from profile' -l skip-unknown -d 'Pass over names that no set of calls has'
 complete -c seccomp_audit -n '__fish_seen_subcommand_from profile' -l notes -d 'Write what the profile has, and not its filter'
 complete -c seccomp_audit -n '__fish_seen_subcommand_from profile' -l quiet -d 'Leave out the warnings on standard error'
 complete -c seccomp_audit -n '__fish_seen_subcommand_from profile' -l explain-errors -d 'Explain an error under its line: where it lies, and what its number means'
