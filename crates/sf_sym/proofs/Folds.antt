@@ -1,11 +1,11 @@
 -- A node as a pool keeps it has the value of the node, and its operands are in the pool.
-use Rattle.std.proofs.Common.{◌≡◌, ℕ, ◌<◌, ◌^◌, List, length, Option, Some, None, refl, arith}
+use Rattle.std.proofs.Common.{◌≡◌, ◌≢◌, ℕ, ◌<◌, ◌^◌, List, [], ◌∷◌, ◌++◌, length, Option, Some, None, refl, arith}
 use Rattle.sf_insn.specs.declared.input.Input.{Input}
 use Rattle.sf_insn.specs.declared.ops.BinOp.{BinOp}
 use Rattle.sf_insn.specs.Words.{apply, negation_of}
 use Rattle.sf_sym.specs.Pool.{OperandsBelow, IsPool, node_at, node_value, values_of, value_of, constant_number, combined_node, negated_node, folded_node}
 use Rattle.sf_sym.specs.SizeLaws.{apply-small}
-use Rattle.sf_sym.specs.ValueLaws.{constant_number-is, value-constant, OperandsBelow-at}
+use Rattle.sf_sym.specs.ValueLaws.{constant_number-is, value-constant, OperandsBelow-at, IsPool-push}
 use Rattle.sf_sym.specs.declared.pool.Node.{Node}
 use Rattle.sf_sym.specs.declared.pool.Node.TheVariants.{Const, Word, Bin, Neg}
 use Rattle.sf_sym.specs.declared.pool.NodeId.{NodeId}
@@ -57,10 +57,15 @@ negated_node-operands : (ns : List Node) (a : NodeId) → a.0 < length ns → (x
 negated_node-operands ns a k (Some x) = omega arith
 negated_node-operands ns a k None = k
 
-pub folded_node-operands : (ns : List Node) (node : Node) → IsPool ns → OperandsBelow (length ns) node
+folded_node-operands : (ns : List Node) (node : Node) → IsPool ns → OperandsBelow (length ns) node
     → OperandsBelow (length ns) (folded_node ns node)
 folded_node-operands ns (Const c) p o = o
 folded_node-operands ns (Word i) p o = o
 folded_node-operands ns (Bin op a b) p o = combined_node-operands ns op a b p o.0 o.1 (constant_number (node_at ns a.0))
     (constant_number (node_at ns b.0)) refl refl
 folded_node-operands ns (Neg a) p o = negated_node-operands ns a o (constant_number (node_at ns a.0))
+
+-- a pool with one more node, as it keeps it, is a pool where it hadn't that node
+pub pushed-lawful : (ns : List Node) (node : Node) → IsPool ns → OperandsBelow (length ns) node
+    → ((i : ℕ) → i < length ns → node_at ns i ≢ folded_node ns node) → IsPool (ns ++ folded_node ns node ∷ [])
+pushed-lawful ns node p o none = IsPool-push ns (folded_node ns node) p (folded_node-operands ns node p o) none

@@ -1,6 +1,6 @@
-use Rattle.std.proofs.Common.{◌≡◌, ◌<◌, length, [], ◌∷◌, ◌++◌, arith, below_more, ◌∙◌}
+use Rattle.std.proofs.Common.{◌≡◌, ◌<◌, length, [], ◌∷◌, ◌++◌, arith, below_more, sym, ◌∙◌}
 use Rattle.std.proofs.lemmas.List.{length_push, get_or_append_left, get_or_push}
-use Rattle.sf_sym.specs.ValueLaws.{AreOrdered-push}
+use Rattle.sf_sym.specs.ValueLaws.{AreOrdered-push, twins-push}
 use Rattle.sf_sym.specs.Pool.{node_at}
 use Rattle.sf_sym.specs.declared.pool.Node.TheVariants.{Const, Word}
 use Rattle.sf_sym.proofs.pool.Pool.new.Goals as goal
@@ -18,4 +18,9 @@ loop-i-preserved c =
           get_or_append_left ns (Word i ∷ []) (Const 0) k l ∙ old.word k h)
           (get_or_push ns (Word i) (Const 0) i old.count));
       ordered = rw nodes (AreOrdered-push 0 ns (Word i) old.ordered (omega arith));
+      twins = rw nodes (twins-push ns (Word i) old.twins (λ k l e.
+          let count = old.count in
+          let same : Word k ≡ Word i = sym (old.word k (omega arith)) ∙ e in
+          let clash : k ≡ i = cc in
+          omega arith));
     }

@@ -1,9 +1,9 @@
 use Rattle.std.proofs.lemmas.Grind.{common_steps}
 use Rattle.std.proofs.Common.{◌≡◌, length, arith, ap, refl, ◌∙◌}
 use Rattle.std.specs.Arc.{arc_value}
-use Rattle.sf_sym.specs.ValueLaws.{IsPool-push, ArePlainNodes-push, value-node, value-older, value-pushed}
-use Rattle.sf_sym.proofs.Folds.{folded_node-value, folded_node-operands}
-use Rattle.sf_sym.specs.Pool.{OperandsBelow, folded_node}
+use Rattle.sf_sym.specs.ValueLaws.{ArePlainNodes-push, value-node, value-older, value-pushed}
+use Rattle.sf_sym.proofs.Folds.{folded_node-value, pushed-lawful}
+use Rattle.sf_sym.specs.Pool.{folded_node}
 use Rattle.sf_sym.proofs.pool.Pool.push.Goals as goal
 
 pub returns-in-Some-clause-within : goal.returns-in-Some-clause-within
@@ -22,11 +22,11 @@ returns-in-Some-clause-added c = λ absent.
 
 pub invariant_of-self-2 : goal.invariant_of-self-2
 invariant_of-self-2 c =
-    let ns = arc_value c.self.inside.nodes in
-    let given : OperandsBelow (length ns) c.args.node = rw (← c.self.view_is) at c.requires in
+    let none = rw (c.deref-3.ensures, c.fold-node.ensures, c.deref-2.ensures) at c.find.ensures.absent
+    c.in_default.is in
     rw (c.in_ok-at.ensures.ok, c.fold-node.ensures, c.deref-2.ensures)
-    (IsPool-push ns (folded_node ns c.args.node) c.self.invariant
-    (folded_node-operands ns c.args.node c.self.invariant given))
+    (pushed-lawful (arc_value c.self.inside.nodes) c.args.node c.self.invariant
+    (rw (← c.self.view_is) at c.requires) none)
 
 pub returns-clause-value : goal.returns-clause-value
 returns-clause-value c = grind (arith, common_steps, value-pushed, folded_node-value)
@@ -38,11 +38,11 @@ returns-clause-plain c = λ k e plain.
 
 pub returns-clause-lawful : goal.returns-clause-lawful
 returns-clause-lawful c =
-    let ns = arc_value c.self.inside.nodes in
-    let given : OperandsBelow (length ns) c.args.node = rw (← c.self.view_is) at c.requires in
+    let none = rw (c.deref-3.ensures, c.fold-node.ensures, c.deref-2.ensures) at c.find.ensures.absent
+    c.in_default.is in
     rw (c.in_ok-at.ensures.ok, c.fold-node.ensures, c.deref-2.ensures)
-    (IsPool-push ns (folded_node ns c.args.node) c.self.invariant
-    (folded_node-operands ns c.args.node c.self.invariant given))
+    (pushed-lawful (arc_value c.self.inside.nodes) c.args.node c.self.invariant
+    (rw (← c.self.view_is) at c.requires) none)
 
 pub overflow_cast-result : goal.overflow_cast-result
 overflow_cast-result c =
