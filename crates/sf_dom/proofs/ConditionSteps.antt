@@ -61,6 +61,15 @@ pair-narrowed-if : (ks : List Known) (ex : List (List ℕ)) (ns : List Node) (co
 pair-narrowed-if ks ex ns cond h below pair g =
     pair-narrowed ks ex ns cond pair h below (pair-left ks ex cond (Some pair) g)
 
+-- known bits that go back from both nodes lose nothing
+pub both-back : (ks one two : List Known) (ex : List (List ℕ)) (ns : List Node) (cond : Cond) → IsPool ns
+    → AreClosed ks ns → IsCondBelow (length ns) cond → GoingBackGives ks ex ns cond.node.0 (Some one)
+    → GoingBackGives one ex ns cond.other.0 (Some two) → IsNarrowed ks two ex ns
+both-back ks one two ex ns cond p h below g k =
+    let first = (back-lawful ks ex ns cond.node.0 p h below.0).narrowed (Some one) g in
+    narrowed-trans ks one two ex ns h first
+    ((back-lawful one ex ns cond.other.0 p first.closed below.1).narrowed (Some two) k)
+
 -- an input that agrees and meets the condition agrees once both are written
 pair-sound : (ks : List Known) (ex : List (List ℕ)) (ns : List Node) (cond : Cond) → IsPool ns → AreClosed ks ns
     → IsCondBelow (length ns) cond → (d : Input) → IsInput d → Meets ns cond d → AgreesWith ks ex ns d

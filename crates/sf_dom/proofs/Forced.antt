@@ -8,6 +8,7 @@ use Rattle.std.specs.Prelude.{Some, None}
 use Rattle.sf_insn.specs.declared.ops.Test.{Test}
 use Rattle.sf_insn.specs.declared.ops.Test.TheVariants.{Equal, Greater, GreaterOrEqual, AnyBit}
 use Rattle.sf_sym.specs.Pool.{IsPool, IsCondBelow, node_at}
+use Rattle.sf_sym.specs.ValueLaws.{word-place}
 use Rattle.sf_sym.specs.declared.pool.Cond.{Cond}
 use Rattle.sf_sym.specs.declared.pool.Node.{Node}
 use Rattle.sf_sym.specs.declared.pool.Node.TheVariants.{Const, Word, Bin, Neg}
@@ -137,7 +138,7 @@ module _ (f : FactsView) (ns : List Node) (c : Cond) (number : ℕ)
   end-stays : (i m : ℕ) → i < 16 → i < length ns → (m ≡ (known_at f.known i).low) ⊎ (m ≡ (known_at f.known i).high)
       → ¬ Excludes f.known ns c i m
   end-stays i m b l end (et, es, inl x) =
-      let at : c.node.0 ≡ i = h.words c.node.0 i h.below.0 x.0 in
+      let at : c.node.0 ≡ i = word-place ns h.pool c.node.0 i h.below.0 x.0 in
       let apart = this-apart own number (h.rest c.node.0 h.below.0).closed.known (rw (et, es) at h.forced.this) in
       let same : m ≡ number = x.2 ∙ ap (λ (k : Known). k.low) h.decided in
       let here : own ≡ known_at f.known i = ap (known_at f.known) at in
@@ -146,7 +147,7 @@ module _ (f : FactsView) (ns : List Node) (c : Cond) (number : ℕ)
         | inr e ↦ apart.1 (sym same ∙ e ∙ ap (λ (k : Known). k.high) (sym here))
       ]
   end-stays i m b l end (et, es, inr x) =
-      let at : c.other.0 ≡ i = h.words c.other.0 i h.below.1 x.0 in
+      let at : c.other.0 ≡ i = word-place ns h.pool c.other.0 i h.below.1 x.0 in
       let apart = that-apart own number fits x.1 (rw (et, es) at h.forced.that) in
       let here : known_at f.known i ≡ number_known number = ap (known_at f.known) (sym at) ∙ h.decided in
       elim end [
@@ -208,10 +209,11 @@ module _ (f : FactsView) (ns : List Node) (c : Cond) (number : ℕ)
   }
 
 pub forced-learns : (f : FactsView) (ns : List Node) (c : Cond) (number : ℕ)
-    → IsForcedCondition f ns c number c.sense → (new : FactsView) × LearnsBy f new ns c
+    → IsForcedCondition f ns c number c.sense → (new : FactsView) × (new.known ≡ f.known) × LearnsBy f new ns c
 forced-learns f ns c number h =
     let all = exclusions f.known f.excluded ns c h.pool h.lists h.below in (
       record { known = f.known; variables = f.variables; excluded = all.lists },
+      refl,
       learns f ns c number h all.lists all.are,
     )
 

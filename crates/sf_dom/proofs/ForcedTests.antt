@@ -1,5 +1,5 @@
 -- A test against a number that is forced, as a condition.
-use Rattle.std.proofs.Common.{◌≡◌, ℕ, zero, suc, ◌<◌, ◌^◌, ◌+◌, List, [], ◌∷◌, ◌++◌, length, Bool, arith, refl, sym, ap, ◌∙◌, inl, inr}
+use Rattle.std.proofs.Common.{◌≡◌, ◌≢◌, ℕ, zero, suc, ◌<◌, ◌^◌, ◌+◌, List, [], ◌∷◌, ◌++◌, length, Bool, arith, refl, sym, ap, ◌∙◌, inl, inr}
 use Rattle.std.proofs.lemmas.Bool.{cases_lt}
 use Rattle.std.proofs.lemmas.List.{get_or_append_left, get_or_push, length_push}
 use Rattle.std.proofs.Math.Seq.{take-append_seam}
@@ -10,7 +10,7 @@ use Rattle.sf_sym.specs.Operands.{IsSwappable, constant_operand_of}
 use Rattle.sf_sym.specs.Pool.{IsPool, node_at}
 use Rattle.sf_sym.specs.ValueLaws.{IsPool-push}
 use Rattle.sf_sym.specs.declared.pool.Node.{Node}
-use Rattle.sf_sym.specs.declared.pool.Node.TheVariants.{Const, Word}
+use Rattle.sf_sym.specs.declared.pool.Node.TheVariants.{Const}
 use Rattle.sf_sym.specs.declared.pool.NodeId.{NodeId}
 use Rattle.sf_dom.specs.declared.known.Known.{Known}
 use Rattle.sf_dom.specs.Known.{known_of}
@@ -45,7 +45,6 @@ pub forced-found : (f : FactsView) (ns : List Node) (node other : NodeId) (test 
     → node_at ns other.0 ≡ Const number → IsForcedCondition f ns (condition node test other sense) number result
 forced-found f ns node other test number sense result h l e = record {
   pool = h.pool;
-  words = h.words;
   count = h.count;
   lists = h.lists;
   rest = h.rest;
@@ -79,24 +78,25 @@ back-longer (suc n) ks js ns longer at p l h same w =
         (rw (same at l, same o.1 here) y.0, more o.1 here y.1)
 
 pub forced-added : (f : FactsView) (ns : List Node) (node other : NodeId) (test : Test) (number : ℕ)
-    (sense result : Bool) → IsForcedTest f ns node test number result → other.0 ≡ length ns
+    (sense result : Bool) → IsForcedTest f ns node test number result
+    → ((i : ℕ) → i < length ns → node_at ns i ≢ Const number) → other.0 ≡ length ns
     → (g : FactsView) × GrowsBy f g (ns ++ Const number ∷ [])
     × IsForcedCondition g (ns ++ Const number ∷ []) (condition node test other sense) number result
-forced-added f ns node other test number sense result h at =
+forced-added f ns node other test number sense result h none at =
     let more : List Node = ns ++ Const number ∷ [] in
     let new : Known = number_known number in
     let ks : List Known = f.known ++ new ∷ [] in
     let g : FactsView = record { known = ks; variables = f.variables; excluded = f.excluded } in
     let count = h.count in
     let longer = extends-longer ns more (Const number ∷ [], refl) in
-    let pool : IsPool more = IsPool-push ns (Const number) h.pool h.fits in
+    let pool : IsPool more = IsPool-push ns (Const number) h.pool h.fits none in
     let words = h.pool.words in
     let size : length more ≡ length ns + 1 = length_push ns (Const number) in
     let last : node_at more (length ns) ≡ Const number = get_or_push ns (Const number) (Const 0) (length ns) refl in
-    let none : Known = known_of 0 0 0 0 in
+    let nothing : Known = known_of 0 0 0 0 in
     let older : (i : ℕ) → i < length ns → known_at ks i ≡ known_at f.known i
-    = λ i l. get_or_append_left f.known (new ∷ []) none i (omega arith) in
-    let newest : known_at ks (length ns) ≡ new = get_or_push f.known new none (length ns) count in
+    = λ i l. get_or_append_left f.known (new ∷ []) nothing i (omega arith) in
+    let newest : known_at ks (length ns) ≡ new = get_or_push f.known new nothing (length ns) count in
     let rest : (i : ℕ) → i < length more → IsAtRest ks f.excluded more i
     = λ i l. elim (cases_lt i (length ns)) [
       | inl b ↦
@@ -135,12 +135,6 @@ forced-added f ns node other test number sense result h at =
       },
       forced-found g more node other test number sense result (record {
         pool = pool;
-        words = λ i w l e. elim (cases_lt i (length ns)) [
-          | inl b ↦ h.words i w b (sym (longer.same i b) ∙ e)
-          | inr a ↦
-              let s : i ≡ length ns = omega arith in
-              let clash : Const number ≡ Word w = sym last ∙ (rw s at e) in absurd cc
-        ];
         count = length_push f.known new ∙ ap (λ n. n + 1) count ∙ sym size;
         lists = h.lists;
         rest = rest;

@@ -36,7 +36,7 @@ pub narrowed-refl : (ks : List Known) (ex : List (List ℕ)) (ns : List Node) �
 narrowed-refl ks ex ns h = record {
   closed = h;
   narrower = λ i l. IsNarrower-refl (known_at ks i);
-  kept = λ w b c. c;
+  kept = λ words. words;
 }
 
 pub narrowed-trans : (a b c : List Known) (ex : List (List ℕ)) (ns : List Node) → AreClosed a ns → IsNarrowed a b ex ns
@@ -48,7 +48,7 @@ narrowed-trans a b c ex ns k h g =
       closed = g.closed;
       narrower = λ i l. IsNarrower-trans (known_at a i) (known_at b i) (known_at c i) (h.narrower i l)
           (g.narrower i (omega arith));
-      kept = λ w b k. g.kept w b (h.kept w b k);
+      kept = λ words. g.kept (h.kept words);
     }
 
 -- a node is written
@@ -70,7 +70,7 @@ narrowed-set ks ex ns i next h l closed narrower =
         | inl e ↦ rw (e, get_or-set_same ks i next none here) narrower
         | inr ne ↦ rw (get_or-set_other ks i j next none ne) (IsNarrower-refl (known_at ks j))
       ];
-      kept = closed-set ks ex i next here closed;
+      kept = λ words w b. closed-set ks ex i next here closed w (words w b);
     }
 
 -- an input agrees still where a node is written that admits its value

@@ -13,7 +13,7 @@ use Rattle.sf_dom.specs.GoingBack.{gained, WritingGives, GoingBackGivesIn, Going
 use Rattle.sf_dom.specs.Learning.{AreExcludedBy, assumed_of, PairGives, with_pair, ConditionGives, MoreGives, LearnsBy, CantLearn, StartsBy, GrowsBy, CantGrow, TakesInBy, CantTakeInBy}
 use Rattle.sf_dom.specs.Passes.{IsPass, PassFails, PassGives, AreTakenIn, TakingInFails}
 use Rattle.sf_dom.specs.Rules.{met, forward_node, IsClosedAt, ReductionGives}
-use Rattle.sf_dom.proofs.Passes.{reduction-as, forward-same, operands-below, one-pass, pass-none, word-or-other}
+use Rattle.sf_dom.proofs.Passes.{reduction-as, forward-same, operands-below, one-pass, pass-none}
 use Rattle.sf_dom.proofs.Propagations.{same-taken}
 use Rattle.sf_dom.proofs.RuleLaws.{one-reduction}
 use Rattle.sf_dom.proofs.Then.{then-map, then-same, then-one}
@@ -72,8 +72,8 @@ module _ (a b : List (List ℕ)) (to : (w m : ℕ) → w < 16 → Contains (numb
     new = h.new;
     place = h.place;
     within = h.within;
-    before = λ g k l. reduces-as k (met (known_at ks k) (forward_node h.new (node_at ns k))) (Some (known_at h.new k))
-        (h.before g k l);
+    before = λ k l. reduces-as k (met (known_at ks k) (forward_node h.new (node_at ns k))) (Some (known_at h.new k))
+        (h.before k l);
     none = reduces-as h.place (met (known_at ks h.place) (forward_node h.new (node_at ns h.place))) None h.none;
   }
 
@@ -137,12 +137,7 @@ reduction-one ex i old (Some a) (Some b) h k = ap Some (one-reduction (IsClosedA
 -- a pass that fails gives nothing
 fails-none : (old new : List Known) (ex : List (List ℕ)) (ns : List Node) → IsPool ns → PassFails old ex ns
     → ¬ IsPass old new ex ns
-fails-none old new ex ns p w pass = elim (word-or-other (node_at ns w.place)) [
-  | inl b ↦
-      let r = rw b.1 at (pass.each w.place w.within) in
-      (rw b.1 at w.none) (known_at new w.place) r.is r.narrower
-  | inr g ↦ pass-none old w.new ex ns w.place p w.within (w.before g) w.none new pass
-]
+fails-none old new ex ns p w pass = pass-none old w.new ex ns w.place p w.within w.before w.none new pass
 
 pass-one : (old : List Known) (ex : List (List ℕ)) (ns : List Node) → IsPool ns → (r s : Option (List Known))
     → PassGives old ex ns r → PassGives old ex ns s → r ≡ s

@@ -22,7 +22,7 @@ use Rattle.sf_dom.specs.Passes.{IsPassedAt, PassGives, IsAtRest, AreClosed}
 use Rattle.sf_dom.specs.Propagation.{IsNarrowed}
 use Rattle.sf_dom.specs.FactsLaws.{constant-admits}
 use Rattle.sf_dom.proofs.Lawful.{IsLawful, AnyInput, met-admits, closed-zeros, closed-ones, kept-at, reduction-holds, value-fits}
-use Rattle.sf_dom.proofs.Passes.{operands-below, met-left, met-right, word-or-other}
+use Rattle.sf_dom.proofs.Passes.{operands-below, met-left, met-right}
 use Rattle.sf_dom.proofs.Reductions.{IsNarrower-trans}
 use Rattle.sf_dom.proofs.RuleLaws.{forward-sound, negate-sound, full-admits}
 
@@ -126,20 +126,6 @@ met-holds old new ex ns d k p h i a l closed older =
       or_lt 32 own.zeros rule.zeros (closed-zeros own (h.each k l)) f.1,
     )
 
--- so it is of a word, which has no operands
-word-holds : (old new : List Known) (ex : List (List ℕ)) (ns : List Node) (d : Input) (k : ℕ) → IsPool ns
-    → AreClosed old ns → IsInput d → AgreesWith old ex ns d → k < length ns → (w : ℕ) → node_at ns k ≡ Word w
-    → Admits (met (known_at old k) (forward_node new (node_at ns k))) (value_of ns d k)
-    × ((met (known_at old k) (forward_node new (node_at ns k))).zeros < 2 ^ 32)
-word-holds old new ex ns d k p h i a l w word =
-    let count = h.count in
-    let own : Known = known_at old k in
-    rw word (
-      met-admits own full (value_of ns d k) (a k (omega arith)).admitted
-          (full-admits (value_of ns d k) (value-fits old ex ns d k h l a)),
-      or_lt 32 own.zeros 0 (closed-zeros own (h.each k l)) (omega arith),
-    )
-
 -- what a pass leaves of a node admits its value
 passed-holds : (old new : List Known) (ex : List (List ℕ)) (ns : List Node) (d : Input) → IsPool ns
     → AreClosed old ns → IsInput d → AgreesWith old ex ns d → (m : ℕ) → m ≤ length ns
@@ -174,14 +160,8 @@ pass-sound old ex ns d p h i a None w =
     let within = w.within in
     let own : Known = known_at old w.place in
     let rule : Known = forward_node w.new (node_at ns w.place) in
-    let both : Admits (met own rule) (value_of ns d w.place) × ((met own rule).zeros < 2 ^ 32)
-    = elim (word-or-other (node_at ns w.place)) [
-      | inl b ↦ word-holds old w.new ex ns d w.place p h i a within b.0 b.1
-      | inr g ↦
-          let before = w.before g in
-          let older = passed-holds old w.new ex ns d p h i a w.place (omega arith) before in
-          met-holds old w.new ex ns d w.place p h i a within (λ j s. (before j s).is.known) older
-    ] in
+    let older = passed-holds old w.new ex ns d p h i a w.place (omega arith) w.before in
+    let both = met-holds old w.new ex ns d w.place p h i a within (λ j s. (w.before j s).is.known) older in
     reduction-holds None ex w.place (value_of ns d w.place) (met own rule)
     (value-fits old ex ns d w.place h within a) both.1 (λ b. kept-at old ex ns d w.place p (omega arith) a b) both.0
     w.none
@@ -198,7 +178,7 @@ pass-narrowed old ex ns p h (Some new) w =
           let s = w.each i (omega arith) in
           IsNarrower-trans (known_at old i) (met (known_at old i) (forward_node new (node_at ns i))) (known_at new i)
           (met-left (known_at old i) (forward_node new (node_at ns i))) s.narrower;
-      kept = λ i b k. (w.each i (omega arith)).is;
+      kept = λ words i b. (w.each i (omega arith)).is;
     }
 
 -- a forward pass is a lawful step

@@ -1,8 +1,8 @@
 -- What stays as it is in a forward pass, and what a pass leaves.
-use Rattle.std.proofs.Common.{◌≡◌, ◌≢◌, ◌⊎◌, ℕ, ◌+◌, ◌-◌, ◌<◌, ◌≤◌, List, length, set, arith, refl, sym, ap, ◌∙◌, inl, inr, zero, suc}
+use Rattle.std.proofs.Common.{◌≡◌, ℕ, ◌+◌, ◌-◌, ◌<◌, ◌≤◌, List, length, arith, refl, sym, ap, ◌∙◌, inl, inr, zero, suc}
 use Rattle.std.specs.Prelude.{Option, Some, None, MatchOption}
-use Rattle.std.proofs.lemmas.Bool.{cases_lt, cases_eq}
-use Rattle.std.proofs.lemmas.List.{get_or-set_same, get_or-set_other, ext_get_or}
+use Rattle.std.proofs.lemmas.Bool.{cases_lt}
+use Rattle.std.proofs.lemmas.List.{ext_get_or}
 use Rattle.std.proofs.lemmas.Nat.Bits.{bit_at_or, bit_at-zero}
 use Rattle.sf_sym.specs.Pool.{IsPool, OperandsBelow, node_at}
 use Rattle.sf_sym.specs.declared.pool.Node.{Node}
@@ -11,8 +11,8 @@ use Rattle.sf_sym.specs.ValueLaws.{OperandsBelow-at}
 use Rattle.sf_dom.specs.declared.known.Known.{Known}
 use Rattle.sf_dom.specs.Known.{IsNarrower, IsConsistent, IsDecided, known_of}
 use Rattle.sf_dom.specs.Reading.{known_at}
-use Rattle.sf_dom.specs.Rules.{met, forward_node, IsClosed, IsClosedAt, IsReduction, HasNoReduction, IsWidest, HasNone}
-use Rattle.sf_dom.specs.Passes.{IsPassedAt, IsPass, PassFails, HasPassOf, IsAtRest, AreAllDecided, IsFixedAt, AreFixed}
+use Rattle.sf_dom.specs.Rules.{met, forward_node, IsClosed, IsClosedAt, HasNoReduction, IsWidest, HasNone}
+use Rattle.sf_dom.specs.Passes.{IsPassedAt, IsPass, IsAtRest, AreAllDecided, IsFixedAt, AreFixed}
 use Rattle.sf_dom.proofs.Reductions.{IsNarrower-trans, IsNarrower-refl}
 use Rattle.sf_dom.proofs.Bits.{bits-of-or, bits-of-or_right}
 use Rattle.sf_dom.proofs.ClosedLemmas.{closed-number}
@@ -205,76 +205,3 @@ module _ (kind other : Known → Type 0) (to : (k : Known) → kind k → other 
     narrower = h.narrower;
     widest = λ k is n. h.widest k (from k is) n;
   }
-
--- to reduce before a meeting and after it leaves the same as to reduce after it
-pub in-parts : (kind : Known → Type 0) (a left b r : Known) → IsWidest kind a left → IsWidest kind (met left b) r
-    → IsWidest kind (met a b) r
-in-parts kind a left b r h k = record {
-  is = k.is;
-  narrower = met-below a b r
-      (IsNarrower-trans a left r h.narrower (IsNarrower-trans left (met left b) r (met-left left b) k.narrower))
-      (IsNarrower-trans b (met left b) r (met-right left b) k.narrower);
-  widest = λ s t n. k.widest s t (met-below left b s (h.widest s t (IsNarrower-trans a (met a b) s (met-left a b) n))
-      (IsNarrower-trans b (met a b) s (met-right a b) n));
-}
-
--- a word may be reduced before a pass
-pub passed-before : (ks last : List Known) (ex : List (List ℕ)) (ns : List Node) (i : ℕ) (next : Known)
-    → i < length ks → IsReduction ex i (known_at ks i) next → (k : ℕ) → IsPassedAt (set ks i next) last ex ns k
-    → IsPassedAt ks last ex ns k
-passed-before ks last ex ns i next l h k pass = elim (cases_eq k i) [
-  | inl e ↦ rw e (in-parts (IsClosedAt ex i) (known_at ks i) next (forward_node last (node_at ns i)) (known_at last i) h
-      (rw (e, get_or-set_same ks i next (known_of 0 0 0 0) l) at pass))
-  | inr ne ↦ rw (get_or-set_other ks i k next (known_of 0 0 0 0) ne) at pass
-]
-
--- where it leaves nothing then, it leaves nothing before
-none-parts : (ks last : List Known) (ex : List (List ℕ)) (ns : List Node) (i : ℕ) (next : Known)
-    → i < length ks → IsReduction ex i (known_at ks i) next → (k : ℕ)
-    → HasNoReduction ex k (met (known_at (set ks i next) k) (forward_node last (node_at ns k)))
-    → HasNoReduction ex k (met (known_at ks k) (forward_node last (node_at ns k)))
-none-parts ks last ex ns i next l h k none = elim (cases_eq k i) [
-  | inl e ↦ rw e (λ s is n.
-      let f : Known = forward_node last (node_at ns i) in
-      let own : Known = known_at ks i in
-      (rw (e, get_or-set_same ks i next (known_of 0 0 0 0) l) at none) s is
-      (met-below next f s (h.widest s is (IsNarrower-trans own (met own f) s (met-left own f) n))
-      (IsNarrower-trans f (met own f) s (met-right own f) n)))
-  | inr ne ↦ rw (get_or-set_other ks i k next (known_of 0 0 0 0) ne) at none
-]
-
--- so the same pass follows
-pub same-pass : (ks : List Known) (ex : List (List ℕ)) (ns : List Node) (i : ℕ) (next : Known)
-    → i < length ks → IsReduction ex i (known_at ks i) next → HasPassOf ks (set ks i next) ex ns
-same-pass ks ex ns i next l h (Some last) pass = record {
-  count = pass.count;
-  each = λ k lk. passed-before ks last ex ns i next l h k (pass.each k lk);
-}
-same-pass ks ex ns i next l h None pass = record {
-  new = pass.new;
-  place = pass.place;
-  within = pass.within;
-  before = λ g k lk. passed-before ks pass.new ex ns i next l h k (pass.before g k lk);
-  none = none-parts ks pass.new ex ns i next l h pass.place pass.none;
-}
-
--- a node is a word, or it is none
-pub word-or-other : (n : Node) → ((w : ℕ) × (n ≡ Word w)) ⊎ ((w : ℕ) → n ≢ Word w)
-word-or-other (Word i) = inl (i, refl)
-word-or-other (Const c) = inr (λ w e. let clash : Const c ≡ Word w = e in absurd cc)
-word-or-other (Bin op a b) = inr (λ w e. let clash : Bin op a b ≡ Word w = e in absurd cc)
-word-or-other (Neg a) = inr (λ w e. let clash : Neg a ≡ Word w = e in absurd cc)
-
--- where a word is left nothing by itself, a pass fails
-pub word-fails : (ks : List Known) (ex : List (List ℕ)) (ns : List Node) (i w : ℕ) → i < length ns
-    → node_at ns i ≡ Word w → HasNoReduction ex i (known_at ks i) → PassFails ks ex ns
-word-fails ks ex ns i w l word none = record {
-  new = ks;
-  place = i;
-  within = l;
-  before = λ other. absurd (other w word);
-  none = λ s is n.
-      let f : Known = forward_node ks (node_at ns i) in
-      let own : Known = known_at ks i in
-      none s is (IsNarrower-trans own (met own f) s (met-left own f) n);
-}

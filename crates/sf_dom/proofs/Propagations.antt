@@ -9,7 +9,7 @@ use Rattle.sf_sym.specs.declared.pool.Node.TheVariants.{Const, Word, Bin, Neg}
 use Rattle.sf_dom.specs.declared.known.Known.{Known}
 use Rattle.sf_dom.specs.Known.{IsNarrower, IsConsistent, IsDecided, known_of}
 use Rattle.sf_dom.specs.Nodes.{NodesView, IsLaidOut}
-use Rattle.sf_dom.specs.Propagation.{AreConsistentOperands, AreClosedWords, KeepsClosed}
+use Rattle.sf_dom.specs.Propagation.{AreConsistentOperands, AreClosedWords}
 use Rattle.sf_dom.specs.Rules.{forward_node, IsClosedAt, IsReduction}
 use Rattle.sf_dom.specs.Passes.{IsAtRest, AreClosed, AreFixed, AreAllDecided, IsFixedAt, IsVariableAt}
 use Rattle.sf_dom.specs.Facts.{known_at}
@@ -91,8 +91,9 @@ words-rest n ex ns p closed laid fixed words k l before =
 
 -- where nothing more follows for a node that is written, nothing more follows for a word for which nothing did
 pub closed-set : (ks : List Known) (ex : List (List ℕ)) (i : ℕ) (next : Known)
-    → i < length ks → IsClosedAt ex i next → KeepsClosed ks (set ks i next) ex
-closed-set ks ex i next l closed w b h = elim (cases_eq w i) [
+    → i < length ks → IsClosedAt ex i next → (w : ℕ) → IsClosedAt ex w (known_at ks w)
+    → IsClosedAt ex w (known_at (set ks i next) w)
+closed-set ks ex i next l closed w h = elim (cases_eq w i) [
   | inl e ↦ rw (e, get_or-set_same ks i next (known_of 0 0 0 0) l) closed
   | inr ne ↦ rw (get_or-set_other ks i w next (known_of 0 0 0 0) ne) h
 ]

@@ -1,63 +1,56 @@
--- Nothing more follows for the words, but for those that a condition names; and the pass after it.
-use Rattle.std.proofs.Common.{◌≡◌, ◌≢◌, ℕ, List, Bool, true, false, ap, ◌⊎◌, inl, inr}
+-- Nothing more follows for any word once what a condition leaves of its two nodes is written.
+use Rattle.std.proofs.Common.{◌≡◌, ℕ, ◌<◌, List, length, set, sym, arith, inl, inr}
 use Rattle.std.proofs.lemmas.Bool.{cases_eq}
-use Rattle.std.specs.Prelude.{Some, None, MatchBool, Contains}
-use Rattle.sf_sym.specs.Pool.{node_at}
+use Rattle.std.proofs.lemmas.List.{get_or-set_same, get_or-set_other, length-set}
+use Rattle.std.specs.Prelude.{Contains}
+use Rattle.sf_sym.specs.Pool.{IsPool, IsCondBelow}
+use Rattle.sf_sym.specs.ValueLaws.{word-place}
 use Rattle.sf_sym.specs.declared.pool.Cond.{Cond}
 use Rattle.sf_sym.specs.declared.pool.Node.{Node}
-use Rattle.sf_sym.specs.declared.pool.Node.TheVariants.{Const, Word, Bin, Neg}
+use Rattle.sf_dom.specs.declared.guards.Pair.{Pair}
 use Rattle.sf_dom.specs.declared.known.Known.{Known}
 use Rattle.sf_dom.specs.Facts.{known_at, numbers_at}
-use Rattle.sf_dom.specs.Learning.{AreExcludedBy}
-use Rattle.sf_dom.specs.Propagation.{AreClosedWords, AreOthersClosed, KeepsClosed}
+use Rattle.sf_dom.specs.Known.{known_of}
+use Rattle.sf_dom.specs.Learning.{Excludes, AreExcludedBy, with_pair}
+use Rattle.sf_dom.specs.Propagation.{AreClosedWords}
 use Rattle.sf_dom.specs.Rules.{IsClosedAt}
-use Rattle.sf_dom.specs.Passes.{PassGives, HasPassOf}
+use Rattle.sf_dom.proofs.ConditionSteps.{AreLeft}
 
--- a node is a word, or it isn't
-pub is-word : (n : Node) (w : ℕ) → (n ≡ Word w) ⊎ (n ≢ Word w)
-is-word (Const c) w = inr (λ e. let clash : Const c ≡ Word w = e in absurd cc)
-is-word (Bin op a b) w = inr (λ e. let clash : Bin op a b ≡ Word w = e in absurd cc)
-is-word (Neg a) w = inr (λ e. let clash : Neg a ≡ Word w = e in absurd cc)
-is-word (Word i) w = elim (cases_eq i w) [
-  | inl e ↦ inl (ap Word e)
-  | inr ne ↦ inr (λ e. let both : Word i ≡ Word w = e in let same : i ≡ w = cc in ne same)
-]
-
--- nothing more follows for any word, once nothing does for the two nodes of a condition
-pub closed-all : (o a b : List Known) (ex : List (List ℕ)) (ns : List Node) (cond : Cond) → AreOthersClosed o ex ns cond
-    → KeepsClosed o a ex → KeepsClosed a b ex
-    → ((i : ℕ) → node_at ns cond.node.0 ≡ Word i → IsClosedAt ex i (known_at a i))
-    → ((i : ℕ) → node_at ns cond.other.0 ≡ Word i → IsClosedAt ex i (known_at b i)) → AreClosedWords b ex
-closed-all o a b ex ns cond h k m one two w l = elim (is-word (node_at ns cond.other.0) w) [
-  | inl e ↦ two w e
-  | inr other ↦ m w l (elim (is-word (node_at ns cond.node.0) w) [
-    | inl e ↦ one w e
-    | inr node ↦ k w l (h w l node other)
-  ])
-]
-
--- a pass that follows from the second follows from the first
-pub pass-of : (r : Bool) (a b n : List Known) (ex : List (List ℕ)) (ns : List Node) → HasPassOf a b ex ns
-    → MatchBool r (PassGives b ex ns (Some n)) (PassGives b ex ns None)
-    → MatchBool r (PassGives a ex ns (Some n)) (PassGives a ex ns None)
-pass-of true a b n ex ns h w = h (Some n) w
-pass-of false a b n ex ns h w = h None w
-
--- nothing more follows for the words that are no nodes of a condition, since it excludes no number for them
-pub others-closed : (ks : List Known) (ex ex' : List (List ℕ)) (ns : List Node) (cond : Cond) → AreClosedWords ks ex
-    → AreExcludedBy ks ex ex' ns cond → AreOthersClosed ks ex' ns cond
-others-closed ks ex ex' ns cond closed both w l one two =
-    let k = closed w l in
-    let t = k.tight l in
-    let kept : (m : ℕ) → ¬ Contains (numbers_at ex w) m → ¬ Contains (numbers_at ex' w) m
-    = λ m h z. elim (both.only w m l z) [
-      | inl old ↦ h old
-      | inr new ↦ elim new.2 [ inl v ↦ one v.0 | inr v ↦ two v.0 ]
-    ] in
+-- nothing more follows for a word for which no number is excluded newly
+closed-still : (ks : List Known) (ex more : List (List ℕ)) (ns : List Node) (cond : Cond) (w : ℕ) → w < 16
+    → AreExcludedBy ks ex more ns cond → ((m : ℕ) → ¬ Excludes ks ns cond w m) → IsClosedAt ex w (known_at ks w)
+    → IsClosedAt more w (known_at ks w)
+closed-still ks ex more ns cond w l both none k =
+    let kept : (m : ℕ) → ¬ Contains (numbers_at ex w) m → ¬ Contains (numbers_at more w) m
+    = λ m h z. elim (both.only w m l z) [ inl old ↦ h old | inr new ↦ none m new ] in
     record {
       known = k.known;
       tight = λ b. record {
-        low = record { admitted = t.low.admitted; kept = kept (known_at ks w).low t.low.kept };
-        high = record { admitted = t.high.admitted; kept = kept (known_at ks w).high t.high.kept };
+        low = record { admitted = (k.tight b).low.admitted; kept = kept (known_at ks w).low (k.tight b).low.kept };
+        high = record { admitted = (k.tight b).high.admitted; kept = kept (known_at ks w).high (k.tight b).high.kept };
       };
     }
+
+-- Where a condition excludes a number for a word, this is one of its nodes, and is reduced with the new numbers.
+pub words-written : (ks : List Known) (ex more : List (List ℕ)) (ns : List Node) (cond : Cond) (pair : Pair)
+    → IsPool ns → length ks ≡ length ns → IsCondBelow (length ns) cond → AreClosedWords ks ex
+    → AreExcludedBy ks ex more ns cond → AreLeft ks more cond pair → AreClosedWords (with_pair ks cond pair) more
+words-written ks ex more ns cond pair p count below closed both left w l =
+    let none : Known = known_of 0 0 0 0 in
+    let first : List Known = set ks cond.node.0 pair.node in
+    let v = below.0 in
+    let u = below.1 in
+    let here : cond.node.0 < length ks = omega arith in
+    let there : cond.other.0 < length first = omega (arith, length-set ks cond.node.0 pair.node) in
+    elim (cases_eq w cond.other.0) [
+      | inl e ↦ rw (e, get_or-set_same first cond.other.0 pair.other none there) left.other.is
+      | inr other ↦ rw (get_or-set_other first cond.other.0 w pair.other none other) (elim (cases_eq w cond.node.0) [
+        | inl e ↦ rw (e, get_or-set_same ks cond.node.0 pair.node none here) left.node.is
+        | inr node ↦ rw (get_or-set_other ks cond.node.0 w pair.node none node)
+            (closed-still ks ex more ns cond w l both
+            (λ m x. elim x.2 [
+              | inl y ↦ node (sym (word-place ns p cond.node.0 w v y.0))
+              | inr y ↦ other (sym (word-place ns p cond.other.0 w u y.0))
+            ]) (closed w l))
+      ])
+    ]

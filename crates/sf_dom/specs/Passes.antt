@@ -1,5 +1,5 @@
 -- Forward passes, when one changes nothing, and how newer nodes are taken in.
-use Rattle.std.specs.Prelude.{◌≡◌, ◌≢◌, ℕ, ◌<◌, ◌≤◌, ◌⊎◌, List, length, take, slice_index, Option, MatchOption}
+use Rattle.std.specs.Prelude.{◌≡◌, ℕ, ◌<◌, ◌≤◌, ◌⊎◌, List, length, take, slice_index, Option, MatchOption}
 use Rattle.sf_sym.specs.Pool.{node_at}
 use Rattle.sf_sym.specs.declared.pool.Node.{Node}
 use Rattle.sf_sym.specs.declared.pool.Node.TheVariants.{Const, Word, Bin, Neg}
@@ -20,13 +20,12 @@ pub record IsPass (old new : List Known) (ex : List (List ℕ)) (ns : List Node)
   pub each : (i : ℕ) → i < length ns → IsPassedAt old new ex ns i
 
 -- A forward pass fails at a node: what was known of it contradicts what follows from its operands as the pass left
--- them. If the node is no word of the input, all nodes before it have been passed; a word, which has no operands, may
--- fail whatever became of other nodes.
+-- them. All nodes before it have been passed.
 pub record PassFails (old : List Known) (ex : List (List ℕ)) (ns : List Node) : Type 0 where
   pub new : List Known
   pub place : ℕ
   pub within : place < length ns
-  pub before : ((w : ℕ) → node_at ns place ≢ Word w) → (k : ℕ) → k < place → IsPassedAt old new ex ns k
+  pub before : (k : ℕ) → k < place → IsPassedAt old new ex ns k
   pub none : HasNoReduction ex place (met (known_at old place) (forward_node new (node_at ns place)))
 
 -- what a forward pass gives: what is known of all nodes after it, or nothing where it fails
@@ -58,10 +57,6 @@ pub record TakingInFails (old : List Known) (ex : List (List ℕ)) (ns : List No
 -- what it gives to take in newer nodes: what is known of all nodes then, or nothing where one fails
 abbrev pub TakingInGives : List Known → List (List ℕ) → List Node → Option (List Known) → Type 0
 TakingInGives old ex ns r = MatchOption r (TakingInFails old ex ns) (λ new. AreTakenIn old new ex ns)
-
--- whatever a pass gives from the new list, it gives from the old one too
-abbrev pub HasPassOf : List Known → List Known → List (List ℕ) → List Node → Type 0
-HasPassOf old new ex ns = (r : Option (List Known)) → PassGives new ex ns r → PassGives old ex ns r
 
 -- nothing more follows for the node at a place, neither by itself nor from its operands
 pub record IsAtRest (ks : List Known) (ex : List (List ℕ)) (ns : List Node) (i : ℕ) : Type 0 where

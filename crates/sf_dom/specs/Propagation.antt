@@ -5,7 +5,7 @@ use Rattle.sf_insn.specs.Inputs.{IsInput}
 use Rattle.sf_insn.specs.Words.{passes}
 use Rattle.sf_insn.specs.declared.input.Input.{Input}
 use Rattle.sf_insn.specs.declared.ops.Test.{Test}
-use Rattle.sf_sym.specs.Pool.{node_at, is_met, ArePlainNodes}
+use Rattle.sf_sym.specs.Pool.{is_met, ArePlainNodes}
 use Rattle.sf_sym.specs.declared.pool.Node.{Node}
 use Rattle.sf_sym.specs.declared.pool.Node.TheVariants.{Word, Bin, Neg}
 use Rattle.sf_sym.specs.declared.pool.Cond.{Cond}
@@ -13,7 +13,7 @@ use Rattle.sf_dom.specs.declared.known.Known.{Known}
 use Rattle.sf_dom.specs.Known.{IsNarrower, IsConsistent, IsDecided}
 use Rattle.sf_dom.specs.Nodes.{NodesView}
 use Rattle.sf_dom.specs.Rules.{IsClosedAt}
-use Rattle.sf_dom.specs.Passes.{AreClosed, HasPassOf, IsVariableAt, IsFixedAt, AreFixed}
+use Rattle.sf_dom.specs.Passes.{AreClosed, IsVariableAt, IsFixedAt, AreFixed}
 use Rattle.sf_dom.specs.Facts.{known_at, numbers_at, FactsView, Agrees, Covers, AreNarrower, KeepsInputs, KeepsOnly, SomeInput, IsPlainCondition, DecidesTest}
 
 -- what is known of the operands is consistent, where the node has any
@@ -26,33 +26,16 @@ AreConsistentOperands ks _ = Unit {0}
 abbrev pub AreClosedWords : List Known → List (List ℕ) → Type 0
 AreClosedWords ks ex = (w : ℕ) → w < 16 → IsClosedAt ex w (known_at ks w)
 
--- where nothing more followed for a word by itself, nothing more follows for it afterwards
-abbrev pub KeepsClosed : List Known → List Known → List (List ℕ) → Type 0
-KeepsClosed old new ex = (w : ℕ) → w < 16 → IsClosedAt ex w (known_at old w)
-    → IsClosedAt ex w (known_at new w)
-
--- nothing more follows for each word that is neither node of a condition
-abbrev pub AreOthersClosed : List Known → List (List ℕ) → List Node → Cond → Type 0
-AreOthersClosed ks ex ns cond = (w : ℕ) → w < 16 → node_at ns cond.node.0 ≢ Word w → node_at ns cond.other.0 ≢ Word w
-    → IsClosedAt ex w (known_at ks w)
-
 -- nothing known of any node is lost
 abbrev pub AllNarrower : List Known → List Known → Type 0
 AllNarrower old new = (i : ℕ) → i < length old → IsNarrower (known_at old i) (known_at new i)
 
 -- More may have become known. Nothing is lost, and nothing more follows from what is known of each node by itself.
--- Where for a word with its excluded numbers nothing more followed before, nothing more follows for it afterwards.
+-- Where nothing more followed for the words with their excluded numbers, nothing more follows for them afterwards.
 pub record IsNarrowed (old new : List Known) (ex : List (List ℕ)) (ns : List Node) : Type 0 where
   pub closed : AreClosed new ns
   pub narrower : AllNarrower old new
-  pub kept : KeepsClosed old new ex
-
--- More may have become known. If the node at a place is a word, nothing more follows for this word with its excluded
--- numbers. What a pass gives from the new list, it gives from the old one too.
-pub record IsTightened (old new : List Known) (ex : List (List ℕ)) (ns : List Node) (at : ℕ) : Type 0 where
-  pub narrowed : IsNarrowed old new ex ns
-  pub word : (i : ℕ) → node_at ns at ≡ Word i → IsClosedAt ex i (known_at new i)
-  pub pass : HasPassOf old new ex ns
+  pub kept : AreClosedWords old ex → AreClosedWords new ex
 
 -- what is known of each node is consistent
 abbrev pub AreConsistent : List Known → Type 0

@@ -1,5 +1,5 @@
 -- What the rules of facts promise, said of the rules alone.
-use Rattle.std.specs.Prelude.{◌≡◌, ℕ, ◌<◌, ◌≤◌, ◌^◌, List, [], ◌∷◌, ◌++◌, length, Bool, not}
+use Rattle.std.specs.Prelude.{◌≡◌, ◌≢◌, ℕ, ◌<◌, ◌≤◌, ◌^◌, List, [], ◌∷◌, ◌++◌, length, Bool, not}
 use Rattle.sf_insn.specs.declared.ops.BinOp.{BinOp}
 use Rattle.sf_insn.specs.declared.ops.Test.{Test}
 use Rattle.sf_insn.specs.Words.{apply, negation_of}
@@ -8,12 +8,13 @@ use Rattle.sf_dom.specs.Known.{Admits, Leaves}
 use Rattle.sf_sym.specs.Pool.{IsPool, IsCondBelow, Extends, node_at}
 use Rattle.sf_sym.specs.declared.pool.Cond.{Cond}
 use Rattle.sf_sym.specs.declared.pool.Node.{Node}
-use Rattle.sf_sym.specs.declared.pool.Node.TheVariants.{Const, Word}
+use Rattle.sf_sym.specs.declared.pool.Node.TheVariants.{Const}
 use Rattle.sf_sym.specs.declared.pool.NodeId.{NodeId}
-use Rattle.sf_dom.specs.Facts.{FactsView, AreEqualFacts, known_at}
+use Rattle.sf_dom.specs.Facts.{FactsView, Covers, NoInput, HasIn, ConfinesWord, AreEqualFacts, known_at}
 use Rattle.sf_dom.specs.Learning.{StartsBy, LearnsBy, CantLearn, GrowsBy, CantGrow, TakesInBy, CantTakeInBy, AreBuiltBy}
 use Rattle.sf_dom.specs.Passes.{IsPass, IsAtRest}
 use Rattle.sf_dom.specs.Backward.{IsPropagatedBack}
+use Rattle.sf_dom.specs.Propagation.{Meets, Learns}
 use Rattle.sf_dom.specs.Telling.{IsForcedBy}
 use Rattle.sf_dom.specs.Rules.{IsClosedAt, number_known, forward_known, forward_negated, IsClosed, IsClosedWord, IsWidest, HasNone}
 
@@ -37,6 +38,19 @@ pub record IsReductionSound : Type 0 where
   pub one : (old a b : Known) → IsWidest IsClosed old a → IsWidest IsClosed old b → a ≡ b
   pub one_word : (xs : List ℕ) (old a b : Known) → IsWidest (IsClosedWord xs) old a → IsWidest (IsClosedWord xs) old b
       → a ≡ b
+
+-- What facts learn by the rules loses no input: those that agreed and meet the condition, or have such a number in the
+-- word, agree afterwards. Where facts can't learn it by the rules, there is no such input.
+pub record IsLearningSound : Type 0 where
+  pub learns : (f new : FactsView) (ns : List Node) (cond : Cond) → Covers f ns → IsCondBelow (length ns) cond
+      → length new.excluded ≡ 16 → new.variables ≡ f.variables → LearnsBy f new ns cond → Learns f new ns cond
+  pub cant_learn : (f : FactsView) (ns : List Node) (cond : Cond) → Covers f ns → IsCondBelow (length ns) cond
+      → CantLearn f ns cond → NoInput f ns (Meets ns cond)
+  pub confines : (f new : FactsView) (ns : List Node) (w : ℕ) (more : Known) → Covers f ns → w < 16
+      → more.zeros < 2 ^ 32 → new.variables ≡ f.variables → TakesInBy f new ns w more
+      → ConfinesWord f new ns w (Admits more)
+  pub cant_confine : (f : FactsView) (ns : List Node) (w : ℕ) (more : Known) → Covers f ns → w < 16
+      → more.zeros < 2 ^ 32 → CantTakeInBy f ns w more → NoInput f ns (HasIn w (Admits more))
 
 -- The rules have one result. What is known at first is one thing. If two equal facts both learn a condition, they learn
 -- equal ones, and never does one of them learn it where the other can't. The same goes for taking in newer nodes, and
@@ -78,12 +92,11 @@ abbrev pub CarriedAreBuilt : Type 0
 CarriedAreBuilt = (f g : FactsView) (ns : List Node) (conds : List Cond) → AreCarried f ns conds → AreBuiltBy g ns conds
     → AreEqualFacts f g
 
--- A condition's test is forced to have this result, in a pool where each word of the input stands only at its own
--- place. What is known of the second node is just this number; what is known of the first one forces the result;
--- nothing more follows for any node; and what goes back from either of the two is known already.
+-- A condition's test is forced to have this result. What is known of the second node is just this number; what is known
+-- of the first one forces the result; nothing more follows for any node; and what goes back from either of the two is
+-- known already.
 pub record IsForcedCondition (f : FactsView) (ns : List Node) (cond : Cond) (number : ℕ) (sense : Bool) : Type 0 where
   pub pool : IsPool ns
-  pub words : (i w : ℕ) → i < length ns → node_at ns i ≡ Word w → i ≡ w
   pub count : length f.known ≡ length ns
   pub lists : length f.excluded ≡ 16
   pub rest : (i : ℕ) → i < length ns → IsAtRest f.known f.excluded ns i
@@ -98,7 +111,6 @@ pub record IsForcedCondition (f : FactsView) (ns : List Node) (cond : Cond) (num
 pub record IsForcedTest (f : FactsView) (ns : List Node) (node : NodeId) (test : Test) (number : ℕ)
     (sense : Bool) : Type 0 where
   pub pool : IsPool ns
-  pub words : (i w : ℕ) → i < length ns → node_at ns i ≡ Word w → i ≡ w
   pub count : length f.known ≡ length ns
   pub lists : length f.excluded ≡ 16
   pub rest : (i : ℕ) → i < length ns → IsAtRest f.known f.excluded ns i
@@ -111,18 +123,19 @@ pub record IsForcedTest (f : FactsView) (ns : List Node) (node : NodeId) (test :
 abbrev pub condition : NodeId → Test → NodeId → Bool → Cond
 condition node test other sense = record { node = node; test = test; other = other; sense = sense }
 
--- Where a condition's test is forced, the condition with that result can be learnt, and the one with the other result
--- can't. A forced test against a number is a forced condition where the number has a node, and also where the pool
--- gains one for it.
+-- Where a condition's test is forced, the condition with that result can be learnt, and nothing more is known of any
+-- node then; the one with the other result can't be learnt. A forced test against a number is a forced condition where
+-- the number has a node, and also where the pool has none and gains one.
 pub record ForcedIsLearnt : Type 0 where
   pub this : (f : FactsView) (ns : List Node) (cond : Cond) (number : ℕ)
-      → IsForcedCondition f ns cond number cond.sense → (new : FactsView) × LearnsBy f new ns cond
+      → IsForcedCondition f ns cond number cond.sense
+      → (new : FactsView) × (new.known ≡ f.known) × LearnsBy f new ns cond
   pub other : (f : FactsView) (ns : List Node) (cond : Cond) (number : ℕ)
       → IsForcedCondition f ns cond number (not cond.sense) → CantLearn f ns cond
   pub found : (f : FactsView) (ns : List Node) (node other : NodeId) (test : Test) (number : ℕ) (sense result : Bool)
       → IsForcedTest f ns node test number result → other.0 < length ns → node_at ns other.0 ≡ Const number
       → IsForcedCondition f ns (condition node test other sense) number result
   pub added : (f : FactsView) (ns : List Node) (node other : NodeId) (test : Test) (number : ℕ) (sense result : Bool)
-      → IsForcedTest f ns node test number result → other.0 ≡ length ns
-      → (g : FactsView) × GrowsBy f g (ns ++ Const number ∷ [])
+      → IsForcedTest f ns node test number result → ((i : ℕ) → i < length ns → node_at ns i ≢ Const number)
+      → other.0 ≡ length ns → (g : FactsView) × GrowsBy f g (ns ++ Const number ∷ [])
       × IsForcedCondition g (ns ++ Const number ∷ []) (condition node test other sense) number result

@@ -4,7 +4,6 @@ use Rattle.sf_insn.specs.declared.ops.Test.{Test}
 use Rattle.sf_insn.specs.declared.ops.Test.TheVariants.{Equal, AnyBit}
 use Rattle.sf_sym.specs.Pool.{node_at}
 use Rattle.sf_sym.specs.declared.pool.Node.{Node}
-use Rattle.sf_sym.specs.declared.pool.Node.TheVariants.{Word}
 use Rattle.sf_dom.specs.declared.known.Known.{Known}
 use Rattle.sf_dom.specs.Known.{IsNarrower, AreBitsOf}
 use Rattle.sf_dom.specs.Facts.{known_at, excluded_of}
@@ -37,8 +36,8 @@ pub record IsOpenAt (ks : List Known) (ex : List (List ℕ)) (ns : List Node) (a
   pub kept : test ≡ Equal → ¬ Contains (excluded_of ex (node_at ns at)) number
 
 -- The result that is told of a test of the node at a place, if one is, is forced by the rules. This is promised where
--- nothing more follows from what is known of the node by itself, and where it is a word only at that word's own place.
-abbrev pub IsForcing : List Known → List (List ℕ) → List Node → ℕ → Test → ℕ → Option Bool → Type 0
-IsForcing ks ex ns at test number told =
-    IsClosedAt ex at (known_at ks at) → ((w : ℕ) → node_at ns at ≡ Word w → at ≡ w)
+-- nothing more follows from what is known of the node by itself.
+abbrev pub IsForcing : List Known → List (List ℕ) → ℕ → Test → ℕ → Option Bool → Type 0
+IsForcing ks ex at test number told =
+    IsClosedAt ex at (known_at ks at)
     → IfSome told (λ b. IsForcedBy (IsClosedAt ex at) (known_at ks at) test number b)

@@ -3,10 +3,10 @@
 ghost use Rattle.std.specs.Prelude.{◌≡◌, ◌≢◌, ℕ, ◌+◌, ◌-◌, ◌*◌, ◌/◌, ◌%◌, ◌<◌, ◌≤◌, ◌^◌, ◌⊎◌, List, length, MatchOption, MatchBool, IfOk, false, Some, None};
 ghost use Rattle.sf_sym.specs.Pool.{IsCondBelow};
 ghost use Rattle.sf_sym.specs.Operands.{IsSwappable};
-ghost use Rattle.sf_dom.specs.Propagation.{AreExcluded, AreOthersClosed};
+ghost use Rattle.sf_dom.specs.Propagation.{AreExcluded, AreClosedWords};
 ghost use Rattle.sf_dom.specs.Rules.{assumed, met, ReductionGives};
 ghost use Rattle.sf_dom.specs.Passes.{AreClosed, PassGives, AreFixed};
-ghost use Rattle.sf_dom.specs.Learning.{AreExcludedBy, PairGives, ConditionGives};
+ghost use Rattle.sf_dom.specs.Learning.{AreExcludedBy, PairGives, with_pair, ConditionGives};
 ghost use Rattle.sf_dom.specs.GoingBack.{with_bits as with_bits_of, gained, GoingBackGives};
 ghost use Rattle.sf_dom.specs.Facts.{known_at};
 
@@ -17,7 +17,7 @@ use crate::guards::{
 };
 use crate::known::Known;
 use crate::nodes::Nodes;
-use crate::propagation::{propagate, reduce_at, tighten};
+use crate::propagation::{propagate, reduce_at};
 use sf_insn::{BinOp, Test};
 use sf_sym::{Cond, Node, Pool, constant_operand};
 use std::alloc::Global;
@@ -187,41 +187,15 @@ pub(crate) fn pair_left(nodes: &Nodes, excluded: &Excluded, cond: &Cond) -> Opti
     Some(Pair { node, other })
 }
 
-/// Reduces the condition's two nodes, where they are words (`tighten`), and does a forward pass (`propagate`). `false`:
-/// some node is left no number, and what is known may be changed in part.
-///
-/// The caller's condition: `nodes` are those of the pool, and the condition's two nodes are in it. Each node is reduced
-/// by `reduce_known`. Each word that is neither of the condition's nodes is also reduced by its excluded numbers
-/// (`reduce_word`). No forward pass makes more known of a node that is no variable.
-fn propagate_on(nodes: &mut Nodes, excluded: &Excluded, pool: &Pool, cond: &Cond) -> bool
-    requires closed { AreClosed nodes.old.known pool.now }
-    requires below { IsCondBelow (length pool.now) cond.now }
-    requires others { AreOthersClosed nodes.old.known excluded.now pool.now cond.now }
-    requires fixed { AreFixed nodes.old.variables nodes.old.known pool.now }
-    ensures pass { MatchBool result
-        (PassGives nodes.old.known excluded.now pool.now (Some nodes.new.known))
-        (PassGives nodes.old.known excluded.now pool.now None) }
-    ensures variables { MatchBool result (nodes.new.variables ≡ nodes.old.variables)
-        (Unit {0}) }
-{
-    // For the prover: the pool is lawful.
-    let _count = pool.len();
-    if !tighten(nodes, excluded, pool, cond.node) {
-        return false;
-    }
-    if !tighten(nodes, excluded, pool, cond.other) {
-        return false;
-    }
-    propagate(nodes, excluded, pool)
-}
-
 /// Takes a condition into what is known. Writes `alone`, which is what the condition leaves of its two nodes. Then
 /// takes known bits back from the first node and from the second one (`propagate_back`), and does a forward pass
-/// (`propagate_on`). Where its two nodes are the same node, the second part of `alone` has all that is known of it, and
-/// is written last.
+/// (`propagate`). Where its two nodes are the same node, the second part of `alone` has all that is known of it, and is
+/// written last.
 ///
 /// `false`: some node is left no number, and what is known may be changed in part. The caller's condition: `alone` is
-/// what `pair_left` gives for these nodes and this condition, and all that `propagate_on` asks for is true.
+/// what `pair_left` gives for these nodes and this condition. `nodes` are those of the pool, and the condition's two
+/// nodes are in it. Each node is reduced by `reduce_known`, and with `alone` written each word is also reduced by its
+/// excluded numbers (`reduce_word`). No forward pass makes more known of a node that is no variable.
 pub(crate) fn assume_cond(
     nodes: &mut Nodes,
     excluded: &Excluded,
@@ -232,7 +206,7 @@ pub(crate) fn assume_cond(
     requires closed { AreClosed nodes.old.known pool.now }
     requires below { IsCondBelow (length pool.now) cond.now }
     requires left { PairGives nodes.old.known excluded.now cond.now (Some alone) }
-    requires others { AreOthersClosed nodes.old.known excluded.now pool.now cond.now }
+    requires words { AreClosedWords (with_pair nodes.old.known cond.now alone) excluded.now }
     requires fixed { AreFixed nodes.old.variables nodes.old.known pool.now }
     ensures rule { MatchBool result
         (ConditionGives nodes.old.known excluded.now pool.now cond.now (Some nodes.new.known))
@@ -250,7 +224,7 @@ pub(crate) fn assume_cond(
     if !propagate_back(nodes, excluded, pool, cond.other.0 as usize) {
         return false;
     }
-    propagate_on(nodes, excluded, pool, cond)
+    propagate(nodes, excluded, pool)
 }
 
 /// Excludes a number for a node that differs from another one: where the node is a word and the other one is decided,

@@ -1,12 +1,14 @@
 //! Laws of the rules of facts, each the contract of a function that does nothing.
 
-ghost use Rattle.sf_dom.specs.SoundRules.{IsForwardSound, IsReductionSound, HaveOneResult, PassKeepsOlder, CarriedAreBuilt, ForcedIsLearnt};
+ghost use Rattle.sf_dom.specs.SoundRules.{IsForwardSound, IsReductionSound, IsLearningSound, HaveOneResult, PassKeepsOlder, CarriedAreBuilt, ForcedIsLearnt};
 
 /// A law for the prover: forward propagation and reduction lose no number that a node may have, and reduction has at
-/// most one result.
+/// most one result. Facts that learn a condition, or more of a word, lose no input that meets it, and where they can't
+/// learn it, there is none.
 pub fn rules_are_sound()
     ensures forward { IsForwardSound }
     ensures reduction { IsReductionSound }
+    ensures learning { IsLearningSound }
 {}
 
 /// A law for the prover: the rules have one result. Two facts that start over one pool are equal. Equal facts stay

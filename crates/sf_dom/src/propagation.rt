@@ -3,8 +3,8 @@
 ghost use Rattle.std.specs.Prelude.{◌≡◌, ℕ, ◌+◌, ◌-◌, ◌*◌, ◌/◌, ◌%◌, ◌<◌, ◌≤◌, ◌↔◌, ◌⊎◌, ◌^◌, List, [], ◌∷◌, ◌++◌, length, slice_index, MatchBool, MatchOption, true, false, IfOk, IsTrue, Some, None};
 ghost use Rattle.sf_sym.specs.Pool.{OperandsBelow, node_at};
 ghost use Rattle.sf_dom.specs.Known.{IsDecided};
-ghost use Rattle.sf_dom.specs.Propagation.{AreConsistentOperands, AreClosedWords, IsTightened, KeepsFixed, AreConsistent};
-ghost use Rattle.sf_dom.specs.Passes.{AreClosed, PassFails, PassGives, AreAllDecided, AreFixed, AreTakenIn, TakingInFails};
+ghost use Rattle.sf_dom.specs.Propagation.{AreConsistentOperands, AreClosedWords, KeepsFixed, AreConsistent};
+ghost use Rattle.sf_dom.specs.Passes.{AreClosed, PassGives, AreAllDecided, AreFixed, AreTakenIn, TakingInFails};
 ghost use Rattle.sf_dom.specs.Facts.{known_at};
 ghost use Rattle.sf_dom.specs.Rules.{forward_node, ReductionGives};
 
@@ -64,29 +64,6 @@ fn is_fixed(nodes: &Nodes, node: Node) -> bool
         Node::Bin(_, a, b) => is_decided(nodes, a) && is_decided(nodes, b),
         Node::Neg(a) => is_decided(nodes, a),
     }
-}
-
-/// If the node is a word of the input, reduces what is known of it by its excluded numbers (`reduce_word`). For any
-/// other node nothing is changed, and the answer is `true`. `false`: no number is left for the word, so no input
-/// agrees; nothing is changed then. The caller's condition: `nodes` are those of the pool, each reduced
-/// (`reduce_known`), and the node is in the pool.
-pub(crate) fn tighten(nodes: &mut Nodes, excluded: &Excluded, pool: &Pool, at: NodeId) -> bool
-    requires closed { AreClosed nodes.old.known pool.now }
-    requires place { at.0 < length pool.now }
-    ensures tightened { MatchBool result
-        (IsTightened nodes.old.known nodes.new.known excluded.now pool.now at.0)
-        (PassFails nodes.old.known excluded.now pool.now) }
-    ensures variables { nodes.new.variables ≡ nodes.old.variables }
-{
-    let Node::Word(i) = pool.node(at) else {
-        return true;
-    };
-    let known = nodes.get(i as usize);
-    let Some(next) = reduce_at(known, i as usize, excluded) else {
-        return false;
-    };
-    nodes.set(i as usize, next);
-    true
 }
 
 /// Adds to what is known of each variable what follows from its operands, and reduces it, the oldest variable first.

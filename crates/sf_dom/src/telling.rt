@@ -164,7 +164,7 @@ fn tell_at(
         (IsOpenAt nodes.now.known excluded.now pool.now at test number)
         (λ b. (d : Input) → IsInput d → AgreesWith nodes.now.known excluded.now pool.now d
         → TestGives test (value_of pool.now d at) number b) }
-    ensures rule { IsForcing nodes.now.known excluded.now pool.now at test number result }
+    ensures rule { IsForcing nodes.now.known excluded.now at test number result }
 {
     if let Some(sense) = nodes.get(at).tell(test, number) {
         return Some(sense);
@@ -200,7 +200,7 @@ pub(crate) fn tell_node(
     ensures told { IfSome result (λ b. (d : Input) → IsInput d
         → AgreesWith nodes.now.known excluded.now pool.now d
         → TestGives test (value_of pool.now d at) number b) }
-    ensures rule { IsForcing nodes.now.known excluded.now pool.now at test number result }
+    ensures rule { IsForcing nodes.now.known excluded.now at test number result }
     ensures goes_back { IfSome result (λ b. (n : ℕ)
         → IsPropagatedBack n nodes.now.known pool.now at) }
     ensures none { IfNone result (IsOpenAt nodes.now.known excluded.now pool.now at test number

@@ -6,7 +6,7 @@ use Rattle.sf_dom.specs.Rules.{met}
 use Rattle.sf_dom.specs.Learning.{assumed_of, with_pair}
 use Rattle.sf_dom.proofs.BackLaws.{back-lawful}
 use Rattle.sf_dom.proofs.ClosedLemmas.{closed-consistent}
-use Rattle.sf_dom.proofs.ConditionSteps.{pair-left, pair-narrowed, condition-steps}
+use Rattle.sf_dom.proofs.ConditionSteps.{pair-left, pair-narrowed, both-back, condition-steps}
 use Rattle.sf_dom.proofs.Lawful.{narrowed-set, narrowed-trans}
 use Rattle.sf_dom.proofs.Passes.{met-left, number-stays}
 use Rattle.sf_dom.proofs.Reductions.{IsNarrower-trans}
@@ -95,15 +95,14 @@ propagate_back-requires-2-clause-closed c =
     ((back-lawful (with_pair ks cond c.args.alone) ex ns cond.node.0 p pair.closed below.0).narrowed
     (Some c.propagate_back.new.nodes.known) one).closed
 
-pub propagate_on-requires-clause-closed : goal.propagate_on-requires-clause-closed
-propagate_on-requires-clause-closed c =
+pub propagate-requires-clause-closed : goal.propagate-requires-clause-closed
+propagate-requires-clause-closed c =
     let ks = c.args.nodes.now.known in
     let ex = c.args.excluded.now in
     let ns = c.args.pool.now in
     let cond = c.args.cond.now in
     let p = c.len-count.ensures.lawful in
     let h = c.requires.closed in
-    let count = h.count in
     let below = c.requires.below in
     let left = pair-left ks ex cond (Some c.args.alone) c.requires.left in
     let pair = pair-narrowed ks ex ns cond c.args.alone h below left in
@@ -111,21 +110,19 @@ propagate_on-requires-clause-closed c =
     let one = rw (c.set-2.ensures.known, c.set.ensures.known, c.if-not-propagate_back.false) at
     c.propagate_back.ensures.back in
     let two = rw c.if-not-propagate_back-2.false at c.propagate_back-2.ensures.back in
-    let first = (back-lawful mid ex ns cond.node.0 p pair.closed below.0).narrowed
-    (Some c.propagate_back.new.nodes.known) one in
-    let second = (back-lawful c.propagate_back.new.nodes.known ex ns cond.other.0 p first.closed below.1).narrowed
-    (Some c.propagate_back-2.new.nodes.known) two in
-    second.closed
+    let back = both-back mid c.propagate_back.new.nodes.known c.propagate_back-2.new.nodes.known ex ns
+    cond p pair.closed
+    below one two in
+    back.closed
 
-pub propagate_on-requires-clause-others : goal.propagate_on-requires-clause-others
-propagate_on-requires-clause-others c = λ w b node other.
+pub propagate-requires-clause-words : goal.propagate-requires-clause-words
+propagate-requires-clause-words c =
     let ks = c.args.nodes.now.known in
     let ex = c.args.excluded.now in
     let ns = c.args.pool.now in
     let cond = c.args.cond.now in
     let p = c.len-count.ensures.lawful in
     let h = c.requires.closed in
-    let count = h.count in
     let below = c.requires.below in
     let left = pair-left ks ex cond (Some c.args.alone) c.requires.left in
     let pair = pair-narrowed ks ex ns cond c.args.alone h below left in
@@ -133,21 +130,19 @@ propagate_on-requires-clause-others c = λ w b node other.
     let one = rw (c.set-2.ensures.known, c.set.ensures.known, c.if-not-propagate_back.false) at
     c.propagate_back.ensures.back in
     let two = rw c.if-not-propagate_back-2.false at c.propagate_back-2.ensures.back in
-    let first = (back-lawful mid ex ns cond.node.0 p pair.closed below.0).narrowed
-    (Some c.propagate_back.new.nodes.known) one in
-    let second = (back-lawful c.propagate_back.new.nodes.known ex ns cond.other.0 p first.closed below.1).narrowed
-    (Some c.propagate_back-2.new.nodes.known) two in
-    second.kept w b (first.kept w b (pair.kept w b (c.requires.others w b node other)))
+    let back = both-back mid c.propagate_back.new.nodes.known c.propagate_back-2.new.nodes.known ex ns
+    cond p pair.closed
+    below one two in
+    back.kept c.requires.words
 
-pub propagate_on-requires-clause-fixed : goal.propagate_on-requires-clause-fixed
-propagate_on-requires-clause-fixed c =
+pub propagate-requires-clause-fixed : goal.propagate-requires-clause-fixed
+propagate-requires-clause-fixed c =
     let ks = c.args.nodes.now.known in
     let ex = c.args.excluded.now in
     let ns = c.args.pool.now in
     let cond = c.args.cond.now in
     let p = c.len-count.ensures.lawful in
     let h = c.requires.closed in
-    let count = h.count in
     let below = c.requires.below in
     let left = pair-left ks ex cond (Some c.args.alone) c.requires.left in
     let pair = pair-narrowed ks ex ns cond c.args.alone h below left in
@@ -155,19 +150,16 @@ propagate_on-requires-clause-fixed c =
     let one = rw (c.set-2.ensures.known, c.set.ensures.known, c.if-not-propagate_back.false) at
     c.propagate_back.ensures.back in
     let two = rw c.if-not-propagate_back-2.false at c.propagate_back-2.ensures.back in
-    let first = (back-lawful mid ex ns cond.node.0 p pair.closed below.0).narrowed
-    (Some c.propagate_back.new.nodes.known) one in
-    let second = (back-lawful c.propagate_back.new.nodes.known ex ns cond.other.0 p first.closed below.1).narrowed
-    (Some c.propagate_back-2.new.nodes.known) two in
-    let all = narrowed-trans ks c.propagate_back.new.nodes.known c.propagate_back-2.new.nodes.known ex ns h
-    (narrowed-trans ks mid c.propagate_back.new.nodes.known ex ns h pair first) second in
+    let back = both-back mid c.propagate_back.new.nodes.known c.propagate_back-2.new.nodes.known ex ns
+    cond p pair.closed
+    below one two in
     rw (
       c.propagate_back-2.ensures.variables,
       c.propagate_back.ensures.variables,
       c.set-2.ensures.variables,
       c.set.ensures.variables,
-    ) (still-fixed c.args.nodes.now.variables ks c.propagate_back-2.new.nodes.known ex ns p h all
-    c.requires.fixed)
+    ) (still-fixed c.args.nodes.now.variables ks c.propagate_back-2.new.nodes.known ex ns p h
+    (narrowed-trans ks mid c.propagate_back-2.new.nodes.known ex ns h pair back) c.requires.fixed)
 
 pub returns-then-not-propagate_back-clause-rule : goal.returns-then-not-propagate_back-clause-rule
 returns-then-not-propagate_back-clause-rule c =
@@ -189,6 +181,6 @@ returns-clause-rule c =
     let one = rw (c.set-2.ensures.known, c.set.ensures.known, c.if-not-propagate_back.false) at
     c.propagate_back.ensures.back in
     let two = rw c.if-not-propagate_back-2.false at c.propagate_back-2.ensures.back in
-    condition-steps c.propagate_on.result c.args.nodes.now.known c.propagate_back.new.nodes.known
-    c.propagate_back-2.new.nodes.known c.propagate_on.new.nodes.known c.args.excluded.now c.args.pool.now
-    c.args.cond.now c.args.alone c.requires.left one two c.propagate_on.ensures.pass
+    condition-steps c.propagate.result c.args.nodes.now.known c.propagate_back.new.nodes.known
+    c.propagate_back-2.new.nodes.known c.propagate.new.nodes.known c.args.excluded.now c.args.pool.now
+    c.args.cond.now c.args.alone c.requires.left one two c.propagate.ensures.pass

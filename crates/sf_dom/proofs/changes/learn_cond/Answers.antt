@@ -1,18 +1,23 @@
 use Rattle.std.proofs.Common.{arith, refl}
-use Rattle.std.specs.Prelude.{None}
-use Rattle.sf_dom.proofs.WordsClosed.{others-closed}
+use Rattle.std.specs.Prelude.{Some, None}
+use Rattle.sf_dom.proofs.ConditionSteps.{pair-left}
+use Rattle.sf_dom.proofs.WordsClosed.{words-written}
 use Rattle.sf_dom.proofs.changes.learn_cond.Goals as goal
 
 pub assume_cond-requires-clause-closed : goal.assume_cond-requires-clause-closed
 assume_cond-requires-clause-closed c =
     rw c.in_ok-left.ensures (record { count = c.requires.count; each = λ i l. (c.requires.rest i l).closed.known })
 
-pub assume_cond-requires-clause-others : goal.assume_cond-requires-clause-others
-assume_cond-requires-clause-others c =
-    let words = c.len-count.ensures.lawful.words in
-    rw c.in_ok-left.ensures (others-closed c.args.nodes.now.known
-    c.args.excluded.now c.in_ok-lists.lists c.args.pool.now c.args.cond.now
-    (λ w l. (c.requires.rest w (omega arith)).closed) c.in_ok-lists.ensures.rule)
+pub assume_cond-requires-clause-words : goal.assume_cond-requires-clause-words
+assume_cond-requires-clause-words c =
+    let ks = c.args.nodes.now.known in
+    let lists = c.in_ok-lists.lists in
+    let cond = c.args.cond.now in
+    let p = c.len-count.ensures.lawful in
+    let words = p.words in
+    rw c.in_ok-left.ensures (words-written ks c.args.excluded.now lists c.args.pool.now cond c.in-Some.alone p
+    c.requires.count c.requires.below (λ w l. (c.requires.rest w (omega arith)).closed) c.in_ok-lists.ensures.rule
+    (pair-left ks lists cond (Some c.in-Some.alone) c.in-Some.ensures))
 
 pub returns-in_default-clause-rule : goal.returns-in_default-clause-rule
 returns-in_default-clause-rule c =

@@ -46,7 +46,7 @@ propagate-requires-clause-closed c =
     rw (c.set.ensures.known, c.in_ok-next.ensures) (narrowed-set ks ex ns w left closed there rule.is narrower).closed
 
 pub propagate-requires-clause-words : goal.propagate-requires-clause-words
-propagate-requires-clause-words c = λ i l.
+propagate-requires-clause-words c =
     let ks = c.args.nodes.now.known in
     let ex = c.args.excluded.now in
     let ns = c.args.pool.now in
@@ -61,8 +61,8 @@ propagate-requires-clause-words c = λ i l.
     let rule = c.in-Some.ensures in
     let narrower = IsNarrower-trans own (met own c.args.more) left (met-left own c.args.more) rule.narrower in
     rw (c.set.ensures.known, c.in_ok-next.ensures)
-    ((narrowed-set ks ex ns w left closed there rule.is narrower).kept i l
-    (c.requires.rest i (omega arith)).closed)
+    ((narrowed-set ks ex ns w left closed there rule.is narrower).kept
+    (λ i l. (c.requires.rest i (omega arith)).closed))
 
 pub propagate-requires-clause-fixed : goal.propagate-requires-clause-fixed
 propagate-requires-clause-fixed c =

@@ -37,7 +37,7 @@ returns-in_default-clause-pass c =
       new = n.known;
       place = i;
       within = here;
-      before = λ g k b. t.passed k (omega arith) (λ j a lj. variable-before n rank j k t.laid_out a lj b);
+      before = λ k b. t.passed k (omega arith) (λ j a lj. variable-before n rank j k t.laid_out a lj b);
       none = rw (place, is) at c.in_default.ensures;
     }
 
