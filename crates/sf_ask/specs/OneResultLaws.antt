@@ -38,7 +38,7 @@ pub lawful_pool : IsExecutionOne → (s : BookData) → IsFringe s → (place : 
 lawful_pool tree s fringe place r there =
     let of : IsRegionOf s.stack r = subst (IsRegionOf s.stack) (get_or_from_slice_get s.regions place r r there)
     (fringe.settled place r (slice_get_within s.regions place r there)) in
-    (tree.pools r.piece of.0.reached).0
+    tree.pools r.piece of.0.reached
 
 -- regions are the same as themselves
 pub same_themselves : (rs : List RegionData) → AreSameRegions rs rs

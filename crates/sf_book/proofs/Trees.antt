@@ -44,8 +44,7 @@ module _ (one : IsExecutionOne) (stack : List (List Insn)) where
   steps-one : (p q : PieceData) (s t : StepData) (m n : List Bool) → IsPieceOf stack p → IsPieceOf stack q
       → p.name ≡ q.name → HasStep p s m → HasStep q t n → AreSameSteps s t × (m ≡ n)
   steps-one p q s t m n a b e h k =
-      let pools = one.pools p a.reached in
-      one.step p q s t m n (one.piece p q a.reached b.reached (a.of ∙ sym b.of) e) pools.0 pools.1 h k
+      one.step p q s t m n (one.piece p q a.reached b.reached (a.of ∙ sym b.of) e) (one.pools p a.reached) h k
 
   pub trees-one : (u v : Unfolding) → IsUnfolding stack u → IsUnfolding stack v → (top_of u).name ≡ (top_of v).name
       → outstanding_in u ≡ [] → outstanding_in v ≡ [] → AreAlikeTrees u v

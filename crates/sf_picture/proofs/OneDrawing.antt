@@ -315,4 +315,4 @@ module _ (laws : HaveOneResult) where
       pools place r there =
           let of : IsRegionOf s.stack r = subst (IsRegionOf s.stack) (get_or_from_slice_get s.regions place r r there)
           (fs.settled place r (slice_get_within s.regions place r there)) in
-          (tree.pools r.piece of.0.reached).0
+          tree.pools r.piece of.0.reached

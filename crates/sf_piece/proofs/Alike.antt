@@ -1,8 +1,6 @@
 -- Pieces that are alike stay alike where the same is made of them, if facts learn and grow in one way at most.
-use Rattle.std.proofs.Common.{◌≡◌, ℕ, ◌-◌, ◌^◌, ◌<◌, ◌≤◌, Bool, true, false, List, [], ◌∷◌, ◌++◌, length, refl, sym, ap, subst, ◌∙◌, inl, inr, arith}
+use Rattle.std.proofs.Common.{◌≡◌, ℕ, ◌-◌, ◌^◌, Bool, true, false, List, [], ◌∷◌, ◌++◌, refl, sym, ap, subst, ◌∙◌, inl, inr, arith}
 use Rattle.std.specs.Prelude.{Option, Some, None, MatchOption}
-use Rattle.std.proofs.lemmas.Bool.{cases_lt}
-use Rattle.std.proofs.lemmas.List.{get_or_append_left, get_or_push, length_push}
 use Rattle.sf_insn.specs.declared.ops.BinOp.{BinOp}
 use Rattle.sf_insn.specs.declared.ops.BinOp.TheVariants.{Div}
 use Rattle.sf_insn.specs.declared.ops.Test.TheVariants.{Equal, AnyBit}
@@ -14,13 +12,13 @@ use Rattle.sf_sym.specs.declared.pool.Cond.{Cond}
 use Rattle.sf_sym.specs.declared.pool.Node.{Node}
 use Rattle.sf_sym.specs.declared.pool.Node.TheVariants.{Const, Word, Bin, Neg}
 use Rattle.sf_sym.specs.declared.pool.NodeId.{NodeId}
-use Rattle.sf_sym.specs.Pool.{IsPool, folded_node}
+use Rattle.sf_sym.specs.Pool.{IsPool}
 use Rattle.sf_dom.specs.Facts.{FactsView, AreEqualFacts}
 use Rattle.sf_dom.specs.Learning.{CantLearn, GrowsBy, CantGrow}
 use Rattle.sf_dom.specs.SoundRules.{HaveOneResult}
 use Rattle.sf_piece.specs.declared.machine.SymbolicMachine.{SymbolicMachine}
 use Rattle.sf_piece.specs.Pieces.{PieceData}
-use Rattle.sf_piece.specs.Execution.{IsNodeAt, IsPutIn, HasNoTwins, IsGiven, Gets, GetsOperand, piece_with_a, piece_with_x, LoadsA, LoadsX, Computes, query, HasQuery, with_sense, AfterTruthValue, CanLearn, LeavesOnly, IsSide, IsNamedOn, AreSamePieces}
+use Rattle.sf_piece.specs.Execution.{IsPutIn, IsGiven, Gets, GetsOperand, piece_with_a, piece_with_x, LoadsA, LoadsX, Computes, query, HasQuery, with_sense, AfterTruthValue, CanLearn, LeavesOnly, IsSide, IsNamedOn, AreSamePieces}
 
 pub equal_back : (f g : FactsView) → AreEqualFacts f g → AreEqualFacts g f
 equal_back f g h = record { known = sym h.known; excluded = λ w l. ((h.excluded w l).1, (h.excluded w l).0) }
@@ -36,45 +34,19 @@ same_pool old a b node i j (inl h) (inr k) = absurd (k.0 i h.0)
 same_pool old a b node i j (inr h) (inl k) = absurd (h.0 j k.0)
 same_pool old a b node i j (inr h) (inr k) = h.2 ∙ sym k.2
 
-pub same_place : (old a b : List Node) (node : Node) (i j : NodeId) → HasNoTwins old → IsPutIn old node a i
+pub same_place : (old a b : List Node) (node : Node) (i j : NodeId) → IsPool old → IsPutIn old node a i
     → IsPutIn old node b j → i ≡ j
-same_place old a b node i j twins (inl h) (inl k) = twins i j (folded_node old node) h.0 k.0
-same_place old a b node i j twins (inl h) (inr k) = absurd (k.0 i h.0)
-same_place old a b node i j twins (inr h) (inl k) = absurd (h.0 j k.0)
-same_place old a b node i j twins (inr h) (inr k) = same_id i j (h.1 ∙ sym k.1)
-
-pub no_twins_added : (old : List Node) (node : Node) → HasNoTwins old → ((other : NodeId) → ¬ IsNodeAt old node other)
-    → HasNoTwins (old ++ node ∷ [])
-no_twins_added old node twins none i j m s t = elim (cases_lt i.0 (length old)) [
-  | inl li ↦ elim (cases_lt j.0 (length old)) [
-    | inl lj ↦ twins i j m (older i li s) (older j lj t)
-    | inr gj ↦ absurd (none i (li, (older i li s).1 ∙ newest j gj t))
-  ]
-  | inr gi ↦ elim (cases_lt j.0 (length old)) [
-    | inl lj ↦ absurd (none j (lj, (older j lj t).1 ∙ newest i gi s))
-    | inr gj ↦ same_id i j (omega (arith, gi, gj, s.0, t.0, length_push old node))
-  ]
-]
-  where
-    older : (k : NodeId) → k.0 < length old → IsNodeAt (old ++ node ∷ []) m k → IsNodeAt old m k
-    older k l u = (l, sym (get_or_append_left old (node ∷ []) (Const 0) k.0 l) ∙ u.1)
-
-    newest : (k : NodeId) → length old ≤ k.0 → IsNodeAt (old ++ node ∷ []) m k → m ≡ node
-    newest k g u = sym u.1 ∙ get_or_push old node (Const 0) k.0 (omega (arith, g, u.0, length_push old node))
-
-pub no_twins_put : (old new : List Node) (node : Node) (id : NodeId) → HasNoTwins old → IsPutIn old node new id
-    → HasNoTwins new
-no_twins_put old new node id twins (inl h) = subst HasNoTwins (sym h.1) twins
-no_twins_put old new node id twins (inr h) =
-    subst HasNoTwins (sym h.2) (no_twins_added old (folded_node old node) twins h.0)
+same_place old a b node i j p (inl h) (inl k) = same_id i j (p.twins i.0 j.0 h.0.0 k.0.0 (h.0.1 ∙ sym k.0.1))
+same_place old a b node i j p (inl h) (inr k) = absurd (k.0 i h.0)
+same_place old a b node i j p (inr h) (inl k) = absurd (h.0 j k.0)
+same_place old a b node i j p (inr h) (inr k) = same_id i j (h.1 ∙ sym k.1)
 
 -- ---- words
 
--- the same pieces, with a pool in which no node stands twice
+-- the same pieces, with a lawful pool
 pub record AreAlike (p q : PieceData) : Type 0 where
   pub same : AreSamePieces p q
   pub pool : IsPool p.pool
-  pub twins : HasNoTwins p.pool
 
 abbrev pub with_facts : PieceData → FactsView → PieceData
 with_facts p f = record p { facts = f }
@@ -92,9 +64,8 @@ given_alike laws p f node a b i j alike h k =
           facts = laws.grown p.facts f a.facts b.facts a.pool h.lawful alike.same.facts h.facts grows;
         };
         pool = h.lawful;
-        twins = no_twins_put p.pool a.pool node i alike.twins h.pool;
       },
-      same_place p.pool a.pool b.pool node i j alike.twins h.pool k.pool,
+      same_place p.pool a.pool b.pool node i j alike.pool h.pool k.pool,
     )
 
 abbrev pub GivenAlike : Option (PieceData × NodeId) → Option (PieceData × NodeId) → Type 0
@@ -150,7 +121,6 @@ with_a_alike a b alike e = record {
     facts = alike.same.facts;
   };
   pool = alike.pool;
-  twins = alike.twins;
 }
 
 pub with_x_alike : (a b : PieceData × NodeId) → AreAlike a.0 b.0 → a.1 ≡ b.1
@@ -162,7 +132,6 @@ with_x_alike a b alike e = record {
     facts = alike.same.facts;
   };
   pool = alike.pool;
-  twins = alike.twins;
 }
 
 pub loads_alike : (laws : HaveOneResult) (p : PieceData) (f : FactsView) (node : Node) (m n : Option PieceData)
@@ -186,7 +155,7 @@ operates_alike laws node (Some a) (Some b) m n g h k =
     subst (λ (id : NodeId). LoadsA (with_facts a.0 b.0.facts) (node id) n) (sym g.1)
     (subst (λ (q : PieceData). LoadsA q (node b.1) n) g.0.same.rest k) in
     let alike : AreAlike a.0 (with_facts a.0 b.0.facts) =
-    record { same = record { rest = refl; facts = g.0.same.facts }; pool = g.0.pool; twins = g.0.twins } in
+    record { same = record { rest = refl; facts = g.0.same.facts }; pool = g.0.pool } in
     loads_alike laws a.0 b.0.facts (node a.1) m n alike h there
 operates_alike laws node None (Some b) m n g h k = absurd g
 operates_alike laws node (Some a) None m n g h k = absurd g
@@ -251,7 +220,6 @@ alike_back p q h =
         facts = equal_back p.facts q.facts h.same.facts;
       };
       pool = subst IsPool pools h.pool;
-      twins = subst HasNoTwins pools h.twins;
     }
 
 -- both truth values can't be forced
@@ -295,7 +263,6 @@ named_alike p f i s a b alike h k =
             (subst (λ (g : FactsView). AreEqualFacts p.facts g) facts alike.same.facts);
       };
       pool = subst IsPool pools alike.pool;
-      twins = subst HasNoTwins pools alike.twins;
     }
 
 pub side_alike : (laws : HaveOneResult) (p : PieceData) (f : FactsView) (cond : Cond) (i : Insn) (s : Bool)
@@ -319,5 +286,4 @@ side_alike laws p f cond i s a b alike h k =
             k.learns;
       };
       pool = subst IsPool pools alike.pool;
-      twins = subst HasNoTwins pools alike.twins;
     }

@@ -61,7 +61,7 @@ map_set f [] k w = refl
 map_set f (o ∷ ws) zero w = refl
 map_set f (o ∷ ws) (suc k) w = ap (λ (l : List (Option ℕ)). option_map f o ∷ l) (map_set f ws k w)
 
-set_below : (n : ℕ) (ws : List (Option NodeId)) (j : ℕ) (v : NodeId)
+pub set_below : (n : ℕ) (ws : List (Option NodeId)) (j : ℕ) (v : NodeId)
     → ((k : ℕ) (w : NodeId) → slice_get ws k ≡ Some (Some w) → w.0 < n) → v.0 < n → (k : ℕ) (w : NodeId)
     → slice_get (slice_set ws j (Some v)) k ≡ Some (Some w) → w.0 < n
 set_below n [] j v h l k w e = absurd cc

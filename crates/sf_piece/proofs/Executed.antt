@@ -9,7 +9,7 @@ use Rattle.sf_check.specs.declared.insn.Insn.TheVariants.{Alu, Branch, ReturnA}
 use Rattle.sf_check.specs.declared.insn.Operand.{Operand}
 use Rattle.sf_check.specs.declared.insn.Operand.TheVariants.{Constant}
 use Rattle.sf_sym.specs.declared.pool.Cond.{Cond}
-use Rattle.sf_sym.specs.declared.pool.Node.TheVariants.{Const, Word, Bin}
+use Rattle.sf_sym.specs.declared.pool.Node.TheVariants.{Const, Bin}
 use Rattle.sf_sym.specs.declared.pool.NodeId.{NodeId}
 use Rattle.sf_sym.specs.Pool.{node_at}
 use Rattle.sf_dom.specs.Backward.{IsPropagatedBack}
@@ -31,7 +31,7 @@ use Rattle.sf_piece.specs.Execution.{Gets, GetsOperand, with_machine, LoadsA, Co
 use Rattle.sf_piece.specs.Foresight.{IsForetold}
 use Rattle.sf_piece.specs.Machines.{after_return}
 use Rattle.sf_piece.specs.SmallSteps.{IsMade, IsDecision, IsCarriedOut, IsTidy, IsExecuted}
-use Rattle.sf_piece.proofs.Foretold.{leaves_only, one_number, words_first}
+use Rattle.sf_piece.proofs.Foretold.{leaves_only, one_number}
 
 -- an implied truth value is added to the name
 pub implied_executed : (p q : PieceData) (i : Insn) (cond : Cond) (b : Bool) → IsAtHand p i
@@ -128,13 +128,6 @@ is_behind p q test other t f b named =
     } in r)
     named.machine
 
-pub tidy_behind : (p q : PieceData) (test : Test) (other : Operand) (t f : ℕ) (b : Bool)
-    → IsNamedOn p (Branch test other t f) b q → IsTidy p → IsTidy q
-unfolding behind_test
-tidy_behind p q test other t f b named tidy =
-    subst IsTidy (sym (is_behind p q test other t f b named))
-    (record { twins = tidy.twins; zero = tidy.zero })
-
 pub back_behind : (p q : PieceData) (test : Test) (other : Operand) (t f : ℕ) (b : Bool)
     → IsNamedOn p (Branch test other t f) b q → IsAPropagatedBack p → IsAPropagatedBack q
 unfolding behind_test
@@ -177,12 +170,10 @@ back_constant (suc n) c p i e = rw e tt
 
 -- whether X is 0, where the facts tell it
 pub zero_told : (laws : ForcedIsLearnt) (p : PieceData) (b : Bool) → IsPiece p → IsTidy p
-    → (((w : ℕ) → node_at p.pool p.machine.x.0 ≡ Word w → p.machine.x.0 ≡ w)
-    → IsForcedBy (IsClosedAt p.facts.excluded p.machine.x.0) (known_at p.facts.known p.machine.x.0) Equal 0 b)
+    → IsForcedBy (IsClosedAt p.facts.excluded p.machine.x.0) (known_at p.facts.known p.machine.x.0) Equal 0 b
     → ((n : ℕ) → IsPropagatedBack n p.facts.known p.pool p.machine.x.0)
     → LeavesOnly (p, query p.machine.x Equal p.machine.zero) b
 zero_told laws p b h tidy forced back =
-    let words = words_first p.pool h.pool tidy.twins in
     let within : p.machine.zero.0 < length p.facts.known = omega (arith, h.nodes.zero, h.covers.count) in
     let ends = h.covers.constants p.machine.zero.0 0 within tidy.zero.1 in
     let known : known_at p.facts.known p.machine.zero.0 ≡ number_known 0
@@ -190,13 +181,12 @@ zero_told laws p b h tidy forced back =
     (ends.0 ∙ sym ends.1) ∙ ap number_known ends.0 in
     leaves_only laws p (query p.machine.x Equal p.machine.zero) 0 b (record {
       pool = h.pool;
-      words = words;
       count = h.covers.count;
       lists = h.covers.lawful.words;
       rest = h.covers.rest;
       below = (h.nodes.x, h.nodes.zero);
       decided = known;
-      forced = forced (λ w e. words p.machine.x.0 w h.nodes.x e);
+      forced = forced;
       node_back = back;
       other_back = λ n. back_constant n 0 p p.machine.zero.0 tidy.zero.1;
     })

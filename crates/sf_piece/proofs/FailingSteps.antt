@@ -16,7 +16,6 @@ use Rattle.sf_dom.specs.Telling.{IsForcedBy}
 use Rattle.sf_piece.specs.Pieces.{PieceData}
 use Rattle.sf_piece.specs.SymbolicRun.{IsLawfulPiece}
 use Rattle.sf_piece.specs.Execution.{query, GoesOn, GoesOnFor, code_at}
-use Rattle.sf_piece.specs.SmallSteps.{IsTidy}
 use Rattle.sf_piece.specs.Works.{HasGoneOn, IsFailing, AreFailing, IsCodeAtHand, IsAPropagatedBack, behind_chain}
 use Rattle.sf_piece.proofs.AtHand.{at_hand}
 use Rattle.sf_piece.proofs.Children.{taken_on}
@@ -24,17 +23,17 @@ use Rattle.sf_piece.proofs.FailingTests.{next_place, inside_behind, over_one_mor
 use Rattle.sf_piece.proofs.Foretold.{gets_told, forced_test}
 
 -- a piece goes on over one test that fails
-fails_on : (laws : ForcedIsLearnt) (p : PieceData) (i : Insn) (known : Known) (f : ℕ) → IsLawfulPiece p → IsTidy p
+fails_on : (laws : ForcedIsLearnt) (p : PieceData) (i : Insn) (known : Known) (f : ℕ) → IsLawfulPiece p
     → IsAPropagatedBack p → p.machine.program < length p.stack → known ≡ known_at p.facts.known p.machine.a.0
     → IsAt (code_at p) p.machine.place i → IsFailing i known f → GoesOn p (taken_on p false (next_place p f))
-fails_on laws p i known f h tidy back running is at fails =
+fails_on laws p i known f h back running is at fails =
     let n = fails.number in
     let here = subst (λ (j : Insn). IsAt (code_at p) p.machine.place j) fails.is at in
     let fits = (at_hand p (Branch Equal (Constant n) fails.on_true f) h.run running here).in_range in
     let closed : IsClosed known = subst IsClosed (sym is)
     (h.run.covers.rest p.machine.a.0 h.run.nodes.a).closed.known in
     let forced = subst (λ (k : Known). IsForcedBy IsClosed k Equal n false) is (fails.forced closed) in
-    let given = gets_told laws p Equal n false h.run.covers (forced_test p Equal n false h.run tidy.twins fits (record {
+    let given = gets_told laws p Equal n false h.run.covers (forced_test p Equal n false h.run fits (record {
       other = λ s c g. forced.other s c.known g;
       this = forced.this;
       that = forced.that;
@@ -64,17 +63,16 @@ steps_none p = ap (λ (l : List Bool). let q : PieceData = record p { name = l }
 
 -- a piece behind n tests that fail goes on over one more
 pub steps_one_more : (laws : ForcedIsLearnt) (p : PieceData) (code : List Insn) (known : Known) (n place f next : ℕ)
-    → IsTidy p → IsAPropagatedBack p → IsCodeAtHand p code → known ≡ known_at p.facts.known p.machine.a.0
+    → IsAPropagatedBack p → IsCodeAtHand p code → known ≡ known_at p.facts.known p.machine.a.0
     → HasGoneOn p (behind_chain p n place) → GoesOnFor n p (behind_chain p n place)
     → IsFailing (get_or code place (LoadWord 0)) known f → next ≡ place + (1 + f)
     → GoesOnFor (n + 1) p (behind_chain p (n + 1) next)
-steps_one_more laws p code known n place f next tidy back at is gone steps fails leads =
+steps_one_more laws p code known n place f next back at is gone steps fails leads =
     let q = behind_chain p n place in
     let i = get_or code place (LoadWord 0) in
     let here = slice_get-get_or code place (LoadWord 0) (inside_behind p code n place at gone) in
     let there : IsAt (code_at p) place i = subst (λ (c : List Insn). IsAt c place i) at.is here in
-    let once = fails_on laws q i known f gone.lawful
-    (record { twins = tidy.twins; zero = tidy.zero }) back at.running is there fails in
+    let once = fails_on laws q i known f gone.lawful back at.running is there fails in
     let names : (p.name ++ replicate n false) ++ false ∷ [] ≡ p.name ++ replicate (n + 1) false =
     search (arith, append_assoc, replicate_more) in
     let places : place + 1 + f ≡ next = omega (arith, leads) in
@@ -90,14 +88,14 @@ steps_one_more laws p code known n place f next tidy back at is gone steps fails
 
 -- a piece behind m tests of a chain goes on over the others
 steps_more : (laws : ForcedIsLearnt) (p : PieceData) (code : List Insn) (known : Known) (m n place behind : ℕ)
-    → IsTidy p → IsAPropagatedBack p → IsCodeAtHand p code → known ≡ known_at p.facts.known p.machine.a.0
+    → IsAPropagatedBack p → IsCodeAtHand p code → known ≡ known_at p.facts.known p.machine.a.0
     → HasGoneOn p (behind_chain p m place) → GoesOnFor m p (behind_chain p m place)
     → AreFailing code known n place behind → GoesOnFor (m + n) p (behind_chain p (m + n) behind)
-steps_more laws p code known m zero place behind tidy back at is gone steps failing =
+steps_more laws p code known m zero place behind back at is gone steps failing =
     let e : m ≡ m + 0 = omega arith in
     subst (λ (k : ℕ). GoesOnFor k p (behind_chain p k behind)) e
     (subst (λ (q : ℕ). GoesOnFor m p (behind_chain p m q)) (sym failing) steps)
-steps_more laws p code known m (suc n) place behind tidy back at is gone steps failing =
+steps_more laws p code known m (suc n) place behind back at is gone steps failing =
     let i = failing.0 in
     let skips = failing.1 in
     let read : get_or code place (LoadWord 0) ≡ i = get_or_from_slice_get code place i (LoadWord 0) failing.2 in
@@ -106,17 +104,17 @@ steps_more laws p code known m (suc n) place behind tidy back at is gone steps f
     let next : place + 1 + skips ≡ place + (1 + skips) = omega arith in
     let once = over_one_more p code known m place skips (place + 1 + skips) at is gone fails next in
     let more = steps_one_more laws p code known m place skips (place + 1
-    + skips) tidy back at is gone steps fails next in
+    + skips) back at is gone steps fails next in
     let e : m + 1 + n ≡ m + suc n = omega arith in
     subst (λ (k : ℕ). GoesOnFor k p (behind_chain p k behind)) e
-    (steps_more laws p code known (m + 1) n (place + 1 + skips) behind tidy back at is once more failing.4)
+    (steps_more laws p code known (m + 1) n (place + 1 + skips) behind back at is once more failing.4)
 
 -- a piece goes on over a whole chain from where it stands
 pub steps_failing : (laws : ForcedIsLearnt) (p : PieceData) (code : List Insn) (known : Known) (n behind : ℕ)
-    → IsTidy p → IsAPropagatedBack p → IsCodeAtHand p code → known ≡ known_at p.facts.known p.machine.a.0
+    → IsAPropagatedBack p → IsCodeAtHand p code → known ≡ known_at p.facts.known p.machine.a.0
     → HasGoneOn p (behind_chain p 0 p.machine.place) → AreFailing code known n p.machine.place behind
     → GoesOnFor n p (behind_chain p n behind)
-steps_failing laws p code known n behind tidy back at is gone failing =
+steps_failing laws p code known n behind back at is gone failing =
     let e : 0 + n ≡ n = omega arith in
     subst (λ (k : ℕ). GoesOnFor k p (behind_chain p k behind)) e
-    (steps_more laws p code known 0 n p.machine.place behind tidy back at is gone (steps_none p) failing)
+    (steps_more laws p code known 0 n p.machine.place behind back at is gone (steps_none p) failing)

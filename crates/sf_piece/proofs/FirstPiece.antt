@@ -4,7 +4,7 @@ use Rattle.std.proofs.lemmas.Bool.{cases_lt}
 use Rattle.std.proofs.lemmas.List.{get_or_append_left, get_or_push, length_push}
 use Rattle.sf_check.specs.declared.insn.Insn.{Insn}
 use Rattle.sf_sym.specs.declared.pool.Node.{Node}
-use Rattle.sf_sym.specs.declared.pool.Node.TheVariants.{Const}
+use Rattle.sf_sym.specs.declared.pool.Node.TheVariants.{Const, Word}
 use Rattle.sf_sym.specs.declared.pool.NodeId.{NodeId}
 use Rattle.sf_sym.specs.Pool.{IsPool, node_at, Extends}
 use Rattle.sf_dom.specs.Facts.{FactsView}
@@ -12,7 +12,9 @@ use Rattle.sf_dom.specs.Learning.{StartsBy}
 use Rattle.sf_piece.specs.Pieces.{PieceData}
 use Rattle.sf_piece.specs.Execution.{IsFirst, IsInTree}
 use Rattle.sf_piece.proofs.AtHand.{first_piece}
-use Rattle.sf_piece.proofs.OnePiece.{word_clash}
+
+word_clash : (a c : ℕ) → Word a ≡ Const c → ⊥
+word_clash a c e = absurd cc
 
 -- the first sixteen nodes are words, so 0 is the next one
 first_zero : (old new : List Node) (id : NodeId) → length old ≡ 16 → IsPool new → Extends old new → id.0 < length new

@@ -13,8 +13,7 @@ use Rattle.sf_sym.specs.declared.pool.Cond.{Cond}
 use Rattle.sf_sym.specs.declared.pool.Node.{Node}
 use Rattle.sf_sym.specs.declared.pool.Node.TheVariants.{Const, Word, Bin, Neg}
 use Rattle.sf_sym.specs.declared.pool.NodeId.{NodeId}
-use Rattle.sf_sym.specs.Pool.{IsPool, node_at, value_of}
-use Rattle.sf_sym.specs.ValueLaws.{OperandsBelow-at}
+use Rattle.sf_sym.specs.Pool.{node_at, value_of}
 use Rattle.sf_dom.specs.declared.known.Known.{Known}
 use Rattle.sf_dom.specs.Backward.{IsPropagatedBack}
 use Rattle.sf_dom.specs.Facts.{FactsView, Covers, Agrees, known_at}
@@ -24,19 +23,10 @@ use Rattle.sf_dom.specs.Rules.{IsClosedAt, number_known}
 use Rattle.sf_dom.specs.Telling.{IsForcedBy}
 use Rattle.sf_dom.specs.SoundRules.{ForcedIsLearnt, IsForcedCondition, IsForcedTest}
 use Rattle.sf_piece.specs.Pieces.{PieceData}
-use Rattle.sf_piece.specs.Execution.{HasNoTwins, Gets, query, with_sense, LeavesOnly}
+use Rattle.sf_piece.specs.Execution.{Gets, query, with_sense, CanLearn, LeavesOnly}
 use Rattle.sf_piece.specs.SymbolicRun.{IsPiece}
 use Rattle.sf_piece.specs.Works.{IsOperandNumber, PassesAlways}
 use Rattle.sf_piece.specs.Foresight.{IsTestedNumber, IsForetold}
-
--- where no node stands twice, each word stands at its own place
-pub words_first : (ns : List Node) → IsPool ns → HasNoTwins ns → (i w : ℕ) → i < length ns → node_at ns i ≡ Word w
-    → i ≡ w
-words_first ns p twins i w l e =
-    let small : w < 16 = rw e at (OperandsBelow-at 0 ns i p.ordered l) in
-    let words = p.words in
-    ap (λ (id : NodeId). id.0) (twins (record { 0 = i }) (record { 0 = w }) (Word w) (l, e)
-    (omega (arith, small, words), p.word w small))
 
 -- a word with one number is known in full
 pub one_number : (k : Known) → IsConsistent k → IsDecided k → k ≡ number_known k.low
@@ -102,7 +92,7 @@ grows_not_at_all f ns h = record {
 pub leaves_only : (laws : ForcedIsLearnt) (p : PieceData) (cond : Cond) (number : ℕ) (b : Bool)
     → IsForcedCondition p.facts p.pool cond number b → LeavesOnly (p, cond) b
 leaves_only laws p cond number b h = record {
-  can = laws.this p.facts p.pool (with_sense cond b) number (with_other b b h);
+  can = can b (with_other b b h);
   cant = cant b h;
 }
   where
@@ -110,7 +100,6 @@ leaves_only laws p cond number b h = record {
         → IsForcedCondition p.facts p.pool (with_sense cond s) number c
     with_other s c g = record {
       pool = g.pool;
-      words = g.words;
       count = g.count;
       lists = g.lists;
       rest = g.rest;
@@ -120,6 +109,10 @@ leaves_only laws p cond number b h = record {
       node_back = g.node_back;
       other_back = g.other_back;
     }
+
+    can : (c : Bool) → IsForcedCondition p.facts p.pool (with_sense cond c) number c
+        → CanLearn p.facts p.pool (with_sense cond c)
+    can c g = let new = laws.this p.facts p.pool (with_sense cond c) number g in (new.0, new.2)
 
     cant : (c : Bool) → IsForcedCondition p.facts p.pool cond number c
         → CantLearn p.facts p.pool (with_sense cond (not c))
@@ -146,7 +139,7 @@ gets_told laws p test k b h told = elim (find p.pool k (length p.pool)) [
       )
   | inr none ↦
       let id : NodeId = record { 0 = length p.pool } in
-      let new = laws.added p.facts p.pool p.machine.a id test k true b told refl in
+      let new = laws.added p.facts p.pool p.machine.a id test k true b told none refl in
       let q : PieceData = record p { pool = p.pool ++ Const k ∷ []; facts = new.0 } in (
         (q, id),
         record {
@@ -167,7 +160,6 @@ foretold laws p test (Constant k) number b h told l is = gets_told laws p test k
 foretold laws p test X number b h told l is =
     let forced : IsForcedCondition p.facts p.pool (query p.machine.a test p.machine.x) number b = record {
       pool = told.pool;
-      words = told.words;
       count = told.count;
       lists = told.lists;
       rest = told.rest;
@@ -180,14 +172,13 @@ foretold laws p test X number b h told l is =
     ((p, p.machine.x), refl, leaves_only laws p (query p.machine.a test p.machine.x) number b forced)
 
 -- what is known of A by itself tells a test
-pub forced_test : (p : PieceData) (test : Test) (number : ℕ) (b : Bool) → IsPiece p → HasNoTwins p.pool
+pub forced_test : (p : PieceData) (test : Test) (number : ℕ) (b : Bool) → IsPiece p
     → number < 2 ^ 32
     → IsForcedBy (IsClosedAt p.facts.excluded p.machine.a.0) (known_at p.facts.known p.machine.a.0) test number b
     → ((n : ℕ) → IsPropagatedBack n p.facts.known p.pool p.machine.a.0)
     → IsForcedTest p.facts p.pool p.machine.a test number b
-forced_test p test number b h twins fits forced back = record {
+forced_test p test number b h fits forced back = record {
   pool = h.pool;
-  words = words_first p.pool h.pool twins;
   count = h.covers.count;
   lists = h.covers.lawful.words;
   rest = h.covers.rest;
@@ -199,15 +190,14 @@ forced_test p test number b h twins fits forced back = record {
 
 -- what is told of a test of A is foretold
 pub told_foretold : (laws : ForcedIsLearnt) (p : PieceData) (test : Test) (other : Operand) (number : ℕ)
-    (o : Option Bool) → IsPiece p → HasNoTwins p.pool → number < 2 ^ 32 → IsTestedNumber p other number
-    → (((w : ℕ) → node_at p.pool p.machine.a.0 ≡ Word w → p.machine.a.0 ≡ w) → IfSome o (λ b.
-    IsForcedBy (IsClosedAt p.facts.excluded p.machine.a.0) (known_at p.facts.known p.machine.a.0) test number b))
+    (o : Option Bool) → IsPiece p → number < 2 ^ 32 → IsTestedNumber p other number
+    → IfSome o (λ b. IsForcedBy (IsClosedAt p.facts.excluded p.machine.a.0)
+    (known_at p.facts.known p.machine.a.0) test number b)
     → IfSome o (λ b. (n : ℕ) → IsPropagatedBack n p.facts.known p.pool p.machine.a.0)
     → IfSome o (λ b. IsForetold p test other b)
-told_foretold laws p test other number None h twins fits is forced back = tt
-told_foretold laws p test other number (Some b) h twins fits is forced back =
-    let own = forced (λ w e. words_first p.pool h.pool twins p.machine.a.0 w h.nodes.a e) in
-    foretold laws p test other number b h.covers (forced_test p test number b h twins fits own back) h.nodes.x is
+told_foretold laws p test other number None h fits is forced back = tt
+told_foretold laws p test other number (Some b) h fits is forced back =
+    foretold laws p test other number b h.covers (forced_test p test number b h fits forced back) h.nodes.x is
 
 -- and every member has it
 pub told_always : (p : PieceData) (test : Test) (other : Operand) (number : ℕ) (o : Option Bool) → IsPiece p

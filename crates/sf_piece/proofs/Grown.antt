@@ -27,7 +27,7 @@ below_le : (n m : ℕ) (cs : List Cond) → n ≤ m → AllByRecursion (IsCondBe
 below_le n m [] h b = tt
 below_le n m (c ∷ cs) h b = ((omega (arith, b.0.0), omega (arith, b.0.1)), below_le n m cs h b.1)
 
-nodes_le : (n m : ℕ) (k : SymbolicMachine) → n ≤ m → AreNodesBelow n k → AreNodesBelow m k
+pub nodes_le : (n m : ℕ) (k : SymbolicMachine) → n ≤ m → AreNodesBelow n k → AreNodesBelow m k
 nodes_le n m k h b = grind (arith, common_steps)
 
 pub members_grown : (p : PieceData) (added : List Node) (fs : FactsView) (d : Input)

@@ -19,7 +19,7 @@ use Rattle.sf_dom.specs.Learning.{StartsBy}
 use Rattle.sf_dom.specs.SoundRules.{HaveOneResult}
 use Rattle.sf_piece.specs.declared.machine.SymbolicMachine.{SymbolicMachine}
 use Rattle.sf_piece.specs.Pieces.{PieceData, Split}
-use Rattle.sf_piece.specs.Execution.{HasNoTwins, Gets, GetsOperand, piece_with_a, piece_with_x, on, LoadsA, LoadsX, Computes, query, HasQuery, MakesOf, GoesOnFor, HasStep, AreSamePieces, IsFirst, IsBelow, IsInTree}
+use Rattle.sf_piece.specs.Execution.{Gets, GetsOperand, piece_with_a, piece_with_x, on, LoadsA, LoadsX, Computes, query, HasQuery, MakesOf, GoesOnFor, HasStep, AreSamePieces, IsFirst, IsBelow, IsInTree}
 use Rattle.sf_piece.specs.Machines.{first_machine}
 use Rattle.sf_piece.proofs.Alike.{AreAlike, alike_back, same_id}
 use Rattle.sf_piece.proofs.OneStep.{alike_step}
@@ -269,12 +269,6 @@ one_below laws (true ∷ bs) (false ∷ cs) r s p q alike h k e =
 
 -- ---- the first piece
 
-pub word_same : (a b : ℕ) → Word a ≡ Word b → a ≡ b
-word_same a b e = cc
-
-pub word_clash : (a c : ℕ) → Word a ≡ Const c → ⊥
-word_clash a c e = absurd cc
-
 pub first_node : (stack : List (List Insn)) (p : PieceData) → IsFirst stack p → (i : ℕ) → i < 17
     → ((i < 16) × (node_at p.pool i ≡ Word i)) ⊎ ((i ≡ 16) × (node_at p.pool i ≡ Const 0))
 first_node stack p h i l = elim (cases_lt i 16) [
@@ -282,17 +276,6 @@ first_node stack p h i l = elim (cases_lt i 16) [
   | inr g ↦ (let last : i ≡ 16 = omega (arith, g, l) in
       inr (last, ap (λ (k : ℕ). node_at p.pool k) last ∙ h.zero))
 ]
-
-pub first_twins : (stack : List (List Insn)) (p : PieceData) → IsFirst stack p → HasNoTwins p.pool
-first_twins stack p h i j node s t =
-    by (first_node stack p h i.0 (omega (arith, s.0, h.count))) (first_node stack p h j.0 (omega (arith, t.0, h.count)))
-  where
-    by : ((i.0 < 16) × (node_at p.pool i.0 ≡ Word i.0)) ⊎ ((i.0 ≡ 16) × (node_at p.pool i.0 ≡ Const 0))
-        → ((j.0 < 16) × (node_at p.pool j.0 ≡ Word j.0)) ⊎ ((j.0 ≡ 16) × (node_at p.pool j.0 ≡ Const 0)) → i ≡ j
-    by (inl x) (inl y) = same_id i j (word_same i.0 j.0 (sym x.1 ∙ s.1 ∙ sym t.1 ∙ y.1))
-    by (inl x) (inr y) = absurd (word_clash i.0 0 (sym x.1 ∙ s.1 ∙ sym t.1 ∙ y.1))
-    by (inr x) (inl y) = absurd (word_clash j.0 0 (sym y.1 ∙ t.1 ∙ sym s.1 ∙ x.1))
-    by (inr x) (inr y) = same_id i j (x.0 ∙ sym y.0)
 
 abbrev pub piece_of : List (List Insn) → List Bool → List Node → List Cond → SymbolicMachine → FactsView → PieceData
 piece_of stack name pool conditions machine facts = record {
@@ -327,7 +310,6 @@ first_alike laws stack p q h k =
             (subst (λ (ns : List Node). StartsBy q.facts ns) pools k.facts);
       };
       pool = h.pool;
-      twins = first_twins stack p h;
     }
   where
     by : (i : ℕ) → ((i < 16) × (node_at p.pool i ≡ Word i)) ⊎ ((i ≡ 16) × (node_at p.pool i ≡ Const 0))
@@ -346,7 +328,7 @@ one_piece laws p q h k of e =
     one_below laws h.sides k.sides h.first k.first p q (first_alike laws p.stack h.first k.first h.starts starts)
     h.below k.below e
 
--- the pool of a piece of the tree is lawful, and no node stands in it twice
+-- the pool of a piece of the tree is lawful
 below_alike : (laws : HaveOneResult) (bs : List Bool) (r p : PieceData) → AreAlike r r → IsBelow bs r p → AreAlike p p
 below_alike laws [] r p alike h = subst (λ (x : PieceData). AreAlike x x) (sym h) alike
 below_alike laws (true ∷ bs) r p alike h =
@@ -356,11 +338,10 @@ below_alike laws (false ∷ bs) r p alike h =
     let both = alike_step laws r r (Split h.0 h.1) (Split h.0 h.1) r.name r.name alike h.2 h.2 in
     below_alike laws bs h.0 p both.0.0 h.3
 
-pub reached_pool : (laws : HaveOneResult) (p : PieceData) → IsInTree p → IsPool p.pool × HasNoTwins p.pool
+pub reached_pool : (laws : HaveOneResult) (p : PieceData) → IsInTree p → IsPool p.pool
 reached_pool laws p h =
     let first = first_alike laws p.stack h.first h.first h.starts h.starts in
-    let alike = below_alike laws h.sides h.first p first h.below in
-    (alike.pool, alike.twins)
+    (below_alike laws h.sides h.first p first h.below).pool
 
 pub below_more : (bs : List Bool) (b : Bool) (r p f t : PieceData) → IsBelow bs r p → HasStep p (Split f t) p.name
     → IsBelow (bs ++ b ∷ []) r (if b then t else f)

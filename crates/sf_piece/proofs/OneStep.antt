@@ -12,7 +12,7 @@ use Rattle.sf_dom.specs.Learning.{CantLearn}
 use Rattle.sf_dom.specs.SoundRules.{HaveOneResult}
 use Rattle.sf_piece.specs.declared.machine.SymbolicMachine.{SymbolicMachine}
 use Rattle.sf_piece.specs.Pieces.{PieceData, StepData, Split, Settled, Empty}
-use Rattle.sf_piece.specs.Execution.{HasNoTwins, on, with_machine, Computes, MovesTo, HasQuery, with_sense, LeavesOnly, LeavesNeither, IsSide, IsNamedOn, code_at, IsAtHand, MakesOf, GoesOn, SplitsInto, IsEmptied, GoesOnFor, EndsAs, HasStep, AreSamePieces, AreSameSteps}
+use Rattle.sf_piece.specs.Execution.{on, with_machine, Computes, MovesTo, HasQuery, with_sense, LeavesOnly, LeavesNeither, IsSide, IsNamedOn, code_at, IsAtHand, MakesOf, GoesOn, SplitsInto, IsEmptied, GoesOnFor, EndsAs, HasStep, AreSamePieces, AreSameSteps}
 use Rattle.sf_piece.proofs.Kept.{at_same}
 use Rattle.sf_piece.proofs.Alike.{AreAlike, alike_back, computes_alike, forced_alike, learns_alike, named_alike, query_alike, side_alike, with_facts}
 
@@ -78,7 +78,6 @@ moved_alike p f m n alike e = record {
     facts = alike.same.facts;
   };
   pool = alike.pool;
-  twins = alike.twins;
 }
 
 -- an instruction makes of a piece one piece at most
@@ -194,7 +193,6 @@ one_split laws p f x y u v alike h k =
     let own : AreAlike h.1.0 (with_facts h.1.0 k.1.0.facts) = record {
       same = record { rest = refl; facts = asked.0.same.facts };
       pool = asked.0.pool;
-      twins = asked.0.twins;
     } in
     let side : (s : Bool) (c : PieceData) → IsSide k.1 k.0 s c
     → IsSide (with_facts h.1.0 k.1.0.facts, h.1.1) h.0 s c
@@ -256,7 +254,7 @@ one_run laws (suc i) zero p f a b r q s t m n alike e x y h k =
 one_run laws (suc i) (suc j) p f a b r q s t m n alike e x y h k =
     let next = one_on laws p f x.0 y.0 alike x.1 y.1 in
     let own : AreAlike x.0 (with_facts x.0 y.0.facts) =
-    record { same = record { rest = refl; facts = next.same.facts }; pool = next.pool; twins = next.twins } in
+    record { same = record { rest = refl; facts = next.same.facts }; pool = next.pool } in
     one_run laws i j x.0 y.0.facts a b r q s t m n own e x.2
     (subst (λ (c : PieceData). GoesOnFor j c b) next.same.rest y.2) h k
 
@@ -265,14 +263,14 @@ pub alike_step : (laws : HaveOneResult) (p q : PieceData) (s t : StepData) (m n 
     → HasStep q t n → StepsAlike s t × (m ≡ n)
 alike_step laws p q s t m n alike h k =
     let own : AreAlike p (with_facts p q.facts) =
-    record { same = record { rest = refl; facts = alike.same.facts }; pool = alike.pool; twins = alike.twins } in
+    record { same = record { rest = refl; facts = alike.same.facts }; pool = alike.pool } in
     let named : p.name ≡ q.name = sym (ap (λ (r : PieceData). r.name) alike.same.rest) in
     one_run laws h.0 k.0 p q.facts h.1 k.1 p q s t m n own named h.2
     (subst (λ (c : PieceData). GoesOnFor k.0 c k.1) alike.same.rest k.2) h.3 k.3
 
 -- A piece has one step at most.
 pub one_step : (laws : HaveOneResult) (p q : PieceData) (s t : StepData) (m n : List Bool) → AreSamePieces p q
-    → IsPool p.pool → HasNoTwins p.pool → HasStep p s m → HasStep q t n → AreSameSteps s t × (m ≡ n)
-one_step laws p q s t m n same pool twins h k =
-    let one = alike_step laws p q s t m n (record { same = same; pool = pool; twins = twins }) h k in
+    → IsPool p.pool → HasStep p s m → HasStep q t n → AreSameSteps s t × (m ≡ n)
+one_step laws p q s t m n same pool h k =
+    let one = alike_step laws p q s t m n (record { same = same; pool = pool }) h k in
     (steps_same s t one.0, one.1)

@@ -40,10 +40,6 @@ IsPutIn old node new id =
     ⊎ (((other : NodeId) → ¬ IsNodeAt old (folded_node old node) other) × (id.0 ≡ length old)
     × (new ≡ old ++ folded_node old node ∷ []))
 
--- no node stands in a pool twice
-abbrev pub HasNoTwins : List Node → Type 0
-HasNoTwins ns = (i j : NodeId) (node : Node) → IsNodeAt ns node i → IsNodeAt ns node j → i ≡ j
-
 -- a piece gets a word: its pool gets the node, and its facts take that in
 pub record IsGiven (p : PieceData) (node : Node) (q : PieceData) (id : NodeId) : Type 0 where
   pub pool : IsPutIn p.pool node q.pool id

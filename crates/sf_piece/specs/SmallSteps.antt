@@ -3,6 +3,7 @@ use Rattle.std.specs.Prelude.{◌≡◌, ℕ, ◌≤◌, length, true, false, Op
 use Rattle.sf_check.specs.declared.insn.Insn.{Insn}
 use Rattle.sf_sym.specs.declared.pool.Cond.{Cond}
 use Rattle.sf_sym.specs.declared.pool.Node.TheVariants.{Const}
+use Rattle.sf_dom.specs.SoundRules.{AreCarried}
 use Rattle.sf_piece.specs.declared.deciding.Decision.{Decision}
 use Rattle.sf_piece.specs.declared.deciding.Decision.TheVariants.{Implied, Neither}
 use Rattle.sf_piece.specs.declared.deciding.Decision.TheVariants as decided
@@ -10,9 +11,9 @@ use Rattle.sf_piece.specs.declared.deciding.SmallStep.{SmallStep}
 use Rattle.sf_piece.specs.declared.deciding.SmallStep.TheVariants.{On, Split, Settled, Empty}
 use Rattle.sf_piece.specs.Pieces.{PieceData, IsRightSplit, IsRightAnswer, HasNoMember}
 use Rattle.sf_check.specs.Stacks.{IsPlain}
-use Rattle.sf_piece.specs.Execution.{IsNodeAt, HasNoTwins, LeavesOnly, LeavesNeither, IsSide, IsNamedOn, GoesOnFor, SplitsInto, IsEmptied}
+use Rattle.sf_piece.specs.Execution.{IsNodeAt, LeavesOnly, LeavesNeither, IsSide, IsNamedOn, GoesOnFor, SplitsInto, IsEmptied}
 use Rattle.sf_piece.specs.PlainPieces.{IsPlainPiece}
-use Rattle.sf_piece.specs.SymbolicRun.{IsLawfulPiece}
+use Rattle.sf_piece.specs.SymbolicRun.{AreNodesBelow, IsLawfulPiece}
 use Rattle.sf_piece.specs.Works.{HasAdvanced, IsForeseen}
 
 -- what is right of an instruction or a truth value, by what it makes of piece p: p goes on as q, is split, settles with
@@ -32,10 +33,12 @@ IsMade makes q Empty = makes None
 IsMade makes q (Split f t) = ⊥
 IsMade makes q Settled = ⊥
 
--- what the rules need of a piece: no node stands twice in its pool, and the node that is 0 is a constant
+-- what the rules keep of a piece: the node that is 0 is a constant, the nodes of its machine are in the pool, and its
+-- facts are carried along
 pub record IsTidy (p : PieceData) : Type 0 where
-  pub twins : HasNoTwins p.pool
   pub zero : IsNodeAt p.pool (Const 0) p.machine.zero
+  pub nodes : AreNodesBelow (length p.pool) p.machine
+  pub carried : AreCarried p.facts p.pool p.conditions
 
 -- by the rules the piece goes on as this one, after some number of small steps
 abbrev pub HasGoneFor : PieceData → PieceData → Type 0

@@ -24,7 +24,6 @@ use Rattle.sf_dom.specs.declared.known.Known.{Known}
 use Rattle.sf_dom.specs.Known.{Admits}
 use Rattle.sf_dom.specs.Facts.{FactsView, Covers, Agrees, AreNarrower, DecidesTest, KeepsOnly}
 use Rattle.sf_dom.specs.Propagation.{Meets}
-use Rattle.sf_dom.specs.GoingBack.{GoingBackGives}
 use Rattle.sf_dom.specs.Learning.{LearnsBy}
 use Rattle.sf_dom.specs.Rules.{IsClosed}
 use Rattle.sf_dom.specs.Telling.{IsForcedBy}
@@ -216,10 +215,6 @@ PassesAlways p test other b = (d : Input) → IsInput d → is_member p d ≡ tr
 abbrev pub IsOperandNumber : PieceData → Operand → ℕ → Type 0
 IsOperandNumber p other n = (d : Input) → IsInput d → Agrees p.facts p.pool d
     → operand_of (concrete_state p.pool p.machine d) other ≡ n
-
--- known bits that go back from a node change nothing
-abbrev pub NothingGoesBack : PieceData → NodeId → Type 0
-NothingGoesBack p node = GoingBackGives p.facts.known p.facts.excluded p.pool node.0 (Some p.facts.known)
 
 -- what is known of the bits of A is known of the nodes that it comes of
 abbrev pub IsAPropagatedBack : PieceData → Type 0

@@ -2,9 +2,9 @@
 
 ghost use Rattle.std.specs.Prelude.{◌≡◌, ℕ, ◌<◌, ◌^◌, IfOk, IfSome};
 ghost use Rattle.sf_piece.specs.SymbolicRun.{IsLawfulPiece};
-ghost use Rattle.sf_piece.specs.Works.{HasAtHand, IsOperandNumber, NothingGoesBack, IsAPropagatedBack, PassesAlways, divides_at};
+ghost use Rattle.sf_piece.specs.Works.{HasAtHand, IsOperandNumber, IsAPropagatedBack, PassesAlways, divides_at};
 ghost use Rattle.sf_dom.specs.SoundRules.{ForcedIsLearnt};
-ghost use Rattle.sf_piece.specs.Execution.{HasNoTwins, IsAtHand};
+ghost use Rattle.sf_piece.specs.Execution.{IsAtHand};
 ghost use Rattle.sf_piece.specs.Foresight.{IsTestedNumber, IsForetold};
 ghost use Rattle.sf_piece.specs.SmallSteps.{IsSmallStep, IsTidy, IsExecuted};
 
@@ -36,8 +36,6 @@ fn asks_zero(op: BinOp, other: Operand, taken: usize) -> bool
 fn number_against(run: &Run, other: Operand) -> Option<u32>
     requires { IsLawfulPiece run.now }
     ensures value { IfSome result (IsOperandNumber run.now other) }
-    ensures back { IfSome result (λ n. other ≡ Operand.X
-        → NothingGoesBack run.now run.now.machine.x) }
     ensures rule { IfSome result (λ n. IsTestedNumber run.now other n) }
     ensures fits { IfSome result (λ n. n < 2 ^ 32) }
 {
@@ -59,10 +57,8 @@ fn number_against(run: &Run, other: Operand) -> Option<u32>
 fn foresee(run: &Run, test: Test, other: Operand) -> Option<bool>
     requires { IsLawfulPiece run.now }
     ensures value { IfSome result (λ b. PassesAlways run.now test other b) }
-    ensures back { IfSome result (λ b. NothingGoesBack run.now run.now.machine.a) }
     ensures propagated { IfSome result (λ b. IsAPropagatedBack run.now) }
-    ensures rule { ForcedIsLearnt → HasNoTwins run.now.pool
-        → IfSome result (λ b. IsForetold run.now test other b) }
+    ensures rule { ForcedIsLearnt → IfSome result (λ b. IsForetold run.now test other b) }
 {
     let number = number_against(run, other)?;
     run.facts.tell(&run.pool, run.machine.a, test, number)
@@ -137,7 +133,7 @@ pub(crate) fn branch(
     requires standing { HasAtHand run.old insn }
     requires is { (t : ℕ) × (f : ℕ) × (insn ≡ Insn.Branch test other t f) }
     ensures step { IfOk result (IsSmallStep run.old run.new) }
-    ensures rule { ForcedIsLearnt → IsTidy run.old → IsAtHand run.old insn
+    ensures rule { ForcedIsLearnt → IsAtHand run.old insn
         → IfOk result (IsExecuted run.old run.new) }
 {
     if let Some(sense) = foresee(run, test, other) {
@@ -172,7 +168,7 @@ pub(crate) fn return_a(alloc: Global, run: &mut Run) -> Result<SmallStep, Fault>
     requires lawful { IsLawfulPiece run.old }
     requires standing { HasAtHand run.old Insn.ReturnA }
     ensures step { IfOk result (IsSmallStep run.old run.new) }
-    ensures rule { ForcedIsLearnt → IsTidy run.old → IsAtHand run.old Insn.ReturnA
+    ensures rule { ForcedIsLearnt → IsAtHand run.old Insn.ReturnA
         → IfOk result (IsExecuted run.old run.new) }
 {
     let taken = run.machine.taken;

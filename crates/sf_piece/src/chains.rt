@@ -5,7 +5,7 @@ ghost use Rattle.sf_dom.specs.Facts.{known_at};
 ghost use Rattle.sf_piece.specs.SymbolicRun.{IsLawfulPiece};
 ghost use Rattle.sf_dom.specs.SoundRules.{ForcedIsLearnt};
 ghost use Rattle.sf_piece.specs.Execution.{GoesOnFor};
-ghost use Rattle.sf_piece.specs.SmallSteps.{IsTidy, IsExecuted};
+ghost use Rattle.sf_piece.specs.SmallSteps.{IsExecuted};
 ghost use Rattle.sf_piece.specs.declared.deciding.SmallStep.{SmallStep};
 ghost use Rattle.sf_piece.specs.Works.{HasGoneOn, IsFailing, AreFailing, IsAPropagatedBack, behind_chain};
 
@@ -53,7 +53,7 @@ fn failing_chain(run: &Run, known: Known) -> Skipped
     requires lawful { IsLawfulPiece run.now }
     requires known { known ≡ known_at run.now.facts.known run.now.machine.a.0 }
     ensures gone { HasGoneOn run.now (behind_chain run.now result.count result.behind) }
-    ensures rule { ForcedIsLearnt → IsTidy run.now → IsAPropagatedBack run.now
+    ensures rule { ForcedIsLearnt → IsAPropagatedBack run.now
         → GoesOnFor result.count run.now (behind_chain run.now result.count result.behind) }
 {
     let first = run.machine.place;
@@ -90,7 +90,7 @@ fn failing_chain(run: &Run, known: Known) -> Skipped
 pub(crate) fn take_failing(run: &mut Run) -> Result<(), Fault>
     requires { IsLawfulPiece run.old }
     ensures gone { IfOk result (λ _. HasGoneOn run.old run.new) }
-    ensures rule { ForcedIsLearnt → IsTidy run.old → IsAPropagatedBack run.old
+    ensures rule { ForcedIsLearnt → IsAPropagatedBack run.old
         → IfOk result (λ _. IsExecuted run.old run.new SmallStep.On) }
 {
     let known = run.facts.known(run.machine.a);

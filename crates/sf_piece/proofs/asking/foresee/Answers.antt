@@ -3,8 +3,7 @@ use Rattle.std.specs.Prelude.{IfSome}
 use Rattle.sf_insn.specs.declared.input.Input.{Input}
 use Rattle.sf_insn.specs.Inputs.{IsInput}
 use Rattle.sf_insn.specs.Words.{passes}
-use Rattle.sf_sym.specs.Pool.{node_at, value_of}
-use Rattle.sf_sym.specs.declared.pool.Node.TheVariants.{Word}
+use Rattle.sf_sym.specs.Pool.{value_of}
 use Rattle.sf_dom.specs.Backward.{IsPropagatedBack}
 use Rattle.sf_dom.specs.Facts.{known_at, Agrees}
 use Rattle.sf_dom.specs.Rules.{IsClosedAt}
@@ -23,15 +22,14 @@ returns-clause-value c =
     c.in_ok-number.ensures.value told
 
 pub returns-clause-rule : goal.returns-clause-rule
-returns-clause-rule c = λ laws twins.
+returns-clause-rule c = λ laws.
     let n = c.in_ok-number.number in
     let o = c.tell.result in
-    let forced = subst (λ (q : PieceData). ((w : ℕ) → node_at q.pool q.machine.a.0 ≡ Word w → q.machine.a.0 ≡ w)
-    → IfSome o (λ b. IsForcedBy (IsClosedAt q.facts.excluded q.machine.a.0) (known_at q.facts.known q.machine.a.0)
-    c.args.test n b)) c.run.view_is c.tell.ensures.rule in
+    let forced = subst (λ (q : PieceData). IfSome o (λ b. IsForcedBy (IsClosedAt q.facts.excluded q.machine.a.0)
+    (known_at q.facts.known q.machine.a.0) c.args.test n b)) c.run.view_is c.tell.ensures.rule in
     let back = subst (λ (q : PieceData). IfSome o (λ b. (m : ℕ)
     → IsPropagatedBack m q.facts.known q.pool q.machine.a.0)) c.run.view_is c.tell.ensures.goes_back in
-    told_foretold laws c.args.run.now c.args.test c.args.other n o c.requires.run twins c.in_ok-number.ensures.fits
+    told_foretold laws c.args.run.now c.args.test c.args.other n o c.requires.run c.in_ok-number.ensures.fits
     c.in_ok-number.ensures.rule forced back
 
 pub returns-clause-propagated : goal.returns-clause-propagated

@@ -13,10 +13,10 @@ pub returns-then-is_none-clause-gone : goal.returns-then-is_none-clause-gone
 returns-then-is_none-clause-gone c = rw (← c.run.view_is) (over_none _ (rw (← c.run.view_is) at c.requires.lawful))
 
 pub returns-in_default-clause-rule : goal.returns-in_default-clause-rule
-returns-in_default-clause-rule c = λ laws tidy back. rw (← c.run.view_is) (steps_none _)
+returns-in_default-clause-rule c = λ laws back. rw (← c.run.view_is) (steps_none _)
 
 pub returns-then-is_none-clause-rule : goal.returns-then-is_none-clause-rule
-returns-then-is_none-clause-rule c = λ laws tidy back. rw (← c.run.view_is) (steps_none _)
+returns-then-is_none-clause-rule c = λ laws back. rw (← c.run.view_is) (steps_none _)
 
 pub bounds-code-behind : goal.bounds-code-behind
 bounds-code-behind c =
@@ -39,10 +39,10 @@ loop-skips-preserved c =
           c.in-Some-failing_skips.skips _ at c.requires.known c.loop-skips.invariant.gone
           c.in-Some-failing_skips.ensures (omega arith);
       few = omega (arith, c.loop-skips.invariant.few);
-      rule = λ laws tidy back.
+      rule = λ laws back.
           steps_one_more laws c.args.run.now c.insns-code.result.now c.args.known c.loop-skips.count c.loop-skips.behind
-          c.in-Some-failing_skips.skips _ tidy back at c.requires.known c.loop-skips.invariant.gone
-          (c.loop-skips.invariant.rule laws tidy back) c.in-Some-failing_skips.ensures (omega arith);
+          c.in-Some-failing_skips.skips _ back at c.requires.known c.loop-skips.invariant.gone
+          (c.loop-skips.invariant.rule laws back) c.in-Some-failing_skips.ensures (omega arith);
     }
 
 pub loop-skips-init : goal.loop-skips-init
@@ -60,8 +60,8 @@ loop-skips-init c =
         few_failing c.in-Some.program.now c.args.known c.skip_failing-count.result.count p.machine.place
             c.skip_failing-count.result.behind failing,
       );
-      rule = λ laws tidy back.
+      rule = λ laws back.
           steps_failing laws p c.in-Some.program.now c.args.known c.skip_failing-count.result.count
           c.skip_failing-count.result.behind
-          tidy back c.in-Some.ensures c.requires.known (over_none p c.requires.lawful) failing;
+          back c.in-Some.ensures c.requires.known (over_none p c.requires.lawful) failing;
     }

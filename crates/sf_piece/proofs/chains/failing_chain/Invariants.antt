@@ -1,7 +1,6 @@
 use Rattle.std.proofs.Common.{◌-◌, ◌≤◌, length}
 use Rattle.sf_dom.specs.SoundRules.{ForcedIsLearnt}
 use Rattle.sf_piece.specs.Execution.{GoesOnFor}
-use Rattle.sf_piece.specs.SmallSteps.{IsTidy}
 use Rattle.sf_piece.specs.Works.{HasGoneOn, IsAPropagatedBack, behind_chain}
 use Rattle.sf_piece.proofs.chains.failing_chain.Given as goal
 
@@ -9,7 +8,7 @@ abbrev pub invariant-loop-skips : goal.invariant-loop-skips
 invariant-loop-skips l = record {
   gone : HasGoneOn l.fn.run (behind_chain l.fn.run l.count l.behind);
   few : l.count ≤ l.behind;
-  rule : ForcedIsLearnt → IsTidy l.fn.run → IsAPropagatedBack l.fn.run
+  rule : ForcedIsLearnt → IsAPropagatedBack l.fn.run
       → GoesOnFor l.count l.fn.run (behind_chain l.fn.run l.count l.behind);
 }
 
