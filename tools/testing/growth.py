@@ -3,9 +3,8 @@
     tools/test growth [--table] [PROGRAM]      (crates/seccomp_audit/out/seccomp_audit if none is named)
 
 The kinds are profiles and files of names that strangers might make so that reading them takes long. The larger input
-of a kind may take 2.5 times the instructions of the other at most: so none grows with the square of its size. Two do,
-and may take 6 times: names that --skip-unknown passes over. They are told, each once, and looked for among those that
-were found before; a profile has at most 8,192 names. What pages of many rows take is tried by `tools/test report`.
+of a kind may take 2.5 times the instructions of the other at most: so none grows with the square of its size. What
+pages of many rows take is tried by `tools/test report`.
 
 It takes valgrind, whose cachegrind counts; where it isn't there nothing is tried, and a line says so. --table prints
 what each kind takes. The last line is `N passed, M failed`; the status is 1 where M isn't 0.
@@ -26,8 +25,6 @@ from building.kit import ROOT
 BUILT = os.path.join(ROOT, "crates/seccomp_audit/out/seccomp_audit")
 COUNTER = ["valgrind", "--tool=cachegrind", "--cache-sim=no", "--cachegrind-out-file=/dev/null"]
 MOST_TIMES = 2.5
-# The same of names that are passed over.
-PASSED_OVER, MOST_TIMES_OF_PASSED_OVER = " that are unknown", 6
 X86_64 = 0xC000003E
 FILTER = os.path.join(ROOT, "examples/p1.bpf")
 
@@ -133,8 +130,7 @@ def main():
         counted = Counted(os.path.abspath(given.program), folder)
         for kind, found in zip(KINDS, pool.map(counted.counts, KINDS)):
             (first, one), (second, two) = found
-            most = MOST_TIMES_OF_PASSED_OVER if kind.name.endswith(PASSED_OVER) else MOST_TIMES
-            well = first == second == kind.status and 0 < two <= most * one
+            well = first == second == kind.status and 0 < two <= MOST_TIMES * one
             failed += not well
             if given.table or not well:
                 millions = f"{one / 1e6:.1f} and {two / 1e6:.1f} million instructions, {two / max(one, 1):.2f} times"

@@ -14,7 +14,8 @@ use crate::known::{is_nowhere, is_unknown};
 use crate::plan::{response_at, sets_of};
 use crate::rules::{CallSet, Response};
 use crate::settings::Settings;
-use crate::tree::{at, is_among, items_at, text_of};
+use crate::tree::{at, items_at, text_of};
+use indexmap::IndexSet;
 use serde_json::Value;
 use std::alloc::{AllocError, Global};
 
@@ -58,22 +59,19 @@ fn set_name_in_notes(set: CallSet) -> &'static str
 }
 
 /// Adds a name, if it isn't there yet. An error where an allocation is refused.
-fn push_name<'a>(names: &mut Vec<&'a str>, name: &'a str) -> Result<(), AllocError>
-    ensures { OnOk result (map (λ n. n.now) names.new.items
-        ≡ with_name (map (λ n. n.now) names.old.items) name.now) }
+fn push_name<'a>(names: &mut IndexSet<&'a str>, name: &'a str) -> Result<(), AllocError>
+    ensures { OnOk result (map (λ n. n.now) names.new.keys
+        ≡ with_name (map (λ n. n.now) names.old.keys) name.now) }
 {
-    if is_among(name, names) {
-        return Ok(());
-    }
-    names.push(name)?;
+    names.insert(name)?;
     Ok(())
 }
 
 /// Adds those of the names that aren't there yet, each once. A value that is no text counts as the empty name. An error
 /// where an allocation is refused; some of the names may have been added then.
-fn push_names<'a>(names: &mut Vec<&'a str>, items: &'a [Value]) -> Result<(), AllocError>
-    ensures { OnOk result (map (λ n. n.now) names.new.items
-        ≡ fold with_name (map (λ n. n.now) names.old.items) (map text_in (map view items.now))) }
+fn push_names<'a>(names: &mut IndexSet<&'a str>, items: &'a [Value]) -> Result<(), AllocError>
+    ensures { OnOk result (map (λ n. n.now) names.new.keys
+        ≡ fold with_name (map (λ n. n.now) names.old.keys) (map text_in (map view items.now))) }
 {
     for value in items {
         push_name(names, text_of(value))?;
@@ -83,9 +81,9 @@ fn push_names<'a>(names: &mut Vec<&'a str>, items: &'a [Value]) -> Result<(), Al
 
 /// Adds the one name of the rule `value`, at its key `name`, if it isn't there yet; nothing where the key is absent. A
 /// value that is no text counts as the empty name. An error where an allocation is refused.
-fn push_one_name<'a>(names: &mut Vec<&'a str>, value: &'a Value) -> Result<(), AllocError>
-    ensures { OnOk result (map (λ n. n.now) names.new.items
-        ≡ fold with_name (map (λ n. n.now) names.old.items)
+fn push_one_name<'a>(names: &mut IndexSet<&'a str>, value: &'a Value) -> Result<(), AllocError>
+    ensures { OnOk result (map (λ n. n.now) names.new.keys
+        ≡ fold with_name (map (λ n. n.now) names.old.keys)
         (one_name (at (codes "name") (view value.now)))) }
 {
     match at(value, "name") {
@@ -97,9 +95,9 @@ fn push_one_name<'a>(names: &mut Vec<&'a str>, value: &'a Value) -> Result<(), A
 /// Adds the names of the rule `value` that aren't there yet, each once: first those at `names`, then the one at `name`.
 /// An error where an allocation is refused; some of the names may have been added then.
 #[tactic(auto, using(crate::proofs::PlanLemmas::fold_both))]
-fn push_names_of<'a>(names: &mut Vec<&'a str>, value: &'a Value) -> Result<(), AllocError>
-    ensures { OnOk result (map (λ n. n.now) names.new.items
-        ≡ fold with_name (map (λ n. n.now) names.old.items) (rule_names (view value.now))) }
+fn push_names_of<'a>(names: &mut IndexSet<&'a str>, value: &'a Value) -> Result<(), AllocError>
+    ensures { OnOk result (map (λ n. n.now) names.new.keys
+        ≡ fold with_name (map (λ n. n.now) names.old.keys) (rule_names (view value.now))) }
 {
     push_names(names, items_at(value, "names"))?;
     push_one_name(names, value)
@@ -108,12 +106,12 @@ fn push_names_of<'a>(names: &mut Vec<&'a str>, value: &'a Value) -> Result<(), A
 /// Adds the names of the rule `value` that aren't there yet, each once, if the rule applies; else nothing. An error
 /// where an allocation is refused; some of the names may have been added then.
 fn push_names_where<'a>(
-    names: &mut Vec<&'a str>,
+    names: &mut IndexSet<&'a str>,
     settings: &Settings,
     value: &'a Value,
 ) -> Result<(), AllocError>
-    ensures { OnOk result (map (λ n. n.now) names.new.items
-        ≡ fold with_name (map (λ n. n.now) names.old.items)
+    ensures { OnOk result (map (λ n. n.now) names.new.keys
+        ≡ fold with_name (map (λ n. n.now) names.old.keys)
         (names_where settings.now (view value.now))) }
 {
     if applies(settings, value) {
@@ -122,10 +120,27 @@ fn push_names_where<'a>(
     Ok(())
 }
 
-/// The names of those rules of the profile `value` that apply, each once, in the order of first mention. An error where
+/// The set of the names of those rules of the profile `value` that apply, in the order of first mention. An error where
 /// an allocation is refused.
 #[tactic(auto, using(crate::proofs::PlanLemmas::fold_both))]
-pub(crate) fn applied_names<'a>(
+fn applied_set<'a>(
+    alloc: Global,
+    settings: &Settings,
+    value: &'a Value,
+) -> Result<IndexSet<&'a str>, AllocError>
+    ensures { IfOk result (λ s. map (λ n. n.now) s.keys
+        ≡ applied_names settings.now (view value.now)) }
+{
+    let mut names = IndexSet::new(alloc);
+    for rule in items_at(value, "syscalls") {
+        push_names_where(&mut names, settings, rule)?;
+    }
+    Ok(names)
+}
+
+/// The names of those rules of the profile `value` that apply, each once, in the order of first mention. An error where
+/// an allocation is refused.
+fn applied_names<'a>(
     alloc: Global,
     settings: &Settings,
     value: &'a Value,
@@ -133,11 +148,8 @@ pub(crate) fn applied_names<'a>(
     ensures { IfOk result (λ v. map (λ n. n.now) v.items
         ≡ applied_names settings.now (view value.now)) }
 {
-    let mut names = Vec::new(alloc);
-    for rule in items_at(value, "syscalls") {
-        push_names_where(&mut names, settings, rule)?;
-    }
-    Ok(names)
+    let names = applied_set(alloc, settings, value)?;
+    Vec::from_slice(alloc, names.as_slice())
 }
 
 /// Those of the names that are unknown, as `is_unknown` says, in their order. An error where an allocation is refused.
