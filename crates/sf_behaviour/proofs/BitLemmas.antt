@@ -1,14 +1,11 @@
 -- Places of words, and diagrams that are 0 or 1 on each input.
-use Rattle.std.proofs.Common.{◌≡◌, ℕ, zero, suc, ◌+◌, ◌*◌, ◌<◌, ◌==◌, List, [], ◌∷◌, length, true, refl, sym, ap, subst, ◌∙◌, arith}
-use Rattle.std.specs.Prelude.{bit_and, bit_or, bit_xor, slice_index, if◌then◌else◌}
+use Rattle.std.proofs.Common.{◌≡◌, ℕ, ◌<◌, ◌==◌, List, [], ◌∷◌, true, refl, sym, ap, subst, arith}
+use Rattle.std.specs.Prelude.{slice_index}
 use Rattle.std.proofs.lemmas.Bool.{agree_below_at, eqb-true}
 use Rattle.sf_diagram.specs.Trees.{Tree, Bits, value}
 use Rattle.sf_diagram.specs.Stores.{tree_at, KeepsTrees}
-use Rattle.sf_diagram.specs.Choices.{chosen_of, IsChosen}
-use Rattle.sf_diagram.specs.Merges.{IsMerged}
-use Rattle.sf_diagram.specs.declared.operation.Operation.TheVariants.{Different}
 use Rattle.sf_behaviour.specs.InputBits.{words_in_order}
-use Rattle.sf_behaviour.specs.Words.{IsTruth, IsTruthOf}
+use Rattle.sf_behaviour.specs.Words.{IsTruth}
 
 -- ---- places of words
 

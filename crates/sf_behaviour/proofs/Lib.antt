@@ -3,3 +3,4 @@ pub mod WordLemmas
 pub mod StepLemmas
 pub mod LoopLemmas
 pub mod ShiftLemmas
+pub mod ProductLemmas

@@ -12,37 +12,36 @@ use Rattle.sf_diagram.specs.Trees.{Tree, Leaf, Fork, Bits, value}
 use Rattle.sf_diagram.specs.Stores.{tree_at, KeepsTrees}
 use Rattle.sf_behaviour.specs.InputBits.{words_in_order, input_bits}
 use Rattle.sf_behaviour.specs.Words.{word_value, IsTruth, IsTruthOf, IsWord, IsWordOf}
-use Rattle.sf_behaviour.specs.Combining.{combined, tested_bits}
-use Rattle.sf_behaviour.specs.declared.combining.Bitwise.{Bitwise}
+use Rattle.sf_behaviour.specs.Combining.{tested_bits}
 use Rattle.sf_behaviour.proofs.BitLemmas.{value-kept}
 use Rattle.sf_behaviour.proofs.WordLemmas.{IsBegun, begun-word, word_value-more, word_value-set, word_value-small, all-bits, word-made, word-small, number-kept}
-use Rattle.sf_behaviour.proofs.StepLemmas.{combined-more, less-more, less-all, sum-of, low-more, bit-if, truth_of, test-more}
+use Rattle.sf_behaviour.proofs.StepLemmas.{IsBitwise, less-more, less-all, sum-of, low-more, bit-if, truth_of, test-more}
 
 -- the value of a bit, and the number below it, of a word that was there at first
 bit_now : (n : ℕ) (ts us : List Tree) (a : List ℕ) (bits : Bits) → KeepsTrees ts us → IsWord ts a → n < 32
     → value (tree_at us (slice_index a n)) bits ≡ value (tree_at ts (slice_index a n)) bits
 bit_now n ts us a bits k w l = value-kept ts us (slice_index a n) bits k (w.each n l)
 
-pub combined-step : (o : Bitwise) (n : ℕ) (ts us vs : List Tree) (a b ids : List ℕ) (id : ℕ) (bits : Bits)
-    → KeepsTrees ts us → KeepsTrees us vs → IsWord ts a → IsWord ts b → n < 32 → IsBegun n us ids
-    → IsTruthOf vs id (λ bits. combined o (value (tree_at us (slice_index a n)) bits)
-    (value (tree_at us (slice_index b n)) bits))
-    → word_value us (take n ids) bits ≡ combined o (word_value ts (take n a) bits) (word_value ts (take n b) bits)
+pub bitwise-step : (f : ℕ → ℕ → ℕ) (n : ℕ) (ts us vs : List Tree) (a b ids : List ℕ) (id : ℕ) (bits : Bits)
+    → IsBitwise f → KeepsTrees ts us → KeepsTrees us vs → IsWord ts a → IsWord ts b → n < 32 → IsBegun n us ids
+    → value (tree_at vs id) bits
+    ≡ f (value (tree_at us (slice_index a n)) bits) (value (tree_at us (slice_index b n)) bits)
+    → word_value us (take n ids) bits ≡ f (word_value ts (take n a) bits) (word_value ts (take n b) bits)
     → word_value vs (take (n + 1) (slice_set ids n id)) bits
-    ≡ combined o (word_value ts (take (n + 1) a) bits) (word_value ts (take (n + 1) b) bits)
-combined-step o n ts us vs a b ids id bits k1 k2 wa wb l begun t so_far =
+    ≡ f (word_value ts (take (n + 1) a) bits) (word_value ts (take (n + 1) b) bits)
+bitwise-step f n ts us vs a b ids id bits more k1 k2 wa wb l begun one so_far =
     let p : ℕ = 2 ^ n in
     let x : ℕ = value (tree_at ts (slice_index a n)) bits in
     let y : ℕ = value (tree_at ts (slice_index b n)) bits in
     let low_a : ℕ = word_value ts (take n a) bits in
     let low_b : ℕ = word_value ts (take n b) bits in
-    let here : value (tree_at vs id) bits ≡ combined o x y
-    = t.values bits ∙ ap₂ (combined o) (bit_now n ts us a bits k1 wa l) (bit_now n ts us b bits k1 wb l) in
+    let here : value (tree_at vs id) bits ≡ f x y
+    = one ∙ ap₂ f (bit_now n ts us a bits k1 wa l) (bit_now n ts us b bits k1 wb l) in
     let small_a : low_a < 2 ^ n = word_value-small n ts a bits (begun-word n ts a wa (omega arith)) (omega arith) in
     let small_b : low_b < 2 ^ n = word_value-small n ts b bits (begun-word n ts b wb (omega arith)) (omega arith) in
     word_value-set n us vs ids id bits k2 begun l ∙ ap₂ (λ (v w : ℕ). v * p + w) here so_far
-    ∙ sym (combined-more o n low_a low_b x y small_a small_b)
-    ∙ sym (ap₂ (combined o) (word_value-more n ts a bits wa.count l) (word_value-more n ts b bits wb.count l))
+    ∙ sym (more n low_a low_b x y small_a small_b)
+    ∙ sym (ap₂ f (word_value-more n ts a bits wa.count l) (word_value-more n ts b bits wb.count l))
 
 pub less-step : (n : ℕ) (ts us vs : List Tree) (a b ids : List ℕ) (c id e : ℕ) (bits : Bits)
     → KeepsTrees ts us → KeepsTrees us vs → IsWord ts a → IsWord ts b → n < 32 → IsBegun n us ids

@@ -1,18 +1,20 @@
 -- Words whose bits are moved.
-use Rattle.std.proofs.Common.{◌≡◌, ℕ, zero, suc, ◌+◌, ◌-◌, ◌*◌, ◌/◌, ◌%◌, ◌<◌, ◌≤◌, ◌^◌, List, length, take, drop, replicate, sym, ap, ap₂, subst, ◌∙◌, inl, inr, arith}
+use Rattle.std.proofs.Common.{◌≡◌, ℕ, zero, suc, ◌+◌, ◌-◌, ◌*◌, ◌/◌, ◌%◌, ◌<◌, ◌≤◌, ◌^◌, List, length, take, drop, replicate, refl, sym, ap, ap₂, subst, ◌∙◌, inl, inr, arith}
 use Rattle.std.specs.Prelude.{slice_index}
-use Rattle.std.proofs.Math.Nat.{mul-le-mul_left}
+use Rattle.std.proofs.Math.Nat.{mul-le-mul_left, pow-le-pow_right, pow-suc}
 use Rattle.std.proofs.lemmas.Bool.{cases_lt}
-use Rattle.std.proofs.lemmas.Nat.{pow_pos, pow-add, mod-mul-add, div-mul-add}
+use Rattle.std.proofs.lemmas.Nat.{pow_pos, pow-add, mod-mul-add, div-mul-add, mul-mod_first, shr-shr}
 use Rattle.std.proofs.lemmas.List.{length-append, length-take-le, length-drop, length-replicate, take_all, get_or-replicate, get_or_append_left, get_or-append_right, get_or-take, get_or-drop}
 use Rattle.sf_insn.specs.Words.{apply}
 use Rattle.sf_diagram.specs.Trees.{Tree, Leaf, Bits, value}
 use Rattle.sf_diagram.specs.Stores.{tree_at, KeepsTrees}
+use Rattle.sf_diagram.specs.Choices.{chosen_of}
 use Rattle.sf_behaviour.specs.Words.{word_value, IsTruth, IsWord, IsWordOf}
 use Rattle.sf_behaviour.specs.Shifting.{moved, shift_of}
 use Rattle.sf_behaviour.specs.declared.shifting.Direction.{Direction}
 use Rattle.sf_behaviour.specs.declared.shifting.Direction.TheVariants.{Left, Right}
-use Rattle.sf_behaviour.proofs.WordLemmas.{begun-word, word-kept, number-kept, word_value-append, word_value-small, word_value-parts}
+use Rattle.sf_behaviour.proofs.BitLemmas.{value-kept}
+use Rattle.sf_behaviour.proofs.WordLemmas.{word_value-more, word-small, begun-word, number-kept, word_value-append, word_value-small, word_value-parts}
 
 -- ---- the moved bits
 
@@ -129,21 +131,103 @@ zero-truth ts z l e = record {
   small = λ bits. subst (λ (t : Tree). value t bits < 2) (sym e) (omega arith);
 }
 
-moved-value : (d : Direction) (ts us : List Tree) (ids : List ℕ) (by n z : ℕ) (bits : Bits) → KeepsTrees ts us
-    → IsWord ts ids → tree_at us z ≡ Leaf 0 → by ≡ n % 32
-    → word_value us (moved d ids by z) bits ≡ apply (shift_of d) (word_value ts ids bits) n
-moved-value Left ts us ids by n z bits k w e same =
-    moved-left us ids by z bits (word-kept ts us ids k w) (omega arith) (ap (λ (t : Tree). value t bits) e)
-    ∙ ap₂ (λ (m j : ℕ). (m * 2 ^ j) % 2 ^ 32) (number-kept ts us ids bits k w) same
-moved-value Right ts us ids by n z bits k w e same =
-    moved-right us ids by z bits (word-kept ts us ids k w) (omega arith) (ap (λ (t : Tree). value t bits) e)
-    ∙ ap₂ (λ (m j : ℕ). m / 2 ^ j) (number-kept ts us ids bits k w) same
+-- ---- shifts by words
 
--- a shift by a number
-pub shifted : (d : Direction) (ts us : List Tree) (ids : List ℕ) (by n z : ℕ) → KeepsTrees ts us → IsWord ts ids
-    → z < length us → tree_at us z ≡ Leaf 0 → by ≡ n % 32
-    → IsWordOf us (moved d ids by z) (λ bits. apply (shift_of d) (word_value ts ids bits) n)
-shifted d ts us ids by n z k w l same_zero same = record {
-  word = moved-word d us ids by z (word-kept ts us ids k w) (zero-truth us z l same_zero) (omega arith);
-  values = λ bits. moved-value d ts us ids by n z bits k w same_zero same;
+-- a number, shifted by another
+abbrev pub shifted_by : Direction → ℕ → ℕ → ℕ
+shifted_by Left a k = (a * 2 ^ k) % 2 ^ 32
+shifted_by Right a k = a / 2 ^ k
+
+shift-twice : (d : Direction) (a m k : ℕ) → shifted_by d (shifted_by d a m) k ≡ shifted_by d a (k + m)
+shift-twice Left a m k =
+    let both : a * 2 ^ m * 2 ^ k ≡ a * (2 ^ k * 2 ^ m) = omega arith in
+    let sum : 2 ^ (k + m) ≡ 2 ^ k * 2 ^ m = pow-add 2 k m in
+    mul-mod_first (a * 2 ^ m) (2 ^ k) (2 ^ 32) ∙ ap (λ (n : ℕ). n % 2 ^ 32) (both ∙ ap (λ (n : ℕ). a * n) (sym sum))
+shift-twice Right a m k =
+    let sum : m + k ≡ k + m = omega arith in
+    shr-shr a m k ∙ ap (λ (n : ℕ). a / 2 ^ n) sum
+
+-- one more bit of the number of places
+shift-more : (d : Direction) (a m b p : ℕ) → b < 2
+    → chosen_of b (shifted_by d (shifted_by d a m) p) (shifted_by d a m) ≡ shifted_by d a (b * p + m)
+shift-more d a m zero p l =
+    let same : m ≡ 0 * p + m = omega arith in
+    ap (shifted_by d a) same
+shift-more d a m (suc zero) p l =
+    let same : p + m ≡ 1 * p + m = omega arith in
+    shift-twice d a m p ∙ ap (shifted_by d a) same
+shift-more d a m (suc (suc b)) p l = absurd (omega arith)
+
+pub moved-value : (d : Direction) (ts : List Tree) (ids : List ℕ) (by z : ℕ) (bits : Bits) → IsWord ts ids → by ≤ 32
+    → tree_at ts z ≡ Leaf 0 → word_value ts (moved d ids by z) bits ≡ shifted_by d (word_value ts ids bits) by
+moved-value Left ts ids by z bits w l e = moved-left ts ids by z bits w l (ap (λ (t : Tree). value t bits) e)
+moved-value Right ts ids by z bits w l e = moved-right ts ids by z bits w l (ap (λ (t : Tree). value t bits) e)
+
+pub moved-zero-word : (d : Direction) (ts : List Tree) (ids : List ℕ) (by z : ℕ) → IsWord ts ids → z < length ts
+    → tree_at ts z ≡ Leaf 0 → by ≤ 32 → IsWord ts (moved d ids by z)
+moved-zero-word d ts ids by z w l e small = moved-word d ts ids by z w (zero-truth ts z l e) small
+
+pub few-places : (i p : ℕ) → i < 5 → p ≡ 2 ^ i → p ≤ 32
+few-places i p l e =
+    let two : 0 < 2 = omega arith in
+    let most : i ≤ 5 = omega arith in
+    let bound : 2 ^ i ≤ 2 ^ 5 = pow-le-pow_right {n = 2} two {i = i} {j = 5} most in
+    omega (arith, e, bound)
+
+pub more-places : (i p : ℕ) → p ≡ 2 ^ i → 2 * p ≡ 2 ^ (i + 1)
+more-places i p e =
+    let next : i + 1 ≡ suc i = omega arith in
+    let double : 2 ^ (i + 1) ≡ 2 ^ i * 2 = ap (λ (n : ℕ). 2 ^ n) next ∙ pow-suc 2 i in
+    omega (arith, e, double)
+
+-- what the loop over the bits of the number of places keeps
+pub shift-step : (d : Direction) (n : ℕ) (ts us vs : List Tree) (a b ids new : List ℕ) (p z : ℕ) (bits : Bits)
+    → KeepsTrees ts us → IsWord ts b → IsWord us ids → n < 5 → p ≡ 2 ^ n → tree_at us z ≡ Leaf 0
+    → word_value vs new bits ≡ chosen_of (value (tree_at us (slice_index b n)) bits)
+    (word_value us (moved d ids p z) bits) (word_value us ids bits)
+    → word_value us ids bits ≡ shifted_by d (word_value ts a bits) (word_value ts (take n b) bits)
+    → word_value vs new bits ≡ shifted_by d (word_value ts a bits) (word_value ts (take (n + 1) b) bits)
+shift-step d n ts us vs a b ids new p z bits k wb w l e zero_is one so_far =
+    let number : ℕ = word_value ts a bits in
+    let low : ℕ = word_value ts (take n b) bits in
+    let bit : ℕ = value (tree_at ts (slice_index b n)) bits in
+    let is_bit = wb.each n (omega arith) in
+    one
+    ∙ ap (λ (t : ℕ). chosen_of t (word_value us (moved d ids p z) bits) (word_value us ids bits))
+    (value-kept ts us (slice_index b n) bits k is_bit)
+    ∙ ap (λ (m : ℕ). chosen_of bit m (word_value us ids bits))
+    (moved-value d us ids p z bits w (few-places n p l e) zero_is)
+    ∙ ap₂ (λ (m q : ℕ). chosen_of bit (shifted_by d m q) m) so_far e
+    ∙ shift-more d number low bit (2 ^ n) (is_bit.small bits)
+    ∙ ap (shifted_by d number) (sym (word_value-more n ts b bits wb.count (omega arith)))
+
+-- the low five bits are the number modulo 32
+shift-whole : (d : Direction) (a b : ℕ) → shifted_by d a (b % 32) ≡ apply (shift_of d) a b
+shift-whole Left a b = refl
+shift-whole Right a b = refl
+
+shift-none : (d : Direction) (a : ℕ) → a < 2 ^ 32 → a ≡ shifted_by d a 0
+shift-none Left a l = omega arith
+shift-none Right a l = omega arith
+
+pub shift-made : (d : Direction) (n : ℕ) (ts us : List Tree) (a b new : List ℕ) → n ≡ 5 → IsWord ts b → IsWord us new
+    → ((bits : Bits) → word_value us new bits ≡ shifted_by d (word_value ts a bits) (word_value ts (take n b) bits))
+    → IsWordOf us new (λ bits. apply (shift_of d) (word_value ts a bits) (word_value ts b bits))
+shift-made d n ts us a b new e wb w so_far = record {
+  word = w;
+  values = λ bits.
+      let low : ℕ = word_value ts (take 5 b) bits in
+      let small : low < 32 = word_value-small 5 ts b bits (begun-word 5 ts b wb (omega arith)) (omega arith) in
+      let five : word_value ts (take n b) bits ≡ low = ap (λ (m : ℕ). word_value ts (take m b) bits) e in
+      let whole : low ≡ word_value ts b bits % 32
+      = sym (mod-mul-add (word_value ts (drop 5 b) bits) 32 low small)
+      ∙ ap (λ (m : ℕ). m % 32) (sym (word_value-parts 5 ts b bits (omega (arith, wb.count)))) in
+      so_far bits ∙ ap (shifted_by d (word_value ts a bits)) (five ∙ whole)
+      ∙ shift-whole d (word_value ts a bits) (word_value ts b bits);
 }
+
+-- before the loop: shifted by no bits
+pub shift-begun : (d : Direction) (ts us : List Tree) (a b : List ℕ) (bits : Bits) → KeepsTrees ts us → IsWord ts a
+    → word_value us a bits ≡ shifted_by d (word_value ts a bits) (word_value ts (take 0 b) bits)
+shift-begun d ts us a b bits k w =
+    number-kept ts us a bits k w ∙ shift-none d (word_value ts a bits) (word-small ts a bits w)

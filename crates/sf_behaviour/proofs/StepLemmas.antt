@@ -10,15 +10,23 @@ use Rattle.std.proofs.lemmas.Nat.{pow_pos, and_le_l, mod-pow-add}
 use Rattle.sf_insn.specs.Words.{passes}
 use Rattle.sf_insn.specs.declared.ops.Test.{Test}
 use Rattle.sf_insn.specs.declared.ops.Test.TheVariants.{Equal, Greater, GreaterOrEqual, AnyBit}
+use Rattle.sf_diagram.specs.Choices.{chosen_of}
 use Rattle.sf_behaviour.specs.Combining.{combined, tested_bits}
 use Rattle.sf_behaviour.specs.declared.combining.Bitwise.{Bitwise}
 use Rattle.sf_behaviour.specs.declared.combining.Bitwise.TheVariants.{And, Or, Xor}
 
-pub combined-more : (o : Bitwise) (n a b x y : ℕ) → a < 2 ^ n → b < 2 ^ n
-    → combined o (x * 2 ^ n + a) (y * 2 ^ n + b) ≡ combined o x y * 2 ^ n + combined o a b
+-- an operation that treats each bit by itself
+abbrev pub IsBitwise : (ℕ → ℕ → ℕ) → Type 0
+IsBitwise f = (n a b x y : ℕ) → a < 2 ^ n → b < 2 ^ n → f (x * 2 ^ n + a) (y * 2 ^ n + b) ≡ f x y * 2 ^ n + f a b
+
+pub combined-more : (o : Bitwise) → IsBitwise (combined o)
 combined-more And n a b x y la lb = and_block n x y a b la lb
 combined-more Or n a b x y la lb = or_block n x y a b la lb
 combined-more Xor n a b x y la lb = xor_block n x y a b la lb
+
+pub chosen-more : (t : ℕ) → IsBitwise (chosen_of t)
+chosen-more zero n a b x y la lb = refl
+chosen-more (suc t) n a b x y la lb = refl
 
 -- a difference of n bits, with one more bit
 pub less-more : (n a b c d x y z e : ℕ) → d + b ≡ a + c * 2 ^ n → z + y + c ≡ x + 2 * e

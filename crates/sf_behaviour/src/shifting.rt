@@ -1,4 +1,4 @@
-//! Shifts of words by numbers.
+//! Shifts of words.
 
 ghost use Rattle.std.specs.Prelude.{◌≡◌, ◌<◌, ◌≤◌, slice_index, IfOk, IfErr};
 ghost use Rattle.sf_insn.specs.Words.{apply};
@@ -6,6 +6,7 @@ ghost use Rattle.sf_diagram.specs.Stores.{KeepsStore, IsFull};
 ghost use Rattle.sf_behaviour.specs.Words.{word_value, IsWord, IsWordOf};
 ghost use Rattle.sf_behaviour.specs.Shifting.{moved, shift_of};
 
+use crate::choosing::choose_word;
 use crate::words::Word;
 use sf_diagram::{Fault, Id, Store};
 
@@ -39,7 +40,7 @@ fn moved_bit(direction: Direction, word: &Word, by: usize, zero: Id, bit: usize)
 
 /// The word with its bits moved, and `zero` where no bit is moved to. The caller's condition: it is moved by no more
 /// bits than it has.
-fn move_bits(direction: Direction, word: &Word, by: usize, zero: Id) -> Word
+pub(crate) fn move_bits(direction: Direction, word: &Word, by: usize, zero: Id) -> Word
     requires { by ≤ 32 }
     ensures { result.bits ≡ moved direction word.now.bits by zero }
 {
@@ -50,20 +51,24 @@ fn move_bits(direction: Direction, word: &Word, by: usize, zero: Id) -> Word
     Word { bits }
 }
 
-/// A word, shifted by a number modulo 32. The caller's condition: it is a word of the store. `Spent` and `Memory` as
-/// the store has them; nothing changes then.
-pub fn shift(
-    store: &mut Store,
-    direction: Direction,
-    word: &Word,
-    number: u32,
-) -> Result<Word, Fault>
-    requires { IsWord store.old.trees word.now.bits }
+/// The first word, shifted by the second modulo 32. The caller's condition: they are words of the store. `Spent` and
+/// `Memory` as the store has them; nodes may have been added then.
+pub fn shift(store: &mut Store, direction: Direction, word: &Word, by: &Word) -> Result<Word, Fault>
+    requires word { IsWord store.old.trees word.now.bits }
+    requires by { IsWord store.old.trees by.now.bits }
     ensures word { IfOk result (λ w. IsWordOf store.new.trees w.bits (λ bits.
-        apply (shift_of direction) (word_value store.old.trees word.now.bits bits) number)) }
+        apply (shift_of direction) (word_value store.old.trees word.now.bits bits)
+        (word_value store.old.trees by.now.bits bits))) }
     ensures keeps { KeepsStore store.old store.new }
     ensures spent { IfErr result (λ e. e ≡ Fault.Spent → IsFull store.new) }
 {
     let zero = store.leaf(0)?;
-    Ok(move_bits(direction, word, (number % 32) as usize, zero))
+    let mut shifted = *word;
+    let mut places = 1;
+    for i in 0..5 {
+        let moved = move_bits(direction, &shifted, places, zero);
+        shifted = choose_word(store, by.bits[i], &moved, &shifted)?;
+        places = 2 * places;
+    }
+    Ok(shifted)
 }
