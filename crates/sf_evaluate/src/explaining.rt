@@ -69,8 +69,7 @@ pub struct Notes {
     /// Whether the files of names have a set with the name behind `eval --arch`. It is true until that is looked up.
     /// Where the number of an architecture stands there, it means nothing.
     pub(crate) is_set_known: bool,
-    /// The place, from 0, of the first call behind `--calls` that no file of names has. It is 0 until the calls are
-    /// looked up, and stays 0 where each is known.
+    /// The place, from 0, of the first call behind `--calls` that no file of names has; 0 where there is none.
     pub(crate) unknown_call: usize,
 }
 
@@ -120,9 +119,8 @@ impl Notes {
         }
     }
 
-    /// The place of the file of names that has the set at `place` first, and how many sets that file has; `None` where
-    /// the file isn't known, since the files whose numbers of sets were kept have no more than `place` sets. Both
-    /// places count from 0: that of the set among all sets, that of the file among the files of names.
+    /// The file of names that has the set at `place` first, and how many sets that file has; `None` where no file whose
+    /// sets were counted has it. Both places count from 0, among all sets and among the files of names.
     pub(crate) fn file_of_set(&self, place: usize) -> Option<(usize, usize)> {
         for (file, (count, all)) in self.sets.iter().enumerate() {
             if place < *all {
