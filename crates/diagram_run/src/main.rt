@@ -48,12 +48,13 @@ fn main(rt: HostRuntime) -> Result<(), anyhow::Error> {
     println!(rt; "{one} {two} {least:?}")?;
     let (none, zero, only_one) = answers(rt.alloc())?;
     println!(rt; "{none:#x} {zero:#x} {only_one:#x}")?;
-    let allowed = Operation::Fold.apply(0x7fff0007, 0x7fff0009);
+    let allowed = Operation::Fold.apply(0x7fff0000, 0x7fff0009);
     let looser = Operation::Looser.apply(0x00050001, 0x7ffc0000);
     let tighter = Operation::Tighter.apply(0x00050001, 0x7ffc0000);
     let different = Operation::Different.apply(3, 4);
     let pair = Operation::Pair.apply(2, 3);
-    println!(rt; "{allowed:#x} {looser} {tighter} {different} {pair}")?;
+    let next = Operation::NextBit.apply(0x80000005, 1);
+    println!(rt; "{allowed:#x} {looser} {tighter} {different} {pair} {next}")?;
     let (refused, again) = small(rt.alloc())?;
     println!(rt; "{refused:?} {again}")?;
     Ok(())

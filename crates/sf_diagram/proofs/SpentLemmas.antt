@@ -6,6 +6,7 @@ use Rattle.sf_diagram.specs.Trees.{Tree, Leaf, Fork, Bits, value, IsOrderedFrom,
 use Rattle.sf_diagram.specs.Stores.{StoreData, tree_at, IsLawfulStore, HasNoRoom, IsSpentFor, Stands}
 use Rattle.sf_diagram.specs.Parts.{IsParted}
 use Rattle.sf_diagram.specs.Choices.{chosen_value, IsChosen}
+use Rattle.sf_diagram.specs.Operations.{merged_of}
 use Rattle.sf_diagram.specs.Merges.{merged_value, IsMerged}
 use Rattle.sf_diagram.specs.declared.operation.Operation.{Operation}
 use Rattle.sf_diagram.proofs.ChoiceLemmas.{AreChosenSides, chosen-made}
@@ -87,6 +88,17 @@ spent-leaf s c lawful room = record {
   absent = λ id lt same. room.absent id lt (one-tree (tree_at s.trees id) (Leaf c) (lawful.canonical.ordered id lt)
       (lawful.canonical.reduced id lt) tt tt same);
 }
+
+-- where there is no room for the leaf 0, there is none for a tree merged with itself by an operation that makes 0 of
+-- equal numbers
+pub spent-nothing : (o : Operation) (s : StoreData) (t : Tree) → ((n : ℕ) → merged_of o n n ≡ 0) → IsLawfulStore s
+    → HasNoRoom s (Leaf 0) → IsSpentFor s (merged_value o t t)
+spent-nothing o s t h lawful room =
+    let spent : IsSpentFor s (λ bits. 0) = spent-leaf s 0 lawful room in
+    record {
+      full = spent.full;
+      absent = λ id l same. spent.absent id l (λ bits. same bits ∙ h (value t bits));
+    }
 
 -- what no variable below v changes in three trees, none changes in what is chosen of them
 chosen-from : (v : ℕ) (test taken other : Tree) → IsOrderedFrom v test → IsOrderedFrom v taken

@@ -1,7 +1,7 @@
 -- What operations make of two numbers. Three of them take return values of filters, by seccomp(2).
 use Rattle.std.specs.Prelude.{ℕ, ◌+◌, ◌*◌, ◌%◌, ◌^◌, ◌==◌, ◌||◌, nat_lt, bit_and, if◌then◌else◌}
 use Rattle.sf_diagram.specs.declared.operation.Operation.{Operation}
-use Rattle.sf_diagram.specs.declared.operation.Operation.TheVariants.{Fold, Looser, Tighter, Different, Pair}
+use Rattle.sf_diagram.specs.declared.operation.Operation.TheVariants.{Fold, Looser, Tighter, Different, Pair, NextBit}
 
 -- the action of a return value: SECCOMP_RET_ACTION_FULL
 abbrev pub action_bits : ℕ → ℕ
@@ -11,15 +11,9 @@ action_bits value = bit_and value 0xffff0000
 abbrev pub rank : ℕ → ℕ
 rank n = (n + 2 ^ 31) % 2 ^ 32
 
--- a return value as an answer: SECCOMP_RET_ALLOW has no data, and any other action keeps its own
-abbrev pub without_allowed_data : ℕ → ℕ
-without_allowed_data value = if action_bits value == 0x7fff0000 then 0x7fff0000 else value
-
--- of two return values the one that counts, as an answer: the older one where its action has the lower rank, else the
--- newer one
+-- of two return values the one that counts: the older one where its action has the lower rank, else the newer one
 abbrev pub folded_of : ℕ → ℕ → ℕ
-folded_of newer older =
-    without_allowed_data (if nat_lt (rank (action_bits older)) (rank (action_bits newer)) then older else newer)
+folded_of newer older = if nat_lt (rank (action_bits older)) (rank (action_bits newer)) then older else newer
 
 -- How far an action lets a call get. 2: it is carried out (SECCOMP_RET_ALLOW, SECCOMP_RET_LOG); 1: another process
 -- decides (SECCOMP_RET_TRACE, SECCOMP_RET_USER_NOTIF); 0: it is refused.
@@ -44,3 +38,4 @@ merged_of Looser before after = looser_of before after
 merged_of Tighter before after = looser_of after before
 merged_of Different first second = if first == second then 0 else 1
 merged_of Pair first second = pair_of first second
+merged_of NextBit first second = (2 * first + second) % 2 ^ 32

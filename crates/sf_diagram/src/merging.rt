@@ -32,6 +32,13 @@ pub fn merge(store: &mut Store, operation: Operation, first: Id, second: Id) -> 
         }
         Tops::Variable(variable) => variable,
     };
+    if first == second && operation.keeps_equals() {
+        return Ok(first);
+    }
+    if first == second && operation.cancels_equals() {
+        let zero = store.leaf(0)?;
+        return Ok(zero);
+    }
     if let Some(known) = store.recall_merged(operation, first, second) {
         return Ok(known);
     }

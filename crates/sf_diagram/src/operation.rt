@@ -1,17 +1,14 @@
 //! What a merge makes of two numbers.
 
-ghost use Rattle.std.specs.Prelude.{◌≡◌, true};
-ghost use Rattle.sf_diagram.specs.Operations.{action_bits, folded_of, looser_of, merged_of, pair_of, rank, reach_by, without_allowed_data};
-
-/// SECCOMP_RET_ALLOW: the call is carried out.
-const ALLOW: u32 = 0x7fff0000;
+ghost use Rattle.std.specs.Prelude.{◌≡◌, ℕ, true};
+ghost use Rattle.sf_diagram.specs.Operations.{action_bits, folded_of, looser_of, merged_of, pair_of, rank, reach_by};
 
 /// What is made of the numbers that two trees have on an input.
 #[derive(Clone, Copy, Debug, PartialEq, Eq)]
 pub enum Operation {
     /// The answer of filters: the first number is the answer of the newer ones, and the second is that of the older
-    /// ones, or what a single older one returns. The older one counts where its action has precedence. ALLOW has no
-    /// data.
+    /// ones, or what a single older one returns. The older one counts where its action has precedence. A fold that
+    /// begins with an ALLOW without data has no data in any ALLOW.
     Fold,
     /// 1 where a call gets further by the second answer than by the first, else 0.
     Looser,
@@ -22,6 +19,8 @@ pub enum Operation {
     /// 0 where the numbers are equal; else both as one number, the first in the upper half of its bits. This tells
     /// numbers below 65,536 apart, as the places of answers in a list.
     Pair,
+    /// The first number with the second, 0 or 1, as one more bit behind it, modulo 2^32.
+    NextBit,
 }
 
 /// The rank of an action's number; the action of the lowest rank has precedence. The unsigned order of ranks is the
@@ -32,25 +31,14 @@ fn rank_of(number: u32) -> u32
     number.wrapping_add(0x80000000)
 }
 
-/// A return value as an answer: without its data where it is an ALLOW.
-fn answer_of(value: u32) -> u32
-    ensures { result ≡ without_allowed_data value }
-{
-    if value & 0xffff0000 == ALLOW {
-        ALLOW
-    } else {
-        value
-    }
-}
-
-/// Of two return values the one that counts, as an answer.
+/// Of two return values the one that counts.
 fn folded(newer: u32, older: u32) -> u32
     ensures { result ≡ folded_of newer older }
 {
     if rank_of(older & 0xffff0000) < rank_of(newer & 0xffff0000) {
-        answer_of(older)
+        older
     } else {
-        answer_of(newer)
+        newer
     }
 }
 
@@ -100,6 +88,27 @@ impl Operation {
             Operation::Tighter => looser(second, first),
             Operation::Different => { if first == second { 0 } else { 1 } }
             Operation::Pair => pair(first, second),
+            Operation::NextBit => first.wrapping_mul(2).wrapping_add(second),
+        }
+    }
+
+    /// Whether the operation makes of two equal numbers this number.
+    pub(crate) fn keeps_equals(self) -> bool
+        ensures { result ≡ true → (n : ℕ) → merged_of self n n ≡ n }
+    {
+        match self {
+            Operation::Fold => true,
+            _ => false,
+        }
+    }
+
+    /// Whether the operation makes of two equal numbers 0.
+    pub(crate) fn cancels_equals(self) -> bool
+        ensures { result ≡ true → (n : ℕ) → merged_of self n n ≡ 0 }
+    {
+        match self {
+            Operation::Fold | Operation::NextBit => false,
+            Operation::Looser | Operation::Tighter | Operation::Different | Operation::Pair => true,
         }
     }
 }

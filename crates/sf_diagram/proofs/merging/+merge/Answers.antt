@@ -5,7 +5,7 @@ use Rattle.sf_diagram.specs.Operations.{merged_of}
 use Rattle.sf_diagram.specs.Merges.{IsMerged}
 use Rattle.sf_diagram.specs.KeepLaws.{keeps_more}
 use Rattle.sf_diagram.proofs.MergeLemmas.{AreMergedSides, merged-made}
-use Rattle.sf_diagram.proofs.SpentLemmas.{merged-spent, merged-refused, spent-leaf}
+use Rattle.sf_diagram.proofs.SpentLemmas.{merged-spent, merged-refused, spent-leaf, spent-nothing}
 use Rattle.sf_diagram.proofs.merging.+merge.Goals as goal
 use Rattle.sf_diagram.proofs.merging.+merge.Goals.{In_ok-higher}
 
@@ -87,3 +87,13 @@ returns-in_err-leaf-in-Numbers-clause-spent t c =
     (spent-leaf c.args.store.now (merged_of c.args.operation c.in-Numbers.a c.in-Numbers.b)
     (rw c.in_err-leaf-in-Numbers.ensures.err at c.in_err-leaf-in-Numbers.ensures.lawful)
     (rw c.apply.ensures at (c.in_err-leaf-in-Numbers.ensures.spent.0 (ap Err e)))))
+
+pub returns-in_err-zero-clause-spent : goal.returns-in_err-zero-clause-spent
+returns-in_err-zero-clause-spent t c =
+    let p = err_from_is_err_and c.from_residual-in_err-zero.result c.from_residual-in_err-zero.ensures.1 in
+    rw (p.1, p.2) (λ e.
+    rw (c.in_err-zero.ensures.err, ← c.if-first-second-2.true)
+    (spent-nothing c.args.operation c.args.store.now (tree_at c.args.store.now.trees c.args.first)
+    (c.cancels_equals.ensures c.if-cancels_equals.true)
+    (rw c.in_err-zero.ensures.err at c.in_err-zero.ensures.lawful)
+    (c.in_err-zero.ensures.spent.0 (ap Err e))))
