@@ -4,3 +4,15 @@ pub mod StepLemmas
 pub mod LoopLemmas
 pub mod ShiftLemmas
 pub mod ProductLemmas
+pub mod VariableLemmas
+pub mod InputLemmas
+pub mod KnowledgeLemmas
+pub mod EffectLemmas
+pub mod TellLemmas
+pub mod StepsLemmas
+pub mod ForwardLemmas
+pub mod PlaceLemmas
+pub mod RegisterLemmas
+pub mod ReplacingLemmas
+pub mod AnswerLemmas
+pub mod QuotientLemmas

@@ -4,13 +4,11 @@ use Rattle.std.proofs.Common.{◌≡◌, ℕ, ◌+◌, ◌-◌, ◌*◌, ◌/◌
 use Rattle.std.specs.Prelude.{slice_index, slice_set, if◌then◌else◌}
 use Rattle.std.specs.Int.{bit_at}
 use Rattle.std.proofs.lemmas.Nat.Bits.{bit_at-lt}
-use Rattle.sf_insn.specs.declared.input.Input.{Input}
 use Rattle.sf_insn.specs.declared.ops.Test.{Test}
 use Rattle.sf_insn.specs.Words.{apply, negation_of}
 use Rattle.sf_insn.specs.declared.ops.BinOp.TheVariants.{Add, Sub}
 use Rattle.sf_diagram.specs.Trees.{Tree, Leaf, Fork, Bits, value}
 use Rattle.sf_diagram.specs.Stores.{tree_at, KeepsTrees}
-use Rattle.sf_behaviour.specs.InputBits.{words_in_order, input_bits}
 use Rattle.sf_behaviour.specs.Words.{word_value, IsTruth, IsTruthOf, IsWord, IsWordOf}
 use Rattle.sf_behaviour.specs.Combining.{tested_bits}
 use Rattle.sf_behaviour.proofs.BitLemmas.{value-kept}
@@ -92,13 +90,6 @@ pub number-step : (n k : ℕ) (us vs : List Tree) (ids : List ℕ) (id : ℕ) (b
     → word_value vs (take (n + 1) (slice_set ids n id)) bits ≡ k % 2 ^ (n + 1)
 number-step n k us vs ids id bits kept l begun here so_far =
     word_value-set n us vs ids id bits kept begun l ∙ ap₂ (λ (v w : ℕ). v * 2 ^ n + w) here so_far ∙ low-more k n
-
--- the literal of a bit of the input is this bit
-pub literal-bit : (d : Input) (v w i : ℕ) → slice_index words_in_order (v / 32) ≡ w → 31 - v % 32 ≡ i
-    → value (Fork v (Leaf 0) (Leaf 1)) (input_bits d) ≡ bit_at (slice_index d.words w) i
-literal-bit d v w i place bit =
-    ap₂ (λ (m j : ℕ). if bit_at (slice_index d.words m) j == 1 then 1 else 0) place bit
-    ∙ bit-if (bit_at (slice_index d.words w) i) (bit_at-lt (slice_index d.words w) i)
 
 -- ---- single bits
 

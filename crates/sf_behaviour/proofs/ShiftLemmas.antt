@@ -70,7 +70,7 @@ moved-truth Right ts ids by z i w t l li =
       | inr more ↦ subst (λ (j : ℕ). IsTruth ts j) (sym (right-high ids by z i w.count l more li)) t
     ]
 
-moved-word : (d : Direction) (ts : List Tree) (ids : List ℕ) (by z : ℕ) → IsWord ts ids → IsTruth ts z → by ≤ 32
+pub moved-word : (d : Direction) (ts : List Tree) (ids : List ℕ) (by z : ℕ) → IsWord ts ids → IsTruth ts z → by ≤ 32
     → IsWord ts (moved d ids by z)
 moved-word d ts ids by z w t l = record {
   count = length-moved d ids by z w.count l;

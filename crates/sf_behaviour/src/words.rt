@@ -1,11 +1,9 @@
 //! Words as diagrams of their bits.
 
-ghost use Rattle.std.specs.Prelude.{◌≡◌, ◌<◌, ◌-◌, ◌/◌, ◌%◌, slice_index, IfOk, IfErr};
-ghost use Rattle.sf_insn.specs.declared.input.Input.{Input};
-ghost use Rattle.sf_insn.specs.Inputs.{IsInput};
+ghost use Rattle.std.specs.Prelude.{◌≡◌, ◌+◌, ◌-◌, ◌*◌, ◌<◌, ◌≤◌, slice_index, IfOk, IfErr};
 ghost use Rattle.sf_diagram.specs.Stores.{KeepsStore, IsFull};
-ghost use Rattle.sf_behaviour.specs.InputBits.{words_in_order, input_bits};
-ghost use Rattle.sf_behaviour.specs.Words.{word_value, IsWord, IsWordOf};
+ghost use Rattle.sf_behaviour.specs.InputBits.{number_by, input_first, input_by};
+ghost use Rattle.sf_behaviour.specs.Words.{IsWordOf};
 
 use sf_diagram::{Fault, Id, Store};
 
@@ -21,15 +19,16 @@ pub struct Word {
 /// arguments, instruction pointer, of two halves the upper one first.
 const PLACES: [u16; 16] = [1, 0, 15, 14, 3, 2, 5, 4, 7, 6, 9, 8, 11, 10, 13, 12];
 
-/// The variable of a bit of a word of the input: in each word the highest bit comes first. The caller's conditions:
-/// there are such a word and such a bit.
-fn variable(word: usize, bit: u16) -> u16
-    requires word { word < 16 }
-    requires bit { bit < 32 }
-    ensures word { slice_index words_in_order (result / 32) ≡ word }
-    ensures bit { 31 - result % 32 ≡ bit }
+/// How many variables stand before those of the input: the bits of A, X and the scratch words.
+const REGISTER_BITS: u16 = 18 * 32;
+
+/// The variable of the highest bit of a word of the input. The caller's condition: there is such a word.
+fn first_variable(word: usize) -> u16
+    requires { word < 16 }
+    ensures is { result ≡ input_first word }
+    ensures small { result < 16384 }
 {
-    32 * PLACES[word] + (31 - bit)
+    REGISTER_BITS + 32 * PLACES[word]
 }
 
 /// The word that is the same number on each input. `Spent` and `Memory` as the store has them; nodes may have been
@@ -47,20 +46,46 @@ pub fn constant_word(store: &mut Store, number: u32) -> Result<Word, Fault>
     Ok(Word { bits })
 }
 
-/// A word of the input, by its number: `Input` of `sf_insn` says which is which. The caller's condition: there is such
-/// a word. `Spent` and `Memory` as the store has them; nodes may have been added then.
-pub fn input_word(store: &mut Store, word: usize) -> Result<Word, Fault>
-    requires { word < 16 }
-    ensures word { IfOk result (λ w. IsWord store.new.trees w.bits) }
-    ensures value { IfOk result (λ w. (d : Input) → IsInput d
-        → word_value store.new.trees w.bits (input_bits d) ≡ slice_index d.words word) }
+/// The variable of a bit of a word whose variables are at equal distances, the first that of the highest bit. The
+/// caller's conditions: the first is below 16,384, they are at most 2 apart, and there is such a bit.
+fn variable_of(first: u16, distance: u16, bit: u16) -> u16
+    requires first { first < 16384 }
+    requires distance { distance ≤ 2 }
+    requires bit { bit < 32 }
+    ensures { result ≡ first + distance * (31 - bit) }
+{
+    let behind = distance * (31 - bit);
+    first + behind
+}
+
+/// The word whose bits are these variables: 32 at equal distances, of which the first is the highest bit. The caller's
+/// conditions: the first is below 16,384, and they are at most 2 apart. `Spent` and `Memory` as the store has them;
+/// nodes may have been added then.
+pub(crate) fn variable_word(store: &mut Store, first: u16, distance: u16) -> Result<Word, Fault>
+    requires first { first < 16384 }
+    requires distance { distance ≤ 2 }
+    ensures word { IfOk result
+        (λ w. IsWordOf store.new.trees w.bits (λ bits. number_by first distance 32 bits)) }
     ensures keeps { KeepsStore store.old store.new }
     ensures spent { IfErr result (λ e. e ≡ Fault.Spent → IsFull store.new) }
 {
     let mut bits: [Id; 32] = [0; 32];
     for i in 0..32 {
-        let bit = store.literal(variable(word, i as u16))?;
+        let bit = store.literal(variable_of(first, distance, i as u16))?;
         bits[i] = bit;
     }
     Ok(Word { bits })
+}
+
+/// A word of the input, by its number: `Input` of `sf_insn` says which is which. The caller's condition: there is such
+/// a word. `Spent` and `Memory` as the store has them; nodes may have been added then.
+pub fn input_word(store: &mut Store, word: usize) -> Result<Word, Fault>
+    requires { word < 16 }
+    ensures word { IfOk result (λ w. IsWordOf store.new.trees w.bits
+        (λ bits. slice_index (input_by bits).words word)) }
+    ensures keeps { KeepsStore store.old store.new }
+    ensures spent { IfErr result (λ e. e ≡ Fault.Spent → IsFull store.new) }
+{
+    let word = variable_word(store, first_variable(word), 1)?;
+    Ok(word)
 }

@@ -1,0 +1,13 @@
+use Rattle.std.proofs.Common.{◌≡◌, ◌-◌, ◌<◌, length, drop}
+use Rattle.sf_diagram.specs.Trees.{Bits, value}
+use Rattle.sf_diagram.specs.Stores.{tree_at, KeepsStore}
+use Rattle.sf_behaviour.specs.Words.{word_value}
+use Rattle.sf_behaviour.proofs.answers.number_diagram.Given as goal
+
+abbrev pub invariant-loop-i : goal.invariant-loop-i
+invariant-loop-i l = record {
+  keeps : KeepsStore l.fn.store l.store;
+  within : l.number < length l.store.trees;
+  so_far : (bits : Bits) → value (tree_at l.store.trees l.number) bits
+      ≡ word_value l.fn.store.trees (drop (32 - l.i) l.word.bits) bits;
+}

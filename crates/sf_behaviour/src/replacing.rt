@@ -1,0 +1,175 @@
+//! Words in which another word stands in the place of a register.
+
+ghost use Rattle.std.specs.Prelude.{◌≡◌, ◌≤◌, ◌<◌, ◌-◌, ◌/◌, ◌%◌, ◌==◌, ◌&&◌, ℕ, nat_lt, length, OnOk, IfOk, IfErr, IfSome, if◌then◌else◌};
+ghost use Rattle.sf_diagram.specs.Trees.{Bits, value};
+ghost use Rattle.sf_diagram.specs.Stores.{tree_at, KeepsStore, IsFull};
+ghost use Rattle.sf_behaviour.specs.Words.{word_value, IsTruthOf, IsWord, IsWordOf};
+ghost use Rattle.sf_behaviour.specs.Registers.{register_bit, with_register, start_bits};
+ghost use Rattle.sf_behaviour.specs.Replacing.{IsReplaced, AreReplaced};
+
+use crate::registers::Register;
+use crate::words::Word;
+use sf_diagram::{Fault, Id, Node, Store, choose};
+use std::alloc::Global;
+use std::collections::BTreeMap;
+
+/// How many variables stand above those of the input: those of A, X and the 16 scratch words.
+const REGISTERS: u16 = 576;
+
+/// Which bit a variable is of that one of A and X whose variables have this parity, if it is one.
+fn paired_bit(parity: u16, variable: u16) -> Option<u8>
+    ensures bit { result ≡ (if nat_lt variable 64 && (variable % 2 == parity)
+        then Some (31 - variable / 2) else None) }
+    ensures few { IfSome result (λ bit. bit < 32) }
+{
+    if variable < 64 && variable % 2 == parity {
+        Some((31 - variable / 2) as u8)
+    } else {
+        None
+    }
+}
+
+/// Which bit of the register a variable is, if it is one.
+fn bit_of(register: Register, variable: u16) -> Option<u8>
+    ensures bit { result ≡ register_bit register variable }
+    ensures few { IfSome result (λ bit. bit < 32) }
+{
+    match register {
+        Register::A => paired_bit(0, variable),
+        Register::X => paired_bit(1, variable),
+        Register::Scratch(k) => {
+            if variable / 32 == k as u16 + 2 {
+                Some((31 - variable % 32) as u8)
+            } else {
+                None
+            }
+        }
+    }
+}
+
+/// A variable that is greater than each of the register's, as all greater ones are.
+fn first_past(register: Register) -> u16
+    ensures { (w : ℕ) → result ≤ w → register_bit register w ≡ None }
+{
+    match register {
+        Register::A => 64,
+        Register::X => 64,
+        Register::Scratch(k) => 96 + 32 * k as u16,
+    }
+}
+
+/// The diagram that is 1 where a variable is true once the word stands in the place of the register, else 0. The
+/// caller's condition: it is a word of the store. `Spent` and `Memory` as the store has them; nodes may have been added
+/// then.
+fn bit_for(store: &mut Store, register: Register, by: &Word, variable: u16) -> Result<Id, Fault>
+    requires { IsWord store.old.trees by.now.bits }
+    ensures truth { IfOk result (λ id. IsTruthOf store.new.trees id
+        (λ bits. if with_register register
+        (word_value store.old.trees by.now.bits bits) bits variable then 1 else 0)) }
+    ensures keeps { KeepsStore store.old store.new }
+    ensures spent { IfErr result (λ e. e ≡ Fault.Spent → IsFull store.new) }
+{
+    match bit_of(register, variable) {
+        Some(bit) => Ok(by.bits[bit as usize]),
+        None => {
+            let literal = store.literal(variable)?;
+            Ok(literal)
+        }
+    }
+}
+
+/// The diagram in which the word stands in the place of the register. What is made for a node is put into `made`, and
+/// isn't made again. The caller's conditions: the node is there, it is a word of the store, and `made` is right.
+/// `Spent` and `Memory` as the store has them; nodes may have been added then.
+fn replace_in(
+    store: &mut Store,
+    made: &mut BTreeMap<Id, Id>,
+    register: Register,
+    by: &Word,
+    id: Id,
+) -> Result<Id, Fault>
+    requires within { id < length store.old.trees }
+    requires by { IsWord store.old.trees by.now.bits }
+    requires made { AreReplaced register store.old.trees
+        (word_value store.old.trees by.now.bits) made.old }
+    ensures replaced { IfOk result (λ new. IsReplaced register store.new.trees
+        (word_value store.old.trees by.now.bits) id new) }
+    ensures made { OnOk result (AreReplaced register store.new.trees
+        (word_value store.old.trees by.now.bits) made.new) }
+    ensures keeps { KeepsStore store.old store.new }
+    ensures spent { IfErr result (λ e. e ≡ Fault.Spent → IsFull store.new) }
+{
+    let (variable, lower, higher) = match store.node(id) {
+        Node::Number(_) => return Ok(id),
+        Node::Choice(variable, lower, higher) => (variable, lower, higher),
+    };
+    let past = first_past(register);
+    if variable >= past {
+        return Ok(id);
+    }
+    if let Some(known) = made.get(&id) {
+        return Ok(*known);
+    }
+    let new_lower = replace_in(store, made, register, by, lower)?;
+    let new_higher = replace_in(store, made, register, by, higher)?;
+    let bit = bit_for(store, register, by, variable)?;
+    let new = choose(store, bit, new_higher, new_lower)?;
+    made.insert(id, new)?;
+    Ok(new)
+}
+
+/// The word in which the word `by` stands in the place of the register. The caller's condition: they are words of the
+/// store. `Spent` and `Memory` as the store has them; nodes may have been added then.
+pub fn replace(
+    alloc: Global,
+    store: &mut Store,
+    register: Register,
+    by: &Word,
+    word: &Word,
+) -> Result<Word, Fault>
+    requires by { IsWord store.old.trees by.now.bits }
+    requires word { IsWord store.old.trees word.now.bits }
+    ensures word { IfOk result (λ w. IsWordOf store.new.trees w.bits (λ bits.
+        word_value store.old.trees word.now.bits
+        (with_register register (word_value store.old.trees by.now.bits bits) bits))) }
+    ensures keeps { KeepsStore store.old store.new }
+    ensures spent { IfErr result (λ e. e ≡ Fault.Spent → IsFull store.new) }
+{
+    let mut made = BTreeMap::new(alloc);
+    let mut bits: [Id; 32] = [0; 32];
+    for i in 0..32 {
+        let bit = replace_in(store, &mut made, register, by, word.bits[i])?;
+        bits[i] = bit;
+    }
+    Ok(Word { bits })
+}
+
+/// The diagram in which all registers are 0. The caller's condition: the node is there.
+fn start_in(store: &Store, id: Id) -> Id
+    requires { id < length store.now.trees }
+    ensures within { result < length store.now.trees }
+    ensures values { (bits : Bits) → value (tree_at store.now.trees result) bits
+        ≡ value (tree_at store.now.trees id) (start_bits bits) }
+{
+    let (variable, lower) = match store.node(id) {
+        Node::Number(_) => return id,
+        Node::Choice(variable, lower, _) => (variable, lower),
+    };
+    if variable >= REGISTERS {
+        return id;
+    }
+    start_in(store, lower)
+}
+
+/// The word in which all registers are 0. The caller's condition: it is a word of the store.
+pub fn at_start(store: &Store, word: &Word) -> Word
+    requires { IsWord store.now.trees word.now.bits }
+    ensures { IsWordOf store.now.trees result.bits
+        (λ bits. word_value store.now.trees word.now.bits (start_bits bits)) }
+{
+    let mut bits = word.bits;
+    for i in 0..32 {
+        bits[i] = start_in(store, word.bits[i]);
+    }
+    Word { bits }
+}
