@@ -1,4 +1,5 @@
 pub mod MeetingLemmas
 pub mod Steps
 pub mod WalkLemmas
+pub mod WordLemmas
 pub mod ReplayLemmas

@@ -1,12 +1,10 @@
--- Each trace of a lawful stack is a whole route, and has at most 32768 + 32 * 64 truth values.
-use Rattle.std.proofs.Common.{◌≡◌, ℕ, zero, suc, ◌+◌, ◌-◌, ◌*◌, ◌<◌, ◌≤◌, lit≤, ◌++◌, get_or, Bool, true, false, List, [], ◌∷◌, length, Option, Some, None, slice_get, refl, sym, ap, subst, inl, inr, arith}
-use Rattle.std.specs.Prelude.{reverse, if◌then◌else◌, ◌==◌, IsSome, sum_by}
+-- Each trace of a lawful stack is a whole route.
+use Rattle.std.proofs.Common.{◌≡◌, ℕ, zero, suc, ◌+◌, ◌-◌, ◌<◌, get_or, Bool, true, false, List, [], ◌∷◌, length, Option, Some, None, slice_get, refl, sym, ap, subst, inl, inr, arith}
+use Rattle.std.specs.Prelude.{reverse, if◌then◌else◌, ◌==◌, IsSome}
 use Rattle.std.specs.List.{flat_map, AllByRecursion}
-use Rattle.std.proofs.lemmas.Option.{same_Some, slice_get-get_or, slice_get_within}
-use Rattle.std.proofs.lemmas.List.{length-reverse, get_or-reverse, length-append, reverse-append}
-use Rattle.std.proofs.lemmas.List.Sums.{sum_by-append, sum_by-cons}
+use Rattle.std.proofs.lemmas.Option.{same_Some, slice_get-get_or}
+use Rattle.std.proofs.lemmas.List.{length-reverse, get_or-reverse}
 use Rattle.std.proofs.lemmas.List.Elements.{recursion_from_All}
-use Rattle.sf_check.specs.PathLengthLaws.{path_length-sum}
 use Rattle.sf_check.specs.Stacks.{IsLawfulStack}
 use Rattle.sf_insn.specs.declared.input.Input.{Input}
 use Rattle.sf_insn.specs.declared.ops.BinOp.{BinOp}
@@ -139,112 +137,3 @@ newest_first programs lawful =
 pub trace_is_whole_route : (programs : List (List Insn)) (d : Input) → IsLawfulStack programs
     → IsWholeRoute programs (trace_of programs d)
 trace_is_whole_route programs d lawful = traces_are_ways (reverse programs) d (newest_first programs lawful)
-
--- ---- how long traces are
-
--- a step meets no more than one truth value for each place that it goes on, and no more than 32 where it returns
-abbrev IsShort : State → Progress → Type 0
-IsShort s (goes met next) = length met + s.place ≤ next.place
-IsShort s (returns met value) = length met ≤ 32
-IsShort s stuck = Unit {0}
-
-loaded_short : (s : State) (k : ℕ) (f : ℕ → Progress) → ((n : ℕ) → IsShort s (f n)) → IsShort s (load_progress s k f)
-loaded_short s k f fine = by (slice_get s.scratch k) refl
-  where
-    by : (w : Option (Option ℕ)) → slice_get s.scratch k ≡ w → IsShort s (load_progress s k f)
-    by (Some (Some n)) at = rw at (fine n)
-    by (Some None) at = rw at tt
-    by None at = rw at tt
-
-step_short : (d : Input) (s : State) (i : Insn) → IsShort s (insn_progress d s i)
-step_short d s (LoadScratch k) = loaded_short s k (with_a s) (λ n. omega arith)
-step_short d s (LoadXScratch k) = loaded_short s k (with_x s) (λ n. omega arith)
-step_short d s (Alu op other) = alu op other
-  where
-    div : (b : Bool) → IsShort s (if b then returns (true ∷ []) 0
-        else goes (false ∷ []) (record s { place = s.place + 1; a = apply Div s.a s.x }))
-    div true = omega arith
-    div false = omega arith
-
-    alu : (op : BinOp) (other : Operand) → IsShort s (operation_progress s op other)
-    alu Div X = div (s.x == 0)
-    alu Div (Constant k) = omega arith
-    alu _ other = omega arith
-step_short d s (Branch test other t f) = omega arith
-step_short d s (ReturnConstant k) = omega arith
-step_short d s ReturnA = lit≤ tt
-step_short d s _ = omega arith
-
-pub run_short : (n : ℕ) (code : List Insn) (d : Input) (s : State) (o : List Bool × ℕ) → run_for n code d s ≡ Some o
-    → length o.0 + s.place ≤ length code + 31
-unfolding run_for
-run_short zero code d s o e = absurd cc
-run_short (suc n) code d s o e = at_place (slice_get code s.place) refl (λ t p q. run_short n code d t p q) e
-  where
-    by : (i : Insn) → IsAt code s.place i → ((t : State) (p : List Bool × ℕ) → run_for n code d t ≡ Some p
-        → length p.0 + t.place ≤ length code + 31) → (p : Progress) → IsShort s p
-        → outcome_from (run_for n code d) p ≡ Some o → length o.0 + s.place ≤ length code + 31
-    by i at rest (goes met next) short e =
-        let tail = option_map_some (put met) (run_for n code d next) o e in
-        let whole = ap (λ (p : List Bool × ℕ). length p.0) tail.2 in
-        omega (arith, short, whole, length-append met tail.0.0, rest next tail.0 tail.1)
-    by i at rest (returns met v) short e =
-        let same = ap (λ (p : List Bool × ℕ). length p.0) (same_Some (met, v) o e) in
-        omega (arith, short, same, slice_get_within code s.place i at)
-    by i at rest stuck short e = absurd cc
-
-    at_place : (w : Option Insn) → slice_get code s.place ≡ w
-        → ((t : State) (p : List Bool × ℕ) → run_for n code d t ≡ Some p → length p.0 + t.place ≤ length code + 31)
-        → outcome_from (run_for n code d) (step code d s) ≡ Some o → length o.0 + s.place ≤ length code + 31
-    at_place None at rest e = let clash : None ≡ Some o = rw at at e in absurd cc
-    at_place (Some i) at rest e = by i at rest (insn_progress d s i) (step_short d s i)
-        (rw (step_is code d s i at) at e)
-
-pub met_short : (code : List Insn) (d : Input) → length (met_by code d) ≤ length code + 31
-unfolding outcome_of
-met_short code d = by (outcome_of code d) refl
-  where
-    by : (r : Outcome) → outcome_of code d ≡ r → length (met_by code d) ≤ length code + 31
-    by None e = rw e (omega arith)
-    by (Some o) e = rw e (omega (arith, run_short (length code) code d start o e))
-
-abbrev counted : List Insn → ℕ
-counted p = length p + 4
-
-all_short : (codes : List (List Insn)) (d : Input) → length (flat_map (λ p. met_by p d) codes) ≤ sum_by counted codes
-    + 27 * length codes
-all_short [] d = omega arith
-all_short (code ∷ codes) d =
-    let whole : length (flat_map (λ p. met_by p d) (code ∷ codes)) ≡ length (met_by code d)
-    + length (flat_map (λ p. met_by p d) codes) = length-append (met_by code d)
-    (flat_map (λ p. met_by p d) codes) in
-    omega (arith, whole, sum_by-cons counted code codes, met_short code d, all_short codes d)
-
--- the sum of the lengths is the same, newest or oldest program first
-sum-reverse : (codes : List (List Insn)) → sum_by counted (reverse codes) ≡ sum_by counted codes
-sum-reverse [] = refl
-sum-reverse (code ∷ codes) =
-    let turned : sum_by counted (reverse (code ∷ codes)) ≡ sum_by counted (reverse codes ++ code ∷ []) =
-    ap (sum_by counted) (reverse-append (code ∷ []) codes) in
-    omega (
-      arith,
-      turned,
-      sum_by-append counted (reverse codes) (code ∷ []),
-      sum_by-cons counted code codes,
-      sum_by-cons counted code [],
-      sum-reverse codes,
-    )
-
--- a trace has at most 32768 + 32 * 64 truth values
-pub trace_is_short : (programs : List (List Insn)) (d : Input) → IsLawfulStack programs
-    → length (trace_of programs d) ≤ 32768 + 32 * 64
-trace_is_short programs d lawful =
-    omega (
-      arith,
-      all_short (reverse programs) d,
-      length-reverse programs,
-      sum-reverse programs,
-      path_length-sum programs,
-      lawful.few,
-      lawful.short,
-    )

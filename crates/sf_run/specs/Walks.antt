@@ -1,5 +1,5 @@
 -- The run of a program with all that it meets, the numbers that it compares, and where it returns.
-use Rattle.std.specs.Prelude.{ℕ, zero, suc, Bool, List, [], ◌∷◌, ◌++◌, ◌==◌, length, Option, Some, None, slice_get, option_map}
+use Rattle.std.specs.Prelude.{◌≡◌, ℕ, zero, suc, Bool, List, [], ◌∷◌, ◌++◌, ◌==◌, length, Option, Some, None, slice_get, slice_index, option_map}
 use Rattle.sf_insn.specs.declared.input.Input.{Input}
 use Rattle.sf_insn.specs.declared.ops.BinOp.TheVariants.{Div}
 use Rattle.sf_insn.specs.Words.{passes}
@@ -54,6 +54,16 @@ truths m = by m.met
     by (Tested test a other passed) = passed ∷ []
     by (Divided x) = (x == 0) ∷ []
     by (Returned a) = bits 32 a
+
+-- the A that is met by a test or a return; a division meets X
+abbrev pub met_a : Met → Option ℕ
+met_a (Tested test a other passed) = Some a
+met_a (Divided x) = None
+met_a (Returned a) = Some a
+
+-- where A is said to hold a word of the input, the A that is met is the number of this word
+abbrev pub HoldsItsWord : Input → Meeting → Type 0
+HoldsItsWord d m = (word a : ℕ) → m.word ≡ Some word → met_a m.met ≡ Some a → a ≡ slice_index d.words word
 
 -- what a run meets, in order, the place at which it returns, and the value
 pub record CourseData : Type 0 where

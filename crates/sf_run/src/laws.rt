@@ -9,7 +9,7 @@ ghost use Rattle.sf_check.specs.Stacks.{IsLawfulStack};
 ghost use Rattle.sf_run.specs.declared.action.Answer.{Answer};
 ghost use Rattle.sf_run.specs.Machine.{outcome_of, returns_of, trace_of};
 ghost use Rattle.sf_run.specs.Answers.{IsAnswer};
-ghost use Rattle.sf_run.specs.Routes.{IsWholeRoute};
+ghost use Rattle.sf_run.specs.Routes.{IsRoute, IsWholeRoute};
 ghost use Rattle.sf_run.specs.Replays.{returns_along};
 ghost use Rattle.sf_run.specs.Feasible.{AreFeasibleTraces, all_inputs, feasible_traces};
 
@@ -48,10 +48,10 @@ pub fn traces_replay_the_returns()
         ≡ Some (returns_of programs d, []) }
 {}
 
-/// A trace of a lawful stack has at most 32768 + 32 * 64 truth values.
-pub fn traces_are_short()
-    ensures { (programs : List (List Insn)) (d : Input) →
-        IsLawfulStack programs → length (trace_of programs d) ≤ 32768 + 32 * 64 }
+/// A route of a lawful stack has at most 32768 + 32 * 64 truth values, and so has each trace.
+pub fn routes_are_short()
+    ensures { (programs : List (List Insn)) (route : List Bool) → IsLawfulStack programs
+        → IsRoute programs route → length route ≤ 32768 + 32 * 64 }
 {}
 
 /// `all_inputs`, from which `feasible_traces` is made, has each input, and nothing else.

@@ -1,10 +1,10 @@
 //! The run of a program on one input, with all that it meets and the words that it compares.
 
-ghost use Rattle.std.specs.Prelude.{◌≡◌, ◌++◌, ℕ, [], Option, Some, IfOk, OnOk, MatchOption};
+ghost use Rattle.std.specs.Prelude.{◌≡◌, ◌++◌, ℕ, [], Option, Some, All, IfOk, OnOk, MatchOption};
 ghost use Rattle.sf_run.specs.Code.{state_of};
 ghost use Rattle.std.specs.List.{flat_map};
 ghost use Rattle.sf_run.specs.Machine.{met_by, return_of};
-ghost use Rattle.sf_run.specs.Walks.{at_place, course, meeting_at, truths, walk_of, word_after};
+ghost use Rattle.sf_run.specs.Walks.{HoldsItsWord, at_place, course, meeting_at, truths, walk_of, word_after};
 
 use crate::fault::Fault;
 use crate::machine::{Machine, Next, execute, operand};
@@ -139,6 +139,9 @@ pub fn walk(alloc: Global, program: &Program, input: &Input) -> Result<Course, F
     // It has the value that the program returns, and the truth values that the program meets.
     ensures run { IfOk result (λ w. (w.value ≡ return_of program.now input.now)
         × (flat_map truths w.met.items ≡ met_by program.now input.now)) }
+
+    // Where it says which word of the input A holds, A has the number of this word.
+    ensures words { IfOk result (λ w. All (HoldsItsWord input.now) w.met.items) }
 {
     let code = program.insns();
     let mut met = Vec::new(alloc);

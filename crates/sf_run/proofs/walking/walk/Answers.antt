@@ -5,6 +5,7 @@ use Rattle.sf_run.specs.RunLaws.{safe_start}
 use Rattle.sf_run.specs.Walks.{walk_of}
 use Rattle.sf_run.proofs.Steps.{lent_lawful, at_hand, goes_on, goes_out}
 use Rattle.sf_run.proofs.WalkLemmas.{walk_comes_to_end, walk_goes_on, walk_tells_run}
+use Rattle.sf_run.proofs.WordLemmas.{walk_tells_words}
 use Rattle.sf_run.proofs.walking.walk.Goals as goal
 
 pub steps-init : goal.steps-init
@@ -62,3 +63,6 @@ returns-in-Returns-clause-course c =
 
 pub returns-in-Returns-clause-run : goal.returns-in-Returns-clause-run
 returns-in-Returns-clause-run c = walk_tells_run _ _ _ (returns-in-Returns-clause-course c)
+
+pub returns-in-Returns-clause-words : goal.returns-in-Returns-clause-words
+returns-in-Returns-clause-words c = walk_tells_words _ _ _ (returns-in-Returns-clause-course c)
