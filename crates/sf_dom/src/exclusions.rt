@@ -86,7 +86,7 @@ impl Exclusions {
         }
     }
 
-    /// A copy, which shares the numbers. Takes no memory; `Memory` only where no more copies can share them.
+    /// A copy, which shares the numbers. Takes no memory; `Memory` where no more copies can share them.
     fn copy(&self) -> Result<Exclusions, Fault>
         ensures { IfOk result (λ e. e ≡ self.now) }
     {
@@ -143,8 +143,8 @@ fn no_exclusions() -> Lists
     Lists::default()
 }
 
-/// Writes copies of the lists over `copies`, in place, since it takes long to move the array. `Memory` only where no
-/// more copies can share a list; some of `copies` may be written then.
+/// Writes copies of the lists over `copies`, in place, since it takes long to move the array. `Memory` where no more
+/// copies can share a list; some of `copies` may be written then.
 fn copy_all(lists: &Lists, copies: &mut Lists) -> Result<(), Fault>
     requires { length copies.old ≡ 16 }
     ensures { IfOk result (λ _. copies.new ≡ lists.now) }
@@ -207,7 +207,7 @@ impl Excluded {
         &lists[word]
     }
 
-    /// A copy, which shares the lists. Takes no memory; `Memory` only where no more copies can share them.
+    /// A copy, which shares the lists. Takes no memory; `Memory` where no more copies can share them.
     pub(crate) fn copy(&self) -> Result<Excluded, Fault>
         ensures same { IfOk result (λ e. e ≡ self.now) }
         ensures words { IfOk result (λ e. length e ≡ 16) }

@@ -6,16 +6,12 @@ ghost use Rattle.std.specs.List.{insert};
 ghost use Rattle.sf_dom.specs.Ascending.{AreAscending, IsFound, shared_items};
 
 use crate::fault::Fault;
-use smallvec::SmallVec;
 use std::alloc::Global;
 use std::marker::Model;
 use std::sync::ArcSlice;
 
 /// When there are this many newer numbers, they are merged into the older ones.
 const MERGED: usize = 64;
-
-/// The newer numbers, ascending. Up to two lie in the list itself; more take an allocation of their own.
-type Newer = SmallVec<u32, 2>;
 
 /// Numbers that a word does not have, in two ascending lists, the older and the newer ones. A copy with one more number
 /// shares the older ones, and copies only the newer ones, which are few. It shares none where both are merged.
@@ -24,7 +20,7 @@ pub(crate) struct Numbers {
     /// The older numbers, which copies share; `None` where there are none.
     older: Option<ArcSlice<u32>>,
     /// The newer numbers, of which each copy has its own list. A number may stand in both lists.
-    newer: Newer,
+    newer: Vec<u32>,
 }
 
 impl Model for Numbers {
@@ -125,11 +121,11 @@ fn find(older: &[u32], newer: &[u32], number: u32) -> Found
 /// A copy of a list with one more number, which gets the place `at`; the numbers from there on stand one place later
 /// than in the list. `Memory` where an allocation is refused. The caller's condition: `at` is at most the list's
 /// length.
-fn insert_number(alloc: Global, list: &[u32], at: usize, number: u32) -> Result<Newer, Fault>
+fn insert_number(alloc: Global, list: &[u32], at: usize, number: u32) -> Result<Vec<u32>, Fault>
     requires { at ≤ length list.now }
     ensures { IfOk result (λ v. v.items ≡ insert list.now at number) }
 {
-    let mut more = SmallVec::with_capacity(alloc, list.len() + 1)?;
+    let mut more = Vec::with_capacity(alloc, list.len() + 1)?;
     more.extend_from_slice(&list[..at])?;
     more.push(number)?;
     more.extend_from_slice(&list[at..])?;
@@ -138,14 +134,14 @@ fn insert_number(alloc: Global, list: &[u32], at: usize, number: u32) -> Result<
 
 /// A copy of a list with one more number, also ascending. Where the list has the number already, it is a mere copy.
 /// `Memory` where an allocation is refused. The caller's condition: the list is ascending.
-fn with_number(alloc: Global, list: &[u32], number: u32) -> Result<Newer, Fault>
+fn with_number(alloc: Global, list: &[u32], number: u32) -> Result<Vec<u32>, Fault>
     requires { AreAscending list.now }
     ensures rising { IfOk result (λ v. AreAscending v.items) }
     ensures numbers { IfOk result (λ v. (n : ℕ) → Contains v.items n
         ↔ (Contains list.now n ⊎ (n ≡ number))) }
 {
     match list.binary_search(&number) {
-        Ok(_) => Ok(SmallVec::from_slice(alloc, list)?),
+        Ok(_) => Ok(Vec::from_slice(alloc, list)?),
         Err(at) => Ok(insert_number(alloc, list, at, number)?),
     }
 }
@@ -163,7 +159,7 @@ fn merge(alloc: Global, older: &[u32], newer: &[u32]) -> Result<ArcSlice<u32>, F
     Ok(ArcSlice::from_vec(all)?)
 }
 
-/// A list that shares the items of another one; `None` where there is none. `Memory` only where the items have too many
+/// A list that shares the items of another one; `None` where there is none. `Memory` where the items have too many
 /// owners.
 fn share(list: &Option<ArcSlice<u32>>) -> Result<Option<ArcSlice<u32>>, Fault>
     ensures { IfOk result (λ copy. shared_items copy ≡ shared_items list.now) }
@@ -220,7 +216,7 @@ impl Numbers {
     pub(crate) fn of(alloc: Global, number: u32) -> Result<Numbers, Fault>
         ensures { IfOk result (λ v. v ≡ number ∷ []) }
     {
-        let mut newer = SmallVec::new(alloc);
+        let mut newer = Vec::new(alloc);
         newer.push(number)?;
         Ok(Numbers { older: None, newer })
     }
@@ -253,7 +249,7 @@ impl Numbers {
         let older = merge(alloc, items_of(&self.older), newer.as_slice())?;
         Ok(Numbers {
             older: Some(older),
-            newer: SmallVec::new(alloc),
+            newer: Vec::new(alloc),
         })
     }
 

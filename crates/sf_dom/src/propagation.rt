@@ -46,7 +46,7 @@ fn transfer(nodes: &Nodes, node: Node) -> Known
 /// Whether the interval of a node has only one number. The caller's condition: the node is among `nodes`.
 fn is_decided(nodes: &Nodes, at: NodeId) -> bool
     requires { at.0 < length nodes.now.known }
-    ensures { IsTrue result → IsDecided (known_at nodes.now.known at.0) }
+    ensures { IsTrue result ↔ IsDecided (known_at nodes.now.known at.0) }
 {
     let known = nodes.get(at.0 as usize);
     known.low == known.high
@@ -56,7 +56,7 @@ fn is_decided(nodes: &Nodes, at: NodeId) -> bool
 /// taken in, no forward pass makes more known of it. The caller's condition: the operands are among `nodes`.
 fn is_fixed(nodes: &Nodes, node: Node) -> bool
     requires { OperandsBelow (length nodes.now.known) node }
-    ensures { IsTrue result → AreAllDecided nodes.now.known node }
+    ensures { IsTrue result ↔ AreAllDecided nodes.now.known node }
 {
     match node {
         Node::Const(_) => true,

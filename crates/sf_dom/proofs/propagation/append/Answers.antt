@@ -31,7 +31,7 @@ loop-i-preserved c =
       fixed = λ consistent first.
           fixed-push c.loop-i.nodes.variables c.push.new.self.variables ks ns i c.is_fixed-fixed.result
           c.transfer-known.result next lawful count (omega arith) (inv.fixed consistent first) (is consistent)
-          c.in-Some.ensures.narrower (rw c.node_at-node.ensures.node at c.is_fixed-fixed.ensures)
+          c.in-Some.ensures.narrower (rw c.node_at-node.ensures.node at c.is_fixed-fixed.ensures).0
           c.in_ok-push-in-Some.ensures.variables;
       ruled = λ consistent.
           ruled-push ks ex ns (length old) i c.transfer-known.result next lawful count (omega arith)
