@@ -2,13 +2,9 @@
 use Rattle.std.proofs.Common.{◌+◌, refl, sym, subst}
 use Rattle.sf_piece.specs.declared.deciding.SmallStep.TheVariants as small
 use Rattle.sf_piece.specs.Pieces.{PieceData, Split, Settled, Empty}
-use Rattle.sf_piece.specs.Execution.{HasStep, IsInTree, SplitsInto, IsEmptied}
-use Rattle.sf_piece.specs.SmallSteps.{IsTidy, HasGoneFor, IsExecuted}
+use Rattle.sf_piece.specs.Execution.{HasStep, SplitsInto, IsEmptied}
+use Rattle.sf_piece.specs.SmallSteps.{HasGoneFor, IsExecuted}
 use Rattle.sf_piece.proofs.FailingSteps.{goes_more}
-use Rattle.sf_piece.proofs.Tidy.{tidy_on, tidy_reached}
-
-pub gone_tidy : (p q : PieceData) → IsInTree p → HasGoneFor p q → IsTidy q
-gone_tidy p q reached g = tidy_on g.0 p q (tidy_reached p reached) g.1
 
 pub gone_more : (p q r : PieceData) → HasGoneFor p q → IsExecuted q r small.On → HasGoneFor p r
 gone_more p q r g e = (g.0 + e.0, goes_more g.0 e.0 p q r g.1 e.1)

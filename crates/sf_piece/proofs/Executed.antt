@@ -25,9 +25,9 @@ use Rattle.sf_piece.specs.declared.deciding.SmallStep.TheVariants.{On, Split, Se
 use Rattle.sf_piece.specs.declared.fault.Fault.{Fault}
 use Rattle.sf_piece.specs.declared.machine.SymbolicMachine.{SymbolicMachine}
 use Rattle.sf_piece.specs.Pieces.{PieceData}
-use Rattle.sf_piece.specs.Works.{IsAPropagatedBack}
+use Rattle.sf_piece.specs.Works.{AsksTest, IsAPropagatedBack}
 use Rattle.sf_piece.specs.SymbolicRun.{IsPiece}
-use Rattle.sf_piece.specs.Execution.{Gets, GetsOperand, with_machine, LoadsA, Computes, MovesTo, divides_at, query, HasQuery, LeavesOnly, IsSide, IsNamedOn, IsAtHand}
+use Rattle.sf_piece.specs.Execution.{GetsOperand, with_machine, LoadsA, Computes, MovesTo, divides_at, query, HasQuery, LeavesOnly, IsSide, IsNamedOn, IsAtHand}
 use Rattle.sf_piece.specs.Foresight.{IsForetold}
 use Rattle.sf_piece.specs.Machines.{after_return}
 use Rattle.sf_piece.specs.SmallSteps.{IsMade, IsDecision, IsCarriedOut, IsTidy, IsExecuted}
@@ -85,16 +85,21 @@ operation_ok p q r op other right (Err e) at goes gets same made = tt
 
 -- ---- a test of A
 
--- what a test asks for
-pub test_asks : (p : PieceData) (test : Test) (other : Operand) (t f : ℕ) (given : PieceData × NodeId)
-    → GetsOperand p other (Some given)
-    → HasQuery p (Branch test other t f) (Some (given.0, query p.machine.a test given.1))
-test_asks p test other t f given gets = (Some given, gets, refl)
+-- what an instruction asks for of A
+pub asked_for : (p : PieceData) (i : Insn) (test : Test) (other : Operand) (given : PieceData × NodeId)
+    → AsksTest p i test other → GetsOperand p other (Some given)
+    → HasQuery p i (Some (given.0, query p.machine.a test given.1))
+asked_for p i test other given (inl (t, f, e)) gets = rw e (Some given, gets, refl)
+asked_for p i test other given (inr (e, et, eo, more)) gets = rw (e, et) (more, (Some given, rw eo at gets, refl))
 
 -- its second word contradicts
-pub test_empties : (p q : PieceData) (test : Test) (other : Operand) (t f : ℕ) → IsAtHand p (Branch test other t f)
+pub asks_none : (p q : PieceData) (i : Insn) (test : Test) (other : Operand) → AsksTest p i test other → IsAtHand p i
     → GetsOperand p other None → IsExecuted p q Empty
-test_empties p q test other t f at none = (Branch test other t f, at, inr (inl (None, none, refl)))
+asks_none p q i test other asks at none = (i, at, inr (inl (by asks)))
+  where
+    by : AsksTest p i test other → HasQuery p i None
+    by (inl (t, f, e)) = rw e (None, none, refl)
+    by (inr (e, et, eo, more)) = rw e (more, (None, rw eo at none, refl))
 
 -- its result is implied, and the piece goes on
 pub test_executed : (p q r : PieceData) (test : Test) (other : Operand) (t f : ℕ) (b : Bool)
@@ -108,7 +113,7 @@ test_executed p q r test other t f b at told named on =
         (
           Branch test other t f,
           at,
-          inr (inr (asked, b, test_asks p test other t f told.0 told.1, told.2, named)),
+          inr (inr (asked, b, (Some told.0, told.1, refl), told.2, named)),
         ),
         on.1,
       ),
@@ -142,26 +147,14 @@ pub returned_executed : (p q : PieceData) → IsAtHand p ReturnA → p.machine.t
 returned_executed p q at all same =
     (1, (q, (ReturnA, at, inl (after_return p.machine p.machine.value, (all, refl), same)), refl))
 
--- the next bit is asked for
-pub bit_asks : (p : PieceData) (number : ℕ) (given : PieceData × NodeId) → p.machine.taken < 32
-    → number ≡ 2 ^ (31 - p.machine.taken) → Gets p (Const number) (Some given)
-    → HasQuery p ReturnA (Some (given.0, query p.machine.a AnyBit given.1))
-bit_asks p number given more e gets =
-    (more, (Some given, subst (λ (n : ℕ). Gets p (Const n) (Some given)) e gets, refl))
-
--- it is implied
+-- the next bit is implied
 pub bit_executed : (p q : PieceData) (number : ℕ) (b : Bool) → IsAtHand p ReturnA → p.machine.taken < 32
     → number ≡ 2 ^ (31 - p.machine.taken) → IsForetold p AnyBit (Constant number) b → IsNamedOn p ReturnA b q
     → IsExecuted p q On
 bit_executed p q number b at more e told named =
     let asked : PieceData × Cond = (told.0.0, query p.machine.a AnyBit told.0.1) in
-    (1, (q, (ReturnA, at, inr (inr (asked, b, bit_asks p number told.0 more e told.1, told.2, named))), refl))
-
--- its number contradicts
-pub bit_empties : (p q : PieceData) (number : ℕ) → IsAtHand p ReturnA → p.machine.taken < 32
-    → number ≡ 2 ^ (31 - p.machine.taken) → Gets p (Const number) None → IsExecuted p q Empty
-bit_empties p q number at more e none =
-    (ReturnA, at, inr (inl (more, (None, subst (λ (n : ℕ). Gets p (Const n) None) e none, refl))))
+    let asks = asked_for p ReturnA AnyBit (Constant number) told.0 (inr (refl, refl, ap Constant e, more)) told.1 in
+    (1, (q, (ReturnA, at, inr (inr (asked, b, asks, told.2, named))), refl))
 
 back_constant : (n c : ℕ) (p : PieceData) (i : ℕ) → node_at p.pool i ≡ Const c
     → IsPropagatedBack n p.facts.known p.pool i

@@ -51,6 +51,14 @@ decided_number k n e h = by (k.low == k.high) refl e
         one_number k h (eqb-true k.low k.high d) ∙ ap number_known (sym same)
     by false d s = absurd cc
 
+-- X is tested by its only number
+pub against_x : (p : PieceData) (o : Option ℕ)
+    → IfSome o (λ n. known_at p.facts.known p.machine.x.0 ≡ number_known n)
+    → IfSome o (λ n. (m : ℕ) → IsPropagatedBack m p.facts.known p.pool p.machine.x.0)
+    → IfSome o (λ n. IsTestedNumber p X n)
+against_x p None known back = tt
+against_x p (Some n) known back = (known, back)
+
 -- ---- a constant's node
 
 is_constant : (m : Node) (k : ℕ) → (m ≡ Const k) ⊎ (m ≢ Const k)

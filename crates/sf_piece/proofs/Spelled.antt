@@ -1,13 +1,13 @@
 -- Names by their runs of false: what is added to one, and how two compare.
 use Rattle.std.proofs.lemmas.Grind.{common_steps}
-use Rattle.std.proofs.Common.{◌≡◌, ℕ, zero, suc, ◌+◌, ◌<◌, Bool, true, false, List, [], ◌∷◌, ◌++◌, length, replicate, refl, sym, ap, ◌∙◌, arith, append_assoc, take, get_or}
+use Rattle.std.proofs.Common.{◌≡◌, ℕ, zero, suc, ◌+◌, ◌<◌, ◌≤◌, Bool, true, false, List, [], ◌∷◌, ◌++◌, length, length-append, replicate, refl, sym, ap, ◌∙◌, arith, append_assoc, take, get_or}
 use Rattle.std.specs.declared.cmp.Ordering.{Ordering}
 use Rattle.std.specs.declared.cmp.Reverse.{Reverse}
 use Rattle.std.specs.declared.cmp.Ordering.TheVariants.{Less, Equal, Greater}
 use Rattle.std.specs.Ordering.{bool_cmp, nat_cmp, ordering_then}
 use Rattle.std.specs.Cmp.Lexicographic.{slice_cmp}
 use Rattle.std.proofs.lemmas.Bool.Decides.{nat_tests}
-use Rattle.std.proofs.lemmas.List.{take_more, replicate-append-replicate}
+use Rattle.std.proofs.lemmas.List.{take_more, length-replicate, replicate-append-replicate}
 use Rattle.sf_piece.specs.Names.{spelled}
 
 -- ---- what is added
@@ -36,6 +36,16 @@ pub with_run : (runs : List (Reverse ℕ)) (i : ℕ) (run : Reverse ℕ) (xs ys 
     → ys ≡ xs ++ spelled (take i runs) 0
     → (ys ++ replicate (get_or runs i run).0 false) ++ true ∷ [] ≡ xs ++ spelled (take (i + 1) runs) 0
 with_run runs i run xs ys l so_far = grind (arith, common_steps, take_more, run_more, with_rest, append_assoc)
+
+-- the falses at a name's end are some of its truth values
+pub rest_within : (runs : List (Reverse ℕ)) (n : ℕ) → n ≤ length (spelled runs n)
+rest_within [] n = omega (arith, length-replicate n false)
+rest_within (m ∷ runs) n =
+    omega (
+      arith,
+      rest_within runs n,
+      length-append (replicate m.0 false) (true ∷ spelled runs n),
+    )
 
 -- ---- how two compare
 

@@ -24,6 +24,7 @@ use Rattle.sf_dom.specs.Learning.{StartsBy, LearnsBy, CantLearn, GrowsBy, CantGr
 use Rattle.sf_dom.specs.Rules.{Then}
 use Rattle.sf_piece.specs.declared.machine.SymbolicMachine.{SymbolicMachine}
 use Rattle.sf_piece.specs.Machines.{after_return, first_machine}
+pub use Rattle.sf_piece.specs.Machines.{on}
 use Rattle.sf_piece.specs.Pieces.{PieceData, StepData, Split, Settled, Empty}
 
 -- ---- words
@@ -62,10 +63,6 @@ GetsOperand p (Constant k) given = Gets p (Const k) given
 GetsOperand p X given = given ≡ Some (p, p.machine.x)
 
 -- ---- instructions that meet no truth value
-
--- the machine at the next instruction, none of whose truth values is taken
-abbrev pub on : SymbolicMachine → SymbolicMachine
-on m = record m { place = m.place + 1; taken = 0; value = 0 }
 
 -- the piece with another machine
 abbrev pub with_machine : PieceData → SymbolicMachine → PieceData

@@ -1,5 +1,5 @@
 -- What one instruction, or one truth value, makes of a piece.
-use Rattle.std.specs.Prelude.{◌≡◌, ℕ, ◌≤◌, length, true, false, Option, Some, None}
+use Rattle.std.specs.Prelude.{◌≡◌, ◌≢◌, ℕ, ◌≤◌, length, true, false, Option, Some, None}
 use Rattle.sf_check.specs.declared.insn.Insn.{Insn}
 use Rattle.sf_sym.specs.declared.pool.Cond.{Cond}
 use Rattle.sf_sym.specs.declared.pool.Node.TheVariants.{Const}
@@ -14,7 +14,7 @@ use Rattle.sf_check.specs.Stacks.{IsPlain}
 use Rattle.sf_piece.specs.Execution.{IsNodeAt, LeavesOnly, LeavesNeither, IsSide, IsNamedOn, GoesOnFor, SplitsInto, IsEmptied}
 use Rattle.sf_piece.specs.PlainPieces.{IsPlainPiece}
 use Rattle.sf_piece.specs.SymbolicRun.{AreNodesBelow, IsLawfulPiece}
-use Rattle.sf_piece.specs.Works.{HasAdvanced, IsForeseen}
+use Rattle.sf_piece.specs.Works.{HasAdvanced, IsContinuation, IsForeseen}
 
 -- what is right of an instruction or a truth value, by what it makes of piece p: p goes on as q, is split, settles with
 -- the name and the answer so far of q, or has no member
@@ -50,6 +50,16 @@ IsExecuted p q On = HasGoneFor p q
 IsExecuted p q (Split f t) = SplitsInto p f t
 IsExecuted p q Settled = (q ≡ p) × (length p.stack ≤ p.machine.program)
 IsExecuted p q Empty = IsEmptied p
+
+-- A piece has gone on to its end: from where it stood then, its last small step, after which it doesn't go on, makes
+-- this of it.
+pub record HasEnded (p r : PieceData) (s : SmallStep) : Type 0 where
+  pub last : PieceData
+  pub is_on : IsContinuation p last
+  pub goes : HasGoneFor p last
+  pub step : IsSmallStep last r s
+  pub rule : IsExecuted last r s
+  pub ends : s ≢ On
 
 -- what the rules leave of a query: both truth values, one that is implied, or neither
 abbrev pub IsDecision : PieceData × Cond → Insn → Decision → Type 0

@@ -5,7 +5,7 @@ use Rattle.sf_insn.specs.declared.input.Input.{Input}
 use Rattle.sf_insn.specs.Inputs.{IsInput}
 use Rattle.sf_insn.specs.declared.ops.BinOp.TheVariants.{Div}
 use Rattle.sf_insn.specs.declared.ops.Test.{Test}
-use Rattle.sf_insn.specs.declared.ops.Test.TheVariants.{Equal}
+use Rattle.sf_insn.specs.declared.ops.Test.TheVariants.{Equal, AnyBit}
 use Rattle.sf_check.specs.declared.insn.Insn.{Insn}
 use Rattle.sf_check.specs.declared.insn.Insn.TheVariants.{LoadScratch, LoadXScratch, StoreA, StoreX, Alu, Jump, Branch, ReturnConstant, ReturnA, Tax, Txa}
 use Rattle.sf_check.specs.declared.insn.Operand.{Operand}
@@ -196,6 +196,12 @@ Asks p (Branch test other t f) = Unit {0}
 Asks p ReturnA = p.machine.taken < 32
 Asks p (Alu Div X) = p.machine.taken ≡ 0
 Asks p _ = ⊥
+
+-- the instruction asks for this test of A: it is the test, or it returns A and asks for the bit of the operand
+abbrev pub AsksTest : PieceData → Insn → Test → Operand → Type 0
+AsksTest p i test other =
+    ((t : ℕ) × (f : ℕ) × (i ≡ Branch test other t f))
+    ⊎ ((i ≡ ReturnA) × (test ≡ AnyBit) × (other ≡ Constant (2 ^ (31 - p.machine.taken))) × (p.machine.taken < 32))
 
 -- the next truth value is whether the condition is met
 pub record IsQuery (p : PieceData) (i : Insn) (cond : Cond) : Type 0 where

@@ -1,8 +1,14 @@
 //! Symbolic execution of the instructions that may meet truth values: operations, tests and returns of A.
 
-ghost use Rattle.std.specs.Prelude.{◌≡◌, ℕ, ◌<◌, ◌^◌, IfOk, IfSome};
+ghost use Rattle.std.specs.Prelude.{◌≡◌, ℕ, ◌<◌, ◌^◌, length, IfOk, IfSome};
+ghost use Rattle.sf_insn.specs.Inputs.{IsInput};
+ghost use Rattle.sf_insn.specs.declared.input.Input.{Input as AnInput};
+ghost use Rattle.sf_sym.specs.Pool.{value_of};
+ghost use Rattle.sf_dom.specs.Backward.{IsPropagatedBack};
+ghost use Rattle.sf_dom.specs.Facts.{Covers, Agrees, known_at};
+ghost use Rattle.sf_dom.specs.Rules.{number_known};
 ghost use Rattle.sf_piece.specs.SymbolicRun.{IsLawfulPiece};
-ghost use Rattle.sf_piece.specs.Works.{HasAtHand, IsOperandNumber, IsAPropagatedBack, PassesAlways, divides_at};
+ghost use Rattle.sf_piece.specs.Works.{HasAtHand, IsOperandNumber, IsAPropagatedBack, PassesAlways, AsksTest, divides_at};
 ghost use Rattle.sf_dom.specs.SoundRules.{ForcedIsLearnt};
 ghost use Rattle.sf_piece.specs.Execution.{IsAtHand};
 ghost use Rattle.sf_piece.specs.Foresight.{IsTestedNumber, IsForetold};
@@ -12,11 +18,12 @@ use crate::chains::take_failing;
 use crate::deciding::{SmallStep, carry_out, decide, take};
 use crate::executing::{leave_program, set_a};
 use crate::fault::Fault;
-use crate::nodes::{operand, push};
+use crate::nodes::operand;
 use crate::run::Run;
 use sf_check::{Insn, Operand};
+use sf_dom::Facts;
 use sf_insn::{BinOp, Test};
-use sf_sym::{Cond, Node};
+use sf_sym::{Cond, Node, NodeId, Pool};
 use std::alloc::Global;
 
 /// Whether the operation has to ask first whether X is 0: it divides by X, and that truth value isn't in the name yet.
@@ -30,9 +37,27 @@ fn asks_zero(op: BinOp, other: Operand, taken: usize) -> bool
     }
 }
 
-/// The number that A is tested against: the constant, or the only number that X may have. `None` where X may have
-/// several numbers. `None` also where the known bits of X could still narrow the nodes that X is computed from
-/// (`Facts::tell`): a test with X can teach something then.
+/// The only number that a node may have. `None` where it may have several, and also where its known bits could still
+/// narrow the nodes that it is computed from (`Facts::tell`). The caller's condition: the facts are those of this pool,
+/// and the node is in it.
+fn only_number(facts: &Facts, pool: &Pool, node: NodeId) -> Option<u32>
+    requires covers { Covers facts.now pool.now }
+    requires within { node.0 < length pool.now }
+    ensures value { IfSome result (λ n. (d : AnInput) → IsInput d → Agrees facts.now pool.now d
+        → value_of pool.now d node.0 ≡ n) }
+    ensures known { IfSome result (λ n. known_at facts.now.known node.0 ≡ number_known n) }
+    ensures back { IfSome result (λ n. (m : ℕ) → IsPropagatedBack m facts.now.known
+        pool.now node.0) }
+    ensures fits { IfSome result (λ n. n < 2 ^ 32) }
+{
+    let number = facts.decided(pool, node)?;
+    // Only `None` matters: known bits could still narrow other nodes then.
+    facts.tell(pool, node, Test::Equal, number)?;
+    Some(number)
+}
+
+/// The number that A is tested against: the constant, or the only number that X may have (`only_number`). `None` where
+/// that gives none: a test with X can teach something then.
 fn number_against(run: &Run, other: Operand) -> Option<u32>
     requires { IsLawfulPiece run.now }
     ensures value { IfSome result (IsOperandNumber run.now other) }
@@ -41,13 +66,7 @@ fn number_against(run: &Run, other: Operand) -> Option<u32>
 {
     match other {
         Operand::Constant(number) => Some(number),
-        Operand::X => {
-            let number = run.facts.decided(&run.pool, run.machine.x)?;
-            // Only `None` matters: the known bits of X could still narrow other nodes then.
-            run.facts
-                .tell(&run.pool, run.machine.x, Test::Equal, number)?;
-            Some(number)
-        }
+        Operand::X => only_number(&run.facts, &run.pool, run.machine.x),
     }
 }
 
@@ -64,6 +83,39 @@ fn foresee(run: &Run, test: Test, other: Operand) -> Option<bool>
     run.facts.tell(&run.pool, run.machine.a, test, number)
 }
 
+/// Tries a test of A against `other`, whose result is the next truth value of `insn`: it is learnt as false and as
+/// true, each from the same facts. Where the facts leave both, the result is `Split`. Where they leave one, this is
+/// added to the name, the machine goes on, and the result is `On`. Where they leave neither, or can't take in the node
+/// of `other`, it is `Empty`. With `Split` and `Empty` the run stays as it was. `Memory` comes for any reason that the
+/// fault names. The caller's condition: `insn` stands at the machine's place, and asks for this test.
+fn ask(
+    alloc: Global,
+    run: &mut Run,
+    insn: Insn,
+    test: Test,
+    other: Operand,
+) -> Result<SmallStep, Fault>
+    requires lawful { IsLawfulPiece run.old }
+    requires standing { HasAtHand run.old insn }
+    requires asks { AsksTest run.old insn test other }
+    ensures step { IfOk result (IsSmallStep run.old run.new) }
+    ensures rule { IsAtHand run.old insn → IfOk result (IsExecuted run.old run.new) }
+{
+    // `other` gets its node in a copy: if only one truth value is left, the run goes on without this node.
+    let mut asked = run.fork()?;
+    let Some(right) = operand(alloc, &mut asked, other)? else {
+        return Ok(SmallStep::Empty);
+    };
+    let cond = Cond {
+        node: run.machine.a,
+        test,
+        other: right,
+        sense: true,
+    };
+    let decision = decide(alloc, &asked, insn, cond)?;
+    carry_out(run, insn, decision)
+}
+
 /// Runs an operation on A: its result is put in A as a node, and the machine goes on to the next instruction.
 ///
 /// A division by X first asks whether X is 0, unless the name says already that it isn't. A call that asks only takes
@@ -71,9 +123,9 @@ fn foresee(run: &Run, test: Test, other: Operand) -> Option<bool>
 /// `Split`. Where X is 0, the program returns 0. Otherwise the machine stays at the division, and the next call
 /// divides.
 ///
-/// `Empty` where the facts leave neither truth value, or can't take in a node. `Memory` comes for any reason that the
-/// fault names. In both cases the run may have new nodes, but nothing else has changed. The caller's condition: `insn`
-/// is this operation, and stands at the machine's place.
+/// `Empty` where the facts leave neither truth value, or can't take in a node: the run may have new nodes then, but
+/// nothing else has changed. `Memory` comes for any reason that the fault names; the run may be changed then. The
+/// caller's condition: `insn` is this operation, and stands at the machine's place.
 pub(crate) fn alu(
     alloc: Global,
     run: &mut Run,
@@ -113,15 +165,10 @@ pub(crate) fn alu(
 
 /// Runs a test of A against `other`. Where `foresee` gives its truth value, which is the same on every member, this is
 /// added to the name, and the machine goes to where the test leads then. From there the run goes on over the failing
-/// tests that come next, as `take_failing` does. The result is `On`.
+/// tests that come next, as `take_failing` does. The result is `On`. Else the test is tried (`ask`).
 ///
-/// Else the test is learnt as false and as true, each from the same facts. Where the facts leave both, the result is
-/// `Split`. Where they leave one, this is added to the name, the machine goes to where the test leads then, and the
-/// result is `On`. Where they leave neither, or can't take in the node of `other`, the result is `Empty`. With `Split`
-/// and `Empty` the run stays as it was.
-///
-/// `Memory` comes for any reason that the fault names. Where it comes from `take_failing`, the run has gone past the
-/// test; else it is as it was. The caller's condition: `insn` is this test, and stands at the machine's place.
+/// `Memory` comes for any reason that the fault names; the run may be changed then. The caller's condition: `insn` is
+/// this test, and stands at the machine's place.
 pub(crate) fn branch(
     alloc: Global,
     run: &mut Run,
@@ -138,32 +185,18 @@ pub(crate) fn branch(
 {
     if let Some(sense) = foresee(run, test, other) {
         take(run, insn, sense)?;
-        take_failing(run)?;
+        take_failing(run);
         return Ok(SmallStep::On);
     }
-    // `other` gets its node in a copy: if only one truth value is left, the run goes on without this node.
-    let mut asked = run.fork(alloc)?;
-    let Some(right) = operand(alloc, &mut asked, other)? else {
-        return Ok(SmallStep::Empty);
-    };
-    let cond = Cond {
-        node: run.machine.a,
-        test,
-        other: right,
-        sense: true,
-    };
-    let decision = decide(alloc, &asked, insn, cond)?;
-    carry_out(run, insn, decision)
+    ask(alloc, run, insn, test, other)
 }
 
 /// Runs a return of A, which meets the 32 bits of A, the highest first. Each call takes the next bit, and the machine
 /// stays at the return. When all 32 are in the name, the next call leaves the program, which returns the number that
 /// they spell.
 ///
-/// Where the bit is told, it is added to the name. Else it is learnt as false and as true: `Split` where the facts
-/// leave both, `On` where they leave one, which is added to the name, and `Empty` where they leave neither or can't
-/// take in the constant that the bit is tested with. `Memory` comes for any reason that the fault names; the run then
-/// stays as it was. The caller's condition: a return of A stands at the machine's place.
+/// Where the bit is told, it is added to the name. Else it is tried (`ask`). `Memory` comes for any reason that the
+/// fault names; the run may be changed then. The caller's condition: a return of A stands at the machine's place.
 pub(crate) fn return_a(alloc: Global, run: &mut Run) -> Result<SmallStep, Fault>
     requires lawful { IsLawfulPiece run.old }
     requires standing { HasAtHand run.old Insn.ReturnA }
@@ -178,22 +211,10 @@ pub(crate) fn return_a(alloc: Global, run: &mut Run) -> Result<SmallStep, Fault>
         return Ok(SmallStep::On);
     }
     // Only the next bit of this number is 1.
-    let number = 1 << (31 - taken as u32);
-    if let Some(sense) = foresee(run, Test::AnyBit, Operand::Constant(number)) {
+    let bit = Operand::Constant(1 << (31 - taken as u32));
+    if let Some(sense) = foresee(run, Test::AnyBit, bit) {
         take(run, Insn::ReturnA, sense)?;
         return Ok(SmallStep::On);
     }
-    // In a copy, as in `branch`.
-    let mut asked = run.fork(alloc)?;
-    let Some(bit) = push(alloc, &mut asked, Node::Const(number))? else {
-        return Ok(SmallStep::Empty);
-    };
-    let cond = Cond {
-        node: run.machine.a,
-        test: Test::AnyBit,
-        other: bit,
-        sense: true,
-    };
-    let decision = decide(alloc, &asked, Insn::ReturnA, cond)?;
-    carry_out(run, Insn::ReturnA, decision)
+    ask(alloc, run, Insn::ReturnA, Test::AnyBit, bit)
 }

@@ -1,6 +1,6 @@
 //! Chains of tests of one word against numbers.
 
-ghost use Rattle.std.specs.Prelude.{◌≡◌, ◌<◌, length, IfOk, IfSome};
+ghost use Rattle.std.specs.Prelude.{◌≡◌, ◌<◌, length, IfSome};
 ghost use Rattle.sf_dom.specs.Facts.{known_at};
 ghost use Rattle.sf_piece.specs.SymbolicRun.{IsLawfulPiece};
 ghost use Rattle.sf_dom.specs.SoundRules.{ForcedIsLearnt};
@@ -9,7 +9,6 @@ ghost use Rattle.sf_piece.specs.SmallSteps.{IsExecuted};
 ghost use Rattle.sf_piece.specs.declared.deciding.SmallStep.{SmallStep};
 ghost use Rattle.sf_piece.specs.Works.{HasGoneOn, IsFailing, AreFailing, IsAPropagatedBack, behind_chain};
 
-use crate::fault::Fault;
 use crate::run::Run;
 use sf_check::{Insn, Operand, Program, Skipped};
 use sf_dom::Known;
@@ -85,17 +84,15 @@ fn failing_chain(run: &Run, known: Known) -> Skipped
 
 /// Takes the tests that `failing_chain` finds from the machine's place on: a false for each of them is added to the
 /// name, all at once, and the machine moves to the place behind them. All else stays as it is, and where there is no
-/// such test, nothing changes. `Memory` where 2^32 falses or more would stand in a row in the name: the run is as it
-/// was then.
-pub(crate) fn take_failing(run: &mut Run) -> Result<(), Fault>
+/// such test, nothing changes.
+pub(crate) fn take_failing(run: &mut Run)
     requires { IsLawfulPiece run.old }
-    ensures gone { IfOk result (λ _. HasGoneOn run.old run.new) }
+    ensures gone { HasGoneOn run.old run.new }
     ensures rule { ForcedIsLearnt → IsAPropagatedBack run.old
-        → IfOk result (λ _. IsExecuted run.old run.new SmallStep.On) }
+        → IsExecuted run.old run.new SmallStep.On }
 {
     let known = run.facts.known(run.machine.a);
     let chain = failing_chain(run, known);
-    run.name.push_falses(chain.count)?;
+    run.name.push_falses(chain.count);
     run.machine.place = chain.behind;
-    Ok(())
 }

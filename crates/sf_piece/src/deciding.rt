@@ -7,17 +7,15 @@ ghost use Rattle.sf_dom.specs.Facts.{IsPlainCondition};
 ghost use Rattle.sf_dom.specs.Learning.{LearnsBy, CantLearn};
 ghost use Rattle.sf_piece.specs.SymbolicRun.{IsLawfulPiece};
 ghost use Rattle.sf_piece.specs.Works.{HasAtHand, IsQuery, AfterTruthValue, HasAdvanced, IsChild, IsForeseen, Asks, AreChildFacts, IsNever, with_sense};
-ghost use Rattle.sf_piece.specs.Execution.{IsSide, IsNamedOn};
+ghost use Rattle.sf_piece.specs.Execution.{IsSide, IsNamedOn, with_machine};
 ghost use Rattle.sf_piece.specs.SmallSteps.{IsSmallStep, IsDecision, IsRightDecision, IsCarriedOut};
 
 use crate::fault::Fault;
-use crate::machine::SymbolicMachine;
 use crate::run::Run;
 use sf_check::Insn;
 use sf_dom::Facts;
 use sf_sym::Cond;
 use std::alloc::Global;
-use std::sync::Arc;
 
 /// What became of a run by one instruction, or by one truth value of it.
 #[derive(Drop)]
@@ -51,45 +49,39 @@ fn skip_count(on_true: u8, on_false: u8, sense: bool) -> u8
     if sense { on_true } else { on_false }
 }
 
-/// The machine after `insn` has met the truth value `sense`. A test skips as many instructions as it says for this
+/// Moves the machine on: `insn` has met the truth value `sense`. A test skips as many instructions as it says for this
 /// result. A return of A stays at its place, with one more bit. At a division by X, `sense` says whether X is 0. If X
 /// is 0, the program returns 0 (`start_next`). If not, the machine stays at the division, and can now divide. The
 /// caller's conditions: `insn` stands at the machine's place, and is one of these three, with a truth value that isn't
 /// in the name yet.
-fn machine_after(run: &Run, insn: Insn, sense: bool) -> SymbolicMachine
-    requires standing { HasAtHand run.now insn }
-    requires asks { Asks run.now insn }
-    ensures { AfterTruthValue run.now insn sense result }
+fn meet(run: &mut Run, insn: Insn, sense: bool)
+    requires standing { HasAtHand run.old insn }
+    requires asks { Asks run.old insn }
+    ensures machine { AfterTruthValue run.old insn sense run.new.machine }
+    ensures rest { run.new ≡ with_machine run.old run.new.machine }
 {
-    let m = run.machine;
     match insn {
         Insn::Branch(_, _, on_true, on_false) => {
-            let next = skip_count(on_true, on_false, sense);
-            SymbolicMachine {
-                place: m.place + 1 + next as usize,
-                ..m
-            }
+            run.machine.place += 1 + skip_count(on_true, on_false, sense) as usize;
         }
-        Insn::ReturnA => SymbolicMachine {
-            taken: m.taken + 1,
-            value: 2 * m.value + u32::from(sense),
-            ..m
-        },
+        Insn::ReturnA => {
+            run.machine.taken += 1;
+            run.machine.value = 2 * run.machine.value + u32::from(sense);
+        }
         // A division by X: no other instruction meets a truth value.
         _ => {
             if sense {
-                m.start_next(0)
+                run.machine.start_next(0);
             } else {
-                SymbolicMachine { taken: 1, ..m }
+                run.machine.taken = 1;
             }
         }
     }
 }
 
-/// Takes a truth value that is the same on every member: it is added to the name, the machine goes on
-/// (`machine_after`), and nothing is learnt from it. `Memory` where `Name::push` fails; the run then stays as it was.
-/// The caller's conditions: `insn` stands at the machine's place, and on every member the next truth value that it
-/// meets is `sense`.
+/// Takes a truth value that is the same on every member: it is added to the name, the machine goes on (`meet`), and
+/// nothing is learnt from it. `Memory` where `Name::push` fails; the machine may have gone on then. The caller's
+/// conditions: `insn` stands at the machine's place, and on every member the next truth value that it meets is `sense`.
 pub(crate) fn take(run: &mut Run, insn: Insn, sense: bool) -> Result<(), Fault>
     requires lawful { IsLawfulPiece run.old }
     requires standing { HasAtHand run.old insn }
@@ -98,17 +90,16 @@ pub(crate) fn take(run: &mut Run, insn: Insn, sense: bool) -> Result<(), Fault>
     ensures lawful { IfOk result (λ _. IsLawfulPiece run.new) }
     ensures rule { IfOk result (λ _. IsNamedOn run.old insn sense run.new) }
 {
-    let to = machine_after(run, insn, sense);
+    meet(run, insn, sense);
     run.name.push(sense)?;
-    run.machine = to;
     Ok(())
 }
 
 /// The run of those members of `run` on which the next truth value of `insn` is `sense`. It is a copy of `run`, with
-/// four changes: its name gets this truth value, its conditions get `cond` with this sense, its machine goes on
-/// (`machine_after`), and its facts are `facts`. `Memory` where an allocation is refused, where the name or the
-/// conditions would get too long, or where something that is shared has too many owners. The caller's conditions: those
-/// of `decide` for `insn` and `cond`, and `facts` are those that `child_facts` gives for `sense`.
+/// four changes: its machine goes on (`meet`), its name gets this truth value, its conditions get `cond` with this
+/// sense, and its facts are `facts`. `Memory` where an allocation is refused, or where something that is shared has too
+/// many owners. The caller's conditions: those of `decide` for `insn` and `cond`, and `facts` are those that
+/// `child_facts` gives for `sense`.
 fn child(run: &Run, insn: Insn, cond: Cond, sense: bool, facts: Facts) -> Result<Run, Fault>
     requires lawful { IsLawfulPiece run.now }
     requires standing { HasAtHand run.now insn }
@@ -118,17 +109,12 @@ fn child(run: &Run, insn: Insn, cond: Cond, sense: bool, facts: Facts) -> Result
     ensures lawful { IfOk result (λ c. IsLawfulPiece c) }
     ensures rule { IfOk result (λ c. IsSide (run.now, cond) insn sense c) }
 {
-    let to = machine_after(run, insn, sense);
-    let mut conditions = run.conditions.fork()?;
-    conditions.push(Cond { sense, ..cond })?;
-    Ok(Run {
-        stack: Arc::try_clone(&run.stack)?,
-        name: run.name.with_truth(sense)?,
-        pool: run.pool.fork()?,
-        conditions,
-        machine: to,
-        facts,
-    })
+    let mut side = run.fork()?;
+    meet(&mut side, insn, sense);
+    side.name.push(sense)?;
+    side.conditions.push(Cond { sense, ..cond })?;
+    side.facts = facts;
+    Ok(side)
 }
 
 /// A copy of the run's facts that has learnt that the test of `cond` has the result `sense`; `cond.sense` is ignored.
@@ -157,9 +143,9 @@ fn child_facts(alloc: Global, run: &Run, cond: Cond, sense: bool) -> Result<Opti
 
 /// Learns the next truth value of `insn` as false and as true, each from the same facts, and says which of them the
 /// facts leave. Where they leave both, it makes the two runs (`child`). `asked` stays as it is. `Memory` where an
-/// allocation is refused, where the name or the conditions would get too long, or where something that is shared has
-/// too many owners. The caller's conditions: `insn` stands at the machine's place; `cond` has the sense true, is met
-/// exactly where the next truth value of `insn` is true, and is such a condition as `child_facts` needs.
+/// allocation is refused, or where something that is shared has too many owners. The caller's conditions: `insn` stands
+/// at the machine's place; `cond` has the sense true, is met exactly where the next truth value of `insn` is true, and
+/// is such a condition as `child_facts` needs.
 pub(crate) fn decide(alloc: Global, asked: &Run, insn: Insn, cond: Cond) -> Result<Decision, Fault>
     requires lawful { IsLawfulPiece asked.now }
     requires standing { HasAtHand asked.now insn }
@@ -184,9 +170,8 @@ pub(crate) fn decide(alloc: Global, asked: &Run, insn: Insn, cond: Cond) -> Resu
 
 /// Goes on as was decided. `Implied` gives `On`: `take` adds the truth value to the name of `run` and moves the
 /// machine; the pool, the conditions and the facts stay as they are. `Split` gives `Split` with the same two runs, and
-/// `Neither` gives `Empty`; `run` stays as it is then. `Memory` where `take` fails; `run` then stays as it was. The
-/// caller's conditions: `insn` stands at the machine's place of `run`, and the decision is right for its next truth
-/// value.
+/// `Neither` gives `Empty`; `run` stays as it is then. `Memory` where `take` fails. The caller's conditions: `insn`
+/// stands at the machine's place of `run`, and the decision is right for its next truth value.
 pub(crate) fn carry_out(run: &mut Run, insn: Insn, decision: Decision) -> Result<SmallStep, Fault>
     requires lawful { IsLawfulPiece run.old }
     requires standing { HasAtHand run.old insn }

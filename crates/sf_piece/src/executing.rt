@@ -1,12 +1,12 @@
 //! Symbolic execution: one instruction on symbolic words, or one truth value of it.
 
-ghost use Rattle.std.specs.Prelude.{◌≡◌, IfOk, length, slice_get, slice_set, Some, ◌<◌};
+ghost use Rattle.std.specs.Prelude.{◌≡◌, IfOk, length, slice_get, Some};
 ghost use Rattle.sf_sym.specs.declared.pool.NodeId.{NodeId as ANodeId};
 ghost use Rattle.sf_check.specs.Stacks.{IsPlain};
 ghost use Rattle.sf_sym.specs.Pool.{OperandsBelow};
 ghost use Rattle.sf_dom.specs.Facts.{IsWordOrConst};
 ghost use Rattle.sf_piece.specs.SymbolicRun.{IsLawfulPiece};
-ghost use Rattle.sf_piece.specs.Machines.{after_return};
+ghost use Rattle.sf_piece.specs.Machines.{after_return, updated, FitsIn};
 ghost use Rattle.sf_piece.specs.Execution.{LoadsA, LoadsX, MovesTo, with_machine};
 ghost use Rattle.sf_piece.specs.Works.{HasAtHand, SetsA, SetsX, GoesTo, HasAdvanced, ReturnsNow, IsMove};
 ghost use Rattle.sf_piece.specs.SmallSteps.{IsSmallStep, IsMade, IsTidy, IsExecuted};
@@ -15,7 +15,7 @@ ghost use Rattle.sf_dom.specs.SoundRules.{ForcedIsLearnt};
 use crate::asking::{alu, branch, return_a};
 use crate::deciding::SmallStep;
 use crate::fault::Fault;
-use crate::machine::SymbolicMachine;
+use crate::machine::{SymbolicMachine, Update};
 use crate::nodes::push;
 use crate::run::Run;
 use sf_check::Insn;
@@ -65,8 +65,8 @@ pub(crate) fn execute(alloc: Global, run: &mut Run) -> Result<SmallStep, Fault>
 }
 
 /// Puts a node in A, which is what `insn` does, and goes on to the next instruction. `Empty` where the facts can't take
-/// in the node: there is no member. `Memory` where an allocation is refused, where the pool would get too long, or
-/// where something that is shared has too many owners. In both cases only the pool may have changed.
+/// in the node: there is no member. `Memory` where an allocation is refused, or where something that is shared has too
+/// many owners. In both cases only the pool may have changed.
 ///
 /// The caller's conditions: `insn` stands at the machine's place; where it divides by X, the name says already that X
 /// isn't 0; the node has the value that `insn` puts in A, and its operands are in the pool; a word of the input is 0 to
@@ -87,14 +87,7 @@ pub(crate) fn set_a(
 {
     match push(alloc, run, node)? {
         Some(id) => {
-            let to = SymbolicMachine {
-                a: id,
-                place: run.machine.place + 1,
-                taken: 0,
-                value: 0,
-                ..run.machine
-            };
-            go(run, insn, to);
+            go(run, insn, Update::A(id));
             Ok(SmallStep::On)
         }
         None => Ok(SmallStep::Empty),
@@ -102,9 +95,9 @@ pub(crate) fn set_a(
 }
 
 /// Puts the constant `k` in X, which is what `insn` does, and goes on to the next instruction. `Empty` where the facts
-/// can't take in its node: there is no member. `Memory` where an allocation is refused, where the pool would get too
-/// long, or where something that is shared has too many owners. In both cases only the pool may have changed. The
-/// caller's conditions: `insn` stands at the machine's place, and puts `k` in X.
+/// can't take in its node: there is no member. `Memory` where an allocation is refused, or where something that is
+/// shared has too many owners. In both cases only the pool may have changed. The caller's conditions: `insn` stands at
+/// the machine's place, and puts `k` in X.
 fn set_x(alloc: Global, run: &mut Run, insn: Insn, k: u32) -> Result<SmallStep, Fault>
     requires lawful { IsLawfulPiece run.old }
     requires standing { HasAtHand run.old insn }
@@ -114,14 +107,7 @@ fn set_x(alloc: Global, run: &mut Run, insn: Insn, k: u32) -> Result<SmallStep, 
 {
     match push(alloc, run, Node::Const(k))? {
         Some(id) => {
-            let to = SymbolicMachine {
-                x: id,
-                place: run.machine.place + 1,
-                taken: 0,
-                value: 0,
-                ..run.machine
-            };
-            go(run, insn, to);
+            go(run, insn, Update::X(id));
             Ok(SmallStep::On)
         }
         None => Ok(SmallStep::Empty),
@@ -140,45 +126,24 @@ fn move_on(run: &mut Run, insn: Insn)
     ensures rule { MovesTo run.old.machine insn run.new.machine }
     ensures rest { run.new ≡ with_machine run.old run.new.machine }
 {
-    let m = run.machine;
-    let to = SymbolicMachine {
-        place: m.place + 1,
-        taken: 0,
-        value: 0,
-        ..m
-    };
+    let a = run.machine.a;
+    let x = run.machine.x;
     match insn {
         Insn::LoadScratch(k) => {
-            let w = scratch(&m, k);
-            go(run, insn, SymbolicMachine { a: w, ..to });
+            let node = scratch(&run.machine, k);
+            go(run, insn, Update::A(node));
         }
         Insn::LoadXScratch(k) => {
-            let w = scratch(&m, k);
-            go(run, insn, SymbolicMachine { x: w, ..to });
+            let node = scratch(&run.machine, k);
+            go(run, insn, Update::X(node));
         }
-        Insn::StoreA(k) => go(run, insn, with_scratch(&to, k, m.a)),
-        Insn::StoreX(k) => go(run, insn, with_scratch(&to, k, m.x)),
-        Insn::Tax => go(run, insn, SymbolicMachine { x: m.a, ..to }),
-        Insn::Txa => go(run, insn, SymbolicMachine { a: m.x, ..to }),
-        Insn::Jump(k) => {
-            let to = SymbolicMachine {
-                place: m.place + 1 + k as usize,
-                ..to
-            };
-            go(run, insn, to);
-        }
+        Insn::StoreA(k) => go(run, insn, Update::Scratch(k, a)),
+        Insn::StoreX(k) => go(run, insn, Update::Scratch(k, x)),
+        Insn::Tax => go(run, insn, Update::X(a)),
+        Insn::Txa => go(run, insn, Update::A(x)),
+        Insn::Jump(count) => go(run, insn, Update::Skip(count)),
         _ => unreachable!(),
     }
-}
-
-/// The machine with scratch word `k`, 0 to 15, set to the node `w`.
-fn with_scratch(m: &SymbolicMachine, k: u8, w: NodeId) -> SymbolicMachine
-    requires { k < length m.now.scratch }
-    ensures { result ≡ record m.now { scratch = slice_set m.now.scratch k (Some w) } }
-{
-    let mut scratch = m.scratch;
-    scratch[k as usize] = Some(w);
-    SymbolicMachine { scratch, ..*m }
 }
 
 /// The node of scratch word `k`, 0 to 15. The caller's condition: this word is set.
@@ -192,19 +157,21 @@ fn scratch(m: &SymbolicMachine, k: u8) -> NodeId
     }
 }
 
-/// Goes on by an instruction: the run's machine becomes `to`. The caller's conditions: `insn` stands at the machine's
-/// place, it doesn't leave the program, the name has all truth values that it meets, and `to` is the machine after it.
-fn go(run: &mut Run, insn: Insn, to: SymbolicMachine)
+/// Goes on by an instruction: the run's machine is updated so (`SymbolicMachine::go_on`). The caller's conditions:
+/// `insn` stands at the machine's place, it doesn't leave the program, the name has all truth values that it meets, and
+/// the machine is right after it with this update.
+fn go(run: &mut Run, insn: Insn, update: Update)
     requires lawful { IsLawfulPiece run.old }
     requires standing { HasAtHand run.old insn }
-    requires goes { GoesTo run.old insn to }
+    requires fits { FitsIn run.old.machine update }
+    requires goes { GoesTo run.old insn (updated run.old.machine update) }
     ensures gone { HasAdvanced run.old run.new }
     ensures lawful { IsLawfulPiece run.new }
-    ensures moved { run.new ≡ with_machine run.old to }
+    ensures moved { run.new ≡ with_machine run.old (updated run.old.machine update) }
 {
     // For the prover: only clauses speak of it.
     let _insn = insn;
-    run.machine = to;
+    run.machine.go_on(update);
 }
 
 /// Leaves the program with a return of this value, which is taken into the answer so far (`start_next`). The caller's
@@ -220,5 +187,5 @@ pub(crate) fn leave_program(run: &mut Run, insn: Insn, value: u32)
 {
     // For the prover: only clauses speak of it.
     let _insn = insn;
-    run.machine = run.machine.start_next(value);
+    run.machine.start_next(value);
 }

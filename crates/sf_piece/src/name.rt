@@ -1,6 +1,6 @@
 //! Names: lists of truth values, which are kept as their runs of false.
 
-ghost use Rattle.std.specs.Prelude.{◌≡◌, [], ◌∷◌, ◌++◌, replicate, true, false, IfOk, OnOk, OnErr};
+ghost use Rattle.std.specs.Prelude.{◌≡◌, ◌+◌, ◌^◌, ◌<◌, [], ◌∷◌, ◌++◌, length, replicate, true, false, IfOk, OnOk, OnErr};
 ghost use Rattle.std.specs.Ordering.{bool_cmp};
 ghost use Rattle.std.specs.Cmp.Lexicographic.{slice_cmp};
 ghost use Rattle.sf_piece.specs.Names.{spelled};
@@ -77,32 +77,23 @@ impl Name {
         })
     }
 
-    /// The name with one truth value more. `AllocError` where an allocation is refused, where the name would get too
-    /// long (`push`), or where something that is shared has too many owners.
-    pub(crate) fn with_truth(&self, value: bool) -> Result<Name, AllocError>
-        ensures { IfOk result (λ n. n ≡ self.now ++ value ∷ []) }
-    {
-        let mut longer = self.fork()?;
-        longer.push(value)?;
-        Ok(longer)
-    }
-
-    /// Adds a truth value at the end. `AllocError` where an allocation is refused, where the name would get too long,
-    /// with 2^32 falses in a run or more than 2^31 + 16 trues, or where a block of runs has too many owners. The name
-    /// then stays as it was.
+    /// Adds a truth value at the end. `AllocError` where an allocation is refused, or where a block of runs has too
+    /// many owners; the name then stays as it was. The caller's condition: the name has fewer than 2^31 truth values,
+    /// so there is room for one more.
     pub(crate) fn push(&mut self, value: bool) -> Result<(), AllocError>
+        requires { length self.old < 2 ^ 31 }
         ensures ok { OnOk result (self.new ≡ self.old ++ value ∷ []) }
         ensures err { OnErr result (self.new ≡ self.old) }
     {
         if value {
-            self.push_true()
-        } else {
-            self.push_falses(1)
+            return self.push_true();
         }
+        self.push_falses(1);
+        Ok(())
     }
 
-    /// Adds a true at the end, which ends the last run. `AllocError` where an allocation is refused, where the name has
-    /// 2^31 + 16 trues already, or where a block of runs has too many owners. The name then stays as it was.
+    /// Adds a true at the end, which ends the last run. `AllocError` where an allocation is refused, or where a block
+    /// of runs has too many owners; the name then stays as it was.
     fn push_true(&mut self) -> Result<(), AllocError>
         ensures ok { OnOk result (self.new ≡ self.old ++ true ∷ []) }
         ensures err { OnErr result (self.new ≡ self.old) }
@@ -112,17 +103,13 @@ impl Name {
         Ok(())
     }
 
-    /// Adds this many falses at the end. Takes no memory. `AllocError` where 2^32 falses or more would stand in a run:
-    /// the name is as it was then.
-    pub(crate) fn push_falses(&mut self, count: usize) -> Result<(), AllocError>
-        ensures ok { OnOk result (self.new ≡ self.old ++ replicate count false) }
-        ensures err { OnErr result (self.new ≡ self.old) }
+    /// Adds this many falses at the end. Takes no memory. The caller's condition: the name then has fewer than 2^32
+    /// truth values.
+    pub(crate) fn push_falses(&mut self, count: usize)
+        requires { length self.old + count < 2 ^ 32 }
+        ensures { self.new ≡ self.old ++ replicate count false }
     {
-        if count > (u32::MAX - self.rest) as usize {
-            return Err(AllocError);
-        }
         self.rest += count as u32;
-        Ok(())
     }
 }
 

@@ -10,7 +10,6 @@ use sf_check::{Insn, Program, Stack};
 use sf_dom::Facts;
 use sf_run::Answer;
 use sf_sym::{Cond, Pool};
-use std::alloc::Global;
 use std::marker::Model;
 use std::sync::Arc;
 
@@ -55,7 +54,7 @@ impl Run {
 
     /// A copy of the run. `Memory` where an allocation is refused, or where something that is shared has too many
     /// owners.
-    pub(crate) fn fork(&self, alloc: Global) -> Result<Run, Fault>
+    pub(crate) fn fork(&self) -> Result<Run, Fault>
         ensures { IfOk result (λ r. r ≡ self.now) }
     {
         Ok(Run {

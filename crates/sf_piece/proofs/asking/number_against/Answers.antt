@@ -1,27 +1,25 @@
-use Rattle.std.proofs.Common.{◌≡◌, ℕ, ◌<◌, length, refl, subst, arith}
-use Rattle.std.specs.Prelude.{Some, None, if◌then◌else◌, ◌==◌}
+use Rattle.std.proofs.Common.{◌≡◌, ℕ, subst}
+use Rattle.std.specs.Prelude.{IfSome}
+use Rattle.sf_insn.specs.declared.input.Input.{Input}
+use Rattle.sf_insn.specs.Inputs.{IsInput}
+use Rattle.sf_sym.specs.Pool.{value_of}
 use Rattle.sf_dom.specs.Backward.{IsPropagatedBack}
-use Rattle.sf_dom.specs.Facts.{known_at}
+use Rattle.sf_dom.specs.Facts.{known_at, Agrees}
+use Rattle.sf_dom.specs.Rules.{number_known}
 use Rattle.sf_piece.specs.Pieces.{PieceData}
-use Rattle.sf_piece.proofs.Foretold.{decided_number}
+use Rattle.sf_piece.proofs.Foretold.{against_x}
 use Rattle.sf_piece.proofs.asking.number_against.Goals as goal
 
-pub returns-in_ok-tell-in-X-clause-value : goal.returns-in_ok-tell-in-X-clause-value
-returns-in_ok-tell-in-X-clause-value c =
-    rw (← c.run.view_is, c.in-X.is) (c.in_ok-number-in-X.ensures.some _ refl)
+pub returns-in-X-clause-value : goal.returns-in-X-clause-value
+returns-in-X-clause-value c = rw c.in-X.is (subst (λ (q : PieceData). IfSome c.only_number.result (λ (n : ℕ).
+    (d : Input) → IsInput d → Agrees q.facts q.pool d → value_of q.pool d q.machine.x.0 ≡ n)) c.run.view_is
+    c.only_number.ensures.value)
 
-pub returns-in_ok-tell-in-X-clause-rule : goal.returns-in_ok-tell-in-X-clause-rule
-returns-in_ok-tell-in-X-clause-rule c =
-    let p : PieceData = c.args.run.now in
-    let h = c.requires.run in
-    let n = c.in_ok-number-in-X.number in
-    let within : p.machine.x.0 < length p.facts.known = omega (arith, h.nodes.x, h.covers.count) in
-    let ends = subst (λ (q : PieceData). Some n ≡ (if (known_at q.facts.known q.machine.x.0).low
-    == (known_at q.facts.known q.machine.x.0).high then Some (known_at q.facts.known q.machine.x.0).low else None))
-    c.run.view_is c.in_ok-number-in-X.ensures.ends in
-    let back = subst (λ (q : PieceData). (m : ℕ) → IsPropagatedBack m q.facts.known q.pool q.machine.x.0) c.run.view_is
-    c.in_ok-tell-in-X.ensures.goes_back in
-    rw c.in-X.is (
-      decided_number (known_at p.facts.known p.machine.x.0) n ends (h.covers.lawful.consistent p.machine.x.0 within),
-      back,
-    )
+pub returns-in-X-clause-rule : goal.returns-in-X-clause-rule
+returns-in-X-clause-rule c =
+    let o = c.only_number.result in
+    let known = subst (λ (q : PieceData). IfSome o (λ (n : ℕ).
+    known_at q.facts.known q.machine.x.0 ≡ number_known n)) c.run.view_is c.only_number.ensures.known in
+    let back = subst (λ (q : PieceData). IfSome o (λ (n : ℕ). (m : ℕ)
+    → IsPropagatedBack m q.facts.known q.pool q.machine.x.0)) c.run.view_is c.only_number.ensures.back in
+    rw c.in-X.is (against_x c.args.run.now o known back)

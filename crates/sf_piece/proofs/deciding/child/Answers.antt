@@ -1,45 +1,39 @@
+use Rattle.std.proofs.Common.{◌++◌, ◌∷◌, [], length, sym, ap, subst, ◌∙◌, arith}
+use Rattle.sf_piece.specs.Execution.{with_sense, IsSide}
+use Rattle.sf_piece.specs.Pieces.{PieceData}
+use Rattle.sf_piece.specs.SymbolicRun.{IsLawfulPiece}
+use Rattle.sf_piece.specs.Works.{IsChild}
 use Rattle.sf_piece.proofs.Lawful.{lawful_child, right_child}
 use Rattle.sf_piece.proofs.Given.{side}
+use Rattle.sf_piece.proofs.Sizes.{short_name}
 use Rattle.sf_piece.proofs.deciding.child.Goals as goal
 
-pub returns-clause-lawful : goal.returns-clause-lawful
-returns-clause-lawful c =
-    rw (
-      c.in_ok-try_clone.ensures,
-      c.in_ok-with_truth.ensures,
-      c.in_ok-fork.ensures,
-      c.in_ok-push.ensures.ok,
-      c.in_ok-conditions.ensures,
-    )
-    (lawful_child _ c.args.insn c.args.cond c.args.sense c.machine_after-to.result c.args.facts
-    (rw (← c.run.view_is) at c.requires.lawful) (rw (← c.run.view_is) at c.requires.standing)
-    (rw (← c.run.view_is) at c.requires.query) (rw (← c.run.view_is) at c.requires.facts)
-    (rw (← c.run.view_is) at c.machine_after-to.ensures))
+pub push-requires : goal.push-requires
+push-requires c =
+    let short = short_name c.args.run.now c.requires.lawful in
+    let same = ap (λ (r : PieceData). length r.name)
+    (c.side.view_is ∙ (rw c.in_ok-side.ensures at c.meet.ensures.rest)) in
+    omega (arith, short, same)
 
-pub returns-clause-child : goal.returns-clause-child
-returns-clause-child c =
-    rw (
-      ← c.run.view_is,
-      c.in_ok-try_clone.ensures,
-      c.in_ok-with_truth.ensures,
-      c.in_ok-fork.ensures,
-      c.in_ok-push.ensures.ok,
-      c.in_ok-conditions.ensures,
-    )
-    (right_child _ c.args.insn c.args.cond c.args.sense c.machine_after-to.result c.args.facts
-    (rw (← c.run.view_is) at c.requires.lawful) (rw (← c.run.view_is) at c.requires.standing)
-    (rw (← c.run.view_is) at c.requires.query) (rw (← c.run.view_is) at c.requires.facts)
-    (rw (← c.run.view_is) at c.machine_after-to.ensures))
-
-pub returns-clause-rule : goal.returns-clause-rule
-returns-clause-rule c =
-    rw (
-      ← c.run.view_is,
-      c.in_ok-try_clone.ensures,
-      c.in_ok-with_truth.ensures,
-      c.in_ok-fork.ensures,
-      c.in_ok-push.ensures.ok,
-      c.in_ok-conditions.ensures,
-    )
-    (side _ c.args.insn c.args.cond c.args.sense c.machine_after-to.result c.args.facts
-    (rw (← c.run.view_is) at c.requires.facts) (rw (← c.run.view_is) at c.machine_after-to.ensures))
+pub returns : goal.returns
+returns c =
+    let p : PieceData = c.args.run.now in
+    let i = c.args.insn in
+    let b = c.args.sense in
+    let cond = c.args.cond in
+    let m = c.meet.new.run.machine in
+    let after = rw c.in_ok-side.ensures at c.meet.ensures.machine in
+    let same = c.side.view_is ∙ (rw c.in_ok-side.ensures at c.meet.ensures.rest) in
+    let made = subst (λ (r : PieceData). let q : PieceData = record r {
+      name = r.name ++ b ∷ [];
+      conditions = r.conditions ++ with_sense cond b ∷ [];
+      facts = c.args.facts;
+    } in IsChild p cond b q × IsLawfulPiece q × IsSide (p, cond) i b q) (sym same) (
+      right_child p i cond b m c.args.facts c.requires.lawful c.requires.standing c.requires.query c.requires.facts
+          after,
+      lawful_child p i cond b m c.args.facts c.requires.lawful c.requires.standing c.requires.query c.requires.facts
+          after,
+      side p i cond b m c.args.facts c.requires.facts after,
+    ) in
+    rw (c.in_ok-push.ensures.ok, c.in_ok-push-2.ensures.ok)
+    (record { child = made.0; lawful = made.1; rule = made.2 })

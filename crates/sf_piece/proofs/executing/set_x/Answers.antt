@@ -5,14 +5,12 @@ use Rattle.sf_piece.proofs.executing.set_x.Goals as goal
 pub go-requires-clause-goes : goal.go-requires-clause-goes
 go-requires-clause-goes c =
     let h = rw c.in-Some.is at c.in_ok-id.ensures.pushed in
-    let g = set_x_goes c.args.run.now c.args.insn c.args.k c.push.new.run c.in-Some.id h c.requires.sets in
-    rw (← c.run.view_is) (rw (← c.run.view_is) at g)
+    set_x_goes c.args.run.now c.args.insn c.args.k c.push.new.run c.in-Some.id h c.requires.sets
 
 pub returns-in-Some-clause-rule : goal.returns-in-Some-clause-rule
 returns-in-Some-clause-rule c =
     let h = rw c.in-Some.is at c.in_ok-id.ensures.rule in
-    let g = loads_x c.args.run.now c.args.k c.push.new.run c.in-Some.id h in
-    rw c.go.ensures.moved (rw (← c.run.view_is) (rw (← c.run.view_is) at g))
+    rw c.go.ensures.moved (loads_x c.args.run.now c.args.k c.push.new.run c.in-Some.id h)
 
 pub returns-in-None-clause-rule : goal.returns-in-None-clause-rule
 returns-in-None-clause-rule c = loads_x_none c.args.run.now c.args.k (rw c.in-None.is at c.in_ok-id.ensures.rule)

@@ -1,0 +1,44 @@
+use Rattle.std.proofs.Common.{◌≡◌, ◌∙◌, sym, ap, subst}
+use Rattle.sf_sym.specs.declared.pool.NodeId.{NodeId}
+use Rattle.sf_piece.specs.Pieces.{PieceData}
+use Rattle.sf_piece.specs.Execution.{query}
+use Rattle.sf_piece.specs.SmallSteps.{IsDecision}
+use Rattle.sf_piece.specs.Works.{IsQuery}
+use Rattle.sf_piece.proofs.Joined.{asked_entry, decision_on}
+use Rattle.sf_piece.proofs.Executed.{asked_for, asks_none, carried_ok}
+use Rattle.sf_piece.proofs.asking.ask.Goals as goal
+
+pub decide-requires-clause-query : goal.decide-requires-clause-query
+decide-requires-clause-query c =
+    let p : PieceData = c.args.run.now in
+    let q : PieceData = c.operand.new.run in
+    let right = c.in-Some.right in
+    let h = rw c.in_ok-asked.ensures at (rw c.in-Some.is at c.in_ok-right.ensures.made) in
+    let e = asked_entry p c.args.insn c.args.test c.args.other q right c.requires.asks h c.requires.standing in
+    let a : q.machine.a ≡ c.run.inside.machine.a
+    = ap (λ (r : PieceData). r.machine.a) h.grown.same ∙ sym (ap (λ (r : PieceData). r.machine.a) c.run.view_is) in
+    subst (λ (w : NodeId). IsQuery q c.args.insn (query w c.args.test right)) a e
+
+pub carry_out-requires-clause-right : goal.carry_out-requires-clause-right
+carry_out-requires-clause-right c =
+    let h = rw c.in_ok-asked.ensures at (rw c.in-Some.is at c.in_ok-right.ensures.made) in
+    decision_on c.args.run.now c.operand.new.run c.args.insn c.in_ok-decision.decision h.grown
+    c.in_ok-decision.ensures.right
+
+pub returns-in_default-clause-rule : goal.returns-in_default-clause-rule
+returns-in_default-clause-rule c = λ at.
+    let p : PieceData = c.args.run.now in
+    let none = rw c.in_ok-asked.ensures at (rw c.in_default.is at c.in_ok-right.ensures.rule) in
+    asks_none p p c.args.insn c.args.test c.args.other c.requires.asks at none
+
+pub returns-clause-rule : goal.returns-clause-rule
+returns-clause-rule c = λ at.
+    let p : PieceData = c.args.run.now in
+    let q : PieceData = c.operand.new.run in
+    let right = c.in-Some.right in
+    let d = c.in_ok-decision.decision in
+    let gets = rw c.in_ok-asked.ensures at (rw c.in-Some.is at c.in_ok-right.ensures.rule) in
+    let decision = subst (λ (r : PieceData). IsDecision (q, query r.machine.a c.args.test right) c.args.insn d)
+    c.run.view_is c.in_ok-decision.ensures.rule in
+    carried_ok p c.carry_out.new.run c.args.insn (q, query p.machine.a c.args.test right) d c.carry_out.result at
+    (asked_for p c.args.insn c.args.test c.args.other (q, right) c.requires.asks gets) decision c.carry_out.ensures.rule

@@ -1,0 +1,14 @@
+use Rattle.sf_piece.specs.SymbolicRun.{IsLawfulPiece}
+use Rattle.sf_piece.specs.Works.{IsContinuation, work_left}
+use Rattle.sf_piece.specs.SmallSteps.{HasGoneFor}
+use Rattle.sf_piece.proofs.work.last_step.Given as goal
+
+abbrev pub invariant-loop-last : goal.invariant-loop-last
+invariant-loop-last l = record {
+  is_on : IsContinuation l.fn.run l.run;
+  lawful : IsLawfulPiece l.run;
+  goes : HasGoneFor l.fn.run l.run;
+}
+
+abbrev pub decreases-loop-last : goal.decreases-loop-last
+decreases-loop-last l = work_left l.run
