@@ -13,7 +13,7 @@ use Rattle.sf_dom.specs.Passes.{IsPass, PassGives}
 use Rattle.sf_dom.specs.Rules.{IsReduction, ReductionGives, between, masked, met, forward_node}
 use Rattle.sf_dom.specs.GoingBack.{WritingGives}
 use Rattle.sf_dom.specs.SoundRules.{HaveOneResult}
-use Rattle.sf_ask.specs.QuestionData.{QuestionData, range_at, mask_at, is_whole}
+use Rattle.sf_question.specs.QuestionData.{QuestionData, range_at, mask_at, is_whole}
 use Rattle.sf_ask.specs.Judging.{TakeInRange, TakeInMask, TakeInWord, TakeInBefore, CantTakeInQuestion}
 use Rattle.sf_ask.specs.Searches.{CantTakeInRange, CantTakeInMask, CantTakeInWord, IsOutside}
 

@@ -10,7 +10,7 @@ use Rattle.sf_ask.specs.declared.verdict.Verdict.{Verdict}
 use Rattle.sf_ask.specs.declared.verdict.Verdict.TheVariants.{Clear, Hit, Doubt}
 use Rattle.sf_ask.specs.declared.verdict.Reply.{Reply}
 use Rattle.sf_ask.specs.declared.verdict.Reply.TheVariants.{Never, Allowed, Unsettled}
-use Rattle.sf_ask.specs.QuestionData.{QuestionData}
+use Rattle.sf_question.specs.QuestionData.{QuestionData}
 use Rattle.sf_ask.specs.Judging.{HasVerdictAt, HasNoHitAt, HasReply}
 use Rattle.sf_ask.specs.OneResult.{HaveOneVerdict, IsWholeFringe}
 use Rattle.sf_ask.specs.OneResultLaws.{one_verdict_at, same_length}

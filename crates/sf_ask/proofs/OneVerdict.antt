@@ -14,8 +14,8 @@ use Rattle.sf_piece.specs.Execution.{AreSamePieces}
 use Rattle.sf_book.specs.Books.{RegionData}
 use Rattle.sf_ask.specs.declared.verdict.Verdict.{Verdict}
 use Rattle.sf_ask.specs.declared.verdict.Verdict.TheVariants.{Clear, Hit, Doubt}
-use Rattle.sf_ask.specs.Actions.{has_action}
-use Rattle.sf_ask.specs.QuestionData.{QuestionData}
+use Rattle.sf_question.specs.Actions.{has_action}
+use Rattle.sf_question.specs.QuestionData.{QuestionData}
 use Rattle.sf_ask.specs.Judging.{TakeInQuestion, FindsInQuestion, HasVerdict, IsTriedBy}
 use Rattle.sf_ask.proofs.Confinements.{equal-back, same-before, from-equal}
 

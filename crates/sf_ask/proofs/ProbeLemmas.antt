@@ -13,7 +13,7 @@ use Rattle.sf_dom.specs.Facts.{FactsView, known_at}
 use Rattle.sf_ask.specs.Searches.{IsOutside}
 use Rattle.sf_ask.specs.Probing.{IsRuledOut, IsRuledOutIfAsked, IsProbeIn, has_one_call, HasProbe, AreProbes}
 use Rattle.sf_ask.specs.QuestionBits.{bit_of, has_bit}
-use Rattle.sf_ask.specs.QuestionData.{QuestionData, range_at, is_whole}
+use Rattle.sf_question.specs.QuestionData.{QuestionData, range_at, is_whole}
 use Rattle.sf_ask.specs.declared.probe.Probe.{Probe}
 use Rattle.sf_ask.proofs.Words.{outside-range}
 use Rattle.sf_ask.proofs.Confinements.{cant-outside}

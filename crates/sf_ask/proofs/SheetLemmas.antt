@@ -1,17 +1,15 @@
 -- The verdicts on questions that are clear at once.
 use Rattle.std.proofs.lemmas.Grind.{common_steps}
-use Rattle.std.proofs.Common.{◌≡◌, ℕ, zero, suc, ◌<◌, ◌≤◌, not, Bool, true, false, List, [], ◌∷◌, length, Some, None, refl, ap, subst, ◌∙◌, inl, inr, ◌⊎◌, arith, length-append, Result, Ok, Err, IfOk}
-use Rattle.std.specs.Prelude.{slice_get, if◌then◌else◌}
-use Rattle.std.specs.List.{list_all}
-use Rattle.std.proofs.lemmas.List.{get_or_append_left, get_or_push}
-use Rattle.std.proofs.lemmas.List.Folds.{list_all-append}
-use Rattle.std.proofs.lemmas.Bool.{cases_lt}
+use Rattle.std.proofs.Common.{◌≡◌, ℕ, ◌<◌, not, Bool, true, false, List, [], ◌∷◌, length, Some, None, refl, subst, arith, Result, Ok, Err, IfOk}
+use Rattle.std.specs.Prelude.{slice_get, map, if◌then◌else◌}
+use Rattle.std.specs.List.{list_all, range_with_len}
+use Rattle.std.proofs.lemmas.List.FromFn.{get_or-map-range_with_len, length-map-range_with_len}
 use Rattle.sf_insn.specs.declared.input.Input.{Input}
 use Rattle.sf_insn.specs.Inputs.{IsInput}
 use Rattle.sf_dom.specs.Facts.{Agrees, Covers}
 use Rattle.sf_piece.specs.Pieces.{PieceData, is_member}
 use Rattle.sf_book.specs.Books.{BookData, RegionData, IsRightRegion}
-use Rattle.sf_ask.specs.Actions.{has_action}
+use Rattle.sf_question.specs.Actions.{has_action}
 use Rattle.sf_ask.specs.Probing.{IsRuledOutIfAsked}
 use Rattle.sf_ask.specs.Judging.{FindsInQuestion, HasVerdictAt}
 use Rattle.sf_ask.specs.Searches.{IsRightSearch}
@@ -19,45 +17,30 @@ use Rattle.sf_ask.proofs.ProbeLemmas.{there-is}
 use Rattle.sf_ask.proofs.Searching.{not-asked, ruled-out, region-right}
 use Rattle.sf_ask.proofs.OneVerdict.{unasked-verdict, asked-verdict}
 use Rattle.sf_ask.specs.declared.verdict.Verdict.TheVariants.{Clear}
-use Rattle.sf_ask.specs.QuestionData.{QuestionData}
+use Rattle.sf_question.specs.QuestionData.{QuestionData}
 use Rattle.sf_ask.specs.QuestionBits.{has_bit}
 use Rattle.sf_ask.specs.Verdicts.{IsRightVerdict, TellsTriedAt, IsDecisive}
-use Rattle.sf_ask.specs.declared.fault.Fault.{Fault}
+use Rattle.sf_question.specs.declared.fault.Fault.{Fault}
 use Rattle.sf_ask.specs.declared.verdict.Verdict.{Verdict}
 use Rattle.sf_check.specs.Stacks.{IsPlain}
 use Rattle.sf_ask.specs.Sheets.{verdict_at, is_skipped, is_clear_or_skipped, clear_if_wanted, first_verdicts, IsRightOn, IsRightWhereGiven}
 
 pub first-length : (wanted : List ℕ) (n : ℕ) → length (first_verdicts wanted n) ≡ n
-first-length wanted zero = refl
-first-length wanted (suc n) = omega (
-  arith,
-  first-length wanted n,
-  length-append (first_verdicts wanted n) (clear_if_wanted wanted n ∷ []),
-)
+first-length wanted n = length-map-range_with_len (clear_if_wanted wanted) 0 n
 
 pub first-at : (wanted : List ℕ) (n q : ℕ) → q < n → verdict_at (first_verdicts wanted n) q ≡ clear_if_wanted wanted q
-first-at wanted zero q h = absurd (omega arith)
-first-at wanted (suc n) q h = by (cases_lt q n) (first-at wanted n q)
-  where
-    by : (q < n) ⊎ (n ≤ q) → (q < n → verdict_at (first_verdicts wanted n) q ≡ clear_if_wanted wanted q)
-        → verdict_at (first_verdicts wanted (suc n)) q ≡ clear_if_wanted wanted q
-    by (inl less) before =
-        get_or_append_left (first_verdicts wanted n) (clear_if_wanted wanted n ∷ []) None q
-        (omega (arith, less, first-length wanted n)) ∙ before less
-    by (inr last) before =
-        let same : n ≡ q = omega (arith, last, h) in
-        get_or_push (first_verdicts wanted n) (clear_if_wanted wanted n) None q
-        (first-length wanted n ∙ same) ∙ ap (clear_if_wanted wanted) same
+first-at wanted n q h = get_or-map-range_with_len (clear_if_wanted wanted) 0 n q q None h (omega arith)
 
 of-clear : (b : Bool) → is_clear_or_skipped (if b then Some Clear else None) ≡ true
 of-clear true = refl
 of-clear false = refl
 
+all-clear : (wanted qs : List ℕ) → list_all is_clear_or_skipped (map (clear_if_wanted wanted) qs) ≡ true
+all-clear wanted [] = refl
+all-clear wanted (q ∷ qs) = rw (of-clear (has_bit wanted q)) (all-clear wanted qs)
+
 pub first-clear : (wanted : List ℕ) (n : ℕ) → list_all is_clear_or_skipped (first_verdicts wanted n) ≡ true
-first-clear wanted zero = refl
-first-clear wanted (suc n) =
-    list_all-append is_clear_or_skipped (first_verdicts wanted n) (clear_if_wanted wanted n ∷ [])
-    ∙ rw (first-clear wanted n, of-clear (has_bit wanted n)) refl
+first-clear wanted n = all-clear wanted (range_with_len 0 n)
 
 pub skipped : (wanted : List ℕ) (q : ℕ) → is_skipped (clear_if_wanted wanted q) ≡ not (has_bit wanted q)
 skipped wanted q = grind (arith, common_steps)

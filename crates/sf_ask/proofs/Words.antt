@@ -1,15 +1,16 @@
 -- Facts confined to a question, word by word.
 use Rattle.std.proofs.lemmas.Grind.{common_steps}
-use Rattle.std.proofs.Common.{◌≡◌, ℕ, ◌+◌, ◌<◌, ◌^◌, Bool, true, false, List, arith, sym, ap, subst, inl, inr, ◌∙◌, MatchBool, Result, Ok, Err, IfOk}
+use Rattle.std.proofs.Common.{◌≡◌, ℕ, ◌+◌, ◌<◌, ◌^◌, Bool, true, false, List, arith, sym, ap, subst, inl, inr, ◌∙◌, MatchBool, MatchResult, Result, Ok, Err, IfOk, IsErrAnd}
 use Rattle.std.specs.Prelude.{slice_index, bit_and, ◌==◌}
 use Rattle.std.proofs.lemmas.Bool.{cases_eq, and_parts, eqb-true}
+use Rattle.std.proofs.lemmas.Result.{IfOk-at_ok, err_from_is_err_and}
 use Rattle.std.specs.Int.Bits.{and_zero_r}
 use Rattle.sf_insn.specs.declared.input.Input.{Input}
 use Rattle.sf_insn.specs.Inputs.{IsInput}
 use Rattle.sf_sym.specs.declared.pool.Node.{Node}
 use Rattle.sf_dom.specs.Facts.{FactsView, Covers, known_at, AreNarrower, AreConfined, ConfinesWord, HasIn, LiesIn, KeepsOnly, NoInput}
 use Rattle.sf_dom.specs.FactsLaws.{narrower-admits, agreeing-word, some-input, some-such}
-use Rattle.sf_ask.specs.QuestionData.{QuestionData, range_at, mask_at, is_whole}
+use Rattle.sf_question.specs.QuestionData.{QuestionData, range_at, mask_at, is_whole}
 use Rattle.sf_ask.specs.Breaking.{IsNumberOf, IsInQuestion}
 use Rattle.sf_ask.specs.Searches.{IsInWordRange, HasMaskBits, IsInBefore, IsOutside}
 use Rattle.sf_ask.specs.Trying.{IsNumberBefore}
@@ -21,6 +22,18 @@ of-true B false e h = cc
 pub map-ok : {X E : Type 0} (r : Result X E) (P Q : X → Type 0) → ((x : X) → P x → Q x) → IfOk r P → IfOk r Q
 map-ok (Ok x) P Q f h = f x h
 map-ok (Err e) P Q f h = h
+
+-- what holds of a result after `map_err` made another error of its error
+pub mapped-ok : {X E D : Type 0} {P Q : X → Type 0} (Post : E → D → Type 0) (r : Result X E) (s : Result X D)
+    → MatchResult r (λ x. s ≡ Ok x) (λ e. IsErrAnd s (Post e)) → IfOk r P → ((x : X) → P x → Q x) → IfOk s Q
+mapped-ok {Q = Q} Post (Ok x) s same holds more = subst (λ t. IfOk t Q) (sym same) (more x holds)
+mapped-ok {Q = Q} Post (Err e) s other holds more =
+    let (d, is, post) = err_from_is_err_and s other in subst (λ t. IfOk t Q) (sym is) tt
+
+-- the same of its value
+pub mapped-at : {X E D : Type 0} (Post : E → D → Type 0) (P : X → Type 0) (r : Result X E) (s : Result X D) (x : X)
+    → MatchResult r (λ y. s ≡ Ok y) (λ e. IsErrAnd s (Post e)) → IfOk r P → s ≡ Ok x → P x
+mapped-at Post P r s x cases holds is = IfOk-at_ok P is (mapped-ok Post r s cases holds (λ y h. h))
 
 -- nothing is lost where nothing changes
 pub narrower-refl : (f : FactsView) → AreNarrower f f

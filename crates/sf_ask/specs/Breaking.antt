@@ -4,8 +4,8 @@ use Rattle.sf_insn.specs.declared.input.Input.{Input}
 use Rattle.sf_check.specs.declared.insn.Insn.{Insn}
 use Rattle.sf_run.specs.declared.action.Answer.{Answer}
 use Rattle.sf_run.specs.Answers.{Answers}
-use Rattle.sf_ask.specs.Actions.{has_action}
-use Rattle.sf_ask.specs.QuestionData.{QuestionData, range_at, mask_at}
+use Rattle.sf_question.specs.Actions.{has_action}
+use Rattle.sf_question.specs.QuestionData.{QuestionData, range_at, mask_at}
 
 -- a number that a word may have: it lies in the word's range and has, on the bits of its mask, its value
 pub record IsNumberOf (q : QuestionData) (word n : ℕ) : Type 0 where

@@ -14,8 +14,8 @@ use Rattle.sf_ask.specs.declared.verdict.Verdict.{Verdict}
 use Rattle.sf_ask.specs.declared.verdict.Verdict.TheVariants.{Clear, Hit, Doubt}
 use Rattle.sf_ask.specs.declared.verdict.Reply.{Reply}
 use Rattle.sf_ask.specs.declared.verdict.Reply.TheVariants.{Never, Allowed, Unsettled}
-use Rattle.sf_ask.specs.Actions.{has_action}
-use Rattle.sf_ask.specs.QuestionData.{QuestionData, range_at, mask_at, is_whole}
+use Rattle.sf_question.specs.Actions.{has_action}
+use Rattle.sf_question.specs.QuestionData.{QuestionData, range_at, mask_at, is_whole}
 use Rattle.sf_ask.specs.Trying.{IsLeastInput}
 
 -- facts take in that a word lies in its range; a range that leaves no number out changes nothing

@@ -1,9 +1,5 @@
-pub mod Numbers
-pub mod Actions
 pub mod QuestionBits
 pub mod QuestionBitsLaws
-pub mod QuestionData
-pub mod Questions
 pub mod Breaking
 pub mod Trying
 pub mod Judging

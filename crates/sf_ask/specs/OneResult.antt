@@ -8,7 +8,7 @@ use Rattle.sf_book.specs.Books.{RegionData, BookData, IsSettled}
 use Rattle.sf_book.specs.Unfoldings.{IsFringe}
 use Rattle.sf_ask.specs.declared.verdict.Verdict.{Verdict}
 use Rattle.sf_ask.specs.declared.verdict.Reply.{Reply}
-use Rattle.sf_ask.specs.QuestionData.{QuestionData}
+use Rattle.sf_question.specs.QuestionData.{QuestionData}
 use Rattle.sf_ask.specs.declared.members.Membership.{Membership}
 use Rattle.sf_ask.specs.Finding.{FindsMember}
 use Rattle.sf_ask.specs.Judging.{HasVerdict, HasReply}

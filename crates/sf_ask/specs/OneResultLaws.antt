@@ -5,12 +5,12 @@ use Rattle.std.proofs.lemmas.List.Sums.{sum_by-cons}
 use Rattle.std.proofs.lemmas.Option.{same_Some, slice_get_within, get_or_from_slice_get}
 use Rattle.sf_sym.specs.Pool.{IsPool}
 use Rattle.sf_piece.specs.OneExecution.{IsExecutionOne}
-use Rattle.sf_book.specs.declared.book.Counts.{Counts}
+use Rattle.sf_run.specs.declared.counts.Counts.{Counts}
 use Rattle.sf_book.specs.Books.{RegionData, BookData, counts_of}
 use Rattle.sf_ask.specs.declared.verdict.Verdict.{Verdict}
 use Rattle.sf_ask.specs.Judging.{HasVerdictAt}
 use Rattle.sf_ask.specs.OneResult.{HaveOneVerdict}
-use Rattle.sf_ask.specs.QuestionData.{QuestionData}
+use Rattle.sf_question.specs.QuestionData.{QuestionData}
 use Rattle.sf_book.specs.Unfoldings.{AreSameRegions, HaveOneOutcome, HaveSameElements, IsFringe, IsRegionOf, IsSameRegion}
 
 -- there are as many regions

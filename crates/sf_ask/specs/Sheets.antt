@@ -1,12 +1,13 @@
 -- Sheets of verdicts: what contracts see of one, and when it is right.
-use Rattle.std.specs.Prelude.{◌≡◌, ℕ, zero, suc, [], ◌∷◌, ◌++◌, if◌then◌else◌, ◌<◌, not, Bool, true, false, List, length, Option, Some, None, slice_get, slice_index_or}
+use Rattle.std.specs.Prelude.{◌≡◌, ℕ, if◌then◌else◌, ◌<◌, not, Bool, true, false, List, length, map, Option, Some, None, slice_get, slice_index_or}
+use Rattle.std.specs.List.{range_with_len}
 use Rattle.sf_insn.specs.declared.input.Input.{Input}
 use Rattle.sf_check.specs.Stacks.{IsPlain}
 use Rattle.sf_book.specs.Books.{BookData}
 use Rattle.sf_ask.specs.declared.verdict.Verdict.{Verdict}
 use Rattle.sf_ask.specs.declared.verdict.Verdict.TheVariants.{Clear, Hit, Doubt}
 use Rattle.sf_ask.specs.QuestionBits.{has_bit}
-use Rattle.sf_ask.specs.QuestionData.{QuestionData}
+use Rattle.sf_question.specs.QuestionData.{QuestionData}
 use Rattle.sf_ask.specs.Judging.{HasVerdictAt}
 use Rattle.sf_ask.specs.Verdicts.{IsRightVerdict, TellsTriedAt, IsDecisive}
 
@@ -53,8 +54,7 @@ clear_if_wanted wanted q = if has_bit wanted q then Some Clear else None
 
 -- the verdicts on the first n questions: clear on each that is asked for, and none on another
 abbrev pub first_verdicts : List ℕ → ℕ → List (Option Verdict)
-first_verdicts wanted zero = []
-first_verdicts wanted (suc n) = first_verdicts wanted n ++ clear_if_wanted wanted n ∷ []
+first_verdicts wanted n = map (clear_if_wanted wanted) (range_with_len 0 n)
 
 -- the verdicts of a sheet: those that are listed; where there is no list, clear on each question that is asked for
 abbrev pub shown_verdicts : List ℕ → ℕ → Option (List (Option Verdict)) → List (Option Verdict)

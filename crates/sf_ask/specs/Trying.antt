@@ -5,7 +5,7 @@ use Rattle.sf_insn.specs.declared.input.Input.{Input}
 use Rattle.sf_insn.specs.Inputs.{IsInput}
 use Rattle.sf_dom.specs.Facts.{FactsView, AreConfined, known_at}
 use Rattle.sf_piece.specs.Pieces.{PieceData}
-use Rattle.sf_ask.specs.QuestionData.{QuestionData}
+use Rattle.sf_question.specs.QuestionData.{QuestionData}
 use Rattle.sf_ask.specs.Breaking.{IsNumberOf, IsInQuestion}
 
 -- where the word stands before the place `end`, the number is one that the question leaves for it

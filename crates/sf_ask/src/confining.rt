@@ -3,16 +3,15 @@
 ghost use Rattle.std.specs.Prelude.{◌≡◌, ◌<◌, ◌≤◌, true, false, Ok, List, length, IfOk, IfErr, MatchBool, MatchOption};
 ghost use Rattle.sf_dom.specs.Facts.{Covers, AreConfined, ConfinesWord, NoInput, HasIn, known_at};
 ghost use Rattle.sf_ask.specs.Breaking.{IsNumberOf, IsInQuestion};
-ghost use Rattle.sf_ask.specs.QuestionData.{is_whole};
+ghost use Rattle.sf_question.specs.QuestionData.{is_whole};
 ghost use Rattle.sf_ask.specs.Judging.{TakeInRange, TakeInMask, TakeInWord, TakeInQuestion, CantTakeInQuestion};
 ghost use Rattle.sf_ask.specs.Probing.{IsRuledOut};
 ghost use Rattle.sf_ask.specs.Searches.{IsInWordRange, HasMaskBits, IsOutside, CantTakeInRange, CantTakeInMask, CantTakeInWord};
 ghost use Rattle.sf_ask.specs.Trying.{IsNumberBefore};
-ghost use Rattle.sf_ask.specs.declared.fault.Fault.TheVariants.{Memory};
+ghost use Rattle.sf_question.specs.declared.fault.Fault.TheVariants.{Memory};
 
-use crate::fault::Fault;
-use crate::question::Question;
 use sf_dom::{Facts, rules_have_one_result};
+use sf_question::{Fault, Question};
 use sf_sym::{NodeId, Pool};
 use std::alloc::Global;
 
@@ -75,7 +74,9 @@ fn confine_range(
     if is_whole((low, high)) {
         return Ok(true);
     }
-    Ok(facts.confine(alloc, pool, word, low, high)?)
+    facts
+        .confine(alloc, pool, word, low, high)
+        .map_err(|_| Fault::Memory)
 }
 
 /// Confines a word, 0 to 15, to the numbers that equal the question's value for it on all bits of the mask. `false`
@@ -103,7 +104,9 @@ fn confine_mask(
     if mask == 0 {
         return Ok(true);
     }
-    Ok(facts.confine_bits(alloc, pool, word, mask, value)?)
+    facts
+        .confine_bits(alloc, pool, word, mask, value)
+        .map_err(|_| Fault::Memory)
 }
 
 /// Confines a word, 0 to 15, to the numbers that the question's range and mask leave for it. `false` where this shows
@@ -154,7 +157,7 @@ pub(crate) fn facts_in_question(
 {
     // For the prover: the rules of facts have one result.
     rules_have_one_result();
-    let mut confined = facts.fork()?;
+    let mut confined = facts.fork().map_err(|_| Fault::Memory)?;
     for word in 0..16 {
         if !confine_word(alloc, &mut confined, pool, question, word)? {
             return Ok(None);

@@ -5,7 +5,7 @@ ghost use Rattle.std.specs.Arc.{arc_value};
 ghost use Rattle.sf_insn.specs.Inputs.{IsInput};
 ghost use Rattle.sf_insn.specs.declared.input.Input.{Input as AnInput};
 ghost use Rattle.sf_check.specs.Stacks.{IsPlain};
-ghost use Rattle.sf_ask.specs.declared.fault.Fault.TheVariants.{Memory};
+ghost use Rattle.sf_question.specs.declared.fault.Fault.TheVariants.{Memory};
 ghost use Rattle.sf_sym.specs.Pool.{IsCondBelow};
 ghost use Rattle.sf_piece.specs.Pieces.{is_member};
 ghost use Rattle.sf_book.specs.Books.{IsRightRegion};
@@ -16,13 +16,12 @@ ghost use Rattle.sf_ask.specs.Searches.{IsRightSearch, TellsTried};
 ghost use Rattle.sf_ask.specs.Trying.{IsLeastInput};
 
 use crate::confining::facts_in_question;
-use crate::fault::Fault;
-use crate::question::Question;
 use crate::verdict::Verdict;
 use sf_book::Settled;
 use sf_dom::Facts;
 use sf_insn::Input;
 use sf_piece::Piece;
+use sf_question::{Fault, Question};
 use sf_sym::Cond;
 use std::alloc::Global;
 
@@ -67,7 +66,10 @@ pub(crate) fn first_unmet(
         o ≡ first_missed piece.now.pool piece.now.conditions input.now) }
     ensures err { IfErr result (λ f. f ≡ Memory) }
 {
-    let values = piece.pool().values(alloc, input)?;
+    let values = piece
+        .pool()
+        .values(alloc, input)
+        .map_err(|_| Fault::Memory)?;
     for i in 0..piece.cond_count() {
         let cond = piece.cond(i);
         if !cond.is_met(values.as_slice()) {

@@ -1,26 +1,21 @@
 //! Questions about the inputs of a filter stack, and what settled regions say of them.
 #![tactic(auto)]
 
-mod actions;
 mod bits;
 mod confining;
-mod fault;
 mod judging;
 pub mod laws;
 mod members;
 mod probe;
 mod probing;
-mod question;
 mod sheet;
 mod verdict;
 
-pub use actions::ActionSet;
 pub use bits::{has_bit, set_bit};
-pub use fault::Fault;
 pub use judging::judge;
 pub use members::{Membership, find_member};
 pub use probe::Probes;
 pub use probing::questions_to_judge;
-pub use question::Question;
+pub use sf_question::{ActionSet, Fault, Question};
 pub use sheet::{Sheet, snapshots};
 pub use verdict::{Reply, Verdict};

@@ -9,13 +9,13 @@ ghost use Rattle.sf_dom.specs.Learning.{LearnAll};
 ghost use Rattle.sf_piece.specs.Pieces.{is_member, HasNoMember};
 ghost use Rattle.sf_ask.specs.Finding.{IsMendedTo, FindsMember, IsMendedFor, lowest_bit, mended_number};
 ghost use Rattle.sf_ask.specs.Members.{IsRightMembership, IsLeastFound, CoverMembers};
-ghost use Rattle.sf_ask.specs.declared.fault.Fault.TheVariants.{Memory};
+ghost use Rattle.sf_question.specs.declared.fault.Fault.TheVariants.{Memory};
 
-use crate::fault::Fault;
 use crate::judging::{first_unmet, is_member_of, least_input};
 use sf_dom::{Facts, Known, rules_have_one_result};
 use sf_insn::{Input, Test};
 use sf_piece::Piece;
+use sf_question::Fault;
 use sf_sym::{Cond, MaskedWord, NodeId, Pool, constant_of, masked_word};
 use std::alloc::Global;
 
@@ -46,9 +46,12 @@ fn facts_learnt_again(alloc: Global, piece: &Piece) -> Result<Option<Facts>, Fau
 {
     // For the prover: the rules of facts have one result.
     rules_have_one_result();
-    let mut facts = piece.facts().fork()?;
+    let mut facts = piece.facts().fork().map_err(|_| Fault::Memory)?;
     for i in 0..piece.cond_count() {
-        if !facts.learn(alloc, piece.pool(), &piece.cond(i))? {
+        let learnt = facts
+            .learn(alloc, piece.pool(), &piece.cond(i))
+            .map_err(|_| Fault::Memory)?;
+        if !learnt {
             return Ok(None);
         }
     }

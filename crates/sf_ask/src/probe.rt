@@ -4,10 +4,9 @@ ghost use Rattle.std.specs.Prelude.{◌≡◌, ◌<◌, ◌≤◌, length, IfOk,
 ghost use Rattle.std.specs.List.Sorted.{IsNonDecreasingBy};
 ghost use Rattle.sf_ask.specs.Probing.{has_one_call, IsProbeIn, AreProbes, AreProbesOf};
 ghost use Rattle.sf_ask.specs.declared.probe.Probe.{Probe as AProbe};
-ghost use Rattle.sf_ask.specs.declared.fault.Fault.TheVariants.{Memory};
+ghost use Rattle.sf_question.specs.declared.fault.Fault.TheVariants.{Memory};
 
-use crate::fault::Fault;
-use crate::question::Question;
+use sf_question::{Fault, Question};
 use std::alloc::Global;
 
 /// The place of a question, and its range for the first word, the call's number.

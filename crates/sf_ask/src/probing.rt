@@ -9,9 +9,9 @@ ghost use Rattle.sf_ask.specs.Sheets.{AreClearBut};
 use crate::bits::set_bit;
 use crate::confining::rules_out;
 use crate::probe::{Probe, Probes};
-use crate::question::Question;
 use sf_book::Settled;
 use sf_dom::Facts;
+use sf_question::Question;
 use sf_run::Action;
 use sf_sym::NodeId;
 
@@ -77,10 +77,8 @@ fn questions_left(
 }
 
 /// The questions on which the region at the place `job` is to be judged, as bits that `has_bit` reads. The region's
-/// verdict on each other question is clear. Such a question doesn't ask about the action of the region's answer, or its
-/// range for some word has no number of the interval that is known for this word. A question that is to be judged may
-/// turn out clear too. The caller's conditions: there is a region at the place, there are at most 256 questions, and
-/// the probes are theirs.
+/// verdict on each other question is clear. A question that is to be judged may turn out clear too. The caller's
+/// conditions: there is a region at the place, there are at most 256 questions, and the probes are theirs.
 pub fn questions_to_judge(
     settled: &Settled,
     job: usize,

@@ -4,14 +4,13 @@ ghost use Rattle.std.specs.Prelude.{◌≡◌, ◌<◌, ◌≤◌, ℕ, not, len
 ghost use Rattle.sf_ask.specs.QuestionBits.{has_bit};
 ghost use Rattle.sf_ask.specs.Sheets.{SheetData, verdict_at, clear_if_wanted, is_skipped, is_hit, is_doubt, is_clear_or_skipped, AreClearBut, IsRightOn, IsRightWhereGiven, IsRightSheet, HasWanted};
 ghost use Rattle.std.specs.List.{list_all};
-ghost use Rattle.sf_ask.specs.declared.fault.Fault.TheVariants.{Memory};
+ghost use Rattle.sf_question.specs.declared.fault.Fault.TheVariants.{Memory};
 
 use crate::bits::{has_bit, share_none};
-use crate::fault::Fault;
 use crate::judging::judge;
-use crate::question::Question;
 use crate::verdict::Verdict;
 use sf_book::Settled;
+use sf_question::{Fault, Question};
 use std::alloc::Global;
 use std::marker::Model;
 use std::snapshot::Snapshot;

@@ -1,7 +1,7 @@
 use Rattle.std.proofs.lemmas.Grind.{common_steps}
 use Rattle.std.proofs.Common.{arith}
 use Rattle.std.proofs.lemmas.Bool.{eqb-true}
-use Rattle.sf_ask.proofs.Words.{mask-stays}
+use Rattle.sf_ask.proofs.Words.{mapped-ok, mask-stays}
 use Rattle.sf_ask.proofs.Confinements.{mask-rule, is-other}
 use Rattle.sf_ask.proofs.confining.confine_mask.Goals as goal
 
@@ -9,10 +9,12 @@ pub returns-then-mask-eq0-clause-confined : goal.returns-then-mask-eq0-clause-co
 returns-then-mask-eq0-clause-confined c = grind (arith, common_steps, mask-stays, eqb-true)
 
 pub returns-clause-confined : goal.returns-clause-confined
-returns-clause-confined c = rw c.mask-mask.ensures.value at c.in_ok-confine_bits.ensures.confined
+returns-clause-confined c =
+    mapped-ok _ c.confine_bits.result c.map_err.result c.map_err.ensures.cases c.confine_bits.ensures.confined
+    (λ b confined. rw c.mask-mask.ensures.value at confined)
 
 pub returns-clause-rule : goal.returns-clause-rule
 returns-clause-rule c =
-    mask-rule c.in_ok-confine_bits.field-0 c.args.question.now c.args.word c.args.pool.now c.args.facts.now
-    c.confine_bits.new.self (is-other _ _ (rw c.mask-mask.ensures.value at c.if-mask-eq0.false))
-    (rw c.mask-mask.ensures.value at c.in_ok-confine_bits.ensures.rule)
+    mapped-ok _ c.confine_bits.result c.map_err.result c.map_err.ensures.cases c.confine_bits.ensures.rule
+    (λ b rule. mask-rule b c.args.question.now c.args.word c.args.pool.now c.args.facts.now c.confine_bits.new.self
+    (is-other _ _ (rw c.mask-mask.ensures.value at c.if-mask-eq0.false)) (rw c.mask-mask.ensures.value at rule))

@@ -1,6 +1,6 @@
 use Rattle.std.proofs.lemmas.Grind.{common_steps}
 use Rattle.std.proofs.Common.{arith, sym, ◌∙◌}
-use Rattle.sf_ask.proofs.Words.{range-stays}
+use Rattle.sf_ask.proofs.Words.{mapped-ok, range-stays}
 use Rattle.sf_ask.proofs.Confinements.{range-rule}
 use Rattle.sf_ask.proofs.confining.confine_range.Goals as goal
 
@@ -8,10 +8,12 @@ pub returns-then-is_whole-clause-confined : goal.returns-then-is_whole-clause-co
 returns-then-is_whole-clause-confined c = grind (arith, common_steps, range-stays)
 
 pub returns-clause-confined : goal.returns-clause-confined
-returns-clause-confined c = rw c.range-low.ensures at c.in_ok-confine.ensures.confined
+returns-clause-confined c =
+    mapped-ok _ c.confine.result c.map_err.result c.map_err.ensures.cases c.confine.ensures.confined
+    (λ b confined. rw c.range-low.ensures at confined)
 
 pub returns-clause-rule : goal.returns-clause-rule
 returns-clause-rule c =
-    range-rule c.in_ok-confine.field-0 c.args.question.now c.args.word c.args.pool.now c.args.facts.now
-    c.confine.new.self (rw c.range-low.ensures at (sym c.is_whole.ensures ∙ c.if-is_whole.false))
-    (rw c.range-low.ensures at c.in_ok-confine.ensures.rule)
+    mapped-ok _ c.confine.result c.map_err.result c.map_err.ensures.cases c.confine.ensures.rule
+    (λ b rule. range-rule b c.args.question.now c.args.word c.args.pool.now c.args.facts.now c.confine.new.self
+    (rw c.range-low.ensures at (sym c.is_whole.ensures ∙ c.if-is_whole.false)) (rw c.range-low.ensures at rule))

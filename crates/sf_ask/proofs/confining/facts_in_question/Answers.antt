@@ -1,12 +1,15 @@
 use Rattle.std.proofs.Common.{◌≡◌, ℕ, arith, subst}
 use Rattle.sf_ask.specs.Judging.{TakeInBefore}
-use Rattle.sf_ask.proofs.Words.{of-true, before-none, before-more, before-fails, before-all}
+use Rattle.sf_ask.proofs.Words.{mapped-at, of-true, before-none, before-more, before-fails, before-all}
 use Rattle.sf_ask.proofs.Confinements.{none-before, one-more, of-false, cant-at-turn}
 use Rattle.sf_ask.proofs.confining.facts_in_question.Goals as goal
 
 pub loop-word-init : goal.loop-word-init
 loop-word-init c =
-    rw c.in_ok-confined.ensures (record {
+    let same : c.in_ok-confined.confined ≡ c.args.facts.now =
+    mapped-at _ _ c.fork.result c.map_err.result c.in_ok-confined.confined c.map_err.ensures.cases c.fork.ensures
+    c.in_ok-confined.was in
+    rw same (record {
       confined = before-none c.args.question.now c.args.facts.now c.args.pool.now c.requires;
       rule = none-before c.args.question.now c.args.pool.now c.args.facts.now;
     })

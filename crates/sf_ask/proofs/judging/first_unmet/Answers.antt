@@ -5,13 +5,17 @@ use Rattle.sf_sym.specs.Pool.{is_met, is_met_by}
 use Rattle.sf_piece.specs.Pieces.{is_member}
 use Rattle.sf_ask.proofs.Finds.{missed-here, missed-more, missed-none}
 use Rattle.sf_ask.proofs.Searching.{met-more, not-met}
+use Rattle.sf_ask.proofs.Words.{mapped-at}
 use Rattle.sf_ask.proofs.judging.first_unmet.Goals as goal
 
 pub loop-i-preserved : goal.loop-i-preserved
 loop-i-preserved c =
     let p = c.args.piece.now in
     let cond = c.cond-cond.result in
-    let on = rw c.pool.ensures.value at (c.as_slice.ensures.value ∙ c.in_ok-values.ensures.values) in
+    let found =
+    mapped-at _ _ c.values.result c.map_err.result c.in_ok-values.values c.map_err.ensures.cases c.values.ensures.values
+    c.in_ok-values.was in
+    let on = rw c.pool.ensures.value at (c.as_slice.ensures.value ∙ found) in
     let met : c.is_met.result ≡ is_met p.pool c.args.input.now cond =
     c.is_met.ensures ∙ ap (λ v. is_met_by v cond) on in
     record {
@@ -29,7 +33,10 @@ pub returns-then-not-is_met-clause-first : goal.returns-then-not-is_met-clause-f
 returns-then-not-is_met-clause-first c =
     let p = c.args.piece.now in
     let cond = c.cond-cond.result in
-    let on = rw c.pool.ensures.value at (c.as_slice.ensures.value ∙ c.in_ok-values.ensures.values) in
+    let found =
+    mapped-at _ _ c.values.result c.map_err.result c.in_ok-values.values c.map_err.ensures.cases c.values.ensures.values
+    c.in_ok-values.was in
+    let on = rw c.pool.ensures.value at (c.as_slice.ensures.value ∙ found) in
     let met : c.is_met.result ≡ is_met p.pool c.args.input.now cond =
     c.is_met.ensures ∙ ap (λ v. is_met_by v cond) on in
     sym (c.loop-i.invariant.same ∙ missed-here p.pool p.conditions c.args.input.now c.loop-i.i cond

@@ -1,8 +1,8 @@
 //! Why a function of this crate failed.
 
 ghost use Rattle.std.specs.Prelude.{◌≡◌};
-ghost use Rattle.sf_ask.specs.declared.fault.Fault.TheVariants.{Memory};
-ghost use Rattle.sf_ask.specs.Numbers.{fault_number};
+ghost use Rattle.sf_question.specs.declared.fault.Fault.TheVariants.{Memory};
+ghost use Rattle.sf_question.specs.Numbers.{fault_number};
 
 use std::alloc::{AllocError, AllocFailed};
 use thiserror::Error;
@@ -56,24 +56,6 @@ impl<T: Drop> From<AllocFailed<T>> for Fault {
 
     /// A refused allocation is the fault `Memory`. The value that should have been stored is dropped.
     fn from(_e: AllocFailed<T>) -> Fault {
-        Fault::Memory
-    }
-}
-
-impl From<sf_dom::Fault> for Fault {
-    ghost from_gives = { λ _ e. e ≡ Memory };
-
-    /// The only fault of `sf_dom` is `Memory` too.
-    fn from(_e: sf_dom::Fault) -> Fault {
-        Fault::Memory
-    }
-}
-
-impl From<sf_sym::Fault> for Fault {
-    ghost from_gives = { λ _ e. e ≡ Memory };
-
-    /// The only fault of `sf_sym` is `Memory` too.
-    fn from(_e: sf_sym::Fault) -> Fault {
         Fault::Memory
     }
 }

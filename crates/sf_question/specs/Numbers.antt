@@ -1,7 +1,7 @@
 -- The numbers under which faults are reported.
 use Rattle.std.specs.Prelude.{ℕ}
-use Rattle.sf_ask.specs.declared.fault.Fault.{Fault}
-use Rattle.sf_ask.specs.declared.fault.Fault.TheVariants.{Name, Range, Mask, Actions, Memory}
+use Rattle.sf_question.specs.declared.fault.Fault.{Fault}
+use Rattle.sf_question.specs.declared.fault.Fault.TheVariants.{Name, Range, Mask, Actions, Memory}
 
 -- the number of each refusal of a question, and of refused memory
 abbrev pub fault_number : Fault → ℕ

@@ -1,6 +1,6 @@
 -- What a question asks.
 use Rattle.std.specs.Prelude.{ℕ, ◌==◌, ◌&&◌, Bool, List, replicate, slice_index_or}
-use Rattle.sf_ask.specs.declared.actions.ActionSet.{ActionSet}
+use Rattle.sf_question.specs.declared.actions.ActionSet.{ActionSet}
 
 -- A question: the bytes of its name; for each of the sixteen words a range (low, high) and a pair (mask, value); and
 -- the actions that it asks about.

@@ -2,8 +2,8 @@
 
 ghost use Rattle.std.specs.Prelude.{◌≡◌, ◌<◌, List, ℕ, true};
 ghost use Rattle.std.specs.List.{list_all};
-ghost use Rattle.sf_ask.specs.QuestionData.{range_at, mask_at, no_masks};
-ghost use Rattle.sf_ask.specs.Questions.{is_name, is_printable, is_in_order, is_inside_mask, question_of, MakesQuestion};
+ghost use Rattle.sf_question.specs.QuestionData.{range_at, mask_at, no_masks};
+ghost use Rattle.sf_question.specs.Questions.{is_name, is_printable, is_in_order, is_inside_mask, question_of, MakesQuestion};
 
 use crate::actions::ActionSet;
 use crate::fault::Fault;
@@ -24,8 +24,8 @@ pub struct Question {
 
 impl Model for Question {
     ghost use Rattle.std.specs.Prelude.{string_bytes};
-    ghost use Rattle.sf_ask.specs.QuestionData.{QuestionData};
-    ghost use Rattle.sf_ask.specs.Questions.{IsQuestion};
+    ghost use Rattle.sf_question.specs.QuestionData.{QuestionData};
+    ghost use Rattle.sf_question.specs.Questions.{IsQuestion};
 
     ghost Value = { QuestionData };
 

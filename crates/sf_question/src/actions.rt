@@ -1,7 +1,7 @@
 //! Sets of actions.
 
 ghost use Rattle.std.specs.Prelude.{◌≡◌};
-ghost use Rattle.sf_ask.specs.Actions.{is_no_action, has_action};
+ghost use Rattle.sf_question.specs.Actions.{is_no_action, has_action};
 
 use sf_run::Action;
 

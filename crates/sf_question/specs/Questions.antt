@@ -1,11 +1,11 @@
 -- Which parts make a question, and what is refused.
 use Rattle.std.specs.Prelude.{◌≡◌, ℕ, Bool, List, length, ◌&&◌, ◌==◌, nat_le, bit_and, if◌then◌else◌, not, Result, Ok, Err, IsOk}
 use Rattle.std.specs.List.{list_all}
-use Rattle.sf_ask.specs.declared.actions.ActionSet.{ActionSet}
-use Rattle.sf_ask.specs.declared.fault.Fault.{Fault}
-use Rattle.sf_ask.specs.declared.fault.Fault.TheVariants as faults
-use Rattle.sf_ask.specs.Actions.{is_no_action}
-use Rattle.sf_ask.specs.QuestionData.{QuestionData}
+use Rattle.sf_question.specs.declared.actions.ActionSet.{ActionSet}
+use Rattle.sf_question.specs.declared.fault.Fault.{Fault}
+use Rattle.sf_question.specs.declared.fault.Fault.TheVariants as faults
+use Rattle.sf_question.specs.Actions.{is_no_action}
+use Rattle.sf_question.specs.QuestionData.{QuestionData}
 
 -- a printable character other than the blank
 abbrev pub is_printable : ℕ → Bool

@@ -1,0 +1,4 @@
+pub mod Numbers
+pub mod Actions
+pub mod QuestionData
+pub mod Questions

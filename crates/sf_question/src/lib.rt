@@ -1,0 +1,10 @@
+//! Questions about a filter stack: is any of these inputs answered with one of these actions?
+#![tactic(auto)]
+
+mod actions;
+mod fault;
+mod question;
+
+pub use actions::ActionSet;
+pub use fault::Fault;
+pub use question::Question;
