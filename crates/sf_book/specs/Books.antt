@@ -13,7 +13,7 @@ use Rattle.sf_run.specs.Machine.{trace_of}
 use Rattle.sf_run.specs.Answers.{Answers}
 use Rattle.sf_run.specs.Routes.{IsWholeRoute}
 use Rattle.sf_piece.specs.Pieces.{PieceData, is_member, is_prefix, IsTrulyNamed}
-use Rattle.sf_book.specs.declared.book.Counts.{Counts}
+use Rattle.sf_run.specs.declared.counts.Counts.{Counts}
 
 -- an outstanding piece, under its id, on lease or not
 pub record OutstandingData : Type 0 where

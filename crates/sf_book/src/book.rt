@@ -5,7 +5,7 @@ ghost use Rattle.std.specs.Arc.{arc_value};
 ghost use Rattle.sf_insn.specs.declared.input.Input.{Input};
 ghost use Rattle.sf_insn.specs.Inputs.{IsInput};
 ghost use Rattle.sf_piece.specs.Pieces.{PieceData, IsRoot};
-ghost use Rattle.sf_book.specs.Books.{IsLawfulBook, counts_of, fresh};
+ghost use Rattle.sf_book.specs.Books.{IsLawfulBook, IsSettled, counts_of, fresh};
 ghost use Rattle.sf_book.specs.Partition.{parts_of, names_of, LiesInOne, NoneBeginsAnother};
 ghost use Rattle.sf_book.specs.PlainBooks.{IsPlainWhereStackIs};
 ghost use Rattle.sf_book.specs.Unfoldings.{IsFringe};
@@ -19,25 +19,10 @@ use crate::settled::Settled;
 use sf_check::Stack;
 use sf_piece::laws::execution_has_one_result;
 use sf_piece::{Piece, Step, Work, root};
+use sf_run::Counts;
 use std::alloc::Global;
 use std::marker::Model;
 use std::sync::Arc;
-
-/// How many pieces, regions and works a book has: `left + settled + emptied = 1 + splits`, and
-/// `commits = splits + settled + emptied`.
-#[derive(Clone, Copy, Debug, PartialEq, Eq)]
-pub struct Counts {
-    /// Outstanding pieces, on lease or not.
-    pub left: usize,
-    /// Settled regions.
-    pub settled: usize,
-    /// Pieces that turned out to have no member.
-    pub emptied: usize,
-    /// Works committed that split their piece.
-    pub splits: u32,
-    /// Works committed.
-    pub commits: u32,
-}
 
 /// A piece to work on, and the id under which it is outstanding.
 #[derive(Drop)]
@@ -100,6 +85,7 @@ impl Book {
     pub fn open(alloc: Global, stack: Arc<Stack>, budget: u32) -> Result<Book, Fault>
         ensures ok { IfOk result (λ b. (r : PieceData) × IsRoot (arc_value stack) r
             × (b ≡ fresh (arc_value stack) r budget)) }
+        ensures lawful { IfOk result (λ b. IsLawfulBook b) }
         ensures err { IfErr result (λ f. f ≡ Memory) }
     {
         // For the prover: the stack is lawful.
@@ -108,7 +94,7 @@ impl Book {
         // For the prover: the first piece is named truly.
         let _name = piece.name();
         let outstanding = OutstandingPieces::open(alloc, 0, piece)?;
-        Ok(Book {
+        let book = Book {
             stack,
             outstanding,
             regions: Vec::new(alloc),
@@ -117,7 +103,10 @@ impl Book {
             commits: 0,
             budget,
             next_id: 1,
-        })
+        };
+        // For the prover: the book is lawful.
+        let _budget = book.budget();
+        Ok(book)
     }
 
     /// How many works the book takes at most: `commit` refuses further ones as `Spent`.
@@ -148,8 +137,8 @@ impl Book {
     }
 
     /// Leases out the piece whose name comes first (`Name::order`) among those that aren't on lease; `None` where all
-    /// are on lease, or none is outstanding. Takes no memory. `Memory` only where too many owners would share the
-    /// piece: the book is unchanged then.
+    /// are on lease, or none is outstanding. Takes no memory. `Memory` where too many owners would share the piece: the
+    /// book is unchanged then.
     pub fn lease(&mut self) -> Result<Option<Lease>, Fault>
         ensures ok { IfOk result (λ l. MatchOption l ((self.new ≡ self.old)
             × All (λ e. e.leased ≡ true) self.old.outstanding)
@@ -194,6 +183,7 @@ impl Book {
         ensures ok { IfOk result (λ ids. MayCommit self.old id work
             × (self.old.commits < self.old.budget)
             × CommitsAs self.old id work.piece work.name work.step ids self.new) }
+        ensures lawful { IfOk result (λ ids. IsLawfulBook self.new) }
         ensures err { IfErr result (λ f. Refuses self.old id work f × (self.new ≡ self.old)) }
     {
         if !is_of(&work, &self.stack) {
@@ -209,10 +199,14 @@ impl Book {
         ensures ok { IfOk result (λ ids. MayCommit self.old id work
             × (self.old.commits < self.old.budget)
             × CommitsAs self.old id work.piece work.name work.step ids self.new) }
+        ensures lawful { IfOk result (λ ids. IsLawfulBook self.new) }
         ensures err { IfErr result (λ f. Refuses self.old id work f × (self.new ≡ self.old)) }
     {
         self.admit(id, &work)?;
-        self.replace(id, work)
+        let replaced = self.replace(id, work);
+        // For the prover: the book is lawful still.
+        let _budget = self.budget();
+        replaced
     }
 
     /// Takes the piece under the id out, puts what the work made of it in its place, and returns what `commit` returns.
@@ -279,6 +273,7 @@ impl Book {
     /// (`Stack::is_same`): the book is dropped then.
     pub fn finish(self, stack: &Stack) -> Result<Settled, Fault>
         ensures ok { IfOk result (λ s. (self.stack ≡ stack.now) × Settles self s) }
+        ensures lawful { IfOk result (λ s. IsSettled s) }
         ensures err { IfErr result (λ f. (f ≡ Foreign) × (self.stack ≢ stack.now)) }
     {
         if !self.stack.is_same(stack) {
@@ -286,7 +281,7 @@ impl Book {
         }
         let mut regions = self.regions;
         put_in_order(&mut regions);
-        Ok(Settled {
+        let settled = Settled {
             stack: self.stack,
             outstanding: self.outstanding,
             regions,
@@ -294,6 +289,9 @@ impl Book {
             splits: self.splits,
             commits: self.commits,
             budget: self.budget,
-        })
+        };
+        // For the prover: the book is lawful, with its regions in name order.
+        let _count = settled.region_count();
+        Ok(settled)
     }
 }

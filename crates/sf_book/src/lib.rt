@@ -10,7 +10,8 @@ mod outstanding;
 mod regions;
 mod settled;
 
-pub use book::{Book, Counts, Lease};
+pub use book::{Book, Lease};
 pub use fault::Fault;
 pub use regions::Region;
 pub use settled::Settled;
+pub use sf_run::Counts;

@@ -38,7 +38,7 @@ impl NameKey {
         NameKey { piece }
     }
 
-    /// Another key of the same piece, which both keys share. Takes no memory. `Memory` only where too many owners would
+    /// Another key of the same piece, which both keys share. Takes no memory. `Memory` where too many owners would
     /// share the piece.
     pub(crate) fn share(&self) -> Result<NameKey, Fault>
         ensures ok { IfOk result (λ k. k ≡ self.now) }

@@ -103,8 +103,8 @@ impl OutstandingPieces {
     }
 
     /// Leases out the piece whose name comes first (`Name::order`) among those that aren't on lease, and gives its id
-    /// and the piece. `None` where all are on lease, or none is outstanding. Takes no memory. `Memory` only where too
-    /// many owners would share the piece: all is as it was then.
+    /// and the piece. `None` where all are on lease, or none is outstanding. Takes no memory. `Memory` where too many
+    /// owners would share the piece: all is as it was then.
     pub(crate) fn lease(&mut self) -> Result<Option<(u64, Arc<Piece>)>, Fault>
         ensures ok { IfOk result (λ l. MatchOption l ((self.new ≡ self.old)
             × All (λ e. e.leased ≡ true) self.old) (λ l.

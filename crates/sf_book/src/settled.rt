@@ -11,11 +11,11 @@ ghost use Rattle.sf_book.specs.Unfoldings.{IsFringe};
 ghost use Rattle.sf_book.specs.Partition.{parts_of, names_of, LiesInOne, NoneBeginsAnother};
 ghost use Rattle.sf_book.specs.Books.{OutstandingData, IsSettled, IsRightRegion, counts_of};
 
-use crate::book::Counts;
 use crate::outstanding::OutstandingPieces;
 use crate::regions::{Emptied, Region};
 use sf_check::Stack;
 use sf_piece::{Name, Piece};
+use sf_run::Counts;
 use std::marker::Model;
 use std::sync::Arc;
 

@@ -12,7 +12,7 @@ use Rattle.sf_ask.specs.OneResultLaws.{one_verdict_at, same_themselves}
 use Rattle.sf_ask.specs.declared.verdict.Verdict.{Verdict}
 use Rattle.sf_ask.specs.declared.verdict.Verdict.TheVariants.{Clear, Hit, Doubt}
 use Rattle.sf_ask.specs.declared.verdict.Reply.TheVariants.{Never, Allowed, Unsettled}
-use Rattle.sf_ask.specs.QuestionData.{QuestionData}
+use Rattle.sf_question.specs.QuestionData.{QuestionData}
 use Rattle.sf_ask.specs.Verdicts.{IsBreakAt, IsRightVerdict, IsRightReply, TellsTriedAt, IsDoubtful}
 use Rattle.sf_check.specs.Stacks.{IsPlain}
 use Rattle.sf_ask.specs.MemberLaws.{in_some_region}

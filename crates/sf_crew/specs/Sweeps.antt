@@ -2,7 +2,7 @@
 use Rattle.std.specs.Prelude.{◌≡◌, ℕ, ◌+◌, ◌*◌, ◌<◌, ◌≤◌, ◌⊎◌, Bool, false, IsTrue, List, length, Some, None, slice_get}
 use Rattle.std.specs.Int.{bit_at}
 use Rattle.sf_book.specs.Books.{BookData}
-use Rattle.sf_ask.specs.QuestionData.{QuestionData}
+use Rattle.sf_question.specs.QuestionData.{QuestionData}
 use Rattle.sf_insn.specs.declared.input.Input.{Input}
 use Rattle.sf_ask.specs.declared.verdict.Reply.{Reply}
 use Rattle.sf_ask.specs.Verdicts.{IsLowInput, IsBreakAt, IsRightReply, IsFirstBreak, IsLeastExample, IsDoubtful}

@@ -9,7 +9,7 @@ use thiserror::Error;
 /// Why a call of this crate was refused.
 #[derive(Clone, Copy, Debug, PartialEq, Eq, Error)]
 pub enum Fault {
-    /// An allocation was refused, something that is shared has too many owners, or a list would get too long.
+    /// An allocation was refused, or something that is shared has too many owners.
     #[error("out of memory")]
     Memory,
 }

@@ -65,8 +65,7 @@ impl<N: Naming> NewWorker<N> {
 impl<N: Naming> Worker<N> {
     /// Gets a lease. First the worker's own bench is tried; then the benches of the other workers, each once, the next
     /// worker's first; then the book, under its lock. `None` where the book gives none either: all its pieces are on
-    /// lease, or none is outstanding. `Memory` only where too many owners would share the piece that the book leases
-    /// out.
+    /// lease, or none is outstanding. `Memory` where too many owners would share the piece that the book leases out.
     fn next_lease<R: Wait>(
         &mut self,
         rt: &R,
@@ -98,8 +97,6 @@ impl<N: Naming> Worker<N> {
         ensures err { IfErr result (λ f. f ≡ BookMemory) }
     {
         let work = advance(alloc, piece)?;
-        // For the prover: the work is right for its piece.
-        let _piece = work.piece();
         let made = Made::of(work)?;
         gate.pass(self.number, self.calls);
         Ok(made)
@@ -255,8 +252,8 @@ fn run_all<N: Naming, R: Threads + Wait + Sync, G: Gate>(
 /// takes all pieces off lease and works off what is outstanding, under the next number.
 ///
 /// The caller's conditions: 1 to 64 workers, and a budget from 1 to 1,000,000; the contract holds for other budgets
-/// too. Waits for the workers. `Memory` where the calling thread is refused memory, something that is shared has too
-/// many owners, or a list of a piece would get too long.
+/// too. Waits for the workers. `Memory` where the calling thread is refused memory, or something that is shared has too
+/// many owners.
 pub fn explore<R: Threads + Wait + Sync, G: Gate>(
     rt: &R,
     alloc: Global,

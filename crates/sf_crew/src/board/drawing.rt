@@ -30,7 +30,8 @@ impl Board {
         ensures some { IfSome result (λ j. (j < count_of_regions (about self.now))
             × (count_by (λ i. j == i) (jobs (seat_view seat.old)) ≡ 0)
             × (length (jobs (seat_view seat.old)) < count_of_regions (about self.now))
-            × (seat_view seat.new ≡ view_with_job (seat_view seat.old) j)) }
+            × (seat_view seat.new ≡ view_with_job (seat_view seat.old) j)
+            × ((seat_view seat.old).exhausted_seats ≡ 0)) }
         ensures none { IfNone result (GotNone (about self.now) (seat_view seat.old)
             (seat_view seat.new)) }
     {

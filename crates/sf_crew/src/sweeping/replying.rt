@@ -1,6 +1,6 @@
 //! Replies to questions, from the tally of all regions.
 ghost use Rattle.std.specs.Prelude.{◌≡◌, ◌==◌, ◌<◌, ◌≤◌, ℕ, Some, true, false, length, slice_get, IfOk, IfErr};
-ghost use Rattle.sf_ask.specs.QuestionData.{QuestionData};
+ghost use Rattle.sf_question.specs.QuestionData.{QuestionData};
 ghost use Rattle.sf_check.specs.Stacks.{IsPlain};
 ghost use Rattle.sf_crew.specs.Sweeps.{IsFullTally, IsUnbroken, HasDoubt, IsReplyTo, AreRightReplies, IsRightReplyAt};
 ghost use Rattle.sf_crew.specs.declared.fault.Fault.TheVariants.{Memory};

@@ -17,7 +17,7 @@ use std::alloc::Global;
 use std::sync::Arc;
 
 /// A lease of the first piece in name order. `None` where no piece is outstanding, or the budget is spent. `Memory`
-/// only where too many owners would share the piece. The caller's condition: no piece is on lease.
+/// where too many owners would share the piece. The caller's condition: no piece is on lease.
 fn next_lease(book: &mut Book) -> Result<Option<Lease>, Fault>
     requires { IsFree book.old.outstanding }
     ensures same { IsSameExploration book.old book.new }
@@ -65,8 +65,7 @@ fn turn<G: Gate>(
 
 /// Works pieces one after another until none is outstanding or the budget is spent. `worker` is the worker's number for
 /// the gate, and its calls are numbered from 1. The caller's condition: no piece is on lease. `Memory` where memory is
-/// refused, something that is shared has too many owners, or a list of a piece would get too long: a piece may be on
-/// lease then.
+/// refused, or something that is shared has too many owners: a piece may be on lease then.
 pub(crate) fn work_off<G: Gate>(
     alloc: Global,
     book: &mut Book,
@@ -110,8 +109,7 @@ pub(crate) fn finish_book(book: Book, stack: &Arc<Stack>, _budget: u32) -> Settl
 }
 
 /// Explores a stack by at most `budget` works, by the calling thread only, as worker 0. The gate sees each work before
-/// it is committed. `Memory` where memory is refused, something that is shared has too many owners, or a list of a
-/// piece would get too long.
+/// it is committed. `Memory` where memory is refused, or something that is shared has too many owners.
 pub(crate) fn explore_alone<G: Gate>(
     alloc: Global,
     stack: Arc<Stack>,

@@ -48,7 +48,7 @@ pub(crate) struct Made {
 
 impl Made {
     /// A work, and its two children where it is a split. The children are shared with the work, so the worker still
-    /// has them when the book has taken the work. Nothing is allocated: `Memory` comes only where too many owners would
+    /// has them when the book has taken the work. Nothing is allocated: `Memory` comes where too many owners would
     /// share a child, and the work is dropped then.
     pub(crate) fn of(work: Work) -> Result<Made, Fault>
         ensures ok { IfOk result (λ made. (made.work ≡ work) × HasItsChildren made) }
@@ -110,7 +110,7 @@ impl<N: Naming> SharedBook<N> {
     }
 
     /// A lease of the first piece, in name order, that isn't on lease; `None` where all are, or none is outstanding.
-    /// `Memory` only where too many owners would share the piece: the book is unchanged then.
+    /// `Memory` where too many owners would share the piece: the book is unchanged then.
     pub(crate) fn lease(&mut self) -> Result<Option<Held<N>>, Fault>
         ensures ok { IfOk result (λ found. MatchOption found ((self.new ≡ self.old)
             × All (λ e. e.leased ≡ true) self.old.outstanding)

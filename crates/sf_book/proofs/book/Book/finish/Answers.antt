@@ -3,8 +3,8 @@ use Rattle.sf_book.proofs.Growing.{fringe-permuted}
 use Rattle.sf_book.proofs.Lawful.{permuted_lawful}
 use Rattle.sf_book.proofs.book.Book.finish.Goals as goal
 
-pub invariant_of-result : goal.invariant_of-result
-invariant_of-result c =
+pub invariant_of-settled : goal.invariant_of-settled
+invariant_of-settled c =
     let moved = c.put_in_order.ensures.permutation in
     record {
       settled = record {

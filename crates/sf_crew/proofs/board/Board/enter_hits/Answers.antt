@@ -1,6 +1,6 @@
 use Rattle.std.proofs.Common.{◌≡◌, ◌<◌, ℕ, List, length, subst, sym, ap, ◌∙◌, arith}
 use Rattle.sf_book.specs.Books.{BookData}
-use Rattle.sf_ask.specs.QuestionData.{QuestionData}
+use Rattle.sf_question.specs.QuestionData.{QuestionData}
 use Rattle.sf_ask.specs.Sheets.{HasHit}
 use Rattle.sf_crew.specs.Views.{questions_of, count_of_regions}
 use Rattle.sf_crew.specs.Boards.{about}

@@ -1,5 +1,5 @@
 use Rattle.std.proofs.Common.{◌≡◌, ◌≤◌, ap, arith}
-use Rattle.sf_book.specs.declared.book.Counts.{Counts}
+use Rattle.sf_run.specs.declared.counts.Counts.{Counts}
 use Rattle.sf_crew.proofs.Free.{leased_or_end}
 use Rattle.sf_crew.proofs.workers.exploring.next_lease.Goals as goal
 

@@ -5,14 +5,14 @@ use Rattle.sf_crew.proofs.workers.exploring.turn.Goals as goal
 
 pub commit_of_stack-requires : goal.commit_of_stack-requires
 commit_of_stack-requires g c = (may_commit c.args.book.now c.args.lease c.in_ok-work.work
-    c.counts-counts.ensures.lawful c.requires c.in_ok-work.ensures).same_stack
+    c.counts-counts.ensures.lawful c.requires c.in_ok-work.ensures.piece).same_stack
 
 -- the commit is refused nothing but memory
 pub returns-in_err-f-clause-err : goal.returns-in_err-f-clause-err
 returns-in_err-f-clause-err g c =
     let given = err_from_is_err_and c.from_residual-in_err-f.result c.from_residual-in_err-f.ensures.1 in
     let may = may_commit c.args.book.now c.args.lease c.in_ok-work.work c.counts-counts.ensures.lawful c.requires
-    c.in_ok-work.ensures in
+    c.in_ok-work.ensures.piece in
     rw (given.1, given.2)
     (only_memory c.args.book.now c.args.lease.id c.in_ok-work.work c.in_err-f.field-0.0 may c.requires.room
     c.in_err-f.ensures.err.0)
