@@ -1,3 +1,1 @@
 pub mod ReachingLemmas
-pub mod PassingLemmas
-pub mod ZeroErrorLemmas

@@ -9,3 +9,10 @@ AreSame files earlier later =
 -- no two files have the same bytes
 abbrev pub HaveOtherBytes : List (List ℕ) → Type 0
 HaveOtherBytes files = (earlier later : ℕ) → ¬ AreSame files earlier later
+
+-- The files at two places are the first that are the same: before the later one all files are different, and it is the
+-- same as none before the earlier one.
+pub record AreFirstSame (files : List (List ℕ)) (earlier later : ℕ) : Type 0 where
+  pub same : AreSame files earlier later
+  pub none_later : (i j : ℕ) → j < later → ¬ AreSame files i j
+  pub none_earlier : (i : ℕ) → i < earlier → ¬ AreSame files i later

@@ -1,7 +1,7 @@
 //! Filters that are there twice.
 
 ghost use Rattle.std.specs.Prelude.{◌≡◌, ◌↔◌, ℕ, ◌<◌, length, map, IfSome, IfNone, IsTrue};
-ghost use Rattle.sf_warnings.specs.Equal.{HaveOtherBytes, AreSame};
+ghost use Rattle.sf_warnings.specs.Equal.{HaveOtherBytes, AreSame, AreFirstSame};
 
 /// Whether two files have the same bytes.
 fn have_same_bytes(left: &[u8], right: &[u8]) -> bool
@@ -16,6 +16,8 @@ fn same_before(files: &[Vec<u8>], later: usize) -> Option<usize>
     requires { later < length files.now }
     ensures same { IfSome result (λ earlier. AreSame
         (map (λ f. f.items) files.now) earlier later) }
+    ensures first { IfSome result (λ earlier. (i : ℕ) → i < earlier
+        → ¬ AreSame (map (λ f. f.items) files.now) i later) }
     ensures apart { IfNone result ((earlier : ℕ)
         → ¬ AreSame (map (λ f. f.items) files.now) earlier later) }
 {
@@ -27,11 +29,10 @@ fn same_before(files: &[Vec<u8>], later: usize) -> Option<usize>
     None
 }
 
-/// The places, from 0, of two files that have the same bytes, the lower place first. The higher place is that of the
-/// first file that equals some file before it. The lower place is what `same_before` gives for this file. `None` where
-/// all files are different.
+/// The places, from 0, of two files that have the same bytes, the lower place first: of the first file that equals some
+/// file before it, and of the first file that it equals. `None` where all files are different.
 pub fn first_same(files: &[Vec<u8>]) -> Option<(usize, usize)>
-    ensures same { IfSome result (λ r. AreSame (map (λ f. f.items) files.now) r.0 r.1) }
+    ensures same { IfSome result (λ r. AreFirstSame (map (λ f. f.items) files.now) r.0 r.1) }
     ensures apart { IfNone result (HaveOtherBytes (map (λ f. f.items) files.now)) }
 {
     for later in 0..files.len() {

@@ -1,7 +1,7 @@
 use Rattle.std.proofs.Common.{refl, inl, inr}
-use Rattle.sf_warnings.specs.Adding.{IsAddedOnce}
-use Rattle.sf_warnings.proofs.ZeroErrorLemmas.{same_after}
-use Rattle.sf_warnings.proofs.errno.push_once.Goals as goal
+use Rattle.sf_stack_warnings.specs.Adding.{IsAddedOnce}
+use Rattle.sf_stack_warnings.proofs.ZeroErrorLemmas.{same_after}
+use Rattle.sf_stack_warnings.proofs.errno.push_once.Goals as goal
 
 -- the number was there
 pub returns-then-not-branch-clause-added : goal.returns-then-not-branch-clause-added

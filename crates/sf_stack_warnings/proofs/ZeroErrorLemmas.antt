@@ -17,8 +17,8 @@ use Rattle.sf_run.specs.declared.action.Answer.{Answer}
 use Rattle.sf_run.specs.Answers.{Answers}
 use Rattle.sf_piece.specs.Pieces.{is_member}
 use Rattle.sf_book.specs.Books.{BookData, RegionData, IsRightRegion}
-use Rattle.sf_warnings.specs.ZeroErrors.{zero_error, IsZeroErrorAt, AreZeroErrors}
-use Rattle.sf_warnings.specs.Adding.{HaveSame, IsAddedOnce, IsOtherwiseAt, AreAddedBefore}
+use Rattle.sf_stack_warnings.specs.ZeroErrors.{zero_error, IsZeroErrorAt, AreZeroErrors}
+use Rattle.sf_stack_warnings.specs.Adding.{HaveSame, IsAddedOnce, IsOtherwiseAt, AreAddedBefore}
 
 -- ---- a number is put into a set
 

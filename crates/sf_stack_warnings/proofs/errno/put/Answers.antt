@@ -1,5 +1,5 @@
-use Rattle.sf_warnings.proofs.ZeroErrorLemmas.{is_new, put_one}
-use Rattle.sf_warnings.proofs.errno.put.Goals as goal
+use Rattle.sf_stack_warnings.proofs.ZeroErrorLemmas.{is_new, put_one}
+use Rattle.sf_stack_warnings.proofs.errno.put.Goals as goal
 
 pub returns-clause-is_new : goal.returns-clause-is_new
 returns-clause-is_new c = is_new c.args.seen.now c.args.number c.in_ok-is_new.is_new c.in_ok-is_new.ensures.added

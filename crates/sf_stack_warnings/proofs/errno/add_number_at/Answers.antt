@@ -1,5 +1,5 @@
-use Rattle.sf_warnings.proofs.ZeroErrorLemmas.{none_added, one_added}
-use Rattle.sf_warnings.proofs.errno.add_number_at.Goals as goal
+use Rattle.sf_stack_warnings.proofs.ZeroErrorLemmas.{none_added, one_added}
+use Rattle.sf_stack_warnings.proofs.errno.add_number_at.Goals as goal
 
 pub returns-in_default : goal.returns-in_default
 returns-in_default c =

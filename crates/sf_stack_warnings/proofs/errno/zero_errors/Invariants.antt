@@ -1,5 +1,5 @@
-use Rattle.sf_warnings.specs.Adding.{AreAddedBefore}
-use Rattle.sf_warnings.proofs.errno.zero_errors.Given as goal
+use Rattle.sf_stack_warnings.specs.Adding.{AreAddedBefore}
+use Rattle.sf_stack_warnings.proofs.errno.zero_errors.Given as goal
 
 abbrev pub invariant-loop-place : goal.invariant-loop-place
 invariant-loop-place l = AreAddedBefore l.settled l.place l.numbers.items l.seen.keys

@@ -2,7 +2,7 @@
 use Rattle.std.specs.Prelude.{◌≡◌, ◌⊎◌, ◌↔◌, ℕ, List, [], ◌∷◌, ◌++◌, Contains, Some, slice_get}
 use Rattle.sf_check.specs.Stacks.{IsPlain}
 use Rattle.sf_book.specs.Books.{RegionData, BookData}
-use Rattle.sf_warnings.specs.ZeroErrors.{zero_error, AreZeroErrors, LeaveNoneOut}
+use Rattle.sf_stack_warnings.specs.ZeroErrors.{zero_error, AreZeroErrors, LeaveNoneOut}
 
 -- two lists have the same numbers
 abbrev pub HaveSame : List ℕ → List ℕ → Type 0

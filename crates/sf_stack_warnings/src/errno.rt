@@ -3,8 +3,8 @@
 
 ghost use Rattle.std.specs.Prelude.{◌≡◌, ◌⊎◌, ◌↔◌, ◌+◌, ◌<◌, ℕ, length, Contains, IfNone, IfOk, IfSome, IsTrue, MatchBool, OnOk};
 ghost use Rattle.sf_check.specs.Stacks.{IsPlain};
-ghost use Rattle.sf_warnings.specs.ZeroErrors.{zero_error, IsZeroErrorAt, AreZeroErrors, LeaveNoneOut};
-ghost use Rattle.sf_warnings.specs.Adding.{HaveSame, IsAddedOnce, IsOtherwiseAt, AreAddedBefore};
+ghost use Rattle.sf_stack_warnings.specs.ZeroErrors.{zero_error, IsZeroErrorAt, AreZeroErrors, LeaveNoneOut};
+ghost use Rattle.sf_stack_warnings.specs.Adding.{HaveSame, IsAddedOnce, IsOtherwiseAt, AreAddedBefore};
 
 use sf_ask::{Membership, find_member};
 use sf_book::Settled;

@@ -1,7 +1,7 @@
 //! Whether any call gets through a stack.
 
 ghost use Rattle.std.specs.Prelude.{◌≡◌, false, IsTrue};
-ghost use Rattle.sf_warnings.specs.Passing.{LetsNoneThrough, may_let_through};
+ghost use Rattle.sf_stack_warnings.specs.Passing.{LetsNoneThrough, lets_none_through, may_let_through};
 
 use sf_book::Settled;
 use sf_run::Action;
@@ -21,7 +21,8 @@ pub(crate) fn may_let_through(action: Action) -> bool
 /// by which a call may get through. `false` doesn't say that a call gets through: a piece may be outstanding, the
 /// region with such an answer may have no member, or another process may decide.
 pub fn lets_none_through(settled: &Settled) -> bool
-    ensures { IsTrue result → LetsNoneThrough settled.now.stack }
+    ensures found { result ≡ lets_none_through settled.now }
+    ensures none { IsTrue result → LetsNoneThrough settled.now.stack }
 {
     if settled.outstanding_count() > 0 {
         return false;

@@ -1,0 +1,2 @@
+pub mod PassingLemmas
+pub mod ZeroErrorLemmas

@@ -1,0 +1,3 @@
+pub mod Passing
+pub mod ZeroErrors
+pub mod Adding
