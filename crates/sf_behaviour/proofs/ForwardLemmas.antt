@@ -5,7 +5,7 @@ use Rattle.std.proofs.lemmas.Bool.{cases_eq}
 use Rattle.std.proofs.lemmas.List.{length-replicate, take_all}
 use Rattle.std.proofs.lemmas.Option.{same_Some, slice_get-get_or}
 use Rattle.sf_insn.specs.declared.input.Input.{Input}
-use Rattle.sf_insn.specs.Words.{negation_of}
+use Rattle.sf_insn.specs.Words.{apply, negation_of}
 use Rattle.sf_check.specs.declared.insn.Insn.{Insn}
 use Rattle.sf_check.specs.declared.insn.Operand.TheVariants.{Constant as Fixed, X as OfX}
 use Rattle.sf_check.specs.Insns.{successors, IsInRange}
@@ -16,7 +16,7 @@ use Rattle.sf_diagram.specs.Trees.{Tree, Bits}
 use Rattle.sf_diagram.specs.Stores.{KeepsTrees}
 use Rattle.sf_behaviour.specs.Registers.{IsRegister, with_register}
 use Rattle.sf_behaviour.specs.Knowledge.{known_word, known_with, held_in, IsInputWord, IsKnowledge, IsLess}
-use Rattle.sf_behaviour.specs.Effects.{places_after, result_of, source_in, IsEffectOf}
+use Rattle.sf_behaviour.specs.Effects.{places_after, source_in, IsEffectOf}
 use Rattle.sf_behaviour.specs.Steps.{AreNext, IsKnownOf, IsFixed, Reaches, StayReached, AreKnowledge}
 use Rattle.sf_behaviour.specs.Telling.{known_after, insns_of, IsStep, AreSteps}
 use Rattle.sf_behaviour.specs.Words.{word_value, IsWordOf}
@@ -26,7 +26,7 @@ use Rattle.sf_behaviour.specs.declared.steps.Step.{Step}
 use Rattle.sf_behaviour.specs.declared.registers.Register.{Register}
 use Rattle.sf_behaviour.specs.declared.registers.Register.TheVariants.{A, X}
 use Rattle.sf_behaviour.specs.declared.effects.Effect.{Effect}
-use Rattle.sf_behaviour.specs.declared.effects.Effect.TheVariants.{Sets, Skips, Tests, Returns, Divides}
+use Rattle.sf_behaviour.specs.declared.effects.Effect.TheVariants.{Sets, Skips, Tests, Returns}
 use Rattle.sf_behaviour.specs.declared.effects.Source.{Source}
 use Rattle.sf_behaviour.specs.declared.effects.Source.TheVariants.{Constant, Word as InputWord, Held, Negation, Result}
 use Rattle.sf_behaviour.proofs.WordLemmas.{number-kept}
@@ -50,10 +50,10 @@ fixed-source ts k (InputWord i) r n bits knows fixed there =
 fixed-source ts k (Held q) r n bits knows fixed there = fixed-number ts k r q n bits knows there fixed
 fixed-source ts k Negation r n bits knows fixed there =
     ap negation_of (fixed-number ts k r A n bits knows there fixed)
-fixed-source ts k (Result operation (Fixed m)) r n bits knows fixed there =
-    ap (λ (a : ℕ). result_of operation a m) (fixed-number ts k r A n bits knows there fixed.0)
-fixed-source ts k (Result operation OfX) r n bits knows fixed there =
-    ap₂ (result_of operation) (fixed-number ts k r A n bits knows there fixed.0)
+fixed-source ts k (Result op (Fixed m)) r n bits knows fixed there =
+    ap (λ (a : ℕ). apply op a m) (fixed-number ts k r A n bits knows there fixed.0)
+fixed-source ts k (Result op OfX) r n bits knows fixed there =
+    ap₂ (apply op) (fixed-number ts k r A n bits knows there fixed.0)
     (fixed-number ts k r X n bits knows there fixed.1)
 
 fixed-word : (ts us : List Tree) (k : Known) (source : Source) (ids : List ℕ) → IsKnowledge ts k → IsFixed k source
@@ -107,7 +107,6 @@ step-made ts us step keeps effect knows made = record {
     by (Skips n) e = rw e now
     by (Tests test other t f) e = rw e now
     by (Returns source) e = rw e now
-    by Divides e = rw e now
 
 -- the word that is made for a source is that of each source that the effect has
 pub fixed-made : (ts us : List Tree) (k : Known) (effect : Effect) (q r : Register) (source other : Source)
@@ -156,7 +155,6 @@ leads-later at q (Tests test other t f) c = elim (two-places (at + 1 + t) (at + 
   | inr e ↦ omega arith
 ]
 leads-later at q (Returns source) c = absurd (contains_nil q c)
-leads-later at q Divides c = let e : at + 1 ≡ q = one-place (at + 1) q c in omega arith
 
 less-same : (k : Known) → IsLess k k
 less-same k r w e = e

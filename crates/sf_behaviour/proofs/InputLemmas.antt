@@ -1,16 +1,17 @@
 -- Each input is that of some variables.
-use Rattle.std.proofs.Common.{◌≡◌, ℕ, ◌+◌, ◌-◌, ◌*◌, ◌/◌, ◌%◌, ◌<◌, ◌^◌, ◌==◌, List, true, length, map, get_or, refl, sym, ap, ap₂, ◌∙◌, arith}
+use Rattle.std.proofs.Common.{◌≡◌, ℕ, ◌+◌, ◌-◌, ◌*◌, ◌/◌, ◌%◌, ◌<◌, ◌^◌, ◌==◌, List, true, length, map, get_or, refl, sym, ap, ap₂, subst, ◌∙◌, inl, inr, arith}
 use Rattle.std.specs.Prelude.{slice_index}
 use Rattle.std.specs.List.{range_with_len}
 use Rattle.std.specs.Int.{bit_at}
-use Rattle.std.proofs.lemmas.Bool.{agree_below_at, eqb-true}
+use Rattle.std.proofs.lemmas.Bool.{agree_below_at, cases_lt, eqb-true}
 use Rattle.std.proofs.lemmas.Grind.{same_number_lists}
-use Rattle.std.proofs.lemmas.List.{length-map}
+use Rattle.std.proofs.lemmas.List.{get_or_past, length-map}
 use Rattle.std.proofs.lemmas.List.FromFn.{length-range_with_len}
+use Rattle.sf_diagram.specs.Trees.{Bits}
 use Rattle.sf_insn.specs.declared.input.Input.{Input}
 use Rattle.sf_insn.specs.Inputs.{IsInput}
 use Rattle.sf_behaviour.specs.InputBits.{places_of_words, words_in_order, input_first, input_number, input_by, input_bits}
-use Rattle.sf_behaviour.proofs.VariableLemmas.{number_by-is, input-word, with_words}
+use Rattle.sf_behaviour.proofs.VariableLemmas.{number_by-is, number_by-small, input-word, with_words}
 
 word-at-place : (w : ℕ) → w < 16 → slice_index words_in_order (slice_index places_of_words w) ≡ w
 word-at-place w l = eqb-true (slice_index words_in_order (slice_index places_of_words w)) w
@@ -31,12 +32,24 @@ number-of-word d w h l =
     let small : slice_index d.words w % 2 ^ 32 ≡ slice_index d.words w = omega (arith, h.each w) in
     number_by-is (input_first w) 1 32 (slice_index d.words w) (input_bits d) (λ i li. bit-of-word d w i l li) ∙ small
 
+-- some variables make an input
+pub input-is : (bits : Bits) → IsInput (input_by bits)
+input-is bits = record {
+  sixteen = long;
+  each = λ i. elim (cases_lt i 16) [
+    | inl l ↦ subst (λ (n : ℕ). n < 2 ^ 32) (sym (input-word bits i l)) (number_by-small (input_first i) 1 32 bits)
+    | inr g ↦ subst (λ (n : ℕ). n < 2 ^ 32)
+        (sym (get_or_past (input_by bits).words i 0 (omega (arith, g, long)))) (omega arith)
+  ];
+}
+  where
+    long : length (input_by bits).words ≡ 16
+    long = length-map (range_with_len 0 16) (input_number bits) ∙ length-range_with_len 0 16
+
 -- the variables of an input are those of no other one
 pub input-back : (d : Input) → IsInput d → input_by (input_bits d) ≡ d
 input-back d h =
     let made : List ℕ = (input_by (input_bits d)).words in
-    let long : length made ≡ 16
-    = length-map (range_with_len 0 16) (input_number (input_bits d)) ∙ length-range_with_len 0 16 in
-    let same : made ≡ d.words = same_number_lists made d.words (long ∙ sym h.sixteen)
+    let same : made ≡ d.words = same_number_lists made d.words ((input-is (input_bits d)).sixteen ∙ sym h.sixteen)
     (λ k l. input-word (input_bits d) k (omega arith) ∙ number-of-word d k h (omega arith)) in
     ap with_words same

@@ -4,7 +4,7 @@ use Rattle.std.specs.Prelude.{MatchOption, slice_get, slice_set, slice_index}
 use Rattle.std.proofs.lemmas.Option.{same_Some, slice_get-get_or, slice_get_past}
 use Rattle.std.proofs.lemmas.List.{get_or-replicate, length-replicate}
 use Rattle.std.proofs.lemmas.Bool.{cases_eq, cases_lt}
-use Rattle.sf_insn.specs.Words.{negation_of}
+use Rattle.sf_insn.specs.Words.{apply, negation_of}
 use Rattle.sf_check.specs.declared.insn.Operand.{Operand}
 use Rattle.sf_check.specs.declared.insn.Operand.TheVariants.{Constant as Fixed, X as OfX}
 use Rattle.sf_diagram.specs.Trees.{Tree, Bits}
@@ -13,7 +13,7 @@ use Rattle.sf_run.specs.Machine.{State, start, operand_of}
 use Rattle.sf_behaviour.specs.InputBits.{input_by}
 use Rattle.sf_behaviour.specs.Registers.{IsRegister, register_at, register_first, register_distance, register_by, register_bit, with_register, start_bits, register_number, next_with}
 use Rattle.sf_behaviour.specs.Knowledge.{known_word, known_with, held_in, Fits, IsInputWord, IsKnowledge, IsLess}
-use Rattle.sf_behaviour.specs.Effects.{result_of, source_number, operand_in, source_in}
+use Rattle.sf_behaviour.specs.Effects.{source_number, operand_in, source_in}
 use Rattle.sf_behaviour.specs.Words.{word_value, IsWord, IsWordOf}
 use Rattle.sf_behaviour.specs.declared.words.Word.{Word}
 use Rattle.sf_behaviour.specs.declared.knowing.Known.{Known}
@@ -179,8 +179,8 @@ source-kept ts us k bits (Constant n) keeps h = refl
 source-kept ts us k bits (InputWord i) keeps h = refl
 source-kept ts us k bits (Held r) keeps h = in-kept ts us k bits r keeps h
 source-kept ts us k bits Negation keeps h = ap negation_of (in-kept ts us k bits A keeps h)
-source-kept ts us k bits (Result operation other) keeps h =
-    ap₂ (result_of operation) (in-kept ts us k bits A keeps h) (operand-kept ts us k bits other keeps h)
+source-kept ts us k bits (Result op other) keeps h =
+    ap₂ (apply op) (in-kept ts us k bits A keeps h) (operand-kept ts us k bits other keeps h)
 
 -- ---- numbers of sources
 
@@ -200,9 +200,9 @@ source-in ts k bits s (InputWord i) n fits e = sym (same_Some (slice_index (inpu
 source-in ts k bits s (Held r) n fits e = fits r n e
 source-in ts k bits s Negation n fits e =
     sym (same_Some (negation_of s.a) n e) ∙ ap negation_of (a-in ts k bits s fits)
-source-in ts k bits s (Result operation other) n fits e =
-    sym (same_Some (result_of operation s.a (operand_of s other)) n e)
-    ∙ ap₂ (result_of operation) (a-in ts k bits s fits) (operand-in ts k bits s other fits)
+source-in ts k bits s (Result op other) n fits e =
+    sym (same_Some (apply op s.a (operand_of s other)) n e)
+    ∙ ap₂ (apply op) (a-in ts k bits s fits) (operand-in ts k bits s other fits)
 
 -- ---- all registers, and the start
 

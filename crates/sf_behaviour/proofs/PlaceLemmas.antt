@@ -1,36 +1,34 @@
--- The word of a place, by the step there.
-use Rattle.std.proofs.Common.{◌≡◌, ℕ, ◌+◌, ◌<◌, ◌≤◌, ◌^◌, List, [], ◌∷◌, length, Option, Some, None, false, refl, sym, ap, subst, ◌∙◌, arith}
-use Rattle.std.specs.Prelude.{Contains, map, slice_get, if◌then◌else◌}
+-- The diagram of a place, by the step there.
+use Rattle.std.proofs.Common.{◌≡◌, ℕ, ◌+◌, ◌<◌, ◌≤◌, ◌==◌, ◌^◌, List, [], ◌∷◌, length, Option, Some, None, false, refl, sym, ap, subst, ◌∙◌, arith}
+use Rattle.std.specs.Prelude.{◌&&◌, Contains, map, slice_get, if◌then◌else◌}
 use Rattle.std.proofs.lemmas.List.{length-map}
-use Rattle.sf_insn.specs.declared.ops.BinOp.TheVariants.{Div}
 use Rattle.sf_insn.specs.declared.ops.Test.{Test}
 use Rattle.sf_insn.specs.Words.{passes}
 use Rattle.sf_check.specs.declared.insn.Insn.{Insn}
-use Rattle.sf_check.specs.declared.insn.Insn.TheVariants.{Alu}
 use Rattle.sf_check.specs.declared.insn.Operand.{Operand}
 use Rattle.sf_check.specs.ContainsLaws.{contains_here, contains_there}
 use Rattle.sf_check.specs.Insns.{successors}
 use Rattle.sf_check.specs.ProgramLaws.{below_in, successors_inside}
 use Rattle.sf_check.specs.Programs.{IsAt, IsLawfulProgram}
-use Rattle.sf_diagram.specs.Trees.{Tree, Bits}
-use Rattle.sf_diagram.specs.Stores.{KeepsTrees}
-use Rattle.sf_run.specs.Machine.{start}
-use Rattle.sf_behaviour.specs.InputBits.{input_by}
-use Rattle.sf_behaviour.specs.Registers.{IsRegister, with_register}
+use Rattle.sf_diagram.specs.Trees.{Tree, Bits, value}
+use Rattle.sf_diagram.specs.Stores.{tree_at, KeepsTrees}
+use Rattle.sf_behaviour.specs.Registers.{IsRegister}
+use Rattle.sf_behaviour.specs.Replacing.{IsReplaced}
 use Rattle.sf_behaviour.specs.Knowledge.{known_with, held_in, IsKnowledge, IsLess}
-use Rattle.sf_behaviour.specs.Effects.{places_after, operand_in, source_in, IsEffectOf, HasQuotient}
+use Rattle.sf_behaviour.specs.Effects.{divides, places_after, operand_in, source_in, source_number, set_progress, IsEffectOf}
 use Rattle.sf_behaviour.specs.Telling.{known_after, insns_of, AreSteps, Tells}
-use Rattle.sf_behaviour.specs.Words.{word_value, IsWordOf}
+use Rattle.sf_behaviour.specs.Words.{IsDiagramOf}
 use Rattle.sf_behaviour.specs.declared.words.Word.{Word}
 use Rattle.sf_behaviour.specs.declared.knowing.Known.{Known}
 use Rattle.sf_behaviour.specs.declared.steps.Step.{Step}
 use Rattle.sf_behaviour.specs.declared.registers.Register.{Register}
-use Rattle.sf_behaviour.specs.declared.registers.Register.TheVariants.{A}
+use Rattle.sf_behaviour.specs.declared.registers.Register.TheVariants.{A, X}
 use Rattle.sf_behaviour.specs.declared.effects.Effect.{Effect}
-use Rattle.sf_behaviour.specs.declared.effects.Effect.TheVariants.{Sets, Skips, Tests, Returns, Divides}
+use Rattle.sf_behaviour.specs.declared.effects.Effect.TheVariants.{Sets, Skips, Tests, Returns}
 use Rattle.sf_behaviour.specs.declared.effects.Source.{Source}
+use Rattle.sf_behaviour.proofs.KnowledgeLemmas.{knowledge-kept}
 use Rattle.sf_behaviour.proofs.StepsLemmas.{step-at}
-use Rattle.sf_behaviour.proofs.TellLemmas.{tells-known, tells-unknown, tells-skip, tells-test, tells-return}
+use Rattle.sf_behaviour.proofs.TellLemmas.{tells-step, follows-known, follows-unknown, follows-guard, follows-skip, follows-test, follows-return}
 
 -- ---- where steps lead
 
@@ -73,7 +71,7 @@ false-less ts steps place step next test other t f are at e there =
     subst (λ (k : Known). IsLess next.known k) same
     (are.less place (place + 1 + f) step next at there (false-leads place step test other t f e))
 
--- ---- words
+-- ---- diagrams
 
 effect-is : (ts : List Tree) (steps : List Step) (place : ℕ) (step : Step) (e : Effect) → AreSteps ts steps
     → slice_get steps place ≡ Some step → step.effect ≡ e → IsEffectOf step.insn e
@@ -81,65 +79,69 @@ effect-is ts steps place step e are at is =
     subst (λ (f : Effect). IsEffectOf step.insn f) is (are.each place step at).effect
 
 -- where a register is set to a known word
-pub place-known : (ts : List Tree) (steps : List Step) (place : ℕ) (step : Step) (r : Register) (source : Source)
-    (w : Word) (next : List ℕ) → AreSteps ts steps → slice_get steps place ≡ Some step → step.effect ≡ Sets r source
-    → step.word ≡ Some w → Tells (insns_of steps) (place + 1) ts (known_with step.known r step.word) next
-    → Tells (insns_of steps) place ts step.known next
-place-known ts steps place step r source w next are at is has behind =
+pub place-known : (ts us : List Tree) (steps : List Step) (place : ℕ) (step : Step) (r : Register) (source : Source)
+    (w : Word) (next id : ℕ) → KeepsTrees ts us → AreSteps ts steps → slice_get steps place ≡ Some step
+    → step.effect ≡ Sets r source → step.word ≡ Some w
+    → Tells (insns_of steps) (place + 1) ts (known_with step.known r step.word) next
+    → IsDiagramOf us id (λ bits. if divides source && (held_in ts step.known bits X == 0) then 0
+    else value (tree_at ts next) bits)
+    → Tells (insns_of steps) place us step.known id
+place-known ts us steps place step r source w next id keeps are at is has behind guarded =
     let e = effect-is ts steps place step (Sets r source) are at is in
     let h = are.each place step at in
-    tells-known (insns_of steps) place step.insn r source ts step.known w next (step-at steps place step at) e.there.0
-    h.known (λ d s. e.does d s) (h.word r source w is has)
-    (subst (λ (o : Option Word). Tells (insns_of steps) (place + 1) ts (known_with step.known r o) next) has behind)
+    tells-step (insns_of steps) place step.insn (Sets r source) us step.known id (step-at steps place step at) e
+    (follows-guard (insns_of steps) place source (λ d s. set_progress s r (source_number d s source)) ts us step.known
+    next id keeps h.known
+    (follows-known (insns_of steps) place r source ts step.known w next e.there.0 h.known (h.word r source w is has)
+    (subst (λ (o : Option Word). Tells (insns_of steps) (place + 1) ts (known_with step.known r o) next) has behind))
+    guarded)
 
 -- where it is set to another word
-pub place-unknown : (ts us : List Tree) (steps : List Step) (place : ℕ) (step : Step) (r : Register) (source : Source)
-    (next ids : List ℕ) → KeepsTrees ts us → AreSteps ts steps → slice_get steps place ≡ Some step
-    → step.effect ≡ Sets r source → step.word ≡ None
+pub place-unknown : (ts us vs : List Tree) (steps : List Step) (place : ℕ) (step : Step) (r : Register)
+    (source : Source) (next set id : ℕ) → KeepsTrees ts us → KeepsTrees us vs → AreSteps ts steps
+    → slice_get steps place ≡ Some step → step.effect ≡ Sets r source → step.word ≡ None
     → Tells (insns_of steps) (place + 1) ts (known_with step.known r step.word) next
     → ((bits : Bits) → source_in ts step.known bits source < 2 ^ 32)
-    → IsWordOf us ids (λ bits. word_value ts next (with_register r (source_in ts step.known bits source) bits))
-    → Tells (insns_of steps) place us step.known ids
-place-unknown ts us steps place step r source next ids keeps are at is has behind small word =
+    → IsReplaced r us (λ bits. source_in ts step.known bits source) next set
+    → IsDiagramOf vs id (λ bits. if divides source && (held_in us step.known bits X == 0) then 0
+    else value (tree_at us set) bits)
+    → Tells (insns_of steps) place vs step.known id
+place-unknown ts us vs steps place step r source next set id k1 k2 are at is has behind small replaced guarded =
     let e = effect-is ts steps place step (Sets r source) are at is in
     let h = are.each place step at in
-    tells-unknown (insns_of steps) place step.insn r source ts us step.known next ids (step-at steps place step at)
-    e.there.0 h.known keeps (λ d s. e.does d s)
+    tells-step (insns_of steps) place step.insn (Sets r source) vs step.known id (step-at steps place step at) e
+    (follows-guard (insns_of steps) place source (λ d s. set_progress s r (source_number d s source)) us vs step.known
+    set id k2 (knowledge-kept ts us step.known k1 h.known)
+    (follows-unknown (insns_of steps) place r source ts us step.known next set e.there.0 h.known k1
     (subst (λ (o : Option Word). Tells (insns_of steps) (place + 1) ts (known_with step.known r o) next) has behind)
-    small word
+    small replaced) guarded)
 
-pub place-skip : (ts : List Tree) (steps : List Step) (place n : ℕ) (step : Step) (ids : List ℕ) → AreSteps ts steps
+pub place-skip : (ts : List Tree) (steps : List Step) (place n : ℕ) (step : Step) (id : ℕ) → AreSteps ts steps
     → slice_get steps place ≡ Some step → step.effect ≡ Skips n
-    → Tells (insns_of steps) (place + 1 + n) ts step.known ids → Tells (insns_of steps) place ts step.known ids
-place-skip ts steps place n step ids are at is behind =
-    let e = effect-is ts steps place step (Skips n) are at is in
-    tells-skip (insns_of steps) place step.insn n ts step.known ids (step-at steps place step at) (λ d s. e.does d s)
-    behind
+    → Tells (insns_of steps) (place + 1 + n) ts step.known id → Tells (insns_of steps) place ts step.known id
+place-skip ts steps place n step id are at is behind =
+    tells-step (insns_of steps) place step.insn (Skips n) ts step.known id (step-at steps place step at)
+    (effect-is ts steps place step (Skips n) are at is)
+    (follows-skip (insns_of steps) place n ts step.known id behind)
 
 pub place-test : (ts us : List Tree) (steps : List Step) (place : ℕ) (step : Step) (test : Test) (other : Operand)
-    (t f : ℕ) (ys ns ids : List ℕ) → KeepsTrees ts us → AreSteps ts steps → slice_get steps place ≡ Some step
-    → step.effect ≡ Tests test other t f → Tells (insns_of steps) (place + 1 + t) ts step.known ys
-    → Tells (insns_of steps) (place + 1 + f) ts step.known ns
-    → IsWordOf us ids (λ bits. if passes test (held_in ts step.known bits A) (operand_in ts step.known bits other)
-    then word_value ts ys bits else word_value ts ns bits)
-    → Tells (insns_of steps) place us step.known ids
-place-test ts us steps place step test other t f ys ns ids keeps are at is taken skipped word =
-    let e = effect-is ts steps place step (Tests test other t f) are at is in
-    tells-test (insns_of steps) place step.insn test other t f ts us step.known ys ns ids
-    (step-at steps place step at) keeps (are.each place step at).known (λ d s. e.does d s) taken skipped word
+    (t f : ℕ) (one_way other_way id : ℕ) → KeepsTrees ts us → AreSteps ts steps → slice_get steps place ≡ Some step
+    → step.effect ≡ Tests test other t f → Tells (insns_of steps) (place + 1 + t) ts step.known one_way
+    → Tells (insns_of steps) (place + 1 + f) ts step.known other_way
+    → IsDiagramOf us id (λ bits. if passes test (held_in ts step.known bits A) (operand_in ts step.known bits other)
+    then value (tree_at ts one_way) bits else value (tree_at ts other_way) bits)
+    → Tells (insns_of steps) place us step.known id
+place-test ts us steps place step test other t f one_way other_way id keeps are at is taken skipped h =
+    tells-step (insns_of steps) place step.insn (Tests test other t f) us step.known id (step-at steps place step at)
+    (effect-is ts steps place step (Tests test other t f) are at is)
+    (follows-test (insns_of steps) place test other t f ts us step.known one_way other_way id keeps
+    (are.each place step at).known taken skipped h)
 
-pub place-return : (ts us : List Tree) (steps : List Step) (place : ℕ) (step : Step) (source : Source) (ids : List ℕ)
+pub place-return : (ts us : List Tree) (steps : List Step) (place : ℕ) (step : Step) (source : Source) (id : ℕ)
     → KeepsTrees ts us → AreSteps ts steps → slice_get steps place ≡ Some step → step.effect ≡ Returns source
-    → IsWordOf us ids (λ bits. source_in ts step.known bits source) → Tells (insns_of steps) place us step.known ids
-place-return ts us steps place step source ids keeps are at is word =
-    let e = effect-is ts steps place step (Returns source) are at is in
-    tells-return (insns_of steps) place step.insn source ts us step.known ids (step-at steps place step at) keeps
-    (are.each place step at).known (λ d s. e.does d s) word
-
--- where the instruction divides
-pub place-divides : (ts : List Tree) (steps : List Step) (place : ℕ) (step : Step) → AreSteps ts steps
-    → slice_get steps place ≡ Some step → step.effect ≡ Divides → HasQuotient (insns_of steps)
-place-divides ts steps place step are at is =
-    let e = effect-is ts steps place step Divides are at is in
-    let d = e.does (input_by (λ v. false)) start in
-    (place, d.0, step-at steps place step at ∙ ap (λ (i : Insn). Some i) d.1)
+    → IsDiagramOf us id (λ bits. source_in ts step.known bits source)
+    → ((bits : Bits) → value (tree_at us id) bits < 2 ^ 32) → Tells (insns_of steps) place us step.known id
+place-return ts us steps place step source id keeps are at is h small =
+    tells-step (insns_of steps) place step.insn (Returns source) us step.known id (step-at steps place step at)
+    (effect-is ts steps place step (Returns source) are at is)
+    (follows-return (insns_of steps) place source ts us step.known id keeps (are.each place step at).known h small)

@@ -15,19 +15,6 @@ use Rattle.sf_behaviour.proofs.WordLemmas.{begun-word, word_value-parts, word_va
 use Rattle.sf_behaviour.proofs.StepLemmas.{bit-if}
 use Rattle.sf_behaviour.proofs.LoopLemmas.{literal-truth}
 
--- variables that are in none of those of A and X
-pub past-A : (w : ℕ) → 64 ≤ w → register_bit A w ≡ None
-past-A w l = rw (le-ltb w 64 l) refl
-
-pub past-X : (w : ℕ) → 64 ≤ w → register_bit X w ≡ None
-past-X w l = rw (le-ltb w 64 l) refl
-
--- and behind a scratch word
-pub past-scratch : (k w : ℕ) → 96 + 32 * k ≤ w → register_bit (Scratch k) w ≡ None
-past-scratch k w l =
-    let other : (w / 32 == k + 2) ≡ false = ne_eqb (w / 32) (k + 2) (λ e. absurd (omega (arith, e))) in
-    rw other refl
-
 pub with-none : (r : Register) (n : ℕ) (bits : Bits) (v : ℕ) → register_bit r v ≡ None
     → with_register r n bits v ≡ bits v
 with-none r n bits v e = rw e refl

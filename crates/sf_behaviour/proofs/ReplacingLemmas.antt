@@ -9,12 +9,11 @@ use Rattle.std.proofs.lemmas.Bool.Decides.{nat_tests}
 use Rattle.sf_diagram.specs.Trees.{Tree, Leaf, Fork, Bits, value, IsOrderedFrom, IsOrderedTree}
 use Rattle.sf_diagram.specs.Stores.{tree_at, KeepsTrees}
 use Rattle.sf_diagram.specs.Choices.{chosen_of, IsChosen}
-use Rattle.sf_behaviour.specs.Words.{word_value, IsTruth, IsTruthOf, IsWord, IsWordOf}
+use Rattle.sf_behaviour.specs.Words.{word_value, IsDiagramOf, IsTruthOf, IsWord}
 use Rattle.sf_behaviour.specs.Registers.{register_bit, with_register, start_bits}
 use Rattle.sf_behaviour.specs.Replacing.{IsReplaced, AreReplaced}
 use Rattle.sf_behaviour.specs.declared.registers.Register.{Register}
-use Rattle.sf_behaviour.proofs.BitLemmas.{value-kept}
-use Rattle.sf_behaviour.proofs.WordLemmas.{IsBegun, word_value-more, word_value-set, number-kept, word-made, all-bits}
+use Rattle.sf_behaviour.proofs.WordLemmas.{number-kept}
 use Rattle.sf_behaviour.proofs.RegisterLemmas.{value-agrees, with-none, start-past, start-register}
 
 -- ---- one diagram
@@ -35,6 +34,13 @@ replaced-same r ts f g id new e h = record {
   within = h.within;
   values = λ bits. h.values bits ∙ ap (λ (n : ℕ). value (tree_at ts id) (with_register r n bits)) (e bits);
 }
+
+-- its value, by the tree that was there before
+pub replaced-value : (r : Register) (ts us : List Tree) (f : Bits → ℕ) (id new : ℕ) (bits : Bits) → KeepsTrees ts us
+    → id < length ts → IsReplaced r us f id new
+    → value (tree_at us new) bits ≡ value (tree_at ts id) (with_register r (f bits) bits)
+replaced-value r ts us f id new bits k within h =
+    h.values bits ∙ ap (λ (t : Tree). value t (with_register r (f bits) bits)) (k.same id within)
 
 -- a leaf has no register
 pub replaced-leaf : (r : Register) (ts : List Tree) (f : Bits → ℕ) (id c : ℕ) → id < length ts
@@ -61,10 +67,14 @@ replaced-past r ts f id v l h within e ordered none =
           (λ w le. sym (with-none r (f bits) bits w (none w le)));
     }
 
-choice-by : (b : Bool) (t x y p q : ℕ) → t ≡ (if b then 1 else 0) → x ≡ p → y ≡ q
+pub choice-by : (b : Bool) (t x y p q : ℕ) → t ≡ (if b then 1 else 0) → x ≡ p → y ≡ q
     → chosen_of t x y ≡ (if b then p else q)
 choice-by true t x y p q et ex ey = ap (λ (n : ℕ). chosen_of n x y) et ∙ ex
 choice-by false t x y p q et ex ey = ap (λ (n : ℕ). chosen_of n x y) et ∙ ey
+
+pub less-if : (b : Bool) (m n : ℕ) → m < 2 ^ 32 → n < 2 ^ 32 → (if b then m else n) < 2 ^ 32
+less-if true m n l k = l
+less-if false m n l k = k
 
 -- The two sides of a fork are replaced in a store that grows: s0 at the beginning, s1 and s2 once each side is there,
 -- s3 with what stands in the place of the variable.
@@ -161,37 +171,6 @@ all-put r ts f m n id new put h one = record {
   ];
 }
 
--- ---- words
-
--- one more bit of a word whose bits are those of another one, at other inputs
-pub moved-step : (n : ℕ) (ts us vs : List Tree) (word ids : List ℕ) (id : ℕ) (bits there : Bits) → KeepsTrees us vs
-    → IsBegun n us ids → IsWord ts word → n < 32
-    → value (tree_at vs id) bits ≡ value (tree_at ts (slice_index word n)) there
-    → word_value us (take n ids) bits ≡ word_value ts (take n word) there
-    → word_value vs (take (n + 1) (slice_set ids n id)) bits ≡ word_value ts (take (n + 1) word) there
-moved-step n ts us vs word ids id bits there k begun w l one so_far =
-    word_value-set n us vs ids id bits k begun l
-    ∙ ap₂ (λ (v m : ℕ). v * 2 ^ n + m) one so_far
-    ∙ sym (word_value-more n ts word there w.count l)
-
--- a bit of a word of the first store, replaced in a later one
-pub replaced-bit : (r : Register) (ts us vs : List Tree) (by : List ℕ) (old new : ℕ) (bits : Bits) → KeepsTrees ts us
-    → KeepsTrees us vs → IsWord ts by → IsTruth ts old → IsReplaced r vs (word_value us by) old new
-    → value (tree_at vs new) bits ≡ value (tree_at ts old) (with_register r (word_value ts by bits) bits)
-replaced-bit r ts us vs by old new bits k1 k2 w t h =
-    let there : Bits = with_register r (word_value ts by bits) bits in
-    h.values bits
-    ∙ ap (λ (n : ℕ). value (tree_at vs old) (with_register r n bits)) (number-kept ts us by bits k1 w)
-    ∙ value-kept ts vs old there (keeps-both ts us vs k1 k2) t
-
-pub replaced-truth : (r : Register) (ts us vs : List Tree) (by : List ℕ) (old new : ℕ) → KeepsTrees ts us
-    → KeepsTrees us vs → IsWord ts by → IsTruth ts old → IsReplaced r vs (word_value us by) old new → IsTruth vs new
-replaced-truth r ts us vs by old new k1 k2 w t h = record {
-  within = h.within;
-  small = λ bits. subst (λ (n : ℕ). n < 2) (sym (replaced-bit r ts us vs by old new bits k1 k2 w t h))
-      (t.small (with_register r (word_value ts by bits) bits));
-}
-
 -- ---- registers that are 0
 
 pub start-leaf : (t : Tree) (n : ℕ) (bits : Bits) → t ≡ Leaf n → value t bits ≡ value t (start_bits bits)
@@ -208,16 +187,3 @@ start-stays t v l h bits e ordered more =
     let o : IsOrderedTree (Fork v l h) = subst (λ (u : Tree). IsOrderedTree u) e ordered in
     let from : IsOrderedFrom v t = subst (λ (u : Tree). IsOrderedFrom v u) (sym e) (omega arith, o.1, o.2) in
     value-agrees t v bits (start_bits bits) from (λ w le. sym (start-past bits w (omega arith)))
-
--- all bits of it
-pub moved-made : (n : ℕ) (ts us : List Tree) (word ids : List ℕ) (there : Bits → Bits) → n ≡ 32 → IsWord ts word
-    → IsBegun n us ids
-    → ((bits : Bits) → word_value us (take n ids) bits ≡ word_value ts (take n word) (there bits))
-    → IsWordOf us ids (λ bits. word_value ts word (there bits))
-moved-made n ts us word ids there e w begun so_far =
-    word-made us ids (λ bits. word_value ts word (there bits)) (subst (λ (m : ℕ). IsBegun m us ids) e begun)
-    (λ bits. subst (λ (m : ℕ). word_value us (take m ids) bits ≡ word_value ts (take m word) (there bits)) e
-    (so_far bits) ∙ all-bits ts word (there bits) w.count)
-
-pub same-trees : (ts : List Tree) → KeepsTrees ts ts
-same-trees ts = record { longer = omega arith; same = λ id l. refl }

@@ -1,24 +1,24 @@
--- Steps, and the words of the last places.
-use Rattle.std.proofs.Common.{◌≡◌, ◌⊎◌, ℕ, zero, suc, ◌+◌, ◌-◌, ◌<◌, ◌≤◌, List, [], ◌∷◌, ◌++◌, length, length-append, get_or, take, Option, Some, None, refl, sym, ap, ap₂, subst, ◌∙◌, inl, inr, arith}
+-- Steps, and the diagrams of the last places.
+use Rattle.std.proofs.Common.{◌≡◌, ◌⊎◌, ℕ, zero, suc, ◌+◌, ◌-◌, ◌<◌, ◌≤◌, ◌^◌, List, [], ◌∷◌, ◌++◌, length, length-append, get_or, take, Option, Some, None, refl, sym, ap, ap₂, subst, ◌∙◌, inl, inr, arith}
 use Rattle.std.specs.Prelude.{map, slice_get}
 use Rattle.std.proofs.lemmas.Bool.{cases_lt}
 use Rattle.std.proofs.lemmas.List.{get_or_push, get_or_append_left, map-append, take_more}
 use Rattle.std.proofs.lemmas.Option.{same_Some, slice_get-get_or, slice_get_within, get_or_from_slice_get}
 use Rattle.sf_check.specs.declared.insn.Insn.{Insn}
 use Rattle.sf_check.specs.Programs.{IsAt, IsLawfulProgram}
-use Rattle.sf_diagram.specs.Trees.{Tree}
-use Rattle.sf_diagram.specs.Stores.{KeepsTrees}
+use Rattle.sf_diagram.specs.Trees.{Tree, Bits, value}
+use Rattle.sf_diagram.specs.Stores.{tree_at, KeepsTrees}
 use Rattle.sf_behaviour.specs.Telling.{known_after, insns_of, IsStep, AreSteps, Tells, TellLast}
 use Rattle.sf_run.specs.Machine.{return_of}
 use Rattle.sf_behaviour.specs.InputBits.{input_by}
-use Rattle.sf_behaviour.specs.Words.{word_value, IsWord, IsWordOf}
+use Rattle.sf_behaviour.specs.Words.{IsDiagramOf}
 use Rattle.sf_behaviour.specs.Effects.{source_in, IsEffectOf}
 use Rattle.sf_behaviour.specs.Registers.{IsRegister, start_bits}
 use Rattle.sf_behaviour.specs.Knowledge.{known_word, known_with, IsKnowledge, IsLess}
 use Rattle.sf_behaviour.specs.declared.knowing.Known.{Known}
 use Rattle.sf_behaviour.specs.declared.registers.Register.{Register}
 use Rattle.sf_behaviour.specs.declared.effects.Effect.{Effect}
-use Rattle.sf_behaviour.specs.declared.effects.Effect.TheVariants.{Sets, Skips, Tests, Returns, Divides}
+use Rattle.sf_behaviour.specs.declared.effects.Effect.TheVariants.{Sets, Skips, Tests, Returns}
 use Rattle.sf_behaviour.specs.declared.steps.Step.{Step}
 use Rattle.sf_behaviour.specs.declared.words.Word.{Word}
 use Rattle.sf_behaviour.proofs.WordLemmas.{number-kept}
@@ -79,72 +79,75 @@ steps-kept ts us steps keeps h = record {
       ∙ h.start step r w bits at known;
 }
 
-pub last-kept : (ts us : List Tree) (steps : List Step) (words : List Word) → KeepsTrees ts us → AreSteps ts steps
-    → TellLast ts steps words → TellLast us steps words
-last-kept ts us steps words keeps are h = record {
-  each = λ i place w step at there l. tells-kept (insns_of steps) place ts us step.known w.bits keeps
-      (are.each place step there).known (h.each i place w step at there l);
+pub last-kept : (ts us : List Tree) (steps : List Step) (ids : List ℕ) → KeepsTrees ts us → AreSteps ts steps
+    → TellLast ts steps ids → TellLast us steps ids
+last-kept ts us steps ids keeps are h = record {
+  each = λ i place id step at there l. tells-kept (insns_of steps) place ts us step.known id keeps
+      (are.each place step there).known (h.each i place id step at there l);
 }
 
--- the word of one of the last places
-pub behind-tells : (ts : List Tree) (steps : List Step) (words : List Word) (place n : ℕ) (step : Step) (w : Word)
-    → n ≡ length steps → place < length steps → length steps ≤ length words + place → TellLast ts steps words
-    → slice_get steps place ≡ Some step → w ≡ get_or words (n - 1 - place) w
-    → Tells (insns_of steps) place ts step.known w.bits
-behind-tells ts steps words place n step w size inside there last at is =
-    last.each (n - 1 - place) place w step (element-at words (n - 1 - place) w (omega arith) is) at (omega arith)
+-- the diagram of one of the last places
+pub behind-tells : (ts : List Tree) (steps : List Step) (ids : List ℕ) (place n : ℕ) (step : Step) (id : ℕ)
+    → n ≡ length steps → place < length steps → length steps ≤ length ids + place → TellLast ts steps ids
+    → slice_get steps place ≡ Some step → id ≡ get_or ids (n - 1 - place) id
+    → Tells (insns_of steps) place ts step.known id
+behind-tells ts steps ids place n step id size inside there last at is =
+    last.each (n - 1 - place) place id step (element-at ids (n - 1 - place) id (omega arith) is) at (omega arith)
 
 -- one place more
-pub tells-more : (ts us : List Tree) (steps : List Step) (words : List Word) (place : ℕ) (w : Word) → KeepsTrees ts us
-    → AreSteps ts steps → TellLast ts steps words → length words + suc place ≡ length steps
-    → (now : Step) → slice_get steps place ≡ Some now → Tells (insns_of steps) place us now.known w.bits
-    → TellLast us steps (words ++ w ∷ [])
-tells-more ts us steps words place w keeps are last count now here new = record {
-  each = λ i q v step e there l. elim (at-push words w v i e) [
-    | inl old ↦ tells-kept (insns_of steps) q ts us step.known v.bits keeps (are.each q step there).known
+pub tells-more : (ts us : List Tree) (steps : List Step) (ids : List ℕ) (place id : ℕ) → KeepsTrees ts us
+    → AreSteps ts steps → TellLast ts steps ids → length ids + suc place ≡ length steps
+    → (now : Step) → slice_get steps place ≡ Some now → Tells (insns_of steps) place us now.known id
+    → TellLast us steps (ids ++ id ∷ [])
+tells-more ts us steps ids place id keeps are last count now here new = record {
+  each = λ i q v step e there l. elim (at-push ids id v i e) [
+    | inl old ↦ tells-kept (insns_of steps) q ts us step.known v keeps (are.each q step there).known
         (last.each i q v step old.1 there l)
     | inr last-one ↦
-        let first : i ≡ length words = last-one.0 in
+        let first : i ≡ length ids = last-one.0 in
         let place_is : q ≡ place = omega arith in
         let same : now ≡ step
         = same_Some now step (sym here ∙ subst (λ (p : ℕ). slice_get steps p ≡ Some step) place_is there) in
-        subst (λ (u : Word). Tells (insns_of steps) q us step.known u.bits) last-one.1
-        (subst (λ (p : ℕ). Tells (insns_of steps) p us step.known w.bits) (sym place_is)
-        (subst (λ (s : Step). Tells (insns_of steps) place us s.known w.bits) same new))
+        subst (λ (u : ℕ). Tells (insns_of steps) q us step.known u) last-one.1
+        (subst (λ (p : ℕ). Tells (insns_of steps) p us step.known id) (sym place_is)
+        (subst (λ (s : Step). Tells (insns_of steps) place us s.known id) same new))
   ];
 }
 
-pub tells-none : (ts : List Tree) (steps : List Step) (words : List Word) → length words ≡ 0 → TellLast ts steps words
-tells-none ts steps words none = record {
-  each = λ i place w step at there l.
-      let within : i < length words = slice_get_within words i w at in
+pub tells-none : (ts : List Tree) (steps : List Step) (ids : List ℕ) → length ids ≡ 0 → TellLast ts steps ids
+tells-none ts steps ids none = record {
+  each = λ i place id step at there l.
+      let within : i < length ids = slice_get_within ids i id at in
       absurd (omega arith);
 }
 
--- the word of place 0, with all registers 0, is the word that the program returns
-pub program-word : (program : List Insn) (ts : List Tree) (steps : List Step) (words : List Word) (w : Word) (n : ℕ)
-    (new : List ℕ) → n ≡ length steps → insns_of steps ≡ program → IsLawfulProgram program → AreSteps ts steps
-    → TellLast ts steps words
-    → length words ≡ length steps → slice_get words (n - 1) ≡ Some w
-    → IsWordOf ts new (λ bits. word_value ts w.bits (start_bits bits))
-    → IsWordOf ts new (λ bits. return_of program (input_by bits))
-program-word program ts [] words w n new size code lawful are last count at h =
+-- the diagram of place 0, with all registers 0, has the number that the program returns
+pub program-diagram : (program : List Insn) (ts : List Tree) (steps : List Step) (ids : List ℕ) (id n new : ℕ)
+    → n ≡ length steps → insns_of steps ≡ program → IsLawfulProgram program → AreSteps ts steps
+    → TellLast ts steps ids
+    → length ids ≡ length steps → slice_get ids (n - 1) ≡ Some id
+    → IsDiagramOf ts new (λ bits. value (tree_at ts id) (start_bits bits))
+    → IsDiagramOf ts new (λ bits. return_of program (input_by bits))
+program-diagram program ts [] ids id n new size code lawful are last count at h =
     let none : 0 ≡ length program = ap (λ (xs : List Insn). length xs) code in
     absurd (omega (arith, lawful.some))
-program-word program ts (s ∷ steps) words w n new size code lawful are last count at h =
+program-diagram program ts (s ∷ steps) ids id n new size code lawful are last count at h =
     let all : List Step = s ∷ steps in
-    let t = last.each (n - 1) 0 w s at refl (omega arith) in
-    subst (λ (c : List Insn). IsWordOf ts new (λ bits. return_of c (input_by bits))) code
-    (tells-program (insns_of all) ts s.known w.bits new
+    let t = last.each (n - 1) 0 id s at refl (omega arith) in
+    subst (λ (c : List Insn). IsDiagramOf ts new (λ bits. return_of c (input_by bits))) code
+    (tells-program (insns_of all) ts s.known id new
     (subst (λ (c : List Insn). IsLawfulProgram c) (sym code) lawful) t
     (λ r v bits known. are.start s r v bits refl known) h)
 
-pub last-word : (ts : List Tree) (steps : List Step) (words : List Word) (w : Word) (n : ℕ) → n ≡ length steps
-    → TellLast ts steps words → length words ≡ length steps → slice_get words (n - 1) ≡ Some w → IsWord ts w.bits
-last-word ts [] words w n size last count at =
-    let within : n - 1 < length words = slice_get_within words (n - 1) w at in
+-- the diagram of place 0 is there, and its values are words
+pub last-there : (ts : List Tree) (steps : List Step) (ids : List ℕ) (id n : ℕ) → n ≡ length steps
+    → TellLast ts steps ids → length ids ≡ length steps → slice_get ids (n - 1) ≡ Some id
+    → (id < length ts) × ((bits : Bits) → value (tree_at ts id) bits < 2 ^ 32)
+last-there ts [] ids id n size last count at =
+    let within : n - 1 < length ids = slice_get_within ids (n - 1) id at in
     absurd (omega arith)
-last-word ts (s ∷ steps) words w n size last count at = (last.each (n - 1) 0 w s at refl (omega arith)).word
+last-there ts (s ∷ steps) ids id n size last count at =
+    let t = last.each (n - 1) 0 id s at refl (omega arith) in (t.within, t.small)
 
 -- the instructions of steps, one by one
 pub code-more : (steps : List Step) (new : Step) (insns : List Insn) (i : ℕ) (d : Insn) → insns_of steps ≡ take i insns

@@ -3,7 +3,8 @@ use Rattle.std.proofs.Common.{◌≡◌, ◌≢◌, ℕ, zero, suc, ◌+◌, ◌
 use Rattle.std.specs.Prelude.{◌⊎◌, ◌&&◌, nat_lt, map, replicate, slice_get, slice_set, slice_index, if◌then◌else◌}
 use Rattle.std.specs.List.{range_with_len}
 use Rattle.std.specs.Int.{bit_at}
-use Rattle.std.proofs.lemmas.Bool.{agree_below_at, cases_eq, cases_lt, eqb-true, eq-eqb, ne_eqb, lt-ltb, le-ltb}
+use Rattle.std.proofs.Math.Nat.{pow-suc}
+use Rattle.std.proofs.lemmas.Bool.{agree_below_at, cases_eq, cases_lt, eqb-true, eq-eqb, ne_eqb, lt-ltb, le-ltb, le-leb, lt-leb}
 use Rattle.std.proofs.lemmas.List.FromFn.{get_or-map-range_with_len}
 use Rattle.std.proofs.lemmas.List.{get_or-set_same, get_or-set_other}
 use Rattle.std.proofs.lemmas.Nat.Bits.{bit_at-lt}
@@ -13,7 +14,7 @@ use Rattle.sf_diagram.specs.Trees.{Tree, Leaf, Fork, Bits, value}
 use Rattle.sf_diagram.specs.Stores.{tree_at, KeepsTrees}
 use Rattle.sf_run.specs.Machine.{State, start}
 use Rattle.sf_behaviour.specs.InputBits.{number_by, places_of_words, input_first, input_number, input_by}
-use Rattle.sf_behaviour.specs.Registers.{IsRegister, register_first, register_distance, register_by, register_bit, with_register, start_bits, register_number, next_with}
+use Rattle.sf_behaviour.specs.Registers.{IsRegister, register_first, register_distance, register_by, bit_from, register_bit, with_register, start_bits, register_number, next_with}
 use Rattle.sf_behaviour.specs.Words.{word_value, IsWordOf}
 use Rattle.sf_behaviour.specs.declared.registers.Register.{Register}
 use Rattle.sf_behaviour.specs.declared.registers.Register.TheVariants.{A, X, Scratch}
@@ -45,6 +46,18 @@ number_by-same first distance zero a b same = refl
 number_by-same first distance (suc n) a b same =
     ap₂ (λ (x : Bool) (y : ℕ). (if x then 1 else 0) * 2 ^ n + y) (same n (omega arith))
     (number_by-same first distance n a b (λ i l. same i (omega arith)))
+
+one-bit-most : (b : Bool) (m : ℕ) → (if b then 1 else 0) * m ≤ m
+one-bit-most true m = omega arith
+one-bit-most false m = omega arith
+
+pub number_by-small : (first distance n : ℕ) (bits : Bits) → number_by first distance n bits < 2 ^ n
+unfolding number_by
+number_by-small first distance zero bits = omega arith
+number_by-small first distance (suc n) bits =
+    let most = one-bit-most (bits (first + distance * (31 - n))) (2 ^ n) in
+    let double : 2 ^ suc n ≡ 2 ^ n * 2 = pow-suc 2 n in
+    omega (arith, number_by-small first distance n bits, most, double)
 
 -- the bits of a number make the number
 pub number_by-is : (first distance n m : ℕ) (bits : Bits)
@@ -110,83 +123,60 @@ register-made r us ids first distance e f h = record {
 
 -- ---- variables of registers
 
-if_true : (b : Bool) (x y : Option ℕ) → b ≡ true → (if b then x else y) ≡ x
-if_true b x y e = rw e refl
+bit-some : (first d v i : ℕ) → first ≤ v → (v - first) % d ≡ 0 → (v - first) / d ≡ 31 - i → i < 32
+    → bit_from first d v ≡ Some i
+bit-some first d v i le zero_rest is l =
+    let few : (v - first) / d < 32 = omega arith in
+    let which : 31 - (v - first) / d ≡ i = omega arith in
+    rw (le-leb first v le, eq-eqb ((v - first) % d) 0 zero_rest, lt-ltb ((v - first) / d) 32 few)
+    (ap (λ (j : ℕ). Some j) which)
 
-if_false : (b : Bool) (x y : Option ℕ) → b ≡ false → (if b then x else y) ≡ y
-if_false b x y e = rw e refl
-
-and_true : (a b : Bool) → a ≡ true → b ≡ true → (a && b) ≡ true
-and_true a b ea eb = rw (ea, eb) refl
-
-and_first_false : (a b : Bool) → a ≡ false → (a && b) ≡ false
-and_first_false a b e = rw e refl
-
-and_second_false : (a b : Bool) → b ≡ false → (a && b) ≡ false
-and_second_false true b e = e
-and_second_false false b e = refl
+bit-none : (first d v : ℕ) → (first ≤ v → (v - first) % d ≡ 0 → (v - first) / d < 32 → ⊥) → bit_from first d v ≡ None
+bit-none first d v never = elim (cases_lt v first) [
+  | inl less ↦ rw (lt-leb first v less) refl
+  | inr le ↦ elim (cases_eq ((v - first) % d) 0) [
+    | inl zero_rest ↦ elim (cases_lt ((v - first) / d) 32) [
+      | inl few ↦ absurd (never le zero_rest few)
+      | inr many ↦ rw (le-leb first v le, eq-eqb ((v - first) % d) 0 zero_rest, le-ltb ((v - first) / d) 32 many) refl
+    ]
+    | inr some ↦ rw (le-leb first v le, ne_eqb ((v - first) % d) 0 some) refl
+  ]
+]
 
 -- a register's own variables
 pub own-bit : (r : Register) (i : ℕ) → i < 32
     → register_bit r (register_first r + register_distance r * (31 - i)) ≡ Some i
-own-bit A i l =
-    let v : ℕ = 0 + 2 * (31 - i) in
-    let which : 31 - (0 + 2 * (31 - i)) / 2 ≡ i = omega arith in
-    if_true (nat_lt v 64 && (v % 2 == 0)) (Some (31 - v / 2)) None
-    (and_true (nat_lt v 64) (v % 2 == 0) (lt-ltb v 64 (omega arith)) (eq-eqb (v % 2) 0 (omega arith)))
-    ∙ ap (λ (j : ℕ). Some j) which
-own-bit X i l =
-    let v : ℕ = 1 + 2 * (31 - i) in
-    let which : 31 - (1 + 2 * (31 - i)) / 2 ≡ i = omega arith in
-    if_true (nat_lt v 64 && (v % 2 == 1)) (Some (31 - v / 2)) None
-    (and_true (nat_lt v 64) (v % 2 == 1) (lt-ltb v 64 (omega arith)) (eq-eqb (v % 2) 1 (omega arith)))
-    ∙ ap (λ (j : ℕ). Some j) which
+own-bit A i l = bit-some 0 2 (0 + 2 * (31 - i)) i (omega arith) (omega arith) (omega arith) l
+own-bit X i l = bit-some 1 2 (1 + 2 * (31 - i)) i (omega arith) (omega arith) (omega arith) l
 own-bit (Scratch k) i l =
-    let v : ℕ = 64 + 32 * k + 1 * (31 - i) in
-    let which : 31 - (64 + 32 * k + 1 * (31 - i)) % 32 ≡ i = omega arith in
-    if_true (v / 32 == k + 2) (Some (31 - v % 32)) None (eq-eqb (v / 32) (k + 2) (omega arith))
-    ∙ ap (λ (j : ℕ). Some j) which
+    bit-some (64 + 32 * k) 1 (64 + 32 * k + 1 * (31 - i)) i (omega arith) (omega arith) (omega arith) l
 
--- what is a variable of A, X or a scratch word
-not_a : (v : ℕ) → (v < 64 → v % 2 ≡ 0 → ⊥) → register_bit A v ≡ None
-not_a v never = elim (cases_lt v 64) [
-  | inl l ↦ if_false (nat_lt v 64 && (v % 2 == 0)) (Some (31 - v / 2)) None
-      (and_second_false (nat_lt v 64) (v % 2 == 0) (ne_eqb (v % 2) 0 (λ e. never l e)))
-  | inr m ↦ if_false (nat_lt v 64 && (v % 2 == 0)) (Some (31 - v / 2)) None
-      (and_first_false (nat_lt v 64) (v % 2 == 0) (le-ltb v 64 m))
-]
-
-not_x : (v : ℕ) → (v < 64 → v % 2 ≡ 1 → ⊥) → register_bit X v ≡ None
-not_x v never = elim (cases_lt v 64) [
-  | inl l ↦ if_false (nat_lt v 64 && (v % 2 == 1)) (Some (31 - v / 2)) None
-      (and_second_false (nat_lt v 64) (v % 2 == 1) (ne_eqb (v % 2) 1 (λ e. never l e)))
-  | inr m ↦ if_false (nat_lt v 64 && (v % 2 == 1)) (Some (31 - v / 2)) None
-      (and_first_false (nat_lt v 64) (v % 2 == 1) (le-ltb v 64 m))
-]
-
-not_scratch : (k v : ℕ) → (v / 32 ≡ k + 2 → ⊥) → register_bit (Scratch k) v ≡ None
-not_scratch k v never = if_false (v / 32 == k + 2) (Some (31 - v % 32)) None (ne_eqb (v / 32) (k + 2) never)
+-- variables behind those of a register
+pub past-bits : (r : Register) (v : ℕ) → register_first r + 32 * register_distance r ≤ v → register_bit r v ≡ None
+past-bits A v l = bit-none 0 2 v (λ a b c. omega arith)
+past-bits X v l = bit-none 1 2 v (λ a b c. omega arith)
+past-bits (Scratch k) v l = bit-none (64 + 32 * k) 1 v (λ a b c. omega arith)
 
 -- the variables behind those of registers
 pub past-registers : (r : Register) (v : ℕ) → IsRegister r → 576 ≤ v → register_bit r v ≡ None
-past-registers A v there l = not_a v (λ m e. absurd (omega arith))
-past-registers X v there l = not_x v (λ m e. absurd (omega arith))
-past-registers (Scratch k) v there l = not_scratch k v (λ e. absurd (omega arith))
+past-registers A v there l = past-bits A v (omega arith)
+past-registers X v there l = past-bits X v (omega arith)
+past-registers (Scratch k) v there l = past-bits (Scratch k) v (omega arith)
 
 -- two registers are one, or no variable of the one is one of the other
 pub other-bit : (r q : Register) → (r ≡ q) ⊎ ((i : ℕ) → i < 32
     → register_bit r (register_first q + register_distance q * (31 - i)) ≡ None)
 other-bit A A = inl refl
-other-bit A X = inr (λ i l. not_a (1 + 2 * (31 - i)) (λ m e. absurd (omega arith)))
-other-bit A (Scratch k) = inr (λ i l. not_a (64 + 32 * k + 1 * (31 - i)) (λ m e. absurd (omega arith)))
-other-bit X A = inr (λ i l. not_x (0 + 2 * (31 - i)) (λ m e. absurd (omega arith)))
+other-bit A X = inr (λ i l. bit-none 0 2 (1 + 2 * (31 - i)) (λ a b c. omega arith))
+other-bit A (Scratch k) = inr (λ i l. bit-none 0 2 (64 + 32 * k + 1 * (31 - i)) (λ a b c. omega arith))
+other-bit X A = inr (λ i l. bit-none 1 2 (0 + 2 * (31 - i)) (λ a b c. omega arith))
 other-bit X X = inl refl
-other-bit X (Scratch k) = inr (λ i l. not_x (64 + 32 * k + 1 * (31 - i)) (λ m e. absurd (omega arith)))
-other-bit (Scratch k) A = inr (λ i l. not_scratch k (0 + 2 * (31 - i)) (λ e. absurd (omega arith)))
-other-bit (Scratch k) X = inr (λ i l. not_scratch k (1 + 2 * (31 - i)) (λ e. absurd (omega arith)))
+other-bit X (Scratch k) = inr (λ i l. bit-none 1 2 (64 + 32 * k + 1 * (31 - i)) (λ a b c. omega arith))
+other-bit (Scratch k) A = inr (λ i l. bit-none (64 + 32 * k) 1 (0 + 2 * (31 - i)) (λ a b c. omega arith))
+other-bit (Scratch k) X = inr (λ i l. bit-none (64 + 32 * k) 1 (1 + 2 * (31 - i)) (λ a b c. omega arith))
 other-bit (Scratch k) (Scratch j) = elim (cases_eq k j) [
   | inl e ↦ inl (ap (λ (n : ℕ). Scratch n) e)
-  | inr ne ↦ inr (λ i l. not_scratch k (64 + 32 * j + 1 * (31 - i)) (λ e. ne (omega arith)))
+  | inr ne ↦ inr (λ i l. bit-none (64 + 32 * k) 1 (64 + 32 * j + 1 * (31 - i)) (λ a b c. ne (omega arith)))
 ]
 
 -- ---- variables with a register replaced

@@ -1,14 +1,23 @@
 -- Answers as numbers at the leaves of diagrams.
-use Rattle.std.specs.Prelude.{ℕ, List, map}
+use Rattle.std.specs.Prelude.{ℕ, ◌<◌, ◌^◌, List, length}
+use Rattle.sf_check.specs.declared.insn.Insn.{Insn}
 use Rattle.sf_diagram.specs.Trees.{Tree, Bits, value}
 use Rattle.sf_diagram.specs.Stores.{tree_at}
-use Rattle.sf_run.specs.Answers.{action_bits, data_bits, action_of}
+use Rattle.sf_run.specs.Machine.{returns_of}
+use Rattle.sf_run.specs.Answers.{action_bits, data_bits, action_of, IsAnswer}
 use Rattle.sf_run.specs.declared.action.Answer.{Answer}
+use Rattle.sf_behaviour.specs.InputBits.{input_by}
 
 -- the answer that a return value names
 abbrev pub answer_with : ℕ → Answer
 answer_with value = record { action = action_of (action_bits value); info = data_bits value }
 
--- what filters return on an input, by their diagrams
-abbrev pub returned_numbers : List Tree → List ℕ → Bits → List ℕ
-returned_numbers ts ids bits = map (λ id. value (tree_at ts id) bits) ids
+-- a diagram whose values, which are words, name the answers that return values make
+pub record HasAnswers (values : Bits → List ℕ) (ts : List Tree) (id : ℕ) : Type 0 where
+  pub within : id < length ts
+  pub small : (bits : Bits) → value (tree_at ts id) bits < 2 ^ 32
+  pub answers : (bits : Bits) → IsAnswer (values bits) (answer_with (value (tree_at ts id) bits))
+
+-- a diagram of the answers of a stack to all inputs
+abbrev pub IsBehaviour : List (List Insn) → List Tree → ℕ → Type 0
+IsBehaviour programs ts id = HasAnswers (λ bits. returns_of programs (input_by bits)) ts id

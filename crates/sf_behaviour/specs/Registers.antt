@@ -1,5 +1,5 @@
 -- The registers of a run, and their bits as variables of diagrams.
-use Rattle.std.specs.Prelude.{◌≡◌, ℕ, zero, suc, ◌+◌, ◌-◌, ◌*◌, ◌/◌, ◌%◌, ◌<◌, ◌==◌, ◌&&◌, Bool, false, nat_lt, Option, Some, None, slice_get, slice_set, if◌then◌else◌}
+use Rattle.std.specs.Prelude.{◌≡◌, ℕ, zero, suc, ◌+◌, ◌-◌, ◌*◌, ◌/◌, ◌%◌, ◌<◌, ◌==◌, ◌&&◌, Bool, false, nat_le, nat_lt, Option, Some, None, slice_get, slice_set, if◌then◌else◌}
 use Rattle.std.specs.Int.{bit_at}
 use Rattle.sf_diagram.specs.Trees.{Bits}
 use Rattle.sf_run.specs.Machine.{State}
@@ -35,11 +35,15 @@ register_distance (Scratch k) = 1
 abbrev pub register_by : Register → Bits → ℕ
 register_by r bits = number_by (register_first r) (register_distance r) 32 bits
 
+-- which of 32 bits at equal distances a variable is, if it is one; the highest bit is the first of them
+abbrev pub bit_from : ℕ → ℕ → ℕ → Option ℕ
+bit_from first distance variable =
+    if nat_le first variable && ((variable - first) % distance == 0) && nat_lt ((variable - first) / distance) 32
+    then Some (31 - (variable - first) / distance) else None
+
 -- which bit of the register a variable is, if it is one
 abbrev pub register_bit : Register → ℕ → Option ℕ
-register_bit A variable = if nat_lt variable 64 && (variable % 2 == 0) then Some (31 - variable / 2) else None
-register_bit X variable = if nat_lt variable 64 && (variable % 2 == 1) then Some (31 - variable / 2) else None
-register_bit (Scratch k) variable = if variable / 32 == k + 2 then Some (31 - variable % 32) else None
+register_bit r variable = bit_from (register_first r) (register_distance r) variable
 
 -- the variables with those of a register as this number has them
 abbrev pub with_register : Register → ℕ → Bits → Bits

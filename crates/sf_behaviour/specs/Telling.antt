@@ -1,10 +1,11 @@
--- Words that tell what runs return, and the tables from which they are made.
-use Rattle.std.specs.Prelude.{◌≡◌, ℕ, suc, ◌+◌, Bool, List, length, map, Contains, Some, slice_get}
+-- Diagrams that tell what runs return, and the tables from which they are made.
+use Rattle.std.specs.Prelude.{◌≡◌, ℕ, suc, ◌+◌, ◌<◌, ◌^◌, Bool, List, length, map, Contains, Some, slice_get}
 use Rattle.sf_check.specs.declared.insn.Insn.{Insn}
-use Rattle.sf_diagram.specs.Trees.{Tree, Bits}
+use Rattle.sf_diagram.specs.Trees.{Tree, Bits, value}
+use Rattle.sf_diagram.specs.Stores.{tree_at}
 use Rattle.sf_run.specs.Machine.{State, run_for}
 use Rattle.sf_behaviour.specs.InputBits.{input_by}
-use Rattle.sf_behaviour.specs.Words.{word_value, IsWord, IsWordOf}
+use Rattle.sf_behaviour.specs.Words.{word_value, IsWordOf}
 use Rattle.sf_behaviour.specs.Knowledge.{known_word, known_with, Fits, IsKnowledge, IsLess}
 use Rattle.sf_behaviour.specs.Effects.{places_after, source_in, IsEffectOf}
 use Rattle.sf_behaviour.specs.declared.words.Word.{Word}
@@ -15,12 +16,13 @@ use Rattle.sf_behaviour.specs.declared.effects.Effect.TheVariants.{Sets}
 use Rattle.sf_behaviour.specs.declared.effects.Source.{Source}
 use Rattle.sf_behaviour.specs.declared.steps.Step.{Step}
 
--- A word whose number, on each input, is what a run returns that goes on from this place, where the known registers
--- have their words. The others may have any number.
-pub record Tells (code : List Insn) (place : ℕ) (ts : List Tree) (k : Known) (ids : List ℕ) : Type 0 where
-  pub word : IsWord ts ids
+-- A diagram whose value, on each input, is what a run returns that goes on from this place, where the known registers
+-- have their words. The others may have any number. Its values are words.
+pub record Tells (code : List Insn) (place : ℕ) (ts : List Tree) (k : Known) (id : ℕ) : Type 0 where
+  pub within : id < length ts
+  pub small : (bits : Bits) → value (tree_at ts id) bits < 2 ^ 32
   pub values : (bits : Bits) (s : State) (n : ℕ) (o : List Bool × ℕ) → s.place ≡ place → Fits ts k bits s
-      → run_for n code (input_by bits) s ≡ Some o → word_value ts ids bits ≡ o.1
+      → run_for n code (input_by bits) s ≡ Some o → value (tree_at ts id) bits ≡ o.1
 
 -- what is known behind a step
 abbrev pub known_after : Step → Known
@@ -51,7 +53,7 @@ pub record AreSteps (ts : List Tree) (steps : List Step) : Type 0 where
   pub start : (step : Step) (r : Register) (w : Word) (bits : Bits) → slice_get steps 0 ≡ Some step
       → known_word step.known r ≡ Some w → word_value ts w.bits bits ≡ 0
 
--- such words for the last places of a program, the last place first
-pub record TellLast (ts : List Tree) (steps : List Step) (words : List Word) : Type 0 where
-  pub each : (i place : ℕ) (w : Word) (step : Step) → slice_get words i ≡ Some w → slice_get steps place ≡ Some step
-      → i + suc place ≡ length steps → Tells (insns_of steps) place ts step.known w.bits
+-- such diagrams for the last places of a program, the last place first
+pub record TellLast (ts : List Tree) (steps : List Step) (ids : List ℕ) : Type 0 where
+  pub each : (i place id : ℕ) (step : Step) → slice_get ids i ≡ Some id → slice_get steps place ≡ Some step
+      → i + suc place ≡ length steps → Tells (insns_of steps) place ts step.known id

@@ -18,7 +18,12 @@ pub record IsTruthOf (ts : List Tree) (id : ℕ) (f : Bits → ℕ) : Type 0 whe
   pub truth : IsTruth ts id
   pub values : (bits : Bits) → value (tree_at ts id) bits ≡ f bits
 
--- 32 such diagrams: the bits of a word
+-- a diagram that is there, with these values
+pub record IsDiagramOf (ts : List Tree) (id : ℕ) (f : Bits → ℕ) : Type 0 where
+  pub within : id < length ts
+  pub values : (bits : Bits) → value (tree_at ts id) bits ≡ f bits
+
+-- 32 diagrams that are 0 or 1: the bits of a word
 pub record IsWord (ts : List Tree) (ids : List ℕ) : Type 0 where
   pub count : length ids ≡ 32
   pub each : (i : ℕ) → i < 32 → IsTruth ts (slice_index ids i)

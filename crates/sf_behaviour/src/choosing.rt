@@ -12,7 +12,12 @@ use sf_diagram::{Fault, Id, Store};
 
 /// The first word where the diagram is 1, else the second. The caller's condition: they are words of the store, and the
 /// diagram is 0 or 1 on each input. `Spent` and `Memory` as the store has them; nodes may have been added then.
-pub fn choose_word(store: &mut Store, test: Id, taken: &Word, other: &Word) -> Result<Word, Fault>
+pub(crate) fn choose_word(
+    store: &mut Store,
+    test: Id,
+    taken: &Word,
+    other: &Word,
+) -> Result<Word, Fault>
     requires test { IsTruth store.old.trees test }
     requires taken { IsWord store.old.trees taken.now.bits }
     requires other { IsWord store.old.trees other.now.bits }

@@ -12,7 +12,7 @@ use sf_diagram::{Fault, Id, Store};
 
 /// An operation on two words that treats each bit by itself.
 #[derive(Clone, Copy, Debug, PartialEq, Eq)]
-pub enum Bitwise {
+pub(crate) enum Bitwise {
     /// Bitwise and.
     And,
     /// Bitwise or.
@@ -39,7 +39,12 @@ pub(crate) fn combine_bits(store: &mut Store, operation: Bitwise, a: Id, b: Id) 
 
 /// What an operation makes of two words. The caller's condition: they are words of the store. `Spent` and `Memory` as
 /// the store has them; nodes may have been added then.
-pub fn combine(store: &mut Store, operation: Bitwise, a: &Word, b: &Word) -> Result<Word, Fault>
+pub(crate) fn combine(
+    store: &mut Store,
+    operation: Bitwise,
+    a: &Word,
+    b: &Word,
+) -> Result<Word, Fault>
     requires a { IsWord store.old.trees a.now.bits }
     requires b { IsWord store.old.trees b.now.bits }
     ensures word { IfOk result (λ w. IsWordOf store.new.trees w.bits (λ bits. combined operation

@@ -33,7 +33,7 @@ fn difference_bit(store: &mut Store, a: Id, b: Id, borrowed: Id) -> Result<(Id, 
 
 /// The first word less the second, modulo 2^32. The caller's condition: they are words of the store. `Spent` and
 /// `Memory` as the store has them; nodes may have been added then.
-pub fn difference(store: &mut Store, a: &Word, b: &Word) -> Result<Word, Fault>
+pub(crate) fn difference(store: &mut Store, a: &Word, b: &Word) -> Result<Word, Fault>
     requires a { IsWord store.old.trees a.now.bits }
     requires b { IsWord store.old.trees b.now.bits }
     ensures word { IfOk result (λ w. IsWordOf store.new.trees w.bits (λ bits. apply Sub
@@ -54,7 +54,7 @@ pub fn difference(store: &mut Store, a: &Word, b: &Word) -> Result<Word, Fault>
 
 /// Minus a word, modulo 2^32. The caller's condition: it is a word of the store. `Spent` and `Memory` as the store has
 /// them; nodes may have been added then.
-pub fn negation(store: &mut Store, a: &Word) -> Result<Word, Fault>
+pub(crate) fn negation(store: &mut Store, a: &Word) -> Result<Word, Fault>
     requires { IsWord store.old.trees a.now.bits }
     ensures word { IfOk result (λ w. IsWordOf store.new.trees w.bits
         (λ bits. negation_of (word_value store.old.trees a.now.bits bits))) }
@@ -68,7 +68,7 @@ pub fn negation(store: &mut Store, a: &Word) -> Result<Word, Fault>
 
 /// The sum of two words, modulo 2^32: the first less minus the second. The caller's condition: they are words of the
 /// store. `Spent` and `Memory` as the store has them; nodes may have been added then.
-pub fn sum(store: &mut Store, a: &Word, b: &Word) -> Result<Word, Fault>
+pub(crate) fn sum(store: &mut Store, a: &Word, b: &Word) -> Result<Word, Fault>
     requires a { IsWord store.old.trees a.now.bits }
     requires b { IsWord store.old.trees b.now.bits }
     ensures word { IfOk result (λ w. IsWordOf store.new.trees w.bits (λ bits. apply Add

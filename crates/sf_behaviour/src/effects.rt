@@ -1,15 +1,12 @@
 //! What instructions do, by the registers that they set.
 
-ghost use Rattle.std.specs.Prelude.{◌≡◌, IfOk, IfErr, MatchOption};
-ghost use Rattle.sf_insn.specs.declared.ops.BinOp.TheVariants.{Div};
-ghost use Rattle.sf_insn.specs.Words.{negation_of};
+ghost use Rattle.std.specs.Prelude.{◌≡◌, IfOk, IfErr};
+ghost use Rattle.sf_insn.specs.Words.{apply, negation_of};
 ghost use Rattle.sf_check.specs.Insns.{IsInRange};
-ghost use Rattle.sf_check.specs.declared.insn.Operand.{Operand as AnOperand};
 ghost use Rattle.sf_diagram.specs.Stores.{KeepsStore, IsFull};
-ghost use Rattle.sf_run.specs.Machine.{State, operand_of, operation_progress, with_a};
 ghost use Rattle.sf_behaviour.specs.Registers.{IsRegister};
 ghost use Rattle.sf_behaviour.specs.Knowledge.{held_in, IsKnowledge};
-ghost use Rattle.sf_behaviour.specs.Effects.{operand_in, result_of, source_in, IsEffectOf, IsSource};
+ghost use Rattle.sf_behaviour.specs.Effects.{divides, divides_by_x, operand_in, source_in, IsEffectOf, IsSource};
 ghost use Rattle.sf_behaviour.specs.Words.{word_value, IsWord, IsWordOf};
 ghost use Rattle.sf_behaviour.specs.declared.registers.Register.TheVariants.{A as TheA};
 
@@ -17,27 +14,13 @@ use crate::combining::{Bitwise, combine};
 use crate::differences::{difference, negation, sum};
 use crate::knowing::Known;
 use crate::products::product;
+use crate::quotients::quotient;
 use crate::registers::{Register, register_word};
 use crate::shifting::{Direction, shift};
 use crate::words::{Word, constant_word, input_word};
 use sf_check::{Insn, Operand};
 use sf_diagram::{Fault, Store};
 use sf_insn::{BinOp, Test};
-
-/// An operation on two words that is there as diagrams.
-#[derive(Clone, Copy)]
-pub(crate) enum Operation {
-    /// The sum, modulo 2^32.
-    Sum,
-    /// The first word less the second, modulo 2^32.
-    Difference,
-    /// The product, modulo 2^32.
-    Product,
-    /// Bit by bit.
-    Combine(Bitwise),
-    /// The first word, shifted by the second modulo 32.
-    Shift(Direction),
-}
 
 /// Where a register's new number, or a returned one, comes from.
 #[derive(Clone, Copy)]
@@ -51,13 +34,13 @@ pub(crate) enum Source {
     /// Minus A.
     Negation,
     /// What the operation makes of A and the operand.
-    Result(Operation, Operand),
+    Result(BinOp, Operand),
 }
 
 /// What an instruction does.
 #[derive(Clone, Copy)]
 pub(crate) enum Effect {
-    /// It sets a register.
+    /// It sets a register, or returns 0 where the source divides by X and X is 0.
     Sets(Register, Source),
     /// It skips this many instructions.
     Skips(u32),
@@ -65,27 +48,6 @@ pub(crate) enum Effect {
     Tests(Test, Operand, u8, u8),
     /// It returns a number.
     Returns(Source),
-    /// It divides A.
-    Divides,
-}
-
-/// The operation that an instruction has; `None` for a division, which isn't there.
-fn operation_of(op: BinOp) -> Option<Operation>
-    ensures { MatchOption result (op ≡ Div) (λ operation. (s : State) (other : AnOperand)
-        → operation_progress s op other
-        ≡ with_a s (result_of operation s.a (operand_of s other))) }
-{
-    match op {
-        BinOp::Add => Some(Operation::Sum),
-        BinOp::Sub => Some(Operation::Difference),
-        BinOp::Mul => Some(Operation::Product),
-        BinOp::Div => None,
-        BinOp::Or => Some(Operation::Combine(Bitwise::Or)),
-        BinOp::And => Some(Operation::Combine(Bitwise::And)),
-        BinOp::Lsh => Some(Operation::Shift(Direction::Left)),
-        BinOp::Rsh => Some(Operation::Shift(Direction::Right)),
-        BinOp::Xor => Some(Operation::Combine(Bitwise::Xor)),
-    }
 }
 
 /// What an instruction does. The caller's condition: its fields are in range.
@@ -103,10 +65,7 @@ pub(crate) fn effect_of(insn: &Insn) -> Effect
         Insn::LoadXLength => Effect::Sets(Register::X, Source::Constant(64)),
         Insn::StoreA(k) => Effect::Sets(Register::Scratch(k), Source::Held(Register::A)),
         Insn::StoreX(k) => Effect::Sets(Register::Scratch(k), Source::Held(Register::X)),
-        Insn::Alu(op, other) => match operation_of(op) {
-            Some(operation) => Effect::Sets(Register::A, Source::Result(operation, other)),
-            None => Effect::Divides,
-        },
+        Insn::Alu(op, other) => Effect::Sets(Register::A, Source::Result(op, other)),
         Insn::Negate => Effect::Sets(Register::A, Source::Negation),
         Insn::Jump(k) => Effect::Skips(k),
         Insn::Branch(test, other, on_true, on_false) => {
@@ -121,21 +80,25 @@ pub(crate) fn effect_of(insn: &Insn) -> Effect
 
 /// What an operation makes of two words. The caller's condition: they are words of the store. `Spent` and `Memory` as
 /// the store has them; nodes may have been added then.
-fn operate(store: &mut Store, operation: Operation, a: &Word, b: &Word) -> Result<Word, Fault>
+fn operate(store: &mut Store, op: BinOp, a: &Word, b: &Word) -> Result<Word, Fault>
     requires a { IsWord store.old.trees a.now.bits }
     requires b { IsWord store.old.trees b.now.bits }
-    ensures word { IfOk result (λ w. IsWordOf store.new.trees w.bits (λ bits. result_of operation
+    ensures word { IfOk result (λ w. IsWordOf store.new.trees w.bits (λ bits. apply op
         (word_value store.old.trees a.now.bits bits)
         (word_value store.old.trees b.now.bits bits))) }
     ensures keeps { KeepsStore store.old store.new }
     ensures spent { IfErr result (λ e. e ≡ Fault.Spent → IsFull store.new) }
 {
-    match operation {
-        Operation::Sum => sum(store, a, b),
-        Operation::Difference => difference(store, a, b),
-        Operation::Product => product(store, a, b),
-        Operation::Combine(operation) => combine(store, operation, a, b),
-        Operation::Shift(direction) => shift(store, direction, a, b),
+    match op {
+        BinOp::Add => sum(store, a, b),
+        BinOp::Sub => difference(store, a, b),
+        BinOp::Mul => product(store, a, b),
+        BinOp::Div => quotient(store, a, b),
+        BinOp::Or => combine(store, Bitwise::Or, a, b),
+        BinOp::And => combine(store, Bitwise::And, a, b),
+        BinOp::Lsh => shift(store, Direction::Left, a, b),
+        BinOp::Rsh => shift(store, Direction::Right, a, b),
+        BinOp::Xor => combine(store, Bitwise::Xor, a, b),
     }
 }
 
@@ -175,14 +138,9 @@ pub(crate) fn operand_word(store: &mut Store, known: &Known, other: Operand) -> 
 
 /// The word that an operation makes of A and an operand. The caller's condition: what is known is right. `Spent` and
 /// `Memory` as the store has them; nodes may have been added then.
-fn result_word(
-    store: &mut Store,
-    known: &Known,
-    operation: Operation,
-    other: Operand,
-) -> Result<Word, Fault>
+fn result_word(store: &mut Store, known: &Known, op: BinOp, other: Operand) -> Result<Word, Fault>
     requires { IsKnowledge store.old.trees known.now }
-    ensures word { IfOk result (λ w. IsWordOf store.new.trees w.bits (λ bits. result_of operation
+    ensures word { IfOk result (λ w. IsWordOf store.new.trees w.bits (λ bits. apply op
         (held_in store.old.trees known.now bits TheA)
         (operand_in store.old.trees known.now bits other))) }
     ensures keeps { KeepsStore store.old store.new }
@@ -190,7 +148,7 @@ fn result_word(
 {
     let a = held_word(store, known, Register::A)?;
     let b = operand_word(store, known, other)?;
-    let word = operate(store, operation, &a, &b)?;
+    let word = operate(store, op, &a, &b)?;
     Ok(word)
 }
 
@@ -223,6 +181,30 @@ pub(crate) fn source_word(store: &mut Store, known: &Known, source: Source) -> R
         Source::Word(i) => input_word(store, i as usize),
         Source::Held(register) => held_word(store, known, register),
         Source::Negation => negation_word(store, known),
-        Source::Result(operation, other) => result_word(store, known, operation, other),
+        Source::Result(op, other) => result_word(store, known, op, other),
+    }
+}
+
+/// Whether an operation divides by X.
+fn is_quotient_by_x(op: BinOp, other: Operand) -> bool
+    ensures { result ≡ divides_by_x op other }
+{
+    match op {
+        BinOp::Div => match other {
+            Operand::X => true,
+            Operand::Constant(_) => false,
+        },
+        BinOp::Add | BinOp::Sub | BinOp::Mul | BinOp::Or | BinOp::And => false,
+        BinOp::Lsh | BinOp::Rsh | BinOp::Xor => false,
+    }
+}
+
+/// Whether a source is made by such an operation.
+pub(crate) fn is_quotient(source: Source) -> bool
+    ensures { result ≡ divides source }
+{
+    match source {
+        Source::Constant(_) | Source::Word(_) | Source::Held(_) | Source::Negation => false,
+        Source::Result(op, other) => is_quotient_by_x(op, other),
     }
 }

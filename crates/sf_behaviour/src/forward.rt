@@ -126,7 +126,6 @@ fn after(step: &Step) -> Known
         Effect::Skips(_) => known,
         Effect::Tests(_, _, _, _) => known,
         Effect::Returns(_) => known,
-        Effect::Divides => known,
     }
 }
 
@@ -190,7 +189,6 @@ fn next_places(effect: Effect, place: usize) -> Option<(usize, usize)>
             Some((place + 1 + on_true as usize, place + 1 + on_false as usize))
         }
         Effect::Returns(_) => None,
-        Effect::Divides => Some((place + 1, place + 1)),
     }
 }
 

@@ -1,30 +1,30 @@
-//! What runs return that go on from a place, as words.
+//! What runs return that go on from a place, as diagrams.
 
-ghost use Rattle.std.specs.Prelude.{◌≡◌, suc, ◌+◌, ◌-◌, ◌<◌, ◌≤◌, ◌^◌, ℕ, List, None, Some, length, slice_get, if◌then◌else◌, IfOk, IfErr, OnOk, MatchOption};
+ghost use Rattle.std.specs.Prelude.{◌≡◌, ◌==◌, ◌&&◌, suc, ◌+◌, ◌-◌, ◌<◌, ◌≤◌, ◌^◌, ℕ, List, None, Some, length, slice_get, if◌then◌else◌, IfOk, IfErr, OnOk, MatchOption};
 ghost use Rattle.sf_insn.specs.Words.{passes};
 ghost use Rattle.sf_check.specs.Programs.{IsLawfulProgram};
 ghost use Rattle.sf_check.specs.declared.insn.Insn.{Insn as AnInsn};
-ghost use Rattle.sf_diagram.specs.Trees.{Bits};
-ghost use Rattle.sf_diagram.specs.Stores.{KeepsStore, IsFull};
-ghost use Rattle.sf_behaviour.specs.Registers.{IsRegister, with_register};
+ghost use Rattle.sf_diagram.specs.Trees.{Bits, value};
+ghost use Rattle.sf_diagram.specs.Stores.{tree_at, KeepsStore, IsFull};
+ghost use Rattle.sf_behaviour.specs.Registers.{IsRegister};
+ghost use Rattle.sf_behaviour.specs.Replacing.{IsReplaced};
 ghost use Rattle.sf_behaviour.specs.Knowledge.{known_word, held_in, IsKnowledge, IsLess};
-ghost use Rattle.sf_behaviour.specs.Effects.{operand_in, source_in, HasQuotient, IsSource};
+ghost use Rattle.sf_behaviour.specs.Effects.{divides, operand_in, source_in, IsSource};
 ghost use Rattle.sf_behaviour.specs.Telling.{insns_of, AreSteps, TellLast, Tells};
-ghost use Rattle.sf_behaviour.specs.Words.{word_value, IsWord, IsWordOf};
+ghost use Rattle.sf_behaviour.specs.Words.{IsDiagramOf, IsTruthOf};
 ghost use Rattle.sf_behaviour.specs.declared.words.Word.{Word as AWord};
 ghost use Rattle.sf_behaviour.specs.declared.steps.Step.{Step as AStep};
-ghost use Rattle.sf_behaviour.specs.declared.registers.Register.TheVariants.{A as TheA};
+ghost use Rattle.sf_behaviour.specs.declared.registers.Register.TheVariants.{X as TheX};
 
-use crate::choosing::choose_word;
-use crate::effects::{Effect, Source, held_word, operand_word, source_word};
+use crate::effects::{Effect, Source, held_word, is_quotient, operand_word, source_word};
 use crate::knowing::Known;
 use crate::registers::{Register, register_of};
 use crate::replacing::replace;
 use crate::steps::Step;
 use crate::testing::test_words;
-use crate::words::Word;
+use crate::words::{Word, number_diagram};
 use sf_check::Operand;
-use sf_diagram::{Fault, Store};
+use sf_diagram::{Fault, Id, Store, choose};
 use sf_insn::Test;
 use std::alloc::Global;
 
@@ -44,26 +44,26 @@ fn missing(known: &Known, more: &Known, register: Register) -> Option<Word>
     }
 }
 
-/// A word that tells what runs return where `known` is known, made one where one register more is known, if `more`
-/// knows it. The caller's conditions: the register is there, what `more` knows is right, it knows no less, and it is a
-/// word of the store. `Spent` and `Memory` as the store has them; nodes may have been added then.
+/// A diagram that tells what runs return where `known` is known, made one where one register more is known, if `more`
+/// knows it. The caller's conditions: the register is there, what `more` knows is right, it knows no less, and the
+/// diagram is there. `Spent` and `Memory` as the store has them; nodes may have been added then.
 fn learn_register(
     alloc: Global,
     store: &mut Store,
     known: &mut Known,
     more: &Known,
     register: Register,
-    word: &Word,
-) -> Result<Word, Fault>
+    id: Id,
+) -> Result<Id, Fault>
     requires register { IsRegister register }
     requires knowledge { IsKnowledge store.old.trees more.now }
     requires less { IsLess known.old more.now }
     requires sixteen { length known.old.scratch ≡ 16 }
-    requires word { IsWord store.old.trees word.now.bits }
-    ensures word { IfOk result (λ w. IsWord store.new.trees w.bits) }
-    ensures tells { IfOk result (λ w. (code : List AnInsn) (place : ℕ)
-        → Tells code place store.old.trees known.old word.now.bits
-        → Tells code place store.new.trees known.new w.bits) }
+    requires within { id < length store.old.trees }
+    ensures within { IfOk result (λ new. new < length store.new.trees) }
+    ensures tells { IfOk result (λ new. (code : List AnInsn) (place : ℕ)
+        → Tells code place store.old.trees known.old id
+        → Tells code place store.new.trees known.new new) }
     ensures keeps { KeepsStore store.old store.new }
     ensures spent { IfErr result (λ e. e ≡ Fault.Spent → IsFull store.new) }
     ensures less { IsLess known.new more.now }
@@ -73,111 +73,146 @@ fn learn_register(
         → known_word known.new register ≡ Some w) }
 {
     match missing(known, more, register) {
-        None => Ok(*word),
+        None => Ok(id),
         Some(by) => {
-            let made = replace(alloc, store, register, &by, word)?;
+            let made = replace(alloc, store, register, &by, id)?;
             known.set(register, Some(by));
             Ok(made)
         }
     }
 }
 
-/// A word that tells what runs return where `known` is known, made one where `more` is known. The caller's conditions:
-/// what `more` knows is right, it knows no less, and it is a word of the store. `Spent` and `Memory` as the store has
-/// them; nodes may have been added then.
-fn learn(
-    alloc: Global,
-    store: &mut Store,
-    known: &Known,
-    more: &Known,
-    word: &Word,
-) -> Result<Word, Fault>
+/// A diagram that tells what runs return where `known` is known, made one where `more` is known. The caller's
+/// conditions: what `more` knows is right, it knows no less, and the diagram is there. `Spent` and `Memory` as the
+/// store has them; nodes may have been added then.
+fn learn(alloc: Global, store: &mut Store, known: &Known, more: &Known, id: Id) -> Result<Id, Fault>
     requires knowledge { IsKnowledge store.old.trees more.now }
     requires less { IsLess known.now more.now }
     requires sixteen { length known.now.scratch ≡ 16 }
-    requires word { IsWord store.old.trees word.now.bits }
-    ensures tells { IfOk result (λ w. (code : List AnInsn) (place : ℕ)
-        → Tells code place store.old.trees known.now word.now.bits
-        → Tells code place store.new.trees more.now w.bits) }
-    ensures word { IfOk result (λ w. IsWord store.new.trees w.bits) }
+    requires within { id < length store.old.trees }
+    ensures tells { IfOk result (λ new. (code : List AnInsn) (place : ℕ)
+        → Tells code place store.old.trees known.now id
+        → Tells code place store.new.trees more.now new) }
     ensures keeps { KeepsStore store.old store.new }
     ensures spent { IfErr result (λ e. e ≡ Fault.Spent → IsFull store.new) }
 {
     let mut so_far = *known;
-    let mut learnt = *word;
+    let mut learnt = id;
     for i in 0..18 {
         let register = register_of(i);
-        learnt = learn_register(alloc, store, &mut so_far, more, register, &learnt)?;
+        learnt = learn_register(alloc, store, &mut so_far, more, register, learnt)?;
     }
     Ok(learnt)
 }
 
 /// What is returned where a register is set before to a word that isn't known. The caller's conditions: the source is
-/// there, what is known is right, and `next` is a word of the store. `Spent` and `Memory` as the store has them; nodes
-/// may have been added then.
-fn set_word(
+/// there, what is known is right, and `next` is there. `Spent` and `Memory` as the store has them; nodes may have been
+/// added then.
+fn set_diagram(
     alloc: Global,
     store: &mut Store,
     known: &Known,
     register: Register,
     source: Source,
-    next: &Word,
-) -> Result<Word, Fault>
+    next: Id,
+) -> Result<Id, Fault>
     requires source { IsSource source }
     requires known { IsKnowledge store.old.trees known.now }
-    requires next { IsWord store.old.trees next.now.bits }
-    ensures word { IfOk result (λ w. IsWordOf store.new.trees w.bits (λ bits.
-        word_value store.old.trees next.now.bits (with_register register
-        (source_in store.old.trees known.now bits source) bits))) }
-    ensures small { IfOk result (λ w. (bits : Bits)
+    requires next { next < length store.old.trees }
+    ensures replaced { IfOk result (λ id. IsReplaced register store.new.trees
+        (λ bits. source_in store.old.trees known.now bits source) next id) }
+    ensures small { IfOk result (λ id. (bits : Bits)
         → source_in store.old.trees known.now bits source < 2 ^ 32) }
     ensures keeps { KeepsStore store.old store.new }
     ensures spent { IfErr result (λ e. e ≡ Fault.Spent → IsFull store.new) }
 {
     let by = source_word(store, known, source)?;
-    let word = replace(alloc, store, register, &by, next)?;
-    Ok(word)
+    let id = replace(alloc, store, register, &by, next)?;
+    Ok(id)
 }
 
-/// What is returned where A is tested before. The caller's conditions: what is known is right, and the two are words of
-/// the store. `Spent` and `Memory` as the store has them; nodes may have been added then.
-fn tested_word(
+/// Whether a test of a register passes: 1 or 0. The caller's conditions: there is such a register, and what is known is
+/// right. `Spent` and `Memory` as the store has them; nodes may have been added then.
+fn test_diagram(
     store: &mut Store,
     known: &Known,
+    register: Register,
     test: Test,
     operand: Operand,
-    taken: &Word,
-    other: &Word,
-) -> Result<Word, Fault>
+) -> Result<Id, Fault>
+    requires register { IsRegister register }
     requires known { IsKnowledge store.old.trees known.now }
-    requires taken { IsWord store.old.trees taken.now.bits }
-    requires other { IsWord store.old.trees other.now.bits }
-    ensures word { IfOk result (λ w. IsWordOf store.new.trees w.bits (λ bits.
-        if passes test (held_in store.old.trees known.now bits TheA)
-        (operand_in store.old.trees known.now bits operand)
-        then word_value store.old.trees taken.now.bits bits
-        else word_value store.old.trees other.now.bits bits)) }
+    ensures truth { IfOk result (λ id. IsTruthOf store.new.trees id (λ bits.
+        if passes test (held_in store.old.trees known.now bits register)
+        (operand_in store.old.trees known.now bits operand) then 1 else 0)) }
     ensures keeps { KeepsStore store.old store.new }
     ensures spent { IfErr result (λ e. e ≡ Fault.Spent → IsFull store.new) }
 {
-    let a = held_word(store, known, Register::A)?;
+    let a = held_word(store, known, register)?;
     let b = operand_word(store, known, operand)?;
     let passed = test_words(store, test, &a, &b)?;
-    let word = choose_word(store, passed, taken, other)?;
-    Ok(word)
+    Ok(passed)
 }
 
-/// The word of a place behind, made one where this is known. `behind` has the words of the last places, the last one
-/// first. The caller's conditions: the steps are right, there is such a place, its word is there, and what is known is
-/// right and no less than at the place. `Spent` and `Memory` as the store has them; nodes may have been added then.
-fn word_behind(
+/// What is returned where a source's number is taken before: 0 where it divides by X and X is 0. The caller's
+/// conditions: what is known is right, and the diagram is there. `Spent` and `Memory` as the store has them; nodes may
+/// have been added then.
+fn guarded_diagram(store: &mut Store, known: &Known, source: Source, id: Id) -> Result<Id, Fault>
+    requires known { IsKnowledge store.old.trees known.now }
+    requires within { id < length store.old.trees }
+    ensures values { IfOk result (λ new. IsDiagramOf store.new.trees new (λ bits.
+        if divides source && (held_in store.old.trees known.now bits TheX == 0) then 0
+        else value (tree_at store.old.trees id) bits)) }
+    ensures keeps { KeepsStore store.old store.new }
+    ensures spent { IfErr result (λ e. e ≡ Fault.Spent → IsFull store.new) }
+{
+    if !is_quotient(source) {
+        return Ok(id);
+    }
+    let zero = store.leaf(0)?;
+    let number = Operand::Constant(0);
+    let is_zero = test_diagram(store, known, Register::X, Test::Equal, number)?;
+    let guarded = choose(store, is_zero, zero, id)?;
+    Ok(guarded)
+}
+
+/// The numbers of a source. The caller's conditions: the source is there, and what is known is right. `Spent` and
+/// `Memory` as the store has them; nodes may have been added then.
+fn source_diagram(store: &mut Store, known: &Known, source: Source) -> Result<Id, Fault>
+    requires source { IsSource source }
+    requires known { IsKnowledge store.old.trees known.now }
+    ensures values { IfOk result (λ id. IsDiagramOf store.new.trees id
+        (λ bits. source_in store.old.trees known.now bits source)) }
+    ensures small { IfOk result (λ id. (bits : Bits)
+        → value (tree_at store.new.trees id) bits < 2 ^ 32) }
+    ensures keeps { KeepsStore store.old store.new }
+    ensures spent { IfErr result (λ e. e ≡ Fault.Spent → IsFull store.new) }
+{
+    match source {
+        Source::Constant(number) => {
+            let leaf = store.leaf(number)?;
+            Ok(leaf)
+        }
+        _ => {
+            let word = source_word(store, known, source)?;
+            let id = number_diagram(store, &word)?;
+            Ok(id)
+        }
+    }
+}
+
+/// The diagram of a place behind, made one where this is known. `behind` has the diagrams of the last places, the last
+/// one first. The caller's conditions: the steps are right, there is such a place, its diagram is there, and what is
+/// known is right and no less than at the place. `Spent` and `Memory` as the store has them; nodes may have been added
+/// then.
+fn diagram_behind(
     alloc: Global,
     store: &mut Store,
     steps: &Vec<Step>,
-    behind: &Vec<Word>,
+    behind: &Vec<Id>,
     known: &Known,
     place: usize,
-) -> Result<Word, Fault>
+) -> Result<Id, Fault>
     requires steps { AreSteps store.old.trees steps.now.items }
     requires inside { place < length steps.now.items }
     requires there { length steps.now.items ≤ length behind.now.items + place }
@@ -186,35 +221,35 @@ fn word_behind(
     requires less { (step : AStep) → slice_get steps.now.items place ≡ Some step
         → IsLess step.known known.now }
     ensures tells { IfOk result
-        (λ w. Tells (insns_of steps.now.items) place store.new.trees known.now w.bits) }
+        (λ id. Tells (insns_of steps.now.items) place store.new.trees known.now id) }
     ensures keeps { KeepsStore store.old store.new }
     ensures spent { IfErr result (λ e. e ≡ Fault.Spent → IsFull store.new) }
 {
     let before = behind[steps.len() - 1 - place];
     let step = steps[place];
-    let word = learn(alloc, store, &step.known, known, &before)?;
-    Ok(word)
+    let id = learn(alloc, store, &step.known, known, before)?;
+    Ok(id)
 }
 
-/// The word that tells what runs return that go on from a place, by its step and the words of the places behind, of
-/// which the last comes first. `None` where the instruction there divides. The caller's conditions: the program is
-/// lawful, the steps are right, this is the step of the place, and `behind` has those words. `Spent` and `Memory` as
-/// the store has them; nodes may have been added then.
-pub(crate) fn word_of_place(
+/// The diagram that tells what runs return that go on from a place, by its step and the diagrams of the places behind,
+/// of which the last comes first. The caller's conditions: the program is lawful, the steps are right, this is the step
+/// of the place, and `behind` has those diagrams. `Spent` and `Memory` as the store has them; nodes may have been added
+/// then.
+pub(crate) fn diagram_of_place(
     alloc: Global,
     store: &mut Store,
     steps: &Vec<Step>,
-    behind: &Vec<Word>,
+    behind: &Vec<Id>,
     place: usize,
     step: &Step,
-) -> Result<Option<Word>, Fault>
+) -> Result<Id, Fault>
     requires lawful { IsLawfulProgram (insns_of steps.now.items) }
     requires steps { AreSteps store.old.trees steps.now.items }
     requires at { slice_get steps.now.items place ≡ Some step.now }
     requires count { length behind.now.items + suc place ≡ length steps.now.items }
     requires behind { TellLast store.old.trees steps.now.items behind.now.items }
-    ensures tells { IfOk result (λ o. MatchOption o (HasQuotient (insns_of steps.now.items))
-        (λ w. Tells (insns_of steps.now.items) place store.new.trees step.now.known w.bits)) }
+    ensures tells { IfOk result
+        (λ id. Tells (insns_of steps.now.items) place store.new.trees step.now.known id) }
     ensures keeps { KeepsStore store.old store.new }
     ensures spent { IfErr result (λ e. e ≡ Fault.Spent → IsFull store.new) }
 {
@@ -222,32 +257,36 @@ pub(crate) fn word_of_place(
         Effect::Sets(register, source) => {
             let mut after = step.known;
             after.set(register, step.word);
-            let next = word_behind(alloc, store, steps, behind, &after, place + 1)?;
+            let next = diagram_behind(alloc, store, steps, behind, &after, place + 1)?;
             match step.word {
-                Some(_) => Ok(Some(next)),
+                Some(_) => {
+                    let known_set = guarded_diagram(store, &step.known, source, next)?;
+                    Ok(known_set)
+                }
                 None => {
-                    let set = set_word(alloc, store, &step.known, register, source, &next)?;
-                    Ok(Some(set))
+                    let set = set_diagram(alloc, store, &step.known, register, source, next)?;
+                    let guarded = guarded_diagram(store, &step.known, source, set)?;
+                    Ok(guarded)
                 }
             }
         }
         Effect::Skips(k) => {
             let target = place + 1 + k as usize;
-            let skipped = word_behind(alloc, store, steps, behind, &step.known, target)?;
-            Ok(Some(skipped))
+            let skipped = diagram_behind(alloc, store, steps, behind, &step.known, target)?;
+            Ok(skipped)
         }
         Effect::Tests(test, operand, on_true, on_false) => {
             let on_yes = place + 1 + on_true as usize;
             let on_no = place + 1 + on_false as usize;
-            let taken = word_behind(alloc, store, steps, behind, &step.known, on_yes)?;
-            let other = word_behind(alloc, store, steps, behind, &step.known, on_no)?;
-            let tested = tested_word(store, &step.known, test, operand, &taken, &other)?;
-            Ok(Some(tested))
+            let taken = diagram_behind(alloc, store, steps, behind, &step.known, on_yes)?;
+            let other = diagram_behind(alloc, store, steps, behind, &step.known, on_no)?;
+            let passed = test_diagram(store, &step.known, Register::A, test, operand)?;
+            let tested = choose(store, passed, taken, other)?;
+            Ok(tested)
         }
         Effect::Returns(source) => {
-            let returned = source_word(store, &step.known, source)?;
-            Ok(Some(returned))
+            let returned = source_diagram(store, &step.known, source)?;
+            Ok(returned)
         }
-        Effect::Divides => Ok(None),
     }
 }

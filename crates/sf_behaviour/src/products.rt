@@ -15,7 +15,7 @@ use sf_diagram::{Fault, Store};
 /// The product of two words, modulo 2^32: the sum of the first word, moved to each bit of the second that is 1. The
 /// caller's condition: they are words of the store. `Spent` and `Memory` as the store has them; nodes may have been
 /// added then.
-pub fn product(store: &mut Store, a: &Word, b: &Word) -> Result<Word, Fault>
+pub(crate) fn product(store: &mut Store, a: &Word, b: &Word) -> Result<Word, Fault>
     requires a { IsWord store.old.trees a.now.bits }
     requires b { IsWord store.old.trees b.now.bits }
     ensures word { IfOk result (λ w. IsWordOf store.new.trees w.bits (λ bits. apply Mul

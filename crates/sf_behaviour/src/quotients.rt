@@ -46,7 +46,7 @@ fn divide_bit(store: &mut Store, rest: &Word, next: Id, b: &Word) -> Result<(Id,
 
 /// The quotient of two words, rounded down; 0 where the second is 0. The caller's condition: they are words of the
 /// store. `Spent` and `Memory` as the store has them; nodes may have been added then.
-pub fn quotient(store: &mut Store, a: &Word, b: &Word) -> Result<Word, Fault>
+pub(crate) fn quotient(store: &mut Store, a: &Word, b: &Word) -> Result<Word, Fault>
     requires a { IsWord store.old.trees a.now.bits }
     requires b { IsWord store.old.trees b.now.bits }
     ensures word { IfOk result (λ w. IsWordOf store.new.trees w.bits (λ bits. apply Div

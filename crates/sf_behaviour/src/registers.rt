@@ -10,7 +10,7 @@ use sf_diagram::{Fault, Store};
 
 /// A word that a run may change.
 #[derive(Clone, Copy, Debug, PartialEq, Eq)]
-pub enum Register {
+pub(crate) enum Register {
     /// The accumulator.
     A,
     /// The index register.
@@ -33,7 +33,7 @@ pub(crate) fn register_of(number: usize) -> Register
 }
 
 /// The variable of the register's highest bit.
-fn first_variable(register: Register) -> u16
+pub(crate) fn first_variable(register: Register) -> u16
     ensures is { result ≡ register_first register }
     ensures small { result < 16384 }
 {
@@ -45,8 +45,9 @@ fn first_variable(register: Register) -> u16
 }
 
 /// How far the register's variables are apart.
-fn distance(register: Register) -> u16
+pub(crate) fn distance(register: Register) -> u16
     ensures is { result ≡ register_distance register }
+    ensures some { 0 < result }
     ensures small { result ≤ 2 }
 {
     match register {

@@ -1,13 +1,13 @@
-//! Words in which another word stands in the place of a register.
+//! Diagrams in which a word stands in the place of a register.
 
 ghost use Rattle.std.specs.Prelude.{◌≡◌, ◌≤◌, ◌<◌, ◌-◌, ◌/◌, ◌%◌, ◌==◌, ◌&&◌, ℕ, nat_lt, length, OnOk, IfOk, IfErr, IfSome, if◌then◌else◌};
 ghost use Rattle.sf_diagram.specs.Trees.{Bits, value};
 ghost use Rattle.sf_diagram.specs.Stores.{tree_at, KeepsStore, IsFull};
-ghost use Rattle.sf_behaviour.specs.Words.{word_value, IsTruthOf, IsWord, IsWordOf};
+ghost use Rattle.sf_behaviour.specs.Words.{word_value, IsDiagramOf, IsTruthOf, IsWord};
 ghost use Rattle.sf_behaviour.specs.Registers.{register_bit, with_register, start_bits};
 ghost use Rattle.sf_behaviour.specs.Replacing.{IsReplaced, AreReplaced};
 
-use crate::registers::Register;
+use crate::registers::{Register, distance, first_variable};
 use crate::words::Word;
 use sf_diagram::{Fault, Id, Node, Store, choose};
 use std::alloc::Global;
@@ -16,34 +16,21 @@ use std::collections::BTreeMap;
 /// How many variables stand above those of the input: those of A, X and the 16 scratch words.
 const REGISTERS: u16 = 576;
 
-/// Which bit a variable is of that one of A and X whose variables have this parity, if it is one.
-fn paired_bit(parity: u16, variable: u16) -> Option<u8>
-    ensures bit { result ≡ (if nat_lt variable 64 && (variable % 2 == parity)
-        then Some (31 - variable / 2) else None) }
-    ensures few { IfSome result (λ bit. bit < 32) }
-{
-    if variable < 64 && variable % 2 == parity {
-        Some((31 - variable / 2) as u8)
-    } else {
-        None
-    }
-}
-
 /// Which bit of the register a variable is, if it is one.
 fn bit_of(register: Register, variable: u16) -> Option<u8>
     ensures bit { result ≡ register_bit register variable }
     ensures few { IfSome result (λ bit. bit < 32) }
 {
-    match register {
-        Register::A => paired_bit(0, variable),
-        Register::X => paired_bit(1, variable),
-        Register::Scratch(k) => {
-            if variable / 32 == k as u16 + 2 {
-                Some((31 - variable % 32) as u8)
-            } else {
-                None
-            }
-        }
+    let first = first_variable(register);
+    if variable < first {
+        return None;
+    }
+    let behind = variable - first;
+    let distance = distance(register);
+    if behind % distance == 0 && behind / distance < 32 {
+        Some((31 - behind / distance) as u8)
+    } else {
+        None
     }
 }
 
@@ -51,11 +38,7 @@ fn bit_of(register: Register, variable: u16) -> Option<u8>
 fn first_past(register: Register) -> u16
     ensures { (w : ℕ) → result ≤ w → register_bit register w ≡ None }
 {
-    match register {
-        Register::A => 64,
-        Register::X => 64,
-        Register::Scratch(k) => 96 + 32 * k as u16,
-    }
+    first_variable(register) + 32 * distance(register)
 }
 
 /// The diagram that is 1 where a variable is true once the word stands in the place of the register, else 0. The
@@ -118,38 +101,32 @@ fn replace_in(
     Ok(new)
 }
 
-/// The word in which the word `by` stands in the place of the register. The caller's condition: they are words of the
-/// store. `Spent` and `Memory` as the store has them; nodes may have been added then.
-pub fn replace(
+/// The diagram in which the word stands in the place of the register. The caller's conditions: the node is there, and
+/// it is a word of the store. `Spent` and `Memory` as the store has them; nodes may have been added then.
+pub(crate) fn replace(
     alloc: Global,
     store: &mut Store,
     register: Register,
     by: &Word,
-    word: &Word,
-) -> Result<Word, Fault>
+    id: Id,
+) -> Result<Id, Fault>
+    requires within { id < length store.old.trees }
     requires by { IsWord store.old.trees by.now.bits }
-    requires word { IsWord store.old.trees word.now.bits }
-    ensures word { IfOk result (λ w. IsWordOf store.new.trees w.bits (λ bits.
-        word_value store.old.trees word.now.bits
-        (with_register register (word_value store.old.trees by.now.bits bits) bits))) }
+    ensures replaced { IfOk result (λ new. IsReplaced register store.new.trees
+        (word_value store.old.trees by.now.bits) id new) }
     ensures keeps { KeepsStore store.old store.new }
     ensures spent { IfErr result (λ e. e ≡ Fault.Spent → IsFull store.new) }
 {
     let mut made = BTreeMap::new(alloc);
-    let mut bits: [Id; 32] = [0; 32];
-    for i in 0..32 {
-        let bit = replace_in(store, &mut made, register, by, word.bits[i])?;
-        bits[i] = bit;
-    }
-    Ok(Word { bits })
+    let new = replace_in(store, &mut made, register, by, id)?;
+    Ok(new)
 }
 
 /// The diagram in which all registers are 0. The caller's condition: the node is there.
-fn start_in(store: &Store, id: Id) -> Id
+pub(crate) fn at_start(store: &Store, id: Id) -> Id
     requires { id < length store.now.trees }
-    ensures within { result < length store.now.trees }
-    ensures values { (bits : Bits) → value (tree_at store.now.trees result) bits
-        ≡ value (tree_at store.now.trees id) (start_bits bits) }
+    ensures { IsDiagramOf store.now.trees result
+        (λ bits. value (tree_at store.now.trees id) (start_bits bits)) }
 {
     let (variable, lower) = match store.node(id) {
         Node::Number(_) => return id,
@@ -158,18 +135,5 @@ fn start_in(store: &Store, id: Id) -> Id
     if variable >= REGISTERS {
         return id;
     }
-    start_in(store, lower)
-}
-
-/// The word in which all registers are 0. The caller's condition: it is a word of the store.
-pub fn at_start(store: &Store, word: &Word) -> Word
-    requires { IsWord store.now.trees word.now.bits }
-    ensures { IsWordOf store.now.trees result.bits
-        (λ bits. word_value store.now.trees word.now.bits (start_bits bits)) }
-{
-    let mut bits = word.bits;
-    for i in 0..32 {
-        bits[i] = start_in(store, word.bits[i]);
-    }
-    Word { bits }
+    at_start(store, lower)
 }

@@ -12,7 +12,7 @@ use sf_diagram::{Fault, Id, Store};
 
 /// Where a shift moves bits.
 #[derive(Clone, Copy, Debug, PartialEq, Eq)]
-pub enum Direction {
+pub(crate) enum Direction {
     /// To higher bits.
     Left,
     /// To lower bits.
@@ -53,7 +53,12 @@ pub(crate) fn move_bits(direction: Direction, word: &Word, by: usize, zero: Id) 
 
 /// The first word, shifted by the second modulo 32. The caller's condition: they are words of the store. `Spent` and
 /// `Memory` as the store has them; nodes may have been added then.
-pub fn shift(store: &mut Store, direction: Direction, word: &Word, by: &Word) -> Result<Word, Fault>
+pub(crate) fn shift(
+    store: &mut Store,
+    direction: Direction,
+    word: &Word,
+    by: &Word,
+) -> Result<Word, Fault>
     requires word { IsWord store.old.trees word.now.bits }
     requires by { IsWord store.old.trees by.now.bits }
     ensures word { IfOk result (λ w. IsWordOf store.new.trees w.bits (λ bits.

@@ -44,7 +44,7 @@ fn test_bits(store: &mut Store, test: Test, a: Id, b: Id, lower: Id) -> Result<I
 
 /// Whether a test of the first word against the second passes: 1 or 0. The caller's condition: they are words of the
 /// store. `Spent` and `Memory` as the store has them; nodes may have been added then.
-pub fn test_words(store: &mut Store, test: Test, a: &Word, b: &Word) -> Result<Id, Fault>
+pub(crate) fn test_words(store: &mut Store, test: Test, a: &Word, b: &Word) -> Result<Id, Fault>
     requires a { IsWord store.old.trees a.now.bits }
     requires b { IsWord store.old.trees b.now.bits }
     ensures truth { IfOk result (λ id. IsTruthOf store.new.trees id (λ bits. if passes test

@@ -3,14 +3,14 @@
 ghost use Rattle.std.specs.Prelude.{◌≡◌, ◌+◌, ◌-◌, ◌*◌, ◌<◌, ◌≤◌, slice_index, IfOk, IfErr};
 ghost use Rattle.sf_diagram.specs.Stores.{KeepsStore, IsFull};
 ghost use Rattle.sf_behaviour.specs.InputBits.{number_by, input_first, input_by};
-ghost use Rattle.sf_behaviour.specs.Words.{IsWordOf};
+ghost use Rattle.sf_behaviour.specs.Words.{word_value, IsDiagramOf, IsWord, IsWordOf};
 
-use sf_diagram::{Fault, Id, Store};
+use sf_diagram::{Fault, Id, Operation, Store, merge};
 
 /// A word that depends on the input, by a diagram for each of its bits, the lowest bit first. Each diagram is 0 or 1 on
 /// each input.
 #[derive(Clone, Copy, Debug, PartialEq, Eq)]
-pub struct Word {
+pub(crate) struct Word {
     /// The diagram of each bit.
     pub bits: [Id; 32],
 }
@@ -33,7 +33,7 @@ fn first_variable(word: usize) -> u16
 
 /// The word that is the same number on each input. `Spent` and `Memory` as the store has them; nodes may have been
 /// added then.
-pub fn constant_word(store: &mut Store, number: u32) -> Result<Word, Fault>
+pub(crate) fn constant_word(store: &mut Store, number: u32) -> Result<Word, Fault>
     ensures word { IfOk result (λ w. IsWordOf store.new.trees w.bits (λ bits. number)) }
     ensures keeps { KeepsStore store.old store.new }
     ensures spent { IfErr result (λ e. e ≡ Fault.Spent → IsFull store.new) }
@@ -79,7 +79,7 @@ pub(crate) fn variable_word(store: &mut Store, first: u16, distance: u16) -> Res
 
 /// A word of the input, by its number: `Input` of `sf_insn` says which is which. The caller's condition: there is such
 /// a word. `Spent` and `Memory` as the store has them; nodes may have been added then.
-pub fn input_word(store: &mut Store, word: usize) -> Result<Word, Fault>
+pub(crate) fn input_word(store: &mut Store, word: usize) -> Result<Word, Fault>
     requires { word < 16 }
     ensures word { IfOk result (λ w. IsWordOf store.new.trees w.bits
         (λ bits. slice_index (input_by bits).words word)) }
@@ -88,4 +88,20 @@ pub fn input_word(store: &mut Store, word: usize) -> Result<Word, Fault>
 {
     let word = variable_word(store, first_variable(word), 1)?;
     Ok(word)
+}
+
+/// One diagram with the numbers of a word at its leaves. The caller's condition: it is a word of the store. `Spent` and
+/// `Memory` as the store has them; nodes may have been added then.
+pub(crate) fn number_diagram(store: &mut Store, word: &Word) -> Result<Id, Fault>
+    requires { IsWord store.old.trees word.now.bits }
+    ensures number { IfOk result
+        (λ id. IsDiagramOf store.new.trees id (word_value store.old.trees word.now.bits)) }
+    ensures keeps { KeepsStore store.old store.new }
+    ensures spent { IfErr result (λ e. e ≡ Fault.Spent → IsFull store.new) }
+{
+    let mut number = store.leaf(0)?;
+    for i in 0..32 {
+        number = merge(store, Operation::NextBit, number, word.bits[31 - i])?;
+    }
+    Ok(number)
 }

@@ -15,7 +15,7 @@ operate-requires-clause-a c =
 
 pub returns-clause-word : goal.returns-clause-word
 returns-clause-word c =
-    result-value c.args.operation c.args.other c.args.store.now.trees c.held_word.new.store.trees
+    result-value c.args.op c.args.other c.args.store.now.trees c.held_word.new.store.trees
     c.operand_word.new.store.trees c.args.known.now c.in_ok-a.a.bits c.in_ok-b.b.bits c.in_ok-word.word.bits
     c.in_ok-a.ensures.keeps.trees c.requires c.in_ok-a.ensures.word c.in_ok-b.ensures.keeps.trees
     c.in_ok-b.ensures.word c.operate.new.store.trees c.in_ok-word.ensures.word

@@ -12,6 +12,3 @@ returns-in-Tests c = rw c.in-Tests.is refl
 
 pub returns-in-Returns : goal.returns-in-Returns
 returns-in-Returns c = rw c.in-Returns.is refl
-
-pub returns-in-Divides : goal.returns-in-Divides
-returns-in-Divides c = rw c.in-Divides.is refl

@@ -14,6 +14,3 @@ returns-in-Tests c =
 
 pub returns-in-Returns : goal.returns-in-Returns
 returns-in-Returns c = rw c.in-Returns.is (λ q e. no-next q e)
-
-pub returns-in-Divides : goal.returns-in-Divides
-returns-in-Divides c = rw c.in-Divides.is (one-next (c.args.place + 1))

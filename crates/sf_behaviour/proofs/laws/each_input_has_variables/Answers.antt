@@ -1,5 +1,8 @@
-use Rattle.sf_behaviour.proofs.InputLemmas.{input-back}
+use Rattle.sf_behaviour.proofs.InputLemmas.{input-back, input-is}
 use Rattle.sf_behaviour.proofs.laws.each_input_has_variables.Goals as goal
 
-pub returns : goal.returns
-returns c = λ d h. input-back d h
+pub returns-clause-variables : goal.returns-clause-variables
+returns-clause-variables c = input-back
+
+pub returns-clause-input : goal.returns-clause-input
+returns-clause-input c = input-is

@@ -18,7 +18,7 @@ loop-i-preserved c =
     let e = c.in_ok-learnt.ensures in
     record {
       keeps = keeps_more c.args.store.now c.loop-i.store c.learn_register.new.store c.loop-i.invariant.keeps e.keeps;
-      word = e.word;
+      within = e.within;
       less = e.less;
       sixteen = e.sixteen;
       tells = λ code place t. e.tells code place (c.loop-i.invariant.tells code place t);
@@ -28,7 +28,7 @@ loop-i-preserved c =
 
 pub returns-clause-tells : goal.returns-clause-tells
 returns-clause-tells c = λ code place t.
-    tells-same code place c.loop-i.store.trees c.loop-i.so_far c.args.more.now c.loop-i.learnt.bits
+    tells-same code place c.loop-i.store.trees c.loop-i.so_far c.args.more.now c.loop-i.learnt
     c.loop-i.invariant.less
     (all-known c.loop-i.so_far c.args.more.now c.requires.knowledge.sixteen
     (λ j w l e. c.loop-i.invariant.each j w (omega arith) e))

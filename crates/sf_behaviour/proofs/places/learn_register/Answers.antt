@@ -20,13 +20,13 @@ returns-in_err-made-in-Some-clause-grows c = λ r w e. e
 
 pub returns-in_ok-made-in-Some-clause-tells : goal.returns-in_ok-made-in-Some-clause-tells
 returns-in_ok-made-in-Some-clause-tells c = λ code place t.
-    subst (λ (k : Known). Tells code place c.replace.new.store.trees k c.in_ok-made-in-Some.made.bits)
+    subst (λ (k : Known). Tells code place c.replace.new.store.trees k c.in_ok-made-in-Some.made)
     (sym c.set.ensures)
     (tells-more-known c.args.store.now.trees c.replace.new.store.trees c.args.known.now c.args.more.now
-    c.args.register c.in-Some.by c.args.word.now.bits c.in_ok-made-in-Some.made.bits
+    c.args.register c.in-Some.by c.args.id c.in_ok-made-in-Some.made
     c.in_ok-made-in-Some.ensures.keeps.trees
     c.requires.knowledge c.requires.less c.requires.sixteen c.requires.register c.in-Some.ensures.0
-    c.in-Some.ensures.1 c.in_ok-made-in-Some.ensures.word code place t)
+    c.in-Some.ensures.1 c.in_ok-made-in-Some.ensures.replaced code place t)
 
 pub returns-in_ok-made-in-Some-clause-less : goal.returns-in_ok-made-in-Some-clause-less
 returns-in_ok-made-in-Some-clause-less c =

@@ -2,7 +2,7 @@ use Rattle.std.proofs.Common.{◌≡◌, ◌-◌, ◌<◌, length, drop}
 use Rattle.sf_diagram.specs.Trees.{Bits, value}
 use Rattle.sf_diagram.specs.Stores.{tree_at, KeepsStore}
 use Rattle.sf_behaviour.specs.Words.{word_value}
-use Rattle.sf_behaviour.proofs.answers.number_diagram.Given as goal
+use Rattle.sf_behaviour.proofs.words.number_diagram.Given as goal
 
 abbrev pub invariant-loop-i : goal.invariant-loop-i
 invariant-loop-i l = record {

@@ -2,7 +2,7 @@ use Rattle.std.proofs.Common.{◌≡◌, ◌+◌, ◌-◌, ◌∙◌, ℕ, ap, d
 use Rattle.sf_diagram.specs.KeepLaws.{keeps_more}
 use Rattle.sf_behaviour.specs.Words.{word_value}
 use Rattle.sf_behaviour.proofs.AnswerLemmas.{number-begun, number-more, number-made}
-use Rattle.sf_behaviour.proofs.answers.number_diagram.Goals as goal
+use Rattle.sf_behaviour.proofs.words.number_diagram.Goals as goal
 
 pub loop-i-init : goal.loop-i-init
 loop-i-init c = record {
@@ -37,5 +37,8 @@ loop-i-preserved c =
     }
 
 pub returns-clause-number : goal.returns-clause-number
-returns-clause-number c = λ bits. c.loop-i.invariant.so_far bits
-    ∙ number-made (32 - c.loop-i.i) c.args.store.now.trees c.args.word.now.bits bits (omega arith)
+returns-clause-number c = record {
+  within = c.loop-i.invariant.within;
+  values = λ bits. c.loop-i.invariant.so_far bits
+      ∙ number-made (32 - c.loop-i.i) c.args.store.now.trees c.args.word.now.bits bits (omega arith);
+}

@@ -1,0 +1,28 @@
+use Rattle.std.proofs.Common.{[], ◌∷◌, ◌++◌, arith}
+use Rattle.std.proofs.lemmas.Grind.{common_steps}
+use Rattle.sf_diagram.specs.KeepLaws.{keeps_more}
+use Rattle.sf_behaviour.proofs.AnswerLemmas.{fold-begun, fold-more}
+use Rattle.sf_behaviour.proofs.answers.behaviour.Goals as goal
+
+pub loop-program-init : goal.loop-program-init
+loop-program-init c = record {
+  keeps = c.in_ok-so_far.ensures.keeps;
+  programs = [];
+  given = grind (arith, common_steps);
+  answers = fold-begun c.leaf.new.self.trees c.in_ok-so_far.so_far c.in_ok-so_far.ensures.within
+      c.in_ok-so_far.ensures.tree;
+}
+
+pub loop-program-preserved : goal.loop-program-preserved
+loop-program-preserved c =
+    let ps = c.loop-program.invariant.programs in
+    let p = c.in-Some.program.now in
+    record {
+      keeps = keeps_more _ _ _ c.loop-program.invariant.keeps
+          (keeps_more _ _ _ c.in_ok-older.ensures.keeps c.in_ok-so_far-2.ensures.keeps);
+      programs = ps ++ p ∷ [];
+      given = grind (arith, common_steps);
+      answers = fold-more ps p _ _ _ c.loop-program.so_far c.in_ok-older.older c.in_ok-so_far-2.so_far
+          c.loop-program.invariant.answers c.in_ok-older.ensures.keeps.trees c.in_ok-older.ensures.number
+          c.in_ok-older.ensures.small c.in_ok-so_far-2.ensures.within c.in_ok-so_far-2.ensures.merged;
+    }

@@ -1,0 +1,14 @@
+use Rattle.std.proofs.Common.{◌≡◌, List, map}
+use Rattle.sf_check.specs.declared.insn.Insn.{Insn}
+use Rattle.sf_diagram.specs.Stores.{KeepsStore}
+use Rattle.sf_behaviour.specs.Answering.{HasAnswers}
+use Rattle.sf_behaviour.proofs.AnswerLemmas.{returns_on}
+use Rattle.sf_behaviour.proofs.answers.behaviour.Given as goal
+
+abbrev pub invariant-loop-program : goal.invariant-loop-program
+invariant-loop-program l = record {
+  keeps : KeepsStore l.fn.store l.store;
+  programs : List (List Insn);
+  given : programs ≡ map (λ p. p.now) l.yielded;
+  answers : HasAnswers (returns_on programs) l.store.trees l.so_far;
+}

@@ -1,0 +1,26 @@
+use Rattle.std.proofs.Common.{ℕ, ◌<◌, ◌^◌, ◌∙◌, ap, sym, subst, arith}
+use Rattle.sf_diagram.specs.Trees.{Tree, value}
+use Rattle.sf_behaviour.proofs.WordLemmas.{word-small}
+use Rattle.sf_behaviour.proofs.places.source_diagram.Goals as goal
+
+pub returns-in_ok-leaf-in-Constant-clause-values : goal.returns-in_ok-leaf-in-Constant-clause-values
+returns-in_ok-leaf-in-Constant-clause-values c = rw c.in-Constant.is (record {
+  within = c.in_ok-leaf-in-Constant.ensures.within;
+  values = λ bits. ap (λ (t : Tree). value t bits) c.in_ok-leaf-in-Constant.ensures.tree;
+})
+
+pub returns-in_ok-leaf-in-Constant-clause-small : goal.returns-in_ok-leaf-in-Constant-clause-small
+returns-in_ok-leaf-in-Constant-clause-small c = λ bits.
+    subst (λ (t : Tree). value t bits < 2 ^ 32) (sym c.in_ok-leaf-in-Constant.ensures.tree) (omega arith)
+
+pub returns-in_ok-id-in_default-clause-values : goal.returns-in_ok-id-in_default-clause-values
+returns-in_ok-id-in_default-clause-values c = record {
+  within = c.in_ok-id-in_default.ensures.number.within;
+  values = λ bits. c.in_ok-id-in_default.ensures.number.values bits ∙ c.in_ok-word-in_default.ensures.word.values bits;
+}
+
+pub returns-in_ok-id-in_default-clause-small : goal.returns-in_ok-id-in_default-clause-small
+returns-in_ok-id-in_default-clause-small c = λ bits.
+    subst (λ (n : ℕ). n < 2 ^ 32) (sym (c.in_ok-id-in_default.ensures.number.values bits))
+    (word-small c.source_word.new.store.trees c.in_ok-word-in_default.word.bits bits
+    c.in_ok-word-in_default.ensures.word.word)

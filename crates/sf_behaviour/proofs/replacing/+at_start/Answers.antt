@@ -1,0 +1,34 @@
+use Rattle.std.proofs.Common.{◌∙◌, sym, ap, arith}
+use Rattle.sf_diagram.specs.Trees.{Tree, value}
+use Rattle.sf_diagram.specs.Stores.{tree_at}
+use Rattle.sf_behaviour.specs.Registers.{start_bits}
+use Rattle.sf_behaviour.proofs.ReplacingLemmas.{start-leaf, start-lower, start-stays}
+use Rattle.sf_behaviour.proofs.replacing.+at_start.Goals as goal
+
+pub returns-in-Number : goal.returns-in-Number
+returns-in-Number t c = record {
+  within = c.requires;
+  values = λ bits.
+      start-leaf (tree_at c.args.store.now.trees c.args.id) c.in-Number.field-0 bits c.in-Number.ensures.tree;
+}
+
+pub returns-then-variable-ge-REGISTERS : goal.returns-then-variable-ge-REGISTERS
+returns-then-variable-ge-REGISTERS t c =
+    let ts = c.args.store.now.trees in
+    record {
+      within = c.requires;
+      values = λ bits. start-stays (tree_at ts c.args.id) c.in-Choice.variable (tree_at ts c.in-Choice.lower)
+          (tree_at ts c.in-Choice.field-2) bits c.in-Choice.ensures.tree
+          (c.in-Choice.ensures.lawful.canonical.ordered c.args.id c.requires) (omega arith);
+    }
+
+pub returns : goal.returns
+returns t c =
+    let ts = c.args.store.now.trees in
+    record {
+      within = c.at_start.ensures.within;
+      values = λ bits. c.at_start.ensures.values bits
+          ∙ sym (start-lower c.in-Choice.variable (tree_at ts c.in-Choice.lower) (tree_at ts c.in-Choice.field-2) bits
+          (omega arith))
+          ∙ sym (ap (λ (u : Tree). value u (start_bits bits)) c.in-Choice.ensures.tree);
+    }
