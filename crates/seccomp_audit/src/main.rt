@@ -164,7 +164,7 @@ fn asks_to_explain<R: Env>(rt: &R) -> bool {
 /// the status is 4. It isn't looked at whether the write succeeds.
 fn no_words<E: Write>(error: &io::Error, err: &mut E) -> u8 {
     if error.kind() == ErrorKind::OutOfMemory {
-        return tell_fault(&Fault::Memory, err);
+        return tell_fault(&sf_evaluate::Fault::Other(Fault::Memory), err);
     }
     let _ = err.write_all(
         "error: invalid UTF-8 was detected in one or more arguments\n".as_bytes(),

@@ -8,10 +8,10 @@ use Rattle.serde_json.specs.Data.{Data, null, string}
 use Rattle.sf_check.specs.declared.insn.Insn.{Insn}
 use Rattle.sf_check.specs.Stacks.{path_length}
 use Rattle.sf_run.specs.declared.action.Answer.{Answer}
-use Rattle.sf_book.specs.declared.book.Counts.{Counts}
+use Rattle.sf_run.specs.declared.counts.Counts.{Counts}
 use Rattle.sf_book.specs.Books.{RegionData, BookData, counts_of}
 use Rattle.sf_book.specs.Unfoldings.{AreSameRegions, ExplorationsHaveOneResult}
-use Rattle.sf_ask.specs.QuestionData.{QuestionData}
+use Rattle.sf_question.specs.QuestionData.{QuestionData}
 use Rattle.sf_ask.specs.declared.verdict.Reply.{Reply}
 use Rattle.sf_ask.specs.Judging.{HasReply}
 use Rattle.sf_ask.specs.OneResult.{HaveOneReply, IsWholeFringe}

@@ -1,7 +1,7 @@
 -- What an audit finds, and why it is refused.
 use Rattle.std.specs.Prelude.{◌≡◌, ℕ, ◌<◌, ◌≤◌, ◌⊎◌, List, length}
 use Rattle.sf_check.specs.declared.insn.Insn.{Insn}
-use Rattle.sf_ask.specs.QuestionData.{QuestionData}
+use Rattle.sf_question.specs.QuestionData.{QuestionData}
 use Rattle.sf_check.specs.Stacks.{IsPlain}
 use Rattle.sf_crew.specs.Explorations.{IsExplorationOf, IsExactExploration}
 use Rattle.sf_crew.specs.Sweeps.{AreRightReplies}

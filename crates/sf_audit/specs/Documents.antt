@@ -4,7 +4,7 @@ use Rattle.serde_json.specs.Data.{Data, boolean, null, string}
 use Rattle.serde_json.specs.View.{view}
 use Rattle.sf_names.specs.Names.{NamesData}
 use Rattle.sf_book.specs.Books.{RegionData, counts_of}
-use Rattle.sf_ask.specs.QuestionData.{QuestionData}
+use Rattle.sf_question.specs.QuestionData.{QuestionData}
 use Rattle.sf_ask.specs.declared.verdict.Reply.{Reply}
 use Rattle.sf_ask.specs.declared.verdict.Reply.TheVariants.{Never, Allowed, Unsettled}
 use Rattle.sf_json.specs.Documents.{answer_document, count, counts_document, fields, input_document, list_of, sizes_document}

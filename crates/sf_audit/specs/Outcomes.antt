@@ -1,7 +1,7 @@
 -- What an audit found.
 use Rattle.std.specs.Prelude.{◌≡◌, List, length}
 use Rattle.sf_book.specs.Books.{BookData}
-use Rattle.sf_ask.specs.QuestionData.{QuestionData}
+use Rattle.sf_question.specs.QuestionData.{QuestionData}
 use Rattle.sf_ask.specs.declared.verdict.Reply.{Reply}
 
 -- how the exploration ended, the questions, and a reply to each

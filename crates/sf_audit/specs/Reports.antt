@@ -3,7 +3,7 @@ use Rattle.std.specs.Prelude.{ℕ, ◌+◌, Bool, true, false, List, [], ◌∷�
 use Rattle.std.specs.Fmt.{decimal}
 use Rattle.sf_check.specs.Stacks.{path_length}
 use Rattle.sf_book.specs.Books.{BookData, RegionData, counts_of}
-use Rattle.sf_ask.specs.QuestionData.{QuestionData}
+use Rattle.sf_question.specs.QuestionData.{QuestionData}
 use Rattle.sf_ask.specs.declared.verdict.Reply.{Reply}
 use Rattle.sf_ask.specs.declared.verdict.Reply.TheVariants.{Never, Allowed, Unsettled}
 use Rattle.sf_policy.specs.Texts.{action_text, counts_line, hex_text, line}

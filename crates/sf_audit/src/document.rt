@@ -15,7 +15,7 @@ use expectations::shown_expected;
 use questions::questions_document;
 use regions::shown_regions;
 use sf_ask::Reply;
-use sf_json::{Document, Fields, counts_document, stack_document};
+use sf_json::{Document, Fields, counts_document, sizes_document};
 use sf_names::Names;
 use std::alloc::{AllocError, Global};
 
@@ -71,8 +71,8 @@ pub fn audit_document(
     let fields = Fields::new(alloc)
         .with("seccomp_audit", Document::copy_of(alloc, "audit")?)?
         .with("version", Document::number(1))?
-        .with("stack", stack_document(alloc, settled)?)?
-        .with("counts", counts_document(alloc, settled)?)?
+        .with("stack", sizes_document(alloc, settled.stack().programs())?)?
+        .with("counts", counts_document(alloc, settled.counts())?)?
         .with("questions", questions)?
         .with("expected", shown)?
         .with("regions", regions)?

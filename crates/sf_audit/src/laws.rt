@@ -1,7 +1,7 @@
 //! Laws of the definitions, each the contract of a function that does nothing.
 
 ghost use Rattle.std.specs.Prelude.{◌≡◌, ℕ, Bool, List, []};
-ghost use Rattle.sf_ask.specs.QuestionData.{QuestionData};
+ghost use Rattle.sf_question.specs.QuestionData.{QuestionData};
 ghost use Rattle.sf_policy.specs.declared.fault.Fault.{Fault};
 ghost use Rattle.sf_audit.specs.Audits.{IsAudit, IsAuditRefusal};
 ghost use Rattle.sf_audit.specs.Documents.{TellingData, audit_document};

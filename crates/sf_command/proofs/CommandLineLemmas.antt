@@ -6,9 +6,9 @@ use Rattle.clap.specs.declared.error.Error.{Error}
 use Rattle.clap.specs.declared.error.kind.ErrorKind.TheVariants.{OutOfMemory}
 use Rattle.sf_command_line.specs.CommandLine.{IsKnown, errors_at, subcommand_at}
 use Rattle.sf_command_line.specs.SubcommandLaws.{known_subcommand}
-use Rattle.sf_policy.specs.declared.fault.Fault.{Fault}
+use Rattle.sf_evaluate.specs.declared.fault.Fault.{Fault}
 use Rattle.sf_evaluate.specs.Profiles.{profile_words_fit}
-use Rattle.sf_command.specs.Runs.{HasWrongWord, Helps, IsHelp, RefusesWords, WritesText, words_fit_for}
+use Rattle.sf_command.specs.Runs.{HasWrongWord, Helps, IsHelp, RefusesAs, RefusesWords, RunsAs, WritesText, words_fit_for}
 
 -- an answer to a call for help or for the version is what the words ask for
 pub helps : (words : List Text) (e : Error) (status : ℕ) (old new : Option Text) → HasKind (errors_at words) e
@@ -47,3 +47,13 @@ profile_ran W (Err e) status done = tt
 pub profile_words : (name : Text) (rows : List Row) → name ≡ codes "profile" → profile_words_fit rows ≡ false
     → words_fit_for name rows ≡ false
 profile_words name rows is wrong = rw is wrong
+
+-- what was done as a subcommand asks for, was done as the words ask for that name it
+pub done_as : (holds : Text → Option Text) (found named : Option (Text × List Row)) (status : ℕ)
+    (old new : Option Text) → named ≡ found → RunsAs holds found status old new → RunsAs holds named status old new
+done_as holds found named status old new is done = subst (λ n. RunsAs holds n status old new) (sym is) done
+
+-- what is refused for a subcommand, is refused for the words that name it
+pub refused_as : (holds : Text → Option Text) (found named : Option (Text × List Row)) (e : Fault) → named ≡ found
+    → RefusesAs holds found e → RefusesAs holds named e
+refused_as holds found named e is why = subst (λ n. RefusesAs holds n e) (sym is) why

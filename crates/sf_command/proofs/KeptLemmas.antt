@@ -3,7 +3,7 @@ use Rattle.std.proofs.Common.{◌≡◌, ◌⊎◌, inl, inr, ℕ, ◌<◌, ◌�
 use Rattle.sf_check.specs.declared.insn.Insn.{Insn}
 use Rattle.sf_policy.specs.declared.fault.Fault.{Fault}
 use Rattle.sf_policy.specs.declared.fault.Fault.TheVariants as faults
-use Rattle.sf_ask.specs.QuestionData.{QuestionData}
+use Rattle.sf_question.specs.QuestionData.{QuestionData}
 use Rattle.sf_audit.specs.Audits.{IsAuditRefusal}
 use Rattle.sf_policy.specs.Filters.{SpellStack, IsFirstRefusal}
 use Rattle.sf_evaluate.specs.Files.{AreKeptFiles, AreRead}

@@ -3,9 +3,8 @@ use Rattle.std.specs.Prelude.{◌≡◌, ◌⊎◌, ◌<◌, ◌||◌, ◌++◌,
 use Rattle.std.specs.Borrow.{Bor}
 use Rattle.std.specs.Io.KnownBytes.{Appends}
 use Rattle.serde_json.specs.Data.{Data}
-use Rattle.serde_json.specs.View.{view}
 use Rattle.sf_check.specs.declared.insn.Insn.{Insn}
-use Rattle.sf_ask.specs.QuestionData.{QuestionData}
+use Rattle.sf_question.specs.QuestionData.{QuestionData}
 use Rattle.sf_ask.specs.declared.verdict.Reply.{Reply}
 use Rattle.sf_ask.specs.declared.verdict.Reply.TheVariants.{Never, Allowed, Unsettled}
 use Rattle.sf_crew.specs.Sweeps.{AreRightReplies}
@@ -19,7 +18,7 @@ use Rattle.sf_audit.specs.Expectations.{ExpectedData, expected_text}
 use Rattle.sf_audit.specs.Reports.{report_text}
 use Rattle.sf_evaluate.specs.Expecting.{AreAcceptedIn, IsControl, RefusesAccepted, RefusesControl}
 use Rattle.sf_evaluate.specs.Files.{AreRead, HasUnknown}
-use Rattle.sf_evaluate.specs.Origins.{AreOrigins}
+use Rattle.sf_evaluate.specs.Origins.{HasOrigins}
 use Rattle.sf_evaluate.specs.Policies.{AreAsked, RefusesAsking}
 use Rattle.sf_evaluate.specs.Traces.{IsWhy}
 use Rattle.sf_json.specs.Documents.{document_line}
@@ -33,11 +32,9 @@ pub record AskedData : Type 0 where
   pub control : Option (List ℕ)
   pub accept : Option (List ℕ)
 
--- what these files hold: questions, where each of them stands, the questions of the control, and the names of questions
--- that may be allowed
+-- what these files hold: questions, the questions of the control, and the names of questions that may be allowed
 pub record ReadData : Type 0 where
   pub questions : List QuestionData
-  pub origins : List Data
   pub control : List QuestionData
   pub accepted : List (List ℕ)
 
@@ -45,7 +42,6 @@ pub record ReadData : Type 0 where
 abbrev pub read_data : AskedContents → ReadData
 read_data read = record {
   questions = read.questions.items;
-  origins = map view read.origins.items;
   control = read.control.items;
   accepted = map string_bytes read.accepted.items;
 }
@@ -53,7 +49,6 @@ read_data read = record {
 -- the files hold this
 pub record IsAskedBy (holds : List ℕ → Option (List ℕ)) (asked : AskedData) (read : ReadData) : Type 0 where
   pub questions : AreAsked holds asked.policies read.questions
-  pub origins : AreOrigins holds asked.policies read.questions read.origins
   pub control : IsControl holds asked.control read.control
   pub accepted : AreAcceptedIn holds asked.accept read.questions read.accepted
 
@@ -75,14 +70,14 @@ audit_output false telling expected found =
     report_text found telling.regions telling.remarks ++ behind_text telling expected found
 audit_output true telling expected found = document_line (audit_document telling expected found)
 
--- how an audit is told that is asked by these files
-abbrev pub telling_of : AskedData → ReadData → List NamesData → (regions : Bool)
+-- how an audit is told that is asked by these files, if its questions stand there
+abbrev pub telling_of : AskedData → (origins : List Data) → List NamesData → (regions : Bool)
     → (remarks : List (List ℕ)) → TellingData
-telling_of asked read names regions remarks = record {
+telling_of asked origins names regions remarks = record {
   regions = regions;
   is_expecting = is_expecting asked;
   names = names;
-  origins = read.origins;
+  origins = origins;
   remarks = remarks;
 }
 
@@ -113,12 +108,15 @@ pub record IsFoundFor (files : List (List ℕ)) (read : ReadData) (budget : ℕ)
   pub expects : expected ≡ expected_of read held
 
 -- `audit`: the files at the paths are read and audited by the questions that the files of the policies ask; what is
--- found is written, with remarks where they are asked for, and what isn't as expected; the status tells of both
+-- found is written, with remarks where they are asked for, in JSON with where each question stands, and with what isn't
+-- as expected; the status tells of both
 pub record AuditsFiles (holds : List ℕ → Option (List ℕ)) (asked : AskedData) (paths : List (Bor (List ℕ)))
     (names : List NamesData) (budget : ℕ) (regions why json : Bool) (status : ℕ) (old new : Option (List ℕ))
     : Type 0 where
   pub read : ReadData
   pub asked_by : IsAskedBy holds asked read
+  pub origins : List Data
+  pub placed : HasOrigins json holds asked.policies read.questions origins
   pub files : List (List ℕ)
   pub are_read : AreRead holds paths files
   pub found : Found
@@ -126,7 +124,7 @@ pub record AuditsFiles (holds : List ℕ → Option (List ℕ)) (asked : AskedDa
   pub is_found : IsFoundFor files read budget found expected
   pub remarks : List (List ℕ)
   pub remarked : HasRemarks why names found remarks
-  pub written : Appends old new (audit_output json (telling_of asked read names regions remarks) expected found)
+  pub written : Appends old new (audit_output json (telling_of asked origins names regions remarks) expected found)
   pub status_is : status ≡ audit_status expected found
 
 -- Why the files that an audit is asked by are refused: a policy is; or the control; or the questions that may be

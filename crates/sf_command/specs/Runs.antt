@@ -13,13 +13,16 @@ use Rattle.sf_policy.specs.declared.fault.Fault.TheVariants.{Input as InputFault
 use Rattle.sf_compare.specs.declared.relation.Relation.{Relation}
 use Rattle.sf_compare.specs.declared.relation.Relation.TheVariants.{Looser, Tighter, Different}
 use Rattle.sf_command_line.specs.CommandLine.{errors_at, subcommand_at}
-use Rattle.sf_command_line.specs.Options.{ArePaths, IsOptionNumber, IsSwitch, text_of}
+use Rattle.sf_command_line.specs.Options.{ArePaths, IsOptionNumber, IsSwitch}
 use Rattle.sf_command.specs.Audits.{AskedData, AuditsFiles, RefusesAudit}
 use Rattle.sf_command.specs.Comparisons.{ComparesFiles, RefusesComparison}
 use Rattle.sf_command.specs.Listings.{ListsFiles, RefusesListing}
 use Rattle.sf_command.specs.Needs.{RefusesNeeds, TellsNeeds}
+use Rattle.sf_evaluate.specs.Faults.{IsOther}
 use Rattle.sf_evaluate.specs.Names.{AreNamesRead, RefusesNaming}
 use Rattle.sf_evaluate.specs.Outputs.{AnswersFiles, ChecksFiles, RefusesCheck}
+use Rattle.sf_evaluate.specs.declared.fault.Fault.{Fault as RunFault}
+use Rattle.sf_evaluate.specs.declared.fault.Fault.TheVariants.{Other}
 use Rattle.sf_evaluate.specs.Asking.{AsksInput, LacksName, eval_words_fit, numbers_fit}
 use Rattle.sf_evaluate.specs.Profiles.{RefusesProfile, WritesProfile, profile_words_fit}
 use Rattle.sf_evaluate.specs.Expecting.{audit_words_fit}
@@ -270,9 +273,9 @@ RefusesNeedsOf holds rows fault = OnPaths (codes "filters") rows
     (λ paths. (budget : ℕ) × IsOptionNumber (one_of (codes "budget") rows) 1000000 100000 budget
     × RefusesNeeds holds paths budget fault)
 
--- why what the named subcommand asks for is refused
-abbrev pub RefusesAs : (Text → Option Text) → Option (Text × List Row) → Fault → Type 0
-RefusesAs holds named fault = ByName
+-- why what the named subcommand asks for is refused, where it is one of the six that take filters
+abbrev pub RefusesOnStack : (Text → Option Text) → Option (Text × List Row) → Fault → Type 0
+RefusesOnStack holds named fault = ByName
     (λ rows. OnNames holds rows fault (OnPaths (codes "filters") rows
     (λ paths. (asked : AskedData) × IsAskedFor rows asked × RefusesAudit holds asked paths fault)))
     (λ rows. OnPaths (codes "filters") rows (λ paths. RefusesCheck holds paths fault))
@@ -281,11 +284,19 @@ RefusesAs holds named fault = ByName
     (λ new. RefusesComparison holds old new fault))))
     (λ rows. OnCalls holds rows fault (OnPaths (codes "filters") rows (λ paths. RefusesListing holds paths fault)))
     (λ rows. RefusesNeedsOf holds rows fault)
-    (λ rows. RefusesProfile holds rows fault)
+    (λ rows. ⊥)
     named
+
+-- why what the named subcommand asks for is refused
+abbrev pub RefusesAs : (Text → Option Text) → Option (Text × List Row) → RunFault → Type 0
+RefusesAs holds named fault =
+    IsOther (RefusesOnStack holds named) fault
+    ⊎ ((found : Text × List Row) × (named ≡ Some found) × (found.0 ≡ codes "profile")
+    × RefusesProfile holds found.1 fault)
 
 -- Why what the words ask for is refused. Memory can run out at any time, and writing can fail even for help; the other
 -- reasons come only where the words fit the form.
-abbrev pub RefusesAsAsked : (Text → Option Text) → List Text → Fault → Type 0
+abbrev pub RefusesAsAsked : (Text → Option Text) → List Text → RunFault → Type 0
 RefusesAsAsked holds words fault =
-    (fault ≡ Memory) ⊎ (fault ≡ Write) ⊎ ((errors_at words ≡ []) × RefusesAs holds (subcommand_at words) fault)
+    (fault ≡ Other Memory) ⊎ (fault ≡ Other Write)
+    ⊎ ((errors_at words ≡ []) × RefusesAs holds (subcommand_at words) fault)

@@ -3,7 +3,9 @@
 ghost use Rattle.std.specs.Prelude.{◌≡◌, ◌<◌, ◌≤◌, ◌⊎◌, ℕ, List, IfOk, IfErr, OnOk, length, map, string_bytes};
 ghost use Rattle.std.specs.Io.KnownBytes.{Appends};
 ghost use Rattle.sf_audit.specs.Documents.{telling_data};
+ghost use Rattle.serde_json.specs.View.{view};
 ghost use Rattle.sf_crew.specs.Sweeps.{AreRightReplies};
+ghost use Rattle.sf_evaluate.specs.Origins.{HasOrigins};
 ghost use Rattle.sf_policy.specs.declared.fault.Fault.TheVariants.{Count as CountFault, Memory as MemoryFault, Write as WriteFault};
 ghost use Rattle.sf_command.specs.Audits.{AreRemarks, AuditsFiles, HasRemarks, IsAskedBy, IsFoundFor, IsRefusedFor, IsRemark, RefusesAsked, RefusesAudit, audit_output, behind_text, is_expecting, read_data};
 
@@ -20,7 +22,7 @@ use sf_evaluate::{Files, Notes, accepted_in, all_questions_in, control_in, read_
 use sf_json::{Document, write_document};
 use sf_names::Names;
 use sf_policy::Fault;
-use sf_warnings::warnings_of_stack;
+use sf_stack_warnings::warnings_of_stack;
 use std::alloc::{AllocError, Global};
 use std::io::Write;
 use std::marker::Model;
@@ -94,8 +96,6 @@ pub struct AuditTask<'t, 'p, 'm, 'a> {
 struct AskedContents {
     /// The questions of the policies.
     questions: Vec<Question>,
-    /// For each of these questions, at its place, the policy file and, if known, the line where it stands: an object.
-    origins: Vec<Document>,
     /// The questions of the control; none where no control is given.
     control: Vec<Question>,
     /// The names of the questions that may be allowed.
@@ -103,8 +103,9 @@ struct AskedContents {
 }
 
 /// Reads the policy files by `all_questions_in`, then that of the control by `control_in`, and then the file of the
-/// questions that may be allowed by `accepted_in`. The notes count each file that is read. They keep the bytes of the
-/// last policy or control that was read, and why it is refused, if it is.
+/// questions that may be allowed by `accepted_in`. If `with_origins`, the second value says where each question of the
+/// policies stands, as `all_questions_in` gives it; else it is empty. The notes count each file that is read. They keep
+/// the bytes of the last policy or control that was read, and why it is refused, if it is.
 ///
 /// The refusal is that of the first file that is refused: `Read` where it can't be read or is too long; `Syntax` where
 /// it isn't UTF-8; then, for a policy or the control, what `read_policy` of `sf_policy` refuses, and for the file of
@@ -113,22 +114,25 @@ struct AskedContents {
 fn read_questions<F: Files>(
     alloc: Global,
     asked: &Asked<'_, '_>,
+    with_origins: bool,
     files: &mut F,
     notes: &mut Notes,
-) -> Result<AskedContents, Fault>
-    ensures read { IfOk result (λ r. IsAskedBy (F.holds files.old) asked.now (read_data r)) }
+) -> Result<(AskedContents, Vec<Document>), Fault>
+    ensures read { IfOk result (λ r. IsAskedBy (F.holds files.old) asked.now (read_data r.0)) }
+    ensures placed { IfOk result (λ r. HasOrigins with_origins (F.holds files.old)
+        asked.now.policies r.0.questions.items (map view r.1.items)) }
     ensures refused { IfErr result (RefusesAsked (F.holds files.old) asked.now) }
     ensures same { (p : List ℕ) → F.holds files.new p ≡ F.holds files.old p }
 {
-    let (questions, origins) = all_questions_in(alloc, asked.policies, files, notes)?;
+    let (questions, origins) = all_questions_in(alloc, asked.policies, with_origins, files, notes)?;
     let control = control_in(alloc, asked.control, files, notes)?;
     let accepted = accepted_in(alloc, asked.accept, &questions, files, notes)?;
-    Ok(AskedContents {
+    let read = AskedContents {
         questions,
-        origins,
         control,
         accepted,
-    })
+    };
+    Ok((read, origins))
 }
 
 /// The replies to the questions of a control, in their order, by an exploration that has ended; an empty list where
@@ -152,9 +156,8 @@ fn replies_to<R: Threads + Wait + Sync, G: Gate>(
 }
 
 /// Audits the stack of these filters with the questions that were read, and finds by the same exploration the replies
-/// to the questions of the control. Gives three values: the outcome; an `Expected` of the control, its replies and the
-/// accepted names; and the origins that were read. Only the budget and the number of workers are taken from the
-/// terms.
+/// to the questions of the control. Gives the outcome, and an `Expected` of the control, its replies and the accepted
+/// names. Only the budget and the number of workers are taken from the terms.
 ///
 /// The gate sees each work before it is committed, and each sheet of verdicts before it is entered. The caller's
 /// conditions: 1 to 64 workers, and a budget from 1 to 1,000,000. Refusals, tried in this order: what `stack_of`
@@ -165,17 +168,15 @@ fn audit_filters<R: Threads + Wait + Sync, G: Gate>(
     filters: &[Vec<u8>],
     read: AskedContents,
     terms: AuditTerms,
-) -> Result<(Outcome, Expected, Vec<Document>), Fault>
+) -> Result<(Outcome, Expected), Fault>
     requires workers { (0 < terms.workers) × (terms.workers ≤ 64) }
     ensures found { IfOk result (λ r. IsFoundFor (map (λ f. f.items) filters.now)
         (read_data read) terms.budget r.0 r.1) }
-    ensures placed { IfOk result (λ r. r.2.items ≡ read.origins.items) }
     ensures refused { IfErr result (λ e. (e ≡ MemoryFault)
         ⊎ IsRefusedFor (map (λ f. f.items) filters.now) (read_data read) e) }
 {
     let AskedContents {
         questions,
-        origins,
         control,
         accepted,
     } = read;
@@ -184,7 +185,7 @@ fn audit_filters<R: Threads + Wait + Sync, G: Gate>(
     let outcome = sf_audit::audit(rt, alloc, filters, questions, terms.budget, workers, gate)?;
     let held = replies_to(means, outcome.settled(), &control, workers)?;
     let expected = Expected::of(control, held, accepted);
-    Ok((outcome, expected, origins))
+    Ok((outcome, expected))
 }
 
 /// The lines behind a report, which say what isn't as expected; empty where `telling` doesn't ask for them, or all is
@@ -324,9 +325,9 @@ pub fn audit<R: Threads + Wait + Sync, F: Files, G: Gate, O: Write>(
     ensures quiet { IfErr result (λ e. (e ≡ WriteFault) ⊎ (out.new ≡ out.old)) }
 {
     let (alloc, terms, names) = (means.alloc, task.terms, task.names);
-    let read = read_questions(alloc, task.asked, files, notes)?;
+    let (read, origins) = read_questions(alloc, task.asked, terms.json, files, notes)?;
     let filters = read_all(alloc, task.paths, files, notes)?;
-    let (outcome, expected, origins) = audit_filters(means, &filters, read, terms)?;
+    let (outcome, expected) = audit_filters(means, &filters, read, terms)?;
     notes.warnings = warnings_of_stack(alloc, &filters, outcome.settled());
     notes.warn_of_questions(outcome.questions(), names);
     let remarks = remarks_if_asked(alloc, terms.why, names, &outcome)?;

@@ -15,7 +15,7 @@ use sf_json::write_document;
 use sf_list::{Differences, Shown, differences_document, draw_differences, write_differences};
 use sf_names::Names;
 use sf_policy::Fault;
-use sf_warnings::warnings_of_both;
+use sf_stack_warnings::warnings_of_both;
 use std::alloc::Global;
 use std::io::Write;
 use std::sync::Wait;

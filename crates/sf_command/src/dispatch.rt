@@ -1,16 +1,18 @@
 //! What the program does, from the words of its command line to its exit status.
-ghost use Rattle.std.specs.Prelude.{◌≡◌, ◌≤◌, ◌⊎◌, ℕ, List, [], codes, map, string_bytes, IfOk, IfErr};
+ghost use Rattle.std.specs.Prelude.{◌≡◌, ◌≢◌, ◌≤◌, ◌⊎◌, ℕ, List, [], Some, codes, map, string_bytes, IfOk, IfErr};
 ghost use Rattle.clap.specs.Words.{first_of, found_of, one_of, rows_of, subcommand_rows_of};
-ghost use Rattle.sf_policy.specs.Faults.{fault_number};
-ghost use Rattle.sf_policy.specs.declared.fault.Fault.TheVariants.{Memory as MemoryFault, Write as WriteFault};
+ghost use Rattle.sf_policy.specs.declared.fault.Fault.TheVariants.{Write as WriteFault};
 ghost use Rattle.sf_command.specs.Audits.{AskedData, RefusesAudit};
 ghost use Rattle.sf_command.specs.Comparisons.{RefusesComparison};
 ghost use Rattle.sf_command.specs.Listings.{RefusesListing};
 ghost use Rattle.sf_evaluate.specs.Names.{RefusesNaming};
 ghost use Rattle.sf_evaluate.specs.Outputs.{RefusesCheck};
-ghost use Rattle.sf_command.specs.Runs.{AreNamed, Audits, Checks, Compares, Evaluates, RunsAs, IsAskedFor, IsAskedRelation, Lists, Needs, DoesAsAsked, HasWrongWord, OnCalls, OnNames, OnPaths, RefusesAs, RefusesAsAsked, RefusesEval, RefusesNeedsOf, RefusesWords, meant_words, relation_of_rows, relation_named, words_fit_for};
-ghost use Rattle.sf_command_line.specs.CommandLine.{IsKnown, errors_at};
+ghost use Rattle.sf_command.specs.Runs.{AreNamed, Audits, Checks, Compares, Evaluates, RunsAs, IsAskedFor, IsAskedRelation, Lists, Needs, DoesAsAsked, HasWrongWord, OnCalls, OnNames, OnPaths, RefusesAs, RefusesAsAsked, RefusesEval, RefusesNeedsOf, RefusesOnStack, RefusesWords, meant_words, relation_of_rows, relation_named, words_fit_for};
+ghost use Rattle.sf_command_line.specs.CommandLine.{IsKnown};
+ghost use Rattle.sf_evaluate.specs.Faults.{fault_number};
 ghost use Rattle.sf_evaluate.specs.Status.{fault_status};
+ghost use Rattle.sf_evaluate.specs.declared.fault.Fault.{Fault as AFault};
+ghost use Rattle.sf_evaluate.specs.declared.fault.Fault.TheVariants.{Other};
 
 use crate::auditing::{Asked, AuditTask, AuditTerms, audit};
 use crate::comparing::{ComparisonTask, ComparisonTerms, compare};
@@ -27,9 +29,9 @@ use sf_command_line::{
 };
 use sf_compare::Relation;
 use sf_evaluate::{
-    CheckManner, Evaluation, Files, Manner, Notes, asked_input, audit_words_fit, calls_fit, check,
-    eval_words_fit, evaluate, known_calls, numbers_fit, profile, profile_words_fit, read_all_names,
-    rows_fit, tell, tell_wrong_words, warn,
+    CheckManner, Evaluation, Fault as RunFault, Files, Manner, Notes, asked_input, audit_words_fit,
+    calls_fit, check, eval_words_fit, evaluate, known_calls, numbers_fit, profile,
+    profile_words_fit, read_all_names, rows_fit, tell, tell_wrong_words, warn,
 };
 use sf_list::Shown;
 use sf_names::Names;
@@ -358,8 +360,45 @@ fn words_fit_for(name: &str, found: &ArgMatches<'_>) -> bool
     }
 }
 
+/// Runs the subcommand with this name, one of the six that take filters, and gives its exit status, 0 to 2. For another
+/// name the status is 4: no file is read then, and nothing is written. The caller's conditions: the name isn't that of
+/// `profile`, the words fit by `words_fit_for`, and the notes have counted no file before.
+///
+/// The refusals are those of the subcommand; the function that is called for it lists them. After any error but `Write`
+/// nothing is written.
+fn run_on_stack<R: Threads + Wait + Sync, F: Files, M: Meter, O: Write>(
+    means: &Means<'_, '_, R, M>,
+    name: &str,
+    found: &ArgMatches<'_>,
+    files: &mut F,
+    notes: &mut Notes,
+    out: &mut O,
+) -> Result<u8, Fault>
+    requires { name.now ≢ codes "profile" }
+    ensures status { IfOk result (λ s. (s ≤ 2) ⊎ (s ≡ 4)) }
+    ensures done { IfOk result (λ s. s ≤ 2 → RunsAs (F.holds files.old)
+        (Some (name.now, rows_of (found_of found.now))) s (O.contents out.old)
+        (O.contents out.new)) }
+    ensures usage { IfOk result (λ s. s ≡ 4
+        → ¬ IsKnown (Some (name.now, rows_of (found_of found.now)))
+        × (files.new ≡ files.old) × (out.new ≡ out.old)) }
+    ensures quiet { IfErr result (λ e. (e ≡ WriteFault) ⊎ (out.new ≡ out.old)) }
+    ensures refused { IfErr result (RefusesOnStack (F.holds files.old)
+        (Some (name.now, rows_of (found_of found.now)))) }
+{
+    match name {
+        "audit" => run_audit(means, found, files, notes, out),
+        "check" => run_check(means.alloc, found, files, notes, out),
+        "eval" => run_eval(means.alloc, found, files, notes, out),
+        "compare" => run_compare(means, found, files, notes, out),
+        "list" => run_list(means, found, files, notes, out),
+        "needed" => run_needed(means, found, files, notes, out),
+        _ => Ok(4),
+    }
+}
+
 /// Runs the subcommand that the command line names, and gives its exit status. The status is 4 where none of the seven
-/// subcommands below is named, or where the subcommand's words don't fit, as `words_fit_for` and `profile` say; no file
+/// subcommands is named, or where the subcommand's words don't fit, as `words_fit_for` and `profile` say; no file
 /// is read then, and nothing is written. Otherwise it is 0 to 2. The caller's condition: the notes have counted no file
 /// before.
 ///
@@ -371,14 +410,14 @@ fn run<R: Threads + Wait + Sync, F: Files, M: Meter, O: Write>(
     files: &mut F,
     notes: &mut Notes,
     out: &mut O,
-) -> Result<u8, Fault>
+) -> Result<u8, RunFault>
     ensures status { IfOk result (λ s. (s ≤ 2) ⊎ (s ≡ 4)) }
     ensures done { IfOk result (λ s. s ≤ 2 → RunsAs (F.holds files.old)
         (subcommand_rows_of matches.now) s (O.contents out.old) (O.contents out.new)) }
     ensures usage { IfOk result (λ s. s ≡ 4 → (¬ IsKnown (subcommand_rows_of matches.now)
         ⊎ HasWrongWord (subcommand_rows_of matches.now))
         × (files.new ≡ files.old) × (out.new ≡ out.old)) }
-    ensures quiet { IfErr result (λ e. (e ≡ WriteFault) ⊎ (out.new ≡ out.old)) }
+    ensures quiet { IfErr result (λ e. (e ≡ Other WriteFault) ⊎ (out.new ≡ out.old)) }
     ensures refused { IfErr result (RefusesAs (F.holds files.old)
         (subcommand_rows_of matches.now)) }
 {
@@ -389,14 +428,8 @@ fn run<R: Threads + Wait + Sync, F: Files, M: Meter, O: Write>(
         return Ok(4);
     }
     match name {
-        "audit" => run_audit(means, found, files, notes, out),
-        "check" => run_check(means.alloc, found, files, notes, out),
-        "eval" => run_eval(means.alloc, found, files, notes, out),
-        "compare" => run_compare(means, found, files, notes, out),
-        "list" => run_list(means, found, files, notes, out),
-        "needed" => run_needed(means, found, files, notes, out),
         "profile" => profile(means.alloc, found, files, notes, out),
-        _ => Ok(4),
+        _ => Ok(run_on_stack(means, name, found, files, notes, out)?),
     }
 }
 
@@ -416,14 +449,14 @@ fn run_words<R: Threads + Wait + Sync, F: Files, M: Meter, O: Write, E: Write>(
     notes: &mut Notes,
     out: &mut O,
     err: &mut E,
-) -> Result<u8, Fault>
+) -> Result<u8, RunFault>
     ensures status { IfOk result (λ s. (s ≤ 2) ⊎ (s ≡ 4)) }
     ensures done { IfOk result (λ s. s ≤ 2 → DoesAsAsked (F.holds files.old)
         (meant_words (map string_bytes words.now)) s (O.contents out.old) (O.contents out.new)) }
     ensures usage { IfOk result (λ s. s ≡ 4 → RefusesWords
         (meant_words (map string_bytes words.now))
         × (files.new ≡ files.old) × (out.new ≡ out.old)) }
-    ensures quiet { IfErr result (λ e. (e ≡ WriteFault) ⊎ (out.new ≡ out.old)) }
+    ensures quiet { IfErr result (λ e. (e ≡ Other WriteFault) ⊎ (out.new ≡ out.old)) }
     ensures refused { IfErr result (RefusesAsAsked (F.holds files.old)
         (meant_words (map string_bytes words.now))) }
 {
@@ -478,11 +511,11 @@ pub fn command<R: Threads + Wait + Sync, F: Files, M: Meter, O: Write, E: Write>
     ensures usage { result ≡ 4 → RefusesWords (meant_words (map string_bytes words.now))
         × (files.new ≡ files.old) × (out.new ≡ out.old) }
     ensures refused { result ≡ 3 → (out.new ≡ out.old)
-        × ((e : Fault) × (fault_status (fault_number e) ≡ 3)
+        × ((e : AFault) × (fault_status (fault_number e) ≡ 3)
         × RefusesAsAsked (F.holds files.old) (meant_words (map string_bytes words.now)) e) }
-    ensures failed { result ≡ 5 → (e : Fault) × (fault_status (fault_number e) ≡ 5)
+    ensures failed { result ≡ 5 → (e : AFault) × (fault_status (fault_number e) ≡ 5)
         × RefusesAsAsked (F.holds files.old) (meant_words (map string_bytes words.now)) e
-        × ((e ≡ WriteFault) ⊎ (out.new ≡ out.old)) }
+        × ((e ≡ Other WriteFault) ⊎ (out.new ≡ out.old)) }
 {
     let mut notes = Notes::new(means.alloc);
     match run_words(means, words, files, &mut notes, out, err) {

@@ -14,7 +14,7 @@ use sf_json::write_document;
 use sf_list::{Listing, ListingDocument, listing_document, write_listing};
 use sf_names::Names;
 use sf_policy::Fault;
-use sf_warnings::warnings_of_stack;
+use sf_stack_warnings::warnings_of_stack;
 use std::alloc::Global;
 use std::io::Write;
 use std::sync::Wait;

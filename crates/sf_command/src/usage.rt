@@ -3,13 +3,13 @@
 ghost use Rattle.std.specs.Prelude.{◌≡◌, ◌≢◌, ◌<◌, ◌≤◌, ◌⊎◌, ◌++◌, length, map, string_bytes, true, IfOk, IfErr, OnOk};
 ghost use Rattle.clap.specs.Words.{kind_of};
 ghost use Rattle.sf_policy.specs.declared.fault.Fault.TheVariants.{Memory as MemoryFault, Write as WriteFault};
+ghost use Rattle.sf_evaluate.specs.declared.fault.Fault.TheVariants.{Other};
 ghost use Rattle.sf_command_line.specs.Terminal.{visible};
 ghost use Rattle.sf_command.specs.Runs.{IsHelp, WritesText, begins_with_help, meant_words};
 
 use clap::error::ErrorKind;
 use sf_command_line::{command_form, visible};
-use sf_evaluate::print;
-use sf_policy::Fault;
+use sf_evaluate::{Fault, print};
 use std::alloc::{AllocError, Global};
 use std::io::Write;
 
@@ -60,11 +60,12 @@ pub(crate) fn write_usage<O: Write, E: Write>(
     ensures refused { ¬ IsHelp (kind_of error.now) → IfOk result (λ s. s ≡ 4) }
     ensures usage { IfOk result (λ s. s ≡ 4 → (kind_of error.now ≢ ErrorKind.OutOfMemory)
         × (out.new ≡ out.old)) }
-    ensures explained { IfErr result (λ e. (e ≡ MemoryFault) ⊎ (e ≡ WriteFault)) }
-    ensures quiet { IfErr result (λ e. (e ≡ WriteFault) ⊎ (out.new ≡ out.old)) }
+    ensures explained { IfErr result (λ e. (e ≡ Other MemoryFault)
+        ⊎ (e ≡ Other WriteFault)) }
+    ensures quiet { IfErr result (λ e. (e ≡ Other WriteFault) ⊎ (out.new ≡ out.old)) }
 {
     if error.kind() == ErrorKind::OutOfMemory {
-        return Err(Fault::Memory);
+        return Err(Fault::Other(sf_policy::Fault::Memory));
     }
     match error.kind() {
         ErrorKind::DisplayHelp | ErrorKind::DisplayVersion => {

@@ -9,7 +9,7 @@ use Rattle.sf_check.specs.declared.insn.Insn.{Insn}
 use Rattle.sf_run.specs.Replays.{answers_along}
 use Rattle.sf_run.specs.declared.replaying.PartAnswers.{PartAnswers}
 use Rattle.sf_piece.specs.OneExecution.{IsExecutionOne}
-use Rattle.sf_book.specs.declared.book.Counts.{Counts}
+use Rattle.sf_run.specs.declared.counts.Counts.{Counts}
 use Rattle.sf_book.specs.Books.{BookData, counts_of}
 use Rattle.sf_book.specs.Unfoldings.{AreSameRegions, ExplorationsHaveOneResult, IsFringe, IsSameRegion}
 use Rattle.sf_ask.specs.Finding.{FindsMember}

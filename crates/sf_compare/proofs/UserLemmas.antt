@@ -6,8 +6,8 @@ use Rattle.sf_insn.specs.Inputs.{IsInput}
 use Rattle.sf_check.specs.Stacks.{IsLawfulStack}
 use Rattle.sf_run.specs.ReplayLaws.{answers_are_right}
 use Rattle.sf_book.specs.Books.{BookData, IsSettled}
-use Rattle.sf_ask.specs.declared.actions.ActionSet.{ActionSet}
-use Rattle.sf_ask.specs.QuestionData.{QuestionData}
+use Rattle.sf_question.specs.declared.actions.ActionSet.{ActionSet}
+use Rattle.sf_question.specs.QuestionData.{QuestionData}
 use Rattle.sf_ask.specs.Breaking.{Breaks}
 use Rattle.sf_policy.specs.Actions.{set_of}
 use Rattle.sf_compare.specs.declared.relation.Relation.TheVariants.{Looser}

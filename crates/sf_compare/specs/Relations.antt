@@ -3,8 +3,8 @@ use Rattle.std.specs.Prelude.{◌≡◌, ◌≢◌, ℕ, ◌<◌, ◌≤◌, tru
 use Rattle.sf_run.specs.declared.action.Action.{Action}
 use Rattle.sf_run.specs.declared.action.Action.TheVariants.{Allow, Log, Trace, UserNotif}
 use Rattle.sf_run.specs.declared.action.Answer.{Answer}
-use Rattle.sf_ask.specs.declared.actions.ActionSet.{ActionSet}
-use Rattle.sf_ask.specs.Actions.{has_action}
+use Rattle.sf_question.specs.declared.actions.ActionSet.{ActionSet}
+use Rattle.sf_question.specs.Actions.{has_action}
 use Rattle.sf_compare.specs.declared.relation.Relation.{Relation}
 use Rattle.sf_compare.specs.declared.relation.Relation.TheVariants.{Looser, Tighter, Different}
 

@@ -1,7 +1,7 @@
 //! What is found of the relations between the answers of two stacks, for all inputs.
 
 ghost use Rattle.std.specs.Prelude.{◌≡◌, ◌<◌, ◌≤◌, ◌+◌, ◌↔◌, ℕ, false, length, IfOk, IfErr, IsTrue};
-ghost use Rattle.sf_ask.specs.declared.fault.Fault.TheVariants.{Memory};
+ghost use Rattle.sf_question.specs.declared.fault.Fault.TheVariants.{Memory};
 ghost use Rattle.sf_compare.specs.declared.relation.Relation.{Relation as ARelation};
 ghost use Rattle.sf_compare.specs.Changes.{AreAnswersAt, AreAnswersOfRegions, IsChangeOf, finding_of};
 ghost use Rattle.sf_compare.specs.FoundSoFar.{AllTellBefore, AreFindingsByRule, IsFoundAfter, IsSought, TellsBefore};

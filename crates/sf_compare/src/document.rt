@@ -113,7 +113,7 @@ pub fn comparison_fields(
         .with("version", Document::number(1))?
         .with("old", old_sizes(alloc, settled, old_count)?)?
         .with("new", new_sizes(alloc, settled, old_count)?)?
-        .with("counts", counts_document(alloc, settled)?)?
+        .with("counts", counts_document(alloc, settled.counts())?)?
         .with("looser", looser)?
         .with("tighter", tighter)?
         .with("different", different)

@@ -4,7 +4,7 @@ ghost use Rattle.std.specs.Prelude.{◌≡◌, ℕ, List, codes, ◌∷◌, []};
 ghost use Rattle.sf_insn.specs.declared.input.Input.{Input};
 ghost use Rattle.sf_insn.specs.Inputs.{IsInput};
 ghost use Rattle.sf_book.specs.Books.{BookData, IsSettled};
-ghost use Rattle.sf_ask.specs.QuestionData.{QuestionData};
+ghost use Rattle.sf_question.specs.QuestionData.{QuestionData};
 ghost use Rattle.sf_ask.specs.Breaking.{Breaks};
 ghost use Rattle.sf_policy.specs.Actions.{set_of};
 ghost use Rattle.sf_compare.specs.declared.relation.Relation.TheVariants.{Looser};

@@ -1,14 +1,14 @@
 -- The questions of policy files, one file after the other.
 use Rattle.std.proofs.lemmas.Grind.{flat_map-append}
 use Rattle.std.specs.List.{flat_map}
-use Rattle.std.proofs.Common.{◌≡◌, ◌⊎◌, inl, inr, ℕ, ◌+◌, ◌≤◌, ◌∙◌, List, [], ◌∷◌, ◌++◌, append-nil, ap, length, Option, Some, None, Bor, slice_get, refl, sym, subst}
-use Rattle.sf_ask.specs.QuestionData.{QuestionData}
+use Rattle.std.proofs.Common.{◌≡◌, ◌⊎◌, Bool, true, false, inl, inr, ℕ, ◌+◌, ◌≤◌, ◌∙◌, List, [], ◌∷◌, ◌++◌, append-nil, ap, length, Option, Some, None, Bor, slice_get, refl, sym, subst}
+use Rattle.sf_question.specs.QuestionData.{QuestionData}
 use Rattle.sf_policy.specs.declared.fault.Fault.{Fault}
 use Rattle.sf_policy.specs.declared.fault.Fault.TheVariants as faults
 use Rattle.sf_evaluate.specs.Policies.{AreAsked, IsPolicyFile, RefusesAsking, RefusesPolicyFile, all_questions}
 use Rattle.sf_evaluate.proofs.NamingLemmas.{ReadSoFar, all_read, one_read}
 use Rattle.serde_json.specs.Data.{Data}
-use Rattle.sf_evaluate.specs.Origins.{AreOrigins, AreOriginsOf, IsFileOf, PolicyData}
+use Rattle.sf_evaluate.specs.Origins.{AreOrigins, AreOriginsOf, HasOrigins, IsFileOf, PolicyData}
 use Rattle.sf_evaluate.proofs.Pairing.{PairedSoFar, paired_all, paired_more}
 
 -- The questions of the files at the first of the paths are these. What is known of files stays what it was before.
@@ -105,7 +105,7 @@ module _ (before after next : List ℕ → Option (List ℕ)) (paths : List (Bor
   }
 
 -- all files were read
-pub all_placed : (before after : List ℕ → Option (List ℕ)) (paths : List (Bor (List ℕ))) (place : ℕ)
+all_placed : (before after : List ℕ → Option (List ℕ)) (paths : List (Bor (List ℕ))) (place : ℕ)
     (all : List QuestionData) (origins : List Data) → PlacedSoFar before after paths place all origins
     → length paths ≤ place → place ≤ length paths → AreOrigins before paths all origins
 all_placed before after paths place all origins so_far over under = record {
@@ -114,3 +114,12 @@ all_placed before after paths place all origins so_far over under = record {
   all = so_far.all_of;
   places = so_far.places;
 }
+
+-- all files were read, and it was asked for where their questions stand, or it wasn't
+pub all_told : (asked : Bool) (before after : List ℕ → Option (List ℕ)) (paths : List (Bor (List ℕ))) (place : ℕ)
+    (all : List QuestionData) (origins : List Data)
+    → (asked ≡ true → PlacedSoFar before after paths place all origins) → (asked ≡ false → origins ≡ [])
+    → length paths ≤ place → place ≤ length paths → HasOrigins asked before paths all origins
+all_told true before after paths place all origins placed none over under =
+    all_placed before after paths place all origins (placed refl) over under
+all_told false before after paths place all origins placed none over under = none refl

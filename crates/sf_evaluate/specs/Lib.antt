@@ -10,6 +10,7 @@ pub mod Texts
 pub mod Traces
 pub mod Outputs
 pub mod Status
+pub mod Faults
 pub mod Profiles
 pub mod Asking
 pub mod Wanted

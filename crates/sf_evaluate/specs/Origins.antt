@@ -1,9 +1,9 @@
 -- Where the questions of policy files stand, as JSON.
-use Rattle.std.specs.Prelude.{◌≡◌, ℕ, List, [], ◌∷◌, Option, All, codes, length}
+use Rattle.std.specs.Prelude.{◌≡◌, ℕ, Bool, true, false, List, [], ◌∷◌, Option, All, codes, length}
 use Rattle.std.specs.Borrow.{Bor}
 use Rattle.std.specs.List.{flat_map}
 use Rattle.serde_json.specs.Data.{Data, string}
-use Rattle.sf_ask.specs.QuestionData.{QuestionData}
+use Rattle.sf_question.specs.QuestionData.{QuestionData}
 use Rattle.sf_json.specs.Documents.{fields}
 use Rattle.sf_evaluate.specs.Pairs.{Pairwise}
 use Rattle.sf_evaluate.specs.Policies.{IsPolicyFile}
@@ -39,3 +39,9 @@ pub record AreOrigins (holds : List ℕ → Option (List ℕ)) (paths : List (Bo
   pub read : Pairwise (IsFileOf holds) paths files
   pub all : questions ≡ flat_map (λ (file : PolicyData). file.questions) files
   pub places : origins ≡ flat_map (λ (file : PolicyData). file.origins) files
+
+-- where the questions of the files at the paths stand, if this is asked for; else nothing
+abbrev pub HasOrigins : (asked : Bool) → (List ℕ → Option (List ℕ)) → List (Bor (List ℕ)) → List QuestionData
+    → List Data → Type 0
+HasOrigins true holds paths questions origins = AreOrigins holds paths questions origins
+HasOrigins false holds paths questions origins = origins ≡ []

@@ -18,10 +18,11 @@ use Rattle.sf_profile.specs.declared.rules.Reading.{Reading}
 use Rattle.sf_profile.specs.declared.rules.Reading.TheVariants.{Strictest, Mildest, First}
 use Rattle.sf_profile.specs.declared.settings.Calls.{Calls}
 use Rattle.sf_profile.specs.declared.settings.Settings.{Settings}
-use Rattle.sf_policy.specs.Faults.{of_profile}
 use Rattle.sf_names.specs.Names.{NamesData}
-use Rattle.sf_policy.specs.declared.fault.Fault.{Fault}
 use Rattle.sf_policy.specs.declared.fault.Fault.TheVariants as faults
+use Rattle.sf_evaluate.specs.declared.fault.Fault.{Fault}
+use Rattle.sf_evaluate.specs.declared.fault.Fault.TheVariants.{Profile, Other}
+use Rattle.sf_evaluate.specs.Faults.{IsOther, of_profile}
 use Rattle.sf_evaluate.specs.Files.{AreKnownBytes}
 use Rattle.sf_evaluate.specs.Names.{AreNamesRead, RefusesNaming}
 
@@ -98,7 +99,7 @@ pub record HasOtherSet (holds : Text → Option Text) (paths : List (Bor Text)) 
   pub names : List NamesData
   pub read : AreNamesRead holds paths names
   pub other : have_sets names ≡ false
-  pub is_set : fault ≡ faults.Profile UnknownSet
+  pub is_set : fault ≡ Profile UnknownSet
 
 -- ---- the whole
 
@@ -142,11 +143,12 @@ pub record RefusesProfileFile (holds : Text → Option Text) (rows : List Row) (
 abbrev pub RefusesNamesOf : (Text → Option Text) → List Row → Fault → Type 0
 RefusesNamesOf holds rows fault =
     (paths : List (Bor Text)) × ArePaths (codes "names") rows paths
-    × (RefusesNaming holds paths fault ⊎ HasOtherSet holds paths fault)
+    × (IsOther (RefusesNaming holds paths) fault ⊎ HasOtherSet holds paths fault)
 
 -- Why `profile` is refused: writing or memory failed; a file of names is refused, or one of its sets; the file of the
 -- profile, whose bytes aren't known, can't be read; or the profile is refused.
 abbrev pub RefusesProfile : (Text → Option Text) → List Row → Fault → Type 0
 RefusesProfile holds rows fault =
-    (fault ≡ faults.Write) ⊎ (fault ≡ faults.Memory) ⊎ RefusesNamesOf holds rows fault
-    ⊎ ((fault ≡ faults.Read) × (holds (text_of (codes "profile") rows) ≡ None)) ⊎ RefusesProfileFile holds rows fault
+    (fault ≡ Other faults.Write) ⊎ (fault ≡ Other faults.Memory) ⊎ RefusesNamesOf holds rows fault
+    ⊎ ((fault ≡ Other faults.Read) × (holds (text_of (codes "profile") rows) ≡ None))
+    ⊎ RefusesProfileFile holds rows fault

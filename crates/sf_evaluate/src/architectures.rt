@@ -1,8 +1,8 @@
 //! A warning of questions about architectures that no set of calls has. No contract speaks of it.
 
 use crate::explaining::Notes;
-use sf_ask::Question;
 use sf_names::Names;
+use sf_question::Question;
 use std::alloc::AllocError;
 
 /// Whether a question's range of architectures (word 1 of an input) is one number, and no set is of the architecture

@@ -1,36 +1,33 @@
 //! The calls of sets for a profile, from their names.
 
 ghost use Rattle.std.specs.Prelude.{◌≡◌, ◌⊎◌, None, Some, IfOk, IfErr, false};
-ghost use Rattle.sf_policy.specs.declared.fault.Fault.TheVariants.{Memory as MemoryFault, Profile};
-ghost use Rattle.sf_profile.specs.declared.fault.Fault.TheVariants.{Set as UnknownSet};
+ghost use Rattle.sf_profile.specs.declared.fault.Fault.TheVariants.{Memory as MemoryFault, Set as UnknownSet};
 ghost use Rattle.sf_profile.specs.Settings.{calls_of_names, set_of_names};
 ghost use Rattle.sf_evaluate.specs.Profiles.{AreCallsOf, have_sets};
 
 use sf_names::Names;
-use sf_policy::Fault;
-use sf_profile::Calls;
+use sf_profile::{Calls, Fault};
 use std::alloc::Global;
 
 /// These names as the calls that a profile needs. The result also says which set of `CallSet` they are: `set_of_names`
 /// of `sf_profile` finds it by the architecture and by the numbers of the calls. The set's name in `names` isn't looked
-/// at. The fault `Profile(Set)` where no set of `CallSet` has this architecture.
+/// at. The fault `Set` where no set of `CallSet` has this architecture.
 fn calls_of_one(names: Names) -> Result<Calls, Fault>
     ensures meant { IfOk result (λ c. Some c ≡ calls_of_names names) }
-    ensures refused { IfErr result (λ e. (e ≡ Profile UnknownSet)
-        × (set_of_names names ≡ None)) }
+    ensures refused { IfErr result (λ e. (e ≡ UnknownSet) × (set_of_names names ≡ None)) }
 {
     match Calls::of(names) {
         Some(calls) => Ok(calls),
-        None => Err(Fault::Profile(sf_profile::Fault::Set)),
+        None => Err(Fault::Set),
     }
 }
 
-/// The calls of each of these sets of names, in order. The fault `Profile(Set)` where one of the sets is none of the
-/// five of `CallSet`, as by `calls_of_one`; `Memory` where an allocation is refused.
+/// The calls of each of these sets of names, in order. The fault `Set` where one of the sets is none of the five of
+/// `CallSet`, as by `calls_of_one`; `Memory` where an allocation is refused.
 pub(crate) fn calls_of(alloc: Global, names: Vec<Names>) -> Result<Vec<Calls>, Fault>
     ensures meant { IfOk result (λ v. AreCallsOf names.items v.items) }
     ensures refused { IfErr result (λ e. (e ≡ MemoryFault)
-        ⊎ ((e ≡ Profile UnknownSet) × (have_sets names.items ≡ false))) }
+        ⊎ ((e ≡ UnknownSet) × (have_sets names.items ≡ false))) }
 {
     let mut calls = Vec::new(alloc);
     for one in names {

@@ -14,6 +14,7 @@ ghost use Rattle.clap.specs.Words.{subcommand_rows_of};
 ghost use Rattle.sf_policy.specs.Faults.{without_place};
 ghost use Rattle.sf_command_line.specs.Options.{IsUnasked};
 
+use crate::fault::Fault as RunFault;
 use crate::words::is_given;
 use clap::ArgMatches;
 use hints::{
@@ -22,7 +23,7 @@ use hints::{
 };
 pub(crate) use kinds::bytes_of_text;
 use kinds::{Kind, kind_of};
-use meanings::meaning_of;
+use meanings::{meaning_of, meaning_of_refusal};
 pub(crate) use places::lines_of_questions;
 use places::position_of;
 use policies::Page;
@@ -30,11 +31,11 @@ pub(crate) use refusals::OtherSet;
 use refusals::push_profile;
 pub(crate) use roles::Which;
 use roles::{Role, count_before_filters, count_of, file_at, filter_path, which_policy};
-use sf_ask::Question;
 use sf_calls::{read_arguments, read_word};
 use sf_command_line::{text_of, wants_explanation};
 use sf_policy::{Fault, Refusal};
 use sf_profile::Refused;
+use sf_question::Question;
 use std::alloc::{AllocError, Global};
 
 /// What a run notes for a person beside its result: what was read, what was refused, warnings, and the text that
@@ -159,8 +160,9 @@ impl Notes {
 
     /// Does nothing where `ran`, the end of the run, is no fault. Else the notes keep which of the policies is refused,
     /// by `which_policy`, and the lines that explain the fault. These lines are kept only where the matches ask for
-    /// them or `explains` is true, and where there is memory for them; else the notes have none. Where the matches name
-    /// no subcommand, `which` is unchanged, and the notes have no lines.
+    /// them or `explains` is true, and where there is memory for them; else the notes have none. Where the fault is
+    /// that of a profile, `which` is unchanged. Where the matches name no subcommand, `which` is unchanged, and the
+    /// notes have no lines.
     ///
     /// `explains` and `reason` are what the methods of `Files` with these names give: whether each fault is explained,
     /// and in words for a person why a file can't be read.
@@ -168,7 +170,7 @@ impl Notes {
         &mut self,
         alloc: Global,
         matches: &ArgMatches<'_>,
-        ran: &Result<u8, Fault>,
+        ran: &Result<u8, RunFault>,
         explains: bool,
         reason: &str,
     )
@@ -179,8 +181,8 @@ impl Notes {
             × (self.new.refusal ≡ self.old.refusal) × (self.new.files ≡ self.old.files) }
     {
         if let Err(fault) = ran {
-            if let Some((_, found)) = matches.subcommand() {
-                self.which = which_policy(found, fault, self.files);
+            if let (RunFault::Other(other), Some((_, found))) = (fault, matches.subcommand()) {
+                self.which = which_policy(found, other, self.files);
             }
             self.explanation = explanation(alloc, matches, fault, self, explains, reason);
         }
@@ -372,8 +374,7 @@ fn is_of_policy_or_names(fault: &Fault) -> bool {
 
 /// Adds the lines that say where a fault lies. For a fault of one file, the first line names the file that is refused
 /// or can't be read; `reason` is why it can't be read. For a fault in the words of the command line there is one line,
-/// about the word. For any other fault nothing is added. An error only where an allocation is refused, or was refused
-/// before, so that the notes lack what `push_profile` adds: the set or the key for which `profile` is refused.
+/// about the word. For any other fault nothing is added. An error only where an allocation is refused.
 fn push_place(
     alloc: Global,
     text: &mut String,
@@ -387,7 +388,6 @@ fn push_place(
         return write!(text, "filter {filter} {path:?}\n");
     }
     match fault {
-        Fault::Profile(_) => push_profile(text, found, notes),
         Fault::Input => push_misspelled(text, found),
         Fault::UnknownName => push_unknown(text, found, notes),
         Fault::Accepted { .. } => push_accept(text, found),
@@ -412,9 +412,8 @@ fn hint_of_read(found: &ArgMatches<'_>, place: usize, reason: &str) -> Option<Hi
     hint_of_unread(path, reason, ready)
 }
 
-/// The hint at what may have been meant by what is refused with this fault; `None` where that isn't known. For the
-/// fault `Profile` there is a hint only where the profile itself is refused, and not a set of names. `reason` is why a
-/// file can't be read. An error only where an allocation is refused.
+/// The hint at what may have been meant by what is refused with this fault; `None` where that isn't known. `reason` is
+/// why a file can't be read. An error only where an allocation is refused.
 fn hint_of(
     alloc: Global,
     found: &ArgMatches<'_>,
@@ -427,9 +426,6 @@ fn hint_of(
         return Ok(hint_of_filter(notes.kind_at(place), fault));
     }
     match fault {
-        Fault::Profile(_) if matches!(&notes.other, Ok(None)) => {
-            Ok(hint_of_profile(notes.kind_at(notes.files.saturating_sub(1))))
-        }
         Fault::Input if is_given(found, "input") => Ok(Some(hint_of_input())),
         Fault::UnknownName if count_of(found, Role::Names) == 0 => Ok(Some(hint_of_unknown())),
         Fault::Read => Ok(hint_of_read(found, notes.files, reason)),
@@ -455,8 +451,29 @@ fn meaning_of_syntax(role: Role) -> &'static str {
     }
 }
 
+/// The lines that explain why a profile is refused: the set of names or the key at fault, what the fault means, and a
+/// hint where the profile itself is refused, if there is one. An error only where an allocation is refused, or was
+/// refused before, so that the notes lack the set or the key.
+fn refusal_text(
+    alloc: Global,
+    found: &ArgMatches<'_>,
+    refusal: sf_profile::Fault,
+    notes: &Notes,
+) -> Result<String, AllocError> {
+    let mut text = String::new(alloc);
+    push_profile(&mut text, found, notes)?;
+    let meaning = meaning_of_refusal(refusal);
+    write!(text, "{meaning}\n")?;
+    if matches!(&notes.other, Ok(None)) {
+        if let Some(hint) = hint_of_profile(notes.kind_at(notes.files.saturating_sub(1))) {
+            hint.push(&mut text)?;
+        }
+    }
+    Ok(text)
+}
+
 /// The lines that explain a fault: where it lies, what it means, and a hint where there is one. `reason` is why a file
-/// can't be read. An error only where an allocation is refused, or `push_place` has an error.
+/// can't be read. An error only where an allocation is refused.
 fn fault_text(
     alloc: Global,
     found: &ArgMatches<'_>,
@@ -480,11 +497,11 @@ fn fault_text(
 
 /// The lines that explain a fault, where the matches ask for them or `explains` is true. `reason` is why a file can't
 /// be read. `None` where the matches name no subcommand, where neither they nor `explains` ask for the lines, or where
-/// `fault_text` has an error: there is no memory for the lines.
+/// there is no memory for the lines.
 fn explanation(
     alloc: Global,
     matches: &ArgMatches<'_>,
-    fault: &Fault,
+    fault: &RunFault,
     notes: &Notes,
     explains: bool,
     reason: &str,
@@ -496,5 +513,8 @@ fn explanation(
     if !explains && !wants_explanation(found) {
         return None;
     }
-    fault_text(alloc, found, fault, notes, reason).ok()
+    match fault {
+        RunFault::Profile(refusal) => refusal_text(alloc, found, *refusal, notes).ok(),
+        RunFault::Other(other) => fault_text(alloc, found, other, notes, reason).ok(),
+    }
 }

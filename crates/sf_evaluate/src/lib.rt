@@ -8,6 +8,7 @@ mod checking;
 mod comparisons;
 mod document;
 mod explaining;
+mod fault;
 mod files;
 pub mod laws;
 mod profiling;
@@ -17,6 +18,7 @@ mod words;
 
 pub use checking::{CheckManner, Evaluation, Manner, check, evaluate, input_of, print};
 pub use explaining::Notes;
+pub use fault::Fault;
 pub use files::{
     Files, MOST_BYTES, accepted_in, all_questions_in, audit_words_fit, control_in, read_all,
     read_all_names,

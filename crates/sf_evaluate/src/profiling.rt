@@ -3,17 +3,19 @@
 ghost use Rattle.std.specs.Prelude.{◌≡◌, ◌⊎◌, ℕ, List, true, false, IfOk, IfErr, OnOk};
 ghost use Rattle.clap.specs.Words.{found_of, rows_of};
 ghost use Rattle.sf_policy.specs.declared.fault.Fault.TheVariants.{Write as WriteFault};
+ghost use Rattle.sf_evaluate.specs.declared.fault.Fault.TheVariants.{Other};
 ghost use Rattle.sf_evaluate.specs.Profiles.{IsReadFor, RefusesNamesOf, RefusesProfile, RefusesProfileOf, WritesOf, WritesProfile, profile_words_fit};
 
 use crate::calls::calls_of;
 use crate::checking::print;
 use crate::explaining::{Notes, OtherSet};
+use crate::fault::Fault;
 use crate::files::{Files, read_all_names};
 use crate::words::{profile_words_fit, settings_of};
 use clap::ArgMatches;
 use sf_command_line::{text_of, wants_notes, wants_quiet};
 use sf_names::Names;
-use sf_policy::{Fault, write_bytes};
+use sf_policy::write_bytes;
 use sf_profile::{
     Settings, loose_masks, notes as notes_of, profile as filter_of, refused, set_of_names,
     unknown_names, zero_errors,
@@ -95,15 +97,15 @@ fn write_of<O: Write>(
 ) -> Result<(), Fault>
     ensures written { OnOk result (WritesOf wants_notes settings.now bytes.now (O.contents out.old)
         (O.contents out.new)) }
-    ensures refused { IfErr result (λ e. (e ≡ WriteFault)
+    ensures refused { IfErr result (λ e. (e ≡ Other WriteFault)
         ⊎ (RefusesProfileOf settings.now bytes.now e × (out.new ≡ out.old))) }
 {
     if wants_notes {
         let text = notes_of(alloc, settings, bytes)?;
-        return print(&text, out);
+        return Ok(print(&text, out)?);
     }
     let filter = filter_of(alloc, settings, bytes)?;
-    write_bytes(&filter, out)
+    Ok(write_bytes(&filter, out)?)
 }
 
 /// The place, from 0, and the name of the first set that is none of the five of `CallSet`; `None` where each set is one
@@ -143,7 +145,7 @@ fn read_settings<F: Files>(
     let names = read_all_names(alloc, paths, files, notes)?;
     notes.other = other_set(alloc, &names);
     let calls = calls_of(alloc, names)?;
-    settings_of(alloc, found, calls)
+    Ok(settings_of(alloc, found, calls)?)
 }
 
 /// Keeps in `notes.warnings` what `warnings_of` gives, or an error where there was no memory for it. Does nothing where
@@ -203,7 +205,7 @@ pub fn profile<F: Files, O: Write>(
     ensures usage { IfOk result (λ s. s ≡ 4
         → (profile_words_fit (rows_of (found_of found.now)) ≡ false)
         × (files.new ≡ files.old) × (out.new ≡ out.old)) }
-    ensures quiet { IfErr result (λ e. (e ≡ WriteFault) ⊎ (out.new ≡ out.old)) }
+    ensures quiet { IfErr result (λ e. (e ≡ Other WriteFault) ⊎ (out.new ≡ out.old)) }
     ensures refused { IfErr result (RefusesProfile (F.holds files.old)
         (rows_of (found_of found.now))) }
 {

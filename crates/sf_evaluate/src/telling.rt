@@ -3,13 +3,13 @@
 ghost use Rattle.std.specs.Prelude.{true, ◌≡◌, ◌++◌, IfOk, string_bytes};
 ghost use Rattle.clap.specs.Words.{subcommand_rows_of};
 ghost use Rattle.sf_command_line.specs.Options.{IsQuiet};
-ghost use Rattle.sf_policy.specs.Faults.{fault_number};
+ghost use Rattle.sf_evaluate.specs.Faults.{fault_number};
 ghost use Rattle.sf_evaluate.specs.Status.{fault_status};
 
 use crate::explaining::{Notes, Which};
+use crate::fault::Fault;
 use clap::ArgMatches;
 use sf_command_line::wants_quiet;
-use sf_policy::Fault;
 use std::alloc::{AllocError, Global};
 use std::fmt::InlineText;
 use std::io::Write;

@@ -9,7 +9,7 @@ use Rattle.sf_check.specs.declared.insn.Insn.{Insn}
 use Rattle.sf_check.specs.Stacks.{path_length}
 use Rattle.sf_run.specs.declared.action.Action.{Action}
 use Rattle.sf_run.specs.declared.action.Answer.{Answer}
-use Rattle.sf_book.specs.declared.book.Counts.{Counts}
+use Rattle.sf_run.specs.declared.counts.Counts.{Counts}
 use Rattle.sf_names.specs.Names.{NamesData}
 use Rattle.sf_calls.specs.Calls.{arguments_in, whole_of}
 use Rattle.sf_calls.specs.Texts.{call_words, is_named}

@@ -1,13 +1,12 @@
-//! What is shown of an exploration as JSON: the sizes of its stack, and its counts.
+//! What is shown of an exploration as JSON: the size of its stack, and its counts.
 
 ghost use Rattle.std.specs.Prelude.{◌≡◌, ◌≤◌, length, IfOk};
-ghost use Rattle.sf_book.specs.Books.{counts_of};
 ghost use Rattle.sf_json.specs.Documents.{counts_document, sizes_document};
 ghost use Rattle.serde_json.specs.View.{view};
 
 use crate::document::{Document, Fields};
-use sf_book::{Counts, Settled};
 use sf_check::{Program, path_length};
+use sf_run::Counts;
 use std::alloc::{AllocError, Global};
 
 /// The object with how many programs there are (`filters`), and the length of the path through them (`path`), as
@@ -24,17 +23,9 @@ pub fn sizes_document(alloc: Global, programs: &[Program]) -> Result<Document, A
     Ok(Document::object(fields))
 }
 
-/// The object that `sizes_document` makes of the stack of an exploration: how many programs it has, and the length of
-/// the path through them. An error where an allocation is refused.
-pub fn stack_document(alloc: Global, exploration: &Settled) -> Result<Document, AllocError>
-    ensures { IfOk result (λ d. view d ≡ sizes_document exploration.now.stack) }
-{
-    sizes_document(alloc, exploration.stack().programs())
-}
-
-/// The object with these counts: of regions (`regions`), outstanding pieces (`open`), emptied names (`emptied`), splits
-/// (`splits`) and commits (`commits`). An error where an allocation is refused.
-fn document_of_counts(alloc: Global, counts: Counts) -> Result<Document, AllocError>
+/// The object with the counts of an exploration: of regions (`regions`), outstanding pieces (`open`), emptied names
+/// (`emptied`), splits (`splits`) and commits (`commits`). An error where an allocation is refused.
+pub fn counts_document(alloc: Global, counts: Counts) -> Result<Document, AllocError>
     ensures { IfOk result (λ d. view d ≡ counts_document counts) }
 {
     let fields = Fields::new(alloc)
@@ -44,12 +35,4 @@ fn document_of_counts(alloc: Global, counts: Counts) -> Result<Document, AllocEr
         .with("splits", Document::number(counts.splits))?
         .with("commits", Document::number(counts.commits))?;
     Ok(Document::object(fields))
-}
-
-/// The object with the counts of an exploration, as `document_of_counts` makes it. An error where an allocation is
-/// refused.
-pub fn counts_document(alloc: Global, exploration: &Settled) -> Result<Document, AllocError>
-    ensures { IfOk result (λ d. view d ≡ counts_document (counts_of exploration.now)) }
-{
-    document_of_counts(alloc, exploration.counts())
 }

@@ -6,7 +6,7 @@ use Rattle.std.proofs.lemmas.List.{ext_get_or}
 use Rattle.serde_json.specs.Data.{Data, string}
 use Rattle.sf_check.specs.declared.insn.Insn.{Insn}
 use Rattle.sf_run.specs.declared.action.Answer.{Answer}
-use Rattle.sf_book.specs.declared.book.Counts.{Counts}
+use Rattle.sf_run.specs.declared.counts.Counts.{Counts}
 use Rattle.sf_book.specs.Books.{RegionData, BookData, IsSettled, counts_of}
 use Rattle.sf_book.specs.Unfoldings.{AreSameRegions, ExplorationsHaveOneResult, IsFringe}
 use Rattle.sf_ask.specs.OneResultLaws.{same_counts, same_length}

@@ -12,7 +12,7 @@ use crate::differences::Differences;
 use crate::listing::Listing;
 use crate::text::is_whole;
 use sf_compare::{Comparison, comparison_fields};
-use sf_json::{Document, Fields, answer_document, counts_document, stack_document};
+use sf_json::{Document, Fields, answer_document, counts_document, sizes_document};
 use sf_names::Names;
 use sf_picture::Picture;
 use sf_policy::Fault;
@@ -61,8 +61,8 @@ fn rows_listed(
     let fields = Fields::new(alloc)
         .with("seccomp_audit", Document::copy_of(alloc, "list")?)?
         .with("version", Document::number(1))?
-        .with("stack", stack_document(alloc, settled)?)?
-        .with("counts", counts_document(alloc, settled)?)?
+        .with("stack", sizes_document(alloc, settled.stack().programs())?)?
+        .with("counts", counts_document(alloc, settled.counts())?)?
         .with("calls", documents.calls)?
         .with("rows", documents.rows)?
         .with("total", documents.total)?;

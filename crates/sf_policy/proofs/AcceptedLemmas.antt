@@ -4,7 +4,7 @@ use Rattle.std.specs.Prelude.{Some, slice_get, suc, zero}
 use Rattle.std.specs.List.{flat_map, list_all}
 use Rattle.std.specs.Str.Lines.{lines}
 use Rattle.std.proofs.lemmas.List.{take-map}
-use Rattle.sf_ask.specs.QuestionData.{QuestionData}
+use Rattle.sf_question.specs.QuestionData.{QuestionData}
 use Rattle.sf_policy.specs.Accepted.{AreAccepted, IsMisfitAt, is_name_once, line_fits, words_of_line}
 
 -- the lines that were read fit, and these are their names

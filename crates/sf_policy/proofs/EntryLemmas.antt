@@ -3,18 +3,18 @@ use Rattle.std.proofs.Common.{arith, ◌≡◌, ℕ, ◌++◌, Bool, true, false
 use Rattle.std.proofs.lemmas.Bool.{and_parts}
 use Rattle.std.proofs.lemmas.List.Folds.{list_all-map}
 use Rattle.std.specs.List.{list_all}
-use Rattle.sf_ask.specs.declared.fault.Fault.{Fault as AskFault}
-use Rattle.sf_ask.specs.Actions.{is_no_action}
-use Rattle.sf_ask.specs.QuestionData.{QuestionData}
-use Rattle.sf_ask.specs.Questions.{is_name, is_in_order, is_inside_mask}
-use Rattle.sf_ask.specs.declared.fault.Fault.TheVariants as ask
+use Rattle.sf_question.specs.declared.fault.Fault.{Fault as AskFault}
+use Rattle.sf_question.specs.Actions.{is_no_action}
+use Rattle.sf_question.specs.QuestionData.{QuestionData}
+use Rattle.sf_question.specs.Questions.{is_name, is_in_order, is_inside_mask}
+use Rattle.sf_question.specs.declared.fault.Fault.TheVariants as ask
 use Rattle.sf_policy.specs.declared.fault.Fault.{Fault}
 use Rattle.sf_policy.specs.declared.fault.Fault.TheVariants as faults
 use Rattle.sf_policy.specs.declared.policy.words.WordEntry.{WordEntry}
 use Rattle.sf_policy.specs.Words.{has_words, has_range, has_mask, range_of, mask_of, entry_at}
 use Rattle.std.specs.Str.{bytes_eq}
 use Rattle.toml.specs.Data.{Members, get_member}
-use Rattle.sf_ask.specs.declared.actions.ActionSet.{ActionSet}
+use Rattle.sf_question.specs.declared.actions.ActionSet.{ActionSet}
 use Rattle.sf_policy.specs.declared.policy.Version.{Version}
 use Rattle.sf_policy.specs.Keys.{has_only, question_keys, word_keys}
 use Rattle.sf_policy.specs.Trees.{each_of, text_at}

@@ -4,9 +4,6 @@ use Rattle.sf_policy.specs.declared.fault.Fault.{Fault}
 use Rattle.sf_policy.specs.declared.fault.Fault.TheVariants as faults
 use Rattle.sf_names.specs.declared.fault.Fault.{Fault as NamesFault}
 use Rattle.sf_names.specs.declared.fault.Fault.TheVariants as names_faults
-use Rattle.sf_profile.specs.Faults.{fault_number as profile_number}
-use Rattle.sf_profile.specs.declared.fault.Fault.{Fault as ProfileFault}
-use Rattle.sf_profile.specs.declared.fault.Fault.TheVariants as profile_faults
 use Rattle.sf_policy.specs.declared.policy.refusal.Refusal.{Refusal}
 
 -- why the program refuses a file of names
@@ -16,11 +13,6 @@ of_names names_faults.Key = faults.NamesKey
 of_names names_faults.Count = faults.NamesCount
 of_names names_faults.Range = faults.NamesRange
 of_names names_faults.Memory = faults.Memory
-
--- why the program refuses a profile: for its refusal, or because memory was refused
-abbrev pub of_profile : ProfileFault → Fault
-of_profile profile_faults.Memory = faults.Memory
-of_profile refusal = faults.Profile refusal
 
 -- the number of each refusal, and of refused memory
 abbrev pub fault_number : Fault → ℕ
@@ -50,7 +42,6 @@ fault_number faults.NamesCount = 45
 fault_number faults.NamesRange = 42
 fault_number faults.UnknownName = 44
 fault_number (faults.Accepted at) = 44
-fault_number (faults.Profile refusal) = profile_number refusal
 fault_number faults.Read = 50
 fault_number faults.Write = 51
 fault_number faults.Memory = 60

@@ -8,7 +8,7 @@ use Rattle.sf_insn.specs.Inputs.{input_bytes}
 use Rattle.sf_run.specs.declared.action.Action.{Action}
 use Rattle.sf_run.specs.declared.action.Answer.{Answer}
 use Rattle.sf_run.specs.declared.action.Action.TheVariants.{KillProcess, KillThread, Trap, Errno, UserNotif, Trace, Log, Allow, Other}
-use Rattle.sf_book.specs.declared.book.Counts.{Counts}
+use Rattle.sf_run.specs.declared.counts.Counts.{Counts}
 
 -- the parts of a line one blank apart, and a line feed
 abbrev pub line : List (List ℕ) → List ℕ

@@ -6,7 +6,7 @@ ghost use Rattle.sf_policy.specs.Accepted.{AreAccepted, IsMisfitAt, is_comment, 
 ghost use Rattle.sf_policy.specs.declared.fault.Fault.TheVariants.{Accepted as AcceptedFault, Memory as MemoryFault};
 
 use crate::fault::Fault;
-use sf_ask::Question;
+use sf_question::Question;
 use std::alloc::{AllocError, Global};
 
 /// Whether a part of a line begins a comment: the part's first byte is `#`. The spaces of a line divide it into parts.

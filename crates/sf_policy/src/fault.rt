@@ -1,4 +1,4 @@
-//! Why a policy, a filter, a profile, a file of names, an input or a report was refused.
+//! Why a policy, a filter, a file of names, an input or a report was refused.
 
 ghost use Rattle.std.specs.Prelude.{◌≡◌};
 ghost use Rattle.sf_policy.specs.declared.fault.Fault.TheVariants.{Memory};
@@ -7,10 +7,10 @@ ghost use Rattle.sf_policy.specs.Faults.{fault_number};
 use std::alloc::{AllocError, AllocFailed};
 use thiserror::Error;
 
-/// Why a policy, a filter, a profile, a file of names, an input or a report was refused. Filters, questions and rules
-/// are numbered from 1 in the order in which they were given, instructions from 0. The text of a fault is its number,
-/// the name of that number, and its place, where it has one. Faults of one number have the same name in their texts:
-/// `TopKey` and `NamesKey` are written as `Key`.
+/// Why a policy, a filter, a file of names, an input or a report was refused. Filters and questions are numbered from 1
+/// in the order in which they were given, instructions from 0. The text of a fault is its number, the name of that
+/// number, and its place, where it has one. Faults of one number have the same name in their texts: `TopKey` and
+/// `NamesKey` are written as `Key`.
 #[derive(Clone, Copy, Debug, PartialEq, Eq, Error)]
 pub enum Fault {
     /// The length of a filter's bytes is no multiple of 8.
@@ -98,9 +98,6 @@ pub enum Fault {
     /// more than one word. Lines are numbered from 1.
     #[error("44 Name line {line}")]
     Accepted { line: usize },
-    /// A profile is refused for this fault, which isn't `Memory`. Its text is that of the profile's fault.
-    #[error("{0}")]
-    Profile(sf_profile::Fault),
     /// A file can't be read, or has more than 1 MiB.
     #[error("50 Read")]
     Read,
@@ -138,7 +135,6 @@ impl Fault {
             Fault::Syntax => 46,
             Fault::Input => 47,
             Fault::Mask { .. } => 48,
-            Fault::Profile(refusal) => refusal.number(),
             Fault::Read => 50,
             Fault::Write => 51,
             Fault::Memory => 60,
@@ -187,20 +183,6 @@ impl From<sf_names::Fault> for Fault {
             sf_names::Fault::Count => Fault::NamesCount,
             sf_names::Fault::Range => Fault::NamesRange,
             sf_names::Fault::Memory => Fault::Memory,
-        }
-    }
-}
-
-impl From<sf_profile::Fault> for Fault {
-    ghost use Rattle.sf_policy.specs.Faults.{of_profile};
-
-    ghost from_gives = { λ e f. f ≡ of_profile e };
-
-    /// `Memory` for refused memory; any other fault is kept whole as `Profile`.
-    fn from(e: sf_profile::Fault) -> Fault {
-        match e {
-            sf_profile::Fault::Memory => Fault::Memory,
-            refusal => Fault::Profile(refusal),
         }
     }
 }

@@ -22,7 +22,7 @@ pub use keys::WORD_KEYS;
 use keys::{has_top_keys, number_in, value_at};
 use questions::questions_in;
 pub use refusal::Refusal;
-use sf_ask::Question;
+use sf_question::Question;
 use std::alloc::Global;
 use toml::{Table, Value};
 

@@ -6,8 +6,8 @@ ghost use Rattle.sf_policy.specs.Texts.{AppendsFront, counts_line, hex_text};
 ghost use Rattle.sf_policy.specs.declared.fault.Fault.TheVariants.{Write as WriteFault};
 
 use crate::fault::Fault;
-use sf_book::Counts;
 use sf_insn::{Input, bytes_of_input};
+use sf_run::Counts;
 use std::alloc::{AllocError, Global};
 use std::io::Write;
 

@@ -29,7 +29,6 @@ pub(crate) fn meaning_of(fault: &Fault) -> &'static str {
         Fault::Syntax => "the policy is no UTF-8 or no TOML",
         Fault::Input => "the input isn't 128 hexadecimal digits",
         Fault::Mask { .. } => "a value with a bit outside its mask",
-        Fault::Profile(refusal) => meaning_of_profile_fault(*refusal),
         Fault::NamesKey => {
             "an unknown key, a missing one, a value of another kind, a name with other signs than letters, digits and _, or a set of calls that was there with another number or name"
         }
@@ -50,7 +49,7 @@ pub(crate) fn meaning_of(fault: &Fault) -> &'static str {
 /// What a fault of `sf_profile` means, in words for a person, without a line break at the end. The number of the rule
 /// isn't in it. It doesn't name every cause: `Key` comes also where the file has no profile, and `Set` also where the
 /// calls of a set are given more than once.
-fn meaning_of_profile_fault(refusal: sf_profile::Fault) -> &'static str {
+pub(crate) fn meaning_of_refusal(refusal: sf_profile::Fault) -> &'static str {
     match refusal {
         sf_profile::Fault::TooLong => "the filter of the profile has more than 4096 instructions",
         sf_profile::Fault::Key | sf_profile::Fault::RuleKey { .. } => {

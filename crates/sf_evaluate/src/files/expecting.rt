@@ -13,9 +13,9 @@ use crate::explaining::Notes;
 use crate::files::Files;
 use crate::words::is_among;
 use clap::ArgMatches;
-use sf_ask::Question;
 use sf_command_line::given_text;
 use sf_policy::{Fault, read_accepted};
+use sf_question::Question;
 use std::alloc::Global;
 
 /// The questions of the control, whose policy file is at a path; an empty list where no path is given. Once the file is

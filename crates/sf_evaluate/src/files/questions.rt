@@ -3,15 +3,15 @@
 ghost use Rattle.std.specs.Prelude.{◌≡◌, ◌⊎◌, ℕ, List, None, map, IfOk, IfErr};
 ghost use Rattle.serde_json.specs.View.{view};
 ghost use Rattle.sf_policy.specs.declared.fault.Fault.TheVariants.{Memory as MemoryFault, Read as ReadFault};
-ghost use Rattle.sf_evaluate.specs.Origins.{AreOrigins};
+ghost use Rattle.sf_evaluate.specs.Origins.{HasOrigins};
 ghost use Rattle.sf_evaluate.specs.Policies.{AreAsked, IsPolicyFile, RefusesAsking, RefusesPolicyFile};
 
 use super::origins::push_origins;
 use crate::explaining::Notes;
 use crate::files::Files;
-use sf_ask::Question;
 use sf_json::Document;
 use sf_policy::{Fault, read_policy_at};
+use sf_question::Question;
 use std::alloc::Global;
 
 /// The questions of the policy file at a path. Once the file is read, the notes count it and keep its bytes; if
@@ -44,10 +44,11 @@ pub(crate) fn questions_in<F: Files>(
     }
 }
 
-/// The questions of the policy files at these paths, one file after the other; and a second list, in the same order,
-/// with where each question stands: a JSON object with the path of its file at `policy`, and at `line` the number, from
-/// 1, of the line on which it begins, or `null` where that isn't found. The notes count each file that is read, and
-/// keep the bytes of the last one; if `read_policy_at` refuses it, they keep the refusal too.
+/// The questions of the policy files at these paths, one file after the other; and a second list, which is empty unless
+/// `with_origins`. Then it says, in the same order, where each question stands: a JSON object with the path of its file
+/// at `policy`, and at `line` the number, from 1, of the line on which it begins, or `null` where that isn't found. The
+/// notes count each file that is read, and keep the bytes of the last one; if `read_policy_at` refuses it, they keep
+/// the refusal too.
 ///
 /// The refusal is that of the first file that is refused. For each file these are tried, in this order: `Read` where it
 /// can't be read, or has more than `MOST_BYTES` bytes; `Syntax` where it is no UTF-8 or no TOML; then `Version`,
@@ -56,12 +57,13 @@ pub(crate) fn questions_in<F: Files>(
 pub fn all_questions_in<F: Files>(
     alloc: Global,
     paths: &[&str],
+    with_origins: bool,
     files: &mut F,
     notes: &mut Notes,
 ) -> Result<(Vec<Question>, Vec<Document>), Fault>
     ensures asked { IfOk result (λ r. AreAsked (F.holds files.old) paths.now r.0.items) }
-    ensures placed { IfOk result (λ r. AreOrigins (F.holds files.old) paths.now r.0.items
-        (map view r.1.items)) }
+    ensures placed { IfOk result (λ r. HasOrigins with_origins (F.holds files.old) paths.now
+        r.0.items (map view r.1.items)) }
     ensures refused { IfErr result (RefusesAsking (F.holds files.old) paths.now) }
     ensures same { (p : List ℕ) → F.holds files.new p ≡ F.holds files.old p }
 {
@@ -69,7 +71,9 @@ pub fn all_questions_in<F: Files>(
     let mut origins = Vec::new(alloc);
     for path in paths {
         let mut questions = questions_in(alloc, path, files, notes)?;
-        push_origins(alloc, &mut origins, path, &notes.policy, questions.len())?;
+        if with_origins {
+            push_origins(alloc, &mut origins, path, &notes.policy, questions.len())?;
+        }
         all.append(&mut questions)?;
     }
     Ok((all, origins))

@@ -3,11 +3,11 @@
 use super::asking::{has_names, is_given};
 use super::settings::wrong_word_text;
 use super::wanted::{calls_fit, push_wrong_calls, push_wrong_rows};
+use crate::fault::Fault;
 use clap::ArgMatches;
 use sf_calls::{are_arguments, is_number};
 use sf_command_line::text_of;
 use sf_names::is_call_name;
-use sf_policy::Fault;
 use std::alloc::{AllocError, Global};
 use std::io::Write;
 

@@ -1,16 +1,14 @@
 //! What the words behind the options of `profile` say.
 
-ghost use Rattle.std.specs.Prelude.{◌≡◌, IfErr, IfOk, codes, map, string_bytes, true};
+ghost use Rattle.std.specs.Prelude.{◌≡◌, IfOk, codes, map, string_bytes, true};
 ghost use Rattle.std.specs.List.{list_all, list_any};
 ghost use Rattle.std.specs.Str.{bytes_eq};
 ghost use Rattle.clap.specs.Words.{found_of, rows_of};
 ghost use Rattle.sf_command_line.specs.Options.{paths_of};
-ghost use Rattle.sf_policy.specs.declared.fault.Fault.TheVariants.{Memory as MemoryFault};
 ghost use Rattle.sf_evaluate.specs.Profiles.{AreSettings, capabilities, is_capability, is_kernel_or_none, machine_named, reading_named, profile_words_fit};
 
 use clap::ArgMatches;
 use sf_command_line::{skips_unknown, text_of, wants_newer};
-use sf_policy::Fault;
 use sf_profile::{CallSet, Calls, Reading, Settings, version_of};
 use std::alloc::{AllocError, Global};
 
@@ -157,16 +155,15 @@ fn strings_of(alloc: Global, texts: &[&str]) -> Result<Vec<String>, AllocError>
 /// The settings with which a profile is read: what the options say (machine, capabilities, kernel and so on), and these
 /// calls. The kernel's version is `None` where `--kernel` isn't given. The caller's condition: the words behind the
 /// options fit, as `profile_words_fit` says. So no word is unknown, and the values that stand here for unknown words
-/// aren't used. `Memory` where an allocation is refused.
+/// aren't used. An error where an allocation is refused.
 pub(crate) fn settings_of(
     alloc: Global,
     found: &ArgMatches<'_>,
     calls: Vec<Calls>,
-) -> Result<Settings, Fault>
+) -> Result<Settings, AllocError>
     requires { profile_words_fit (rows_of (found_of found.now)) ≡ true }
     ensures words { IfOk result (AreSettings (rows_of (found_of found.now))) }
     ensures calls { IfOk result (λ s. s.calls.items ≡ calls.items) }
-    ensures refused { IfErr result (λ e. e ≡ MemoryFault) }
 {
     let caps = found.get_strs("cap").unwrap_or(&[]);
     Ok(Settings {

@@ -9,7 +9,7 @@ ghost use Rattle.sf_policy.specs.Actions.{is_action, are_actions, texts_of_value
 ghost use Rattle.sf_policy.specs.Encoding.{encoded_set, text_or_empty};
 
 use super::keys::{is_among, value_at};
-use sf_ask::ActionSet;
+use sf_question::ActionSet;
 use toml::{Table, Value};
 
 /// The names that a policy has for the actions. `OTHER` stands for all actions without a name.

@@ -11,20 +11,20 @@ use super::actions::actions_in;
 use super::keys::{has_question_keys, text_in};
 use super::words::{WordEntry, entries_in, words_of};
 use crate::fault::Fault;
-use sf_ask::{ActionSet, Question};
+use sf_question::{ActionSet, Question};
 use std::alloc::Global;
 use toml::{Table, Value};
 
 /// A fault of a question, with the question's number, from 1. `Memory` has no number.
-fn fault_of_question(question: usize, fault: sf_ask::Fault) -> Fault
+fn fault_of_question(question: usize, fault: sf_question::Fault) -> Fault
     ensures { result ≡ numbered_fault question fault }
 {
     match fault {
-        sf_ask::Fault::Name => Fault::Name { question },
-        sf_ask::Fault::Range => Fault::Range { question },
-        sf_ask::Fault::Mask => Fault::Mask { question },
-        sf_ask::Fault::Actions => Fault::Actions { question },
-        sf_ask::Fault::Memory => Fault::Memory,
+        sf_question::Fault::Name => Fault::Name { question },
+        sf_question::Fault::Range => Fault::Range { question },
+        sf_question::Fault::Mask => Fault::Mask { question },
+        sf_question::Fault::Actions => Fault::Actions { question },
+        sf_question::Fault::Memory => Fault::Memory,
     }
 }
 

@@ -1,4 +1,5 @@
 use Rattle.std.proofs.Common.{inl, inr, map, string_bytes}
+use Rattle.serde_json.specs.View.{view}
 use Rattle.sf_command.specs.Audits.{read_data}
 use Rattle.sf_command.proofs.KeptLemmas.{kept_refused_for, second_weaker}
 use Rattle.sf_command.proofs.RefusalLemmas.{audit_why, unread_why}
@@ -10,6 +11,8 @@ pub returns-clause-written : goal.returns-clause-written
 returns-clause-written g c = record {
   read = read_data c.in_ok-read.read;
   asked_by = c.in_ok-read.ensures.read;
+  origins = map view c.in_ok-read.origins.items;
+  placed = c.in_ok-read.ensures.placed;
   files = map (λ f. f.items) c.in_ok-filters.filters.items;
   are_read = kept_stack _ _ _ (kept_same _ _ _ _ c.in_ok-read.ensures.same c.in_ok-filters.ensures.read) _
       (rw c.deref.ensures.value at c.in_ok-outcome.ensures.found.audit.stack);
@@ -22,7 +25,6 @@ returns-clause-written g c = record {
     c.is_expecting.ensures,
     c.deref-3.ensures.value,
     c.deref-4.ensures.value,
-    c.in_ok-outcome.ensures.placed,
   ) at c.in_ok-write_audit.ensures.written;
   status_is = c.status_of_audit-status.ensures.status;
 }

@@ -6,7 +6,6 @@ use Rattle.sf_command.proofs.auditing.read_questions.Goals as goal
 pub returns-clause-read : goal.returns-clause-read
 returns-clause-read g c = rw (← c.asked.view_is) (record {
   questions = c.in_ok-questions.ensures.asked;
-  origins = c.in_ok-questions.ensures.placed;
   control = rw (fun_ext c.in_ok-questions.ensures.same) at c.in_ok-control.ensures.asked;
   accepted = rw (
     c.deref.ensures.value,

@@ -1,55 +1,11 @@
-use Rattle.std.proofs.Common.{inl, inr, refl}
+use Rattle.std.proofs.Common.{Some, inl, inr, refl}
 use Rattle.std.proofs.lemmas.Result.{IfErr-weaker, IfOk-weaker}
-use Rattle.clap.specs.Words.{found_of, rows_of}
+use Rattle.clap.specs.Words.{found_of, rows_of, subcommand_rows_of}
 use Rattle.sf_command_line.specs.CommandLineLaws.{joined}
-use Rattle.sf_command.proofs.CommandLineLemmas.{profile_ran, profile_words}
+use Rattle.sf_evaluate.specs.FilesLaws.{handed_on}
+use Rattle.sf_evaluate.specs.declared.fault.Fault.TheVariants.{Other}
+use Rattle.sf_command.proofs.CommandLineLemmas.{done_as, profile_ran, profile_words, refused_as}
 use Rattle.sf_command.proofs.dispatch.run.Goals as goal
-
-pub returns-in-eval-clause-done : goal.returns-in-eval-clause-done
-returns-in-eval-clause-done g c = IfOk-weaker c.run_eval.result _ _
-    (λ s done small. (
-      (_, _),
-      joined _ _ _ _ _ c.in-Some.ensures.name c.in-Some.ensures.rows,
-      inr (inr (inl (c.in-eval.is, done))),
-    )) c.run_eval.ensures.done
-
-pub returns-in-audit-clause-refused : goal.returns-in-audit-clause-refused
-returns-in-audit-clause-refused g c = IfErr-weaker c.run_audit.result _ _
-    (λ e why. ((_, _), joined _ _ _ _ _ c.in-Some.ensures.name c.in-Some.ensures.rows, inl (c.in-audit.is, why)))
-    c.run_audit.ensures.refused
-
-pub returns-in-eval-clause-refused : goal.returns-in-eval-clause-refused
-returns-in-eval-clause-refused g c = IfErr-weaker c.run_eval.result _ _
-    (λ e why. (
-      (_, _),
-      joined _ _ _ _ _ c.in-Some.ensures.name c.in-Some.ensures.rows,
-      inr (inr (inl (c.in-eval.is, why))),
-    ))
-    c.run_eval.ensures.refused
-
-pub returns-in-compare-clause-refused : goal.returns-in-compare-clause-refused
-returns-in-compare-clause-refused g c = IfErr-weaker c.run_compare.result _ _
-    (λ e why. (
-      (_, _),
-      joined _ _ _ _ _ c.in-Some.ensures.name c.in-Some.ensures.rows,
-      inr (inr (inr (inl (c.in-compare.is, why)))),
-    )) c.run_compare.ensures.refused
-
-pub returns-in-list-clause-done : goal.returns-in-list-clause-done
-returns-in-list-clause-done g c = IfOk-weaker c.run_list.result _ _
-    (λ s done small. (
-      (_, _),
-      joined _ _ _ _ _ c.in-Some.ensures.name c.in-Some.ensures.rows,
-      inr (inr (inr (inr (inl (c.in-list.is, done))))),
-    )) c.run_list.ensures.done
-
-pub returns-in-list-clause-refused : goal.returns-in-list-clause-refused
-returns-in-list-clause-refused g c = IfErr-weaker c.run_list.result _ _
-    (λ e why. (
-      (_, _),
-      joined _ _ _ _ _ c.in-Some.ensures.name c.in-Some.ensures.rows,
-      inr (inr (inr (inr (inl (c.in-list.is, why))))),
-    )) c.run_list.ensures.refused
 
 pub returns-in-profile-clause-done : goal.returns-in-profile-clause-done
 returns-in-profile-clause-done g c = IfOk-weaker c.profile.result _ _
@@ -75,10 +31,11 @@ returns-in-profile-clause-usage g c = IfOk-weaker c.profile.result _ _
 
 pub returns-in-profile-clause-refused : goal.returns-in-profile-clause-refused
 returns-in-profile-clause-refused g c = IfErr-weaker c.profile.result _ _
-    (λ e why. (
+    (λ e why. inr (
       (_, _),
       joined _ _ _ _ _ c.in-Some.ensures.name c.in-Some.ensures.rows,
-      inr (inr (inr (inr (inr (inr (c.in-profile.is, why)))))),
+      c.in-profile.is,
+      why,
     ))
     c.profile.ensures.refused
 
@@ -93,42 +50,21 @@ returns-then-not-words_fit_for-clause-usage g c = λ four. (
   refl,
 )
 
-pub returns-in-audit-clause-done : goal.returns-in-audit-clause-done
-returns-in-audit-clause-done g c = IfOk-weaker c.run_audit.result _ _
-    (λ s done small. (
-      (_, _),
-      joined _ _ _ _ _ c.in-Some.ensures.name c.in-Some.ensures.rows,
-      inl (c.in-audit.is, done),
-    )) c.run_audit.ensures.done
+pub returns-in_ok-run_on_stack-in_default-name-clause-done :
+    goal.returns-in_ok-run_on_stack-in_default-name-clause-done
+returns-in_ok-run_on_stack-in_default-name-clause-done g c = λ small.
+    done_as (g.F.Files.holds c.args.files.now) (Some (c.in-Some.name.now, rows_of (found_of c.in-Some.found.now)))
+    (subcommand_rows_of c.args.matches.now) c.in_ok-run_on_stack-in_default-name.field-0
+    (g.O.Write.contents c.args.out.now) (g.O.Write.contents c.run_on_stack.new.out)
+    (joined _ _ _ _ _ c.in-Some.ensures.name c.in-Some.ensures.rows)
+    (c.in_ok-run_on_stack-in_default-name.ensures.done small)
 
-pub returns-in-check-clause-done : goal.returns-in-check-clause-done
-returns-in-check-clause-done g c = IfOk-weaker c.run_check.result _ _
-    (λ s done small. (
-      (_, _),
-      joined _ _ _ _ _ c.in-Some.ensures.name c.in-Some.ensures.rows,
-      inr (inl (c.in-check.is, done)),
-    )) c.run_check.ensures.done
-
-pub returns-in-compare-clause-done : goal.returns-in-compare-clause-done
-returns-in-compare-clause-done g c = IfOk-weaker c.run_compare.result _ _
-    (λ s done small. (
-      (_, _),
-      joined _ _ _ _ _ c.in-Some.ensures.name c.in-Some.ensures.rows,
-      inr (inr (inr (inl (c.in-compare.is, done)))),
-    )) c.run_compare.ensures.done
-
-pub returns-in-needed-clause-done : goal.returns-in-needed-clause-done
-returns-in-needed-clause-done g c = IfOk-weaker c.run_needed.result _ _
-    (λ s done small. (
-      (_, _),
-      joined _ _ _ _ _ c.in-Some.ensures.name c.in-Some.ensures.rows,
-      inr (inr (inr (inr (inr (inl (c.in-needed.is, done)))))),
-    )) c.run_needed.ensures.done
-
-pub returns-in-needed-clause-refused : goal.returns-in-needed-clause-refused
-returns-in-needed-clause-refused g c = IfErr-weaker c.run_needed.result _ _
-    (λ e why. (
-      (_, _),
-      joined _ _ _ _ _ c.in-Some.ensures.name c.in-Some.ensures.rows,
-      inr (inr (inr (inr (inr (inl (c.in-needed.is, why)))))),
-    )) c.run_needed.ensures.refused
+pub returns-in_err-run_on_stack-in_default-name-clause-refused :
+    goal.returns-in_err-run_on_stack-in_default-name-clause-refused
+returns-in_err-run_on_stack-in_default-name-clause-refused g c =
+    let fault = c.in_err-run_on_stack-in_default-name.field-0.0 in
+    handed_on _ c.from_residual.result (Other fault) c.from_residual.ensures.1
+    (refused_as (g.F.Files.holds c.args.files.now) (Some (c.in-Some.name.now, rows_of (found_of c.in-Some.found.now)))
+    (subcommand_rows_of c.args.matches.now) (Other fault)
+    (joined _ _ _ _ _ c.in-Some.ensures.name c.in-Some.ensures.rows)
+    (inl (fault, refl, c.in_err-run_on_stack-in_default-name.ensures.refused)))

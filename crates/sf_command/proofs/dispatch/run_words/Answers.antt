@@ -1,7 +1,7 @@
 use Rattle.std.proofs.Common.{◌≡◌, ◌∙◌, [], inl, inr, refl, sym}
 use Rattle.std.proofs.lemmas.Result.{IfErr-weaker, IfOk-weaker}
 use Rattle.clap.specs.Words.{HasKind, Kinds}
-use Rattle.sf_command.proofs.CommandLineLemmas.{helps, refused_words, some_error}
+use Rattle.sf_command.proofs.CommandLineLemmas.{helps, refused_as, refused_words, some_error}
 use Rattle.sf_command_line.specs.CommandLineLaws.{told_errors, told_subcommand}
 use Rattle.sf_command.proofs.dispatch.run_words.Goals as goal
 
@@ -47,5 +47,6 @@ returns-in-Ok-clause-refused g c =
     rw (← c.in_ok-meant.ensures, ← c.deref.ensures.value)
     (let fits = told_errors (λ (ks : Kinds). ks ≡ []) _ _ c.in_ok-command_form.ensures c.in-Ok.ensures.kinds in
     let entered = told_subcommand _ _ c.in-Ok.matches c.in_ok-command_form.ensures c.in-Ok.ensures.matches in
-    IfErr-weaker c.run-ran.result _ _ (λ e why. let (found, named, refuses) = why in
-    inr (inr (fits, (found, sym entered ∙ named, refuses)))) c.run-ran.ensures.refused)
+    IfErr-weaker c.run-ran.result _ _ (λ e why.
+    inr (inr (fits, refused_as (g.F.Files.holds c.args.files.now) _ _ e (sym entered) why)))
+    c.run-ran.ensures.refused)

@@ -1,8 +1,9 @@
-use Rattle.std.proofs.Common.{◌≡◌, arith, length, List, [], ℕ, Bor}
+use Rattle.std.proofs.Common.{◌≡◌, ◌∙◌, arith, length, List, [], ℕ, Bor, sym, true≢false}
 use Rattle.std.proofs.lemmas.Option.{slice_get-get_or}
-use Rattle.sf_evaluate.proofs.AskedLemmas.{all_asked, all_placed, asking_why, one_asked, one_placed}
+use Rattle.sf_evaluate.proofs.AskedLemmas.{all_asked, all_told, asking_why, one_asked, one_placed}
 use Rattle.sf_evaluate.specs.FilesLaws.{handed_on}
 use Rattle.sf_evaluate.proofs.files.questions.all_questions_in.Goals as goal
+use Rattle.sf_evaluate.proofs.files.questions.all_questions_in.Goals.{then-with_origins+in_ok-push_origins, else-with_origins}
 
 no_path : Bor (List ℕ)
 no_path = record { ref_ptr = (0, 0); now = [] }
@@ -11,14 +12,23 @@ pub loop-path-preserved : goal.loop-path-preserved
 unfolding no_path
 loop-path-preserved g c =
     let here = slice_get-get_or c.args.paths.now c.loop-path.path-index no_path c.loop-path-test.true in
-    let placed = c.in_ok-push_origins.ensures in
-    let many : c.len.result ≡ length c.in_ok-questions.questions.items =
-    omega (arith, c.len.ensures, c.in_ok-questions.questions.ok.0) in
     record {
       asked = one_asked _ _ _ _ _ _ _ _ c.loop-path.invariant.asked here c.in_ok-questions.ensures.asked _
           c.questions_in.ensures.same c.in_ok-append.ensures.items;
-      placed = one_placed _ _ _ _ _ _ _ _ _ _ c.loop-path.invariant.placed here c.in_ok-questions.ensures.asked
-          (rw many at placed.1) _ _ c.questions_in.ensures.same c.in_ok-append.ensures.items placed.2;
+      placed = λ told. elim c.if-with_origins.branch [
+        | then-with_origins+in_ok-push_origins w ↦ rw w.origins-is (
+            let many : w.len.result ≡ length c.in_ok-questions.questions.items =
+            omega (arith, w.len.ensures, c.in_ok-questions.questions.ok.0) in
+            let stand = w.in_ok-push_origins.ensures in
+            one_placed _ _ _ _ _ _ _ _ _ _ (c.loop-path.invariant.placed told) here c.in_ok-questions.ensures.asked
+            (rw many at stand.1) _ _ c.questions_in.ensures.same c.in_ok-append.ensures.items stand.2
+            )
+        | else-with_origins w ↦ absurd (true≢false (sym told ∙ w.if-with_origins.false))
+      ];
+      unplaced = λ untold. elim c.if-with_origins.branch [
+        | then-with_origins+in_ok-push_origins w ↦ absurd (true≢false (sym w.if-with_origins.true ∙ untold))
+        | else-with_origins w ↦ rw w.origins-is (c.loop-path.invariant.unplaced untold)
+      ];
     }
 
 pub returns-in_err-questions-clause-refused : goal.returns-in_err-questions-clause-refused
@@ -32,4 +42,5 @@ pub returns-clause-asked : goal.returns-clause-asked
 returns-clause-asked g c = all_asked _ _ _ _ _ c.loop-path.invariant.asked (omega arith) (omega arith)
 
 pub returns-clause-placed : goal.returns-clause-placed
-returns-clause-placed g c = all_placed _ _ _ _ _ _ c.loop-path.invariant.placed (omega arith) (omega arith)
+returns-clause-placed g c =
+    all_told _ _ _ _ _ _ _ c.loop-path.invariant.placed c.loop-path.invariant.unplaced (omega arith) (omega arith)
