@@ -20,18 +20,7 @@ import re
 from collections import defaultdict
 
 from looking.rattle import definitions_in, names_declared, names_defined
-from looking.tree import ROOT, crates, shown, sources
-
-def stands_on():
-    """Each crate with those on which it stands, by crates.txt, which lists a crate behind those that it uses."""
-    below = {}
-    for line in (ROOT / "crates.txt").read_text(encoding="utf-8").splitlines():
-        if line and not line.startswith("#"):
-            name, uses = line.split(":")
-            own = [one for one in uses.split() if one in below]
-            below[name] = set(own).union(*(below[one] for one in own))
-    return below
-
+from looking.tree import crates, shown, sources, stands_on
 
 BELOW = stands_on()
 
@@ -61,7 +50,8 @@ def only(*crates):
     return set(crates) | {crate for crate, tried in TRIED.items() if tried & set(crates)}
 
 
-# The forms of a word, the crates in whose names it may stand, and what it means there.
+# The forms of a word, the crates in whose names it may stand, and what it means there. `sf_run` has what an exploration
+# counts.
 WORDS = [
     ("entry entries", only("sf_policy"), "what a policy file says of a word or a question"),
     ("told", only("sf_dom", "sf_piece"), "a test whose result follows from what is known of a node"),
@@ -83,11 +73,12 @@ WORDS = [
     ("region regions", above("book"), "a settled piece with its answer"),
     ("book books", above("book"), "all pieces, regions and emptied names of an exploration"),
     ("outstanding", above("book"), "a piece that isn't worked yet, or whose work isn't committed"),
-    ("commit commits committed", above("book"), "putting what became of a piece in its place"),
+    ("commit commits committed", above("book") | {"sf_run"}, "putting what became of a piece in its place"),
     ("budget budgets", above("book"), "how many works a book takes at most"),
-    ("emptied", above("piece"), "a piece that turned out to have no member"),
+    ("emptied", above("piece") | {"sf_run"}, "a piece that turned out to have no member"),
     ("piece pieces", above("piece"), "a set of inputs, with where its symbolic run stands"),
-    ("settle settles settled", above("piece"), "a piece whose stack has returned; an exploration that has ended"),
+    ("settle settles settled", above("piece") | {"sf_run"},
+     "a piece whose stack has returned; an exploration that has ended"),
     ("work works", above("piece"), "a piece with what became of it in one step"),
     ("member members", above("piece"), "an input that meets all path conditions of a piece"),
     ("verdict verdicts", above("ask"), "what one region tells of one question"),

@@ -16,7 +16,7 @@ from building.kit import ROOT
 from testing.look_mistakes import COUNTS, LEMMAS, MISTAKES, PAGE, WITHOUT, more
 from testing.look_tree import FILES, wide
 
-LOOKS = ["lines", "definitions", "edits", "rooms", "words", "unused"]
+LOOKS = ["lines", "definitions", "edits", "rooms", "words", "loads", "unused"]
 
 # Words behind `tools/look`, the status that is due, and a line that is due.
 ASKED = [
@@ -48,7 +48,7 @@ def put(tree, files):
 
 def make(tree):
     """Puts the looks and the small tree into a folder, where git knows the documents."""
-    known = ["git", "-C", ROOT, "ls-files", "tools/look", "tools/looking", "crates.txt"]
+    known = ["git", "-C", ROOT, "ls-files", "tools/look", "tools/looking"]
     names = subprocess.run(known, capture_output=True, text=True, check=True).stdout.splitlines()
     put(tree, {name: pathlib.Path(ROOT, name).read_text() for name in names})
     put(tree, FILES)

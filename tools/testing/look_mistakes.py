@@ -1,4 +1,5 @@
 """The mistakes that tools/look promises to find, each planted alone in the tree of look_tree."""
+import re
 from collections import namedtuple
 
 from looking.edits import TIERS
@@ -8,7 +9,7 @@ from testing.look_tree import FILES, clause, wide
 # gone), and the words that each line about it has to have.
 Mistake = namedtuple("Mistake", "look what files told")
 
-PAGE, PROVED = "docs/DEFINITIONS.md", "docs/PROOF.md"
+PAGE, PROVED, USES = "docs/DEFINITIONS.md", "docs/PROOF.md", "crates.txt"
 FACTS, INNER, DOM = "crates/sf_dom/src/facts.rt", "crates/sf_dom/src/deep/inner.rt", "crates/sf_dom/src/lib.rt"
 KNOWN, LAWS = "crates/sf_dom/specs/Facts.antt", "crates/sf_dom/specs/FactLaws.antt"
 LEMMAS, ANSWERS = "crates/sf_dom/proofs/FactLemmas.antt", "crates/sf_dom/proofs/facts/learn/Answers.antt"
@@ -271,6 +272,23 @@ def words():
         yield Mistake("words", "a name of two definitions", changes, [told])
 
 
+def loads():
+    """Crates that stand on `sf_dom` and don't explore, and crates that explore no more."""
+    def found(what, line, new, told):
+        text, count = re.subn(rf"(?m)^{line}", new, FILES[USES])
+        if count != 1:
+            raise ValueError(f"{USES} hasn't once: {line}")
+        return Mistake("loads", what, {USES: text}, [f"{USES}: {told}"])
+
+    for one in ("sf_dom", "sf_book"):
+        told = f"sf_json stands on sf_dom, by {one}, and doesn't explore"
+        yield found(f"a crate of texts that uses {one}", "sf_json: ", f"sf_json: {one} ", told)
+    yield found("a new crate that explores", "sf_json: ", "sf_new: sf_crew\nsf_json: ", "sf_new stands on sf_dom, by sf_crew")
+    idle = "picture_tests doesn't stand on sf_dom"
+    yield found("a listed crate that explores no more", "picture_tests: .*$", "picture_tests: sf_insn", idle)
+    yield found("a listed crate that is gone", "picture_tests: .*\n", "", idle)
+
+
 def unused():
     """Lemmas that nothing uses."""
     def found(what, files, name, file):
@@ -297,4 +315,4 @@ def unused():
     yield found("a lemma that isn't used any more", alone, "told_within", AUDIT_LEMMAS)
 
 
-MISTAKES = [*lines(), *definitions(), *edits(), *rooms(), *words(), *unused()]
+MISTAKES = [*lines(), *definitions(), *edits(), *rooms(), *words(), *loads(), *unused()]

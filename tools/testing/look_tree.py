@@ -1,4 +1,5 @@
 """A tree of three small crates and their documents, in which tools/look finds no fault. What is almost a fault is there."""
+from looking.tree import ROOT
 
 # What may be longer.
 WIDE_ROW = "| a row of a table may be longer | " + "much " * 20 + "|"
@@ -18,6 +19,8 @@ def clause(head, size):
 
 # The text of each file. The counts in docs/DEFINITIONS.md were counted by hand.
 FILES = {
+    # That of the repository: which crates use which.
+    "crates.txt": (ROOT / "crates.txt").read_text(encoding="utf-8"),
     "README.md": f"""# A tree
 
 {wide("A paragraph of n + ", 120)}
