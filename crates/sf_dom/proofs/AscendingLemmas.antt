@@ -1,16 +1,21 @@
 -- A number looked for in an ascending list, and put into it.
-use Rattle.std.proofs.Common.{◌≡◌, ℕ, ◌+◌, ◌-◌, ◌<◌, ◌≤◌, ◌↔◌, ◌⊎◌, List, ◌++◌, length, get_or, IsTrue, Bool, arith, sym, ap, ◌∙◌, inl, inr}
-use Rattle.std.proofs.lemmas.Bool.{cases_lt, cases_order}
+use Rattle.std.proofs.Common.{◌≡◌, ℕ, zero, suc, ◌+◌, ◌-◌, ◌<◌, ◌≤◌, ◌↔◌, ◌⊎◌, List, [], ◌∷◌, ◌++◌, length, get_or, ◌^◌, IsTrue, Bool, arith, refl, sym, ap, ◌∙◌, inl, inr}
+use Rattle.std.proofs.lemmas.Bool.{cases_eq, cases_lt, cases_order}
 use Rattle.std.proofs.lemmas.List.{get_or_default}
+use Rattle.std.proofs.lemmas.Grind.{get_or_default_zero}
 use Rattle.std.proofs.lemmas.List.Elements.{Contains-append_left, Contains-append_right, Contains-append_cases}
 use Rattle.std.proofs.lemmas.List.Edits.{length-insert, get_or-insert_below, get_or-insert_at, get_or-insert_above}
 use Rattle.std.proofs.lemmas.List.Sorted.{searched, IsNonDecreasingBy-insert, IsNonDecreasingBy-from_default, IsNonDecreasingBy-from_sort}
+use Rattle.std.proofs.lemmas.Nat.Bits.{bit_at_or, bit_at-lt, bit_at-pow_other, bit_at-pow_same, same_from_bits}
+use Rattle.std.specs.Int.{bit_at}
 use Rattle.std.specs.List.{insert}
 use Rattle.std.specs.List.Sorted.{IsBinarySearchResult, IsSorted}
 use Rattle.std.specs.Ordering.{nat_cmp}
-use Rattle.std.specs.Prelude.{Contains, MatchOption, Result, Ok, Err}
+use Rattle.std.specs.Prelude.{Contains, slice_index, MatchOption, Result, Ok, Err, IfOk, bit_or}
 use Rattle.std.specs.Result.{result_ok}
-use Rattle.sf_dom.specs.Ascending.{AreAscending}
+use Rattle.sf_dom.specs.Ascending.{AreAscending, set_of}
+use Rattle.sf_dom.specs.FactsLaws.{none-has}
+use Rattle.sf_dom.specs.Known.{Has}
 
 -- a number that isn't at the place where it would stand is nowhere in the list
 absent : (xs : List ℕ) (n at : ℕ) → ((k : ℕ) → k < at → get_or xs k 0 < n)
@@ -101,3 +106,82 @@ in-second xs ys n b absent there = (
     | inr h ↦ there.1 h
   ]),
 )
+
+-- a set with one more number
+pub one-more : (n xs m : ℕ) → Has (bit_or (2 ^ n) xs) m ↔ (Has xs m ⊎ (m ≡ n))
+one-more n xs m = elim (cases_eq m n) [
+  | inl e ↦ ((λ _. inr e), (λ _. rw e (omega (arith, bit_at_or (2 ^ n) xs n, bit_at-pow_same n, bit_at-lt xs n))))
+  | inr ne ↦
+      let other = bit_at-pow_other n m ne in
+      let both = bit_at_or (2 ^ n) xs m in (
+        (λ h. inl (omega (arith, both, other, h))),
+        (λ s. elim s [
+          | inl h ↦ omega (arith, both, other, h)
+          | inr e ↦ absurd (ne e)
+        ]),
+      )
+]
+
+-- one number is one more than none
+pub one-ok : {E : Type 0} (r : Result ℕ E) (x : ℕ) → IfOk r (λ v. v ≡ set_of (x ∷ []))
+    → IfOk r (λ v. (n : ℕ) → Has v n ↔ (Has 0 n ⊎ (n ≡ x)))
+one-ok (Ok v) x e = λ n. rw e (one-more x 0 n)
+one-ok (Err e) x h = tt
+
+-- a number is in the set of a list where it is one of the list's elements
+pub in-contains : (xs : List ℕ) (n : ℕ) → Has (set_of xs) n → Contains xs n
+in-contains [] n h = absurd (none-has n h)
+in-contains (x ∷ xs) n h = elim ((one-more x (set_of xs) n).0 h) [
+  | inl more ↦ (let w = in-contains xs n more in (suc w.0, omega (arith, w.1), w.2))
+  | inr e ↦ (0, omega arith, sym e)
+]
+
+pub contains-in : (xs : List ℕ) (n : ℕ) → Contains xs n → Has (set_of xs) n
+contains-in [] n w = absurd (omega (arith, w.1))
+contains-in (x ∷ xs) n (zero, l, e) = (one-more x (set_of xs) n).1 (inr (sym e))
+contains-in (x ∷ xs) n (suc k, l, e) =
+    (one-more x (set_of xs) n).1 (inl (contains-in xs n (k, omega arith, e)))
+
+-- the number at a place of the first of two lists is in the set of both
+pub in-first-at : (xs ys : List ℕ) (n i : ℕ) → i < length xs → slice_index xs i ≡ n → Has (set_of (xs ++ ys)) n
+in-first-at xs ys n i l e =
+    contains-in (xs ++ ys) n (Contains-append_left xs ys n (i, l, get_or_default_zero xs i n l ∙ e))
+
+-- a list with one more number has this one more
+pub has-more : (xs ys : List ℕ) (n : ℕ) → ((m : ℕ) → Contains xs m ↔ (Contains ys m ⊎ (m ≡ n))) → (m : ℕ)
+    → Has (set_of xs) m ↔ (Has (set_of ys) m ⊎ (m ≡ n))
+has-more xs ys n more m = (
+  (λ h. elim ((more m).0 (in-contains xs m h)) [ inl old ↦ inl (contains-in ys m old) | inr e ↦ inr e ]),
+  (λ s. contains-in xs m ((more m).1 (elim s [ inl h ↦ inl (in-contains ys m h) | inr e ↦ inr e ]))),
+)
+
+-- what is an element of a list is in its set
+pub as-in : (xs : List ℕ) (n : ℕ) (b : Bool) → (IsTrue b ↔ Contains xs n) → IsTrue b ↔ Has (set_of xs) n
+as-in xs n b h = ((λ t. contains-in xs n (h.0 t)), (λ k. h.1 (in-contains xs n k)))
+
+-- all numbers of two lists are of a kind, where those of the first are
+pub among-second : (xs ys : List ℕ) (kind : ℕ → Type 0) (b : Bool) → ((n : ℕ) → Contains xs n → kind n)
+    → (IsTrue b ↔ ((n : ℕ) → Contains ys n → kind n)) → IsTrue b ↔ ((n : ℕ) → Has (set_of (xs ++ ys)) n → kind n)
+among-second xs ys kind b first h = (
+  (λ t n k. elim (Contains-append_cases xs ys n (in-contains (xs ++ ys) n k)) [
+    | inl w ↦ first n w
+    | inr w ↦ h.0 t n w
+  ]),
+  (λ f. h.1 (λ n w. f n (contains-in (xs ++ ys) n (Contains-append_right xs ys n w)))),
+)
+
+-- sets of the same numbers are one
+pub same-set : (a b : ℕ) → ((n : ℕ) → Has a n → Has b n) → ((n : ℕ) → Has b n → Has a n) → a ≡ b
+same-set a b to from = same_from_bits a b (λ n. by n (bit_at a n) (bit_at b n) refl refl)
+  where
+    by : (n x y : ℕ) → bit_at a n ≡ x → bit_at b n ≡ y → x ≡ y
+    by n zero zero p q = refl
+    by n zero (suc y) p q =
+        let less = bit_at-lt b n in
+        let one : bit_at b n ≡ 1 = omega (arith, q) in
+        absurd (omega (arith, p, from n one))
+    by n (suc x) zero p q =
+        let less = bit_at-lt a n in
+        let one : bit_at a n ≡ 1 = omega (arith, p) in
+        absurd (omega (arith, q, to n one))
+    by n (suc x) (suc y) p q = omega (arith, p, q, bit_at-lt a n, bit_at-lt b n)

@@ -82,7 +82,7 @@ gained-admits Lsh c node x n s f h k = elim s [ ]
 gained-admits Rsh c node x n s f h k = elim s [ ]
 
 -- one step back
-step-lawful : (ks : List Known) (ex : List (List ℕ)) (ns : List Node) (at : ℕ) (o : BinOp × ℕ × ℕ) → IsPool ns
+step-lawful : (ks : List Known) (ex : List ℕ) (ns : List Node) (at : ℕ) (o : BinOp × ℕ × ℕ) → IsPool ns
     → AreClosed ks ns → at < length ns → IsSwappable o.0 → IsOperand ns at o
     → IsLawful AnyInput ks ex ns (WritingGives ks ex o.1 (gained o.0 o.2 (known_at ks at) (known_at ks o.1)))
 step-lawful ks ex ns at o p h l s is =
@@ -95,7 +95,7 @@ step-lawful ks ex ns at o p h l s is =
     (λ d i t a. gained-admits o.0 o.2 (known_at ks at) (known_at ks o.1) (value_of ns d o.1) s is.fits
     (a o.1 (omega arith)).admitted (rw (is.value d s) at (a at (omega arith)).admitted))
 
-back-narrowed : (n : ℕ) (ks : List Known) (ex : List (List ℕ)) (ns : List Node) (at : ℕ) → IsPool ns → AreClosed ks ns
+back-narrowed : (n : ℕ) (ks : List Known) (ex : List ℕ) (ns : List Node) (at : ℕ) → IsPool ns → AreClosed ks ns
     → at < length ns → (r : Option (List Known)) → GoingBackGivesIn n ks ex ns at r
     → IfSome r (λ next. IsNarrowed ks next ex ns)
 back-narrowed zero ks ex ns at p h l r w = rw w.1 (narrowed-refl ks ex ns h)
@@ -109,7 +109,7 @@ back-narrowed (suc n) ks ex ns at p h l r w =
     (λ next f s g. let first = step.narrowed (Some next) f in
     narrowed-more s ks next ex ns h first (back-narrowed n next ex ns o.1 p first.closed (omega arith) s g)) r w.3
 
-back-sound : (n : ℕ) (ks : List Known) (ex : List (List ℕ)) (ns : List Node) (at : ℕ) → IsPool ns → AreClosed ks ns
+back-sound : (n : ℕ) (ks : List Known) (ex : List ℕ) (ns : List Node) (at : ℕ) → IsPool ns → AreClosed ks ns
     → at < length ns → (d : Input) → IsInput d → AgreesWith ks ex ns d → (r : Option (List Known))
     → GoingBackGivesIn n ks ex ns at r → MatchOption r ⊥ (λ next. AgreesWith next ex ns d)
 back-sound zero ks ex ns at p h l d i a r w = rw w.1 a
@@ -124,7 +124,7 @@ back-sound (suc n) ks ex ns at p h l d i a r w =
     (λ next f b s g. back-sound n next ex ns o.1 p (step.narrowed (Some next) f).closed (omega arith) d i b s g) r w.3
 
 -- that known bits go back from a node is a lawful step
-pub back-lawful : (ks : List Known) (ex : List (List ℕ)) (ns : List Node) (at : ℕ) → IsPool ns → AreClosed ks ns
+pub back-lawful : (ks : List Known) (ex : List ℕ) (ns : List Node) (at : ℕ) → IsPool ns → AreClosed ks ns
     → at < length ns → IsLawful AnyInput ks ex ns (GoingBackGives ks ex ns at)
 back-lawful ks ex ns at p h l = record {
   narrowed = λ r w. back-narrowed w.0 ks ex ns at p h l r w.1;
@@ -147,7 +147,7 @@ is-swappable Lsh = inr (λ s. s)
 is-swappable Rsh = inr (λ s. s)
 
 -- where the bits of a node are known of its operand, and so on, going back changes nothing
-pub back-still : (m : ℕ) (ks : List Known) (ex : List (List ℕ)) (ns : List Node) (at : ℕ) → IsPool ns → at < m
+pub back-still : (m : ℕ) (ks : List Known) (ex : List ℕ) (ns : List Node) (at : ℕ) → IsPool ns → at < m
     → at < length ns → ((i : ℕ) → i < length ns → IsClosedAt ex i (known_at ks i))
     → ((n : ℕ) → IsPropagatedBack n ks ns at) → GoingBackGives ks ex ns at (Some ks)
 back-still zero ks ex ns at p l li closed back = absurd (omega arith)

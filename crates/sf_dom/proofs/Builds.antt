@@ -1,10 +1,21 @@
 -- Facts of conditions, which are learnt one after the other.
-use Rattle.std.proofs.Common.{◌≡◌, ℕ, ◌+◌, ◌<◌, List, [], ◌∷◌, ◌++◌, length, get_or, take, drop, zero, suc, arith, refl, ap}
+use Rattle.std.proofs.Common.{◌≡◌, ℕ, ◌+◌, ◌<◌, List, [], ◌∷◌, ◌++◌, length, get_or, take, drop, zero, suc, arith, refl, sym, ap, subst}
 use Rattle.std.proofs.lemmas.List.{take_more}
+use Rattle.std.proofs.lemmas.List.Elements.{All-nil, All-cons, All-head, All-tail, All-contains, Contains-append_right}
+use Rattle.std.specs.Prelude.{All}
+use Rattle.sf_insn.specs.Inputs.{IsInput}
+use Rattle.sf_insn.specs.declared.input.Input.{Input}
+use Rattle.sf_sym.specs.Pool.{IsPool, IsCondBelow}
 use Rattle.sf_sym.specs.declared.pool.Cond.{Cond}
 use Rattle.sf_sym.specs.declared.pool.Node.{Node}
-use Rattle.sf_dom.specs.Facts.{FactsView}
-use Rattle.sf_dom.specs.Learning.{LearnsBy, CantLearn, LearnAll, AreBuiltBy, CantBeBuilt}
+use Rattle.sf_dom.specs.Facts.{FactsView, Covers, Agrees, IsPlainCondition}
+use Rattle.sf_dom.specs.FactsLaws.{some-input}
+use Rattle.sf_dom.specs.Learning.{StartsBy, LearnsBy, CantLearn, LearnAll, AreBuiltBy, CantBeBuilt}
+use Rattle.sf_dom.specs.Propagation.{Meets, AllMet, AreFactsOf}
+use Rattle.sf_dom.proofs.Assumed.{learns-rest, learns-keeps, learns-only, cant-learn}
+use Rattle.sf_dom.proofs.Covering.{AreResting}
+use Rattle.sf_dom.proofs.NewNodes.{taken-rest}
+use Rattle.sf_dom.proofs.Sampled.{first-sound}
 
 -- one more condition is learnt
 learn-more : (a b c : FactsView) (ns : List Node) (conds : List Cond) (cond : Cond) → LearnAll a b ns conds
@@ -37,3 +48,87 @@ none-built xs i d f ns l h none = record {
   built = h;
   none = none;
 }
+
+-- nothing more follows for facts at first
+first-rests : (f : FactsView) (ns : List Node) → IsPool ns → StartsBy f ns → AreResting f.known f.excluded ns
+first-rests f ns p h = record {
+  pool = p;
+  count = h.known.count;
+  rest = λ i l. taken-rest [] f.known f.excluded ns h.known i (omega arith) l;
+}
+
+-- and each input agrees with them
+first-agrees : (f : FactsView) (ns : List Node) → IsPool ns → StartsBy f ns → (d : Input) → IsInput d → Agrees f ns d
+first-agrees f ns p h d i = first-sound f.excluded ns p h.excluded f.variables f.known h.known d i
+
+-- Facts that learn conditions one after the other.
+module _ (ns : List Node) where
+  all-rest : (f g : FactsView) (conds : List Cond) → AreResting f.known f.excluded ns
+      → All (IsCondBelow (length ns)) conds → LearnAll f g ns conds → AreResting g.known g.excluded ns
+  all-rest f g [] h below e = subst (λ (k : FactsView). AreResting k.known k.excluded ns) e h
+  all-rest f g (c ∷ cs) h below k =
+      all-rest k.0 g cs (learns-rest f ns c h (All-head (IsCondBelow (length ns)) c cs below) k.0 k.1)
+      (All-tail (IsCondBelow (length ns)) c cs below) k.2
+
+  -- an input that agreed and meets them all agrees at the end
+  all-keep : (f g : FactsView) (conds : List Cond) → AreResting f.known f.excluded ns
+      → All (IsCondBelow (length ns)) conds → LearnAll f g ns conds → (d : Input) → IsInput d → AllMet ns conds d
+      → Agrees f ns d → Agrees g ns d
+  all-keep f g [] h below e d i m a = subst (λ (k : FactsView). Agrees k ns d) e a
+  all-keep f g (c ∷ cs) h below k d i m a =
+      let first = All-head (IsCondBelow (length ns)) c cs below in
+      let met : (x : Cond) → Type 0 = λ x. Meets ns x d in
+      all-keep k.0 g cs (learns-rest f ns c h first k.0 k.1) (All-tail (IsCondBelow (length ns)) c cs below) k.2 d i
+      (All-tail met c cs m) (learns-keeps f ns c h first k.0 k.1 d i a (All-head met c cs m))
+
+  -- where all are plain, an input that agrees at the end meets them all
+  all-only : (f g : FactsView) (conds : List Cond) → AreResting f.known f.excluded ns
+      → All (IsCondBelow (length ns)) conds → LearnAll f g ns conds → All (IsPlainCondition ns) conds → (d : Input)
+      → IsInput d → Agrees g ns d → Agrees f ns d × AllMet ns conds d
+  all-only f g [] h below e plain d i a =
+      (subst (λ (k : FactsView). Agrees k ns d) (sym e) a, All-nil (λ (x : Cond). Meets ns x d))
+  all-only f g (c ∷ cs) h below k plain d i a =
+      let first = All-head (IsCondBelow (length ns)) c cs below in
+      let later = all-only k.0 g cs (learns-rest f ns c h first k.0 k.1) (All-tail (IsCondBelow (length ns)) c cs below)
+      k.2 (All-tail (IsPlainCondition ns) c cs plain) d i a in
+      let one = learns-only f ns c h first k.0 k.1 (All-head (IsPlainCondition ns) c cs plain) d i later.0 in
+      (one.0, All-cons (λ (x : Cond). Meets ns x d) c cs one.1 later.1)
+
+-- what facts of conditions promise
+pub built-facts : (f : FactsView) (ns : List Node) (conds : List Cond) → Covers f ns
+    → All (IsCondBelow (length ns)) conds → AreBuiltBy f ns conds → AreFactsOf f ns conds
+built-facts f ns conds covers below h =
+    let rests = first-rests h.0 ns covers.pool h.1 in
+    let only : All (IsPlainCondition ns) conds → (d : Input) → IsInput d → Agrees f ns d → AllMet ns conds d
+    = λ plain d i a. (all-only ns h.0 f conds rests below h.2 plain d i a).1 in
+    record {
+      covers = covers;
+      keeps = λ d i m. all-keep ns h.0 f conds rests below h.2 d i m (first-agrees h.0 ns covers.pool h.1 d i);
+      only = only;
+      some = λ plain nodes. let s = some-input f ns covers nodes in (s.0, s.1, only plain s.0 s.1 s.2);
+    }
+
+-- where there are no facts of conditions, no input meets them all
+pub none-meets-all : (ns : List Node) (conds : List Cond) → IsPool ns → All (IsCondBelow (length ns)) conds
+    → CantBeBuilt ns conds → (d : Input) → IsInput d → ¬ AllMet ns conds d
+none-meets-all ns conds p below h d i m =
+    let met : (x : Cond) → Type 0 = λ x. Meets ns x d in
+    let first = h.built.0 in
+    let all = rw h.all at below in
+    let meets = rw h.all at m in
+    let rests = first-rests first ns p h.built.1 in
+    let early = before (IsCondBelow (length ns)) h.earlier (h.cond ∷ h.later) all in
+    cant-learn h.before ns h.cond (all-rest ns first h.before h.earlier rests early h.built.2)
+    (here (IsCondBelow (length ns)) all) h.none d i
+    (all-keep ns first h.before h.earlier rests early h.built.2 d i
+    (before met h.earlier (h.cond ∷ h.later) meets) (first-agrees first ns p h.built.1 d i))
+    (here met meets)
+  where
+    before : (P : Cond → Type 0) (xs ys : List Cond) → All P (xs ++ ys) → All P xs
+    before P [] ys a = All-nil P
+    before P (x ∷ xs) ys a =
+        All-cons P x xs (All-head P x (xs ++ ys) a) (before P xs ys (All-tail P x (xs ++ ys) a))
+
+    here : (P : Cond → Type 0) → All P (h.earlier ++ h.cond ∷ h.later) → P h.cond
+    here P a = All-contains P (h.earlier ++ h.cond ∷ h.later) h.cond a
+        (Contains-append_right h.earlier (h.cond ∷ h.later) h.cond (0, omega arith, refl))

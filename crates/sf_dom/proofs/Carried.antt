@@ -2,7 +2,7 @@
 use Rattle.std.proofs.Common.{◌≡◌, ℕ, zero, suc, ◌<◌, ◌≤◌, List, [], ◌∷◌, ◌++◌, length, take, set, arith, refl, sym, ap, ◌∙◌, inl, inr}
 use Rattle.std.proofs.lemmas.Bool.{cases_eq}
 use Rattle.std.proofs.lemmas.List.{ext_get_or, get_or-set_same, get_or-set_other, length-set, get_or-take, length-take-le, get_or_append_left, length-append}
-use Rattle.std.specs.Prelude.{Contains, Option, Some, None, MatchOption}
+use Rattle.std.specs.Prelude.{Option, Some, None, MatchOption}
 use Rattle.sf_sym.specs.Operands.{constant_operand_of}
 use Rattle.sf_sym.specs.Pool.{IsPool, IsCondBelow, Extends, OperandsBelow, node_at}
 use Rattle.sf_sym.specs.declared.pool.Cond.{Cond}
@@ -10,8 +10,8 @@ use Rattle.sf_sym.specs.declared.pool.Node.{Node}
 use Rattle.sf_sym.specs.declared.pool.Node.TheVariants.{Const, Word, Bin, Neg}
 use Rattle.sf_dom.specs.declared.known.Known.{Known}
 use Rattle.sf_dom.specs.declared.guards.Pair.{Pair}
-use Rattle.sf_dom.specs.Known.{IsNarrower, AreSameNumbers, known_of}
-use Rattle.sf_dom.specs.Facts.{FactsView, AreEqualFacts, known_at, numbers_at}
+use Rattle.sf_dom.specs.Known.{Has, IsNarrower, known_of}
+use Rattle.sf_dom.specs.Facts.{FactsView, known_at, numbers_at}
 use Rattle.sf_dom.specs.GoingBack.{gained, WritingGives, GoingBackGivesIn, GoingBackGives}
 use Rattle.sf_dom.specs.Learning.{AreExcludedBy, assumed_of, PairGives, with_pair, LearnsBy, StartsBy, GrowsBy, LearnAll, AreBuiltBy}
 use Rattle.sf_dom.specs.Passes.{IsPass, PassGives, AreClosed}
@@ -20,7 +20,7 @@ use Rattle.sf_dom.specs.SoundRules.{AreCarried, started, learnt, grown}
 use Rattle.sf_dom.proofs.ConstantOperands.{is-operand}
 use Rattle.sf_dom.proofs.ConditionSteps.{condition-lawful}
 use Rattle.sf_dom.proofs.Monotone.{forward-narrower}
-use Rattle.sf_dom.proofs.OneResult.{reduction-one, pair-one, takes-as, learns-as}
+use Rattle.sf_dom.proofs.OneResult.{reduction-one, pair-one, same-sets}
 use Rattle.sf_dom.proofs.Passes.{reduction-as, operands-below, met-right, met-below, same-up_to}
 use Rattle.sf_dom.proofs.Propagations.{same-taken}
 use Rattle.sf_dom.proofs.Reductions.{IsNarrower-trans}
@@ -104,14 +104,14 @@ then-parts {A} {B} first second r h = on h.0 h.1 h.2
     on (Some a) i x = record { mid = a; one = i; two = x }
 
 -- what is left of the second node of a condition, after the first
-abbrev After : List Known → List (List ℕ) → Cond → Known → Option Pair → Type 0
+abbrev After : List Known → List ℕ → Cond → Known → Option Pair → Type 0
 After ks ex cond node =
     Then (ReductionGives ex cond.other.0
     (met (known_at (set ks cond.node.0 node) cond.other.0) (assumed_of ks cond).other))
     (λ other r. r ≡ Some (record { node = node; other = other }))
 
 -- a pair is left of what is known of both pools
-pair-moved : (ks js : List Known) (ex : List (List ℕ)) (ns longer : List Node) (cond : Cond) (node : Known) (p : Pair)
+pair-moved : (ks js : List Known) (ex : List ℕ) (ns longer : List Node) (cond : Cond) (node : Known) (p : Pair)
     → IsCondBelow (length ns) cond → IsLonger ns longer → AreSameBelow ks js ns longer
     → ReductionGives ex cond.node.0 (met (known_at ks cond.node.0) (assumed_of ks cond).node) (Some node)
     → After ks ex cond node (Some p) → PairGives js ex cond (Some p)
@@ -127,7 +127,7 @@ pair-moved ks js ex ns longer cond node p below h s g k =
       rw (sv, sw, here) at k,
     )
 
-pair-same : (ks js : List Known) (ex : List (List ℕ)) (ns longer : List Node) (cond : Cond) (p q : Pair)
+pair-same : (ks js : List Known) (ex : List ℕ) (ns longer : List Node) (cond : Cond) (p q : Pair)
     → IsCondBelow (length ns) cond → IsLonger ns longer → AreSameBelow ks js ns longer → PairGives ks ex cond (Some p)
     → PairGives js ex cond (Some q) → p ≡ q
 pair-same ks js ex ns longer cond p q below h s g k =
@@ -142,7 +142,7 @@ record HaveGoneBack (js next last : List Known) (ns longer : List Node) : Type 0
   above : AreKeptAbove js last ns
 
 -- one step back
-step-same : (ks js mid other : List Known) (ex : List (List ℕ)) (ns longer : List Node) (i : ℕ) (known : Known)
+step-same : (ks js mid other : List Known) (ex : List ℕ) (ns longer : List Node) (i : ℕ) (known : Known)
     → i < length ns → IsLonger ns longer → AreSameBelow ks js ns longer → WritingGives ks ex i known (Some mid)
     → WritingGives js ex i known (Some other) → HaveGoneBack js mid other ns longer
 step-same ks js mid other ex ns longer i known l h s g k =
@@ -163,7 +163,7 @@ at-same ns longer at p l h =
     ap (λ n. constant_operand_of longer n) (h.same at l)
     ∙ operand-same ns longer at (node_at ns at) l (operands-below ns at p l) h
 
-back-same : (n : ℕ) (ks js : List Known) (ex : List (List ℕ)) (ns longer : List Node) (at : ℕ) (next last : List Known)
+back-same : (n : ℕ) (ks js : List Known) (ex : List ℕ) (ns longer : List Node) (at : ℕ) (next last : List Known)
     → IsPool ns → at < length ns → IsLonger ns longer → AreSameBelow ks js ns longer
     → GoingBackGivesIn n ks ex ns at (Some next) → (m : ℕ) → GoingBackGivesIn m js ex longer at (Some last)
     → HaveGoneBack js next last ns longer
@@ -191,7 +191,7 @@ back-same (suc n) ks js ex ns longer at next last p l h s w (suc m) v =
     record { same = more.same; above = λ i b. more.above i b ∙ one.above i b }
 
 -- a pass leaves the same of the nodes of both
-passes-below : (ks js new last : List Known) (ex : List (List ℕ)) (ns longer : List Node) → IsPool ns
+passes-below : (ks js new last : List Known) (ex : List ℕ) (ns longer : List Node) → IsPool ns
     → IsLonger ns longer → AreSameBelow ks js ns longer → IsPass ks new ex ns → IsPass js last ex longer → (i : ℕ)
     → i < length ns → known_at new i ≡ known_at last i
 passes-below ks js new last ex ns longer p h s g k =
@@ -200,20 +200,20 @@ passes-below ks js new last ex ns longer p h s g k =
     (λ i l. rw (← s.same i l, h.same i l) at (k.each i (omega arith)))
 
 -- what follows once its two nodes are written
-abbrev Last : List Known → List (List ℕ) → List Node → Cond → Option (List Known) → Type 0
+abbrev Last : List Known → List ℕ → List Node → Cond → Option (List Known) → Type 0
 Last one ex ns cond = Then (GoingBackGives one ex ns cond.other.0) (λ two s. PassGives two ex ns s)
 
-abbrev Rest : List Known → List (List ℕ) → List Node → Cond → Option (List Known) → Type 0
+abbrev Rest : List Known → List ℕ → List Node → Cond → Option (List Known) → Type 0
 Rest mid ex ns cond = Then (GoingBackGives mid ex ns cond.node.0) (λ one. Last one ex ns cond)
 
 -- a condition leaves the same of the nodes of both, and the pass goes over the others as they were
-record AreLearntAlike (js new last : List Known) (ex : List (List ℕ)) (ns longer : List Node) : Type 0 where
+record AreLearntAlike (js new last : List Known) (ex : List ℕ) (ns longer : List Node) : Type 0 where
   count : length new ≡ length ns
   same : (i : ℕ) → i < length ns → known_at new i ≡ known_at last i
   above : (i : ℕ) → length ns ≤ i → i < length longer
       → IsReduction ex i (met (known_at js i) (forward_node last (node_at longer i))) (known_at last i)
 
-rest-same : (ks js new last : List Known) (ex : List (List ℕ)) (ns longer : List Node) (cond : Cond) → IsPool ns
+rest-same : (ks js new last : List Known) (ex : List ℕ) (ns longer : List Node) (cond : Cond) → IsPool ns
     → IsCondBelow (length ns) cond → IsLonger ns longer → AreSameBelow ks js ns longer
     → Rest ks ex ns cond (Some new) → Rest js ex longer cond (Some last) → AreLearntAlike js new last ex ns longer
 rest-same ks js new last ex ns longer cond p below h s g k =
@@ -237,7 +237,7 @@ rest-same ks js new last ex ns longer cond p below h s g k =
 -- Facts of a longer pool are those of the shorter one, which have taken in the newer nodes.
 record AreGrownFrom (f g : FactsView) (ns longer : List Node) : Type 0 where
   below : AreSameBelow f.known g.known ns longer
-  excluded : (w : ℕ) → w < 16 → AreSameNumbers (numbers_at f.excluded w) (numbers_at g.excluded w)
+  excluded : f.excluded ≡ g.excluded
   newer : (i : ℕ) → length ns ≤ i → i < length longer
       → IsReduction g.excluded i (forward_node g.known (node_at longer i)) (known_at g.known i)
   closed : AreClosed g.known longer
@@ -253,17 +253,16 @@ narrower-again kind rule more old new h n k = record {
 }
 
 -- no number is excluded for a node that isn't a word
-closed-any : (a b : List (List ℕ)) (i : ℕ) → 16 ≤ i → (k : Known) → IsClosedAt a i k → IsClosedAt b i k
+closed-any : (a b : List ℕ) (i : ℕ) → 16 ≤ i → (k : Known) → IsClosedAt a i k → IsClosedAt b i k
 closed-any a b i g k h = record { known = h.known; tight = λ l. absurd (omega arith) }
 
 -- the same numbers are excluded
-among : (f g : FactsView) (c e : List (List ℕ)) (ns longer : List Node) (cond : Cond) → IsCondBelow (length ns) cond
+among : (f g : FactsView) (c e : List ℕ) (ns longer : List Node) (cond : Cond) → IsCondBelow (length ns) cond
     → IsLonger ns longer → AreGrownFrom f g ns longer → AreExcludedBy f.known f.excluded c ns cond
-    → AreExcludedBy g.known g.excluded e longer cond → (w m : ℕ) → w < 16 → Contains (numbers_at c w) m
-    → Contains (numbers_at e w) m
-among f g c e ns longer cond below h r x y w m l z = elim (x.only w m l z) [
-  | inl old ↦ y.kept w m l ((r.excluded w l).0 m old)
-  | inr new ↦ y.more w m l (rw (
+    → AreExcludedBy g.known g.excluded e longer cond → (w m : ℕ) → Has (numbers_at c w) m → Has (numbers_at e w) m
+among f g c e ns longer cond below h r x y w m z = elim (x.only w m z) [
+  | inl old ↦ y.kept w m (rw r.excluded at old)
+  | inr new ↦ y.more w m (rw (
     ← h.same cond.node.0 below.0,
     ← h.same cond.other.0 below.1,
     r.below.same cond.node.0 below.0,
@@ -271,13 +270,13 @@ among f g c e ns longer cond below h r x y w m l z = elim (x.only w m l z) [
   ) at new)
 ]
 
-among-back : (f g : FactsView) (c e : List (List ℕ)) (ns longer : List Node) (cond : Cond)
+among-back : (f g : FactsView) (c e : List ℕ) (ns longer : List Node) (cond : Cond)
     → IsCondBelow (length ns) cond → IsLonger ns longer → AreGrownFrom f g ns longer
-    → AreExcludedBy f.known f.excluded c ns cond → AreExcludedBy g.known g.excluded e longer cond → (w m : ℕ) → w < 16
-    → Contains (numbers_at e w) m → Contains (numbers_at c w) m
-among-back f g c e ns longer cond below h r x y w m l z = elim (y.only w m l z) [
-  | inl old ↦ x.kept w m l ((r.excluded w l).1 m old)
-  | inr new ↦ x.more w m l (rw (
+    → AreExcludedBy f.known f.excluded c ns cond → AreExcludedBy g.known g.excluded e longer cond → (w m : ℕ)
+    → Has (numbers_at e w) m → Has (numbers_at c w) m
+among-back f g c e ns longer cond below h r x y w m z = elim (y.only w m z) [
+  | inl old ↦ x.kept w m (rw (← r.excluded) at old)
+  | inr new ↦ x.more w m (rw (
     h.same cond.node.0 below.0,
     h.same cond.other.0 below.1,
     ← r.below.same cond.node.0 below.0,
@@ -290,10 +289,12 @@ learnt-grown : (f g c e : FactsView) (ns longer : List Node) (cond : Cond) → I
     → IsCondBelow (length ns) cond → IsLonger ns longer → AreGrownFrom f g ns longer → LearnsBy f c ns cond
     → LearnsBy g e longer cond → AreGrownFrom c e ns longer
 learnt-grown f g c e ns longer cond p q below h r x y =
-    let ex : List (List ℕ) = e.excluded in
-    let to = among f g c.excluded ex ns longer cond below h r x.excluded y.excluded in
-    let from = among-back f g c.excluded ex ns longer cond below h r x.excluded y.excluded in
-    let first = learns-as c.excluded ex to from f.known ns cond (Some c.known) x.known in
+    let ex : List ℕ = e.excluded in
+    let sizes : length c.excluded ≡ length ex
+    = x.excluded.words ∙ ap length r.excluded ∙ sym y.excluded.words in
+    let same = same-sets c.excluded ex sizes (among f g c.excluded ex ns longer cond below h r x.excluded y.excluded)
+    (among-back f g c.excluded ex ns longer cond below h r x.excluded y.excluded) in
+    let first = rw same at x.known in
     let a = then-parts (PairGives f.known ex cond) (λ pair. Rest (with_pair f.known cond pair) ex ns cond) c.known
     first in
     let b = then-parts (PairGives g.known ex cond) (λ pair. Rest (with_pair g.known cond pair) ex longer cond) e.known
@@ -311,7 +312,7 @@ learnt-grown f g c e ns longer cond p q below h r x y =
     let cg = r.closed.count in
     record {
       below = record { count = alike.count; more = narrowed.closed.count; same = alike.same };
-      excluded = λ w l. ((λ m z. to w m l z), (λ m z. from w m l z));
+      excluded = same;
       newer = λ i b l.
           let kept : known_at (with_pair g.known cond a.mid) i ≡ known_at g.known i
           = write-above (set g.known cond.node.0 a.mid.node) ns cond.other.0 a.mid.other below.1 i b
@@ -343,11 +344,8 @@ started-grown f g ns longer p h x y =
     let count = h.count in
     let cf = x.known.count in
     let cg = y.known.count in
-    let to : (w m : ℕ) → w < 16 → Contains (numbers_at f.excluded w) m → Contains (numbers_at g.excluded w) m
-    = λ w m l z. rw (x.excluded w ∙ sym (y.excluded w)) at z in
-    let from : (w m : ℕ) → w < 16 → Contains (numbers_at g.excluded w) m → Contains (numbers_at f.excluded w) m
-    = λ w m l z. rw (y.excluded w ∙ sym (x.excluded w)) at z in
-    let first = takes-as f.excluded g.excluded to from [] f.known ns x.known in
+    let none = ext_get_or 0 f.excluded g.excluded (x.words ∙ sym y.words) (λ w l. x.excluded w ∙ sym (y.excluded w)) in
+    let first = rw none at x.known in
     record {
       below = record {
         count = cf;
@@ -356,7 +354,7 @@ started-grown f g ns longer p h x y =
             (λ k b l. first.each k b l) (λ k b l. rw (h.same k l) at (y.known.each k b (omega arith))) (length ns)
             (omega arith);
       };
-      excluded = λ w l. ((λ m z. to w m l z), (λ m z. from w m l z));
+      excluded = none;
       newer = λ i b l. y.known.each i (omega arith) l;
       closed = record { count = cg; each = λ i l. (y.known.each i (omega arith) l).is.known };
     }
@@ -371,8 +369,7 @@ grown-grown f g h ns more longer p l k r x =
     let ch = r.below.more in
     let cg = x.known.count in
     let whole = longer-trans ns more longer l k in
-    let first = takes-as f.excluded h.excluded (λ w m b. (r.excluded w b).0 m) (λ w m b. (r.excluded w b).1 m) f.known
-    g.known more x.known in
+    let first = rw r.excluded at x.known in
     record {
       below = record {
         count = cg;
@@ -381,7 +378,7 @@ grown-grown f g h ns more longer p l k r x =
             (all-below f.known h.known (length ns) cf (omega arith) r.below.same) (λ i b m. first.each i b m)
             (λ i b m. rw (k.same i m) at (r.newer i (omega arith) (omega arith))) (length more) (omega arith);
       };
-      excluded = λ w b. rw (← x.excluded) at (r.excluded w b);
+      excluded = x.excluded ∙ r.excluded;
       newer = λ i b m. r.newer i (omega arith) m;
       closed = r.closed;
     }
@@ -415,13 +412,12 @@ carried-grown f g ns longer conds (grown old shorter c p e x) q h b =
     (carried-grown old g shorter longer conds c q (longer-trans shorter ns longer l h) b) x
 
 pub carried-built : (f g : FactsView) (ns : List Node) (conds : List Cond) → AreCarried f ns conds
-    → AreBuiltBy g ns conds → AreEqualFacts f g
+    → AreBuiltBy g ns conds → (f.known ≡ g.known) × (f.excluded ≡ g.excluded)
 carried-built f g ns conds h b =
     let r = carried-grown f g ns ns conds h (carried-pool f ns conds h)
     (record { count = omega arith; same = λ i l. refl }) b in
     let cf = r.below.count in
-    let cg = r.below.more in
-    record {
-      known = ext_get_or (known_of 0 0 0 0) f.known g.known (cf ∙ sym cg) (λ i l. r.below.same i (omega arith));
-      excluded = r.excluded;
-    }
+    let cg = r.below.more in (
+      ext_get_or (known_of 0 0 0 0) f.known g.known (cf ∙ sym cg) (λ i l. r.below.same i (omega arith)),
+      r.excluded,
+    )

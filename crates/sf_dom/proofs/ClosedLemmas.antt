@@ -1,14 +1,14 @@
 -- What reduction leaves is closed, and is the widest such knowledge.
-use Rattle.std.proofs.Common.{◌≡◌, ◌≢◌, ℕ, suc, pow-suc, ◌<◌, ◌≤◌, ◌^◌, ◌-◌, ◌+◌, ◌*◌, ◌/◌, ◌%◌, min, max, List, arith, refl, sym, ap, ◌∙◌, inl, inr}
+use Rattle.std.proofs.Common.{◌≡◌, ◌≢◌, ℕ, suc, pow-suc, ◌<◌, ◌≤◌, ◌^◌, ◌-◌, ◌+◌, ◌*◌, ◌/◌, ◌%◌, min, max, arith, refl, sym, ap, ◌∙◌, inl, inr}
 use Rattle.std.proofs.lemmas.Bool.{cases_lt}
-use Rattle.std.specs.Prelude.{bit_and, bit_or, bit_xor, Contains}
+use Rattle.std.specs.Prelude.{bit_and, bit_or, bit_xor}
 use Rattle.std.specs.Int.{bit_at, w32}
 use Rattle.std.proofs.lemmas.Nat.{shr-shr, shr_split, xor_shr, pow_pos, or_lt}
 use Rattle.std.specs.Int.Bits.{and_lt}
 use Rattle.std.proofs.Math.Pow.{pow_mono}
 use Rattle.std.proofs.lemmas.Nat.Bits.{bit_at_and, bit_at_or, bit_at_not, bit_at_xor, bit_at-lt, bit_at-zero, bit_at_above, bit_at_mask_below, bit_at_mask_inside, same_from_bits}
 use Rattle.sf_dom.specs.declared.known.Known.{Known}
-use Rattle.sf_dom.specs.Known.{HasBits, IsNarrower, IsConsistent, known_of}
+use Rattle.sf_dom.specs.Known.{Has, HasBits, IsNarrower, known_of}
 use Rattle.sf_dom.specs.Reduction.{AreApart, IsLeadingMask}
 use Rattle.sf_dom.specs.Rules.{IsClosed, IsClosedWord, HasNone}
 use Rattle.sf_dom.specs.FactsLaws.{bit_at-complement}
@@ -152,27 +152,6 @@ closed-leading r z o mask ord fits apart lo hi m ez eo = record {
         → (y ≡ 1 - l) × (p ≡ l)
     both y p z o n l m ey ep em en a b = (omega arith, omega arith)
 
--- closed knowledge of one number has all its bits
-pub closed-consistent : (k : Known) → IsClosed k → IsConsistent k
-closed-consistent k h =
-    let ordered = h.ordered in
-    let fits = h.fits in
-    let top = h.high in
-    let bottom = h.low in
-    record {
-      ordered = ordered;
-      fits = fits;
-      zeros = λ e. same_from_bits k.zeros (4294967295 - k.low) (λ i. elim (cases_lt i 32) [
-        | inl l ↦ (h.leading i l (ap (λ n. n / 2 ^ i) e)).0 ∙ sym (bit_at_not w32 k.low i (omega arith) l)
-        | inr g ↦ bit_at_above k.zeros 32 i (omega arith) g
-            ∙ sym (bit_at_above (4294967295 - k.low) 32 i (omega arith) g)
-      ]);
-      ones = λ e. same_from_bits k.ones k.low (λ i. elim (cases_lt i 32) [
-        | inl l ↦ (h.leading i l (ap (λ n. n / 2 ^ i) e)).1
-        | inr g ↦ bit_at_above k.ones 32 i (omega arith) g ∙ sym (bit_at_above k.low 32 i (omega arith) g)
-      ]);
-    }
-
 -- a round that changes nothing is the last
 pub round-last : (k r : Known) (mask : ℕ) → r.low ≡ max k.low k.ones → r.high ≡ min k.high (4294967295 - k.zeros)
     → k.zeros < 2 ^ 32 → r.low ≤ r.high → r.high < 2 ^ 32 → bit_and k.zeros k.ones ≡ 0 → IsLeadingMask r.low r.high mask
@@ -194,9 +173,9 @@ fewer-bits k s n h b = record {
 }
 
 -- the reduction of a word
-pub word-widest : (k s : Known) (xs : List ℕ) (lo hi mask : ℕ) → lo < 2 ^ 32 → IsLeadingMask lo hi mask
-    → ((n : ℕ) → k.low ≤ n → n < lo → HasBits n k.zeros k.ones → Contains xs n)
-    → ((n : ℕ) → hi < n → n ≤ k.high → HasBits n k.zeros k.ones → Contains xs n)
+pub word-widest : (k s : Known) (xs : ℕ) (lo hi mask : ℕ) → lo < 2 ^ 32 → IsLeadingMask lo hi mask
+    → ((n : ℕ) → k.low ≤ n → n < lo → HasBits n k.zeros k.ones → Has xs n)
+    → ((n : ℕ) → hi < n → n ≤ k.high → HasBits n k.zeros k.ones → Has xs n)
     → IsClosedWord xs s → IsNarrower k s
     → IsNarrower (known_of lo hi (bit_or k.zeros (bit_and (4294967295 - lo) mask)) (bit_or k.ones (bit_and lo mask))) s
 word-widest k s xs lo hi mask fl m up down h n =
@@ -211,8 +190,8 @@ word-widest k s xs lo hi mask fl m up down h n =
     ] in
     leading-in k s lo hi mask h.known n fl a b m
 
-pub word-none : (k : Known) (xs : List ℕ) (low high : ℕ) → low ≤ k.low → k.high ≤ high
-    → ((n : ℕ) → low ≤ n → n ≤ high → HasBits n k.zeros k.ones → Contains xs n) → HasNone (IsClosedWord xs) k
+pub word-none : (k : Known) (xs : ℕ) (low high : ℕ) → low ≤ k.low → k.high ≤ high
+    → ((n : ℕ) → low ≤ n → n ≤ high → HasBits n k.zeros k.ones → Has xs n) → HasNone (IsClosedWord xs) k
 word-none k xs low high a b up = λ s h n.
     let nl = n.low in let nh = n.high in let so = h.known.ordered in
     h.tight.low.kept (up s.low (omega arith) (omega arith) (fewer-bits k s s.low n h.tight.low.admitted.bits))
@@ -238,10 +217,10 @@ marked low mask n l same = record {
       | inr p ↦ omega arith
     ]
 
-pub word-closed : (k r : Known) (xs : List ℕ) (mask : ℕ) → r.low ≤ r.high → r.high < 2 ^ 32
+pub word-closed : (k r : Known) (xs : ℕ) (mask : ℕ) → r.low ≤ r.high → r.high < 2 ^ 32
     → IsLeadingMask r.low r.high mask → k.zeros < 2 ^ 32 → mask < 2 ^ 32
     → r.zeros ≡ bit_or k.zeros (bit_and (4294967295 - r.low) mask) → r.ones ≡ bit_or k.ones (bit_and r.low mask)
-    → HasBits r.low k.zeros k.ones → ¬ Contains xs r.low → HasBits r.high k.zeros k.ones → ¬ Contains xs r.high
+    → HasBits r.low k.zeros k.ones → ¬ Has xs r.low → HasBits r.high k.zeros k.ones → ¬ Has xs r.high
     → IsClosedWord xs r
 word-closed k r xs mask ord fits m fz fm ez eo bl kl bh kh =
     let fl : r.low < 2 ^ 32 = omega arith in

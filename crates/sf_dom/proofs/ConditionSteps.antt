@@ -28,12 +28,12 @@ use Rattle.sf_dom.proofs.TestLaws.{test-admits, test-zeros}
 use Rattle.sf_dom.proofs.Then.{then-some, then-if}
 
 -- what is left of the two nodes of a condition
-pub record AreLeft (ks : List Known) (ex : List (List ℕ)) (cond : Cond) (pair : Pair) : Type 0 where
+pub record AreLeft (ks : List Known) (ex : List ℕ) (cond : Cond) (pair : Pair) : Type 0 where
   pub node : IsReduction ex cond.node.0 (met (known_at ks cond.node.0) (assumed_of ks cond).node) pair.node
   pub other : IsReduction ex cond.other.0
       (met (known_at (set ks cond.node.0 pair.node) cond.other.0) (assumed_of ks cond).other) pair.other
 
-pub pair-left : (ks : List Known) (ex : List (List ℕ)) (cond : Cond) (r : Option Pair) → PairGives ks ex cond r
+pub pair-left : (ks : List Known) (ex : List ℕ) (cond : Cond) (r : Option Pair) → PairGives ks ex cond r
     → IfSome r (AreLeft ks ex cond)
 pair-left ks ex cond =
     then-if (ReductionGives ex cond.node.0 (met (known_at ks cond.node.0) (assumed_of ks cond).node)) _
@@ -42,7 +42,7 @@ pair-left ks ex cond =
     (λ other k r e. rw e (record { node = h; other = k })))
 
 -- once both are written, what is known is closed, and nothing is lost
-pub pair-narrowed : (ks : List Known) (ex : List (List ℕ)) (ns : List Node) (cond : Cond) (pair : Pair)
+pub pair-narrowed : (ks : List Known) (ex : List ℕ) (ns : List Node) (cond : Cond) (pair : Pair)
     → AreClosed ks ns → IsCondBelow (length ns) cond → AreLeft ks ex cond pair
     → IsNarrowed ks (with_pair ks cond pair) ex ns
 pair-narrowed ks ex ns cond pair h below left =
@@ -55,14 +55,14 @@ pair-narrowed ks ex ns cond pair h below left =
     (narrowed-set (set ks cond.node.0 pair.node) ex ns cond.other.0 pair.other first.closed below.1 left.other.is
     (IsNarrower-trans w (met w a.other) pair.other (met-left w a.other) left.other.narrower))
 
-pair-narrowed-if : (ks : List Known) (ex : List (List ℕ)) (ns : List Node) (cond : Cond) → AreClosed ks ns
+pair-narrowed-if : (ks : List Known) (ex : List ℕ) (ns : List Node) (cond : Cond) → AreClosed ks ns
     → IsCondBelow (length ns) cond → (pair : Pair) → PairGives ks ex cond (Some pair)
     → IsNarrowed ks (with_pair ks cond pair) ex ns
 pair-narrowed-if ks ex ns cond h below pair g =
     pair-narrowed ks ex ns cond pair h below (pair-left ks ex cond (Some pair) g)
 
 -- known bits that go back from both nodes lose nothing
-pub both-back : (ks one two : List Known) (ex : List (List ℕ)) (ns : List Node) (cond : Cond) → IsPool ns
+pub both-back : (ks one two : List Known) (ex : List ℕ) (ns : List Node) (cond : Cond) → IsPool ns
     → AreClosed ks ns → IsCondBelow (length ns) cond → GoingBackGives ks ex ns cond.node.0 (Some one)
     → GoingBackGives one ex ns cond.other.0 (Some two) → IsNarrowed ks two ex ns
 both-back ks one two ex ns cond p h below g k =
@@ -71,7 +71,7 @@ both-back ks one two ex ns cond p h below g k =
     ((back-lawful one ex ns cond.other.0 p first.closed below.1).narrowed (Some two) k)
 
 -- an input that agrees and meets the condition agrees once both are written
-pair-sound : (ks : List Known) (ex : List (List ℕ)) (ns : List Node) (cond : Cond) → IsPool ns → AreClosed ks ns
+pair-sound : (ks : List Known) (ex : List ℕ) (ns : List Node) (cond : Cond) → IsPool ns → AreClosed ks ns
     → IsCondBelow (length ns) cond → (d : Input) → IsInput d → Meets ns cond d → AgreesWith ks ex ns d
     → (r : Option Pair) → PairGives ks ex cond r → MatchOption r ⊥ (λ pair. AgreesWith (with_pair ks cond pair) ex ns d)
 pair-sound ks ex ns cond p h below d i m a =
@@ -112,7 +112,7 @@ pair-sound ks ex ns cond p h below d i m a =
     (λ other f l r e. rw e (agrees-set ks' ex ns d cond.other.0 other lw a' l)))
 
 -- after both nodes: known bits go back from each, and then comes a pass
-after-pair : (ks : List Known) (ex : List (List ℕ)) (ns : List Node) (cond : Cond) → IsPool ns → AreClosed ks ns
+after-pair : (ks : List Known) (ex : List ℕ) (ns : List Node) (cond : Cond) → IsPool ns → AreClosed ks ns
     → IsCondBelow (length ns) cond → IsLawful AnyInput ks ex ns
     (Then (GoingBackGives ks ex ns cond.node.0) (λ one. Then (GoingBackGives one ex ns cond.other.0) (λ two s.
     PassGives two ex ns s)))
@@ -124,7 +124,7 @@ after-pair ks ex ns cond p h below =
     (back-lawful one ex ns cond.other.0 p g below.1) (λ two k. pass-lawful two ex ns p k))
 
 -- to take in a condition is a lawful step for the inputs that meet it
-pub condition-lawful : (ks : List Known) (ex : List (List ℕ)) (ns : List Node) (cond : Cond) → IsPool ns
+pub condition-lawful : (ks : List Known) (ex : List ℕ) (ns : List Node) (cond : Cond) → IsPool ns
     → AreClosed ks ns → IsCondBelow (length ns) cond
     → IsLawful (Meets ns cond) ks ex ns (ConditionGives ks ex ns cond)
 condition-lawful ks ex ns cond p h below =
@@ -143,7 +143,7 @@ condition-lawful ks ex ns cond p h below =
     }
 
 -- nothing more follows after a condition
-pub condition-rest : (ks : List Known) (ex : List (List ℕ)) (ns : List Node) (cond : Cond) (r : Option (List Known))
+pub condition-rest : (ks : List Known) (ex : List ℕ) (ns : List Node) (cond : Cond) (r : Option (List Known))
     → ConditionGives ks ex ns cond r → IfSome r (λ next. (i : ℕ) → i < length ns → IsAtRest next ex ns i)
 condition-rest ks ex ns cond =
     then-if (PairGives ks ex cond) _ (λ next. (i : ℕ) → i < length ns → IsAtRest next ex ns i) (λ pair g.
@@ -153,12 +153,12 @@ condition-rest ks ex ns cond =
     (λ two k r l. pass-rest two ex ns r l)))
 
 -- what is left of the two nodes of a condition, of which what is known afterwards loses nothing
-pub record ComesFrom (ks new : List Known) (ex : List (List ℕ)) (cond : Cond) : Type 0 where
+pub record ComesFrom (ks new : List Known) (ex : List ℕ) (cond : Cond) : Type 0 where
   pub pair : Pair
   pub left : AreLeft ks ex cond pair
   pub narrower : AllNarrower (with_pair ks cond pair) new
 
-pub condition-from : (ks : List Known) (ex : List (List ℕ)) (ns : List Node) (cond : Cond) → IsPool ns
+pub condition-from : (ks : List Known) (ex : List ℕ) (ns : List Node) (cond : Cond) → IsPool ns
     → AreClosed ks ns → IsCondBelow (length ns) cond → (r : Option (List Known)) → ConditionGives ks ex ns cond r
     → IfSome r (λ new. ComesFrom ks new ex cond)
 condition-from ks ex ns cond p h below =
@@ -173,7 +173,7 @@ condition-from ks ex ns cond p h below =
         record { pair = pair; left = pair-left ks ex cond (Some pair) g; narrower = n.narrower }
 
 -- to take in more of a node is a lawful step for the inputs on which it has such a number
-pub more-lawful : (ks : List Known) (ex : List (List ℕ)) (ns : List Node) (i : ℕ) (more : Known) → IsPool ns
+pub more-lawful : (ks : List Known) (ex : List ℕ) (ns : List Node) (i : ℕ) (more : Known) → IsPool ns
     → AreClosed ks ns → i < length ns → more.zeros < 2 ^ 32
     → IsLawful (λ d. Admits more (value_of ns d i)) ks ex ns (MoreGives ks ex ns i more)
 more-lawful ks ex ns i more p h l f =
@@ -186,7 +186,7 @@ more-lawful ks ex ns i more p h l f =
     (λ d v m a. met-admits own more (value_of ns d i) (a i (omega arith)).admitted m))
     (λ next k. pass-lawful next ex ns p k)
 
-pub more-rest : (ks : List Known) (ex : List (List ℕ)) (ns : List Node) (i : ℕ) (more : Known)
+pub more-rest : (ks : List Known) (ex : List ℕ) (ns : List Node) (i : ℕ) (more : Known)
     (r : Option (List Known)) → MoreGives ks ex ns i more r
     → IfSome r (λ next. (j : ℕ) → j < length ns → IsAtRest next ex ns j)
 more-rest ks ex ns i more =
@@ -195,7 +195,7 @@ more-rest ks ex ns i more =
     (λ next g r f. pass-rest next ex ns r f)
 
 -- a condition is taken in step by step
-pub condition-steps : (b : Bool) (ks one two new : List Known) (ex : List (List ℕ)) (ns : List Node) (cond : Cond)
+pub condition-steps : (b : Bool) (ks one two new : List Known) (ex : List ℕ) (ns : List Node) (cond : Cond)
     (pair : Pair) → PairGives ks ex cond (Some pair)
     → GoingBackGives (with_pair ks cond pair) ex ns cond.node.0 (Some one)
     → GoingBackGives one ex ns cond.other.0 (Some two)
@@ -205,7 +205,7 @@ condition-steps true ks one two new ex ns cond pair g h k w = (Some pair, g, (So
 condition-steps false ks one two new ex ns cond pair g h k w = (Some pair, g, (Some one, h, (Some two, k, w)))
 
 -- a condition of which nothing follows changes nothing
-pub condition-nothing : (ks : List Known) (ex : List (List ℕ)) (ns : List Node) (cond : Cond) (pair : Pair) → IsPool ns
+pub condition-nothing : (ks : List Known) (ex : List ℕ) (ns : List Node) (cond : Cond) (pair : Pair) → IsPool ns
     → length ks ≡ length ns → IsCondBelow (length ns) cond → PairGives ks ex cond (Some pair)
     → pair.node ≡ known_at ks cond.node.0 → pair.other ≡ known_at ks cond.other.0
     → ((i : ℕ) → i < length ns → IsAtRest ks ex ns i)
@@ -235,7 +235,7 @@ condition-nothing ks ex ns cond pair p count below g en eo rest one two =
     )
 
 -- and it is known afterwards
-pub more-known : (ks : List Known) (ex : List (List ℕ)) (ns : List Node) (i : ℕ) (more : Known) → IsPool ns
+pub more-known : (ks : List Known) (ex : List ℕ) (ns : List Node) (i : ℕ) (more : Known) → IsPool ns
     → AreClosed ks ns → i < length ns → (r : Option (List Known)) → MoreGives ks ex ns i more r
     → IfSome r (λ new. IsNarrower more (known_at new i))
 more-known ks ex ns i more p h l =

@@ -1,7 +1,7 @@
 -- Facts of which nothing more follows cover their pool: constants are known, and so are operations on decided operands.
 use Rattle.std.proofs.Common.{◌≡◌, ℕ, ◌<◌, ◌≤◌, ◌^◌, ◌+◌, ◌-◌, List, length, arith, refl, ◌⊎◌, inl, inr}
 use Rattle.std.proofs.lemmas.Bool.{cases_lt}
-use Rattle.std.specs.Prelude.{Option, Some, None, Bool, IfSome}
+use Rattle.std.specs.Prelude.{Some}
 use Rattle.sf_insn.specs.declared.ops.BinOp.{BinOp}
 use Rattle.sf_insn.specs.declared.ops.BinOp.TheVariants.{Add, Sub, Mul, Div, Or, And, Lsh, Rsh, Xor}
 use Rattle.sf_sym.specs.Pool.{IsPool, OperandsBelow, node_at}
@@ -9,14 +9,15 @@ use Rattle.sf_sym.specs.declared.pool.Node.{Node}
 use Rattle.sf_sym.specs.declared.pool.Node.TheVariants.{Const, Word, Bin, Neg}
 use Rattle.sf_dom.specs.declared.known.Known.{Known}
 use Rattle.sf_dom.specs.Known.{IsNarrower, IsDecided, known_of}
-use Rattle.sf_dom.specs.Facts.{FactsView, known_at, Covers, KeepsDecided, AreDecidedOperands}
-use Rattle.sf_dom.specs.Passes.{IsAtRest, AreClosed, AreFixed}
+use Rattle.sf_dom.specs.Facts.{FactsView, known_at, Covers}
+use Rattle.sf_dom.specs.Passes.{IsAtRest, AreClosed}
 use Rattle.sf_dom.specs.Rules.{forward_known, forward_negated, forward_node, IsClosed}
 use Rattle.sf_dom.specs.Backward.{IsPropagatedBack}
 use Rattle.sf_dom.specs.GoingBack.{GoingBackGives}
+use Rattle.sf_dom.specs.SoundRules.{KeepsDecided, AreDecidedOperands}
 use Rattle.sf_dom.proofs.BackLaws.{back-still}
 use Rattle.sf_dom.proofs.Bits.{bits-le}
-use Rattle.sf_dom.proofs.ClosedLemmas.{closed-consistent}
+use Rattle.sf_dom.specs.FactsLaws.{closed-consistent}
 use Rattle.sf_dom.proofs.ForwardLemmas.{or-forced, and-forced, xor-forced}
 use Rattle.sf_dom.proofs.Passes.{operands-below, one-number}
 use Rattle.sf_dom.proofs.RuleLemmas.{add-sure, sub-sure, negate-some, negate-zero}
@@ -80,46 +81,32 @@ rest-decided ks ns k (Bin op a b) o h d =
     forced op (known_at ks a.0) (known_at ks b.0) d.0 (h a.0 o.0) (h b.0 o.1) d.1 d.2
 rest-decided ks ns k (Neg a) o h d = negated-forced (known_at ks a.0) (h a.0 o) d
 
--- a constant is known
-rest-constant : (ks : List Known) (ns : List Node) (k c : ℕ) → IsClosed (known_at ks k)
-    → IsNarrower (forward_node ks (node_at ns k)) (known_at ks k) → node_at ns k ≡ Const c
-    → ((known_at ks k).low ≡ c) × ((known_at ks k).high ≡ c)
-rest-constant ks ns k c h n e =
-    let s = rw e at n in
-    (omega (arith, s.low, s.high, h.ordered), omega (arith, s.low, s.high, h.ordered))
+-- something is known of each node of a pool, and nothing more follows for any
+pub record AreResting (ks : List Known) (ex : List ℕ) (ns : List Node) : Type 0 where
+  pub pool : IsPool ns
+  pub count : length ks ≡ length ns
+  pub rest : (i : ℕ) → i < length ns → IsAtRest ks ex ns i
 
--- facts of which nothing more follows
-pub rest-covers : (places : List ℕ) (ks : List Known) (ex : List (List ℕ)) (ns : List Node) → IsPool ns
-    → length ks ≡ length ns → length ex ≡ 16 → ((i : ℕ) → i < length ns → IsAtRest ks ex ns i)
-    → AreFixed places ks ns → Covers (record { known = ks; variables = places; excluded = ex }) ns
-rest-covers places ks ex ns p len lex rest fixed =
-    let words = p.words in
-    record {
-      pool = p;
-      lawful = record {
-        count = omega arith;
-        words = lex;
-        consistent = λ i l. closed-consistent (known_at ks i) (rest i (omega arith)).closed.known;
-        tight = λ w l. (rest w (omega arith)).closed.tight l;
-      };
-      count = len;
-      constants = λ i c l e. let r = rest i (omega arith) in rest-constant ks ns i c r.closed.known r.still e;
-      decided = λ i l o.
-          let r = rest i (omega arith) in
-          narrows-forced (forward_node ks (node_at ns i)) (known_at ks i) (rest-decided ks ns i (node_at ns i)
-          (operands-below ns i p (omega arith)) (λ j b. (rest j (omega arith)).closed.known) o) r.still r.closed.known;
-      rest = rest;
-      fixed = fixed;
-    }
+pub covers-resting : (f : FactsView) (ns : List Node) → Covers f ns → AreResting f.known f.excluded ns
+covers-resting f ns h = record { pool = h.pool; count = h.count; rest = h.rest }
+
+-- what is known is closed
+pub resting-closed : (ks : List Known) (ex : List ℕ) (ns : List Node) → AreResting ks ex ns → AreClosed ks ns
+resting-closed ks ex ns h = record { count = h.count; each = λ i l. (h.rest i l).closed.known }
+
+-- where nothing more follows for any node, operations on decided operands are decided
+pub results-decided : (f : FactsView) (ns : List Node) (i : ℕ) → Covers f ns → i < length ns
+    → AreDecidedOperands f.known (node_at ns i) → IsDecided (known_at f.known i)
+results-decided f ns i h l o =
+    let r = h.rest i l in
+    narrows-forced (forward_node f.known (node_at ns i)) (known_at f.known i) (rest-decided f.known ns i (node_at ns i)
+    (operands-below ns i h.pool l) (λ j b. (h.rest j (omega arith)).closed.known) o) r.still r.closed.known
 
 -- what facts of a pool know is closed
 pub covers-closed : (f : FactsView) (ns : List Node) → Covers f ns → AreClosed f.known ns
-covers-closed f ns h = record { count = h.count; each = λ i l. (h.rest i l).closed.known }
+covers-closed f ns h = resting-closed f.known f.excluded ns (covers-resting f ns h)
 
 -- where the bits of a node are known of its operand, and so on, going back from it changes nothing
-pub told-back : (o : Option Bool) (f : FactsView) (ns : List Node) (at : ℕ) → Covers f ns → at < length ns
-    → IfSome o (λ b. (n : ℕ) → IsPropagatedBack n f.known ns at)
-    → IfSome o (λ b. GoingBackGives f.known f.excluded ns at (Some f.known))
-told-back None f ns at h l w = tt
-told-back (Some b) f ns at h l w =
-    back-still (length ns) f.known f.excluded ns at h.pool l l (λ i k. (h.rest i k).closed) w
+pub known-back : (f : FactsView) (ns : List Node) (i : ℕ) → Covers f ns → i < length ns
+    → ((n : ℕ) → IsPropagatedBack n f.known ns i) → GoingBackGives f.known f.excluded ns i (Some f.known)
+known-back f ns i h l w = back-still (length ns) f.known f.excluded ns i h.pool l l (λ j k. (h.rest j k).closed) w

@@ -1,10 +1,9 @@
 -- A result that is forced is the only one that can be learnt.
-use Rattle.std.proofs.Common.{◌≡◌, ◌≢◌, ℕ, ◌<◌, ◌^◌, List, [], ◌∷◌, ◌++◌, length, set, Bool, true, false, not, arith, refl, sym, ap, ◌∙◌, ◌⊎◌, inl, inr}
+use Rattle.std.proofs.Common.{◌≡◌, ◌≢◌, ℕ, ◌<◌, ◌^◌, List, length, set, Bool, true, false, not, arith, refl, sym, ap, ◌∙◌, ◌⊎◌, inl, inr}
 use Rattle.std.proofs.lemmas.Bool.{cases_eq}
 use Rattle.std.proofs.lemmas.Bool.Decides.{nat_tests}
-use Rattle.std.proofs.lemmas.List.{set-get_or, length-set}
-use Rattle.std.proofs.lemmas.List.Elements.{Contains-push, Contains-push_cases, Contains-append_left}
-use Rattle.std.specs.Prelude.{Some, None}
+use Rattle.std.proofs.lemmas.List.{set-get_or}
+use Rattle.std.specs.Prelude.{Some, None, bit_or}
 use Rattle.sf_insn.specs.declared.ops.Test.{Test}
 use Rattle.sf_insn.specs.declared.ops.Test.TheVariants.{Equal, Greater, GreaterOrEqual, AnyBit}
 use Rattle.sf_sym.specs.Pool.{IsPool, IsCondBelow, node_at}
@@ -23,70 +22,55 @@ use Rattle.sf_dom.specs.Rules.{assumed, number_known, past, IsClosed, IsClosedAt
 use Rattle.sf_dom.specs.SoundRules.{IsForcedCondition}
 use Rattle.sf_dom.proofs.ClosedLemmas.{closed-number}
 use Rattle.sf_dom.proofs.ConditionSteps.{condition-nothing}
+use Rattle.sf_dom.proofs.AscendingLemmas.{one-more}
 use Rattle.sf_dom.proofs.Excluding.{added-at, excluded-word, both-excluded}
 use Rattle.sf_dom.proofs.Passes.{operands-below, still-reduction}
 use Rattle.sf_dom.proofs.Propagations.{word-below}
 use Rattle.sf_dom.proofs.TestLaws.{at-decided}
 
--- ---- the lists with the numbers that a condition excludes
+-- ---- the sets with the numbers that a condition excludes
 
-none-excluded : (ks : List Known) (ex : List (List ℕ)) (ns : List Node) (c : Cond)
+none-excluded : (ks : List Known) (ex : List ℕ) (ns : List Node) (c : Cond)
     → ((w m : ℕ) → ¬ Excludes ks ns c w m) → AreExcludedBy ks ex ex ns c
 none-excluded ks ex ns c none = record {
-  kept = λ w m l x. x;
-  more = λ w m l x. absurd (none w m x);
-  only = λ w m l x. inl x;
+  words = refl;
+  kept = λ w m x. x;
+  more = λ w m x. absurd (none w m x);
+  only = λ w m x. inl x;
 }
 
--- lists in which the number of a decided node is excluded for a word
-record HasLists (ex : List (List ℕ)) (n : Node) (k : Known) : Type 0 where
-  lists : List (List ℕ)
-  count : length lists ≡ 16
-  are : AreExcluded ex lists n k
+-- sets in which the number of a decided node is excluded for a word
+record HasSets (ex : List ℕ) (n : Node) (k : Known) : Type 0 where
+  sets : List ℕ
+  are : AreExcluded ex sets n k
 
-unchanged : (ex : List (List ℕ)) (n : Node) (k : Known) → length ex ≡ 16
-    → ((w : ℕ) → n ≡ Word w → IsDecided k → ⊥) → HasLists ex n k
-unchanged ex n k l none = record {
-  lists = ex;
-  count = l;
-  are = record {
-    words = refl;
-    more = λ i m li x. x;
-    only = λ i m li x. inl x;
-    added = λ i e d. absurd (none i e d);
-  };
+unchanged : (ex : List ℕ) (n : Node) (k : Known) → ((w : ℕ) → n ≡ Word w → IsDecided k → ⊥) → HasSets ex n k
+unchanged ex n k none = record {
+  sets = ex;
+  are = record { words = refl; more = λ i m x. x; only = λ i m x. inl x; added = λ i e d. absurd (none i e d) };
 }
 
-lists-of : (ex : List (List ℕ)) (n : Node) (k : Known) → length ex ≡ 16 → ((w : ℕ) → n ≡ Word w → w < 16)
-    → HasLists ex n k
-lists-of ex (Const c) k l small = unchanged ex (Const c) k l (λ w e d. let clash : Const c ≡ Word w = e in absurd cc)
-lists-of ex (Bin op a b) k l small =
-    unchanged ex (Bin op a b) k l (λ w e d. let clash : Bin op a b ≡ Word w = e in absurd cc)
-lists-of ex (Neg a) k l small = unchanged ex (Neg a) k l (λ w e d. let clash : Neg a ≡ Word w = e in absurd cc)
-lists-of ex (Word w) k l small = elim (cases_eq k.low k.high) [
-  | inr ne ↦ unchanged ex (Word w) k l (λ v e d. ne d)
-  | inl e ↦
-      let xs : List ℕ = numbers_at ex w ++ k.low ∷ [] in
-      let here : w < length ex = omega (arith, small w refl) in
-      record {
-        lists = set ex w xs;
-        count = length-set ex w xs ∙ l;
-        are = excluded-word ex (set ex w xs) w (Word w) k refl e (added-at ex w xs k.low here (λ m. (
-          (λ c. elim (Contains-push_cases (numbers_at ex w) k.low m c) [ inl old ↦ inl old | inr new ↦ inr (sym new) ]),
-          (λ c. elim c [
-            | inl old ↦ Contains-append_left (numbers_at ex w) (k.low ∷ []) m old
-            | inr new ↦ rw new (Contains-push (numbers_at ex w) k.low)
-          ]),
-        )));
-      }
+sets-of : (ex : List ℕ) (n : Node) (k : Known) → length ex ≡ 16 → ((w : ℕ) → n ≡ Word w → w < 16) → HasSets ex n k
+sets-of ex (Const c) k l small = unchanged ex (Const c) k (λ w e d. let clash : Const c ≡ Word w = e in absurd cc)
+sets-of ex (Bin op a b) k l small =
+    unchanged ex (Bin op a b) k (λ w e d. let clash : Bin op a b ≡ Word w = e in absurd cc)
+sets-of ex (Neg a) k l small = unchanged ex (Neg a) k (λ w e d. let clash : Neg a ≡ Word w = e in absurd cc)
+sets-of ex (Word w) k l small = elim (cases_eq k.low k.high) [
+  | inr ne ↦ unchanged ex (Word w) k (λ v e d. ne d)
+  | inl e ↦ record {
+    sets = set ex w (bit_or (2 ^ k.low) (numbers_at ex w));
+    are = excluded-word ex (set ex w (bit_or (2 ^ k.low) (numbers_at ex w))) w (Word w) k refl e
+        (added-at ex w (bit_or (2 ^ k.low) (numbers_at ex w)) k.low (omega (arith, l, small w refl))
+        (one-more k.low (numbers_at ex w)));
+  }
 ]
 
--- lists in which the numbers that a condition excludes are excluded
-record HasExclusions (ks : List Known) (ex : List (List ℕ)) (ns : List Node) (c : Cond) : Type 0 where
-  lists : List (List ℕ)
-  are : AreExcludedBy ks ex lists ns c
+-- sets in which the numbers that a condition excludes are excluded
+record HasExclusions (ks : List Known) (ex : List ℕ) (ns : List Node) (c : Cond) : Type 0 where
+  sets : List ℕ
+  are : AreExcludedBy ks ex sets ns c
 
-exclusions : (ks : List Known) (ex : List (List ℕ)) (ns : List Node) (c : Cond) → IsPool ns → length ex ≡ 16
+exclusions : (ks : List Known) (ex : List ℕ) (ns : List Node) (c : Cond) → IsPool ns → length ex ≡ 16
     → IsCondBelow (length ns) c → HasExclusions ks ex ns c
 exclusions ks ex ns c p l below = on c.test c.sense refl refl
   where
@@ -94,13 +78,14 @@ exclusions ks ex ns c p l below = on c.test c.sense refl refl
     small i li w e = word-below i (node_at ns i) (operands-below ns i p li) w e
 
     none : ¬ ((c.test ≡ Equal) × (c.sense ≡ false)) → HasExclusions ks ex ns c
-    none n = record { lists = ex; are = none-excluded ks ex ns c (λ w m x. n (x.0, x.1)) }
+    none n = record { sets = ex; are = none-excluded ks ex ns c (λ w m x. n (x.0, x.1)) }
 
     on : (t : Test) (s : Bool) → c.test ≡ t → c.sense ≡ s → HasExclusions ks ex ns c
     on Equal false et es =
-        let a = lists-of ex (node_at ns c.node.0) (known_at ks c.other.0) l (small c.node.0 below.0) in
-        let b = lists-of a.lists (node_at ns c.other.0) (known_at ks c.node.0) a.count (small c.other.0 below.1) in
-        record { lists = b.lists; are = both-excluded ks ex a.lists b.lists ns c a.are b.are et es }
+        let a = sets-of ex (node_at ns c.node.0) (known_at ks c.other.0) l (small c.node.0 below.0) in
+        let b = sets-of a.sets (node_at ns c.other.0) (known_at ks c.node.0) (a.are.words ∙ l)
+        (small c.other.0 below.1) in
+        record { sets = b.sets; are = both-excluded ks ex a.sets b.sets ns c a.are b.are et es }
     on Equal true et es = none (λ x. let clash : true ≡ false = sym es ∙ x.1 in absurd cc)
     on Greater s et es = none (λ x. let clash : Greater ≡ Equal = sym et ∙ x.0 in absurd cc)
     on GreaterOrEqual s et es = none (λ x. let clash : GreaterOrEqual ≡ Equal = sym et ∙ x.0 in absurd cc)
@@ -125,7 +110,7 @@ that-apart k n f d w =
 
 -- a condition whose result is forced
 module _ (f : FactsView) (ns : List Node) (c : Cond) (number : ℕ)
-    (h : IsForcedCondition f ns c number c.sense) (lists : List (List ℕ))
+    (h : IsForcedCondition f ns c number c.sense) (lists : List ℕ)
     (are : AreExcludedBy f.known f.excluded lists ns c) where
   abbrev own : Known
   own = known_at f.known c.node.0
@@ -165,14 +150,14 @@ module _ (f : FactsView) (ns : List Node) (c : Cond) (number : ℕ)
           tight = λ b. record {
             low = record {
               admitted = (r.closed.tight b).low.admitted;
-              kept = λ z. elim (are.only i k.low b z) [
+              kept = λ z. elim (are.only i k.low z) [
                 | inl old ↦ (r.closed.tight b).low.kept old
                 | inr new ↦ end-stays i k.low b l (inl refl) new
               ];
             };
             high = record {
               admitted = (r.closed.tight b).high.admitted;
-              kept = λ z. elim (are.only i k.high b z) [
+              kept = λ z. elim (are.only i k.high z) [
                 | inl old ↦ (r.closed.tight b).high.kept old
                 | inr new ↦ end-stays i k.high b l (inr refl) new
               ];
@@ -206,15 +191,16 @@ module _ (f : FactsView) (ns : List Node) (c : Cond) (number : ℕ)
     excluded = are;
     known = condition-nothing f.known lists ns c pair h.pool h.count h.below pair-stays refl refl rests h.node_back
         h.other_back;
+    variables = refl;
   }
 
 pub forced-learns : (f : FactsView) (ns : List Node) (c : Cond) (number : ℕ)
     → IsForcedCondition f ns c number c.sense → (new : FactsView) × (new.known ≡ f.known) × LearnsBy f new ns c
 forced-learns f ns c number h =
     let all = exclusions f.known f.excluded ns c h.pool h.lists h.below in (
-      record { known = f.known; variables = f.variables; excluded = all.lists },
+      record { known = f.known; variables = f.variables; excluded = all.sets },
       refl,
-      learns f ns c number h all.lists all.are,
+      learns f ns c number h all.sets all.are,
     )
 
 not-not : (b : Bool) → not (not b) ≡ b
@@ -227,7 +213,7 @@ forced-cant f ns c number h =
     let all = exclusions f.known f.excluded ns c h.pool h.lists h.below in
     let none = rw (not-not c.sense, ← h.decided) at h.forced.other in
     record {
-      lists = all.lists;
+      sets = all.sets;
       excluded = all.are;
       none = (
         None,
@@ -238,11 +224,11 @@ forced-cant f ns c number h =
             tight = λ b. record {
               low = record {
                 admitted = (is.tight b).low.admitted;
-                kept = λ x. (is.tight b).low.kept (all.are.kept c.node.0 s.low b x);
+                kept = λ x. (is.tight b).low.kept (all.are.kept c.node.0 s.low x);
               };
               high = record {
                 admitted = (is.tight b).high.admitted;
-                kept = λ x. (is.tight b).high.kept (all.are.kept c.node.0 s.high b x);
+                kept = λ x. (is.tight b).high.kept (all.are.kept c.node.0 s.high x);
               };
             };
           }) n),

@@ -1,6 +1,6 @@
 -- A test against a number that is forced, as a condition.
-use Rattle.std.proofs.Common.{◌≡◌, ◌≢◌, ℕ, zero, suc, ◌<◌, ◌^◌, ◌+◌, List, [], ◌∷◌, ◌++◌, length, Bool, arith, refl, sym, ap, ◌∙◌, inl, inr}
-use Rattle.std.proofs.lemmas.Bool.{cases_lt}
+use Rattle.std.proofs.Common.{◌≡◌, ◌≢◌, ℕ, zero, suc, ◌<◌, ◌^◌, ◌+◌, ◌-◌, List, [], ◌∷◌, ◌++◌, length, Bool, arith, refl, sym, ap, ◌∙◌, inl, inr}
+use Rattle.std.proofs.lemmas.Bool.{cases_lt, eq-eqb}
 use Rattle.std.proofs.lemmas.List.{get_or_append_left, get_or_push, length_push}
 use Rattle.std.proofs.Math.Seq.{take-append_seam}
 use Rattle.std.specs.Prelude.{Option, Some, None, IfSome}
@@ -22,13 +22,14 @@ use Rattle.sf_dom.specs.Rules.{number_known, IsClosedAt}
 use Rattle.sf_dom.specs.SoundRules.{IsForcedCondition, IsForcedTest, condition}
 use Rattle.sf_dom.proofs.ConstantOperands.{is-operand}
 use Rattle.sf_dom.proofs.Carried.{IsLonger, extends-longer, at-same}
-use Rattle.sf_dom.proofs.ClosedLemmas.{closed-number, closed-consistent}
+use Rattle.sf_dom.specs.FactsLaws.{closed-consistent}
+use Rattle.sf_dom.proofs.ClosedLemmas.{closed-number}
 use Rattle.sf_dom.proofs.Passes.{operands-below, forward-same, number-stays}
 use Rattle.sf_dom.proofs.Reductions.{IsNarrower-refl}
 use Rattle.sf_dom.proofs.RuleLaws.{again}
 
 -- a constant at rest is its number
-constant-known : (ks : List Known) (ex : List (List ℕ)) (ns : List Node) (i c : ℕ) → c < 2 ^ 32 → node_at ns i ≡ Const c
+constant-known : (ks : List Known) (ex : List ℕ) (ns : List Node) (i c : ℕ) → c < 2 ^ 32 → node_at ns i ≡ Const c
     → IsAtRest ks ex ns i → known_at ks i ≡ number_known c
 constant-known ks ex ns i c f e r =
     number-stays (number_known c) (known_at ks i) (closed-consistent (number_known c) (closed-number c f))
@@ -94,6 +95,8 @@ forced-added f ns node other test number sense result h none at =
     let size : length more ≡ length ns + 1 = length_push ns (Const number) in
     let last : node_at more (length ns) ≡ Const number = get_or_push ns (Const number) (Const 0) (length ns) refl in
     let nothing : Known = known_of 0 0 0 0 in
+    let one : length more - length f.known ≡ 1 = omega (arith, count, size) in
+    let at_end : length f.known + 0 ≡ length ns = omega (arith, count) in
     let older : (i : ℕ) → i < length ns → known_at ks i ≡ known_at f.known i
     = λ i l. get_or_append_left f.known (new ∷ []) nothing i (omega arith) in
     let newest : known_at ks (length ns) ≡ new = get_or_push f.known new nothing (length ns) count in
@@ -131,6 +134,7 @@ forced-added f ns node other test number sense result h none at =
               rw (known, node) (again (IsClosedAt f.excluded i) new
               (record { known = closed-number number h.fits; tight = λ b. absurd (omega arith) }));
         };
+        variables = rw (one, at_end, last, newest, eq-eqb number number refl) refl;
         excluded = refl;
       },
       forced-found g more node other test number sense result (record {

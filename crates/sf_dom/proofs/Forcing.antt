@@ -1,24 +1,24 @@
 -- What is known of a word forces the result of a test against a number.
 use Rattle.std.proofs.lemmas.Grind.{common_steps}
-use Rattle.std.proofs.Common.{◌≡◌, ◌≢◌, ℕ, ◌<◌, ◌≤◌, ◌^◌, ◌-◌, ◌+◌, ◌⊎◌, max, min, arith, refl, sym, ap, ◌∙◌, inl, inr}
+use Rattle.std.proofs.Common.{◌≡◌, ◌≢◌, ℕ, List, ◌<◌, ◌≤◌, ◌^◌, ◌-◌, ◌+◌, ◌⊎◌, max, min, arith, refl, sym, ap, ◌∙◌, inl, inr}
 use Rattle.std.proofs.lemmas.Bool.{cases_lt}
 use Rattle.std.proofs.lemmas.Bool.Decides.{nat_tests}
 use Rattle.std.proofs.lemmas.Nat.Bits.{bit_at-zero, bit_at-lt, bit_at_or, bit_at_and, bit_at_not, bit_at_above}
 use Rattle.std.specs.Int.{bit_at, w32, trailing_zeros}
 use Rattle.std.specs.Int.Bits.{and_lt}
-use Rattle.std.specs.Prelude.{List, Contains, Option, Some, None, IfSome, Bool, true, false, bit_and, bit_or}
+use Rattle.std.specs.Prelude.{Option, Some, None, IfSome, Bool, true, false, bit_and, bit_or}
 use Rattle.sf_insn.specs.declared.ops.Test.{Test}
 use Rattle.sf_insn.specs.declared.ops.Test.TheVariants.{Equal, Greater, GreaterOrEqual, AnyBit}
 use Rattle.sf_sym.specs.Pool.{OperandsBelow}
 use Rattle.sf_sym.specs.declared.pool.Node.{Node}
 use Rattle.sf_sym.specs.declared.pool.Node.TheVariants.{Const, Word, Bin, Neg}
 use Rattle.sf_dom.specs.declared.known.Known.{Known}
-use Rattle.sf_dom.specs.Known.{IsNarrower, AreBitsOf, HasBits}
+use Rattle.sf_dom.specs.Known.{Has, IsNarrower, AreBitsOf, HasBits}
 use Rattle.sf_dom.specs.Reading.{numbers_at, excluded_of}
 use Rattle.sf_dom.specs.Rules.{assumed, met, number_known, some_of, none_of, IsClosed, IsClosedAt, HasNone}
 use Rattle.sf_dom.specs.Telling.{IsForcedBy}
 use Rattle.sf_dom.proofs.Bits.{no-zeros}
-use Rattle.sf_dom.proofs.ClosedLemmas.{closed-consistent}
+use Rattle.sf_dom.specs.FactsLaws.{closed-consistent, none-has}
 use Rattle.sf_dom.proofs.CommonBits.{common-bits, common-open, and-zero}
 use Rattle.sf_dom.proofs.Lawful.{closed-zeros}
 use Rattle.sf_dom.proofs.Passes.{one-number}
@@ -164,8 +164,8 @@ equal-excluded kind k n h a b none = record {
   that = grind (arith, common_steps, nat_tests);
 }
 
-excluded-forces : (ex : List (List ℕ)) (i : ℕ) (k : Known) (n : ℕ) → i < 16 → IsClosedAt ex i k
-    → Contains (numbers_at ex i) n → IsForcedBy (IsClosedAt ex i) k Equal n false
+excluded-forces : (ex : List ℕ) (i : ℕ) (k : Known) (n : ℕ) → i < 16 → IsClosedAt ex i k
+    → Has (numbers_at ex i) n → IsForcedBy (IsClosedAt ex i) k Equal n false
 excluded-forces ex i k n l h c =
     equal-excluded (IsClosedAt ex i) k n h.known (λ e. (h.tight l).low.kept (rw e at c))
     (λ e. (h.tight l).high.kept (rw e at c)) (λ s is m.
@@ -173,17 +173,17 @@ excluded-forces ex i k n l h c =
     (is.tight l).low.kept (rw (← low) at c))
 
 -- what forces it by itself, does so for a node
-pub forced-at : (ex : List (List ℕ)) (i : ℕ) (k : Known) (test : Test) (n : ℕ) (o : Option Bool)
+pub forced-at : (ex : List ℕ) (i : ℕ) (k : Known) (test : Test) (n : ℕ) (o : Option Bool)
     → IfSome o (λ b. IsForcedBy IsClosed k test n b) → IfSome o (λ b. IsForcedBy (IsClosedAt ex i) k test n b)
 forced-at ex i k test n None h = tt
 forced-at ex i k test n (Some b) h = record { other = λ s is m. h.other s is.known m; this = h.this; that = h.that }
 
-pub excluded-node : (ex : List (List ℕ)) (i : ℕ) (k : Known) (n : ℕ) (node : Node) → OperandsBelow i node
-    → ((w : ℕ) → node ≡ Word w → i ≡ w) → IsClosedAt ex i k → Contains (excluded_of ex node) n
+pub excluded-node : (ex : List ℕ) (i : ℕ) (k : Known) (n : ℕ) (node : Node) → OperandsBelow i node
+    → ((w : ℕ) → node ≡ Word w → i ≡ w) → IsClosedAt ex i k → Has (excluded_of ex node) n
     → IsForcedBy (IsClosedAt ex i) k Equal n false
-excluded-node ex i k n (Const c) o own h w = absurd (omega (arith, w.1))
-excluded-node ex i k n (Bin op a b) o own h w = absurd (omega (arith, w.1))
-excluded-node ex i k n (Neg a) o own h w = absurd (omega (arith, w.1))
+excluded-node ex i k n (Const c) o own h w = absurd (none-has n w)
+excluded-node ex i k n (Bin op a b) o own h w = absurd (none-has n w)
+excluded-node ex i k n (Neg a) o own h w = absurd (none-has n w)
 excluded-node ex i k n (Word v) o own h w =
     let same : i ≡ v = own v refl in
     excluded-forces ex i k n (omega (arith, word-below i (Word v) o v refl)) h (rw (← same) at w)

@@ -2,13 +2,13 @@
 use Rattle.std.proofs.Common.{◌≡◌, ℕ, ◌<◌, ◌^◌, ◌-◌, List, length, set, arith, ◌∙◌, inl, inr}
 use Rattle.std.proofs.lemmas.Bool.{cases_eq}
 use Rattle.std.proofs.lemmas.List.{get_or-set_same, get_or-set_other, length-set}
-use Rattle.std.specs.Prelude.{Option, Some, None, MatchOption, IfSome, Contains}
+use Rattle.std.specs.Prelude.{Option, Some, None, MatchOption, IfSome}
 use Rattle.sf_insn.specs.Inputs.{IsInput}
 use Rattle.sf_insn.specs.declared.input.Input.{Input}
 use Rattle.sf_sym.specs.Pool.{IsPool, value_of}
 use Rattle.sf_sym.specs.declared.pool.Node.{Node}
 use Rattle.sf_dom.specs.declared.known.Known.{Known}
-use Rattle.sf_dom.specs.Known.{Admits, IsNarrower, known_of}
+use Rattle.sf_dom.specs.Known.{Has, Admits, IsNarrower, known_of}
 use Rattle.sf_dom.specs.Facts.{known_at, numbers_at, AgreesWith}
 use Rattle.sf_dom.specs.Propagation.{IsNarrowed}
 use Rattle.sf_dom.specs.Rules.{met, IsClosed, IsClosedAt, ReductionGives, Then}
@@ -22,7 +22,7 @@ use Rattle.sf_dom.proofs.Then.{then-some, then-if}
 
 -- A step from what is known of the nodes of a pool: what it gives is closed and loses nothing, and the inputs that
 -- agree and have a property go on to agree.
-pub record IsLawful (has : Input → Type 0) (ks : List Known) (ex : List (List ℕ)) (ns : List Node)
+pub record IsLawful (has : Input → Type 0) (ks : List Known) (ex : List ℕ) (ns : List Node)
     (gives : Option (List Known) → Type 0) : Type 0 where
   pub narrowed : (r : Option (List Known)) → gives r → IfSome r (λ next. IsNarrowed ks next ex ns)
   pub sound : (d : Input) → IsInput d → has d → AgreesWith ks ex ns d → (r : Option (List Known)) → gives r
@@ -32,14 +32,14 @@ pub record IsLawful (has : Input → Type 0) (ks : List Known) (ex : List (List 
 abbrev pub AnyInput : Input → Type 0
 AnyInput d = Unit {0}
 
-pub narrowed-refl : (ks : List Known) (ex : List (List ℕ)) (ns : List Node) → AreClosed ks ns → IsNarrowed ks ks ex ns
+pub narrowed-refl : (ks : List Known) (ex : List ℕ) (ns : List Node) → AreClosed ks ns → IsNarrowed ks ks ex ns
 narrowed-refl ks ex ns h = record {
   closed = h;
   narrower = λ i l. IsNarrower-refl (known_at ks i);
   kept = λ words. words;
 }
 
-pub narrowed-trans : (a b c : List Known) (ex : List (List ℕ)) (ns : List Node) → AreClosed a ns → IsNarrowed a b ex ns
+pub narrowed-trans : (a b c : List Known) (ex : List ℕ) (ns : List Node) → AreClosed a ns → IsNarrowed a b ex ns
     → IsNarrowed b c ex ns
     → IsNarrowed a c ex ns
 narrowed-trans a b c ex ns k h g =
@@ -52,7 +52,7 @@ narrowed-trans a b c ex ns k h g =
     }
 
 -- a node is written
-pub narrowed-set : (ks : List Known) (ex : List (List ℕ)) (ns : List Node) (i : ℕ) (next : Known) → AreClosed ks ns
+pub narrowed-set : (ks : List Known) (ex : List ℕ) (ns : List Node) (i : ℕ) (next : Known) → AreClosed ks ns
     → i < length ns → IsClosedAt ex i next → IsNarrower (known_at ks i) next → IsNarrowed ks (set ks i next) ex ns
 narrowed-set ks ex ns i next h l closed narrower =
     let count = h.count in
@@ -74,7 +74,7 @@ narrowed-set ks ex ns i next h l closed narrower =
     }
 
 -- an input agrees still where a node is written that admits its value
-pub agrees-set : (ks : List Known) (ex : List (List ℕ)) (ns : List Node) (d : Input) (i : ℕ) (next : Known)
+pub agrees-set : (ks : List Known) (ex : List ℕ) (ns : List Node) (d : Input) (i : ℕ) (next : Known)
     → i < length ks → AgreesWith ks ex ns d → Admits next (value_of ns d i) → AgreesWith (set ks i next) ex ns d
 agrees-set ks ex ns d i next l a h j lj =
     let none : Known = known_of 0 0 0 0 in
@@ -85,8 +85,8 @@ agrees-set ks ex ns d i next l a h j lj =
     ]
 
 -- the value of a word is not excluded for it
-pub kept-at : (ks : List Known) (ex : List (List ℕ)) (ns : List Node) (d : Input) (i : ℕ) → IsPool ns
-    → i < length ks → AgreesWith ks ex ns d → i < 16 → ¬ Contains (numbers_at ex i) (value_of ns d i)
+pub kept-at : (ks : List Known) (ex : List ℕ) (ns : List Node) (d : Input) (i : ℕ) → IsPool ns
+    → i < length ks → AgreesWith ks ex ns d → i < 16 → ¬ Has (numbers_at ex i) (value_of ns d i)
 kept-at ks ex ns d i p l a b = rw (p.word i b) at (a i l).kept
 
 -- two pieces of knowledge admit a number together that each of them admits
@@ -105,8 +105,8 @@ pub closed-ones : (k : Known) → IsClosed k → k.ones < 2 ^ 32
 closed-ones k h = omega (arith, h.low, h.ordered, h.fits)
 
 -- reduction keeps each number that is left
-pub reduction-holds : (o : Option Known) (ex : List (List ℕ)) (i n : ℕ) (old : Known) → n < 2 ^ 32
-    → old.zeros < 2 ^ 32 → (i < 16 → ¬ Contains (numbers_at ex i) n) → Admits old n → ReductionGives ex i old o
+pub reduction-holds : (o : Option Known) (ex : List ℕ) (i n : ℕ) (old : Known) → n < 2 ^ 32
+    → old.zeros < 2 ^ 32 → (i < 16 → ¬ Has (numbers_at ex i) n) → Admits old n → ReductionGives ex i old o
     → MatchOption o ⊥ (λ k. Admits k n)
 reduction-holds None ex i n old f fz kept h none =
     none (known_of n n (4294967295 - n) n) (number-closed ex i n f kept) (number-narrows old n f fz h)
@@ -114,14 +114,14 @@ reduction-holds (Some k) ex i n old f fz kept h w = narrows-number k n f
     (w.widest (known_of n n (4294967295 - n) n) (number-closed ex i n f kept) (number-narrows old n f fz h))
 
 -- a value lies within a word
-pub value-fits : (ks : List Known) (ex : List (List ℕ)) (ns : List Node) (d : Input) (i : ℕ) → AreClosed ks ns
+pub value-fits : (ks : List Known) (ex : List ℕ) (ns : List Node) (d : Input) (i : ℕ) → AreClosed ks ns
     → i < length ns → AgreesWith ks ex ns d → value_of ns d i < 2 ^ 32
 value-fits ks ex ns d i h l a =
     let count = h.count in
     omega (arith, (a i (omega arith)).admitted.below, (h.each i l).fits)
 
 -- to write a node is a lawful step
-pub writing-lawful : (has : Input → Type 0) (ks : List Known) (ex : List (List ℕ)) (ns : List Node) (i : ℕ)
+pub writing-lawful : (has : Input → Type 0) (ks : List Known) (ex : List ℕ) (ns : List Node) (i : ℕ)
     (known : Known) → IsPool ns → AreClosed ks ns → i < length ns → IsNarrower (known_at ks i) known
     → known.zeros < 2 ^ 32
     → ((d : Input) → IsInput d → has d → AgreesWith ks ex ns d → Admits known (value_of ns d i))
@@ -143,14 +143,14 @@ writing-lawful has ks ex ns i known p h l narrower fz admits =
           (λ left g k r e. rw e (agrees-set ks ex ns d i left here a k));
     }
 
-pub narrowed-more : (r : Option (List Known)) (a b : List Known) (ex : List (List ℕ)) (ns : List Node) → AreClosed a ns
+pub narrowed-more : (r : Option (List Known)) (a b : List Known) (ex : List ℕ) (ns : List Node) → AreClosed a ns
     → IsNarrowed a b ex ns
     → IfSome r (λ c. IsNarrowed b c ex ns) → IfSome r (λ c. IsNarrowed a c ex ns)
 narrowed-more None a b ex ns k h g = tt
 narrowed-more (Some c) a b ex ns k h g = narrowed-trans a b c ex ns k h g
 
 -- one lawful step after another is lawful
-pub then-lawful : (has : Input → Type 0) (ks : List Known) (ex : List (List ℕ)) (ns : List Node)
+pub then-lawful : (has : Input → Type 0) (ks : List Known) (ex : List ℕ) (ns : List Node)
     (first : Option (List Known) → Type 0) (second : List Known → Option (List Known) → Type 0) → AreClosed ks ns
     → IsLawful has ks ex ns first
     → ((next : List Known) → AreClosed next ns → IsLawful AnyInput next ex ns (second next))

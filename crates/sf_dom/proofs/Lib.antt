@@ -12,6 +12,7 @@ pub mod GuardLemmas
 pub mod Sampled
 pub mod Masks
 pub mod Assumed
+pub mod Confined
 pub mod AscendingLemmas
 pub mod Tellings
 pub mod RuleLemmas
@@ -34,6 +35,7 @@ pub mod NewNodes
 pub mod OneResult
 pub mod Monotone
 pub mod Forcing
+pub mod ForcedResults
 pub mod Carried
 pub mod Forced
 pub mod ForcedTests

@@ -1,10 +1,10 @@
 -- Newer nodes that are taken in: inputs go on to agree, and nothing more follows for any of them.
-use Rattle.std.proofs.Common.{◌≡◌, ℕ, zero, suc, ◌<◌, ◌≤◌, ◌^◌, ◌/◌, ◌%◌, Bool, true, false, cond, List, [], length, take, arith, refl, ◌⊎◌, inl, inr}
+use Rattle.std.proofs.Common.{◌≡◌, ℕ, zero, suc, ◌<◌, ◌≤◌, ◌^◌, ◌/◌, ◌%◌, Bool, true, false, cond, List, length, take, arith, refl, ◌⊎◌, inl, inr}
 use Rattle.std.proofs.lemmas.Bool.{cases_lt}
 use Rattle.std.proofs.lemmas.Nat.{or_lt, xor_lt}
 use Rattle.std.proofs.Math.Nat.{div-le_self}
 use Rattle.std.specs.Int.Bits.{and_lt}
-use Rattle.std.specs.Prelude.{Option, Some, None, MatchOption, Contains, slice_index, ◌==◌}
+use Rattle.std.specs.Prelude.{Option, Some, None, MatchOption, slice_index, ◌==◌}
 use Rattle.sf_insn.specs.Words.{apply}
 use Rattle.sf_insn.specs.declared.ops.BinOp.{BinOp}
 use Rattle.sf_insn.specs.declared.ops.BinOp.TheVariants.{Add, Sub, Mul, Div, Or, And, Lsh, Rsh, Xor}
@@ -15,8 +15,9 @@ use Rattle.sf_sym.specs.ValueLaws.{value-node}
 use Rattle.sf_sym.specs.declared.pool.Node.{Node}
 use Rattle.sf_sym.specs.declared.pool.Node.TheVariants.{Const, Word, Bin, Neg}
 use Rattle.sf_dom.specs.declared.known.Known.{Known}
-use Rattle.sf_dom.specs.Known.{Admits}
+use Rattle.sf_dom.specs.Known.{Has, Admits}
 use Rattle.sf_dom.specs.Facts.{known_at, numbers_at, excluded_of, AgreesWith}
+use Rattle.sf_dom.specs.FactsLaws.{none-has}
 use Rattle.sf_dom.specs.Passes.{IsAtRest, AreTakenIn, TakingInGives}
 use Rattle.sf_dom.specs.Rules.{forward_node, IsClosed, IsReduction, ReductionGives}
 use Rattle.sf_dom.proofs.Lawful.{reduction-holds}
@@ -25,23 +26,23 @@ use Rattle.sf_dom.proofs.Passes.{operands-below}
 use Rattle.sf_dom.proofs.Propagations.{word-below, taken-older}
 
 -- no number is excluded, or all words are known already
-abbrev pub AreWordsKnown : List Known → List (List ℕ) → Type 0
-AreWordsKnown ks ex = (16 ≤ length ks) ⊎ ((w : ℕ) → numbers_at ex w ≡ [])
+abbrev pub AreWordsKnown : List Known → List ℕ → Type 0
+AreWordsKnown ks ex = (16 ≤ length ks) ⊎ ((w : ℕ) → numbers_at ex w ≡ 0)
 
 -- the value of a word isn't excluded for it, where the word's own node is there, or nothing is excluded
-kept-node : (ks : List Known) (ex : List (List ℕ)) (ns : List Node) (d : Input) (n : Node) (k : ℕ) → IsPool ns
+kept-node : (ks : List Known) (ex : List ℕ) (ns : List Node) (d : Input) (n : Node) (k : ℕ) → IsPool ns
     → k < length ns → node_at ns k ≡ n → AreWordsKnown ks ex → AgreesWith ks ex ns d
-    → ¬ Contains (excluded_of ex n) (value_of ns d k)
-kept-node ks ex ns d (Const c) k p l e h a w = absurd (omega (arith, w.1))
-kept-node ks ex ns d (Bin op x y) k p l e h a w = absurd (omega (arith, w.1))
-kept-node ks ex ns d (Neg x) k p l e h a w = absurd (omega (arith, w.1))
+    → ¬ Has (excluded_of ex n) (value_of ns d k)
+kept-node ks ex ns d (Const c) k p l e h a w = none-has (value_of ns d k) w
+kept-node ks ex ns d (Bin op x y) k p l e h a w = none-has (value_of ns d k) w
+kept-node ks ex ns d (Neg x) k p l e h a w = none-has (value_of ns d k) w
 kept-node ks ex ns d (Word i) k p l e (inl b) a w =
     let words = p.words in
     let small : i < 16 = word-below k (node_at ns k) (operands-below ns k p l) i e in
     let here : node_at ns i ≡ Word i = p.word i small in
     let same : value_of ns d i ≡ value_of ns d k = search (arith, value-node) in
     (rw (here, same) at (a i (omega arith)).kept) w
-kept-node ks ex ns d (Word i) k p l e (inr none) a w = let z = (rw (none i) at w) in absurd (omega (arith, z.1))
+kept-node ks ex ns d (Word i) k p l e (inr none) a w = none-has (value_of ns d k) (rw (none i) at w)
 
 -- values are words
 apply-fits : (op : BinOp) (x y : ℕ) → x < 2 ^ 32 → y < 2 ^ 32 → apply op x y < 2 ^ 32
@@ -67,7 +68,7 @@ value-fits d vs k (Bin op a b) i o h = apply-fits op (slice_index vs a.0) (slice
 value-fits d vs k (Neg a) i o h = omega arith
 
 -- Newer nodes that are taken in, up to a place. The older nodes agree with an input.
-module _ (old new : List Known) (ex : List (List ℕ)) (ns : List Node) (d : Input) (p : IsPool ns) (i : IsInput d)
+module _ (old new : List Known) (ex : List ℕ) (ns : List Node) (d : Input) (p : IsPool ns) (i : IsInput d)
     (closed : (j : ℕ) → j < length old → IsClosed (known_at old j)) (a : AgreesWith old ex ns d)
     (words : AreWordsKnown old ex) (kept : take (length old) new ≡ old) where
   older-closed : (m : ℕ) → ((k : ℕ) → length old ≤ k → k < m
@@ -79,10 +80,10 @@ module _ (old new : List Known) (ex : List (List ℕ)) (ns : List Node) (d : Inp
   ]
 
   -- a value isn't excluded for its node
-  not-excluded : (k : ℕ) → length old ≤ k → k < 16 → ¬ Contains (numbers_at ex k) (value_of ns d k)
+  not-excluded : (k : ℕ) → length old ≤ k → k < 16 → ¬ Has (numbers_at ex k) (value_of ns d k)
   not-excluded k l b z = elim words [
     | inl w ↦ absurd (omega arith)
-    | inr none ↦ let y = rw (none k) at z in absurd (omega (arith, y.1))
+    | inr none ↦ none-has (value_of ns d k) (rw (none k) at z)
   ]
 
   -- what follows for a newer node admits its value
@@ -116,7 +117,7 @@ module _ (old new : List Known) (ex : List (List ℕ)) (ns : List Node) (d : Inp
       ]
 
 -- the inputs that agreed agree once newer nodes are taken in
-pub taking-sound : (old : List Known) (ex : List (List ℕ)) (ns : List Node) (d : Input) → IsPool ns → IsInput d
+pub taking-sound : (old : List Known) (ex : List ℕ) (ns : List Node) (d : Input) → IsPool ns → IsInput d
     → ((j : ℕ) → j < length old → IsClosed (known_at old j)) → AgreesWith old ex ns d → AreWordsKnown old ex
     → (r : Option (List Known)) → TakingInGives old ex ns r → MatchOption r ⊥ (λ new. AgreesWith new ex ns d)
 taking-sound old ex ns d p i closed a words (Some new) w =
@@ -134,6 +135,6 @@ taking-sound old ex ns d p i closed a words None w =
     (older-closed old w.new ex ns d p i closed a words w.kept w.place w.before) None w.none
 
 -- nothing more follows for a newer node
-pub taken-rest : (old new : List Known) (ex : List (List ℕ)) (ns : List Node) → AreTakenIn old new ex ns → (i : ℕ)
+pub taken-rest : (old new : List Known) (ex : List ℕ) (ns : List Node) → AreTakenIn old new ex ns → (i : ℕ)
     → length old ≤ i → i < length ns → IsAtRest new ex ns i
 taken-rest old new ex ns h i g l = let r = h.each i g l in record { closed = r.is; still = r.narrower }

@@ -12,7 +12,7 @@ use Rattle.sf_dom.proofs.Passes.{met-left, met-right, met-below}
 use Rattle.sf_dom.proofs.Reductions.{IsNarrower-trans}
 
 -- reduction gives the same where the same is narrower
-same-left : (o : Option Known) (ex : List (List ℕ)) (i : ℕ) (a b : Known)
+same-left : (o : Option Known) (ex : List ℕ) (i : ℕ) (a b : Known)
     → ((s : Known) → IsNarrower a s → IsNarrower b s) → ((s : Known) → IsNarrower b s → IsNarrower a s)
     → ReductionGives ex i a o → ReductionGives ex i b o
 same-left None ex i a b to from h = λ s is n. h s is (from s n)
@@ -61,7 +61,7 @@ module _ (ks : List Known) (cond : Cond) (node told more : Known) (l : cond.node
             (rw (apart (λ e. ne (sym e))) b)
       ]
 
-pub told-left : (o : Option Known) (ks : List Known) (ex : List (List ℕ)) (cond : Cond) (node told more : Known)
+pub told-left : (o : Option Known) (ks : List Known) (ex : List ℕ) (cond : Cond) (node told more : Known)
     → cond.node.0 < length ks → IsNarrower (known_at ks cond.node.0) node
     → (cond.node.0 ≢ cond.other.0 → told ≡ more) → (cond.node.0 ≡ cond.other.0 → told ≡ met more node)
     → ReductionGives ex cond.other.0 (met (known_at ks cond.other.0) told) o

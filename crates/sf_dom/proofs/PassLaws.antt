@@ -112,7 +112,7 @@ follows ks d vs k (Neg a) i o closed h =
     (negate-sound (known_at ks a.0) (slice_index vs a.0) ca.fits (h a.0 o), (negated-fits (known_at ks a.0)).zeros)
 
 -- what a pass meets of a node admits its value
-met-holds : (old new : List Known) (ex : List (List ℕ)) (ns : List Node) (d : Input) (k : ℕ) → IsPool ns
+met-holds : (old new : List Known) (ex : List ℕ) (ns : List Node) (d : Input) (k : ℕ) → IsPool ns
     → AreClosed old ns → IsInput d → AgreesWith old ex ns d → k < length ns
     → ((j : ℕ) → j < k → IsClosed (known_at new j)) → ((j : ℕ) → j < k → Admits (known_at new j) (value_of ns d j))
     → Admits (met (known_at old k) (forward_node new (node_at ns k))) (value_of ns d k)
@@ -127,7 +127,7 @@ met-holds old new ex ns d k p h i a l closed older =
     )
 
 -- what a pass leaves of a node admits its value
-passed-holds : (old new : List Known) (ex : List (List ℕ)) (ns : List Node) (d : Input) → IsPool ns
+passed-holds : (old new : List Known) (ex : List ℕ) (ns : List Node) (d : Input) → IsPool ns
     → AreClosed old ns → IsInput d → AgreesWith old ex ns d → (m : ℕ) → m ≤ length ns
     → ((k : ℕ) → k < m → IsPassedAt old new ex ns k) → (k : ℕ) → k < m → Admits (known_at new k) (value_of ns d k)
 passed-holds old new ex ns d p h i a zero lm before k lk = absurd (omega arith)
@@ -146,7 +146,7 @@ passed-holds old new ex ns d p h i a (suc m) lm before k lk =
           (before m (omega arith)))
     ]
 
-pass-sound : (old : List Known) (ex : List (List ℕ)) (ns : List Node) (d : Input) → IsPool ns
+pass-sound : (old : List Known) (ex : List ℕ) (ns : List Node) (d : Input) → IsPool ns
     → AreClosed old ns → IsInput d → AgreesWith old ex ns d → (r : Option (List Known)) → PassGives old ex ns r
     → MatchOption r ⊥ (λ next. AgreesWith next ex ns d)
 pass-sound old ex ns d p h i a (Some new) w =
@@ -166,7 +166,7 @@ pass-sound old ex ns d p h i a None w =
     (value-fits old ex ns d w.place h within a) both.1 (λ b. kept-at old ex ns d w.place p (omega arith) a b) both.0
     w.none
 
-pass-narrowed : (old : List Known) (ex : List (List ℕ)) (ns : List Node) → IsPool ns → AreClosed old ns
+pass-narrowed : (old : List Known) (ex : List ℕ) (ns : List Node) → IsPool ns → AreClosed old ns
     → (r : Option (List Known)) → PassGives old ex ns r → IfSome r (λ next. IsNarrowed old next ex ns)
 pass-narrowed old ex ns p h None w = tt
 pass-narrowed old ex ns p h (Some new) w =
@@ -182,7 +182,7 @@ pass-narrowed old ex ns p h (Some new) w =
     }
 
 -- a forward pass is a lawful step
-pub pass-lawful : (ks : List Known) (ex : List (List ℕ)) (ns : List Node) → IsPool ns → AreClosed ks ns
+pub pass-lawful : (ks : List Known) (ex : List ℕ) (ns : List Node) → IsPool ns → AreClosed ks ns
     → IsLawful AnyInput ks ex ns (PassGives ks ex ns)
 pass-lawful ks ex ns p h = record {
   narrowed = pass-narrowed ks ex ns p h;
@@ -190,7 +190,7 @@ pass-lawful ks ex ns p h = record {
 }
 
 -- what a pass gives is at rest
-pub pass-rest : (ks : List Known) (ex : List (List ℕ)) (ns : List Node) (r : Option (List Known)) → PassGives ks ex ns r
+pub pass-rest : (ks : List Known) (ex : List ℕ) (ns : List Node) (r : Option (List Known)) → PassGives ks ex ns r
     → IfSome r (λ next. (i : ℕ) → i < length ns → IsAtRest next ex ns i)
 pass-rest ks ex ns None w = tt
 pass-rest ks ex ns (Some new) w = λ i l.

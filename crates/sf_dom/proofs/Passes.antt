@@ -1,7 +1,7 @@
 -- What stays as it is in a forward pass, and what a pass leaves.
-use Rattle.std.proofs.Common.{◌≡◌, ℕ, ◌+◌, ◌-◌, ◌<◌, ◌≤◌, List, length, arith, refl, sym, ap, ◌∙◌, inl, inr, zero, suc}
+use Rattle.std.proofs.Common.{◌≡◌, ℕ, true, ◌+◌, ◌-◌, ◌<◌, ◌≤◌, List, length, arith, refl, sym, ap, ◌∙◌, inl, inr, zero, suc}
 use Rattle.std.specs.Prelude.{Option, Some, None, MatchOption}
-use Rattle.std.proofs.lemmas.Bool.{cases_lt}
+use Rattle.std.proofs.lemmas.Bool.{and_parts, cases_lt, eqb-true}
 use Rattle.std.proofs.lemmas.List.{ext_get_or}
 use Rattle.std.proofs.lemmas.Nat.Bits.{bit_at_or, bit_at-zero}
 use Rattle.sf_sym.specs.Pool.{IsPool, OperandsBelow, node_at}
@@ -9,10 +9,10 @@ use Rattle.sf_sym.specs.declared.pool.Node.{Node}
 use Rattle.sf_sym.specs.declared.pool.Node.TheVariants.{Const, Word, Bin, Neg}
 use Rattle.sf_sym.specs.ValueLaws.{OperandsBelow-at}
 use Rattle.sf_dom.specs.declared.known.Known.{Known}
-use Rattle.sf_dom.specs.Known.{IsNarrower, IsConsistent, IsDecided, known_of}
+use Rattle.sf_dom.specs.Known.{IsNarrower, IsConsistent, IsDecided, is_decided, known_of}
 use Rattle.sf_dom.specs.Reading.{known_at}
 use Rattle.sf_dom.specs.Rules.{met, forward_node, IsClosed, IsClosedAt, HasNoReduction, IsWidest, HasNone}
-use Rattle.sf_dom.specs.Passes.{IsPassedAt, IsPass, IsAtRest, AreAllDecided, IsFixedAt, AreFixed}
+use Rattle.sf_dom.specs.Passes.{IsPassedAt, IsPass, IsAtRest, are_all_decided, IsFixedAt, AreFixed}
 use Rattle.sf_dom.proofs.Reductions.{IsNarrower-trans, IsNarrower-refl}
 use Rattle.sf_dom.proofs.Bits.{bits-of-or, bits-of-or_right}
 use Rattle.sf_dom.proofs.ClosedLemmas.{closed-number}
@@ -83,14 +83,25 @@ forward-same ks js k (Neg a) o h = rw (h a.0 o) refl
 
 -- operands with one number keep it
 pub decided-same : (ks js : List Known) (k : ℕ) (n : Node) → OperandsBelow k n
-    → ((j : ℕ) → j < k → IsDecided (known_at ks j) → known_at js j ≡ known_at ks j) → AreAllDecided ks n
-    → AreAllDecided js n × (forward_node js n ≡ forward_node ks n)
-decided-same ks js k (Const c) o h d = (tt, refl)
-decided-same ks js k (Word i) o h d = elim d [ ]
+    → ((j : ℕ) → j < k → IsDecided (known_at ks j) → known_at js j ≡ known_at ks j) → are_all_decided ks n ≡ true
+    → (are_all_decided js n ≡ true) × (forward_node js n ≡ forward_node ks n)
+decided-same ks js k (Const c) o h d = (refl, refl)
+decided-same ks js k (Word i) o h d = absurd cc
 decided-same ks js k (Bin op a b) o h d =
-    let ea = h a.0 o.0 d.0 in let eb = h b.0 o.1 d.1 in
-    ((rw ea d.0, rw eb d.1), rw (ea, eb) refl)
-decided-same ks js k (Neg a) o h d = let e = h a.0 o d in (rw e d, rw e refl)
+    let both = and_parts (is_decided (known_at ks a.0)) (is_decided (known_at ks b.0)) d in
+    let ea = h a.0 o.0 (eqb-true (known_at ks a.0).low (known_at ks a.0).high both.0) in
+    let eb = h b.0 o.1 (eqb-true (known_at ks b.0).low (known_at ks b.0).high both.1) in
+    (rw (ea, eb) d, rw (ea, eb) refl)
+decided-same ks js k (Neg a) o h d =
+    let e = h a.0 o (eqb-true (known_at ks a.0).low (known_at ks a.0).high d) in (rw e d, rw e refl)
+
+-- operands of which the same is known are decided in both
+pub decided-as : (ks js : List Known) (k : ℕ) (n : Node) → OperandsBelow k n
+    → ((j : ℕ) → j < k → known_at js j ≡ known_at ks j) → are_all_decided js n ≡ are_all_decided ks n
+decided-as ks js k (Const c) o h = refl
+decided-as ks js k (Word i) o h = refl
+decided-as ks js k (Bin op a b) o h = rw (h a.0 o.0, h b.0 o.1) refl
+decided-as ks js k (Neg a) o h = rw (h a.0 o) refl
 
 -- no more becomes known of a node of which no more can
 pub fixed-same : (ks js : List Known) (ns : List Node) (i : ℕ) → IsPool ns → i < length ns
@@ -116,7 +127,7 @@ fixed-narrower places old new ns p co cn narrower fixed i l = elim (fixed i l) [
 ]
 
 -- a node of which no more can become known is at rest
-pub fixed-rest : (ks : List Known) (ex : List (List ℕ)) (ns : List Node) (i : ℕ) → IsConsistent (known_at ks i)
+pub fixed-rest : (ks : List Known) (ex : List ℕ) (ns : List Node) (i : ℕ) → IsConsistent (known_at ks i)
     → 16 ≤ i → IsDecided (known_at ks i) → IsFixedAt ks ns i → IsAtRest ks ex ns i
 fixed-rest ks ex ns i c l d f = record {
   closed = record { known = decided-closed (known_at ks i) c d; tight = λ b. absurd (omega arith) };
@@ -124,7 +135,7 @@ fixed-rest ks ex ns i c l d f = record {
 }
 
 -- a word has no operands, so nothing follows for it
-pub word-rest : (ks : List Known) (ex : List (List ℕ)) (ns : List Node) (i : ℕ) → IsPool ns → i < 16
+pub word-rest : (ks : List Known) (ex : List ℕ) (ns : List Node) (i : ℕ) → IsPool ns → i < 16
     → IsClosedAt ex i (known_at ks i) → IsAtRest ks ex ns i
 word-rest ks ex ns i p l h =
     let f = h.known.fits in
@@ -139,13 +150,13 @@ word-rest ks ex ns i p l h =
     }
 
 -- a node at rest is as a pass leaves it
-pub rest-passed : (old new : List Known) (ex : List (List ℕ)) (ns : List Node) (k : ℕ)
+pub rest-passed : (old new : List Known) (ex : List ℕ) (ns : List Node) (k : ℕ)
     → known_at new k ≡ known_at old k → IsAtRest new ex ns k → IsPassedAt old new ex ns k
 rest-passed old new ex ns k e h =
     rw (← e) (still-reduction _ (known_at new k) (forward_node new (node_at ns k)) h.closed h.still)
 
 -- where all nodes are at rest, a pass changes nothing
-pub rest-pass : (ks : List Known) (ex : List (List ℕ)) (ns : List Node) → length ks ≡ length ns
+pub rest-pass : (ks : List Known) (ex : List ℕ) (ns : List Node) → length ks ≡ length ns
     → ((i : ℕ) → i < length ns → IsAtRest ks ex ns i) → IsPass ks ks ex ns
 rest-pass ks ex ns count rest = record {
   count = count;
@@ -153,7 +164,7 @@ rest-pass ks ex ns count rest = record {
 }
 
 -- what a pass leaves of a node depends on what it leaves of older ones
-pub passed-same : (old new js : List Known) (ex : List (List ℕ)) (ns : List Node) (k : ℕ) → IsPool ns → k < length ns
+pub passed-same : (old new js : List Known) (ex : List ℕ) (ns : List Node) (k : ℕ) → IsPool ns → k < length ns
     → ((j : ℕ) → j ≤ k → known_at new j ≡ known_at js j) → IsPassedAt old new ex ns k → IsPassedAt old js ex ns k
 passed-same old new js ex ns k p l same h =
     rw (
@@ -162,7 +173,7 @@ passed-same old new js ex ns k p l same h =
     ) at h
 
 -- two passes leave the same of each node, up to one that only the second has come to
-pub same-up_to : (old a b : List Known) (ex : List (List ℕ)) (ns : List Node) → IsPool ns → (m : ℕ) → m ≤ length ns
+pub same-up_to : (old a b : List Known) (ex : List ℕ) (ns : List Node) → IsPool ns → (m : ℕ) → m ≤ length ns
     → ((k : ℕ) → k < m → IsPassedAt old a ex ns k) → ((k : ℕ) → k < m → IsPassedAt old b ex ns k) → (k : ℕ) → k < m
     → known_at a k ≡ known_at b k
 same-up_to old a b ex ns p zero l h g k lk = absurd (omega arith)
@@ -177,14 +188,14 @@ same-up_to old a b ex ns p (suc m) l h g k lk =
     ]
 
 -- there is one pass at most
-pub one-pass : (old a b : List Known) (ex : List (List ℕ)) (ns : List Node) → IsPool ns → IsPass old a ex ns
+pub one-pass : (old a b : List Known) (ex : List ℕ) (ns : List Node) → IsPool ns → IsPass old a ex ns
     → IsPass old b ex ns → a ≡ b
 one-pass old a b ex ns p h g =
     ext_get_or (known_of 0 0 0 0) a b (h.count ∙ sym g.count)
     (λ k l. same-up_to old a b ex ns p (length ns) (omega arith) h.each g.each k (omega (arith, h.count)))
 
 -- where a node is left nothing, there is no pass
-pub pass-none : (old new : List Known) (ex : List (List ℕ)) (ns : List Node) (i : ℕ) → IsPool ns → i < length ns
+pub pass-none : (old new : List Known) (ex : List ℕ) (ns : List Node) (i : ℕ) → IsPool ns → i < length ns
     → ((k : ℕ) → k < i → IsPassedAt old new ex ns k)
     → HasNoReduction ex i (met (known_at old i) (forward_node new (node_at ns i)))
     → (last : List Known) → ¬ IsPass old last ex ns

@@ -1,20 +1,20 @@
 -- Nodes that a forward pass need not go through, and newer nodes that are taken in.
-use Rattle.std.proofs.Common.{◌≡◌, ◌≢◌, ℕ, Bool, ◌<◌, ◌≤◌, ◌+◌, List, [], ◌∷◌, ◌++◌, length, set, take, zero, suc, arith, refl, sym, ap, ◌∙◌, ◌⊎◌, inl, inr}
+use Rattle.std.proofs.Common.{◌≡◌, ◌≢◌, ℕ, Bool, true, false, ◌-◌, ◌<◌, ◌≤◌, ◌+◌, List, [], ◌∷◌, ◌++◌, length, set, take, zero, suc, arith, refl, sym, ap, ◌∙◌, ◌⊎◌, inl, inr}
 use Rattle.std.proofs.lemmas.Bool.{cases_lt, cases_eq}
 use Rattle.std.proofs.lemmas.List.{get_or-set_same, get_or-set_other, get_or_append_left, get_or_push, length_push, get_or-take}
-use Rattle.std.specs.Prelude.{slice_index, IsTrue}
+use Rattle.std.specs.Prelude.{slice_index, ◌&&◌, if◌then◌else◌}
 use Rattle.sf_sym.specs.Pool.{IsPool, OperandsBelow, node_at}
 use Rattle.sf_sym.specs.declared.pool.Node.{Node}
 use Rattle.sf_sym.specs.declared.pool.Node.TheVariants.{Const, Word, Bin, Neg}
 use Rattle.sf_dom.specs.declared.known.Known.{Known}
-use Rattle.sf_dom.specs.Known.{IsNarrower, IsConsistent, IsDecided, known_of}
+use Rattle.sf_dom.specs.Known.{IsNarrower, IsConsistent, IsDecided, is_decided, known_of}
 use Rattle.sf_dom.specs.Nodes.{NodesView, IsLaidOut}
 use Rattle.sf_dom.specs.Propagation.{AreConsistentOperands, AreClosedWords}
 use Rattle.sf_dom.specs.Rules.{forward_node, IsClosedAt, IsReduction}
-use Rattle.sf_dom.specs.Passes.{IsAtRest, AreClosed, AreFixed, AreAllDecided, IsFixedAt, IsVariableAt}
+use Rattle.sf_dom.specs.Passes.{IsAtRest, AreClosed, AreFixed, are_all_decided, variables_to, IsFixedAt, IsVariableAt}
 use Rattle.sf_dom.specs.Facts.{known_at}
-use Rattle.sf_dom.proofs.ClosedLemmas.{closed-consistent}
-use Rattle.sf_dom.proofs.Passes.{operands-below, forward-same, fixed-rest, word-rest, fixed-same, decided-same}
+use Rattle.sf_dom.specs.FactsLaws.{closed-consistent}
+use Rattle.sf_dom.proofs.Passes.{operands-below, forward-same, fixed-rest, word-rest, fixed-same, decided-same, decided-as}
 use Rattle.sf_dom.proofs.Reductions.{IsNarrower-refl}
 use Rattle.sf_dom.proofs.RuleLaws.{one-reduction}
 
@@ -35,7 +35,7 @@ consistent-operands ks k (Bin op a b) o h = (h a.0 o.0, h b.0 o.1)
 consistent-operands ks k (Neg a) o h = h a.0 o
 
 -- a node that has one number from the start is at rest
-pub unlisted-rest : (n : NodesView) (ex : List (List ℕ)) (ns : List Node) (k : ℕ) → AreClosed n.known ns → IsLaidOut n
+pub unlisted-rest : (n : NodesView) (ex : List ℕ) (ns : List Node) (k : ℕ) → AreClosed n.known ns → IsLaidOut n
     → AreFixed n.variables n.known ns → k < length n.known
     → ((j : ℕ) → j < length n.variables → slice_index n.variables j ≢ k) → IsAtRest n.known ex ns k
 unlisted-rest n ex ns k closed laid fixed l none =
@@ -75,7 +75,7 @@ words-first n (suc m) j laid l b lt lj = elim (cases_lt j m) [
 ]
 
 -- where nothing more follows for the words, what stands before each variable past them is at rest
-pub words-rest : (n : NodesView) (ex : List (List ℕ)) (ns : List Node) → IsPool ns → AreClosed n.known ns → IsLaidOut n
+pub words-rest : (n : NodesView) (ex : List ℕ) (ns : List Node) → IsPool ns → AreClosed n.known ns → IsLaidOut n
     → AreFixed n.variables n.known ns → AreClosedWords n.known ex → (k : ℕ) → k < length n.known
     → ((j : ℕ) → 16 ≤ j → j < length n.variables → k < slice_index n.variables j) → IsAtRest n.known ex ns k
 words-rest n ex ns p closed laid fixed words k l before =
@@ -90,7 +90,7 @@ words-rest n ex ns p closed laid fixed words k l before =
     ]
 
 -- where nothing more follows for a node that is written, nothing more follows for a word for which nothing did
-pub closed-set : (ks : List Known) (ex : List (List ℕ)) (i : ℕ) (next : Known)
+pub closed-set : (ks : List Known) (ex : List ℕ) (i : ℕ) (next : Known)
     → i < length ks → IsClosedAt ex i next → (w : ℕ) → IsClosedAt ex w (known_at ks w)
     → IsClosedAt ex w (known_at (set ks i next) w)
 closed-set ks ex i next l closed w h = elim (cases_eq w i) [
@@ -111,10 +111,11 @@ pub fixed-push : (places more : List ℕ) (ks : List Known) (ns : List Node) (i 
     → IsPool ns → length ks ≡ i → i < length ns
     → ((k : ℕ) → k < i → IsVariableAt places k ⊎ IsFixedAt ks ns k)
     → r ≡ forward_node ks (node_at ns i) → IsNarrower r next
-    → (IsTrue settled → AreAllDecided ks (node_at ns i))
-    → (IsTrue settled × (more ≡ places)) ⊎ (more ≡ places ++ length ks ∷ []) → (k : ℕ) → k < i + 1
+    → (settled ≡ true → are_all_decided ks (node_at ns i) ≡ true)
+    → more ≡ (if settled then places else places ++ length ks ∷ []) → (k : ℕ) → k < i + 1
     → IsVariableAt more k ⊎ IsFixedAt (ks ++ next ∷ []) ns k
-fixed-push places more ks ns i settled r next p len l older is narrower told pushed k lk =
+fixed-push places more ks ns i settled r next p len l older is narrower told made k lk =
+    let pushed = by settled refl made in
     let same : (j : ℕ) → j < i → known_at (ks ++ next ∷ []) j ≡ known_at ks j
     = λ j b. get_or_append_left ks (next ∷ []) (known_of 0 0 0 0) j (omega arith) in
     elim (cases_lt k i) [
@@ -140,9 +141,48 @@ fixed-push places more ks ns i settled r next p len l older is narrower told pus
             ))
           ]
     ]
+  where
+    by : (b : Bool) → settled ≡ b → more ≡ (if b then places else places ++ length ks ∷ [])
+        → ((settled ≡ true) × (more ≡ places)) ⊎ (more ≡ places ++ length ks ∷ [])
+    by true e m = inl (e, m)
+    by false e m = inr m
+
+-- so it is in the list of the variables
+pub listed-push : (vs places more : List ℕ) (ks : List Known) (ns : List Node) (from i : ℕ) (settled : Bool)
+    (next : Known) → IsPool ns → length ks ≡ i → i < length ns → from ≤ i
+    → settled ≡ (are_all_decided ks (node_at ns i) && is_decided next) → places ≡ variables_to vs ks ns from (i - from)
+    → more ≡ (if settled then places else places ++ length ks ∷ [])
+    → more ≡ variables_to vs (ks ++ next ∷ []) ns from (i + 1 - from)
+listed-push vs places more ks ns from i settled next p len l le told was made =
+    let one : suc (i - from) ≡ i + 1 - from = omega arith in
+    let at : from + (i - from) ≡ i = omega arith in
+    let now : List ℕ = variables_to vs (ks ++ next ∷ []) ns from (i - from) in
+    made ∙ ap (λ xs. if settled then xs else xs ++ length ks ∷ []) (was ∙ sym (older (i - from) (omega arith)))
+    ∙ ap (λ m. if settled then now else now ++ m ∷ []) len ∙ sym (last (i - from) at)
+    ∙ ap (λ m. variables_to vs (ks ++ next ∷ []) ns from m) one
+  where
+    none : Known
+    none = known_of 0 0 0 0
+
+    same : (k : ℕ) → k < i → known_at (ks ++ next ∷ []) k ≡ known_at ks k
+    same k b = get_or_append_left ks (next ∷ []) none k (omega (arith, len))
+
+    operands : (k : ℕ) → k ≤ i
+        → are_all_decided (ks ++ next ∷ []) (node_at ns k) ≡ are_all_decided ks (node_at ns k)
+    operands k b = decided-as ks (ks ++ next ∷ []) k (node_at ns k) (operands-below ns k p (omega (arith, l, b)))
+        (λ j c. same j (omega (arith, b, c)))
+
+    older : (n : ℕ) → from + n ≤ i → variables_to vs (ks ++ next ∷ []) ns from n ≡ variables_to vs ks ns from n
+    older zero b = refl
+    older (suc n) b = rw (operands (from + n) (omega arith), same (from + n) (omega arith), older n (omega arith)) refl
+
+    last : (n : ℕ) → from + n ≡ i → variables_to vs (ks ++ next ∷ []) ns from (suc n)
+        ≡ (if settled then variables_to vs (ks ++ next ∷ []) ns from n
+        else variables_to vs (ks ++ next ∷ []) ns from n ++ i ∷ [])
+    last n e = rw (e, operands i (omega arith), get_or_push ks next none i len, ← told) refl
 
 -- what is left of a node that is added is what follows from its operands, reduced, and so it is for those before it
-pub ruled-push : (ks : List Known) (ex : List (List ℕ)) (ns : List Node) (from i : ℕ) (r next : Known) → IsPool ns
+pub ruled-push : (ks : List Known) (ex : List ℕ) (ns : List Node) (from i : ℕ) (r next : Known) → IsPool ns
     → length ks ≡ i → i < length ns
     → ((k : ℕ) → from ≤ k → k < i → IsReduction ex k (forward_node ks (node_at ns k)) (known_at ks k))
     → r ≡ forward_node ks (node_at ns i) → IsReduction ex i r next
@@ -167,7 +207,7 @@ pub taken-older : (old xs : List Known) (k : ℕ) → take (length old) xs ≡ o
 taken-older old xs k t l = ap (λ ys. known_at ys k) (sym t) ∙ get_or-take (length old) xs k (known_of 0 0 0 0) l
 
 -- what is known is consistent where newer nodes are taken in
-pub taken-consistent : (old ks : List Known) (ex : List (List ℕ)) (ns : List Node) (i : ℕ) → take (length old) ks ≡ old
+pub taken-consistent : (old ks : List Known) (ex : List ℕ) (ns : List Node) (i : ℕ) → take (length old) ks ≡ old
     → ((k : ℕ) → k < length old → IsConsistent (known_at old k))
     → ((k : ℕ) → length old ≤ k → k < i → IsReduction ex k (forward_node ks (node_at ns k)) (known_at ks k))
     → (k : ℕ) → k < i → IsConsistent (known_at ks k)
@@ -177,7 +217,7 @@ taken-consistent old ks ex ns i kept consistent ruled k l = elim (cases_lt k (le
 ]
 
 -- newer nodes are taken in in one way at most
-pub same-taken : (old a b : List Known) (ex : List (List ℕ)) (ns : List Node) (i : ℕ) → IsPool ns → i ≤ length ns
+pub same-taken : (old a b : List Known) (ex : List ℕ) (ns : List Node) (i : ℕ) → IsPool ns → i ≤ length ns
     → take (length old) a ≡ old → take (length old) b ≡ old
     → ((k : ℕ) → length old ≤ k → k < i → IsReduction ex k (forward_node a (node_at ns k)) (known_at a k))
     → ((k : ℕ) → length old ≤ k → k < i → IsReduction ex k (forward_node b (node_at ns k)) (known_at b k))

@@ -1,9 +1,9 @@
 -- Laws of the rules, from the definitions alone.
 use Rattle.std.proofs.lemmas.Grind.{common_steps}
-use Rattle.std.proofs.Common.{◌≡◌, ℕ, ◌<◌, ◌≤◌, ◌^◌, ◌-◌, ◌+◌, ◌*◌, ◌/◌, ◌%◌, List, arith, refl, sym, ap, inl, inr}
+use Rattle.std.proofs.Common.{◌≡◌, ℕ, List, ◌<◌, ◌≤◌, ◌^◌, ◌-◌, ◌+◌, ◌*◌, ◌/◌, ◌%◌, arith, refl, sym, ap, inl, inr}
 use Rattle.std.proofs.lemmas.Bool.{cases_lt, cases_eq}
 use Rattle.std.proofs.lemmas.Bool.Decides.{nat_tests}
-use Rattle.std.specs.Prelude.{bit_and, bit_or, bit_xor, Contains}
+use Rattle.std.specs.Prelude.{bit_and, bit_or, bit_xor}
 use Rattle.std.proofs.lemmas.Nat.Bits.{bit_at-zero, bit_at-lt, bit_at_not, bit_at_above}
 use Rattle.std.specs.Int.{w32}
 use Rattle.std.proofs.Math.Nat.{div-le_self}
@@ -11,10 +11,10 @@ use Rattle.sf_insn.specs.declared.ops.BinOp.{BinOp}
 use Rattle.sf_insn.specs.declared.ops.BinOp.TheVariants.{Add, Sub, Mul, Div, Or, And, Lsh, Rsh, Xor}
 use Rattle.sf_insn.specs.Words.{apply, negation_of}
 use Rattle.sf_dom.specs.declared.known.Known.{Known}
-use Rattle.sf_dom.specs.Known.{Admits, Leaves, IsNarrower, known_of}
+use Rattle.sf_dom.specs.Known.{Has, Admits, Leaves, IsNarrower, known_of}
+use Rattle.sf_dom.specs.Reading.{numbers_at}
 use Rattle.sf_dom.specs.FactsLaws.{bit_at-complement}
 use Rattle.sf_dom.specs.Rules.{between, full, forward_known, forward_negated, moved_left, IsClosed, IsClosedAt, IsClosedWord, IsWidest, HasNone}
-use Rattle.sf_dom.specs.Reading.{numbers_at}
 use Rattle.sf_dom.proofs.Bits.{bits-le}
 use Rattle.sf_dom.proofs.ForwardLemmas.{mul_mono, div_between, quotient, or-admits, and-admits, xor-admits, shl-fits as shl-fits-admits, shl-top, shr-admits}
 use Rattle.sf_dom.proofs.RuleLemmas.{add-sure, add-full, sub-sure, sub-full, mul-fits, mul-full, div-some, div-none, negate-some, negate-zero, negate-full, shl-fits, shl-full, shr-all, left-decided, left-full, right-decided, right-full}
@@ -160,7 +160,7 @@ reduction-sound old new n f fz w h = narrows-number new n f
 pub reduction-none : (old : Known) (n : ℕ) → n < 2 ^ 32 → old.zeros < 2 ^ 32 → HasNone IsClosed old → ¬ Admits old n
 reduction-none old n f fz w h = w _ (closed-number n f) (number-narrows old n f fz h)
 
-number-tight : (xs : List ℕ) (n : ℕ) → n < 2 ^ 32 → ¬ Contains xs n → IsClosedWord xs (known_of n n (4294967295 - n) n)
+number-tight : (xs : ℕ) (n : ℕ) → n < 2 ^ 32 → ¬ Has xs n → IsClosedWord xs (known_of n n (4294967295 - n) n)
 number-tight xs n f kept =
     let own : Admits (known_of n n (4294967295 - n) n) n = record {
       above = omega arith;
@@ -173,21 +173,21 @@ number-tight xs n f kept =
     }
 
 -- the knowledge that a number gives is closed, where it isn't excluded
-pub number-closed : (ex : List (List ℕ)) (i n : ℕ) → n < 2 ^ 32 → (i < 16 → ¬ Contains (numbers_at ex i) n)
+pub number-closed : (ex : List ℕ) (i n : ℕ) → n < 2 ^ 32 → (i < 16 → ¬ Has (numbers_at ex i) n)
     → IsClosedAt ex i (known_of n n (4294967295 - n) n)
 number-closed ex i n f kept = record {
   known = closed-number n f;
   tight = λ b. (number-tight (numbers_at ex i) n f (kept b)).tight;
 }
 
-pub word-sound : (xs : List ℕ) (old new : Known) (n : ℕ) → n < 2 ^ 32 → old.zeros < 2 ^ 32
+pub word-sound : (xs : ℕ) (old new : Known) (n : ℕ) → n < 2 ^ 32 → old.zeros < 2 ^ 32
     → IsWidest (IsClosedWord xs) old new → Leaves old xs n → Leaves new xs n
 word-sound xs old new n f fz w h = record {
   admitted = narrows-number new n f (w.widest _ (number-tight xs n f h.kept) (number-narrows old n f fz h.admitted));
   kept = h.kept;
 }
 
-pub word-none-sound : (xs : List ℕ) (old : Known) (n : ℕ) → n < 2 ^ 32 → old.zeros < 2 ^ 32
+pub word-none-sound : (xs : ℕ) (old : Known) (n : ℕ) → n < 2 ^ 32 → old.zeros < 2 ^ 32
     → HasNone (IsClosedWord xs) old → ¬ Leaves old xs n
 word-none-sound xs old n f fz w h = w _ (number-tight xs n f h.kept) (number-narrows old n f fz h.admitted)
 

@@ -2,7 +2,7 @@
 use Rattle.std.proofs.Common.{◌≡◌, ◌≢◌, ℕ, zero, suc, ◌<◌, ◌≤◌, ◌^◌, List, [], length, get_or, take, arith, refl, sym, ap, ◌∙◌, inl, inr}
 use Rattle.std.proofs.lemmas.Bool.{cases_lt}
 use Rattle.std.proofs.lemmas.List.{get_or-take, get_or_append_left, length-take}
-use Rattle.std.specs.Prelude.{slice_index, Contains, Option, Some, None, MatchOption, replicate}
+use Rattle.std.specs.Prelude.{slice_index, Option, Some, None, MatchOption, replicate}
 use Rattle.sf_insn.specs.Inputs.{IsInput}
 use Rattle.sf_insn.specs.declared.input.Input.{Input}
 use Rattle.sf_sym.specs.Pool.{IsPool, node_at, value_of, ArePlainNodes, Extends}
@@ -10,15 +10,15 @@ use Rattle.sf_sym.specs.ValueLaws.{value-older}
 use Rattle.sf_sym.specs.declared.pool.Node.{Node}
 use Rattle.sf_sym.specs.declared.pool.Node.TheVariants.{Const, Word, Bin, Neg}
 use Rattle.sf_dom.specs.declared.known.Known.{Known}
-use Rattle.sf_dom.specs.Known.{Admits, IsDecided, IsNarrower}
+use Rattle.sf_dom.specs.Known.{Has, Admits, IsDecided, IsNarrower}
 use Rattle.sf_dom.specs.Facts.{FactsView, known_at, numbers_at, excluded_of, AgreesWith, AreFacts, Agrees, Covers, TakesIn, NoneAgrees}
-use Rattle.sf_dom.specs.FactsLaws.{narrower-admits, sampled, words-agree, value-word}
+use Rattle.sf_dom.specs.FactsLaws.{narrower-admits, sampled, words-agree, value-word, closed-consistent, constant-known, covers-facts}
+use Rattle.sf_dom.specs.Learning.{GrowsBy, CantGrow}
 use Rattle.sf_dom.specs.Passes.{IsAtRest, AreTakenIn, TakingInGives}
 use Rattle.sf_dom.specs.Propagation.{AllNarrower, KeepsFixed}
-use Rattle.sf_dom.proofs.Covering.{rest-covers}
 use Rattle.sf_dom.proofs.NewNodes.{taking-sound, taken-rest}
 use Rattle.sf_dom.proofs.Passes.{operands-below, forward-same}
-use Rattle.sf_dom.proofs.Propagations.{word-below, taken-older, taken-consistent}
+use Rattle.sf_dom.proofs.Propagations.{taken-older, taken-consistent}
 
 -- The number of a node where only one is left: where there is one, where there is none, and how the ends say which.
 pub decided-some : (o : Option ℕ) (k : Known) (n : ℕ) → MatchOption o (¬ IsDecided k) (λ m. IsDecided k × (m ≡ k.low))
@@ -38,21 +38,23 @@ pub undecided : (f : FactsView) (ns : List Node) (i n : ℕ) → Covers f ns →
 undecided f ns i n h plain l ne all = elim (cases_lt i 16) [
   | inl b ↦
       (let p = h.pool in
-      let t = h.lawful.tight i b in
-      let s = sampled f i (known_at f.known i).low b h.lawful t.low in
-      let u = sampled f i (known_at f.known i).high b h.lawful t.high in
+      let facts = covers-facts f ns h in
+      let t = facts.tight i b in
+      let s = sampled f i (known_at f.known i).low b facts t.low in
+      let u = sampled f i (known_at f.known i).high b facts t.high in
       let one = all s.0 s.1 (words-agree f ns s.0 h plain s.2) in
       let two = all u.0 u.1 (words-agree f ns u.0 h plain u.2) in
       ne (sym s.3 ∙ sym (value-word ns s.0 i p b) ∙ one ∙ sym two ∙ value-word ns u.0 i p b ∙ u.3))
-  | inr g ↦ (let count = h.count in let c = plain i g l in let k = h.constants i c.0 (omega arith) c.1 in
+  | inr g ↦ (let count = h.count in let c = plain i g l in
+      let k = constant-known f.known f.excluded ns i c.0 (h.rest i l) c.1 in
       ne (k.0 ∙ sym k.1))
 ]
 
-pub agrees-back : (old new : List Known) (ex : List (List ℕ)) (ns : List Node) (d : Input) → length old ≡ length new
+pub agrees-back : (old new : List Known) (ex : List ℕ) (ns : List Node) (d : Input) → length old ≡ length new
     → AllNarrower old new → AgreesWith new ex ns d → AgreesWith old ex ns d
 agrees-back old new ex ns d len h a i l = search (arith, narrower-admits)
 
-pub admits-word : (ks : List Known) (ex : List (List ℕ)) (ns : List Node) (d : Input) (w : ℕ) (more : Known) → IsPool ns
+pub admits-word : (ks : List Known) (ex : List ℕ) (ns : List Node) (d : Input) (w : ℕ) (more : Known) → IsPool ns
     → w < 16 → length ks ≡ length ns → IsNarrower more (known_at ks w)
     → AgreesWith ks ex ns d → Admits more (slice_index d.words w)
 admits-word ks ex ns d w more p l len h a = search (arith, value-word, narrower-admits)
@@ -63,16 +65,16 @@ pub node-older : (before ns : List Node) (i : ℕ) → Extends before ns → i <
 node-older before ns i more l = ap (λ xs. node_at xs i) more.1 ∙ get_or_append_left before more.0 (Const 0) i l
 
 -- an input agrees on a pool where it agrees on the beginning that the facts speak of
-agrees-before : (ks : List Known) (ex : List (List ℕ)) (before ns : List Node) (d : Input) → length ks ≡ length before
+agrees-before : (ks : List Known) (ex : List ℕ) (before ns : List Node) (d : Input) → length ks ≡ length before
     → Extends before ns → AgreesWith ks ex ns d → AgreesWith ks ex before d
 agrees-before ks ex before ns d len more a i l = search (arith, value-older, node-older)
 
-agrees-after : (ks : List Known) (ex : List (List ℕ)) (before ns : List Node) (d : Input) → length ks ≡ length before
+agrees-after : (ks : List Known) (ex : List ℕ) (before ns : List Node) (d : Input) → length ks ≡ length before
     → Extends before ns → AgreesWith ks ex before d → AgreesWith ks ex ns d
 agrees-after ks ex before ns d len more a i l = search (arith, value-older, node-older)
 
 -- an input that agrees after new nodes are taken in agreed before
-agrees-kept : (old new : List Known) (ex : List (List ℕ)) (ns : List Node) (d : Input) → take (length old) new ≡ old
+agrees-kept : (old new : List Known) (ex : List ℕ) (ns : List Node) (d : Input) → take (length old) new ≡ old
     → length old ≤ length new → AgreesWith new ex ns d → AgreesWith old ex ns d
 agrees-kept old new ex ns d kept le a i l = search (arith, get_or-take)
 
@@ -80,7 +82,7 @@ taken-length : (old new : List Known) → take (length old) new ≡ old → leng
 taken-length old new kept = omega (arith, ap length kept, length-take (length old) new)
 
 -- a node at rest is so in a longer pool, where nothing is known of newer nodes before
-older-rest : (old new : List Known) (ex : List (List ℕ)) (before ns : List Node) (i : ℕ) → IsPool before
+older-rest : (old new : List Known) (ex : List ℕ) (before ns : List Node) (i : ℕ) → IsPool before
     → i < length before → ((j : ℕ) → j ≤ i → known_at old j ≡ known_at new j) → node_at ns i ≡ node_at before i
     → IsAtRest old ex before i → IsAtRest new ex ns i
 older-rest old new ex before ns i p l same node h =
@@ -96,7 +98,8 @@ older-rest old new ex before ns i p l same node h =
     }
 
 -- facts once newer nodes are taken in
-grown-covers : (places more : List ℕ) (old new : List Known) (ex : List (List ℕ)) (before ns : List Node) → IsPool ns
+pub grown-covers : (places more : List ℕ) (old new : List Known) (ex : List ℕ)
+    (before ns : List Node) → IsPool ns
     → Covers (record { known = old; variables = places; excluded = ex }) before → Extends before ns
     → AreTakenIn old new ex ns
     → KeepsFixed (record { known = old; variables = places }) (record { known = new; variables = more }) ns
@@ -105,45 +108,48 @@ grown-covers places more old new ex before ns p h longer g fixed =
     let count = h.count in
     let older : (i : ℕ) → i < length old → node_at ns i ≡ node_at before i =
     λ i l. node-older before ns i longer (omega arith) in
-    rest-covers more new ex ns p g.count h.lawful.words (λ i l. elim (cases_lt i (length old)) [
-      | inl b ↦ older-rest old new ex before ns i h.pool (omega arith)
-          (λ j c. taken-older old new j g.kept (omega arith)) (older i b) (h.rest i (omega arith))
-      | inr a ↦ taken-rest old new ex ns g i a l
-    ]) (fixed h.lawful.consistent (λ i l. elim (h.fixed i (omega arith)) [
-      | inl v ↦ inl v
-      | inr f ↦ inr (record { operands = rw (older i l) f.operands; still = rw (older i l) f.still })
-    ]))
+    record {
+      pool = p;
+      count = g.count;
+      words = h.words;
+      rest = λ i l. elim (cases_lt i (length old)) [
+        | inl b ↦ older-rest old new ex before ns i h.pool (omega arith)
+            (λ j c. taken-older old new j g.kept (omega arith)) (older i b) (h.rest i (omega arith))
+        | inr a ↦ taken-rest old new ex ns g i a l
+      ];
+      fixed = fixed (λ i l. closed-consistent (known_at old i) (h.rest i (omega arith)).closed.known)
+          (λ i l. elim (h.fixed i (omega arith)) [
+            | inl v ↦ inl v
+            | inr f ↦ inr (record { operands = rw (older i l) f.operands; still = rw (older i l) f.still })
+          ]);
+    }
 
 -- Where the newer nodes of a longer pool are taken in, the inputs that agreed on its beginning agree, and no others;
 -- where they can't be, none agreed.
-module _ (places : List ℕ) (old : List Known) (ex : List (List ℕ)) (before ns : List Node)
-    (h : Covers (record { known = old; variables = places; excluded = ex }) before) (longer : Extends before ns) where
-  goes-on : (d : Input) → IsInput d → IsPool ns → AgreesWith old ex before d → (r : Option (List Known))
-      → TakingInGives old ex ns r → MatchOption r ⊥ (λ new. AgreesWith new ex ns d)
+module _ (f : FactsView) (before ns : List Node) (h : Covers f before) (longer : Extends before ns) where
+  goes-on : (d : Input) → IsInput d → IsPool ns → AgreesWith f.known f.excluded before d → (r : Option (List Known))
+      → TakingInGives f.known f.excluded ns r → MatchOption r ⊥ (λ new. AgreesWith new f.excluded ns d)
   goes-on d i p a r g =
       let count = h.count in
-      taking-sound old ex ns d p i (λ j l. (h.rest j (omega arith)).closed.known)
-      (agrees-after old ex before ns d h.count longer a) (inl h.lawful.count) r g
+      taking-sound f.known f.excluded ns d p i (λ j l. (h.rest j (omega arith)).closed.known)
+      (agrees-after f.known f.excluded before ns d h.count longer a) (inl (covers-facts f before h).count) r g
 
-  pub grown-takes-in : (more : List ℕ) (new : List Known) → IsPool ns → AreTakenIn old new ex ns
-      → KeepsFixed (record { known = old; variables = places }) (record { known = new; variables = more }) ns
-      → TakesIn (record { known = old; variables = places; excluded = ex })
-      (record { known = new; variables = more; excluded = ex }) before ns
+  pub grown-takes-in : (new : FactsView) → Covers new ns → GrowsBy f new ns → TakesIn f new before ns
   unfolding Agrees
-  grown-takes-in more new p g fixed = record {
-    covers = grown-covers places more old new ex before ns p h longer g fixed;
-    keeps = λ d i a. goes-on d i p a (Some new) g;
-    only = λ d i a. agrees-before old ex before ns d h.count longer (agrees-kept old new ex ns d g.kept
-        (taken-length old new g.kept) a);
+  grown-takes-in new covers g = record {
+    covers = covers;
+    keeps = λ d i a. rw g.excluded (goes-on d i covers.pool a (Some new.known) g.known);
+    only = λ d i a. agrees-before f.known f.excluded before ns d h.count longer
+        (agrees-kept f.known new.known f.excluded ns d g.known.kept (taken-length f.known new.known g.known.kept)
+        (rw g.excluded at a));
   }
 
-  pub none-agreed : IsPool ns → TakingInGives old ex ns None
-      → NoneAgrees (record { known = old; variables = places; excluded = ex }) before
+  pub none-agreed : IsPool ns → CantGrow f ns → NoneAgrees f before
   unfolding Agrees
   none-agreed p g d i a = goes-on d i p a None g
 
 -- what is known once newer nodes are taken in, whatever the pool was
-pub grown-facts : (places more : List ℕ) (old new : List Known) (ex : List (List ℕ)) (ns : List Node) → IsPool ns
+pub grown-facts : (places more : List ℕ) (old new : List Known) (ex : List ℕ) (ns : List Node) → IsPool ns
     → AreFacts (record { known = old; variables = places; excluded = ex }) → AreTakenIn old new ex ns
     → AreFacts (record { known = new; variables = more; excluded = ex })
 grown-facts places more old new ex ns p h g =
@@ -158,23 +164,17 @@ grown-facts places more old new ex ns p h g =
     }
 
 -- an excluded number is not agreed with any more
-pub agrees-with-fewer : (ks : List Known) (ex ex' : List (List ℕ)) (ns : List Node) (d : Input) → IsPool ns
-    → length ks ≡ length ns
-    → ((w m : ℕ) → w < 16 → Contains (numbers_at ex w) m → Contains (numbers_at ex' w) m) → AgreesWith ks ex' ns d
-    → AgreesWith ks ex ns d
-agrees-with-fewer ks ex ex' ns d p len more a i l =
-    record {
-      admitted = (a i l).admitted;
-      kept = fewer (node_at ns i)
-          (word-below i (node_at ns i) (operands-below ns i p (omega arith))) (a i l).kept;
-    }
+pub agrees-with-fewer : (ks : List Known) (ex ex' : List ℕ) (ns : List Node) (d : Input)
+    → ((w m : ℕ) → Has (numbers_at ex w) m → Has (numbers_at ex' w) m) → AgreesWith ks ex' ns d → AgreesWith ks ex ns d
+agrees-with-fewer ks ex ex' ns d more a i l =
+    record { admitted = (a i l).admitted; kept = fewer (node_at ns i) (a i l).kept }
   where
-    fewer : (n : Node) → ((w : ℕ) → n ≡ Word w → w < 16) → ¬ Contains (excluded_of ex' n) (value_of ns d i)
-        → ¬ Contains (excluded_of ex n) (value_of ns d i)
-    fewer (Const c) b k h = k h
-    fewer (Bin op x y) b k h = k h
-    fewer (Neg x) b k h = k h
-    fewer (Word w) b k h = k (more w _ (b w refl) h)
+    fewer : (n : Node) → ¬ Has (excluded_of ex' n) (value_of ns d i)
+        → ¬ Has (excluded_of ex n) (value_of ns d i)
+    fewer (Const c) k h = k h
+    fewer (Bin op x y) k h = k h
+    fewer (Neg x) k h = k h
+    fewer (Word w) k h = k (more w _ h)
 
 -- an input
 pub no-input : (d : Input) × IsInput d
@@ -186,7 +186,7 @@ no-input = (record { words = replicate 16 0 }, record { sixteen = refl; each = �
     zeros (suc n) (suc i) = zeros n i
 
 -- The first facts: what follows for each node of a pool, where no number is excluded.
-module _ (ex : List (List ℕ)) (ns : List Node) (p : IsPool ns) (none : (w : ℕ) → numbers_at ex w ≡ []) where
+module _ (ex : List ℕ) (ns : List Node) (p : IsPool ns) (none : (w : ℕ) → numbers_at ex w ≡ 0) where
   pub first-goes-on : (d : Input) → IsInput d → (r : Option (List Known)) → TakingInGives [] ex ns r
       → MatchOption r ⊥ (λ new. AgreesWith new ex ns d)
   first-goes-on d i r g = taking-sound [] ex ns d p i (λ j l. absurd (omega arith))
@@ -200,8 +200,13 @@ module _ (ex : List (List ℕ)) (ns : List Node) (p : IsPool ns) (none : (w : �
       → KeepsFixed (record { known = []; variables = places }) (record { known = new; variables = more }) ns
       → Covers (record { known = new; variables = more; excluded = ex }) ns
   first-covers places more new lex g fixed =
-      rest-covers more new ex ns p g.count lex (λ i l. taken-rest [] new ex ns g i (omega arith) l)
-      (fixed (λ i l. absurd (omega arith)) (λ i l. absurd (omega arith)))
+      record {
+        pool = p;
+        count = g.count;
+        words = lex;
+        rest = λ i l. taken-rest [] new ex ns g i (omega arith) l;
+        fixed = fixed (λ i l. absurd (omega arith)) (λ i l. absurd (omega arith));
+      }
 
   pub first-sound : (places : List ℕ) (new : List Known) → AreTakenIn [] new ex ns → (d : Input) → IsInput d
       → Agrees (record { known = new; variables = places; excluded = ex }) ns d

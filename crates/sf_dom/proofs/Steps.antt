@@ -12,14 +12,14 @@ use Rattle.sf_dom.specs.Rules.{met, forward_node, IsReduction}
 use Rattle.sf_dom.specs.Passes.{IsPassedAt, AreClosed, AreFixed}
 use Rattle.sf_dom.specs.Nodes.{NodesView, IsLaidOut}
 use Rattle.sf_dom.specs.Propagation.{AreClosedWords, IsNarrowed, AreConsistentOperands}
-use Rattle.sf_dom.proofs.ClosedLemmas.{closed-consistent}
+use Rattle.sf_dom.specs.FactsLaws.{closed-consistent}
 use Rattle.sf_dom.proofs.Lawful.{narrowed-refl, narrowed-trans, narrowed-set}
 use Rattle.sf_dom.proofs.Passes.{operands-below, met-left, forward-same, fixed-narrower, passed-same, rest-passed}
 use Rattle.sf_dom.proofs.Propagations.{unlisted-rest, words-rest, variable-before, consistent-operands}
 use Rattle.sf_dom.proofs.Reductions.{IsNarrower-trans}
 
 -- a forward pass has gone through the variables before a rank
-pub record PassesThrough (old new : NodesView) (ex : List (List ℕ)) (ns : List Node) (rank : ℕ) : Type 0 where
+pub record PassesThrough (old new : NodesView) (ex : List ℕ) (ns : List Node) (rank : ℕ) : Type 0 where
   pub narrowed : IsNarrowed old.known new.known ex ns
   pub variables : new.variables ≡ old.variables
   pub laid_out : IsLaidOut new
@@ -30,7 +30,7 @@ pub record PassesThrough (old new : NodesView) (ex : List (List ℕ)) (ns : List
       → IsPassedAt old.known new.known ex ns k
 
 -- each node is a variable still, or no more can become known of it
-pub still-fixed : (places : List ℕ) (old new : List Known) (ex : List (List ℕ)) (ns : List Node) → IsPool ns
+pub still-fixed : (places : List ℕ) (old new : List Known) (ex : List ℕ) (ns : List Node) → IsPool ns
     → AreClosed old ns
     → IsNarrowed old new ex ns → AreFixed places old ns → AreFixed places new ns
 still-fixed places old new ex ns p h n fixed =
@@ -39,7 +39,7 @@ still-fixed places old new ex ns p h n fixed =
     (λ i l. closed-consistent (known_at new i) (n.closed.each i l)) (λ i l. n.narrower i (omega arith)) fixed
 
 -- the words need no step
-pub through-words : (n : NodesView) (ex : List (List ℕ)) (ns : List Node) → IsPool ns → AreClosed n.known ns
+pub through-words : (n : NodesView) (ex : List ℕ) (ns : List Node) → IsPool ns → AreClosed n.known ns
     → IsLaidOut n → AreFixed n.variables n.known ns → AreClosedWords n.known ex → PassesThrough n n ex ns 16
 through-words n ex ns p closed laid fixed words = record {
   narrowed = narrowed-refl n.known ex ns closed;
@@ -51,7 +51,7 @@ through-words n ex ns p closed laid fixed words = record {
 }
 
 -- what the pass meets of the variable at a rank
-pub pass-met : (old n : NodesView) (ex : List (List ℕ)) (ns : List Node) (rank i : ℕ) (r both : Known) → IsPool ns
+pub pass-met : (old n : NodesView) (ex : List ℕ) (ns : List Node) (rank i : ℕ) (r both : Known) → IsPool ns
     → PassesThrough old n ex ns rank → rank < length n.variables → slice_index n.variables rank ≡ i → i < length ns
     → (AreConsistentOperands n.known (node_at ns i) → r ≡ forward_node n.known (node_at ns i))
     → both ≡ met (known_at n.known i) r
@@ -64,7 +64,7 @@ pass-met old n ex ns rank i r both p t l at li rule is =
     is ∙ ap (λ k. met k r) was ∙ ap (met (known_at old.known i)) (rule consistent)
 
 -- what has been passed stays so where a later node is written
-passed-older : (old n : NodesView) (ex : List (List ℕ)) (ns : List Node) (rank i : ℕ) (next : Known) → IsPool ns
+passed-older : (old n : NodesView) (ex : List ℕ) (ns : List Node) (rank i : ℕ) (next : Known) → IsPool ns
     → PassesThrough old n ex ns rank → rank < length n.variables → slice_index n.variables rank ≡ i
     → (k : ℕ) → k < i
     → i < length n.known → IsPassedAt old.known (set n.known i next) ex ns k
@@ -75,7 +75,7 @@ passed-older old n ex ns rank i next p t l at k b here =
     (t.passed k (omega arith) (λ j a lj. variable-before n rank j k t.laid_out a lj (omega (arith, at))))
 
 -- the variable at a rank is passed once it is written
-passed-here : (old n : NodesView) (ex : List (List ℕ)) (ns : List Node) (i : ℕ) (both next : Known) → IsPool ns
+passed-here : (old n : NodesView) (ex : List ℕ) (ns : List Node) (i : ℕ) (both next : Known) → IsPool ns
     → i < length n.known → i < length ns
     → both ≡ met (known_at old.known i) (forward_node n.known (node_at ns i))
     → IsReduction ex i both next
@@ -87,7 +87,7 @@ passed-here old n ex ns i both next p here li is rule =
     rw (get_or-set_same n.known i next (known_of 0 0 0 0) here, ← now) rule
 
 -- a step of the pass: what is left of the variable at a rank is known afterwards
-pub through-step : (old n m : NodesView) (ex : List (List ℕ)) (ns : List Node) (rank i : ℕ) (both next : Known)
+pub through-step : (old n m : NodesView) (ex : List ℕ) (ns : List Node) (rank i : ℕ) (both next : Known)
     → IsPool ns → AreClosed old.known ns → AreFixed old.variables old.known ns → PassesThrough old n ex ns rank
     → rank < length n.variables → slice_index n.variables rank ≡ i
     → both ≡ met (known_at old.known i) (forward_node n.known (node_at ns i)) → IsReduction ex i both next

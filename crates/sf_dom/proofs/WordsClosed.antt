@@ -2,7 +2,6 @@
 use Rattle.std.proofs.Common.{◌≡◌, ℕ, ◌<◌, List, length, set, sym, arith, inl, inr}
 use Rattle.std.proofs.lemmas.Bool.{cases_eq}
 use Rattle.std.proofs.lemmas.List.{get_or-set_same, get_or-set_other, length-set}
-use Rattle.std.specs.Prelude.{Contains}
 use Rattle.sf_sym.specs.Pool.{IsPool, IsCondBelow}
 use Rattle.sf_sym.specs.ValueLaws.{word-place}
 use Rattle.sf_sym.specs.declared.pool.Cond.{Cond}
@@ -10,19 +9,19 @@ use Rattle.sf_sym.specs.declared.pool.Node.{Node}
 use Rattle.sf_dom.specs.declared.guards.Pair.{Pair}
 use Rattle.sf_dom.specs.declared.known.Known.{Known}
 use Rattle.sf_dom.specs.Facts.{known_at, numbers_at}
-use Rattle.sf_dom.specs.Known.{known_of}
+use Rattle.sf_dom.specs.Known.{Has, known_of}
 use Rattle.sf_dom.specs.Learning.{Excludes, AreExcludedBy, with_pair}
 use Rattle.sf_dom.specs.Propagation.{AreClosedWords}
 use Rattle.sf_dom.specs.Rules.{IsClosedAt}
 use Rattle.sf_dom.proofs.ConditionSteps.{AreLeft}
 
 -- nothing more follows for a word for which no number is excluded newly
-closed-still : (ks : List Known) (ex more : List (List ℕ)) (ns : List Node) (cond : Cond) (w : ℕ) → w < 16
+closed-still : (ks : List Known) (ex more : List ℕ) (ns : List Node) (cond : Cond) (w : ℕ) → w < 16
     → AreExcludedBy ks ex more ns cond → ((m : ℕ) → ¬ Excludes ks ns cond w m) → IsClosedAt ex w (known_at ks w)
     → IsClosedAt more w (known_at ks w)
 closed-still ks ex more ns cond w l both none k =
-    let kept : (m : ℕ) → ¬ Contains (numbers_at ex w) m → ¬ Contains (numbers_at more w) m
-    = λ m h z. elim (both.only w m l z) [ inl old ↦ h old | inr new ↦ none m new ] in
+    let kept : (m : ℕ) → ¬ Has (numbers_at ex w) m → ¬ Has (numbers_at more w) m
+    = λ m h z. elim (both.only w m z) [ inl old ↦ h old | inr new ↦ none m new ] in
     record {
       known = k.known;
       tight = λ b. record {
@@ -32,7 +31,7 @@ closed-still ks ex more ns cond w l both none k =
     }
 
 -- Where a condition excludes a number for a word, this is one of its nodes, and is reduced with the new numbers.
-pub words-written : (ks : List Known) (ex more : List (List ℕ)) (ns : List Node) (cond : Cond) (pair : Pair)
+pub words-written : (ks : List Known) (ex more : List ℕ) (ns : List Node) (cond : Cond) (pair : Pair)
     → IsPool ns → length ks ≡ length ns → IsCondBelow (length ns) cond → AreClosedWords ks ex
     → AreExcludedBy ks ex more ns cond → AreLeft ks more cond pair → AreClosedWords (with_pair ks cond pair) more
 words-written ks ex more ns cond pair p count below closed both left w l =

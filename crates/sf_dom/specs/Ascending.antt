@@ -1,5 +1,5 @@
--- Numbers in ascending order, and numbers that are shared.
-use Rattle.std.specs.Prelude.{◌≡◌, ℕ, ◌<◌, ◌≤◌, List, [], ◌++◌, length, slice_index, Contains, Option, Some, None}
+-- Numbers in ascending order, sets of numbers, and what is shared.
+use Rattle.std.specs.Prelude.{◌≡◌, ℕ, ◌<◌, ◌≤◌, ◌^◌, bit_or, List, [], ◌∷◌, ◌++◌, length, slice_index, Contains, Option, Some, None}
 use Rattle.std.specs.Arc.{arc_value, arc_slice_items}
 use Rattle.std.specs.declared.sync.Arc.{Arc}
 use Rattle.std.specs.declared.sync.ArcSlice.{ArcSlice}
@@ -16,9 +16,14 @@ IsFound xs ys n (Older i) = (i < length xs) × (slice_index xs i ≡ n)
 IsFound xs ys n Newer = Contains ys n
 IsFound xs ys n Nowhere = ¬ Contains (xs ++ ys) n
 
--- the numbers that are shared, and none where nothing is
-abbrev pub shared_numbers : {Z : Type 0} → Option (Arc (List ℕ) Z) → List ℕ
-shared_numbers None = []
+-- the set of the numbers of a list
+abbrev pub set_of : List ℕ → ℕ
+set_of [] = 0
+set_of (x ∷ xs) = bit_or (2 ^ x) (set_of xs)
+
+-- the set of the numbers that are shared, and the empty one where nothing is
+abbrev pub shared_numbers : {Z : Type 0} → Option (Arc ℕ Z) → ℕ
+shared_numbers None = 0
 shared_numbers (Some numbers) = arc_value numbers
 
 -- the items of a list that is shared, and none where there is no list

@@ -26,12 +26,12 @@ gained _ c node x = x
 
 -- what it gives to reduce this knowledge and to write it as what is known of the node at a place: the list with it, or
 -- nothing where it contradicts itself
-abbrev pub WritingGives : List Known → List (List ℕ) → ℕ → Known → Option (List Known) → Type 0
+abbrev pub WritingGives : List Known → List ℕ → ℕ → Known → Option (List Known) → Type 0
 WritingGives ks ex i known = Then (ReductionGives ex i known) (λ left r. r ≡ Some (set ks i left))
 
 -- In n steps known bits go back from a node, from operand to operand, until a node is no AND, OR or XOR with exactly
 -- one constant.
-abbrev pub GoingBackGivesIn : ℕ → List Known → List (List ℕ) → List Node → ℕ → Option (List Known) → Type 0
+abbrev pub GoingBackGivesIn : ℕ → List Known → List ℕ → List Node → ℕ → Option (List Known) → Type 0
 GoingBackGivesIn zero ks ex ns at r =
     ((o : BinOp × ℕ × ℕ) → constant_operand_of ns (node_at ns at) ≡ Some o → ¬ IsSwappable o.0) × (r ≡ Some ks)
 GoingBackGivesIn (suc n) ks ex ns at r =
@@ -41,5 +41,5 @@ GoingBackGivesIn (suc n) ks ex ns at r =
 
 -- what is known of all nodes after known bits have gone back from one; nothing where what is then known of an operand
 -- contradicts itself
-abbrev pub GoingBackGives : List Known → List (List ℕ) → List Node → ℕ → Option (List Known) → Type 0
+abbrev pub GoingBackGives : List Known → List ℕ → List Node → ℕ → Option (List Known) → Type 0
 GoingBackGives ks ex ns at r = (n : ℕ) × GoingBackGivesIn n ks ex ns at r

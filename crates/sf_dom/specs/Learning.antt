@@ -1,6 +1,6 @@
 -- What facts become by the rules: at first, when they learn a condition, when they take in newer nodes, and when more
 -- is known of a word.
-use Rattle.std.specs.Prelude.{◌≡◌, ℕ, ◌<◌, ◌⊎◌, List, [], ◌∷◌, ◌++◌, length, set, Contains, false, Option, Some, None}
+use Rattle.std.specs.Prelude.{◌≡◌, ℕ, ◌⊎◌, List, [], ◌∷◌, ◌++◌, length, set, false, Option, Some, None}
 use Rattle.sf_insn.specs.declared.ops.Test.TheVariants.{Equal}
 use Rattle.sf_sym.specs.Pool.{node_at}
 use Rattle.sf_sym.specs.declared.pool.Cond.{Cond}
@@ -8,11 +8,11 @@ use Rattle.sf_sym.specs.declared.pool.Node.{Node}
 use Rattle.sf_sym.specs.declared.pool.Node.TheVariants.{Word}
 use Rattle.sf_dom.specs.declared.known.Known.{Known}
 use Rattle.sf_dom.specs.declared.guards.Pair.{Pair}
-use Rattle.sf_dom.specs.Known.{IsDecided}
+use Rattle.sf_dom.specs.Known.{Has, IsDecided}
 use Rattle.sf_dom.specs.Reading.{known_at, numbers_at}
 use Rattle.sf_dom.specs.Facts.{FactsView}
 use Rattle.sf_dom.specs.Rules.{assumed, met, ReductionGives, Then}
-use Rattle.sf_dom.specs.Passes.{AreTakenIn, TakingInFails, PassGives}
+use Rattle.sf_dom.specs.Passes.{AreTakenIn, TakingInFails, PassGives, variables_after}
 use Rattle.sf_dom.specs.GoingBack.{WritingGives, GoingBackGives}
 
 -- A condition that says that its two nodes differ excludes a number for a word: where one node is the word, and the
@@ -23,12 +23,12 @@ Excludes ks ns cond w m = (cond.test ≡ Equal) × (cond.sense ≡ false)
     ⊎ ((node_at ns cond.other.0 ≡ Word w) × IsDecided (known_at ks cond.node.0)
     × (m ≡ (known_at ks cond.node.0).low)))
 
--- the numbers that are excluded for each word, with those that a condition excludes
-pub record AreExcludedBy (ks : List Known) (old new : List (List ℕ)) (ns : List Node) (cond : Cond) : Type 0 where
-  pub kept : (w m : ℕ) → w < 16 → Contains (numbers_at old w) m → Contains (numbers_at new w) m
-  pub more : (w m : ℕ) → w < 16 → Excludes ks ns cond w m → Contains (numbers_at new w) m
-  pub only : (w m : ℕ) → w < 16 → Contains (numbers_at new w) m
-      → Contains (numbers_at old w) m ⊎ Excludes ks ns cond w m
+-- the sets of excluded numbers, with those that a condition excludes
+pub record AreExcludedBy (ks : List Known) (old new : List ℕ) (ns : List Node) (cond : Cond) : Type 0 where
+  pub words : length new ≡ length old
+  pub kept : (w m : ℕ) → Has (numbers_at old w) m → Has (numbers_at new w) m
+  pub more : (w m : ℕ) → Excludes ks ns cond w m → Has (numbers_at new w) m
+  pub only : (w m : ℕ) → Has (numbers_at new w) m → Has (numbers_at old w) m ⊎ Excludes ks ns cond w m
 
 -- what the test of a condition, with the result that the condition asks for, says of its two nodes
 abbrev pub assumed_of : List Known → Cond → Pair
@@ -36,7 +36,7 @@ assumed_of ks cond = assumed cond.test cond.sense (known_at ks cond.node.0) (kno
 
 -- What is known of the two nodes of a condition: what was known of each, met with what the test says, and reduced. The
 -- first is written before the second is read. Nothing where one of them contradicts itself.
-abbrev pub PairGives : List Known → List (List ℕ) → Cond → Option Pair → Type 0
+abbrev pub PairGives : List Known → List ℕ → Cond → Option Pair → Type 0
 PairGives ks ex cond =
     Then (ReductionGives ex cond.node.0 (met (known_at ks cond.node.0) (assumed_of ks cond).node)) (λ node.
     Then (ReductionGives ex cond.other.0
@@ -49,7 +49,7 @@ with_pair ks cond pair = set (set ks cond.node.0 pair.node) cond.other.0 pair.ot
 
 -- What is known of all nodes where a condition is met: its test is assumed of both nodes, then known bits go back from
 -- the one and from the other, and then comes a forward pass. Nothing where one of these steps gives nothing.
-abbrev pub ConditionGives : List Known → List (List ℕ) → List Node → Cond → Option (List Known) → Type 0
+abbrev pub ConditionGives : List Known → List ℕ → List Node → Cond → Option (List Known) → Type 0
 ConditionGives ks ex ns cond =
     Then (PairGives ks ex cond) (λ pair.
     Then (GoingBackGives (with_pair ks cond pair) ex ns cond.node.0) (λ one.
@@ -59,22 +59,25 @@ ConditionGives ks ex ns cond =
 pub record LearnsBy (old new : FactsView) (ns : List Node) (cond : Cond) : Type 0 where
   pub excluded : AreExcludedBy old.known old.excluded new.excluded ns cond
   pub known : ConditionGives old.known new.excluded ns cond (Some new.known)
+  pub variables : new.variables ≡ old.variables
 
 -- facts can't learn a condition: with the numbers that it excludes, one of its steps gives nothing
 pub record CantLearn (old : FactsView) (ns : List Node) (cond : Cond) : Type 0 where
-  pub lists : List (List ℕ)
-  pub excluded : AreExcludedBy old.known old.excluded lists ns cond
-  pub none : ConditionGives old.known lists ns cond None
+  pub sets : List ℕ
+  pub excluded : AreExcludedBy old.known old.excluded sets ns cond
+  pub none : ConditionGives old.known sets ns cond None
 
 -- what is known at first: of each node what follows from its operands, and no number is excluded
 pub record StartsBy (f : FactsView) (ns : List Node) : Type 0 where
   pub known : AreTakenIn [] f.known f.excluded ns
+  pub variables : f.variables ≡ variables_after [] [] f.known ns
   pub words : length f.excluded ≡ 16
-  pub excluded : (w : ℕ) → numbers_at f.excluded w ≡ []
+  pub excluded : (w : ℕ) → numbers_at f.excluded w ≡ 0
 
 -- facts take in the newer nodes of a pool
 pub record GrowsBy (old new : FactsView) (ns : List Node) : Type 0 where
   pub known : AreTakenIn old.known new.known old.excluded ns
+  pub variables : new.variables ≡ variables_after old.variables old.known new.known ns
   pub excluded : new.excluded ≡ old.excluded
 
 -- facts can't take in the newer nodes of a pool
@@ -83,12 +86,13 @@ CantGrow old ns = TakingInFails old.known old.excluded ns
 
 -- What is known of all nodes where more is known of the one at a place: what was known of it is met with that and
 -- reduced, and then comes a forward pass. Nothing where one of these gives nothing.
-abbrev pub MoreGives : List Known → List (List ℕ) → List Node → ℕ → Known → Option (List Known) → Type 0
+abbrev pub MoreGives : List Known → List ℕ → List Node → ℕ → Known → Option (List Known) → Type 0
 MoreGives ks ex ns i more = Then (WritingGives ks ex i (met (known_at ks i) more)) (λ next s. PassGives next ex ns s)
 
 -- facts learn that more is known of a word; no number is excluded by that
 pub record TakesInBy (old new : FactsView) (ns : List Node) (w : ℕ) (more : Known) : Type 0 where
   pub known : MoreGives old.known old.excluded ns w more (Some new.known)
+  pub variables : new.variables ≡ old.variables
   pub excluded : new.excluded ≡ old.excluded
 
 -- facts can't learn this of a word: it contradicts what they know

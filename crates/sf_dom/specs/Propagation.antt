@@ -1,6 +1,6 @@
 -- What the calls on facts promise of the inputs that agree, and what holds between the steps of a forward pass. What is
 -- known of the nodes is a list here.
-use Rattle.std.specs.Prelude.{◌≡◌, ◌≢◌, ℕ, ◌<◌, ◌↔◌, ◌⊎◌, List, length, Contains, Bool, true, All}
+use Rattle.std.specs.Prelude.{◌≡◌, ◌≢◌, ℕ, ◌<◌, ◌↔◌, ◌⊎◌, List, length, Bool, true, All}
 use Rattle.sf_insn.specs.Inputs.{IsInput}
 use Rattle.sf_insn.specs.Words.{passes}
 use Rattle.sf_insn.specs.declared.input.Input.{Input}
@@ -10,7 +10,7 @@ use Rattle.sf_sym.specs.declared.pool.Node.{Node}
 use Rattle.sf_sym.specs.declared.pool.Node.TheVariants.{Word, Bin, Neg}
 use Rattle.sf_sym.specs.declared.pool.Cond.{Cond}
 use Rattle.sf_dom.specs.declared.known.Known.{Known}
-use Rattle.sf_dom.specs.Known.{IsNarrower, IsConsistent, IsDecided}
+use Rattle.sf_dom.specs.Known.{Has, IsNarrower, IsConsistent, IsDecided}
 use Rattle.sf_dom.specs.Nodes.{NodesView}
 use Rattle.sf_dom.specs.Rules.{IsClosedAt}
 use Rattle.sf_dom.specs.Passes.{AreClosed, IsVariableAt, IsFixedAt, AreFixed}
@@ -23,7 +23,7 @@ AreConsistentOperands ks (Neg a) = IsConsistent (known_at ks a.0)
 AreConsistentOperands ks _ = Unit {0}
 
 -- nothing more follows from what is known of each word by itself
-abbrev pub AreClosedWords : List Known → List (List ℕ) → Type 0
+abbrev pub AreClosedWords : List Known → List ℕ → Type 0
 AreClosedWords ks ex = (w : ℕ) → w < 16 → IsClosedAt ex w (known_at ks w)
 
 -- nothing known of any node is lost
@@ -32,7 +32,7 @@ AllNarrower old new = (i : ℕ) → i < length old → IsNarrower (known_at old 
 
 -- More may have become known. Nothing is lost, and nothing more follows from what is known of each node by itself.
 -- Where nothing more followed for the words with their excluded numbers, nothing more follows for them afterwards.
-pub record IsNarrowed (old new : List Known) (ex : List (List ℕ)) (ns : List Node) : Type 0 where
+pub record IsNarrowed (old new : List Known) (ex : List ℕ) (ns : List Node) : Type 0 where
   pub closed : AreClosed new ns
   pub narrower : AllNarrower old new
   pub kept : AreClosedWords old ex → AreClosedWords new ex
@@ -53,19 +53,19 @@ abbrev pub TestGives : Test → ℕ → ℕ → Bool → Type 0
 TestGives test a b sense = passes test a b ≡ sense
 
 -- one more number is excluded for a word, and the other words keep their numbers
-pub record AddsNumber (old new : List (List ℕ)) (w number : ℕ) : Type 0 where
+pub record AddsNumber (old new : List ℕ) (w number : ℕ) : Type 0 where
   pub words : length new ≡ length old
-  pub word : (m : ℕ) → Contains (numbers_at new w) m ↔ (Contains (numbers_at old w) m ⊎ (m ≡ number))
+  pub word : (m : ℕ) → Has (numbers_at new w) m ↔ (Has (numbers_at old w) m ⊎ (m ≡ number))
   pub others : (v : ℕ) → v ≢ w → numbers_at new v ≡ numbers_at old v
 
 -- where a node is a word and another one is decided, the number of that one is excluded for the word; no other number
 -- is added
-pub record AreExcluded (old new : List (List ℕ)) (n : Node) (other : Known) : Type 0 where
+pub record AreExcluded (old new : List ℕ) (n : Node) (other : Known) : Type 0 where
   pub words : length new ≡ length old
-  pub more : (i m : ℕ) → i < 16 → Contains (numbers_at old i) m → Contains (numbers_at new i) m
-  pub only : (i m : ℕ) → i < 16 → Contains (numbers_at new i) m → Contains (numbers_at old i) m
+  pub more : (i m : ℕ) → Has (numbers_at old i) m → Has (numbers_at new i) m
+  pub only : (i m : ℕ) → Has (numbers_at new i) m → Has (numbers_at old i) m
       ⊎ ((n ≡ Word i) × IsDecided other × (m ≡ other.low))
-  pub added : (i : ℕ) → n ≡ Word i → IsDecided other → Contains (numbers_at new i) other.low
+  pub added : (i : ℕ) → n ≡ Word i → IsDecided other → Has (numbers_at new i) other.low
 
 -- a condition is met on an input
 abbrev pub Meets : List Node → Cond → Input → Type 0

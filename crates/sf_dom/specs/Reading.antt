@@ -1,5 +1,5 @@
 -- What stands in the lists of facts: what is known of a node, and what is excluded for it.
-use Rattle.std.specs.Prelude.{ℕ, List, [], slice_index_or}
+use Rattle.std.specs.Prelude.{ℕ, List, slice_index_or}
 use Rattle.sf_sym.specs.declared.pool.Node.{Node}
 use Rattle.sf_sym.specs.declared.pool.Node.TheVariants.{Word}
 use Rattle.sf_dom.specs.declared.known.Known.{Known}
@@ -8,11 +8,11 @@ use Rattle.sf_dom.specs.declared.known.Known.{Known}
 abbrev pub known_at : List Known → ℕ → Known
 known_at ks i = slice_index_or ks i (record { low = 0; high = 0; zeros = 0; ones = 0 })
 
--- the numbers that are excluded for a word
-abbrev pub numbers_at : List (List ℕ) → ℕ → List ℕ
-numbers_at ex i = slice_index_or ex i []
+-- the set of the numbers that are excluded for a word
+abbrev pub numbers_at : List ℕ → ℕ → ℕ
+numbers_at ex i = slice_index_or ex i 0
 
--- the numbers that are excluded for a node: those of a word, and none for any other node
-abbrev pub excluded_of : List (List ℕ) → Node → List ℕ
+-- the set of the numbers that are excluded for a node: those of a word, and none for any other node
+abbrev pub excluded_of : List ℕ → Node → ℕ
 excluded_of ex (Word i) = numbers_at ex i
-excluded_of ex _ = []
+excluded_of ex _ = 0

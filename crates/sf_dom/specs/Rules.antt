@@ -101,7 +101,7 @@ pub record IsClosed (k : Known) : Type 0 where
 
 -- Nothing more follows from what is known of a word for which these numbers are excluded: it is closed, and both ends
 -- are numbers that are left.
-pub record IsClosedWord (xs : List ℕ) (k : Known) : Type 0 where
+pub record IsClosedWord (xs : ℕ) (k : Known) : Type 0 where
   pub known : IsClosed k
   pub tight : IsTight k xs
 
@@ -118,20 +118,20 @@ HasNone kind old = (k : Known) → kind k → ¬ IsNarrower old k
 
 -- Nothing more follows from what is known of the node at a place by itself. The first sixteen nodes are the words of
 -- the input, for which numbers are excluded: of these nodes both ends are numbers that are left.
-pub record IsClosedAt (ex : List (List ℕ)) (i : ℕ) (k : Known) : Type 0 where
+pub record IsClosedAt (ex : List ℕ) (i : ℕ) (k : Known) : Type 0 where
   pub known : IsClosed k
   pub tight : i < 16 → IsTight k (numbers_at ex i)
 
 -- what is known of the node at a place is reduced to this: the widest knowledge that is closed there and loses nothing
-abbrev pub IsReduction : List (List ℕ) → ℕ → Known → Known → Type 0
+abbrev pub IsReduction : List ℕ → ℕ → Known → Known → Type 0
 IsReduction ex i old new = IsWidest (IsClosedAt ex i) old new
 
 -- what is known of the node at a place contradicts itself: every knowledge that is closed there loses something of it
-abbrev pub HasNoReduction : List (List ℕ) → ℕ → Known → Type 0
+abbrev pub HasNoReduction : List ℕ → ℕ → Known → Type 0
 HasNoReduction ex i old = HasNone (IsClosedAt ex i) old
 
 -- what is known of the node at a place once that is reduced, or nothing where it contradicts itself
-abbrev pub ReductionGives : List (List ℕ) → ℕ → Known → Option Known → Type 0
+abbrev pub ReductionGives : List ℕ → ℕ → Known → Option Known → Type 0
 ReductionGives ex i old r = MatchOption r (HasNoReduction ex i old) (IsReduction ex i old)
 
 -- one step and then another, each of which may give nothing: the second goes on from what the first gives, and where

@@ -1,22 +1,26 @@
 -- What the rules of facts promise, said of the rules alone.
-use Rattle.std.specs.Prelude.{◌≡◌, ◌≢◌, ℕ, ◌<◌, ◌≤◌, ◌^◌, List, [], ◌∷◌, ◌++◌, length, Bool, not}
+use Rattle.std.specs.Prelude.{◌≡◌, ◌≢◌, ℕ, ◌<◌, ◌≤◌, ◌^◌, bit_and, List, [], ◌∷◌, ◌++◌, length, Bool, not, Some, All}
+use Rattle.sf_insn.specs.Inputs.{IsInput}
+use Rattle.sf_insn.specs.declared.input.Input.{Input}
 use Rattle.sf_insn.specs.declared.ops.BinOp.{BinOp}
+use Rattle.sf_insn.specs.declared.ops.BinOp.TheVariants.{Add, Sub, Or, And, Xor}
 use Rattle.sf_insn.specs.declared.ops.Test.{Test}
 use Rattle.sf_insn.specs.Words.{apply, negation_of}
 use Rattle.sf_dom.specs.declared.known.Known.{Known}
-use Rattle.sf_dom.specs.Known.{Admits, Leaves}
-use Rattle.sf_sym.specs.Pool.{IsPool, IsCondBelow, Extends, node_at}
+use Rattle.sf_dom.specs.Known.{Admits, Leaves, IsDecided}
+use Rattle.sf_sym.specs.Pool.{IsPool, IsCondBelow, Extends, node_at, value_of}
 use Rattle.sf_sym.specs.declared.pool.Cond.{Cond}
 use Rattle.sf_sym.specs.declared.pool.Node.{Node}
-use Rattle.sf_sym.specs.declared.pool.Node.TheVariants.{Const}
+use Rattle.sf_sym.specs.declared.pool.Node.TheVariants.{Const, Bin, Neg}
 use Rattle.sf_sym.specs.declared.pool.NodeId.{NodeId}
-use Rattle.sf_dom.specs.Facts.{FactsView, Covers, NoInput, HasIn, ConfinesWord, AreEqualFacts, known_at}
-use Rattle.sf_dom.specs.Learning.{StartsBy, LearnsBy, CantLearn, GrowsBy, CantGrow, TakesInBy, CantTakeInBy, AreBuiltBy}
+use Rattle.sf_dom.specs.Facts.{FactsView, Agrees, Covers, NoInput, NoneAgrees, HasIn, LiesIn, HasMasked, ConfinesWord, TakesIn, known_at}
+use Rattle.sf_dom.specs.Learning.{StartsBy, LearnsBy, CantLearn, GrowsBy, CantGrow, TakesInBy, CantTakeInBy, AreBuiltBy, CantBeBuilt}
 use Rattle.sf_dom.specs.Passes.{IsPass, IsAtRest}
 use Rattle.sf_dom.specs.Backward.{IsPropagatedBack}
-use Rattle.sf_dom.specs.Propagation.{Meets, Learns}
+use Rattle.sf_dom.specs.GoingBack.{GoingBackGives}
+use Rattle.sf_dom.specs.Propagation.{TestGives, Meets, AllMet, Learns, AreFactsOf}
 use Rattle.sf_dom.specs.Telling.{IsForcedBy}
-use Rattle.sf_dom.specs.Rules.{IsClosedAt, number_known, forward_known, forward_negated, IsClosed, IsClosedWord, IsWidest, HasNone}
+use Rattle.sf_dom.specs.Rules.{IsClosedAt, between, masked, number_known, forward_known, forward_negated, IsClosed, IsClosedWord, IsWidest, HasNone}
 
 -- where what is known of the operands admits their numbers, what is known of the result admits the number that the
 -- operation makes of these
@@ -25,54 +29,95 @@ pub record IsForwardSound : Type 0 where
       → Admits (forward_known op a b) (apply op x y)
   pub negation : (a : Known) (x : ℕ) → a.high < 2 ^ 32 → Admits a x → Admits (forward_negated a) (negation_of x)
 
+-- the operations whose result is decided where both operands are
+abbrev pub KeepsDecided : BinOp → Type 0
+KeepsDecided Add = Unit {0}
+KeepsDecided Sub = Unit {0}
+KeepsDecided Or = Unit {0}
+KeepsDecided And = Unit {0}
+KeepsDecided Xor = Unit {0}
+KeepsDecided _ = ⊥
+
+-- a node is one of these operations or a negation, and its operands are decided
+abbrev pub AreDecidedOperands : List Known → Node → Type 0
+AreDecidedOperands ks (Bin op a b) = KeepsDecided op × IsDecided (known_at ks a.0) × IsDecided (known_at ks b.0)
+AreDecidedOperands ks (Neg a) = IsDecided (known_at ks a.0)
+AreDecidedOperands ks _ = ⊥
+
+-- such a node of a pool is decided
+abbrev pub DecidesResults : Type 0
+DecidesResults = (f : FactsView) (ns : List Node) (i : ℕ) → Covers f ns → i < length ns
+    → AreDecidedOperands f.known (node_at ns i) → IsDecided (known_at f.known i)
+
 -- Reduction loses no number that was admitted, or was left for a word; where it gives nothing, there was none. It has
 -- one result at most.
 pub record IsReductionSound : Type 0 where
   pub some : (old new : Known) (n : ℕ) → n < 2 ^ 32 → old.zeros < 2 ^ 32 → IsWidest IsClosed old new → Admits old n
       → Admits new n
   pub none : (old : Known) (n : ℕ) → n < 2 ^ 32 → old.zeros < 2 ^ 32 → HasNone IsClosed old → ¬ Admits old n
-  pub some_word : (xs : List ℕ) (old new : Known) (n : ℕ) → n < 2 ^ 32 → old.zeros < 2 ^ 32
+  pub some_word : (xs : ℕ) (old new : Known) (n : ℕ) → n < 2 ^ 32 → old.zeros < 2 ^ 32
       → IsWidest (IsClosedWord xs) old new → Leaves old xs n → Leaves new xs n
-  pub none_word : (xs : List ℕ) (old : Known) (n : ℕ) → n < 2 ^ 32 → old.zeros < 2 ^ 32 → HasNone (IsClosedWord xs) old
+  pub none_word : (xs : ℕ) (old : Known) (n : ℕ) → n < 2 ^ 32 → old.zeros < 2 ^ 32 → HasNone (IsClosedWord xs) old
       → ¬ Leaves old xs n
   pub one : (old a b : Known) → IsWidest IsClosed old a → IsWidest IsClosed old b → a ≡ b
-  pub one_word : (xs : List ℕ) (old a b : Known) → IsWidest (IsClosedWord xs) old a → IsWidest (IsClosedWord xs) old b
+  pub one_word : (xs : ℕ) (old a b : Known) → IsWidest (IsClosedWord xs) old a → IsWidest (IsClosedWord xs) old b
       → a ≡ b
 
--- What facts learn by the rules loses no input: those that agreed and meet the condition, or have such a number in the
--- word, agree afterwards. Where facts can't learn it by the rules, there is no such input.
+-- A result that the rules force is the one that the test has on every input that agrees with the facts. Where all that
+-- the known bits of a node say of the nodes that it comes of is known of these already, going back from it changes
+-- nothing.
+pub record IsTellingSound : Type 0 where
+  pub forced : (f : FactsView) (ns : List Node) (i : ℕ) (test : Test) (number : ℕ) (sense : Bool) → Covers f ns
+      → i < length ns → number < 2 ^ 32 → IsForcedBy (IsClosedAt f.excluded i) (known_at f.known i) test number sense
+      → (d : Input) → IsInput d → Agrees f ns d → TestGives test (value_of ns d i) number sense
+  pub back : (f : FactsView) (ns : List Node) (i : ℕ) → Covers f ns → i < length ns
+      → ((n : ℕ) → IsPropagatedBack n f.known ns i) → GoingBackGives f.known f.excluded ns i (Some f.known)
+
+-- What the calls on facts promise of inputs follows from the rules. Facts of conditions, facts that learn a condition
+-- or more of a word, and facts that take in newer nodes lose no input that meets these conditions or has such a number
+-- in the word. Where facts can't do so by the rules, there is no such input.
 pub record IsLearningSound : Type 0 where
+  pub built : (f : FactsView) (ns : List Node) (conds : List Cond) → Covers f ns → All (IsCondBelow (length ns)) conds
+      → AreBuiltBy f ns conds → AreFactsOf f ns conds
+  pub cant_build : (ns : List Node) (conds : List Cond) → IsPool ns → All (IsCondBelow (length ns)) conds
+      → CantBeBuilt ns conds → (d : Input) → IsInput d → ¬ AllMet ns conds d
   pub learns : (f new : FactsView) (ns : List Node) (cond : Cond) → Covers f ns → IsCondBelow (length ns) cond
-      → length new.excluded ≡ 16 → new.variables ≡ f.variables → LearnsBy f new ns cond → Learns f new ns cond
+      → Covers new ns → LearnsBy f new ns cond → Learns f new ns cond
   pub cant_learn : (f : FactsView) (ns : List Node) (cond : Cond) → Covers f ns → IsCondBelow (length ns) cond
       → CantLearn f ns cond → NoInput f ns (Meets ns cond)
-  pub confines : (f new : FactsView) (ns : List Node) (w : ℕ) (more : Known) → Covers f ns → w < 16
-      → more.zeros < 2 ^ 32 → new.variables ≡ f.variables → TakesInBy f new ns w more
-      → ConfinesWord f new ns w (Admits more)
-  pub cant_confine : (f : FactsView) (ns : List Node) (w : ℕ) (more : Known) → Covers f ns → w < 16
-      → more.zeros < 2 ^ 32 → CantTakeInBy f ns w more → NoInput f ns (HasIn w (Admits more))
+  pub confines : (f new : FactsView) (ns : List Node) (w low high : ℕ) → Covers f ns → w < 16 → Covers new ns
+      → TakesInBy f new ns w (between low high) → ConfinesWord f new ns w (LiesIn low high)
+  pub cant_confine : (f : FactsView) (ns : List Node) (w low high : ℕ) → Covers f ns → w < 16
+      → CantTakeInBy f ns w (between low high) → NoInput f ns (HasIn w (LiesIn low high))
+  pub confines_bits : (f new : FactsView) (ns : List Node) (w mask value : ℕ) → Covers f ns → w < 16 → mask < 2 ^ 32
+      → bit_and value mask ≡ value → Covers new ns → TakesInBy f new ns w (masked mask value)
+      → ConfinesWord f new ns w (HasMasked mask value)
+  pub cant_confine_bits : (f : FactsView) (ns : List Node) (w mask value : ℕ) → Covers f ns → w < 16 → mask < 2 ^ 32
+      → bit_and value mask ≡ value → CantTakeInBy f ns w (masked mask value)
+      → NoInput f ns (HasIn w (HasMasked mask value))
+  pub grows : (f new : FactsView) (before ns : List Node) → Covers f before → Extends before ns → Covers new ns
+      → GrowsBy f new ns → TakesIn f new before ns
+  pub cant_grow : (f : FactsView) (before ns : List Node) → Covers f before → Extends before ns → IsPool ns
+      → CantGrow f ns → NoneAgrees f before
 
--- The rules have one result. What is known at first is one thing. If two equal facts both learn a condition, they learn
--- equal ones, and never does one of them learn it where the other can't. The same goes for taking in newer nodes, and
--- for learning more of a word.
+-- The rules have one result. What is known at first is one thing. What facts learn of a condition is one thing, and
+-- they never learn it where they can't. The same goes for taking in newer nodes, and for learning more of a word.
 pub record HaveOneResult : Type 0 where
-  pub started : (f g : FactsView) (ns : List Node) → IsPool ns → StartsBy f ns → StartsBy g ns → AreEqualFacts f g
-  pub learnt : (f g c e : FactsView) (ns : List Node) (cond : Cond) → IsPool ns → AreEqualFacts f g
-      → LearnsBy f c ns cond → LearnsBy g e ns cond → AreEqualFacts c e
-  pub learns_not : (f g c : FactsView) (ns : List Node) (cond : Cond) → IsPool ns → AreEqualFacts f g
-      → LearnsBy f c ns cond → ¬ CantLearn g ns cond
-  pub grown : (f g c e : FactsView) (ns : List Node) → IsPool ns → AreEqualFacts f g → GrowsBy f c ns
-      → GrowsBy g e ns → AreEqualFacts c e
-  pub grows_not : (f g c : FactsView) (ns : List Node) → IsPool ns → AreEqualFacts f g → GrowsBy f c ns
-      → ¬ CantGrow g ns
-  pub confined : (f g c e : FactsView) (ns : List Node) (w : ℕ) (more : Known) → IsPool ns → AreEqualFacts f g
-      → TakesInBy f c ns w more → TakesInBy g e ns w more → AreEqualFacts c e
-  pub confines_not : (f g c : FactsView) (ns : List Node) (w : ℕ) (more : Known) → IsPool ns → AreEqualFacts f g
-      → TakesInBy f c ns w more → ¬ CantTakeInBy g ns w more
+  pub started : (f g : FactsView) (ns : List Node) → IsPool ns → StartsBy f ns → StartsBy g ns → f ≡ g
+  pub learnt : (f g h : FactsView) (ns : List Node) (cond : Cond) → IsPool ns → LearnsBy f g ns cond
+      → LearnsBy f h ns cond → g ≡ h
+  pub learns_not : (f g : FactsView) (ns : List Node) (cond : Cond) → IsPool ns → LearnsBy f g ns cond
+      → ¬ CantLearn f ns cond
+  pub grown : (f g h : FactsView) (ns : List Node) → IsPool ns → GrowsBy f g ns → GrowsBy f h ns → g ≡ h
+  pub grows_not : (f g : FactsView) (ns : List Node) → IsPool ns → GrowsBy f g ns → ¬ CantGrow f ns
+  pub confined : (f g h : FactsView) (ns : List Node) (w : ℕ) (more : Known) → IsPool ns → TakesInBy f g ns w more
+      → TakesInBy f h ns w more → g ≡ h
+  pub confines_not : (f g : FactsView) (ns : List Node) (w : ℕ) (more : Known) → IsPool ns → TakesInBy f g ns w more
+      → ¬ CantTakeInBy f ns w more
 
 -- where nothing more follows for any node before a place, a forward pass changes none of these
 abbrev pub PassKeepsOlder : Type 0
-PassKeepsOlder = (old new : List Known) (ex : List (List ℕ)) (ns : List Node) (i : ℕ) → IsPool ns → i ≤ length ns
+PassKeepsOlder = (old new : List Known) (ex : List ℕ) (ns : List Node) (i : ℕ) → IsPool ns → i ≤ length ns
     → IsPass old new ex ns → ((k : ℕ) → k < i → IsAtRest old ex ns k)
     → (k : ℕ) → k < i → known_at new k ≡ known_at old k
 
@@ -87,10 +132,11 @@ pub data AreCarried : FactsView → List Node → List Cond → Type 0 where
   grown : {f : FactsView} {ns : List Node} {conds : List Cond} (old : FactsView) (shorter : List Node)
       → AreCarried old shorter conds → IsPool ns → Extends shorter ns → GrowsBy old f ns → AreCarried f ns conds
 
--- Facts that are carried along are those that are built anew, over the whole pool and from all conditions.
+-- Facts that are carried along say what those say that are built anew, over the whole pool and from all conditions.
+-- Only which nodes are variables may differ.
 abbrev pub CarriedAreBuilt : Type 0
 CarriedAreBuilt = (f g : FactsView) (ns : List Node) (conds : List Cond) → AreCarried f ns conds → AreBuiltBy g ns conds
-    → AreEqualFacts f g
+    → (f.known ≡ g.known) × (f.excluded ≡ g.excluded)
 
 -- A condition's test is forced to have this result. What is known of the second node is just this number; what is known
 -- of the first one forces the result; nothing more follows for any node; and what goes back from either of the two is

@@ -1,11 +1,11 @@
 -- When what is known leaves the result of a test against a number open, and when the rules force it.
-use Rattle.std.specs.Prelude.{◌≡◌, ℕ, ◌≤◌, List, Contains, Bool, true, false, not, Option, IfSome, bit_and}
+use Rattle.std.specs.Prelude.{◌≡◌, ℕ, ◌≤◌, List, Bool, true, false, not, Option, IfSome, bit_and}
 use Rattle.sf_insn.specs.declared.ops.Test.{Test}
 use Rattle.sf_insn.specs.declared.ops.Test.TheVariants.{Equal, AnyBit}
 use Rattle.sf_sym.specs.Pool.{node_at}
 use Rattle.sf_sym.specs.declared.pool.Node.{Node}
 use Rattle.sf_dom.specs.declared.known.Known.{Known}
-use Rattle.sf_dom.specs.Known.{IsNarrower, AreBitsOf}
+use Rattle.sf_dom.specs.Known.{Has, IsNarrower, AreBitsOf}
 use Rattle.sf_dom.specs.Facts.{known_at, excluded_of}
 use Rattle.sf_dom.specs.Propagation.{TestGives}
 use Rattle.sf_dom.specs.Rules.{assumed, met, number_known, IsClosedAt, HasNone}
@@ -30,14 +30,14 @@ pub record IsForcedBy (kind : Known → Type 0) (k : Known) (test : Test) (numbe
 
 -- What is known of a node leaves the result of a test against a number open: its interval and bits do, and where the
 -- test is for equality, the number isn't excluded for the node.
-pub record IsOpenAt (ks : List Known) (ex : List (List ℕ)) (ns : List Node) (at : ℕ) (test : Test)
+pub record IsOpenAt (ks : List Known) (ex : List ℕ) (ns : List Node) (at : ℕ) (test : Test)
     (number : ℕ) : Type 0 where
   pub known : IsOpen test (known_at ks at) number
-  pub kept : test ≡ Equal → ¬ Contains (excluded_of ex (node_at ns at)) number
+  pub kept : test ≡ Equal → ¬ Has (excluded_of ex (node_at ns at)) number
 
 -- The result that is told of a test of the node at a place, if one is, is forced by the rules. This is promised where
 -- nothing more follows from what is known of the node by itself.
-abbrev pub IsForcing : List Known → List (List ℕ) → ℕ → Test → ℕ → Option Bool → Type 0
+abbrev pub IsForcing : List Known → List ℕ → ℕ → Test → ℕ → Option Bool → Type 0
 IsForcing ks ex at test number told =
     IsClosedAt ex at (known_at ks at)
     → IfSome told (λ b. IsForcedBy (IsClosedAt ex at) (known_at ks at) test number b)

@@ -257,9 +257,8 @@ pub(crate) fn exclude_each_other(
     requires covers { length nodes.now.known ≡ length pool.now }
     requires below { IsCondBelow (length pool.now) cond.now }
     requires differ { (cond.now.test ≡ Test.Equal) × (cond.now.sense ≡ false) }
-    ensures rule { IfOk result (λ _. AreExcludedBy nodes.now.known excluded.old excluded.new
+    ensures { IfOk result (λ _. AreExcludedBy nodes.now.known excluded.old excluded.new
         pool.now cond.now) }
-    ensures words { IfOk result (λ _. length excluded.new ≡ length excluded.old) }
 {
     let left = pool.node(cond.node);
     let right = pool.node(cond.other);

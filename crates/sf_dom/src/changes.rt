@@ -29,9 +29,8 @@ fn with_excluded_by(
 ) -> Result<Excluded, Fault>
     requires covers { length nodes.now.known ≡ length pool.now }
     requires below { IsCondBelow (length pool.now) cond.now }
-    ensures rule { IfOk result (λ e. AreExcludedBy nodes.now.known excluded.now e
+    ensures { IfOk result (λ e. AreExcludedBy nodes.now.known excluded.now e
         pool.now cond.now) }
-    ensures words { IfOk result (λ e. length e ≡ 16) }
 {
     match (cond.test, cond.sense) {
         (Test::Equal, false) => {
@@ -62,12 +61,11 @@ pub(crate) fn learn_cond(
     requires fixed { AreFixed nodes.now.variables nodes.now.known pool.now }
     requires below { IsCondBelow (length pool.now) cond.now }
     ensures rule { IfOk result (λ o. MatchOption o
-        ((ex : List (List ℕ)) × AreExcludedBy nodes.now.known excluded.now ex pool.now cond.now
+        ((ex : List ℕ) × AreExcludedBy nodes.now.known excluded.now ex pool.now cond.now
         × ConditionGives nodes.now.known ex pool.now cond.now None)
         (λ r. AreExcludedBy nodes.now.known excluded.now r.1 pool.now cond.now
         × ConditionGives nodes.now.known r.1 pool.now cond.now
         (Some r.0.known))) }
-    ensures words { IfOk result (λ o. IfSome o (λ r. length r.1 ≡ 16)) }
     ensures variables { IfOk result (λ o. IfSome o (λ r. r.0.variables ≡ nodes.now.variables)) }
 {
     // For the prover: the pool is lawful.

@@ -1,9 +1,9 @@
 //! The numbers that a word does not have.
 
-ghost use Rattle.std.specs.Prelude.{◌≡◌, ℕ, ◌<◌, ◌≤◌, ◌↔◌, ◌⊎◌, [], length, IfOk, IsTrue, Contains, OnErr, MatchOption};
+ghost use Rattle.std.specs.Prelude.{◌≡◌, ℕ, ◌<◌, ◌≤◌, ◌↔◌, ◌⊎◌, length, IfOk, IsTrue, Contains, OnErr, MatchOption};
 ghost use Rattle.std.specs.Arc.{arc_value};
-ghost use Rattle.sf_dom.specs.Known.{AreSameNumbers};
-ghost use Rattle.sf_dom.specs.Facts.{numbers_at};
+ghost use Rattle.sf_dom.specs.Known.{Has};
+ghost use Rattle.sf_dom.specs.Reading.{numbers_at};
 ghost use Rattle.sf_dom.specs.Propagation.{AddsNumber};
 ghost use Rattle.sf_dom.specs.Ascending.{shared_numbers};
 
@@ -23,9 +23,9 @@ pub(crate) struct Exclusions {
 }
 
 impl Model for Exclusions {
-    ghost use Rattle.std.specs.Prelude.{List, ℕ};
+    ghost use Rattle.std.specs.Prelude.{ℕ};
 
-    ghost Value = { List ℕ };
+    ghost Value = { ℕ };
 
     ghost use Rattle.sf_dom.specs.Ascending.{shared_numbers};
 
@@ -33,7 +33,7 @@ impl Model for Exclusions {
 }
 
 impl Default for Exclusions {
-    ghost is_default = { λ e. e ≡ [] };
+    ghost is_default = { λ e. e ≡ 0 };
 
     /// No numbers.
     fn default() -> Self {
@@ -42,22 +42,30 @@ impl Default for Exclusions {
 }
 
 /// Whether each of the numbers is among the others.
-fn are_among(numbers: &Numbers, others: &Exclusions) -> bool
-    ensures { IsTrue result ↔ ((n : ℕ) → Contains numbers.now n → Contains others.now n) }
+fn are_among(numbers: &[u32], others: &Exclusions) -> bool
+    ensures { IsTrue result ↔ ((n : ℕ) → Contains numbers.now n → Has others.now n) }
 {
     for place in 0..numbers.len() {
-        if !others.has(numbers.at(place)) {
+        if !others.has(numbers[place]) {
             return false;
         }
     }
     true
 }
 
+/// Whether each of the older and of the newer numbers is among the others.
+fn are_both_among(numbers: &Numbers, others: &Exclusions) -> bool
+    ensures { IsTrue result ↔ ((n : ℕ) → Has numbers.now n → Has others.now n) }
+{
+    let (older, newer) = numbers.lists();
+    are_among(older, others) && are_among(newer, others)
+}
+
 /// The numbers of a list with one more, which may be among them already. `None` stands for a list without numbers.
 /// `Memory` where an allocation is refused, or where the older numbers have too many owners.
 fn with_number(alloc: Global, numbers: &Option<Arc<Numbers>>, number: u32) -> Result<Numbers, Fault>
-    ensures { IfOk result (λ v. (n : ℕ) → Contains v n
-        ↔ (Contains (shared_numbers numbers.now) n ⊎ (n ≡ number))) }
+    ensures { IfOk result (λ v. (n : ℕ) → Has v n
+        ↔ (Has (shared_numbers numbers.now) n ⊎ (n ≡ number))) }
 {
     match numbers {
         Some(list) => list.with_number(alloc, number),
@@ -78,7 +86,7 @@ impl Exclusions {
 
     /// Whether a number is there.
     pub(crate) fn has(&self, number: u32) -> bool
-        ensures { IsTrue result ↔ Contains self.now number }
+        ensures { IsTrue result ↔ Has self.now number }
     {
         match &self.numbers {
             Some(numbers) => numbers.has(number),
@@ -102,8 +110,8 @@ impl Exclusions {
     /// where the older numbers have too many owners.
     fn with_number(&self, alloc: Global, number: u32) -> Result<Option<Exclusions>, Fault>
         ensures { IfOk result (λ o. MatchOption o
-            (Contains self.now number)
-            (λ e. (n : ℕ) → Contains e n ↔ (Contains self.now n ⊎ (n ≡ number)))) }
+            (Has self.now number)
+            (λ e. (n : ℕ) → Has e n ↔ (Has self.now n ⊎ (n ≡ number)))) }
     {
         if self.has(number) {
             return Ok(None);
@@ -116,17 +124,17 @@ impl Exclusions {
 
     /// Whether each of these numbers is among the others.
     fn is_among(&self, others: &Exclusions) -> bool
-        ensures { IsTrue result ↔ ((n : ℕ) → Contains self.now n → Contains others.now n) }
+        ensures { IsTrue result ↔ ((n : ℕ) → Has self.now n → Has others.now n) }
     {
         match &self.numbers {
-            Some(numbers) => are_among(numbers, others),
+            Some(numbers) => are_both_among(numbers, others),
             None => true,
         }
     }
 
     /// Whether both have the same numbers.
     pub(crate) fn is_same(&self, other: &Exclusions) -> bool
-        ensures { IsTrue result ↔ AreSameNumbers self.now other.now }
+        ensures { IsTrue result ↔ (self.now ≡ other.now) }
     {
         self.is_among(other) && other.is_among(self)
     }
@@ -138,7 +146,7 @@ type Lists = [Exclusions; WORDS];
 /// A list without numbers for each word.
 fn no_exclusions() -> Lists
     ensures count { length result ≡ 16 }
-    ensures none { (w : ℕ) → numbers_at result w ≡ [] }
+    ensures none { (w : ℕ) → numbers_at result w ≡ 0 }
 {
     Lists::default()
 }
@@ -155,6 +163,20 @@ fn copy_all(lists: &Lists, copies: &mut Lists) -> Result<(), Fault>
     Ok(())
 }
 
+/// Whether each word has the same numbers in both.
+fn are_same_lists(lists: &Lists, others: &Lists) -> bool
+    requires lists { length lists.now ≡ 16 }
+    requires others { length others.now ≡ 16 }
+    ensures { IsTrue result ↔ (lists.now ≡ others.now) }
+{
+    for word in 0..WORDS {
+        if !lists[word].is_same(&others[word]) {
+            return false;
+        }
+    }
+    true
+}
+
 /// The numbers that each of the sixteen words does not have. Copies share all lists, until a word gets another number.
 #[derive(Drop)]
 pub(crate) struct Excluded {
@@ -166,7 +188,7 @@ impl Model for Excluded {
     ghost use Rattle.std.specs.Prelude.{◌≡◌, List, ℕ, length};
     ghost use Rattle.std.specs.Arc.{arc_value};
 
-    ghost Value = { List (List ℕ) };
+    ghost Value = { List ℕ };
 
     ghost view = { λ e. arc_value e.lists };
 
@@ -185,7 +207,7 @@ impl Excluded {
 
     /// A list without numbers for each word. `Memory` where an allocation is refused.
     pub(crate) fn none(alloc: Global) -> Result<Excluded, Fault>
-        ensures { IfOk result (λ e. (length e ≡ 16) × ((w : ℕ) → numbers_at e w ≡ [])) }
+        ensures { IfOk result (λ e. (length e ≡ 16) × ((w : ℕ) → numbers_at e w ≡ 0)) }
     {
         Excluded::of(alloc, no_exclusions())
     }
@@ -209,8 +231,7 @@ impl Excluded {
 
     /// A copy, which shares the lists. Takes no memory; `Memory` where no more copies can share them.
     pub(crate) fn copy(&self) -> Result<Excluded, Fault>
-        ensures same { IfOk result (λ e. e ≡ self.now) }
-        ensures words { IfOk result (λ e. length e ≡ 16) }
+        ensures { IfOk result (λ e. e ≡ self.now) }
     {
         Ok(Excluded {
             lists: self.lists.clone()?,
@@ -235,14 +256,8 @@ impl Excluded {
 
     /// Whether each word has the same numbers in both.
     pub(crate) fn is_same(&self, other: &Excluded) -> bool
-        ensures { IsTrue result ↔ ((w : ℕ) → w < 16
-            → AreSameNumbers (numbers_at self.now w) (numbers_at other.now w)) }
+        ensures { IsTrue result ↔ (self.now ≡ other.now) }
     {
-        for w in 0..WORDS {
-            if !self.of_word(w).is_same(other.of_word(w)) {
-                return false;
-            }
-        }
-        true
+        are_same_lists(self.lists(), other.lists())
     }
 }

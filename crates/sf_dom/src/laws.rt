@@ -1,19 +1,21 @@
 //! Laws of the rules of facts, each the contract of a function that does nothing.
 
-ghost use Rattle.sf_dom.specs.SoundRules.{IsForwardSound, IsReductionSound, IsLearningSound, HaveOneResult, PassKeepsOlder, CarriedAreBuilt, ForcedIsLearnt};
+ghost use Rattle.sf_dom.specs.SoundRules.{IsForwardSound, DecidesResults, IsReductionSound, IsTellingSound, IsLearningSound, HaveOneResult, PassKeepsOlder, CarriedAreBuilt, ForcedIsLearnt};
 
 /// A law for the prover: forward propagation and reduction lose no number that a node may have, and reduction has at
-/// most one result. Facts that learn a condition, or more of a word, lose no input that meets it, and where they can't
-/// learn it, there is none.
+/// most one result. Negations, sums, differences, ORs, ANDs and XORs of decided nodes are decided. A test that is told
+/// has this result on every input that agrees. Facts that learn a condition, or more of a word, lose no input that
+/// meets it, and where they can't learn it, there is none; facts that take in newer nodes lose no input at all.
 pub fn rules_are_sound()
     ensures forward { IsForwardSound }
+    ensures decided { DecidesResults }
     ensures reduction { IsReductionSound }
+    ensures telling { IsTellingSound }
     ensures learning { IsLearningSound }
 {}
 
-/// A law for the prover: the rules have one result. Two facts that start over one pool are equal. Equal facts stay
-/// equal where both learn one condition, take in the same new nodes, or keep the same numbers of a word; and where one
-/// of them can do so, the other can too.
+/// A law for the prover: the rules have one result. Facts that start over a pool are one thing. So are those that
+/// learn a condition, take in new nodes, or keep some numbers of a word; and where facts can do so, they never can't.
 pub fn rules_have_one_result()
     ensures { HaveOneResult }
 {}

@@ -1,6 +1,6 @@
 //! What is known of each node of a pool, kept so that forks share what doesn't change.
 
-ghost use Rattle.std.specs.Prelude.{◌≡◌, ◌<◌, ◌⊎◌, ◌∷◌, ◌++◌, [], length, set, slice_index, IsTrue, IfOk, OnOk, OnErr, Ok, false, ◌-◌};
+ghost use Rattle.std.specs.Prelude.{◌≡◌, ◌<◌, ◌≤◌, ◌∷◌, ◌++◌, [], length, set, slice_index, IsTrue, IfOk, OnErr, ◌-◌, if◌then◌else◌};
 ghost use Rattle.std.specs.Arc.{arc_value};
 ghost use Rattle.sf_dom.specs.Known.{IsDecided, known_of};
 ghost use Rattle.sf_dom.specs.Facts.{known_at};
@@ -44,18 +44,11 @@ impl Model for Nodes {
     ghost invariant = { λ n. AreKept (arc_value n.slots) n.variables.items };
 }
 
-/// Whether what is known is one number, with all its bits.
-fn is_number(known: Known) -> bool
-    ensures { IsTrue result → known ≡ known_of known.low known.low
-        (4294967295 - known.low) known.low }
-{
-    known == Known::of_number(known.low)
-}
-
 impl Nodes {
     /// No nodes. `Memory` where an allocation is refused.
     pub(crate) fn new(alloc: Global) -> Result<Nodes, Fault>
-        ensures { IfOk result (λ n. n.known ≡ []) }
+        ensures known { IfOk result (λ n. n.known ≡ []) }
+        ensures variables { IfOk result (λ n. n.variables ≡ []) }
     {
         Ok(Nodes {
             slots: Arc::new(alloc, SharedList::new(alloc)?)?,
@@ -129,21 +122,24 @@ impl Nodes {
     }
 
     /// Adds the next node, at the end. `known` is what is known of it, and `fixed` says that no forward pass makes more
-    /// known of it. The node gets a slot with its number where `fixed` is true, `known` is one number with all its
-    /// bits, and the node isn't one of the sixteen words of the input. Otherwise it becomes a variable.
+    /// known of it. Then the node gets a slot with its number. Otherwise it becomes a variable.
     ///
     /// `Memory` where an allocation is refused, or where a slot can't be added for another reason (`add_slot`); what is
-    /// known then stays as it was.
+    /// known then stays as it was. The caller's condition: a node that is fixed isn't one of the sixteen words of the
+    /// input, and `known` is one number with all its bits.
     pub(crate) fn push(&mut self, known: Known, fixed: bool) -> Result<(), Fault>
+        requires word { IsTrue fixed → 16 ≤ length self.old.known }
+        requires number { IsTrue fixed → known ≡ known_of known.low known.low
+            (4294967295 - known.low) known.low }
         ensures ok { IfOk result (λ _. self.new.known ≡ self.old.known ++ known ∷ []) }
-        ensures variables { IfOk result (λ _. (IsTrue fixed
-            × (self.new.variables ≡ self.old.variables))
-            ⊎ (self.new.variables ≡ self.old.variables ++ length self.old.known ∷ [])) }
+        ensures variables { IfOk result (λ _. self.new.variables ≡ (if fixed
+            then self.old.variables
+            else self.old.variables ++ length self.old.known ∷ [])) }
         ensures err { OnErr result (self.new ≡ self.old) }
     {
         let alloc = *self.variables.allocator();
         let place = self.slots.len();
-        if fixed && place >= WORDS && is_number(known) {
+        if fixed {
             add_slot(alloc, &mut self.slots, Slot::Number(known.low))?;
             return Ok(());
         }

@@ -3,7 +3,8 @@
 ghost use Rattle.std.specs.Prelude.{◌≡◌, ℕ, ◌<◌, ◌≤◌, ◌↔◌, ◌⊎◌, ◌∷◌, ◌++◌, [], length, slice_index, IfOk, IsTrue, Contains, MatchOption};
 ghost use Rattle.std.specs.Arc.{arc_slice_items};
 ghost use Rattle.std.specs.List.{insert};
-ghost use Rattle.sf_dom.specs.Ascending.{AreAscending, IsFound, shared_items};
+ghost use Rattle.sf_dom.specs.Ascending.{AreAscending, IsFound, set_of, shared_items};
+ghost use Rattle.sf_dom.specs.Known.{Has};
 
 use crate::fault::Fault;
 use std::alloc::Global;
@@ -24,12 +25,12 @@ pub(crate) struct Numbers {
 }
 
 impl Model for Numbers {
-    ghost use Rattle.std.specs.Prelude.{List, ℕ, ◌++◌};
-    ghost use Rattle.sf_dom.specs.Ascending.{AreAscending, shared_items};
+    ghost use Rattle.std.specs.Prelude.{ℕ, ◌++◌};
+    ghost use Rattle.sf_dom.specs.Ascending.{AreAscending, set_of, shared_items};
 
-    ghost Value = { List ℕ };
+    ghost Value = { ℕ };
 
-    ghost view = { λ n. shared_items n.older ++ n.newer.items };
+    ghost view = { λ n. set_of (shared_items n.older ++ n.newer.items) };
 
     ghost invariant = { λ n. AreAscending (shared_items n.older) × AreAscending n.newer.items };
 }
@@ -50,12 +51,12 @@ pub(crate) struct Lookup<'a> {
 }
 
 impl<'a> Model for Lookup<'a> {
-    ghost use Rattle.std.specs.Prelude.{List, ℕ, ◌++◌};
-    ghost use Rattle.sf_dom.specs.Ascending.{AreAscending};
+    ghost use Rattle.std.specs.Prelude.{ℕ, ◌++◌};
+    ghost use Rattle.sf_dom.specs.Ascending.{AreAscending, set_of};
 
-    ghost Value = { List ℕ };
+    ghost Value = { ℕ };
 
-    ghost view = { λ l. l.older.now ++ l.newer.now };
+    ghost view = { λ l. set_of (l.older.now ++ l.newer.now) };
 
     ghost invariant = { λ l. AreAscending l.older.now × AreAscending l.newer.now };
 }
@@ -175,7 +176,7 @@ impl<'a> Lookup<'a> {
     pub(crate) fn new(older: &'a [u32], newer: &'a [u32]) -> Lookup<'a>
         requires older { AreAscending older.now }
         requires newer { AreAscending newer.now }
-        ensures { result ≡ older.now ++ newer.now }
+        ensures { result ≡ set_of (older.now ++ newer.now) }
     {
         Lookup {
             older,
@@ -190,7 +191,7 @@ impl<'a> Lookup<'a> {
     /// stay as they are.
     #[inline]
     pub(crate) fn has(&mut self, number: u32) -> bool
-        ensures has { IsTrue result ↔ Contains self.old number }
+        ensures has { IsTrue result ↔ Has self.old number }
         ensures same { self.new ≡ self.old }
     {
         // The sum and the difference below wrap, since a step may lead back.
@@ -214,7 +215,7 @@ impl<'a> Lookup<'a> {
 impl Numbers {
     /// A list of one number. `Memory` where an allocation is refused.
     pub(crate) fn of(alloc: Global, number: u32) -> Result<Numbers, Fault>
-        ensures { IfOk result (λ v. v ≡ number ∷ []) }
+        ensures { IfOk result (λ v. v ≡ set_of (number ∷ [])) }
     {
         let mut newer = Vec::new(alloc);
         newer.push(number)?;
@@ -223,7 +224,7 @@ impl Numbers {
 
     /// Whether a number is one of them.
     pub(crate) fn has(&self, number: u32) -> bool
-        ensures { IsTrue result ↔ Contains self.now number }
+        ensures { IsTrue result ↔ Has self.now number }
     {
         stands_in(items_of(&self.older), number) || stands_in(self.newer.as_slice(), number)
     }
@@ -238,8 +239,8 @@ impl Numbers {
     /// These numbers and one more, which may be among them already. Once there are `MERGED` newer numbers, all numbers
     /// become older ones. `Memory` where an allocation is refused, or where the older numbers have too many owners.
     pub(crate) fn with_number(&self, alloc: Global, number: u32) -> Result<Numbers, Fault>
-        ensures { IfOk result (λ v. (n : ℕ) → Contains v n
-            ↔ (Contains self.now n ⊎ (n ≡ number))) }
+        ensures { IfOk result (λ v. (n : ℕ) → Has v n
+            ↔ (Has self.now n ⊎ (n ≡ number))) }
     {
         let newer = with_number(alloc, self.newer.as_slice(), number)?;
         if newer.as_slice().len() < MERGED {
@@ -253,24 +254,10 @@ impl Numbers {
         })
     }
 
-    /// How many numbers the two lists have. One that stands in both counts twice.
-    pub(crate) fn len(&self) -> usize
-        ensures { result ≡ length self.now }
+    /// The older and the newer numbers. A number may stand in both lists.
+    pub(crate) fn lists(&self) -> (&[u32], &[u32])
+        ensures { set_of (result.0.now ++ result.1.now) ≡ self.now }
     {
-        items_of(&self.older).len() + self.newer.as_slice().len()
-    }
-
-    /// The number at a place. The older list comes first, then the newer one. The caller's condition: the place is
-    /// below `len`.
-    pub(crate) fn at(&self, place: usize) -> u32
-        requires { place < length self.now }
-        ensures { result ≡ slice_index self.now place }
-    {
-        let older = items_of(&self.older);
-        if place < older.len() {
-            older[place]
-        } else {
-            self.newer.as_slice()[place - older.len()]
-        }
+        (items_of(&self.older), self.newer.as_slice())
     }
 }

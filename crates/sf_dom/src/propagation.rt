@@ -2,9 +2,9 @@
 
 ghost use Rattle.std.specs.Prelude.{◌≡◌, ℕ, ◌+◌, ◌-◌, ◌*◌, ◌/◌, ◌%◌, ◌<◌, ◌≤◌, ◌↔◌, ◌⊎◌, ◌^◌, List, [], ◌∷◌, ◌++◌, length, slice_index, MatchBool, MatchOption, true, false, IfOk, IsTrue, Some, None};
 ghost use Rattle.sf_sym.specs.Pool.{OperandsBelow, node_at};
-ghost use Rattle.sf_dom.specs.Known.{IsDecided};
+ghost use Rattle.sf_dom.specs.Known.{is_decided};
 ghost use Rattle.sf_dom.specs.Propagation.{AreConsistentOperands, AreClosedWords, KeepsFixed, AreConsistent};
-ghost use Rattle.sf_dom.specs.Passes.{AreClosed, PassGives, AreAllDecided, AreFixed, AreTakenIn, TakingInFails};
+ghost use Rattle.sf_dom.specs.Passes.{AreClosed, PassGives, are_all_decided, variables_after, AreFixed, AreTakenIn, TakingInFails};
 ghost use Rattle.sf_dom.specs.Facts.{known_at};
 ghost use Rattle.sf_dom.specs.Rules.{forward_node, ReductionGives};
 
@@ -46,7 +46,7 @@ fn transfer(nodes: &Nodes, node: Node) -> Known
 /// Whether the interval of a node has only one number. The caller's condition: the node is among `nodes`.
 fn is_decided(nodes: &Nodes, at: NodeId) -> bool
     requires { at.0 < length nodes.now.known }
-    ensures { IsTrue result ↔ IsDecided (known_at nodes.now.known at.0) }
+    ensures { result ≡ is_decided (known_at nodes.now.known at.0) }
 {
     let known = nodes.get(at.0 as usize);
     known.low == known.high
@@ -56,7 +56,7 @@ fn is_decided(nodes: &Nodes, at: NodeId) -> bool
 /// taken in, no forward pass makes more known of it. The caller's condition: the operands are among `nodes`.
 fn is_fixed(nodes: &Nodes, node: Node) -> bool
     requires { OperandsBelow (length nodes.now.known) node }
-    ensures { IsTrue result ↔ AreAllDecided nodes.now.known node }
+    ensures { result ≡ are_all_decided nodes.now.known node }
 {
     match node {
         Node::Const(_) => true,
@@ -103,6 +103,9 @@ pub(crate) fn append(nodes: &mut Nodes, excluded: &Excluded, pool: &Pool) -> Res
     requires covers { length nodes.old.known ≤ length pool.now }
     ensures fixed { IfOk result (λ b. MatchBool b
         (KeepsFixed nodes.old nodes.new pool.now) (Unit {0})) }
+    ensures variables { IfOk result (λ b. MatchBool b
+        (nodes.new.variables ≡ variables_after nodes.old.variables nodes.old.known
+        nodes.new.known pool.now) (Unit {0})) }
     ensures rule { IfOk result (λ b. AreConsistent nodes.old.known → MatchBool b
         (AreTakenIn nodes.old.known nodes.new.known excluded.now pool.now)
         (TakingInFails nodes.old.known excluded.now pool.now)) }
@@ -113,7 +116,7 @@ pub(crate) fn append(nodes: &mut Nodes, excluded: &Excluded, pool: &Pool) -> Res
         let fixed = is_fixed(nodes, node);
         match reduce_at(known, i, excluded) {
             None => return Ok(false),
-            Some(next) => nodes.push(next, fixed)?,
+            Some(next) => nodes.push(next, fixed && next.low == next.high)?,
         }
     }
     Ok(true)

@@ -1,15 +1,12 @@
 //! Which tests of a node against a number are told: what is known of the node gives the result, and nothing could be
 //! learnt from it.
 
-ghost use Rattle.std.specs.Prelude.{◌≡◌, ◌≢◌, ℕ, ◌<◌, ◌≤◌, ◌-◌, ◌↔◌, ◌⊎◌, length, Contains, MatchOption, IfSome, IfNone, IsTrue, true, false};
-ghost use Rattle.sf_insn.specs.Inputs.{IsInput};
+ghost use Rattle.std.specs.Prelude.{◌≡◌, ◌≢◌, ℕ, ◌<◌, ◌≤◌, ◌-◌, ◌↔◌, ◌⊎◌, length, MatchOption, IfSome, IfNone, IsTrue, true, false};
 ghost use Rattle.sf_insn.specs.Words.{passes};
-ghost use Rattle.sf_insn.specs.declared.input.Input.{Input};
-ghost use Rattle.sf_sym.specs.Pool.{value_of};
-ghost use Rattle.sf_dom.specs.Known.{Admits};
+ghost use Rattle.sf_dom.specs.Known.{Has, Admits};
 ghost use Rattle.sf_dom.specs.Propagation.{TestGives};
 ghost use Rattle.sf_dom.specs.Backward.{IsPropagatedBack};
-ghost use Rattle.sf_dom.specs.Facts.{excluded_of, AgreesWith};
+ghost use Rattle.sf_dom.specs.Facts.{excluded_of};
 ghost use Rattle.sf_dom.specs.Rules.{IsClosed};
 ghost use Rattle.sf_dom.specs.Telling.{IsOpen, IsOpenAt, IsForcedBy, IsForcing};
 
@@ -114,7 +111,7 @@ impl Known {
 /// word of the input is 0 to 15.
 fn is_excluded(excluded: &Excluded, node: Node, number: u32) -> bool
     requires word { (i : ℕ) → node ≡ Node.Word i → i < 16 }
-    ensures { IsTrue result ↔ Contains (excluded_of excluded.now node) number }
+    ensures { IsTrue result ↔ Has (excluded_of excluded.now node) number }
 {
     match node {
         Node::Word(i) => excluded.of_word(i as usize).has(number),
@@ -160,10 +157,8 @@ fn tell_at(
 ) -> Option<bool>
     requires count { length nodes.now.known ≡ length pool.now }
     requires place { at < length pool.now }
-    ensures told { MatchOption result
-        (IsOpenAt nodes.now.known excluded.now pool.now at test number)
-        (λ b. (d : Input) → IsInput d → AgreesWith nodes.now.known excluded.now pool.now d
-        → TestGives test (value_of pool.now d at) number b) }
+    ensures none { IfNone result
+        (IsOpenAt nodes.now.known excluded.now pool.now at test number) }
     ensures rule { IsForcing nodes.now.known excluded.now at test number result }
 {
     if let Some(sense) = nodes.get(at).tell(test, number) {
@@ -197,9 +192,6 @@ pub(crate) fn tell_node(
 ) -> Option<bool>
     requires count { length nodes.now.known ≡ length pool.now }
     requires place { at < length pool.now }
-    ensures told { IfSome result (λ b. (d : Input) → IsInput d
-        → AgreesWith nodes.now.known excluded.now pool.now d
-        → TestGives test (value_of pool.now d at) number b) }
     ensures rule { IsForcing nodes.now.known excluded.now at test number result }
     ensures goes_back { IfSome result (λ b. (n : ℕ)
         → IsPropagatedBack n nodes.now.known pool.now at) }

@@ -5,7 +5,7 @@ use Rattle.sf_dom.specs.Facts.{known_at}
 use Rattle.sf_dom.specs.Rules.{met}
 use Rattle.sf_dom.specs.Learning.{assumed_of, with_pair}
 use Rattle.sf_dom.proofs.BackLaws.{back-lawful}
-use Rattle.sf_dom.proofs.ClosedLemmas.{closed-consistent}
+use Rattle.sf_dom.specs.FactsLaws.{closed-consistent}
 use Rattle.sf_dom.proofs.ConditionSteps.{pair-left, pair-narrowed, both-back, condition-steps}
 use Rattle.sf_dom.proofs.Lawful.{narrowed-set, narrowed-trans}
 use Rattle.sf_dom.proofs.Passes.{met-left, number-stays}

@@ -4,7 +4,7 @@ use Rattle.sf_insn.specs.declared.ops.BinOp.{BinOp}
 use Rattle.sf_dom.specs.Facts.{known_at}
 use Rattle.sf_dom.specs.GoingBack.{gained}
 use Rattle.sf_dom.proofs.BackLaws.{gained-narrower}
-use Rattle.sf_dom.proofs.ClosedLemmas.{closed-consistent}
+use Rattle.sf_dom.specs.FactsLaws.{closed-consistent}
 use Rattle.sf_dom.proofs.Lawful.{narrowed-refl, narrowed-trans, narrowed-set}
 use Rattle.sf_dom.proofs.Passes.{number-stays}
 use Rattle.sf_dom.proofs.Reductions.{IsNarrower-trans}

@@ -16,18 +16,18 @@ assume_cond-requires-clause-words c =
     let p = c.len-count.ensures.lawful in
     let words = p.words in
     rw c.in_ok-left.ensures (words-written ks c.args.excluded.now lists c.args.pool.now cond c.in-Some.alone p
-    c.requires.count c.requires.below (λ w l. (c.requires.rest w (omega arith)).closed) c.in_ok-lists.ensures.rule
+    c.requires.count c.requires.below (λ w l. (c.requires.rest w (omega arith)).closed) c.in_ok-lists.ensures
     (pair-left ks lists cond (Some c.in-Some.alone) c.in-Some.ensures))
 
 pub returns-in_default-clause-rule : goal.returns-in_default-clause-rule
 returns-in_default-clause-rule c =
-    (c.in_ok-lists.lists, c.in_ok-lists.ensures.rule, (None, c.in_default.ensures, refl))
+    (c.in_ok-lists.lists, c.in_ok-lists.ensures, (None, c.in_default.ensures, refl))
 
 pub returns-then-not-assume_cond-clause-rule : goal.returns-then-not-assume_cond-clause-rule
 returns-then-not-assume_cond-clause-rule c =
     let none = rw (c.in_ok-left.ensures, c.if-not-assume_cond.true) at c.assume_cond.ensures.rule in
-    (c.in_ok-lists.lists, c.in_ok-lists.ensures.rule, none)
+    (c.in_ok-lists.lists, c.in_ok-lists.ensures, none)
 
 pub returns-clause-rule : goal.returns-clause-rule
 returns-clause-rule c =
-    (c.in_ok-lists.ensures.rule, rw (c.in_ok-left.ensures, c.if-not-assume_cond.false) at c.assume_cond.ensures.rule)
+    (c.in_ok-lists.ensures, rw (c.in_ok-left.ensures, c.if-not-assume_cond.false) at c.assume_cond.ensures.rule)

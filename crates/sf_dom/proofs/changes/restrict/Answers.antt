@@ -3,7 +3,7 @@ use Rattle.std.specs.Prelude.{Some, None}
 use Rattle.sf_dom.specs.Facts.{known_at}
 use Rattle.sf_dom.specs.Passes.{AreClosed}
 use Rattle.sf_dom.specs.Rules.{met}
-use Rattle.sf_dom.proofs.ClosedLemmas.{closed-consistent}
+use Rattle.sf_dom.specs.FactsLaws.{closed-consistent}
 use Rattle.sf_dom.proofs.Lawful.{narrowed-set}
 use Rattle.sf_dom.proofs.Passes.{met-left, number-stays}
 use Rattle.sf_dom.proofs.Reductions.{IsNarrower-trans}

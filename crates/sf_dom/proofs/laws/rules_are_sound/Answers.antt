@@ -1,14 +1,18 @@
-use Rattle.std.proofs.Common.{ℕ, List, sym, subst}
-use Rattle.sf_dom.specs.Facts.{FactsView, ConfinesWord}
-use Rattle.sf_dom.specs.Known.{Admits}
-use Rattle.sf_dom.specs.Propagation.{Learns}
-use Rattle.sf_dom.proofs.Assumed.{learns, cant-learn, confines, cant-confine}
+use Rattle.sf_dom.proofs.Assumed.{learns, cant-learn}
+use Rattle.sf_dom.proofs.Builds.{built-facts, none-meets-all}
+use Rattle.sf_dom.proofs.Confined.{confines-range, cant-confine-range, confines-masked, cant-confine-masked}
+use Rattle.sf_dom.proofs.Covering.{covers-resting, known-back, results-decided}
+use Rattle.sf_dom.proofs.ForcedResults.{forced-holds}
+use Rattle.sf_dom.proofs.Sampled.{grown-takes-in, none-agreed}
 use Rattle.sf_dom.proofs.RuleLaws.{forward-sound, negate-sound, reduction-sound, reduction-none, word-sound, word-none-sound, one-reduction}
 use Rattle.sf_dom.specs.Rules.{IsClosed, IsClosedWord}
 use Rattle.sf_dom.proofs.laws.rules_are_sound.Goals as goal
 
 pub returns-clause-forward : goal.returns-clause-forward
 returns-clause-forward c = record { operation = forward-sound; negation = negate-sound }
+
+pub returns-clause-decided : goal.returns-clause-decided
+returns-clause-decided c = results-decided
 
 pub returns-clause-reduction : goal.returns-clause-reduction
 returns-clause-reduction c = record {
@@ -20,20 +24,21 @@ returns-clause-reduction c = record {
   one_word = λ xs. one-reduction (IsClosedWord xs);
 }
 
+pub returns-clause-telling : goal.returns-clause-telling
+returns-clause-telling c = record { forced = forced-holds; back = known-back }
+
 pub returns-clause-learning : goal.returns-clause-learning
 returns-clause-learning c = record {
-  learns = λ f new ns cond h below words same x. subst (λ (vs : List ℕ).
-      let g : FactsView = record { known = new.known; variables = vs; excluded = new.excluded } in
-      Learns f g ns cond) (sym same) (learns f ns cond h below new.known new.excluded words x.excluded x.known);
-  cant_learn = λ f ns cond h below x. cant-learn f ns cond h below x;
-  confines = λ f new ns w more h l fits same x.
-      let kept : ConfinesWord f (record { known = new.known; variables = f.variables; excluded = f.excluded }) ns w
-      (Admits more) = confines f ns w more h l fits new.known x.known in
-      subst (λ (ex : List (List ℕ)).
-      let g : FactsView = record { known = new.known; variables = new.variables; excluded = ex } in
-      ConfinesWord f g ns w (Admits more)) (sym x.excluded)
-      (subst (λ (vs : List ℕ).
-      let g : FactsView = record { known = new.known; variables = vs; excluded = f.excluded } in
-      ConfinesWord f g ns w (Admits more)) (sym same) kept);
-  cant_confine = λ f ns w more h l fits x. cant-confine f ns w more h l fits x;
+  built = built-facts;
+  cant_build = none-meets-all;
+  learns = λ f new ns cond h below covers x. learns f ns cond h below new covers x;
+  cant_learn = λ f ns cond h below x. cant-learn f ns cond (covers-resting f ns h) below x;
+  confines = confines-range;
+  cant_confine = cant-confine-range;
+  confines_bits = λ f new ns w mask value h l fits inside covers x.
+      confines-masked mask value fits inside f new ns w h l
+      covers x;
+  cant_confine_bits = λ f ns w mask value h l fits inside x. cant-confine-masked mask value fits inside f ns w h l x;
+  grows = λ f new before ns h longer covers x. grown-takes-in f before ns h longer new covers x;
+  cant_grow = λ f before ns h longer p x. none-agreed f before ns h longer p x;
 }

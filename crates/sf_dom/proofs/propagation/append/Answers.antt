@@ -1,10 +1,15 @@
-use Rattle.std.proofs.Common.{◌≡◌, length, arith, ◌∷◌, [], ◌∙◌}
+use Rattle.std.proofs.Common.{◌≡◌, length, arith, ◌∷◌, [], sym, ap, ◌∙◌, inl, inr}
+use Rattle.std.proofs.lemmas.Bool.{and_parts, cases_lt, eqb-true}
+use Rattle.std.specs.Prelude.{◌&&◌}
+use Rattle.sf_dom.specs.Known.{is_decided}
 use Rattle.std.proofs.lemmas.List.{length_push, take-append-le}
 use Rattle.sf_sym.specs.Pool.{node_at}
 use Rattle.sf_dom.specs.Propagation.{AreConsistent}
 use Rattle.sf_dom.specs.Rules.{forward_node}
-use Rattle.sf_dom.proofs.Passes.{operands-below}
-use Rattle.sf_dom.proofs.Propagations.{fixed-push, ruled-push, consistent-operands, taken-consistent}
+use Rattle.sf_dom.specs.FactsLaws.{closed-consistent}
+use Rattle.sf_dom.proofs.Passes.{one-number, operands-below}
+use Rattle.sf_dom.proofs.Propagations.{fixed-push, listed-push, ruled-push, consistent-operands, taken-consistent}
+use Rattle.sf_dom.proofs.propagation.append.Goals.{then-fixed, else-fixed}
 use Rattle.sf_dom.proofs.propagation.append.Goals as goal
 
 pub loop-i-preserved : goal.loop-i-preserved
@@ -24,14 +29,24 @@ loop-i-preserved c =
     (operands-below ns i lawful (omega arith)) (taken-consistent old ks ex ns i inv.kept consistent
     (inv.ruled consistent))) in
     let next = c.in-Some.next in
+    let both : c.if-fixed.push ≡ (c.is_fixed-fixed.result && is_decided c.in-Some.next) = elim c.if-fixed.branch [
+      | then-fixed w ↦ rw w.if-fixed.true w.push-is
+      | else-fixed w ↦ rw w.if-fixed.false (w.push-is ∙ w.if-fixed.false)
+    ] in
     rw c.in_ok-push-in-Some.ensures.ok (record {
       count = omega (arith, length_push ks next);
       kept = take-append-le (length old) ks (next ∷ []) longer ∙ inv.kept;
       longer = omega (arith, length_push ks next);
       fixed = λ consistent first.
-          fixed-push c.loop-i.nodes.variables c.push.new.self.variables ks ns i c.is_fixed-fixed.result
+          fixed-push c.loop-i.nodes.variables c.push.new.self.variables ks ns i c.if-fixed.push
           c.transfer-known.result next lawful count (omega arith) (inv.fixed consistent first) (is consistent)
-          c.in-Some.ensures.narrower (rw c.node_at-node.ensures.node at c.is_fixed-fixed.ensures).0
+          c.in-Some.ensures.narrower (λ t. sym (rw c.node_at-node.ensures.node at c.is_fixed-fixed.ensures)
+          ∙ (and_parts c.is_fixed-fixed.result (is_decided next) (sym both ∙ t)).0)
+          c.in_ok-push-in-Some.ensures.variables;
+      listed = listed-push c.args.nodes.now.variables c.loop-i.nodes.variables c.push.new.self.variables ks ns
+          (length old) i c.if-fixed.push next lawful count (omega arith) (omega arith)
+          (both ∙ rw c.node_at-node.ensures.node at
+          (ap (λ b. b && is_decided next) c.is_fixed-fixed.ensures)) inv.listed
           c.in_ok-push-in-Some.ensures.variables;
       ruled = λ consistent.
           ruled-push ks ex ns (length old) i c.transfer-known.result next lawful count (omega arith)
@@ -72,3 +87,28 @@ returns-clause-rule c = λ consistent.
       kept = inv.kept;
       each = λ k a l. inv.ruled consistent k a (omega arith);
     }
+
+pub push-requires-clause-word : goal.push-requires-clause-word
+push-requires-clause-word c = λ t.
+    let inv = c.loop-i.invariant in
+    let count = inv.count in
+    let both : c.if-fixed.push ≡ (c.is_fixed-fixed.result && is_decided c.in-Some.next) = elim c.if-fixed.branch [
+      | then-fixed w ↦ rw w.if-fixed.true w.push-is
+      | else-fixed w ↦ rw w.if-fixed.false (w.push-is ∙ w.if-fixed.false)
+    ] in
+    let told = sym (rw c.node_at-node.ensures.node at c.is_fixed-fixed.ensures)
+    ∙ (and_parts c.is_fixed-fixed.result (is_decided c.in-Some.next) (sym both ∙ t)).0 in
+    elim (cases_lt c.loop-i.i 16) [
+      | inl b ↦ (let clash = rw (c.node_at-node.ensures.lawful.word c.loop-i.i b) at told in absurd cc)
+      | inr g ↦ omega arith
+    ]
+
+pub push-requires-clause-number : goal.push-requires-clause-number
+push-requires-clause-number c = λ t.
+    let next = c.in-Some.next in
+    let both : c.if-fixed.push ≡ (c.is_fixed-fixed.result && is_decided c.in-Some.next) = elim c.if-fixed.branch [
+      | then-fixed w ↦ rw w.if-fixed.true w.push-is
+      | else-fixed w ↦ rw w.if-fixed.false (w.push-is ∙ w.if-fixed.false)
+    ] in
+    one-number next (closed-consistent next c.in-Some.ensures.is.known)
+    (eqb-true next.low next.high (and_parts c.is_fixed-fixed.result (is_decided next) (sym both ∙ t)).1)

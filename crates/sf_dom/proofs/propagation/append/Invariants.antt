@@ -1,7 +1,7 @@
-use Rattle.std.proofs.Common.{◌≡◌, ℕ, ◌<◌, ◌≤◌, ◌⊎◌, length, take}
+use Rattle.std.proofs.Common.{◌≡◌, ℕ, ◌-◌, ◌<◌, ◌≤◌, ◌⊎◌, length, take}
 use Rattle.sf_sym.specs.Pool.{node_at}
 use Rattle.sf_dom.specs.Rules.{forward_node, IsReduction}
-use Rattle.sf_dom.specs.Passes.{IsVariableAt, IsFixedAt}
+use Rattle.sf_dom.specs.Passes.{variables_to, IsVariableAt, IsFixedAt}
 use Rattle.sf_dom.specs.Propagation.{AreConsistent}
 use Rattle.sf_dom.proofs.propagation.append.Given as goal
 use Rattle.sf_dom.specs.Facts.{known_at}
@@ -11,6 +11,8 @@ invariant-loop-i l = record {
   count : length l.nodes.known ≡ l.i;
   kept : take (length l.fn.nodes.known) l.nodes.known ≡ l.fn.nodes.known;
   longer : length l.fn.nodes.known ≤ length l.nodes.known;
+  listed : l.nodes.variables ≡ variables_to l.fn.nodes.variables l.nodes.known l.pool (length l.fn.nodes.known)
+      (l.i - length l.fn.nodes.known);
   fixed : AreConsistent l.fn.nodes.known
       → ((k : ℕ) → k < length l.fn.nodes.known → IsVariableAt l.fn.nodes.variables k
       ⊎ IsFixedAt l.fn.nodes.known l.pool k)

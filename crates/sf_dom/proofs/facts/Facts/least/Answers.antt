@@ -1,6 +1,6 @@
 use Rattle.std.proofs.Common.{arith}
 use Rattle.sf_dom.specs.Facts.{Agrees}
-use Rattle.sf_dom.specs.FactsLaws.{agreeing-word, sampled, words-agree}
+use Rattle.sf_dom.specs.FactsLaws.{agreeing-word, covers-facts, sampled, words-agree}
 use Rattle.sf_dom.proofs.facts.Facts.least.Goals as goal
 
 pub returns-clause-lower : goal.returns-clause-lower
@@ -11,5 +11,6 @@ unfolding Agrees
 returns-clause-attained c = λ ns h plain.
     let w = c.args.word in
     let f = c.args.self.now in
-    let s = sampled f w _ c.requires h.lawful (h.lawful.tight w c.requires).low in
+    let facts = covers-facts f ns h in
+    let s = sampled f w _ c.requires facts (facts.tight w c.requires).low in
     (s.0, s.1, words-agree f ns s.0 h plain s.2, s.3)

@@ -1,27 +1,39 @@
 use Rattle.std.proofs.Common.{arith}
+use Rattle.sf_dom.specs.FactsLaws.{covers-facts}
 use Rattle.sf_dom.proofs.Sampled.{first-covers, first-sound, first-fails}
 use Rattle.sf_dom.proofs.facts.Facts.new.Goals as goal
 
 pub unreachable-requires : goal.unreachable-requires
 unreachable-requires c =
-    let none = rw (c.in_ok-nodes.ensures, c.if-branch.false) at c.in_ok-append.ensures.rule in
+    let none = rw (c.in_ok-nodes.ensures.known, c.if-branch.false) at c.in_ok-append.ensures.rule in
     first-fails c.in_ok-excluded.excluded c.args.pool.now c.len-count.ensures.lawful c.in_ok-excluded.ensures.1
     (none (λ i l. absurd (omega arith)))
 
 pub returns-clause-covers : goal.returns-clause-covers
 returns-clause-covers c =
-    let taken = rw (c.in_ok-nodes.ensures, c.if-branch.true) at c.in_ok-append.ensures.rule in
+    let taken = rw (c.in_ok-nodes.ensures.known, c.if-branch.true) at c.in_ok-append.ensures.rule in
     let fixed = rw c.if-branch.true at c.in_ok-append.ensures.fixed in
     rw c.in_ok-new.ensures.ok (first-covers c.in_ok-excluded.excluded c.args.pool.now c.len-count.ensures.lawful
     c.in_ok-excluded.ensures.1 _ _ _ c.in_ok-excluded.ensures.0 (taken (λ i l. absurd (omega arith)))
-    (rw c.in_ok-nodes.ensures
-    at fixed))
+    (rw c.in_ok-nodes.ensures.known at fixed))
 
 pub returns-clause-sound : goal.returns-clause-sound
 returns-clause-sound c =
-    let taken = rw (c.in_ok-nodes.ensures, c.if-branch.true) at c.in_ok-append.ensures.rule in
+    let taken = rw (c.in_ok-nodes.ensures.known, c.if-branch.true) at c.in_ok-append.ensures.rule in
     rw c.in_ok-new.ensures.ok (first-sound c.in_ok-excluded.excluded c.args.pool.now c.len-count.ensures.lawful
     c.in_ok-excluded.ensures.1 _ _ (taken (λ i l. absurd (omega arith))))
 
 pub invariant_of-result : goal.invariant_of-result
-invariant_of-result c = (returns-clause-covers c).lawful
+invariant_of-result c = covers-facts _ c.args.pool.now (returns-clause-covers c)
+
+pub returns-clause-rule : goal.returns-clause-rule
+returns-clause-rule c =
+    let taken = rw (c.in_ok-nodes.ensures.known, c.if-branch.true) at c.in_ok-append.ensures.rule in
+    let listed = rw (c.in_ok-nodes.ensures.known, c.in_ok-nodes.ensures.variables, c.if-branch.true) at
+    c.in_ok-append.ensures.variables in
+    rw c.in_ok-new.ensures.ok (record {
+      known = taken (λ i l. absurd (omega arith));
+      variables = listed;
+      words = c.in_ok-excluded.ensures.0;
+      excluded = c.in_ok-excluded.ensures.1;
+    })

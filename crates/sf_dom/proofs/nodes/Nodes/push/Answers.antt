@@ -1,5 +1,5 @@
 use Rattle.std.proofs.lemmas.Grind.{common_steps}
-use Rattle.std.proofs.Common.{◌≡◌, length, arith, inr}
+use Rattle.std.proofs.Common.{◌≡◌, length, arith}
 use Rattle.std.specs.Arc.{arc_value}
 use Rattle.sf_dom.proofs.KeptNodes.{variables-fit, kept-number, known-variable, kept-variable, places-variable}
 use Rattle.sf_dom.proofs.nodes.Nodes.push.Goals as goal
@@ -7,8 +7,8 @@ use Rattle.sf_dom.proofs.nodes.Nodes.push.Goals as goal
 pub overflow_cast-rank : goal.overflow_cast-rank
 overflow_cast-rank c = grind (arith, common_steps, variables-fit)
 
-pub invariant_of-self-then-is_number : goal.invariant_of-self-then-is_number
-invariant_of-self-then-is_number c = grind (arith, common_steps, kept-number)
+pub invariant_of-self-then-fixed : goal.invariant_of-self-then-fixed
+invariant_of-self-then-fixed c = grind (arith, common_steps, kept-number)
 
 pub invariant_of-self-2 : goal.invariant_of-self-2
 invariant_of-self-2 c =
@@ -40,5 +40,10 @@ returns-clause-ok c =
 pub returns-clause-variables : goal.returns-clause-variables
 returns-clause-variables c =
     let items = c.self.inside.variables.items in
-    rw (← c.self.view_is, c.in_ok-add_variable.ensures.variable, c.len-place.ensures.value, c.deref.ensures)
-    (inr (places-variable (arc_value c.self.inside.slots) items c.args.known))
+    rw (
+      ← c.self.view_is,
+      c.if-fixed.false,
+      c.in_ok-add_variable.ensures.variable,
+      c.len-place.ensures.value,
+      c.deref.ensures,
+    ) (places-variable (arc_value c.self.inside.slots) items c.args.known)
