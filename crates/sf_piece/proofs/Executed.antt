@@ -1,5 +1,5 @@
 -- Small steps of a piece, as the rules have them.
-use Rattle.std.proofs.Common.{◌≡◌, ℕ, zero, suc, ◌-◌, ◌^◌, ◌<◌, Bool, true, false, length, refl, sym, ap, subst, ◌∙◌, inl, inr, arith, ◌+◌, [], ◌∷◌, ◌++◌}
+use Rattle.std.proofs.Common.{◌≡◌, ℕ, zero, suc, ◌-◌, ◌^◌, ◌<◌, Bool, true, false, refl, sym, ap, subst, ◌∙◌, inl, inr, ◌+◌, [], ◌∷◌, ◌++◌}
 use Rattle.std.specs.Prelude.{Option, Some, None, Result, Ok, Err, IfOk, if◌then◌else◌}
 use Rattle.sf_insn.specs.declared.ops.BinOp.{BinOp}
 use Rattle.sf_insn.specs.declared.ops.Test.{Test}
@@ -14,6 +14,7 @@ use Rattle.sf_sym.specs.declared.pool.NodeId.{NodeId}
 use Rattle.sf_sym.specs.Pool.{node_at}
 use Rattle.sf_dom.specs.Backward.{IsPropagatedBack}
 use Rattle.sf_dom.specs.Facts.{known_at}
+use Rattle.sf_dom.specs.FactsLaws.{closed-consistent, constant-known}
 use Rattle.sf_dom.specs.Rules.{IsClosedAt, number_known}
 use Rattle.sf_dom.specs.SoundRules.{ForcedIsLearnt}
 use Rattle.sf_dom.specs.Telling.{IsForcedBy}
@@ -167,15 +168,16 @@ pub zero_told : (laws : ForcedIsLearnt) (p : PieceData) (b : Bool) → IsPiece p
     → ((n : ℕ) → IsPropagatedBack n p.facts.known p.pool p.machine.x.0)
     → LeavesOnly (p, query p.machine.x Equal p.machine.zero) b
 zero_told laws p b h tidy forced back =
-    let within : p.machine.zero.0 < length p.facts.known = omega (arith, h.nodes.zero, h.covers.count) in
-    let ends = h.covers.constants p.machine.zero.0 0 within tidy.zero.1 in
+    let rest = h.covers.rest p.machine.zero.0 h.nodes.zero in
+    let ends = constant-known p.facts.known p.facts.excluded p.pool p.machine.zero.0 0 rest tidy.zero.1 in
     let known : known_at p.facts.known p.machine.zero.0 ≡ number_known 0
-    = one_number (known_at p.facts.known p.machine.zero.0) (h.covers.lawful.consistent p.machine.zero.0 within)
+    = one_number (known_at p.facts.known p.machine.zero.0)
+    (closed-consistent (known_at p.facts.known p.machine.zero.0) rest.closed.known)
     (ends.0 ∙ sym ends.1) ∙ ap number_known ends.0 in
     leaves_only laws p (query p.machine.x Equal p.machine.zero) 0 b (record {
       pool = h.pool;
       count = h.covers.count;
-      lists = h.covers.lawful.words;
+      lists = h.covers.words;
       rest = h.covers.rest;
       below = (h.nodes.x, h.nodes.zero);
       decided = known;

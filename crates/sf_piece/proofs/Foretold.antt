@@ -19,6 +19,7 @@ use Rattle.sf_dom.specs.Backward.{IsPropagatedBack}
 use Rattle.sf_dom.specs.Facts.{FactsView, Covers, Agrees, known_at}
 use Rattle.sf_dom.specs.Known.{IsConsistent, IsDecided}
 use Rattle.sf_dom.specs.Learning.{CantLearn, GrowsBy}
+use Rattle.sf_dom.specs.Passes.{variables_to}
 use Rattle.sf_dom.specs.Rules.{IsClosedAt, number_known}
 use Rattle.sf_dom.specs.Telling.{IsForcedBy}
 use Rattle.sf_dom.specs.SoundRules.{ForcedIsLearnt, IsForcedCondition, IsForcedTest}
@@ -93,8 +94,13 @@ grows_not_at_all f ns h = record {
     kept = take_all (length f.known) f.known (omega arith);
     each = λ i g l. absurd (omega (arith, h.count));
   };
+  variables = none_new (length ns - length f.known) (omega (arith, h.count));
   excluded = refl;
 }
+  where
+    none_new : (n : ℕ) → n ≡ 0 → f.variables ≡ variables_to f.variables f.known ns (length f.known) n
+    none_new zero e = refl
+    none_new (suc n) e = absurd cc
 
 -- a forced condition leaves its query only one truth value
 pub leaves_only : (laws : ForcedIsLearnt) (p : PieceData) (cond : Cond) (number : ℕ) (b : Bool)
@@ -188,7 +194,7 @@ pub forced_test : (p : PieceData) (test : Test) (number : ℕ) (b : Bool) → Is
 forced_test p test number b h fits forced back = record {
   pool = h.pool;
   count = h.covers.count;
-  lists = h.covers.lawful.words;
+  lists = h.covers.words;
   rest = h.covers.rest;
   below = h.nodes.a;
   fits = fits;

@@ -15,12 +15,12 @@ use Rattle.sf_check.specs.Stacks.{IsLawfulStack, IsPlain}
 use Rattle.sf_sym.specs.declared.pool.Node.{Node}
 use Rattle.sf_sym.specs.declared.pool.NodeId.{NodeId}
 use Rattle.sf_sym.specs.declared.pool.Cond.{Cond}
-use Rattle.sf_sym.specs.Pool.{IsPool, ArePlainNodes, value_of}
+use Rattle.sf_sym.specs.Pool.{IsPool, IsCondBelow, ArePlainNodes, value_of}
 use Rattle.sf_dom.specs.declared.known.Known.{Known}
 use Rattle.sf_dom.specs.Known.{Admits}
-use Rattle.sf_dom.specs.Facts.{FactsView, known_at, Covers, Agrees, NoInput, TakesIn}
-use Rattle.sf_dom.specs.Propagation.{Meets, Learns}
+use Rattle.sf_dom.specs.Facts.{FactsView, known_at, Covers, Agrees, TakesIn}
 use Rattle.sf_dom.specs.Learning.{LearnsBy, CantLearn}
+use Rattle.sf_dom.specs.SoundRules.{IsLearningSound}
 use Rattle.sf_dom.specs.Facts.{IsPlainCondition}
 use Rattle.sf_piece.specs.declared.machine.SymbolicMachine.{SymbolicMachine}
 use Rattle.sf_piece.specs.Pieces.{PieceData, is_member}
@@ -78,23 +78,25 @@ unfolding Agrees
 told_of_known p test other n known b h e is told = search (arith, foretold)
 
 -- what is learnt from the piece's facts
-pub learnt_child : (p : PieceData) (cond : Cond) (b : Bool) (o : Option FactsView) → IsPiece p
-    → (IsPlain p.stack → IsPlainCondition p.pool cond)
-    → MatchOption o (NoInput p.facts p.pool (Meets p.pool (with_sense cond b)))
-    (λ fs. Learns p.facts fs p.pool (with_sense cond b))
+pub learnt_child : (laws : IsLearningSound) (p : PieceData) (cond : Cond) (b : Bool) (o : Option FactsView) → IsPiece p
+    → IsCondBelow (length p.pool) cond → (IsPlain p.stack → IsPlainCondition p.pool cond)
+    → IfSome o (λ fs. Covers fs p.pool)
     → MatchOption o (CantLearn p.facts p.pool (with_sense cond b))
     (λ fs. LearnsBy p.facts fs p.pool (with_sense cond b))
     → MatchOption o (IsNever p cond b) (λ fs. AreChildFacts p cond b fs)
-learnt_child p cond b None h plain none cant =
-    λ d inp member. false_from_ne_true _ (none d inp (h.known d inp member))
-learnt_child p cond b (Some fs) h plain learns rule = record {
-  covers = learns.covers;
-  known = λ d inp member. learns.keeps d inp (h.known d inp member);
-  narrower = learns.narrower;
-  rule = rule;
-  decided = learns.decided;
-  plain = λ is. learns.only (sensed_plain p.pool cond b (plain is));
-}
+learnt_child laws p cond b None h below plain covers cant = λ d inp member.
+    let none = laws.cant_learn p.facts p.pool (with_sense cond b) h.covers below cant in
+    false_from_ne_true _ (none d inp (h.known d inp member))
+learnt_child laws p cond b (Some fs) h below plain covers rule =
+    let learns = laws.learns p.facts fs p.pool (with_sense cond b) h.covers below covers rule in
+    record {
+      covers = covers;
+      known = λ d inp member. learns.keeps d inp (h.known d inp member);
+      narrower = learns.narrower;
+      rule = rule;
+      decided = learns.decided;
+      plain = λ is. learns.only (sensed_plain p.pool cond b (plain is));
+    }
 
 pub right_child : (p : PieceData) (i : Insn) (cond : Cond) (b : Bool) (m : SymbolicMachine) (fs : FactsView)
     → IsLawfulPiece p

@@ -19,7 +19,7 @@ use Rattle.sf_sym.specs.declared.pool.Node.{Node}
 use Rattle.sf_sym.specs.declared.pool.Node.TheVariants.{Const, Word, Bin, Neg}
 use Rattle.sf_sym.specs.declared.pool.NodeId.{NodeId}
 use Rattle.sf_sym.specs.Pool.{IsPool, node_at, folded_node}
-use Rattle.sf_dom.specs.Facts.{FactsView, AreEqualFacts}
+use Rattle.sf_dom.specs.Facts.{FactsView}
 use Rattle.sf_dom.specs.Learning.{StartsBy, LearnsBy, CantLearn, GrowsBy, CantGrow}
 use Rattle.sf_dom.specs.Rules.{Then}
 use Rattle.sf_piece.specs.declared.machine.SymbolicMachine.{SymbolicMachine}
@@ -255,18 +255,3 @@ pub record IsInTree (p : PieceData) : Type 0 where
   pub starts : IsFirst p.stack first
   pub sides : List Bool
   pub below : IsBelow sides first p
-
--- ---- equal pieces and steps
-
--- All is the same, but for what equal facts may differ in: how the excluded numbers of a word are listed, and which
--- nodes are variables.
-pub record AreSamePieces (p q : PieceData) : Type 0 where
-  pub rest : q ≡ record p { facts = q.facts }
-  pub facts : AreEqualFacts p.facts q.facts
-
--- the same becomes of both
-abbrev pub AreSameSteps : StepData → StepData → Type 0
-AreSameSteps (Split f t) (Split g u) = AreSamePieces f g × AreSamePieces t u
-AreSameSteps (Settled a) (Settled b) = a ≡ b
-AreSameSteps Empty Empty = Unit {0}
-AreSameSteps _ _ = ⊥

@@ -21,7 +21,7 @@ use crate::fault::Fault;
 use crate::nodes::operand;
 use crate::run::Run;
 use sf_check::{Insn, Operand};
-use sf_dom::Facts;
+use sf_dom::{Facts, rules_are_sound};
 use sf_insn::{BinOp, Test};
 use sf_sym::{Cond, Node, NodeId, Pool};
 use std::alloc::Global;
@@ -79,6 +79,8 @@ fn foresee(run: &Run, test: Test, other: Operand) -> Option<bool>
     ensures propagated { IfSome result (λ b. IsAPropagatedBack run.now) }
     ensures rule { ForcedIsLearnt → IfSome result (λ b. IsForetold run.now test other b) }
 {
+    // For the prover: a test that is told has this result on every member.
+    rules_are_sound();
     let number = number_against(run, other)?;
     run.facts.tell(&run.pool, run.machine.a, test, number)
 }
@@ -140,6 +142,8 @@ pub(crate) fn alu(
     ensures rule { ForcedIsLearnt → IsTidy run.old → IsAtHand run.old insn
         → IfOk result (IsExecuted run.old run.new) }
 {
+    // For the prover: a test that is told has this result on every member.
+    rules_are_sound();
     if asks_zero(op, other, run.machine.taken) {
         let cond = Cond {
             node: run.machine.x,

@@ -13,7 +13,7 @@ ghost use Rattle.sf_piece.specs.SmallSteps.{IsSmallStep, IsDecision, IsRightDeci
 use crate::fault::Fault;
 use crate::run::Run;
 use sf_check::Insn;
-use sf_dom::Facts;
+use sf_dom::{Facts, rules_are_sound};
 use sf_sym::Cond;
 use std::alloc::Global;
 
@@ -135,6 +135,8 @@ fn child_facts(alloc: Global, run: &Run, cond: Cond, sense: bool) -> Result<Opti
         (CantLearn run.now.facts run.now.pool (with_sense cond sense))
         (λ fs. LearnsBy run.now.facts fs run.now.pool (with_sense cond sense))) }
 {
+    // For the prover: facts that learn by the rules lose no input.
+    rules_are_sound();
     let learnt = run
         .facts
         .with_cond(alloc, &run.pool, &Cond { sense, ..cond })?;

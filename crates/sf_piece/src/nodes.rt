@@ -12,6 +12,7 @@ ghost use Rattle.sf_piece.specs.Works.{IsPushed, IsOperand};
 use crate::fault::Fault;
 use crate::run::Run;
 use sf_check::Operand;
+use sf_dom::rules_are_sound;
 use sf_sym::{Node, NodeId};
 use std::alloc::Global;
 
@@ -28,6 +29,8 @@ pub(crate) fn push(alloc: Global, run: &mut Run, node: Node) -> Result<Option<No
         (λ id. IsPushed run.old node run.new id)) }
     ensures rule { IfOk result (λ o. Gets run.old node (option_map (λ id. (run.new, id)) o)) }
 {
+    // For the prover: facts that take in newer nodes by the rules lose no input.
+    rules_are_sound();
     let id = run.pool.push(node)?;
     if !run.facts.grow(alloc, &run.pool)? {
         return Ok(None);

@@ -1,11 +1,8 @@
-use Rattle.std.proofs.Common.{◌≡◌, ℕ, subst}
+use Rattle.std.proofs.Common.{ℕ, subst}
 use Rattle.std.specs.Prelude.{IfSome}
-use Rattle.sf_insn.specs.declared.input.Input.{Input}
-use Rattle.sf_insn.specs.Inputs.{IsInput}
-use Rattle.sf_insn.specs.Words.{passes}
-use Rattle.sf_sym.specs.Pool.{value_of}
 use Rattle.sf_dom.specs.Backward.{IsPropagatedBack}
-use Rattle.sf_dom.specs.Facts.{known_at, Agrees}
+use Rattle.sf_dom.specs.Facts.{known_at}
+use Rattle.sf_dom.specs.LearningLaws.{told-by}
 use Rattle.sf_dom.specs.Rules.{IsClosedAt}
 use Rattle.sf_dom.specs.Telling.{IsForcedBy}
 use Rattle.sf_piece.specs.Pieces.{PieceData}
@@ -15,11 +12,14 @@ use Rattle.sf_piece.proofs.asking.foresee.Goals as goal
 
 pub returns-clause-value : goal.returns-clause-value
 returns-clause-value c =
-    let told = subst (λ (q : PieceData). IfSome c.tell.result (λ b. (d : Input) → IsInput d → Agrees q.facts q.pool d
-    → passes c.args.test (value_of q.pool d q.machine.a.0) c.in_ok-number.number ≡ b)) c.run.view_is
-    c.tell.ensures.told in
-    told_always c.args.run.now c.args.test c.args.other c.in_ok-number.number c.tell.result c.requires.run
-    c.in_ok-number.ensures.value told
+    let p : PieceData = c.args.run.now in
+    let h = c.requires.run in
+    let n = c.in_ok-number.number in
+    let forced = subst (λ (q : PieceData). IfSome c.tell.result (λ b. IsForcedBy (IsClosedAt q.facts.excluded
+    q.machine.a.0) (known_at q.facts.known q.machine.a.0) c.args.test n b)) c.run.view_is c.tell.ensures.rule in
+    told_always p c.args.test c.args.other n c.tell.result h c.in_ok-number.ensures.value
+    (told-by c.rules_are_sound.ensures.telling c.tell.result p.facts p.pool p.machine.a.0 c.args.test n h.covers
+    h.nodes.a c.in_ok-number.ensures.fits forced)
 
 pub returns-clause-rule : goal.returns-clause-rule
 returns-clause-rule c = λ laws.
