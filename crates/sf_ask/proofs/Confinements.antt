@@ -7,7 +7,7 @@ use Rattle.std.proofs.lemmas.Option.{same_Some}
 use Rattle.sf_sym.specs.declared.pool.Node.{Node}
 use Rattle.sf_sym.specs.Pool.{IsPool, node_at}
 use Rattle.sf_dom.specs.declared.known.Known.{Known}
-use Rattle.sf_dom.specs.Facts.{FactsView, AreEqualFacts, Covers, known_at}
+use Rattle.sf_dom.specs.Facts.{FactsView, Covers, known_at}
 use Rattle.sf_dom.specs.Learning.{TakesInBy, CantTakeInBy}
 use Rattle.sf_dom.specs.Passes.{IsPass, PassGives}
 use Rattle.sf_dom.specs.Rules.{IsReduction, ReductionGives, between, masked, met, forward_node}
@@ -17,65 +17,42 @@ use Rattle.sf_question.specs.QuestionData.{QuestionData, range_at, mask_at, is_w
 use Rattle.sf_ask.specs.Judging.{TakeInRange, TakeInMask, TakeInWord, TakeInBefore, CantTakeInQuestion}
 use Rattle.sf_ask.specs.Searches.{CantTakeInRange, CantTakeInMask, CantTakeInWord, IsOutside}
 
--- ---- equal facts
-
-pub equal-same : (f : FactsView) → AreEqualFacts f f
-equal-same f = record { known = refl; excluded = λ w l. (λ n c. c, λ n c. c) }
-
-pub equal-back : (f g : FactsView) → AreEqualFacts f g → AreEqualFacts g f
-equal-back f g h = record { known = sym h.known; excluded = λ w l. ((h.excluded w l).1, (h.excluded w l).0) }
-
-pub equal-on : (f g h : FactsView) → AreEqualFacts f g → AreEqualFacts g h → AreEqualFacts f h
-equal-on f g h a b = record {
-  known = a.known ∙ b.known;
-  excluded = λ w l. (
-    λ n c. (b.excluded w l).0 n ((a.excluded w l).0 n c),
-    λ n c. (a.excluded w l).1 n ((b.excluded w l).1 n c),
-  );
-}
+-- ---- one result
 
 module _ (laws : HaveOneResult) (ns : List Node) (pool : IsPool ns) where
-  -- a step that changes nothing, or takes in more of a word, makes equal facts of equal ones
-  same-step : (b : Bool) (word : ℕ) (more : Known) (f g h k : FactsView) → AreEqualFacts f g
-      → MatchBool b (h ≡ f) (TakesInBy f h ns word more) → MatchBool b (k ≡ g) (TakesInBy g k ns word more)
-      → AreEqualFacts h k
-  same-step true word more f g h k e a c =
-      subst (λ (x : FactsView). AreEqualFacts x k) (sym a) (subst (λ (x : FactsView). AreEqualFacts f x) (sym c) e)
-  same-step false word more f g h k e a c = laws.confined f g h k ns word more pool e a c
+  -- a step that changes nothing, or takes in more of a word, makes one thing of facts
+  same-step : (b : Bool) (word : ℕ) (more : Known) (f g h : FactsView)
+      → MatchBool b (g ≡ f) (TakesInBy f g ns word more) → MatchBool b (h ≡ f) (TakesInBy f h ns word more) → g ≡ h
+  same-step true word more f g h a c = a ∙ sym c
+  same-step false word more f g h a c = laws.confined f g h ns word more pool a c
 
-  same-word : (q : QuestionData) (word : ℕ) (f g h k : FactsView) → AreEqualFacts f g → TakeInWord q word ns f h
-      → TakeInWord q word ns g k → AreEqualFacts h k
-  same-word q word f g h k e a b =
-      same-step _ word _ a.ranged b.ranged h k
-      (same-step _ word _ f g a.ranged b.ranged e a.range b.range) a.mask b.mask
+  same-word : (q : QuestionData) (word : ℕ) (f g h : FactsView) → TakeInWord q word ns f g → TakeInWord q word ns f h
+      → g ≡ h
+  same-word q word f g h a b =
+      same-step _ word _ b.ranged g h (subst (λ (x : FactsView). TakeInMask q word ns x g)
+      (same-step _ word _ f a.ranged b.ranged a.range b.range) a.mask) b.mask
 
-  pub same-before : (q : QuestionData) (end : ℕ) (f g h k : FactsView) → AreEqualFacts f g → TakeInBefore q end ns f h
-      → TakeInBefore q end ns g k → AreEqualFacts h k
+  pub same-before : (q : QuestionData) (end : ℕ) (f g h : FactsView) → TakeInBefore q end ns f g
+      → TakeInBefore q end ns f h → g ≡ h
   unfolding TakeInBefore
-  same-before q zero f g h k e a b = equal-on h g k (equal-on h f g (equal-back f h a) e) b
-  same-before q (suc word) f g h k e a b =
-      same-word q word a.0 b.0 h k (same-before q word f g a.0 b.0 e a.1 b.1) a.2 b.2
+  same-before q zero f g h a b = sym a ∙ b
+  same-before q (suc word) f g h a b =
+      same-word q word b.0 g h (subst (λ (x : FactsView). TakeInWord q word ns x g)
+      (same-before q word f a.0 b.0 a.1 b.1) a.2) b.2
 
-  -- where facts can't take in more of a word, equal ones can't either
-  not-step : (b : Bool) (word : ℕ) (more : Known) (f g k : FactsView) → AreEqualFacts f g → b ≡ false
-      → CantTakeInBy f ns word more → MatchBool b (k ≡ g) (TakesInBy g k ns word more) → ⊥
-  not-step true word more f g k e clash cant takes = absurd cc
-  not-step false word more f g k e is cant takes =
-      laws.confines_not g f k ns word more pool (equal-back f g e) takes cant
+  -- where facts can't take in more of a word, they don't
+  not-step : (b : Bool) (word : ℕ) (more : Known) (f g : FactsView) → b ≡ false → CantTakeInBy f ns word more
+      → MatchBool b (g ≡ f) (TakesInBy f g ns word more) → ⊥
+  not-step true word more f g clash cant takes = absurd cc
+  not-step false word more f g is cant takes = laws.confines_not f g ns word more pool takes cant
 
-  not-word : (q : QuestionData) (word : ℕ) (f g k : FactsView) → AreEqualFacts f g → CantTakeInWord q word ns f
-      → TakeInWord q word ns g k → ⊥
-  not-word q word f g k e (inl cant) takes = not-step _ word _ f g takes.ranged e cant.0 cant.1 takes.range
-  not-word q word f g k e (inr (ranged, range, cant)) takes =
-      not-step _ word _ ranged takes.ranged k (same-step _ word _ f g ranged takes.ranged e range takes.range) cant.0
-      cant.1 takes.mask
-
--- facts that equal those that can be confined can be too
-pub from-equal : (q : QuestionData) (end : ℕ) (ns : List Node) (f g h : FactsView) → AreEqualFacts f g
-    → TakeInBefore q end ns g h → TakeInBefore q end ns f h
-unfolding TakeInBefore
-from-equal q zero ns f g h e a = equal-on f g h e a
-from-equal q (suc word) ns f g h e a = (a.0, from-equal q word ns f g a.0 e a.1, a.2)
+  not-word : (q : QuestionData) (word : ℕ) (f g : FactsView) → CantTakeInWord q word ns f → TakeInWord q word ns f g
+      → ⊥
+  not-word q word f g (inl cant) takes = not-step _ word _ f takes.ranged cant.0 cant.1 takes.range
+  not-word q word f g (inr (ranged, range, cant)) takes =
+      let same = subst (λ (x : FactsView). CantTakeInMask q word ns x)
+      (same-step _ word _ f ranged takes.ranged range takes.range) cant in
+      not-step _ word _ takes.ranged g same.0 same.1 takes.mask
 
 -- ---- one word
 
@@ -124,7 +101,7 @@ word-rule false q word ns f g h range mask = inr (g, range, mask)
 
 pub none-before : (q : QuestionData) (ns : List Node) (f : FactsView) → TakeInBefore q 0 ns f f
 unfolding TakeInBefore
-none-before q ns f = equal-same f
+none-before q ns f = refl
 
 pub one-more : (q : QuestionData) (word : ℕ) (ns : List Node) (f g h : FactsView) → TakeInBefore q word ns f g
     → TakeInWord q word ns g h → TakeInBefore q (word + 1) ns f h
@@ -157,8 +134,8 @@ pub cant-at-turn : (laws : HaveOneResult) (ns : List Node) (pool : IsPool ns) (q
     → CantTakeInQuestion q ns f
 cant-at-turn laws ns pool q word f g l before cant k all =
     let t = at-turn q 16 word ns f k l all in
-    not-word laws ns pool q word g t.old t.new
-    (same-before laws ns pool q word f f g t.old (equal-same f) before t.before) cant t.takes
+    not-word laws ns pool q word t.old t.new (subst (λ (x : FactsView). CantTakeInWord q word ns x)
+    (same-before laws ns pool q word f g t.old before t.before) cant) t.takes
 
 -- ---- what is left of a word
 
@@ -264,7 +241,7 @@ within-again f g h ns a b = record {
 before-within : (q : QuestionData) (end : ℕ) (ns : List Node) (f g : FactsView) → end ≤ 16 → 16 ≤ length ns
     → length f.known ≡ length ns → TakeInBefore q end ns f g → IsWithinFacts f g ns
 unfolding TakeInBefore
-before-within q zero ns f g l long count h = within-same f g ns count h.known
+before-within q zero ns f g l long count h = within-same f g ns count (ap (λ (x : FactsView). x.known) h)
 before-within q (suc word) ns f g l long count h =
     let a = before-within q word ns f h.0 (omega arith) long count h.1 in
     let b = step-within _ word _ h.0 h.2.ranged ns (omega arith) long a.count h.2.range in
@@ -282,7 +259,7 @@ pub cant-outside : (q : QuestionData) (word : ℕ) (ns : List Node) (f : FactsVi
     → is_whole (range_at q word) ≡ false
     → IsOutside (known_at f.known word) (range_at q word).0 (range_at q word).1 → CantTakeInQuestion q ns f
 cant-outside q word ns f l covers part out g all =
-    let long : 16 ≤ length ns = let a = covers.lawful.count in let b = covers.count in omega arith in
+    let long = covers.pool.words in
     let t = at-turn q 16 word ns f g l all in
     let a = before-within q word ns f t.old (omega arith) long covers.count t.before in
     let b = ranged-within _ word (range_at q word).0 (range_at q word).1 t.old t.takes.ranged ns l long a.count part

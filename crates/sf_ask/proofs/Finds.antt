@@ -9,13 +9,12 @@ use Rattle.sf_sym.specs.Operands.{IsMaskedWord}
 use Rattle.sf_sym.specs.Pool.{IsPool, constant_number, is_met, node_at}
 use Rattle.sf_sym.specs.declared.pool.Cond.{Cond}
 use Rattle.sf_sym.specs.declared.pool.Node.{Node}
-use Rattle.sf_dom.specs.Facts.{FactsView, AreEqualFacts, known_at}
+use Rattle.sf_dom.specs.Facts.{FactsView, known_at}
 use Rattle.sf_dom.specs.Learning.{LearnsBy, CantLearn, LearnAll}
 use Rattle.sf_dom.specs.SoundRules.{HaveOneResult}
 use Rattle.sf_dom.specs.declared.known.Known.{Known}
 use Rattle.sf_piece.specs.Pieces.{PieceData}
 use Rattle.sf_ask.specs.Finding.{IsMendedFor, IsMendedTo, first_missed, mended_number}
-use Rattle.sf_ask.proofs.Confinements.{equal-back, equal-same}
 
 -- the conditions from a place on
 from-place : (conds : List Cond) (i : ℕ) (c : Cond) → slice_get conds i ≡ Some c → drop i conds ≡ c ∷ drop (i + 1) conds
@@ -46,20 +45,20 @@ missed-none ns conds d i all = rw (drop_all i conds all) refl
 pub record AreLearntBefore (p : PieceData) (f : FactsView) (i : ℕ) : Type 0 where
   pub on : (g : FactsView) → LearnAll f g p.pool (drop i p.conditions) → LearnAll p.facts g p.pool p.conditions
   pub back : (g : FactsView) → LearnAll p.facts g p.pool p.conditions
-      → (h : FactsView) × AreEqualFacts f h × LearnAll h g p.pool (drop i p.conditions)
+      → LearnAll f g p.pool (drop i p.conditions)
 
 pub learnt-first : (p : PieceData) → AreLearntBefore p p.facts 0
-learnt-first p = record { on = λ g h. h; back = λ g h. (p.facts, equal-same p.facts, h) }
+learnt-first p = record { on = λ g h. h; back = λ g h. h }
 
 pub learnt-more : HaveOneResult → (p : PieceData) (f g : FactsView) (i : ℕ) (c : Cond) → IsPool p.pool
     → AreLearntBefore p f i → slice_get p.conditions i ≡ Some c → LearnsBy f g p.pool c → AreLearntBefore p g (i + 1)
 learnt-more laws p f g i c pool so_far there learns = record {
   on = λ h more. so_far.on h (rw (from-place p.conditions i c there) (g, learns, more));
   back = λ h all.
-      let before = so_far.back h all in
-      let now : LearnAll before.0 h p.pool (c ∷ drop (i + 1) p.conditions) =
-      subst (λ conds. LearnAll before.0 h p.pool conds) (from-place p.conditions i c there) before.2 in
-      (now.0, laws.learnt f before.0 g now.0 p.pool c pool before.1 learns now.1, now.2);
+      let now : LearnAll f h p.pool (c ∷ drop (i + 1) p.conditions) =
+      subst (λ conds. LearnAll f h p.pool conds) (from-place p.conditions i c there) (so_far.back h all) in
+      subst (λ (x : FactsView). LearnAll x h p.pool (drop (i + 1) p.conditions))
+      (laws.learnt f now.0 g p.pool c pool now.1 learns) now.2;
 }
 
 pub learnt-all : (p : PieceData) (f : FactsView) (i : ℕ) → AreLearntBefore p f i → length p.conditions ≤ i
@@ -70,10 +69,9 @@ pub cant-learn-all : HaveOneResult → (p : PieceData) (f : FactsView) (i : ℕ)
     → AreLearntBefore p f i → slice_get p.conditions i ≡ Some c → CantLearn f p.pool c
     → (g : FactsView) → ¬ LearnAll p.facts g p.pool p.conditions
 cant-learn-all laws p f i c pool so_far there cant g all =
-    let before = so_far.back g all in
-    let now : LearnAll before.0 g p.pool (c ∷ drop (i + 1) p.conditions) =
-    subst (λ conds. LearnAll before.0 g p.pool conds) (from-place p.conditions i c there) before.2 in
-    laws.learns_not before.0 f now.0 p.pool c pool (equal-back f before.0 before.1) now.1 cant
+    let now : LearnAll f g p.pool (c ∷ drop (i + 1) p.conditions) =
+    subst (λ conds. LearnAll f g p.pool conds) (from-place p.conditions i c there) (so_far.back g all) in
+    laws.learns_not f now.0 p.pool c pool now.1 cant
 
 -- ---- mending
 

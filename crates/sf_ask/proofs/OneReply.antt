@@ -5,7 +5,7 @@ use Rattle.std.proofs.lemmas.Option.{slice_get_within}
 use Rattle.sf_insn.specs.declared.input.Input.{Input}
 use Rattle.sf_piece.specs.OneExecution.{IsExecutionOne}
 use Rattle.sf_book.specs.Books.{BookData}
-use Rattle.sf_book.specs.Unfoldings.{IsFringe, AreSameRegions, ExplorationsHaveOneResult}
+use Rattle.sf_book.specs.Unfoldings.{IsFringe, ExplorationsHaveOneResult}
 use Rattle.sf_ask.specs.declared.verdict.Verdict.{Verdict}
 use Rattle.sf_ask.specs.declared.verdict.Verdict.TheVariants.{Clear, Hit, Doubt}
 use Rattle.sf_ask.specs.declared.verdict.Reply.{Reply}
@@ -13,12 +13,12 @@ use Rattle.sf_ask.specs.declared.verdict.Reply.TheVariants.{Never, Allowed, Unse
 use Rattle.sf_question.specs.QuestionData.{QuestionData}
 use Rattle.sf_ask.specs.Judging.{HasVerdictAt, HasNoHitAt, HasReply}
 use Rattle.sf_ask.specs.OneResult.{HaveOneVerdict, IsWholeFringe}
-use Rattle.sf_ask.specs.OneResultLaws.{one_verdict_at, same_length}
+use Rattle.sf_ask.specs.OneResultLaws.{one_verdict_at}
 
 -- ---- verdicts
 
 module _ (tree : IsExecutionOne) (verdict : HaveOneVerdict) (s t : BookData) (q : QuestionData) (fringe : IsFringe s)
-    (same : AreSameRegions s.regions t.regions) where
+    (same : s.regions ≡ t.regions) where
   one-at : (place : ℕ) (v w : Verdict) → HasVerdictAt s place q v → HasVerdictAt t place q w → v ≡ w
   one-at = one_verdict_at tree verdict s t q fringe same
 
@@ -37,7 +37,7 @@ module _ (tree : IsExecutionOne) (verdict : HaveOneVerdict) (s t : BookData) (q 
   within-second : (place : ℕ) (v : Verdict) → HasVerdictAt t place q v → place < length s.regions
   within-second place v a =
       let l = slice_get_within t.regions place a.region a.there in
-      let count = same_length s.regions t.regions same in omega arith
+      let count = ap length same in omega arith
 
   -- no doubt on the one side where all is clear on the other
   clear-or-doubt : s.outstanding ≡ [] → t.outstanding ≡ []
@@ -51,7 +51,7 @@ module _ (tree : IsExecutionOne) (verdict : HaveOneVerdict) (s t : BookData) (q 
       → ((place : ℕ) → place < length t.regions → HasVerdictAt t place q Clear) → ⊥
   doubt-or-clear none (inl left) all = let l : length s.outstanding ≡ 0 = ap length none in omega arith
   doubt-or-clear none (inr (place, a)) all =
-      let count = same_length s.regions t.regions same in
+      let count = ap length same in
       let e : Doubt ≡ Clear = one-at place Doubt Clear a
       (all place (let l = within-first place Doubt a in omega arith)) in absurd cc
 
@@ -62,7 +62,7 @@ module _ (tree : IsExecutionOne) (verdict : HaveOneVerdict) (s t : BookData) (q 
       absurd (none-or-hit b.0 d (inl (a.1 b.0 (within-second b.0 (Hit d) b.1))) b.1)
   one-by-verdicts none none' Never Unsettled a b = absurd (clear-or-doubt none none' a.1 b.1)
   one-by-verdicts none none' (Allowed d) Never a b =
-      let count = same_length s.regions t.regions same in
+      let count = ap length same in
       absurd (hit-or-none a.0 d a.1 (inl (b.1 a.0 (let l = within-first a.0 (Hit d) a.1 in omega arith))))
   one-by-verdicts none none' (Allowed d) (Allowed e) a b = elim (cases_lt a.0 b.0) [
     | inl less ↦ absurd (hit-or-none a.0 d a.1 (b.2 a.0 less))
@@ -76,7 +76,7 @@ module _ (tree : IsExecutionOne) (verdict : HaveOneVerdict) (s t : BookData) (q 
     ]
   ]
   one-by-verdicts none none' (Allowed d) Unsettled a b =
-      let count = same_length s.regions t.regions same in
+      let count = ap length same in
       absurd (hit-or-none a.0 d a.1 (b.0 a.0 (let l = within-first a.0 (Hit d) a.1 in omega arith)))
   one-by-verdicts none none' Unsettled Never a b = absurd (doubt-or-clear none a.1 b.1)
   one-by-verdicts none none' Unsettled (Allowed d) a b =

@@ -69,7 +69,7 @@ again f g h ns one two both first second may_have of a b to_one to_two to_both j
               zeros = λ j. omega (arith, x.zeros j, y.zeros j);
               ones = λ j. omega (arith, x.ones j, y.ones j);
             };
-        excluded = λ w m l k. b.narrower.excluded w m l (a.narrower.excluded w m l k);
+        excluded = λ w m k. b.narrower.excluded w m (a.narrower.excluded w m k);
       };
       keeps = λ d i agrees passes. b.keeps d i (a.keeps d i agrees (to_one d passes)) (to_two d passes);
       only = only;

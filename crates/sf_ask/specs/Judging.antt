@@ -5,7 +5,7 @@
 use Rattle.std.specs.Prelude.{◌≡◌, ℕ, zero, suc, ◌<◌, ◌==◌, ◌⊎◌, Bool, true, false, List, [], length, Some, slice_get, MatchBool}
 use Rattle.sf_insn.specs.declared.input.Input.{Input}
 use Rattle.sf_sym.specs.declared.pool.Node.{Node}
-use Rattle.sf_dom.specs.Facts.{FactsView, AreEqualFacts}
+use Rattle.sf_dom.specs.Facts.{FactsView}
 use Rattle.sf_dom.specs.Learning.{TakesInBy}
 use Rattle.sf_dom.specs.Rules.{between, masked}
 use Rattle.sf_piece.specs.Pieces.{PieceData, is_member}
@@ -36,7 +36,7 @@ pub record TakeInWord (q : QuestionData) (word : ℕ) (ns : List Node) (f g : Fa
 
 -- facts take in what the question says of each word before a place, one word after the other
 unfoldable pub TakeInBefore : QuestionData → ℕ → List Node → FactsView → FactsView → Type 0
-TakeInBefore q zero ns f g = AreEqualFacts f g
+TakeInBefore q zero ns f g = f ≡ g
 TakeInBefore q (suc word) ns f g = (h : FactsView) × TakeInBefore q word ns f h × TakeInWord q word ns h g
 
 -- facts are confined to the question

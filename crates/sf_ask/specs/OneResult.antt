@@ -2,7 +2,6 @@
 -- question one reply.
 use Rattle.std.specs.Prelude.{◌≡◌, []}
 use Rattle.sf_sym.specs.Pool.{IsPool}
-use Rattle.sf_piece.specs.Execution.{AreSamePieces}
 use Rattle.sf_piece.specs.Pieces.{PieceData}
 use Rattle.sf_book.specs.Books.{RegionData, BookData, IsSettled}
 use Rattle.sf_book.specs.Unfoldings.{IsFringe}
@@ -13,15 +12,14 @@ use Rattle.sf_ask.specs.declared.members.Membership.{Membership}
 use Rattle.sf_ask.specs.Finding.{FindsMember}
 use Rattle.sf_ask.specs.Judging.{HasVerdict, HasReply}
 
--- two regions with the same piece and the same answer have the same verdict on each question
+-- a region has one verdict on each question
 abbrev pub HaveOneVerdict : Type 0
-HaveOneVerdict = (r s : RegionData) (q : QuestionData) (v w : Verdict) → AreSamePieces r.piece s.piece
-    → r.answer ≡ s.answer → IsPool r.piece.pool → HasVerdict r q v → HasVerdict s q w → v ≡ w
+HaveOneVerdict = (r : RegionData) (q : QuestionData) (v w : Verdict) → IsPool r.piece.pool → HasVerdict r q v
+    → HasVerdict r q w → v ≡ w
 
--- a search for a member finds the same in two pieces that are the same
+-- a search for a member finds one thing in a piece
 abbrev pub FindOneThing : Type 0
-FindOneThing = (p q : PieceData) (m n : Membership) → AreSamePieces p q → IsPool p.pool → FindsMember p m
-    → FindsMember q n → m ≡ n
+FindOneThing = (p : PieceData) (m n : Membership) → IsPool p.pool → FindsMember p m → FindsMember p n → m ≡ n
 
 -- An exploration that ended with nothing outstanding: it is the fringe of the whole execution tree of its stack.
 pub record IsWholeFringe (s : BookData) : Type 0 where

@@ -10,7 +10,7 @@ ghost use Rattle.sf_ask.specs.Searches.{IsInWordRange, HasMaskBits, IsOutside, C
 ghost use Rattle.sf_ask.specs.Trying.{IsNumberBefore};
 ghost use Rattle.sf_question.specs.declared.fault.Fault.TheVariants.{Memory};
 
-use sf_dom::{Facts, rules_have_one_result};
+use sf_dom::{Facts, rules_are_sound, rules_have_one_result};
 use sf_question::{Fault, Question};
 use sf_sym::{NodeId, Pool};
 use std::alloc::Global;
@@ -70,6 +70,8 @@ fn confine_range(
         (CantTakeInRange question.now word pool.now facts.old)) }
     ensures err { IfErr result (λ f. f ≡ Memory) }
 {
+    // For the prover: facts that are confined by the rules lose no such input.
+    rules_are_sound();
     let (low, high) = question.range(word);
     if is_whole((low, high)) {
         return Ok(true);
@@ -100,6 +102,8 @@ fn confine_mask(
         (CantTakeInMask question.now word pool.now facts.old)) }
     ensures err { IfErr result (λ f. f ≡ Memory) }
 {
+    // For the prover: facts that are confined by the rules lose no such input.
+    rules_are_sound();
     let (mask, value) = question.mask(word);
     if mask == 0 {
         return Ok(true);

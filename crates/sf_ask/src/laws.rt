@@ -6,8 +6,7 @@ use sf_book::laws::explorations_have_one_result;
 use sf_dom::rules_have_one_result;
 use sf_piece::laws::execution_has_one_result;
 
-/// For the prover: by the rules a question has one verdict on a region. It has the same one on each region with the
-/// same piece (`AreSamePieces`) and the same answer.
+/// For the prover: by the rules a question has one verdict on a region.
 pub fn verdicts_have_one_result()
     ensures { HaveOneVerdict }
 {
@@ -24,8 +23,7 @@ pub fn replies_have_one_result()
     verdicts_have_one_result();
 }
 
-/// For the prover: by the rules a search for a member (`find_member`) has one result. It is the same for two pieces
-/// that are the same (`AreSamePieces`).
+/// For the prover: by the rules a search for a member (`find_member`) has one result.
 pub fn members_have_one_result()
     ensures { FindOneThing }
 {

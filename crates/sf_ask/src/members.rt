@@ -12,7 +12,7 @@ ghost use Rattle.sf_ask.specs.Members.{IsRightMembership, IsLeastFound, CoverMem
 ghost use Rattle.sf_question.specs.declared.fault.Fault.TheVariants.{Memory};
 
 use crate::judging::{first_unmet, is_member_of, least_input};
-use sf_dom::{Facts, Known, rules_have_one_result};
+use sf_dom::{Facts, Known, rules_are_sound, rules_have_one_result};
 use sf_insn::{Input, Test};
 use sf_piece::Piece;
 use sf_question::Fault;
@@ -44,7 +44,8 @@ fn facts_learnt_again(alloc: Global, piece: &Piece) -> Result<Option<Facts>, Fau
         (λ f. LearnAll piece.now.facts f piece.now.pool piece.now.conditions)) }
     ensures err { IfErr result (λ f. f ≡ Memory) }
 {
-    // For the prover: the rules of facts have one result.
+    // For the prover: the rules of facts lose no input, and have one result.
+    rules_are_sound();
     rules_have_one_result();
     let mut facts = piece.facts().fork().map_err(|_| Fault::Memory)?;
     for i in 0..piece.cond_count() {

@@ -15,17 +15,17 @@ use Rattle.sf_book.specs.Books.{OutstandingData, RegionData, BookData, IsLawfulB
 use Rattle.sf_book.specs.Changes.{MayCommit, without}
 use Rattle.sf_book.specs.PartitionLaws.{some_there}
 use Rattle.sf_book.specs.PrefixCounts.{bit}
-use Rattle.sf_book.specs.Unfoldings.{Unfolding, Outstanding, Region, Emptied, Fork, top_of, IsPieceOf, HasSides, IsUnfolding, outstanding_in, emptied_in, regions_in, forks_in, IsRegionOf, IsFringe}
+use Rattle.sf_book.specs.Unfoldings.{Unfolding, Outstanding, Region, Emptied, Fork, top_of, IsPieceOf, IsUnfolding, outstanding_in, emptied_in, regions_in, forks_in, IsRegionOf, IsFringe}
 use Rattle.sf_book.proofs.Kept.{may_place, left_over}
 use Rattle.sf_book.proofs.Lists.{sum_by-map_same}
 use Rattle.sf_book.proofs.Lawful.{leased_piece, after_split, after_answer, after_empty}
-use Rattle.sf_book.proofs.Trees.{sum-map, is-name, own-name, the-name, same-names}
+use Rattle.sf_book.proofs.Trees.{pieces-one, sum-map, is-name, own-name, the-name}
 
 -- an unfolding in which another one took the place of the outstanding piece of a name
 pub record HasGrown (stack : List (List Insn)) (u w : Unfolding) (n : List Bool) : Type 0 where
   tree : Unfolding
   unfolds : IsUnfolding stack tree
-  same : (top_of tree).name ≡ (top_of u).name
+  same : top_of tree ≡ top_of u
   outstanding : (f : List Bool → ℕ) → sum_by f (outstanding_in tree) + f n
       ≡ sum_by f (outstanding_in u) + sum_by f (outstanding_in w)
   regions : (f : List Bool → ℕ) → sum_by f (regions_in tree) ≡ sum_by f (regions_in u) + sum_by f (regions_in w)
@@ -43,23 +43,6 @@ weighs-one : (f : List Bool → ℕ) (n : List Bool) → sum_by f (n ∷ []) ≡
 weighs-one f n = let a = sum_by-cons f n [] in omega arith
 
 module _ (one : IsExecutionOne) (stack : List (List Insn)) where
-  -- other pieces of the same names are its sides too
-  sides-named : (p f t g s : PieceData) → IsPieceOf stack p → HasSides p f t → IsPieceOf stack g → IsPieceOf stack s
-      → g.name ≡ f.name → s.name ≡ t.name → IsPieceOf stack f → IsPieceOf stack t → HasSides p g s
-  sides-named p f t g s h k a b e d x y =
-      let sides = one.sides p k.false_side k.true_side h.reached k.step in
-      let fs : f.stack ≡ k.false_side.stack = ap (λ (z : PieceData). z.stack) k.same_false.rest in
-      let ts : t.stack ≡ k.true_side.stack = ap (λ (z : PieceData). z.stack) k.same_true.rest in
-      record {
-        false_side = k.false_side;
-        true_side = k.true_side;
-        step = k.step;
-        same_false = one.piece k.false_side g sides.0 a.reached (sym fs ∙ x.of ∙ sym a.of)
-            (same-names k.false_side f k.same_false ∙ sym e);
-        same_true = one.piece k.true_side s sides.1 b.reached (sym ts ∙ y.of ∙ sym b.of)
-            (same-names k.true_side t k.same_true ∙ sym d);
-      }
-
   pub grow : (u w : Unfolding) (n : List Bool) → Contains (outstanding_in u) n → IsUnfolding stack u
       → IsUnfolding stack w
       → (top_of w).name ≡ n → HasGrown stack u w n
@@ -70,7 +53,7 @@ module _ (one : IsExecutionOne) (stack : List (List Insn)) where
       record {
         tree = w;
         unfolds = k;
-        same = e ∙ sym named;
+        same = pieces-one one stack (top_of w) p (top-is stack w k) h (e ∙ sym named);
         outstanding = λ f. let a = weighs-one f p.name in let b : f p.name ≡ f n = ap f named in omega arith;
         regions = λ f. omega arith;
         emptied = λ f. omega arith;
@@ -87,8 +70,7 @@ module _ (one : IsExecutionOne) (stack : List (List Insn)) where
           tree = Fork p g.tree t;
           unfolds = (
             h.0,
-            sides-named p (top_of f) (top_of t) (top_of g.tree) (top_of t) h.0 h.1 (top-is stack g.tree g.unfolds)
-                (top-is stack t h.3) g.same refl (top-is stack f h.2) (top-is stack t h.3),
+            subst (λ (z : PieceData). HasStep p (Split z (top_of t)) p.name) (sym g.same) h.1,
             g.unfolds,
             h.3,
           );
@@ -108,8 +90,7 @@ module _ (one : IsExecutionOne) (stack : List (List Insn)) where
           tree = Fork p f g.tree;
           unfolds = (
             h.0,
-            sides-named p (top_of f) (top_of t) (top_of f) (top_of g.tree) h.0 h.1 (top-is stack f h.2)
-                (top-is stack g.tree g.unfolds) refl g.same (top-is stack f h.2) (top-is stack t h.3),
+            subst (λ (z : PieceData). HasStep p (Split (top_of f) z) p.name) (sym g.same) h.1,
             h.2,
             g.unfolds,
           );
@@ -177,23 +158,12 @@ module _ (one : IsExecutionOne) (b : BookData) (id : ℕ) (w : WorkData) (l : Is
       let sides = one.sides w.piece f t p.reached step in
       let pf : IsPieceOf b.stack f = record { reached = sides.0; of = right.false_stack ∙ p.of } in
       let pt : IsPieceOf b.stack t = record { reached = sides.1; of = right.true_stack ∙ p.of } in
-      let g = grown-by (Fork w.piece (Outstanding f) (Outstanding t)) (
-        p,
-        record {
-          false_side = f;
-          true_side = t;
-          step = step;
-          same_false = one.piece f f sides.0 sides.0 refl refl;
-          same_true = one.piece t t sides.1 sides.1 refl refl;
-        },
-        pf,
-        pt,
-      ) refl in
+      let g = grown-by (Fork w.piece (Outstanding f) (Outstanding t)) (p, step, pf, pt) refl in
       let es = without id b.outstanding in
       record {
         tree = g.tree;
         unfolds = g.unfolds;
-        first = g.same ∙ h.first;
+        first = ap (λ (q : PieceData). q.name) g.same ∙ h.first;
         outstanding = λ z.
             let name : OutstandingData → List Bool = λ e. e.piece.name in
             let v : OutstandingData → ℕ = λ e. z e.piece.name in
@@ -223,7 +193,7 @@ module _ (one : IsExecutionOne) (b : BookData) (id : ℕ) (w : WorkData) (l : Is
       record {
         tree = g.tree;
         unfolds = g.unfolds;
-        first = g.same ∙ h.first;
+        first = ap (λ (q : PieceData). q.name) g.same ∙ h.first;
         outstanding = λ z.
             let name : OutstandingData → List Bool = λ e. e.piece.name in
             let x = sum-map z name (without id b.outstanding) in
@@ -255,7 +225,7 @@ module _ (one : IsExecutionOne) (b : BookData) (id : ℕ) (w : WorkData) (l : Is
       record {
         tree = g.tree;
         unfolds = g.unfolds;
-        first = g.same ∙ h.first;
+        first = ap (λ (q : PieceData). q.name) g.same ∙ h.first;
         outstanding = λ z.
             let name : OutstandingData → List Bool = λ e. e.piece.name in
             let x = sum-map z name (without id b.outstanding) in

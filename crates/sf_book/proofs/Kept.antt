@@ -5,7 +5,7 @@ use Rattle.std.specs.List.{All, remove, HoldsAt, sum_by}
 use Rattle.std.proofs.lemmas.List.Sums.{sum_by-remove, sum_by-cons}
 use Rattle.std.proofs.lemmas.List.Elements.{All-push, All-map, All-filter}
 use Rattle.std.proofs.lemmas.Bool.Decides.{nat_tests}
-use Rattle.std.proofs.lemmas.List.{get_or_default}
+use Rattle.std.proofs.lemmas.List.{get_or_default, get_or_push}
 use Rattle.sf_run.specs.declared.action.Answer.{Answer}
 use Rattle.sf_check.specs.declared.insn.Insn.{Insn}
 use Rattle.sf_check.specs.Stacks.{IsLawfulStack}
@@ -195,6 +195,15 @@ pub child_names : (b : BookData) (id : ℕ) (w : WorkData) (f t : PieceData) →
 child_names b id w f t h m right =
     let r = may_place b id w m in
     new_names b w.piece f t r.0 m.under_id h r.1.there (r.1.has_name m.under_id) right
+
+-- the children's names differ
+pub children_differ : (p f t : PieceData) → IsRightSplit p f t → f.name ≡ t.name → ⊥
+children_differ p f t s e =
+    let stem : List Bool = p.name ++ s.on in
+    let same : stem ++ false ∷ [] ≡ stem ++ true ∷ [] = sym s.false_name ∙ e ∙ s.true_name in
+    let clash : false ≡ true = sym (get_or_push stem false false (length stem) refl)
+    ∙ ap (λ (n : List Bool). get_or n (length stem) false) same
+    ∙ get_or_push stem true false (length stem) refl in absurd cc
 
 pub kept_fresh : (stack : List (List Insn)) (r : PieceData) (budget : ℕ) → IsLawfulStack stack → IsRoot stack r
     → IsKeptBook (fresh stack r budget) 1

@@ -12,24 +12,16 @@ use Rattle.std.specs.declared.cmp.Ordering.TheVariants.{Less}
 use Rattle.sf_run.specs.Feasible.{AreInNameOrder}
 use Rattle.sf_run.specs.FeasibleLaws.{before_one_way}
 use Rattle.sf_check.specs.declared.insn.Insn.{Insn}
+use Rattle.sf_run.specs.declared.action.Answer.{Answer}
 use Rattle.sf_piece.specs.Pieces.{PieceData, StepData, Split, Settled, Empty}
-use Rattle.sf_piece.specs.Execution.{HasStep, AreSamePieces, AreSameSteps}
+use Rattle.sf_piece.specs.Execution.{HasStep}
 use Rattle.sf_piece.specs.OneExecution.{IsExecutionOne}
 use Rattle.sf_piece.specs.Pieces.{is_prefix}
 use Rattle.sf_book.specs.Books.{RegionData, OutstandingData, BookData, IsSettled}
 use Rattle.sf_book.specs.NameOrderLaws.{strictly_in_order}
 use Rattle.sf_book.specs.PartitionLaws.{some_there, prefix-refl}
 use Rattle.sf_book.specs.PrefixCounts.{bit, prefix_bit}
-use Rattle.sf_book.specs.Unfoldings.{Unfolding, Outstanding, Region, Emptied, Fork, HaveSameElements, IsFringe, IsRegionOf, IsSameRegion, AreSameRegions, HaveOneOutcome, top_of, IsPieceOf, IsUnfolding, outstanding_in, emptied_in, regions_in, forks_in}
-
--- the same ends and forks
-pub record AreAlikeTrees (u v : Unfolding) : Type 0 where
-  pub regions : regions_in u ≡ regions_in v
-  pub emptied : emptied_in u ≡ emptied_in v
-  pub forks : forks_in u ≡ forks_in v
-
-pub same-names : (p q : PieceData) → AreSamePieces p q → p.name ≡ q.name
-same-names p q h = sym (ap (λ (x : PieceData). x.name) h.rest)
+use Rattle.sf_book.specs.Unfoldings.{Unfolding, Outstanding, Region, Emptied, Fork, HaveSameElements, IsFringe, IsRegionOf, HaveOneOutcome, top_of, IsPieceOf, IsUnfolding, outstanding_in, emptied_in, regions_in, forks_in}
 
 none-left : {A : Type 0} (xs ys : List A) → xs ++ ys ≡ [] → xs ≡ []
 none-left [] ys e = refl
@@ -41,54 +33,55 @@ none-right (x ∷ xs) ys e = let clash : x ∷ (xs ++ ys) ≡ [] = e in absurd c
 
 module _ (one : IsExecutionOne) (stack : List (List Insn)) where
   -- pieces of one stack with one name are one, and so is their step
-  steps-one : (p q : PieceData) (s t : StepData) (m n : List Bool) → IsPieceOf stack p → IsPieceOf stack q
-      → p.name ≡ q.name → HasStep p s m → HasStep q t n → AreSameSteps s t × (m ≡ n)
-  steps-one p q s t m n a b e h k =
-      one.step p q s t m n (one.piece p q a.reached b.reached (a.of ∙ sym b.of) e) (one.pools p a.reached) h k
+  pub pieces-one : (p q : PieceData) → IsPieceOf stack p → IsPieceOf stack q → p.name ≡ q.name → p ≡ q
+  pieces-one p q a b e = one.piece p q a.reached b.reached (a.of ∙ sym b.of) e
 
-  pub trees-one : (u v : Unfolding) → IsUnfolding stack u → IsUnfolding stack v → (top_of u).name ≡ (top_of v).name
-      → outstanding_in u ≡ [] → outstanding_in v ≡ [] → AreAlikeTrees u v
+  steps-one : (p q : PieceData) (s t : StepData) (m n : List Bool) → IsPieceOf stack p → IsPieceOf stack q
+      → p.name ≡ q.name → HasStep p s m → HasStep q t n → (s ≡ t) × (m ≡ n)
+  steps-one p q s t m n a b e h k =
+      one.step q s t m n (one.pools q b.reached)
+      (subst (λ (z : PieceData). HasStep z s m) (pieces-one p q a b e) h) k
+
+  -- a tree in which nothing is outstanding is one
+  trees-one : (u v : Unfolding) → IsUnfolding stack u → IsUnfolding stack v → (top_of u).name ≡ (top_of v).name
+      → outstanding_in u ≡ [] → outstanding_in v ≡ [] → u ≡ v
   trees-one (Outstanding p) v h k e x y = let clash : p.name ∷ [] ≡ [] = x in absurd cc
   trees-one (Region p n a) (Outstanding q) h k e x y = let clash : q.name ∷ [] ≡ [] = y in absurd cc
   trees-one (Emptied p) (Outstanding q) h k e x y = let clash : q.name ∷ [] ≡ [] = y in absurd cc
   trees-one (Fork p f t) (Outstanding q) h k e x y = let clash : q.name ∷ [] ≡ [] = y in absurd cc
   trees-one (Region p n a) (Region q m b) h k e x y =
-      record { regions = rw e refl; emptied = refl; forks = refl }
+      let piece = pieces-one p q h.0 k.0 e in
+      let s = steps-one p q (Settled a) (Settled b) n m h.0 k.0 e h.1 k.1 in
+      let step : Settled a ≡ Settled b = s.0 in
+      let name : n ≡ m = s.1 in cc
   trees-one (Region p n a) (Emptied q) h k e x y =
-      let s = steps-one p q (Settled a) Empty n q.name h.0 k.0 e h.1 k.1 in absurd s.0
+      let clash : Settled a ≡ Empty = (steps-one p q (Settled a) Empty n q.name h.0 k.0 e h.1 k.1).0 in absurd cc
   trees-one (Region p n a) (Fork q g s) h k e x y =
-      let z = steps-one p q (Settled a) (Split k.1.false_side k.1.true_side) n q.name h.0 k.0 e h.1 k.1.step in
-      absurd z.0
+      let clash : Settled a ≡ Split (top_of g) (top_of s)
+      = (steps-one p q (Settled a) (Split (top_of g) (top_of s)) n q.name h.0 k.0 e h.1 k.1).0 in absurd cc
   trees-one (Emptied p) (Region q m b) h k e x y =
-      let s = steps-one p q Empty (Settled b) p.name m h.0 k.0 e h.1 k.1 in absurd s.0
-  trees-one (Emptied p) (Emptied q) h k e x y = record { regions = refl; emptied = rw e refl; forks = refl }
+      let clash : Empty ≡ Settled b = (steps-one p q Empty (Settled b) p.name m h.0 k.0 e h.1 k.1).0 in absurd cc
+  trees-one (Emptied p) (Emptied q) h k e x y = ap Emptied (pieces-one p q h.0 k.0 e)
   trees-one (Emptied p) (Fork q g s) h k e x y =
-      let z = steps-one p q Empty (Split k.1.false_side k.1.true_side) p.name q.name h.0 k.0 e h.1 k.1.step in
-      absurd z.0
+      let clash : Empty ≡ Split (top_of g) (top_of s)
+      = (steps-one p q Empty (Split (top_of g) (top_of s)) p.name q.name h.0 k.0 e h.1 k.1).0 in absurd cc
   trees-one (Fork p f t) (Region q m b) h k e x y =
-      let z = steps-one p q (Split h.1.false_side h.1.true_side) (Settled b) p.name m h.0 k.0 e h.1.step k.1 in
-      absurd z.0
+      let clash : Split (top_of f) (top_of t) ≡ Settled b
+      = (steps-one p q (Split (top_of f) (top_of t)) (Settled b) p.name m h.0 k.0 e h.1 k.1).0 in absurd cc
   trees-one (Fork p f t) (Emptied q) h k e x y =
-      let z = steps-one p q (Split h.1.false_side h.1.true_side) Empty p.name q.name h.0 k.0 e h.1.step k.1 in
-      absurd z.0
+      let clash : Split (top_of f) (top_of t) ≡ Empty
+      = (steps-one p q (Split (top_of f) (top_of t)) Empty p.name q.name h.0 k.0 e h.1 k.1).0 in absurd cc
   trees-one (Fork p f t) (Fork q g s) h k e x y =
-      let a = h.1 in
-      let b = k.1 in
-      let z = steps-one p q (Split a.false_side a.true_side) (Split b.false_side b.true_side) p.name q.name h.0 k.0 e
-      a.step b.step in
-      let fs = sym (same-names a.false_side (top_of f) a.same_false) ∙ same-names a.false_side b.false_side z.0.0
-      ∙ same-names b.false_side (top_of g) b.same_false in
-      let ts = sym (same-names a.true_side (top_of t) a.same_true) ∙ same-names a.true_side b.true_side z.0.1
-      ∙ same-names b.true_side (top_of s) b.same_true in
-      let l = trees-one f g h.2 k.2 fs (none-left (outstanding_in f) (outstanding_in t) x)
-      (none-left (outstanding_in g) (outstanding_in s) y) in
-      let r = trees-one t s h.3 k.3 ts (none-right (outstanding_in f) (outstanding_in t) x)
-      (none-right (outstanding_in g) (outstanding_in s) y) in
-      record {
-        regions = rw (l.regions, r.regions) refl;
-        emptied = rw (l.emptied, r.emptied) refl;
-        forks = rw (l.forks, r.forks) refl;
-      }
+      let both : Split (top_of f) (top_of t) ≡ Split (top_of g) (top_of s)
+      = (steps-one p q (Split (top_of f) (top_of t)) (Split (top_of g) (top_of s)) p.name q.name h.0 k.0 e h.1 k.1).0
+      in
+      let fs : top_of f ≡ top_of g = cc in
+      let ts : top_of t ≡ top_of s = cc in
+      let piece = pieces-one p q h.0 k.0 e in
+      let left = trees-one f g h.2 k.2 (ap (λ (z : PieceData). z.name) fs)
+      (none-left (outstanding_in f) (outstanding_in t) x) (none-left (outstanding_in g) (outstanding_in s) y) in
+      let right = trees-one t s h.3 k.3 (ap (λ (z : PieceData). z.name) ts)
+      (none-right (outstanding_in f) (outstanding_in t) x) (none-right (outstanding_in g) (outstanding_in s) y) in cc
 
 -- ---- the books
 
@@ -174,16 +167,20 @@ without-first r q rs qs e h f =
     omega arith
 
 module _ (one : IsExecutionOne) (stack : List (List Insn)) where
-  region-one : (r q : RegionData) → IsRegionOf stack r → IsRegionOf stack q → r.piece.name ≡ q.piece.name
-      → IsSameRegion r q
+  region-one : (r q : RegionData) → IsRegionOf stack r → IsRegionOf stack q → r.piece.name ≡ q.piece.name → r ≡ q
   region-one r q h k e =
       let s = steps-one one stack r.piece q.piece (Settled r.answer) (Settled q.answer) r.name q.name h.0 k.0 e h.1 k.1
       in
-      record {
-        piece = one.piece r.piece q.piece h.0.reached k.0.reached (h.0.of ∙ sym k.0.of) e;
-        name = s.1;
-        answer = s.0;
-      }
+      let settled : Settled r.answer ≡ Settled q.answer = s.0 in
+      let answer : r.answer ≡ q.answer = cc in
+      made-same r.piece q.piece r.name q.name r.answer q.answer (pieces-one one stack r.piece q.piece h.0 k.0 e) s.1
+      answer
+    where
+      made : PieceData → List Bool → Answer → RegionData
+      made p n a = record { piece = p; name = n; answer = a }
+
+      made-same : (p q : PieceData) (m n : List Bool) (a b : Answer) → p ≡ q → m ≡ n → a ≡ b → made p m a ≡ made q n b
+      made-same p q m n a b x y z = cc
 
   -- the first regions of both lists are of one name
   first-one : (r q : RegionData) (rs qs : List RegionData) → All (IsRegionOf stack) (r ∷ rs)
@@ -198,19 +195,21 @@ module _ (one : IsExecutionOne) (stack : List (List Insn)) where
       on zero a j b = sym x.named ∙ ap (λ (z : RegionData). z.piece.name) (sym (same_Some q x.region a))
       on (suc i) a zero b = ap (λ (z : RegionData). z.piece.name) (same_Some r y.region b) ∙ y.named
       on (suc i) a (suc j) b =
-          let rx : r.name ≡ x.region.name = (region-one r x.region (All-head (IsRegionOf stack) r rs h)
-          (all-at (IsRegionOf stack) (q ∷ qs) (suc i) x.region k a) (sym x.named)).name in
-          let qy : q.name ≡ y.region.name = (region-one q y.region (All-head (IsRegionOf stack) q qs k)
-          (all-at (IsRegionOf stack) (r ∷ rs) (suc j) y.region h b) (sym y.named)).name in
+          let rx : r.name ≡ x.region.name = ap (λ (z : RegionData). z.name) (region-one r x.region
+          (All-head (IsRegionOf stack) r rs h) (all-at (IsRegionOf stack) (q ∷ qs) (suc i) x.region k a)
+          (sym x.named)) in
+          let qy : q.name ≡ y.region.name = ap (λ (z : RegionData). z.name) (region-one q y.region
+          (All-head (IsRegionOf stack) q qs k) (all-at (IsRegionOf stack) (r ∷ rs) (suc j) y.region h b)
+          (sym y.named)) in
           let one : slice_cmp bool_cmp q.name r.name ≡ Less = rw rx (later q.name qs i x.region p.0 a) in
           let two : slice_cmp bool_cmp r.name q.name ≡ Less = rw qy (later r.name rs j y.region o.0 b) in
           absurd (before_one_way q.name r.name one two)
 
   regions-one : (rs qs : List RegionData) → All (IsRegionOf stack) rs → All (IsRegionOf stack) qs
       → AreInNameOrder (map (λ (r : RegionData). r.name) rs) → AreInNameOrder (map (λ (r : RegionData). r.name) qs)
-      → HaveSameElements (piece-names rs) (piece-names qs) → AreSameRegions rs qs
+      → HaveSameElements (piece-names rs) (piece-names qs) → rs ≡ qs
   unfolding IsStrictlySortedBy
-  regions-one [] [] h k o p same = tt
+  regions-one [] [] h k o p same = refl
   regions-one [] (q ∷ qs) h k o p same =
       let none : q.piece.name ∷ piece-names qs ≡ [] = weighs-none (piece-names (q ∷ qs)) same in absurd cc
   regions-one (r ∷ rs) [] h k o p same =
@@ -218,11 +217,11 @@ module _ (one : IsExecutionOne) (stack : List (List Insn)) where
       weighs-none (piece-names (r ∷ rs)) (λ f. sym (same f)) in absurd cc
   regions-one (r ∷ rs) (q ∷ qs) h k o p same =
       let e = first-one r q rs qs h k o p (has-name r rs (q ∷ qs) same)
-      (has-name q qs (r ∷ rs) (λ f. sym (same f))) in (
-        region-one r q (All-head (IsRegionOf stack) r rs h) (All-head (IsRegionOf stack) q qs k) e,
-        regions-one rs qs (All-tail (IsRegionOf stack) r rs h) (All-tail (IsRegionOf stack) q qs k) o.1 p.1
-            (without-first r q rs qs e same),
-      )
+      (has-name q qs (r ∷ rs) (λ f. sym (same f))) in
+      let first = region-one r q (All-head (IsRegionOf stack) r rs h) (All-head (IsRegionOf stack) q qs k) e in
+      let rest = regions-one rs qs (All-tail (IsRegionOf stack) r rs h) (All-tail (IsRegionOf stack) q qs k) o.1 p.1
+      (without-first r q rs qs e same) in
+      ap (λ x. x ∷ rs) first ∙ ap (λ xs. q ∷ xs) rest
 
 same-through : {X : Type 0} (xs us vs ys : List X) → HaveSameElements xs us → us ≡ vs → HaveSameElements ys vs
     → HaveSameElements xs ys
@@ -242,11 +241,11 @@ results-one one b c s t h k e x y =
     let few : (b : BookData) → IsSettled b → (n : List Bool)
     → sum_by (λ (r : RegionData). prefix_bit r.name n) b.regions ≤ 1
     = λ b s n. let a = s.lawful.apart n in omega arith in
-    let emptied = same-through b.emptied (emptied_in h.tree) (emptied_in k.tree) c.emptied h.emptied trees.emptied
-    k.emptied in
+    let emptied = same-through b.emptied (emptied_in h.tree) (emptied_in k.tree) c.emptied h.emptied
+    (ap emptied_in trees) k.emptied in
     let pieces = same-through (piece-names b.regions) (regions_in h.tree) (regions_in k.tree) (piece-names c.regions)
-    h.regions trees.regions k.regions in
-    let splits : b.splits ≡ c.splits = h.splits ∙ trees.forks ∙ sym k.splits in
+    h.regions (ap regions_in trees) k.regions in
+    let splits : b.splits ≡ c.splits = h.splits ∙ ap forks_in trees ∙ sym k.splits in
     let rs = pieces (λ n. 1) in
     let es = emptied (λ n. 1) in
     record {

@@ -3,7 +3,7 @@ use Rattle.std.specs.Prelude.{◌≡◌, ℕ, ◌+◌, Bool, List, [], ◌∷◌
 use Rattle.sf_check.specs.declared.insn.Insn.{Insn}
 use Rattle.sf_run.specs.declared.action.Answer.{Answer}
 use Rattle.sf_piece.specs.Pieces.{PieceData, Split, Settled, Empty}
-use Rattle.sf_piece.specs.Execution.{HasStep, IsInTree, AreSamePieces}
+use Rattle.sf_piece.specs.Execution.{HasStep, IsInTree}
 use Rattle.sf_book.specs.Books.{OutstandingData, RegionData, BookData, IsSettled}
 
 -- A part of an execution tree. A branch ends in a piece that is outstanding, in one that settled, with its whole name
@@ -26,21 +26,13 @@ pub record IsPieceOf (stack : List (List Insn)) (p : PieceData) : Type 0 where
   pub reached : IsInTree p
   pub of : p.stack ≡ stack
 
--- the piece is split into these two, but for how excluded numbers are listed and which nodes are variables
-pub record HasSides (p f t : PieceData) : Type 0 where
-  pub false_side : PieceData
-  pub true_side : PieceData
-  pub step : HasStep p (Split false_side true_side) p.name
-  pub same_false : AreSamePieces false_side f
-  pub same_true : AreSamePieces true_side t
-
 -- each piece in it is one of the stack, and what became of it is its step by the rules of symbolic execution
 abbrev pub IsUnfolding : List (List Insn) → Unfolding → Type 0
 IsUnfolding stack (Outstanding p) = IsPieceOf stack p
 IsUnfolding stack (Region p name answer) = IsPieceOf stack p × HasStep p (Settled answer) name
 IsUnfolding stack (Emptied p) = IsPieceOf stack p × HasStep p Empty p.name
-IsUnfolding stack (Fork p f t) = IsPieceOf stack p × HasSides p (top_of f) (top_of t) × IsUnfolding stack f
-    × IsUnfolding stack t
+IsUnfolding stack (Fork p f t) = IsPieceOf stack p × HasStep p (Split (top_of f) (top_of t)) p.name
+    × IsUnfolding stack f × IsUnfolding stack t
 
 -- the names of the outstanding pieces, from left to right
 abbrev pub outstanding_in : Unfolding → List (List Bool)
@@ -92,22 +84,10 @@ pub record IsFringe (b : BookData) : Type 0 where
   pub reached : All (λ (e : OutstandingData). IsPieceOf b.stack e.piece) b.outstanding
   pub settled : All (IsRegionOf b.stack) b.regions
 
--- the same piece settled, with the same whole name and answer
-pub record IsSameRegion (r q : RegionData) : Type 0 where
-  pub piece : AreSamePieces r.piece q.piece
-  pub name : r.name ≡ q.name
-  pub answer : r.answer ≡ q.answer
-
--- the same regions, place by place
-abbrev pub AreSameRegions : List RegionData → List RegionData → Type 0
-AreSameRegions [] [] = Unit {0}
-AreSameRegions (r ∷ rs) (q ∷ qs) = IsSameRegion r q × AreSameRegions rs qs
-AreSameRegions _ _ = ⊥
-
 -- Two explorations have one result: the same regions in the same order, the same emptied names, and the same numbers of
 -- splits and commits.
 pub record HaveOneOutcome (b c : BookData) : Type 0 where
-  pub regions : AreSameRegions b.regions c.regions
+  pub regions : b.regions ≡ c.regions
   pub emptied : HaveSameElements b.emptied c.emptied
   pub splits : b.splits ≡ c.splits
   pub commits : b.commits ≡ c.commits

@@ -1,7 +1,8 @@
 -- Pieces on lease through a turn.
 use Rattle.std.proofs.lemmas.Grind.{common_steps}
-use Rattle.std.proofs.Common.{◌≡◌, ◌≢◌, ℕ, ◌<◌, ◌==◌, Bool, true, false, not, cond, List, [], ◌∷◌, ◌++◌, map, Option, Some, None, MatchOption, refl, sym, ◌∙◌, ap, arith, inl}
+use Rattle.std.proofs.Common.{◌≡◌, ◌≢◌, ℕ, ◌<◌, ◌==◌, Bool, true, false, true≢false, not, cond, List, [], ◌∷◌, ◌++◌, length, map, Option, Some, None, MatchOption, MatchBool, eq-eqb, refl, sym, ◌∙◌, ap, arith, inl, inr}
 use Rattle.std.specs.List.{All}
+use Rattle.std.proofs.lemmas.Bool.{eqb-true}
 use Rattle.std.proofs.lemmas.Bool.Decides.{nat_tests}
 use Rattle.std.specs.Arc.{arc_value}
 use Rattle.std.proofs.lemmas.List.Elements.{All-head, All-tail, All-cons, All-nil, All-map}
@@ -13,6 +14,18 @@ use Rattle.sf_book.specs.declared.fault.Fault.TheVariants.{Foreign, Stale, Spent
 use Rattle.sf_book.specs.ChangesLaws.{all_at, leased_at}
 use Rattle.sf_book.specs.declared.book.Lease.{Lease}
 use Rattle.sf_crew.specs.Explorations.{IsExhausted, IsFree, MayWork, TakesTurn}
+
+-- where something is outstanding, a book is exhausted where its commits are spent, and only there
+pub exhausted_by_commits : (s : BookData) → (length s.outstanding ≡ 0 → ⊥)
+    → MatchBool (s.commits == s.budget) (IsExhausted s) (¬ IsExhausted s)
+exhausted_by_commits s some = by (s.commits == s.budget) refl
+  where
+    by : (b : Bool) → (s.commits == s.budget) ≡ b → MatchBool b (IsExhausted s) (¬ IsExhausted s)
+    by true e = inr (eqb-true s.commits s.budget e)
+    by false e = λ h. elim h [
+      | inl none ↦ some (ap length none)
+      | inr same ↦ absurd (true≢false (sym (eq-eqb s.commits s.budget same) ∙ e))
+    ]
 
 abbrev Free : OutstandingData → Type 0
 Free e = e.leased ≡ false

@@ -8,7 +8,7 @@ use Rattle.sf_piece.specs.OneExecution.{IsExecutionOne}
 use Rattle.sf_book.specs.Books.{BookData, IsSettled}
 use Rattle.sf_book.specs.Unfoldings.{IsFringe}
 use Rattle.sf_ask.specs.OneResult.{HaveOneVerdict}
-use Rattle.sf_ask.specs.OneResultLaws.{one_verdict_at, same_themselves}
+use Rattle.sf_ask.specs.OneResultLaws.{one_verdict_at}
 use Rattle.sf_ask.specs.declared.verdict.Verdict.{Verdict}
 use Rattle.sf_ask.specs.declared.verdict.Verdict.TheVariants.{Clear, Hit, Doubt}
 use Rattle.sf_ask.specs.declared.verdict.Reply.TheVariants.{Never, Allowed, Unsettled}
@@ -175,7 +175,7 @@ hit_again tree verdict s qs t q question place v fringe h least asked is =
     let hit = (h.breaks q place (place_there t.least q place least)).1 in
     let same : hit.1.question ≡ question = same_Some hit.1.question question (sym hit.1.asked ∙ asked) in (
       hit.0,
-      one_verdict_at tree verdict s s question fringe (same_themselves s.regions) place (Hit hit.0) v
+      one_verdict_at tree verdict s s question fringe refl place (Hit hit.0) v
           (subst (λ (x : QuestionData). HasVerdictAt s place x (Hit hit.0)) same hit.1.rule) is,
     )
 

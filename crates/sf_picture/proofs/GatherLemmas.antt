@@ -340,6 +340,18 @@ moved-kind facts bits tested moved is c = (
   }),
 )
 
+-- nothing is added where the moved cut is there already
+pub moved-there : (facts : FactsView) (bits : List FixedBits) (tested moved : Cut) (cuts : List Cut)
+    → moved ≡ cut_within (window_of (known_at facts.known tested.axis.word) (bits_at bits tested.axis.word)) tested
+    → Contains cuts moved → AreMore cuts cuts (IsMovedBy facts bits tested)
+moved-there facts bits tested moved cuts is there c = (
+  λ before. inl before,
+  λ side. elim side [
+    | inl before ↦ before
+    | inr by ↦ subst (λ (x : Cut). Contains cuts x) (is ∙ sym by.moved) there
+  ],
+)
+
 -- a condition that leaves a word only one number
 pub says-one : (ns : List Node) (newer : Option NodeId) (cond : Cond) (o : Option ℕ) → cond.node.0 < 16
     → constant_number (node_at ns cond.other.0) ≡ o → is_some o ≡ true → cond.test ≡ Equal → cond.sense ≡ true

@@ -9,21 +9,13 @@ use Rattle.std.proofs.lemmas.Option.{same_Some, slice_get_within, get_or_from_sl
 use Rattle.sf_sym.specs.declared.pool.Cond.{Cond}
 use Rattle.sf_sym.specs.declared.pool.Node.{Node}
 use Rattle.sf_sym.specs.Pool.{IsPool}
-use Rattle.sf_dom.specs.Facts.{FactsView, AreEqualFacts}
+use Rattle.sf_dom.specs.Facts.{FactsView}
 use Rattle.sf_dom.specs.Learning.{LearnsBy, CantLearn, LearnAll}
 use Rattle.sf_dom.specs.SoundRules.{HaveOneResult}
 use Rattle.sf_picture.specs.declared.axis.Axis.{Axis}
 use Rattle.sf_picture.specs.declared.ends.Ends.{Ends}
 use Rattle.sf_picture.specs.Holding.{HeldData, CantLearnAll}
 use Rattle.sf_picture.specs.Narrowing.{ends_on, miss, IsKeptOf, IsNarrowedTo, AreNarrowedTo}
-
--- ---- equal facts
-
-pub equal-same : (f : FactsView) → AreEqualFacts f f
-equal-same f = record { known = refl; excluded = λ w l. (λ n c. c, λ n c. c) }
-
-pub equal-back : (f g : FactsView) → AreEqualFacts f g → AreEqualFacts g f
-equal-back f g h = record { known = sym h.known; excluded = λ w l. ((h.excluded w l).1, (h.excluded w l).0) }
 
 -- ---- conditions that are learnt once more
 
@@ -50,22 +42,22 @@ drop-at (x ∷ cs) zero c e = ap (λ (y : Cond). y ∷ cs) (same_Some x c e)
 drop-at (x ∷ cs) (suc i) c e = drop-at cs i c e
 
 module _ (laws : HaveOneResult) (ns : List Node) (pool : IsPool ns) where
-  -- where one condition can't be learnt after those before it, equal facts can't learn them all
-  cant-on : (before after : List Cond) (cond : Cond) (f g h k : FactsView) → AreEqualFacts f g → LearnAll f h ns before
-      → CantLearn h ns cond → LearnAll g k ns (before ++ cond ∷ after) → ⊥
-  cant-on [] after cond f g h k same all cant more =
-      laws.learns_not g h more.0 ns cond pool
-      (subst (λ (x : FactsView). AreEqualFacts g x) all (equal-back f g same)) more.1 cant
-  cant-on (d ∷ before) after cond f g h k same all cant more =
-      cant-on before after cond all.0 more.0 h k (laws.learnt f g all.0 more.0 ns d pool same all.1 more.1) all.2 cant
-      more.2
+  -- where one condition can't be learnt after those before it, facts can't learn them all
+  cant-on : (before after : List Cond) (cond : Cond) (f h k : FactsView) → LearnAll f h ns before → CantLearn h ns cond
+      → LearnAll f k ns (before ++ cond ∷ after) → ⊥
+  cant-on [] after cond f h k all cant more =
+      laws.learns_not h more.0 ns cond pool (subst (λ (x : FactsView). LearnsBy x more.0 ns cond) all more.1) cant
+  cant-on (d ∷ before) after cond f h k all cant more =
+      cant-on before after cond all.0 h k all.2 cant
+      (subst (λ (x : FactsView). LearnAll x k ns (before ++ cond ∷ after))
+      (sym (laws.learnt f all.0 more.0 ns d pool all.1 more.1)) more.2)
 
   pub cant-learn : (cs : List Cond) (i : ℕ) (c : Cond) (f g : FactsView) → slice_get cs i ≡ Some c
       → LearnAll f g ns (take i cs) → CantLearn g ns c → CantLearnAll f ns cs
   cant-learn cs i c f g there all cant k more =
       let whole : cs ≡ take i cs ++ c ∷ drop (suc i) cs =
       sym (take-append-drop i cs) ∙ ap (λ (l : List Cond). take i cs ++ l) (drop-at cs i c there) in
-      cant-on (take i cs) (drop (suc i) cs) c f f g k (equal-same f) all cant (subst (LearnAll f k ns) whole more)
+      cant-on (take i cs) (drop (suc i) cs) c f g k all cant (subst (LearnAll f k ns) whole more)
 
 -- ---- ends
 

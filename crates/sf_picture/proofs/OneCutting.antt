@@ -11,16 +11,13 @@ use Rattle.sf_sym.specs.declared.pool.Node.{Node}
 use Rattle.sf_sym.specs.declared.pool.NodeId.{NodeId}
 use Rattle.sf_sym.specs.Operands.{IsAndsOf}
 use Rattle.sf_sym.specs.MaskLaws.{one-masked-word}
-use Rattle.sf_dom.specs.declared.known.Known.{Known}
-use Rattle.sf_dom.specs.Facts.{known_at}
 use Rattle.sf_dom.specs.Rules.{Then}
 use Rattle.sf_piece.specs.Pieces.{PieceData}
-use Rattle.sf_piece.specs.Execution.{AreSamePieces}
 use Rattle.sf_picture.specs.declared.axis.Axis.{Axis}
 use Rattle.sf_picture.specs.declared.cuts.Cut.{Cut}
 use Rattle.sf_picture.specs.declared.cuts.NumberTest.{NumberTest}
 use Rattle.sf_picture.specs.declared.windows.Window.{Window}
-use Rattle.sf_picture.specs.Cutting.{AxisTest, IsAxisOf, IsAxisTest, IsSingleAfter, AddsTest, with_test, AreTestsOf, axis_cut_by, fixed_bits, window_of, window_at, cut_within, AreCutsBy}
+use Rattle.sf_picture.specs.Cutting.{AxisTest, IsAxisOf, IsAxisTest, IsSingleAfter, AddsTest, with_test, AreTestsOf, axis_cut_by, window_at, cut_within, AreCutsBy}
 
 -- ---- one list of tests
 
@@ -99,34 +96,23 @@ one-tests ns (cond ∷ newer) s t ts us x y =
 
 -- ---- one set of cuts
 
--- what regions of the same piece have is the same
-pub same-cuts : (p q : PieceData) (cuts others : List Cut) → AreSamePieces p q → AreCutsBy p cuts → AreCutsBy q others
-    → (c : Cut) → Contains cuts c → Contains others c
-same-cuts p q cuts others same x y c there =
+-- what a region has is one thing
+pub same-cuts : (p : PieceData) (cuts others : List Cut) → AreCutsBy p cuts → AreCutsBy p others → (c : Cut)
+    → Contains cuts c → Contains others c
+same-cuts p cuts others x y c there =
     let among = (x.each c).0 there in
     (y.each c).1 (record {
       test = among.test;
       there = subst (λ (ts : List AxisTest). Contains ts among.test) tests among.there;
       tested = among.tested;
       by = among.by;
-      moved = among.moved ∙ ap (λ (w : Window). cut_within w among.tested) (window among.tested.axis.word);
+      moved = among.moved
+          ∙ ap (λ (ts : List AxisTest). cut_within (window_at p ts among.tested.axis.word) among.tested) tests;
       room = among.room;
     })
   where
-    pools : q.pool ≡ p.pool
-    pools = ap (λ (z : PieceData). z.pool) same.rest
-
-    conds : q.conditions ≡ p.conditions
-    conds = ap (λ (z : PieceData). z.conditions) same.rest
-
     tests : x.tests ≡ y.tests
-    tests = (one-tests p.pool p.conditions x.single y.single x.tests y.tests x.of
-        (subst (λ (ns : List Node). AreTestsOf ns p.conditions y.single y.tests) pools
-        (subst (λ (cs : List Cond). AreTestsOf q.pool cs y.single y.tests) conds y.of))).1
-
-    window : (word : ℕ) → window_at p x.tests word ≡ window_at q y.tests word
-    window word = ap (λ (ks : List Known). window_of (known_at ks word) (fixed_bits x.tests word)) same.facts.known
-        ∙ ap (λ (ts : List AxisTest). window_of (known_at q.facts.known word) (fixed_bits ts word)) tests
+    tests = (one-tests p.pool p.conditions x.single y.single x.tests y.tests x.of y.of).1
 
 -- ---- masks
 

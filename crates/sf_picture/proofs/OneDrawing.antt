@@ -5,13 +5,10 @@ use Rattle.std.proofs.lemmas.Bool.{cases_lt}
 use Rattle.std.proofs.lemmas.List.{get_or_push, length_push}
 use Rattle.std.proofs.lemmas.Option.{slice_get_within, get_or_from_slice_get}
 use Rattle.sf_sym.specs.Pool.{IsPool}
-use Rattle.sf_dom.specs.Facts.{FactsView, AreEqualFacts}
 use Rattle.sf_dom.specs.SoundRules.{HaveOneResult}
-use Rattle.sf_piece.specs.Pieces.{PieceData}
 use Rattle.sf_piece.specs.OneExecution.{IsExecutionOne}
-use Rattle.sf_piece.specs.Execution.{AreSamePieces}
 use Rattle.sf_book.specs.Books.{RegionData, BookData, IsSettled}
-use Rattle.sf_book.specs.Unfoldings.{IsFringe, IsRegionOf, AreSameRegions, ExplorationsHaveOneResult}
+use Rattle.sf_book.specs.Unfoldings.{IsFringe, IsRegionOf, ExplorationsHaveOneResult}
 use Rattle.sf_picture.specs.declared.axis.Axis.{Axis}
 use Rattle.sf_picture.specs.declared.labels.Which.{Which}
 use Rattle.sf_picture.specs.declared.labels.Which.TheVariants.{All, Left}
@@ -23,7 +20,6 @@ use Rattle.sf_picture.specs.Holding.{HeldData}
 use Rattle.sf_picture.specs.Drawing.{SketchData, EndsElsewhere}
 use Rattle.sf_picture.specs.DrawnBy.{IsFirstAt, IsKeptOnce, DrawsLeaf, DrawsLabels, DrawsLeafOf, AddsRunTo, AddsSpanTo, EndAt, DrawsFork, LeadRunsTo, ClosesTo, Drawing, DrawsSpans, DrawsOn, DrawsBy, BeginsAt, DrawsRoot, IsHeldOf, HasPicture, empty_sketch}
 use Rattle.sf_picture.proofs.OneCutting.{same-cuts, small-cuts}
-use Rattle.sf_picture.proofs.NarrowLemmas.{equal-back}
 use Rattle.sf_picture.proofs.OneNarrowing.{AreSameHeld, AreAllSame, all-back, same-axes, same-lasts, same-labels, one-label-as, same-inside}
 
 -- ---- leaves and forks
@@ -243,59 +239,42 @@ module _ (laws : HaveOneResult) where
       (subst (λ (b : Option Branch). BeginsAt x.sketch u b other) (sym e.1)
       (subst (λ (z : SketchData). BeginsAt z u y.branch other) (sym e.0) y.begins))
 
-  -- what is held of the same regions is the same
-  one-held : (r q : RegionData) (label : ℕ) (h k : HeldData) → AreSamePieces r.piece q.piece → IsPool r.piece.pool
-      → IsHeldOf r label h → IsHeldOf q label k → AreSameHeld h k
-  one-held r q label h k same pool x y = record {
+  -- what is held of a region is one thing
+  one-held : (r : RegionData) (label : ℕ) (h k : HeldData) → IsPool r.piece.pool → IsHeldOf r label h
+      → IsHeldOf r label k → AreSameHeld h k
+  one-held r label h k pool x y = record {
     pool = subst IsPool (sym (ap (λ (z : HeldData). z.piece.pool) x.is)) pool;
-    pools = ap (λ (z : HeldData). z.piece.pool) y.is ∙ ap (λ (z : PieceData). z.pool) same.rest
-        ∙ sym (ap (λ (z : HeldData). z.piece.pool) x.is);
-    conditions = ap (λ (z : HeldData). z.piece.conditions) y.is ∙ ap (λ (z : PieceData). z.conditions) same.rest
-        ∙ sym (ap (λ (z : HeldData). z.piece.conditions) x.is);
-    label = ap (λ (z : HeldData). z.label) y.is ∙ sym (ap (λ (z : HeldData). z.label) x.is);
-    facts = subst (λ (f : FactsView). AreEqualFacts f k.facts) (sym (ap (λ (z : HeldData). z.facts) x.is))
-        (subst (λ (f : FactsView). AreEqualFacts r.piece.facts f)
-        (sym (ap (λ (z : HeldData). z.facts) y.is)) same.facts);
-    cuts = λ c. (
-      same-cuts r.piece q.piece h.cuts k.cuts same x.cuts y.cuts c,
-      same-cuts q.piece r.piece k.cuts h.cuts back y.cuts x.cuts c,
-    );
+    rest = y.is ∙ sym (ap (λ (z : HeldData). record z { cuts = k.cuts }) x.is);
+    cuts = λ c. (same-cuts r.piece h.cuts k.cuts x.cuts y.cuts c, same-cuts r.piece k.cuts h.cuts y.cuts x.cuts c);
     small = small-cuts r.piece h.cuts x.cuts;
   }
-    where
-      back : AreSamePieces q.piece r.piece
-      back = record {
-        rest = sym (ap (λ (z : PieceData). record z { facts = r.piece.facts }) same.rest);
-        facts = equal-back r.piece.facts q.piece.facts same.facts;
-      }
 
-  all-held : (rs qs : List RegionData) (held others : List HeldData) → AreSameRegions rs qs
+  all-held : (rs : List RegionData) (held others : List HeldData)
       → ((place : ℕ) (r : RegionData) → slice_get rs place ≡ Some r → IsPool r.piece.pool) → (label : ℕ → ℕ)
-      → length held ≡ length rs → length others ≡ length qs
+      → length held ≡ length rs → length others ≡ length rs
       → ((place : ℕ) (r : RegionData) (h : HeldData) → slice_get rs place ≡ Some r → slice_get held place ≡ Some h
       → IsHeldOf r (label place) h)
-      → ((place : ℕ) (r : RegionData) (h : HeldData) → slice_get qs place ≡ Some r → slice_get others place ≡ Some h
+      → ((place : ℕ) (r : RegionData) (h : HeldData) → slice_get rs place ≡ Some r → slice_get others place ≡ Some h
       → IsHeldOf r (label place) h) → AreAllSame held others
-  all-held [] [] [] [] same pools label m n x y = tt
-  all-held [] [] [] (k ∷ ks) same pools label m n x y = absurd (omega (arith, n))
-  all-held [] [] (h ∷ hs) ks same pools label m n x y = absurd (omega (arith, m))
-  all-held [] (q ∷ qs) held others same pools label m n x y = absurd same
-  all-held (r ∷ rs) [] held others same pools label m n x y = absurd same
-  all-held (r ∷ rs) (q ∷ qs) [] others same pools label m n x y = absurd (omega (arith, m))
-  all-held (r ∷ rs) (q ∷ qs) (h ∷ hs) [] same pools label m n x y = absurd (omega (arith, n))
-  all-held (r ∷ rs) (q ∷ qs) (h ∷ hs) (k ∷ ks) same pools label m n x y = (
-    one-held r q (label zero) h k same.0.piece (pools zero r refl) (x zero r h refl refl) (y zero q k refl refl),
-    all-held rs qs hs ks same.1 (λ place. pools (suc place)) (λ place. label (suc place)) (omega (arith, m))
-        (omega (arith, n)) (λ place. x (suc place)) (λ place. y (suc place)),
+  all-held [] [] [] pools label m n x y = tt
+  all-held [] [] (k ∷ ks) pools label m n x y = absurd (omega (arith, n))
+  all-held [] (h ∷ hs) others pools label m n x y = absurd (omega (arith, m))
+  all-held (r ∷ rs) [] others pools label m n x y = absurd (omega (arith, m))
+  all-held (r ∷ rs) (h ∷ hs) [] pools label m n x y = absurd (omega (arith, n))
+  all-held (r ∷ rs) (h ∷ hs) (k ∷ ks) pools label m n x y = (
+    one-held r (label zero) h k (pools zero r refl) (x zero r h refl refl) (y zero r k refl refl),
+    all-held rs hs ks (λ place. pools (suc place)) (λ place. label (suc place)) (omega (arith, m)) (omega (arith, n))
+        (λ place. x (suc place)) (λ place. y (suc place)),
   )
 
   pub one-picture : ExplorationsHaveOneResult → IsExecutionOne → (s t : BookData) (labels : List ℕ) (leaves : ℕ)
       (p q : PictureData) → IsSettled s → IsSettled t → IsFringe s → IsFringe t → s.stack ≡ t.stack → s.outstanding ≡ []
       → t.outstanding ≡ [] → HasPicture s labels leaves p → HasPicture t labels leaves q → p ≡ q
   one-picture explored tree s t labels leaves p q ls lt fs ft stack none none' x y =
-      let one = explored s t ls lt fs ft stack none none' in
-      let held = all-held s.regions t.regions x.held y.held one.regions pools (slice_index labels) x.of.count y.of.count
-      x.of.each y.of.each in
+      let same = (explored s t ls lt fs ft stack none none').regions in
+      let held = all-held s.regions x.held y.held pools (slice_index labels) x.of.count
+      (y.of.count ∙ ap length (sym same)) x.of.each (λ place r h there here. y.of.each place r h
+      (ap (λ (rs : List RegionData). slice_get rs place) (sym same) ∙ there) here) in
       let e = one-root x.held y.held (empty_sketch leaves) x.sketch y.sketch p.root q.root held x.drawn y.drawn in
       x.is ∙ ap (λ (z : SketchData). let w : PictureData = record {
         leaves = z.leaves;

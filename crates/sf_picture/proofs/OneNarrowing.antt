@@ -7,44 +7,34 @@ use Rattle.std.specs.List.Sorted.{IsNonDecreasingBy, IsStrictlyIncreasing}
 use Rattle.std.proofs.lemmas.Bool.{cases_lt}
 use Rattle.std.proofs.lemmas.List.Kept.{AllPairs-from_increasing}
 use Rattle.std.proofs.lemmas.List.Elements.{Contains-get_or}
-use Rattle.sf_sym.specs.declared.pool.Cond.{Cond}
-use Rattle.sf_sym.specs.declared.pool.Node.{Node}
 use Rattle.sf_sym.specs.Pool.{IsPool}
 use Rattle.sf_dom.specs.declared.known.Known.{Known}
-use Rattle.sf_dom.specs.Facts.{FactsView, AreEqualFacts, known_at}
-use Rattle.sf_dom.specs.Learning.{Excludes, ConditionGives, LearnsBy, LearnAll, TakesInBy, CantTakeInBy}
+use Rattle.sf_dom.specs.Facts.{FactsView}
+use Rattle.sf_dom.specs.Learning.{TakesInBy, CantTakeInBy}
 use Rattle.sf_dom.specs.SoundRules.{HaveOneResult}
 use Rattle.sf_picture.specs.declared.axis.Axis.{Axis}
 use Rattle.sf_picture.specs.declared.cuts.Cut.{Cut}
-use Rattle.sf_picture.specs.declared.ends.Ends.{Ends}
 use Rattle.sf_picture.specs.declared.labels.Which.{Which}
 use Rattle.sf_picture.specs.declared.labels.Which.TheVariants.{All as AllOf, Left}
 use Rattle.sf_picture.specs.Axes.{axis_places, axis_order}
 use Rattle.sf_picture.specs.Drawing.{IsLastOfCut}
 use Rattle.sf_picture.specs.Holding.{HeldData, AreOneLabel}
-use Rattle.sf_picture.specs.Narrowing.{IsCutAxis, AreAxes, AreLastNumbers, ends_on, ends_of, lie_in, miss, learnt_in_span, TakeInSpan, CantTakeInSpan, IsConfined, IsKeptOf, IsNarrowedTo, AreNarrowedTo, CanLearnAgain, IsGathered, IsHeldLabel, AreLabelsOf}
+use Rattle.sf_picture.specs.Narrowing.{IsCutAxis, AreAxes, AreLastNumbers, ends_on, lie_in, miss, learnt_in_span, TakeInSpan, CantTakeInSpan, IsConfined, IsKeptOf, IsNarrowedTo, AreNarrowedTo, CanLearnAgain, IsGathered, IsHeldLabel, AreLabelsOf}
 use Rattle.sf_picture.specs.Pictures.{AreEachOnce}
-use Rattle.sf_picture.proofs.NarrowLemmas.{equal-back}
 
 -- ---- what is held of the same regions
 
--- the same is held, but for the order of cuts and of excluded numbers
+-- the same is held, but for the order of cuts
 pub record AreSameHeld (h k : HeldData) : Type 0 where
   pub pool : IsPool h.piece.pool
-  pub pools : k.piece.pool ≡ h.piece.pool
-  pub conditions : k.piece.conditions ≡ h.piece.conditions
-  pub label : k.label ≡ h.label
-  pub facts : AreEqualFacts h.facts k.facts
+  pub rest : k ≡ record h { cuts = k.cuts }
   pub cuts : (c : Cut) → Contains h.cuts c ↔ Contains k.cuts c
   pub small : (c : Cut) → Contains h.cuts c → c.axis.mask ≤ 4294967295
 
 pub held-back : (h k : HeldData) → AreSameHeld h k → AreSameHeld k h
 held-back h k e = record {
-  pool = subst IsPool (sym e.pools) e.pool;
-  pools = sym e.pools;
-  conditions = sym e.conditions;
-  label = sym e.label;
-  facts = equal-back h.facts k.facts e.facts;
+  pool = subst IsPool (sym (ap (λ (z : HeldData). z.piece.pool) e.rest)) e.pool;
+  rest = sym (ap (λ (z : HeldData). record z { cuts = h.cuts }) e.rest);
   cuts = λ c. ((e.cuts c).1, (e.cuts c).0);
   small = λ c there. e.small c ((e.cuts c).1 there);
 }
@@ -255,37 +245,12 @@ same-lasts held others axis lasts more same x y =
 
 -- ---- labels
 
--- equal facts learn a condition alike
-learns-as : (f g c : FactsView) (ns : List Node) (cond : Cond) → AreEqualFacts f g → LearnsBy f c ns cond
-    → LearnsBy g c ns cond
-learns-as f g c ns cond e h = record {
-  excluded = record {
-    kept = λ w m l there. h.excluded.kept w m l ((e.excluded w l).1 m there);
-    more = λ w m l x. h.excluded.more w m l (subst (λ (ks : List Known). Excludes ks ns cond w m) (sym e.known) x);
-    only = λ w m l there. elim (h.excluded.only w m l there) [
-      | inl old ↦ inl ((e.excluded w l).0 m old)
-      | inr x ↦ inr (subst (λ (ks : List Known). Excludes ks ns cond w m) e.known x)
-    ];
-  };
-  known = subst (λ (ks : List Known). ConditionGives ks c.excluded ns cond (Some c.known)) e.known h.known;
-}
-
-learn-as : (f g k : FactsView) (ns : List Node) (cs : List Cond) → AreEqualFacts f g → LearnAll f k ns cs
-    → (x : FactsView) × LearnAll g x ns cs
-learn-as f g k ns [] e all = (g, refl)
-learn-as f g k ns (c ∷ cs) e all = (k, (all.0, learns-as f g all.0 ns c e all.1, all.2))
-
-again-as : (h k : HeldData) → AreSameHeld h k → CanLearnAgain h → CanLearnAgain k
-again-as h k e can =
-    let l = learn-as h.facts k.facts can.0 h.piece.pool h.piece.conditions e.facts can.1 in (
-      l.0,
-      subst (λ (ns : List Node). LearnAll k.facts l.0 ns k.piece.conditions) (sym e.pools)
-          (subst (LearnAll k.facts l.0 h.piece.pool) (sym e.conditions) l.1),
-    )
+same-label : (h k : HeldData) → AreSameHeld h k → k.label ≡ h.label
+same-label h k e = ap (λ (z : HeldData). z.label) e.rest
 
 gathered-as : (which : Which) (h k : HeldData) → AreSameHeld h k → IsGathered which h → IsGathered which k
 gathered-as AllOf h k e is = tt
-gathered-as Left h k e is = again-as h k e is
+gathered-as Left h k e is = subst CanLearnAgain (sym e.rest) is
 
 label-to : (which : Which) (held others : List HeldData) (n : ℕ) → AreAllSame held others → IsHeldLabel which held n
     → IsHeldLabel which others n
@@ -294,7 +259,7 @@ label-to which held others n same is =
     record {
       held_one = o.0;
       there = o.1;
-      label_is = o.2.label ∙ is.label_is;
+      label_is = same-label is.held_one o.0 o.2 ∙ is.label_is;
       gathered = gathered-as which is.held_one o.0 o.2 is.gathered;
     }
 
@@ -310,7 +275,7 @@ one-label-as held others same one h k hh kk =
     let back = all-back held others same in
     let a = other-one others held h back hh in
     let b = other-one others held k back kk in
-    sym a.2.label ∙ one a.0 b.0 a.1 b.1 ∙ b.2.label
+    sym (same-label h a.0 a.2) ∙ one a.0 b.0 a.1 b.1 ∙ same-label k b.0 b.2
 
 -- ---- what is held in a span
 
@@ -320,84 +285,62 @@ AreSameOptions None None = ⊤
 AreSameOptions (Some h) (Some k) = AreSameHeld h k
 AreSameOptions _ _ = ⊥
 
--- other facts of the same
-with-facts : (h k : HeldData) (f g : FactsView) → AreSameHeld h k → AreEqualFacts f g
-    → AreSameHeld (record h { facts = f }) (record k { facts = g })
-with-facts h k f g e facts = record {
-  pool = e.pool;
-  pools = e.pools;
-  conditions = e.conditions;
-  label = e.label;
-  facts = facts;
-  cuts = e.cuts;
-  small = e.small;
-}
-
 both-options : (a b x y : Option HeldData) → x ≡ a → y ≡ b → AreSameOptions a b → AreSameOptions x y
 both-options a b x y p q same =
     subst (λ (o : Option HeldData). AreSameOptions o y) (sym p)
     (subst (λ (o : Option HeldData). AreSameOptions a o) (sym q) same)
 
 module _ (laws : HaveOneResult) (axis : Axis) (first last : ℕ) where
-  take-same : (h k : HeldData) (f g : FactsView) → AreSameHeld h k
-      → TakeInSpan h.piece.pool axis first last h.facts f → TakeInSpan h.piece.pool axis first last k.facts g
-      → AreEqualFacts f g
-  take-same h k f g e x y = by (learnt_in_span axis first last) x y
+  take-same : (h : HeldData) (f g : FactsView) → IsPool h.piece.pool
+      → TakeInSpan h.piece.pool axis first last h.facts f → TakeInSpan h.piece.pool axis first last h.facts g → f ≡ g
+  take-same h f g pool x y = by (learnt_in_span axis first last) x y
     where
       by : (o : Option Known) → MatchOption o (f ≡ h.facts) (TakesInBy h.facts f h.piece.pool axis.word)
-          → MatchOption o (g ≡ k.facts) (TakesInBy k.facts g h.piece.pool axis.word) → AreEqualFacts f g
-      by None a b = subst (λ (z : FactsView). AreEqualFacts z g) (sym a)
-          (subst (λ (z : FactsView). AreEqualFacts h.facts z) (sym b) e.facts)
-      by (Some more) a b = laws.confined h.facts k.facts f g h.piece.pool axis.word more e.pool e.facts a b
+          → MatchOption o (g ≡ h.facts) (TakesInBy h.facts g h.piece.pool axis.word) → f ≡ g
+      by None a b = a ∙ sym b
+      by (Some more) a b = laws.confined h.facts f g h.piece.pool axis.word more pool a b
 
-  clash : (h k : HeldData) (g : FactsView) (ns : List Node) → IsPool ns → AreEqualFacts h.facts k.facts
-      → CantTakeInSpan ns axis first last h.facts → TakeInSpan ns axis first last k.facts g → ⊥
-  clash h k g ns pool e x y = by (learnt_in_span axis first last) x y
+  clash : (h : HeldData) (g : FactsView) → IsPool h.piece.pool → CantTakeInSpan h.piece.pool axis first last h.facts
+      → TakeInSpan h.piece.pool axis first last h.facts g → ⊥
+  clash h g pool x y = by (learnt_in_span axis first last) x y
     where
-      by : (o : Option Known) → MatchOption o ⊥ (CantTakeInBy h.facts ns axis.word)
-          → MatchOption o (g ≡ k.facts) (TakesInBy k.facts g ns axis.word) → ⊥
+      by : (o : Option Known) → MatchOption o ⊥ (CantTakeInBy h.facts h.piece.pool axis.word)
+          → MatchOption o (g ≡ h.facts) (TakesInBy h.facts g h.piece.pool axis.word) → ⊥
       by None a b = a
-      by (Some more) a b =
-          laws.confines_not k.facts h.facts g ns axis.word more pool (equal-back h.facts k.facts e) b a
+      by (Some more) a b = laws.confines_not h.facts g h.piece.pool axis.word more pool b a
 
-  same-confined : (h k : HeldData) (x y : Option HeldData) → AreSameHeld h k → IsConfined h axis first last x
-      → IsConfined k axis first last y → AreSameOptions x y
-  same-confined h k x y e (None, a, is) (None, b, are) = both-options None None x y is are tt
-  same-confined h k x y e (None, a, is) (Some g, b, are) =
-      absurd (clash h k g h.piece.pool e.pool e.facts a
-      (subst (λ (ns : List Node). TakeInSpan ns axis first last k.facts g) e.pools b))
-  same-confined h k x y e (Some f, a, is) (None, b, are) =
-      absurd (clash k h f h.piece.pool e.pool (equal-back h.facts k.facts e.facts)
-      (subst (λ (ns : List Node). CantTakeInSpan ns axis first last k.facts) e.pools b) a)
-  same-confined h k x y e (Some f, a, is) (Some g, b, are) =
-      both-options (Some (record h { facts = f })) (Some (record k { facts = g })) x y is are
-      (with-facts h k f g e (take-same h k f g e a
-      (subst (λ (ns : List Node). TakeInSpan ns axis first last k.facts g) e.pools b)))
+  same-confined : (h : HeldData) (cuts : List Cut) (x y : Option HeldData) → AreSameHeld h (record h { cuts = cuts })
+      → IsConfined h axis first last x → IsConfined (record h { cuts = cuts }) axis first last y → AreSameOptions x y
+  same-confined h cuts x y e (None, a, is) (None, b, are) = both-options None None x y is are tt
+  same-confined h cuts x y e (None, a, is) (Some g, b, are) = absurd (clash h g e.pool a b)
+  same-confined h cuts x y e (Some f, a, is) (None, b, are) = absurd (clash h f e.pool b a)
+  same-confined h cuts x y e (Some f, a, is) (Some g, b, are) =
+      both-options (Some (record h { facts = f })) (Some (record h { facts = g; cuts = cuts })) x y is are (record {
+        pool = e.pool;
+        rest = ap (λ (z : FactsView). record h { facts = z; cuts = cuts }) (sym (take-same h f g e.pool a b));
+        cuts = e.cuts;
+        small = e.small;
+      })
 
-  same-ends : (h k : HeldData) → AreSameHeld h k → ends_on axis k ≡ ends_on axis h
-  same-ends h k e = ap (λ (ks : List Known). ends_of (known_at ks axis.word) axis) (sym e.facts.known)
-
-  same-kept : (h k : HeldData) (x y : Option HeldData) → AreSameHeld h k → IsKeptOf h axis first last x
-      → IsKeptOf k axis first last y → AreSameOptions x y
-  same-kept h k x y e a b = by (lie_in (ends_on axis h) first last) a
-      (subst (λ (n : Ends). MatchBool (lie_in n first last) (y ≡ Some k) (IsConfined k axis first last y))
-      (same-ends h k e) b)
+  same-kept : (h : HeldData) (cuts : List Cut) (x y : Option HeldData) → AreSameHeld h (record h { cuts = cuts })
+      → IsKeptOf h axis first last x → IsKeptOf (record h { cuts = cuts }) axis first last y → AreSameOptions x y
+  same-kept h cuts x y e = by (lie_in (ends_on axis h) first last)
     where
       by : (t : Bool) → MatchBool t (x ≡ Some h) (IsConfined h axis first last x)
-          → MatchBool t (y ≡ Some k) (IsConfined k axis first last y) → AreSameOptions x y
-      by true p q = both-options (Some h) (Some k) x y p q e
-      by false p q = same-confined h k x y e p q
+          → MatchBool t (y ≡ Some (record h { cuts = cuts })) (IsConfined (record h { cuts = cuts }) axis first last y)
+          → AreSameOptions x y
+      by true p q = both-options (Some h) (Some (record h { cuts = cuts })) x y p q e
+      by false p q = same-confined h cuts x y e p q
 
   same-narrowed : (h k : HeldData) (x y : Option HeldData) → AreSameHeld h k → IsNarrowedTo axis first last h x
       → IsNarrowedTo axis first last k y → AreSameOptions x y
   same-narrowed h k x y e a b = by (miss (ends_on axis h) first last) a
-      (subst (λ (n : Ends). MatchBool (miss n first last) (y ≡ None) (IsKeptOf k axis first last y))
-      (same-ends h k e) b)
+      (subst (λ (z : HeldData). IsNarrowedTo axis first last z y) e.rest b)
     where
       by : (t : Bool) → MatchBool t (x ≡ None) (IsKeptOf h axis first last x)
-          → MatchBool t (y ≡ None) (IsKeptOf k axis first last y) → AreSameOptions x y
+          → MatchBool t (y ≡ None) (IsKeptOf (record h { cuts = k.cuts }) axis first last y) → AreSameOptions x y
       by true p q = both-options None None x y p q tt
-      by false p q = same-kept h k x y e p q
+      by false p q = same-kept h k.cuts x y (subst (AreSameHeld h) e.rest e) p q
 
   same-filtered : (held others : List HeldData) (xs ys : List (Option HeldData)) → AreAllSame held others
       → AllZip (IsNarrowedTo axis first last) held xs → AllZip (IsNarrowedTo axis first last) others ys

@@ -10,7 +10,7 @@ ghost use Rattle.sf_picture.specs.declared.fault.Fault.TheVariants.{Memory};
 
 use crate::axis::Axis;
 use crate::fault::Fault;
-use sf_dom::Facts;
+use sf_dom::{Facts, rules_are_sound};
 use sf_sym::Pool;
 use std::alloc::Global;
 
@@ -71,6 +71,8 @@ fn confine_whole(
         (CantTakeInSpan pool.now axis first last facts.old)) }
     ensures err { IfErr result (λ f. f ≡ Memory) }
 {
+    // For the prover: facts that are confined by the rules lose no such input.
+    rules_are_sound();
     Ok(facts.confine(alloc, pool, axis.word, first, last)?)
 }
 
@@ -103,6 +105,8 @@ fn confine_masked(
         (CantTakeInSpan pool.now axis first last facts.old)) }
     ensures err { IfErr result (λ f. f ≡ Memory) }
 {
+    // For the prover: facts that are confined by the rules lose no such input.
+    rules_are_sound();
     let Some(number) = number_in(axis, first, last) else {
         return Ok(true);
     };

@@ -17,7 +17,7 @@ use crate::confining::facts_within;
 use crate::cuts::{Cut, cuts_of};
 use crate::ends::Ends;
 use crate::fault::Fault;
-use sf_dom::{Facts, rules_have_one_result};
+use sf_dom::{Facts, rules_are_sound, rules_have_one_result};
 use sf_piece::Piece;
 use sf_sym::NodeId;
 use std::alloc::Global;
@@ -196,7 +196,8 @@ fn rules_out(alloc: Global, piece: &Piece, facts: &Facts) -> Result<bool, Fault>
         (CanLearnAll facts.now piece.now.pool piece.now.conditions)) }
     ensures err { IfErr result (λ f. f ≡ Memory) }
 {
-    // For the prover: the rules of facts have one result.
+    // For the prover: the rules of facts lose no input, and have one result.
+    rules_are_sound();
     rules_have_one_result();
     let mut learnt = facts.fork()?;
     for i in 0..piece.cond_count() {

@@ -1,5 +1,6 @@
 use Rattle.std.proofs.lemmas.Grind.{common_steps}
 use Rattle.std.proofs.Common.{arith, sym, ◌∙◌}
+use Rattle.sf_dom.specs.LearningLaws.{confined-by}
 use Rattle.sf_ask.proofs.Words.{mapped-ok, range-stays}
 use Rattle.sf_ask.proofs.Confinements.{range-rule}
 use Rattle.sf_ask.proofs.confining.confine_range.Goals as goal
@@ -9,8 +10,9 @@ returns-then-is_whole-clause-confined c = grind (arith, common_steps, range-stay
 
 pub returns-clause-confined : goal.returns-clause-confined
 returns-clause-confined c =
-    mapped-ok _ c.confine.result c.map_err.result c.map_err.ensures.cases c.confine.ensures.confined
-    (λ b confined. rw c.range-low.ensures at confined)
+    mapped-ok _ c.confine.result c.map_err.result c.map_err.ensures.cases c.confine.ensures.rule
+    (λ b rule. rw c.range-low.ensures at (confined-by c.rules_are_sound.ensures.learning b c.args.facts.now
+    c.confine.new.self c.args.pool.now c.args.word _ _ c.requires.covers c.requires.word c.confine.ensures.covers rule))
 
 pub returns-clause-rule : goal.returns-clause-rule
 returns-clause-rule c =

@@ -19,24 +19,25 @@ loop-i-init c =
 pub loop-i-preserved : goal.loop-i-preserved
 loop-i-preserved c =
     let p = c.args.piece.now in
-    let told = mapped-at _ _ c.learn.result c.map_err-in-loop-i.result c.in_ok-learnt.learnt
-    c.map_err-in-loop-i.ensures.cases c.learn.ensures.learnt c.in_ok-learnt.was in
-    let rule = mapped-at _ _ c.learn.result c.map_err-in-loop-i.result c.in_ok-learnt.learnt
-    c.map_err-in-loop-i.ensures.cases c.learn.ensures.rule c.in_ok-learnt.was in
+    let rule = rw (c.if-not-learnt.false, c.pool.ensures.value) at (mapped-at _ _ c.learn.result
+    c.map_err-in-loop-i.result c.in_ok-learnt.learnt c.map_err-in-loop-i.ensures.cases c.learn.ensures.rule
+    c.in_ok-learnt.was) in
     record {
       cover = still-covered p c.loop-i.facts c.learn.new.self c.loop-i.i c.cond.result c.loop-i.invariant.cover
-          c.cond.ensures.value (rw (c.if-not-learnt.false, c.pool.ensures.value) at told);
+          c.cond.ensures.value (c.rules_are_sound.ensures.learning.learns c.loop-i.facts c.learn.new.self p.pool
+          c.cond.result c.loop-i.invariant.cover.covers c.cond.ensures.below
+          (rw c.pool.ensures.value at c.learn.ensures.covers) rule);
       learnt = learnt-more c.rules_have_one_result.ensures p c.loop-i.facts c.learn.new.self c.loop-i.i c.cond.result
-          c.loop-i.invariant.cover.covers.pool c.loop-i.invariant.learnt c.cond.ensures.value
-          (rw (c.if-not-learnt.false, c.pool.ensures.value) at rule);
+          c.loop-i.invariant.cover.covers.pool c.loop-i.invariant.learnt c.cond.ensures.value rule;
     }
 
 pub returns-then-not-learnt-clause-facts : goal.returns-then-not-learnt-clause-facts
 returns-then-not-learnt-clause-facts c =
     let told = mapped-at _ _ c.learn.result c.map_err-in-loop-i.result c.in_ok-learnt.learnt
-    c.map_err-in-loop-i.ensures.cases c.learn.ensures.learnt c.in_ok-learnt.was in
+    c.map_err-in-loop-i.ensures.cases c.learn.ensures.rule c.in_ok-learnt.was in
     no-member c.args.piece.now c.loop-i.facts c.loop-i.i c.cond.result c.loop-i.invariant.cover c.cond.ensures.value
-    (rw (c.if-not-learnt.true, c.pool.ensures.value) at told)
+    (c.rules_are_sound.ensures.learning.cant_learn c.loop-i.facts c.args.piece.now.pool c.cond.result
+    c.loop-i.invariant.cover.covers c.cond.ensures.below (rw (c.if-not-learnt.true, c.pool.ensures.value) at told))
 
 pub returns-then-not-learnt-clause-rule : goal.returns-then-not-learnt-clause-rule
 returns-then-not-learnt-clause-rule c =

@@ -1,7 +1,21 @@
-use Rattle.std.proofs.lemmas.Grind.{common_steps}
-use Rattle.std.proofs.Common.{arith}
+use Rattle.std.proofs.Common.{◌≡◌, refl, sym, ◌∙◌}
+use Rattle.std.specs.BTreeMap.{is_at}
+use Rattle.std.specs.Arc.{arc_value}
+use Rattle.sf_book.specs.OutstandingMaps.{name_cmp}
 use Rattle.sf_book.proofs.MapLemmas.{same_name, name_yes}
 use Rattle.sf_book.proofs.regions.has_name.Goals as goal
 
 pub returns : goal.returns
-returns c = grind (arith, common_steps, same_name, name_yes)
+returns c =
+    let p = arc_value c.args.piece.now in
+    let q = c.args.work.now.piece in
+    let is : c.is_eq.result ≡ is_at (name_cmp p) q = rw (
+      c.is_eq.ensures,
+      c.order.ensures,
+      c.name.ensures.value,
+      c.name-2.ensures.value,
+      c.deref.ensures,
+      c.deref-2.ensures,
+      c.piece.ensures.value,
+    ) refl in
+    (λ t. same_name p q (sym is ∙ t), λ e. is ∙ name_yes p q e)

@@ -14,24 +14,23 @@ loop-i-init c = record {
 pub returns-then-not-branch-clause-none : goal.returns-then-not-branch-clause-none
 returns-then-not-branch-clause-none c = λ found.
     none-agrees c.args.piece.now c.args.facts.now c.loop-i.learnt c.loop-i.i c.cond.result
-    c.loop-i.invariant.members c.cond.ensures.value (rw (
+    c.loop-i.invariant.members c.cond.ensures.value (c.rules_are_sound.ensures.learning.cant_learn c.loop-i.learnt
+    c.args.piece.now.pool c.cond.result c.loop-i.invariant.members.covers c.cond.ensures.below (rw (
       c.if-not-branch.true,
       c.pool.ensures.value,
-    ) at c.in_ok-learn.ensures.learnt)
+    ) at c.in_ok-learn.ensures.rule))
 
 pub loop-i-preserved : goal.loop-i-preserved
-loop-i-preserved c = record {
-  members = keeps-more c.args.piece.now c.args.facts.now c.loop-i.learnt c.learn.new.self c.loop-i.i c.cond.result
-      c.loop-i.invariant.members c.cond.ensures.value (rw (
-        c.if-not-branch.false,
-        c.pool.ensures.value,
-      ) at c.in_ok-learn.ensures.learnt);
-  learnt = learnt-more c.args.piece.now.pool c.args.piece.now.conditions c.loop-i.i c.cond.result c.args.facts.now
-      c.loop-i.learnt c.learn.new.self c.cond.ensures.value c.loop-i.invariant.learnt (rw (
-        c.if-not-branch.false,
-        c.pool.ensures.value,
-      ) at c.in_ok-learn.ensures.rule);
-}
+loop-i-preserved c =
+    let rule = rw (c.if-not-branch.false, c.pool.ensures.value) at c.in_ok-learn.ensures.rule in
+    record {
+      members = keeps-more c.args.piece.now c.args.facts.now c.loop-i.learnt c.learn.new.self c.loop-i.i c.cond.result
+          c.loop-i.invariant.members c.cond.ensures.value (c.rules_are_sound.ensures.learning.learns c.loop-i.learnt
+          c.learn.new.self c.args.piece.now.pool c.cond.result c.loop-i.invariant.members.covers c.cond.ensures.below
+          (rw c.pool.ensures.value at c.learn.ensures.covers) rule);
+      learnt = learnt-more c.args.piece.now.pool c.args.piece.now.conditions c.loop-i.i c.cond.result c.args.facts.now
+          c.loop-i.learnt c.learn.new.self c.cond.ensures.value c.loop-i.invariant.learnt rule;
+    }
 
 pub returns-then-not-branch-clause-rule : goal.returns-then-not-branch-clause-rule
 returns-then-not-branch-clause-rule c =

@@ -2,7 +2,7 @@ use Rattle.std.proofs.Common.{◌≡◌, ap, sym, ◌∙◌, arith}
 use Rattle.sf_piece.specs.Pieces.{Split, Settled, Empty}
 use Rattle.sf_piece.specs.declared.work.Step.{Step}
 use Rattle.sf_piece.specs.Steps.{step_data, name_after}
-use Rattle.sf_book.proofs.Kept.{low_id, child_names}
+use Rattle.sf_book.proofs.Kept.{low_id, child_names, children_differ}
 use Rattle.sf_book.proofs.Plain.{split_book, split_commits, answer_book, empty_book}
 use Rattle.sf_book.proofs.book.Book.replace.Goals as goal
 
@@ -20,6 +20,13 @@ split-requires-clause-apart c =
     sym parts.step ∙ ap step_data c.in-Split.is in
     child_names _ c.args.id c.args.work _ _ c.self.invariant.kept.lawful (rw (← c.self.view_is) at c.requires.may)
     (rw is at parts.right.1).0
+
+pub split-requires-clause-differ : goal.split-requires-clause-differ
+split-requires-clause-differ c =
+    let parts = c.into_parts-piece.ensures in
+    let is : c.args.work.step ≡ Split c.in-Split.f.value c.in-Split.t.value =
+    sym parts.step ∙ ap step_data c.in-Split.is in
+    children_differ c.args.work.piece c.in-Split.f.value c.in-Split.t.value (rw is at parts.right.1).0
 
 pub invariant_of-self-in-Split-1 : goal.invariant_of-self-in-Split-1
 invariant_of-self-in-Split-1 c =
