@@ -1,16 +1,14 @@
 -- Audits of one stack that end with nothing outstanding have one report, and one document.
-use Rattle.std.proofs.Common.{◌≡◌, ℕ, ◌+◌, ◌<◌, Bool, true, List, [], ◌∷◌, ◌++◌, length, map, get_or, Some, slice_get, refl, sym, ◌∙◌, ap, subst, arith}
+use Rattle.std.proofs.Common.{◌≡◌, ℕ, ◌+◌, ◌<◌, Bool, List, [], ◌∷◌, ◌++◌, length, get_or, sym, ◌∙◌, subst, arith}
 use Rattle.std.specs.Prelude.{codes, if◌then◌else◌}
-use Rattle.std.specs.Fmt.{decimal}
 use Rattle.std.proofs.lemmas.List.{same_lists}
 use Rattle.std.proofs.lemmas.Option.{same_Some, slice_get-get_or}
 use Rattle.serde_json.specs.Data.{Data, null, string}
 use Rattle.sf_check.specs.declared.insn.Insn.{Insn}
 use Rattle.sf_check.specs.Stacks.{path_length}
-use Rattle.sf_run.specs.declared.action.Answer.{Answer}
 use Rattle.sf_run.specs.declared.counts.Counts.{Counts}
-use Rattle.sf_book.specs.Books.{RegionData, BookData, counts_of}
-use Rattle.sf_book.specs.Unfoldings.{AreSameRegions, ExplorationsHaveOneResult}
+use Rattle.sf_book.specs.Books.{BookData, counts_of}
+use Rattle.sf_book.specs.Unfoldings.{ExplorationsHaveOneResult}
 use Rattle.sf_question.specs.QuestionData.{QuestionData}
 use Rattle.sf_ask.specs.declared.verdict.Reply.{Reply}
 use Rattle.sf_ask.specs.Judging.{HasReply}
@@ -19,9 +17,9 @@ use Rattle.sf_ask.specs.OneResultLaws.{same_counts}
 use Rattle.sf_crew.specs.Sweeps.{IsRightReplyAt, AreRightReplies}
 use Rattle.sf_audit.specs.Audits.{IsAudit}
 use Rattle.sf_audit.specs.Outcomes.{Found}
-use Rattle.sf_json.specs.Documents.{answer_document, count, counts_document, fields, list_of, sizes_document}
-use Rattle.sf_policy.specs.Texts.{line, action_text, counts_line}
-use Rattle.sf_audit.specs.Reports.{size_line, name_text, letter, region_lines, title_line, question_lines, totals_line, report_text}
+use Rattle.sf_json.specs.Documents.{count, counts_document, fields, list_of, sizes_document}
+use Rattle.sf_policy.specs.Texts.{counts_line}
+use Rattle.sf_audit.specs.Reports.{size_line, region_lines, title_line, question_lines, totals_line, report_text}
 use Rattle.sf_audit.specs.Expectations.{ExpectedData}
 use Rattle.sf_audit.specs.Documents.{TellingData, region_documents, question_documents, shown_expected, totals_document, audit_document}
 
@@ -44,34 +42,6 @@ same_replies one b c h k stack qs xs ys f g =
     one b c p.question (get_or xs k' d) (get_or ys k' d) h k stack p.replies.rule
     (subst (λ (a : QuestionData). HasReply c a (get_or ys k' d)) asked r.replies.rule))
 
--- ---- the same lines and documents
-
-abbrev line_of : ℕ → List Bool → Answer → List ℕ
-line_of n name a = line (codes "region" ∷ decimal n ∷ name_text name ∷ action_text a.action ∷ decimal a.info ∷ [])
-
-same_lines : (n : ℕ) (rs ss : List RegionData) → AreSameRegions rs ss → region_lines n rs ≡ region_lines n ss
-same_lines n [] [] h = refl
-same_lines n [] (s ∷ ss) h = absurd h
-same_lines n (r ∷ rs) [] h = absurd h
-same_lines n (r ∷ rs) (s ∷ ss) h =
-    let rest = same_lines (n + 1) rs ss h.1 in
-    λ j. line_of n (h.0.name j) (h.0.answer j) ++ rest j
-
-abbrev document_of : ℕ → List Bool → Answer → Data
-document_of n name a = fields (
-    (codes "answer", answer_document a)
-    ∷ (codes "name", string (map letter name))
-    ∷ (codes "number", count n) ∷ [])
-
-same_documents : (n : ℕ) (rs ss : List RegionData) → AreSameRegions rs ss
-    → region_documents n rs ≡ region_documents n ss
-same_documents n [] [] h = refl
-same_documents n [] (s ∷ ss) h = absurd h
-same_documents n (r ∷ rs) [] h = absurd h
-same_documents n (r ∷ rs) (s ∷ ss) h =
-    let rest = same_documents (n + 1) rs ss h.1 in
-    λ j. document_of n (h.0.name j) (h.0.answer j) ∷ rest j
-
 -- ---- the same findings
 
 -- two audits found the same
@@ -80,7 +50,7 @@ record IsFoundTwice (o p : Found) : Type 0 where
   questions : o.questions ≡ p.questions
   replies : o.replies ≡ p.replies
   counts : counts_of o.settled ≡ counts_of p.settled
-  regions : AreSameRegions o.settled.regions p.settled.regions
+  regions : o.settled.regions ≡ p.settled.regions
 
 found_twice : ExplorationsHaveOneResult → HaveOneReply → (files others : List (List ℕ)) (questions : List QuestionData)
     (m n : ℕ) (o p : Found) → IsAudit files questions m o → IsAudit others questions n p
@@ -113,10 +83,9 @@ pub same_report : ExplorationsHaveOneResult → HaveOneReply → (files others :
     → report_text o shown remarks ≡ report_text p shown remarks
 same_report explored reply files others questions m n o p f g stack none none' shown remarks =
     let same = found_twice explored reply files others questions m n o p f g stack none none' in
-    let regions = same_lines 1 o.settled.regions p.settled.regions same.regions in
     λ j. head (same.stack j) (length (same.questions j)) (same.counts j)
     ++ (question_lines 0 (same.questions j) (same.replies j) remarks
-    ++ ((if shown then regions j else []) ++ totals_line (same.replies j)))
+    ++ ((if shown then region_lines 1 (same.regions j) else []) ++ totals_line (same.replies j)))
 
 -- ---- the same document
 
@@ -139,5 +108,5 @@ pub same_document : ExplorationsHaveOneResult → HaveOneReply → (files others
     → audit_document t e o ≡ audit_document t e p
 same_document explored reply files others questions m n o p f g stack none none' t e =
     let same = found_twice explored reply files others questions m n o p f g stack none none' in
-    let regions = same_documents 1 o.settled.regions p.settled.regions same.regions in
-    λ j. document t e (same.stack j) (same.questions j) (same.replies j) (same.counts j) (regions j)
+    λ j. document t e (same.stack j) (same.questions j) (same.replies j) (same.counts j)
+    (region_documents 1 (same.regions j))

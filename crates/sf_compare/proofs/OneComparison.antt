@@ -10,11 +10,11 @@ use Rattle.sf_run.specs.Replays.{answers_along}
 use Rattle.sf_run.specs.declared.replaying.PartAnswers.{PartAnswers}
 use Rattle.sf_piece.specs.OneExecution.{IsExecutionOne}
 use Rattle.sf_run.specs.declared.counts.Counts.{Counts}
-use Rattle.sf_book.specs.Books.{BookData, counts_of}
-use Rattle.sf_book.specs.Unfoldings.{AreSameRegions, ExplorationsHaveOneResult, IsFringe, IsSameRegion}
+use Rattle.sf_book.specs.Books.{RegionData, BookData, counts_of}
+use Rattle.sf_book.specs.Unfoldings.{ExplorationsHaveOneResult, IsFringe}
 use Rattle.sf_ask.specs.Finding.{FindsMember}
 use Rattle.sf_ask.specs.OneResult.{FindOneThing}
-use Rattle.sf_ask.specs.OneResultLaws.{lawful_pool, same_at, same_counts, same_length}
+use Rattle.sf_ask.specs.OneResultLaws.{lawful_pool, same_counts}
 use Rattle.sf_ask.specs.declared.members.Membership.{Membership}
 use Rattle.sf_ask.specs.declared.members.Membership.TheVariants.{Empty, Member, Doubt}
 use Rattle.sf_json.specs.Documents.{count, counts_document, fields, sizes_document}
@@ -33,29 +33,30 @@ use Rattle.sf_compare.specs.Documents.{change_document, comparison_document}
 -- ---- what is found of one relation
 
 module _ (tree : IsExecutionOne) (find : FindOneThing) (s t : BookData) (old_count : ℕ) (relation : Relation)
-    (stack : s.stack ≡ t.stack) (fringe : IsFringe s) (same : AreSameRegions s.regions t.regions) where
+    (stack : s.stack ≡ t.stack) (fringe : IsFringe s) (same : s.regions ≡ t.regions) where
   same_answers : (place other : ℕ) (m n : Membership) (a : HasFindingAt s old_count relation place m)
-      (b : HasFindingAt t old_count relation other n) → IsSameRegion a.region b.region → a.both ≡ b.both
+      (b : HasFindingAt t old_count relation other n) → a.region ≡ b.region → a.both ≡ b.both
   same_answers place other m n a b r =
       same_Some a.both b.both (sym a.answers
-      ∙ (λ j. answers_along (take old_count (stack j)) (drop old_count (stack j)) (r.name j)) ∙ b.answers)
+      ∙ (λ j. answers_along (take old_count (stack j)) (drop old_count (stack j)) (r j).name) ∙ b.answers)
 
   -- of one region one thing is found
   one_at : (place other : ℕ) (m n : Membership) → place ≡ other → (a : HasFindingAt s old_count relation place m)
       (b : HasFindingAt t old_count relation other n) → (a.both ≡ b.both) × (m ≡ n)
   one_at place other m n here a b =
-      let r = same_at s.regions t.regions place a.region b.region same a.there
-      (subst (λ k. slice_get t.regions k ≡ Some b.region) (sym here) b.there) in
+      let r : a.region ≡ b.region = same_Some a.region b.region
+      (sym a.there ∙ ap (λ (rs : List RegionData). slice_get rs place) same
+      ∙ subst (λ k. slice_get t.regions k ≡ Some b.region) (sym here) b.there) in
       let both = same_answers place other m n a b r in
       (both, by both r a.found b.found)
     where
-      by : a.both ≡ b.both → IsSameRegion a.region b.region
+      by : a.both ≡ b.both → a.region ≡ b.region
           → (AreRelated relation a.both.older a.both.newer × FindsMember a.region.piece m)
           ⊎ ((AreRelated relation a.both.older a.both.newer → ⊥) × (m ≡ Empty))
           → (AreRelated relation b.both.older b.both.newer × FindsMember b.region.piece n)
           ⊎ ((AreRelated relation b.both.older b.both.newer → ⊥) × (n ≡ Empty)) → m ≡ n
-      by both r (inl x) (inl y) = find a.region.piece b.region.piece m n r.piece
-          (lawful_pool tree s fringe place a.region a.there) x.1 y.1
+      by both r (inl x) (inl y) = find a.region.piece m n (lawful_pool tree s fringe place a.region a.there) x.1
+          (subst (λ (z : RegionData). FindsMember z.piece n) (sym r) y.1)
       by both r (inl x) (inr y) =
           absurd (y.0 (subst (λ (p : PartAnswers). AreRelated relation p.older p.newer) both x.0))
       by both r (inr x) (inl y) =
@@ -80,12 +81,12 @@ module _ (tree : IsExecutionOne) (find : FindOneThing) (s t : BookData) (old_cou
   within_first : (place : ℕ) (m : Membership) → HasFindingAt s old_count relation place m → place < length t.regions
   within_first place m a =
       let l = slice_get_within s.regions place a.region a.there in
-      let count = same_length s.regions t.regions same in omega arith
+      let count = ap length same in omega arith
 
   within_second : (place : ℕ) (m : Membership) → HasFindingAt t old_count relation place m → place < length s.regions
   within_second place m b =
       let l = slice_get_within t.regions place b.region b.there in
-      let count = same_length s.regions t.regions same in omega arith
+      let count = ap length same in omega arith
 
   -- no doubt on the one side where nothing is found on the other
   empty_or_doubt : t.outstanding ≡ []

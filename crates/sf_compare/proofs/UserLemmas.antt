@@ -9,7 +9,7 @@ use Rattle.sf_book.specs.Books.{BookData, IsSettled}
 use Rattle.sf_question.specs.declared.actions.ActionSet.{ActionSet}
 use Rattle.sf_question.specs.QuestionData.{QuestionData}
 use Rattle.sf_ask.specs.Breaking.{Breaks}
-use Rattle.sf_policy.specs.Actions.{set_of}
+use Rattle.sf_policy.specs.Actions.{actions_of}
 use Rattle.sf_compare.specs.declared.relation.Relation.TheVariants.{Looser}
 use Rattle.sf_compare.specs.declared.changes.Change.TheVariants.{Never}
 use Rattle.sf_compare.specs.Relations.{IsUpward, reach_of}
@@ -43,4 +43,4 @@ breaks_no_more s old_count q d settled never upward is broken =
     }
 
 abbrev usual : ActionSet
-usual = set_of (codes "ALLOW" ∷ codes "LOG" ∷ [])
+usual = actions_of (codes "ALLOW" ∷ codes "LOG" ∷ [])

@@ -6,7 +6,7 @@ ghost use Rattle.sf_insn.specs.Inputs.{IsInput};
 ghost use Rattle.sf_book.specs.Books.{BookData, IsSettled};
 ghost use Rattle.sf_question.specs.QuestionData.{QuestionData};
 ghost use Rattle.sf_ask.specs.Breaking.{Breaks};
-ghost use Rattle.sf_policy.specs.Actions.{set_of};
+ghost use Rattle.sf_policy.specs.Actions.{actions_of};
 ghost use Rattle.sf_compare.specs.declared.relation.Relation.TheVariants.{Looser};
 ghost use Rattle.sf_compare.specs.declared.changes.Change.TheVariants.{Never};
 ghost use Rattle.sf_names.specs.Names.{NamesData};
@@ -60,5 +60,5 @@ pub fn one_document()
 /// A question that names no actions in a policy asks about ALLOW and LOG. No other action lets a call get as far as
 /// these two, so the question meets the condition of `never_looser_breaks_no_more`.
 pub fn usual_actions_are_upward()
-    ensures { IsUpward (set_of (codes "ALLOW" ∷ codes "LOG" ∷ [])) }
+    ensures { IsUpward (actions_of (codes "ALLOW" ∷ codes "LOG" ∷ [])) }
 {}

@@ -1,5 +1,5 @@
 -- What differs between two stacks, of comparisons that end with nothing outstanding, has one text and one document.
-use Rattle.std.proofs.Common.{◌≡◌, ℕ, zero, suc, ◌<◌, List, [], ◌∷◌, ◌++◌, length, map, take, drop, Option, Some, None, slice_get, get_or, refl, sym, ap, subst, ◌∙◌, inl, inr, arith}
+use Rattle.std.proofs.Common.{◌≡◌, ℕ, ◌<◌, List, [], ◌∷◌, ◌++◌, length, map, take, drop, Option, Some, None, slice_get, get_or, sym, ap, subst, ◌∙◌, inl, inr, arith}
 use Rattle.std.specs.Prelude.{codes, MatchOption, slice_index}
 use Rattle.std.proofs.lemmas.List.{ext_get_or, same_lists}
 use Rattle.std.proofs.lemmas.Option.{same_Some, slice_get-get_or}
@@ -9,7 +9,7 @@ use Rattle.sf_run.specs.declared.action.Action.TheVariants.{KillProcess}
 use Rattle.sf_run.specs.declared.action.Answer.{Answer}
 use Rattle.sf_run.specs.declared.replaying.PartAnswers.{PartAnswers}
 use Rattle.sf_book.specs.Books.{RegionData, BookData, IsSettled}
-use Rattle.sf_book.specs.Unfoldings.{AreSameRegions, ExplorationsHaveOneResult, IsFringe, IsSameRegion}
+use Rattle.sf_book.specs.Unfoldings.{ExplorationsHaveOneResult, IsFringe}
 use Rattle.sf_json.specs.Documents.{with_field}
 use Rattle.sf_names.specs.Names.{NamesData}
 use Rattle.sf_picture.specs.OnePicture.{HaveOnePicture}
@@ -24,46 +24,25 @@ use Rattle.sf_rows.specs.InOrderLaws.{one-in-order}
 use Rattle.sf_rows.specs.Pairs.{AddsChanged, AreChangedOf, ArePairsOf, IsLabelOf, pair_order}
 use Rattle.sf_list.specs.Differences.{DifferencesData, IsComparisonWithRows, IsDrawnOfPairs, ShownData, compared_text, differences_text, shown_rows, shown_words}
 use Rattle.sf_list.specs.Documents.{differences_document, total_if_drawn, pair_document}
-use Rattle.sf_list.proofs.OneListing.{first-is-one}
+use Rattle.sf_list.proofs.OneListing.{first-is-one, region-at}
 
 -- ---- answers
 
--- the same region at a place of both
-record IsAtBoth (rs ss : List RegionData) (place : ℕ) : Type 0 where
-  one : RegionData
-  other : RegionData
-  here : slice_get rs place ≡ Some one
-  there : slice_get ss place ≡ Some other
-  same : IsSameRegion one other
-
-at-both : (rs ss : List RegionData) (place : ℕ) → AreSameRegions rs ss → place < length rs → IsAtBoth rs ss place
-at-both [] ss place h lt = absurd (omega arith)
-at-both (r ∷ rs) [] place h lt = absurd h
-at-both (r ∷ rs) (s ∷ ss) zero h lt = record { one = r; other = s; here = refl; there = refl; same = h.0 }
-at-both (r ∷ rs) (s ∷ ss) (suc place) h lt =
-    let more = at-both rs ss place h.1 (omega arith) in
-    record { one = more.one; other = more.other; here = more.here; there = more.there; same = more.same }
-
-same-count : (rs ss : List RegionData) → AreSameRegions rs ss → length rs ≡ length ss
-same-count [] [] h = refl
-same-count [] (s ∷ ss) h = absurd h
-same-count (r ∷ rs) [] h = absurd h
-same-count (r ∷ rs) (s ∷ ss) h = let rest = same-count rs ss h.1 in omega arith
-
-module _ (s t : BookData) (old_count : ℕ) (stack : s.stack ≡ t.stack) (same : AreSameRegions s.regions t.regions) where
+module _ (s t : BookData) (old_count : ℕ) (stack : s.stack ≡ t.stack) (same : s.regions ≡ t.regions) where
   same-answer : (xs ys : List PartAnswers) (place : ℕ) (a b : PartAnswers) → AreAnswersOfRegions s old_count xs
       → AreAnswersOfRegions t old_count ys → place < length s.regions → slice_get xs place ≡ Some a
       → slice_get ys place ≡ Some b → a ≡ b
   same-answer xs ys place a b f g lt at there =
-      let region = at-both s.regions t.regions place same lt in
-      same_Some a b (sym (f.each place a at region.one region.here).1
-      ∙ (λ j. answers_along (take old_count (stack j)) (drop old_count (stack j)) (region.same.name j))
-      ∙ (g.each place b there region.other region.there).1)
+      let region = region-at s.regions place lt in
+      let also = ap (λ (rs : List RegionData). slice_get rs place) (sym same) ∙ region.1 in
+      same_Some a b (sym (f.each place a at region.0 region.1).1
+      ∙ (λ j. answers_along (take old_count (stack j)) (drop old_count (stack j)) region.0.name)
+      ∙ (g.each place b there region.0 also).1)
 
   same-answers : (xs ys : List PartAnswers) → AreAnswersOfRegions s old_count xs
       → AreAnswersOfRegions t old_count ys → xs ≡ ys
   same-answers xs ys f g =
-      let count = same-count s.regions t.regions same in
+      let count = ap length same in
       same_lists xs ys (f.count ∙ count ∙ sym g.count) (λ k d less.
       same-answer xs ys k (get_or xs k d) (get_or ys k d) f g (let c = f.count in omega arith)
       (slice_get-get_or xs k d less)

@@ -8,8 +8,8 @@ use Rattle.sf_check.specs.declared.insn.Insn.{Insn}
 use Rattle.sf_run.specs.declared.action.Answer.{Answer}
 use Rattle.sf_run.specs.declared.counts.Counts.{Counts}
 use Rattle.sf_book.specs.Books.{RegionData, BookData, IsSettled, counts_of}
-use Rattle.sf_book.specs.Unfoldings.{AreSameRegions, ExplorationsHaveOneResult, IsFringe}
-use Rattle.sf_ask.specs.OneResultLaws.{same_counts, same_length}
+use Rattle.sf_book.specs.Unfoldings.{ExplorationsHaveOneResult, IsFringe}
+use Rattle.sf_ask.specs.OneResultLaws.{same_counts}
 use Rattle.sf_names.specs.Names.{NamesData}
 use Rattle.sf_policy.specs.Texts.{answer_words, counts_line}
 use Rattle.sf_json.specs.Documents.{answer_document, count, counts_document, fields, sizes_document}
@@ -28,29 +28,12 @@ use Rattle.sf_list.specs.Listings.{IsDrawnWith, IsListing, IsListingByRule, List
 
 -- ---- answers and labels
 
-same-answers : (rs ss : List RegionData) → AreSameRegions rs ss
-    → map (λ (r : RegionData). r.answer) rs ≡ map (λ (r : RegionData). r.answer) ss
-same-answers [] [] h = refl
-same-answers [] (s ∷ ss) h = absurd h
-same-answers (r ∷ rs) [] h = absurd h
-same-answers (r ∷ rs) (s ∷ ss) h = λ j. h.0.answer j ∷ same-answers rs ss h.1 j
-
--- two regions at one place, with their answer
-record IsAnswerAt (rs ss : List RegionData) (place : ℕ) : Type 0 where
-  one : RegionData
-  other : RegionData
-  here : slice_get rs place ≡ Some one
-  there : slice_get ss place ≡ Some other
-  same : one.answer ≡ other.answer
-
-answer-at : (rs ss : List RegionData) (place : ℕ) → AreSameRegions rs ss → place < length rs → IsAnswerAt rs ss place
-answer-at [] ss place h lt = absurd (omega arith)
-answer-at (r ∷ rs) [] place h lt = absurd h
-answer-at (r ∷ rs) (s ∷ ss) zero h lt =
-    record { one = r; other = s; here = refl; there = refl; same = h.0.answer }
-answer-at (r ∷ rs) (s ∷ ss) (suc place) h lt =
-    let more = answer-at rs ss place h.1 (omega arith) in
-    record { one = more.one; other = more.other; here = more.here; there = more.there; same = more.same }
+-- the region at a place
+pub region-at : (rs : List RegionData) (place : ℕ) → place < length rs → (r : RegionData)
+    × (slice_get rs place ≡ Some r)
+region-at [] place lt = absurd (omega arith)
+region-at (r ∷ rs) zero lt = (r, refl)
+region-at (r ∷ rs) (suc place) lt = region-at rs place (omega arith)
 
 -- the first place of an element is one
 pub first-is-one : {X : Type 0} (xs : List X) (x : X) (m n : ℕ) → slice_get xs m ≡ Some x → slice_get xs n ≡ Some x
@@ -63,29 +46,28 @@ first-is-one xs x m n at there first early = elim (cases_lt m n) [
   ]
 ]
 
-module _ (s t : BookData) (answers : List Answer) (same : AreSameRegions s.regions t.regions) where
+module _ (s t : BookData) (answers : List Answer) (same : s.regions ≡ t.regions) where
   same-label : (labels others : List ℕ) (place : ℕ) → place < length s.regions → TellAnswers s answers labels
       → AreFirstPlaces s answers labels → TellAnswers t answers others → AreFirstPlaces t answers others
       → slice_index labels place ≡ slice_index others place
   same-label labels others place lt tell first also early =
-      let a = answer-at s.regions t.regions place same lt in
-      first-is-one answers a.one.answer (slice_index labels place) (slice_index others place)
-      (tell.each place a.one a.here) (also.each place a.other a.there ∙ ap (λ (x : Answer). Some x) (sym a.same))
-      (first.first place a.one a.here)
-      (λ k less is. early.first place a.other a.there k less (is ∙ ap (λ (x : Answer). Some x) a.same))
+      let a = region-at s.regions place lt in
+      let there = ap (λ (rs : List RegionData). slice_get rs place) (sym same) ∙ a.1 in
+      first-is-one answers a.0.answer (slice_index labels place) (slice_index others place) (tell.each place a.0 a.1)
+      (also.each place a.0 there) (first.first place a.0 a.1) (early.first place a.0 there)
 
   same-labels : (leaves : ℕ) (p q : PictureData) (f : IsDrawnWith s answers leaves p)
       (g : IsDrawnWith t answers leaves q)
       → f.labels ≡ g.labels
   same-labels leaves p q f g =
-      let count = same_length s.regions t.regions same in
+      let count = ap length same in
       ext_get_or 0 f.labels g.labels (f.count ∙ count ∙ sym g.count)
       (λ i l. same-label f.labels g.labels i (let c = f.count in omega arith) f.tell f.first g.tell g.first)
 
 -- the pictures are one
 same-picture : HaveOnePicture → (s t : BookData) (answers : List Answer) (leaves : ℕ) → IsSettled s → IsSettled t
     → IsFringe s → IsFringe t → s.stack ≡ t.stack → s.outstanding ≡ [] → t.outstanding ≡ []
-    → AreSameRegions s.regions t.regions → (x y : Option PictureData)
+    → s.regions ≡ t.regions → (x y : Option PictureData)
     → MatchOption x (0 < length s.outstanding) (IsDrawnWith s answers leaves)
     → MatchOption y (0 < length t.outstanding) (IsDrawnWith t answers leaves) → x ≡ y
 same-picture drawn s t answers leaves lawful also fringe edge stack none none' same None y f g =
@@ -112,8 +94,8 @@ listed-twice : ExplorationsHaveOneResult → HaveOnePicture → (files others : 
 listed-twice explored drawn files others m n leaves o p f g h k stack none none' =
     let one = explored o.settled p.settled f.end.settled g.end.settled f.end.fringe g.end.fringe stack none none' in
     let answers = one-in-order answer_order (map (λ (r : RegionData). r.answer) p.settled.regions) o.answers p.answers
-    (subst (λ l. IsInOrder answer_order l o.answers) (same-answers o.settled.regions p.settled.regions one.regions)
-    h.answers) k.answers in
+    (subst (λ l. IsInOrder answer_order l o.answers) (ap (map (λ (r : RegionData). r.answer)) one.regions) h.answers)
+    k.answers in
     record {
       stack = stack;
       counts = same_counts o.settled p.settled one none none';

@@ -1,6 +1,7 @@
 -- The places that are left where filters are dropped.
 use Rattle.std.proofs.lemmas.Grind.{common_steps}
-use Rattle.std.proofs.Common.{◌≡◌, ◌≢◌, ◌∙◌, ◌⊎◌, ℕ, zero, suc, ◌+◌, ◌<◌, ◌≤◌, ◌++◌, List, [], ◌∷◌, All, length, take, drop, slice_get, Some, ap, refl, subst, inl, inr, arith}
+use Rattle.std.proofs.Common.{◌≡◌, ◌≢◌, ◌∙◌, ◌⊎◌, ℕ, zero, suc, ◌+◌, ◌<◌, ◌≤◌, ◌++◌, List, [], ◌∷◌, All, length, take, drop, slice_get, Some, ap, refl, sym, subst, inl, inr, arith}
+use Rattle.std.proofs.lemmas.Bool.{cases_eq, cases_lt}
 use Rattle.std.specs.Prelude.{AllPairs}
 use Rattle.std.specs.List.{range_with_len}
 use Rattle.std.proofs.lemmas.Option.{same_Some}
@@ -122,3 +123,31 @@ WasTried next tried count place = ((place < next) × (next ≤ place + tried)) �
 pub none_tried : (next count place : ℕ) → place < count → WasTried next 0 count place → ⊥
 none_tried next count place within (inl (before, behind)) = omega arith
 none_tried next count place within (inr round) = omega arith
+
+-- where one more was tried and not dropped, all that were tried are of a kind, where the ones before are, and this one
+pub one_tried : (kind : ℕ → Type 0) (next tried count now : ℕ)
+    → ((now ≡ next) × (next < count)) ⊎ ((now ≡ 0) × (next ≡ count))
+    → ((place : ℕ) → place < count → WasTried next tried count place → kind place) → kind now → (place : ℕ)
+    → place < count → WasTried (now + 1) (tried + 1) count place → kind place
+one_tried kind next tried count now at before here place within w = elim (cases_eq place now) [
+  | inl e ↦ subst kind (sym e) here
+  | inr ne ↦ before place within (by at w ne)
+]
+  where
+    by : ((now ≡ next) × (next < count)) ⊎ ((now ≡ 0) × (next ≡ count)) → WasTried (now + 1) (tried + 1) count place
+        → place ≢ now → WasTried next tried count place
+    by (inl at) (inl w) ne = elim (cases_lt place now) [
+      | inl less ↦ inl (omega (arith, at.0, w.1, less), omega (arith, at.0, w.1))
+      | inr more ↦ absurd (ne (omega (arith, w.0, more)))
+    ]
+    by (inl at) (inr w) ne = inr (omega (arith, at.0, w))
+    by (inr at) (inl w) ne = absurd (ne (omega (arith, at.0, w.0)))
+    by (inr at) (inr w) ne = inl (omega (arith, at.1, within), omega (arith, at.0, at.1, w))
+
+-- where as many were tried as there are, all were
+pub all_tried : (next tried count place : ℕ) → next ≤ count → count ≤ tried → place < count
+    → WasTried next tried count place
+all_tried next tried count place near many within = elim (cases_lt place next) [
+  | inl less ↦ inl (less, omega arith)
+  | inr more ↦ inr (omega arith)
+]

@@ -18,7 +18,7 @@ use Rattle.sf_question.specs.declared.actions.ActionSet.{ActionSet}
 use Rattle.sf_policy.specs.declared.policy.Version.{Version}
 use Rattle.sf_policy.specs.Keys.{has_only, question_keys, word_keys}
 use Rattle.sf_policy.specs.Trees.{each_of, text_at}
-use Rattle.sf_policy.specs.Actions.{is_action, are_actions, is_text_among, set_of, names_at}
+use Rattle.sf_policy.specs.Actions.{is_action, are_actions, is_text_among, actions_of, names_at}
 use Rattle.sf_policy.specs.Encoding.{no_actions, ranges_and_masks, encoded_set, numbered_fault, with_number, question_of_parts}
 use Rattle.sf_policy.specs.Policies.{Entry, question_entry_of_parts, question_of_entry, question_where_read, question_of_table}
 
@@ -58,7 +58,7 @@ some_of_nine : (a b c d e f g h i a' b' c' d' e' f' g' h' i' : Bool)
     (i || i')) ≡ false
 some_of_nine a b c d e f g h i a' b' c' d' e' f' g' h' i' some = search (arith, one_more)
 
-some_action : (texts : List (List ℕ)) → are_actions texts ≡ true → is_no_action (set_of texts) ≡ false
+some_action : (texts : List (List ℕ)) → are_actions texts ≡ true → is_no_action (actions_of texts) ≡ false
 some_action [] h = cc
 some_action (text ∷ texts) h =
     let is = λ (name : List ℕ). bytes_eq text name in
@@ -117,9 +117,9 @@ entry_due_where number true e h =
     same_test number ask.Mask (list_all has_mask e.words) (list_all is_inside_mask (map mask_of e.words)) _ _
     (list_all-map is_inside_mask mask_of e.words) (λ masked.
     same_actions number (are_actions e.actions) (is_no_action (encoded_set e.actions)) _ _
-    (empty_or_not (are_actions e.actions) (set_of e.actions) (some_action e.actions))
+    (empty_or_not (are_actions e.actions) (actions_of e.actions) (some_action e.actions))
     (λ some. asked e.name (map range_of e.words) (map mask_of e.words) _ _
-    (set_same (are_actions e.actions) (set_of e.actions) some)))))
+    (set_same (are_actions e.actions) (actions_of e.actions) some)))))
 entry_due_where number false e h =
     outside_due number (is_name e.name) (list_all has_range e.words) _ (no_range e.words h)
 

@@ -26,8 +26,8 @@ abbrev pub is_text_among : List (List ℕ) → List ℕ → Bool
 is_text_among texts name = list_any (λ text. bytes_eq text name) texts
 
 -- the set of the actions that are named; it doesn't matter how often
-abbrev pub set_of : List (List ℕ) → ActionSet
-set_of texts = record {
+abbrev pub actions_of : List (List ℕ) → ActionSet
+actions_of texts = record {
   kill_process = is_text_among texts (codes "KILL_PROCESS");
   kill_thread = is_text_among texts (codes "KILL_THREAD");
   trap = is_text_among texts (codes "TRAP");

@@ -11,7 +11,7 @@ use Rattle.sf_question.specs.declared.actions.ActionSet.{ActionSet}
 use Rattle.sf_question.specs.QuestionData.{QuestionData}
 use Rattle.sf_question.specs.Questions.{is_name, question_of}
 use Rattle.sf_policy.specs.declared.policy.words.WordEntry.{WordEntry}
-use Rattle.sf_policy.specs.Actions.{are_actions, set_of}
+use Rattle.sf_policy.specs.Actions.{are_actions, actions_of}
 use Rattle.sf_policy.specs.Words.{has_words, range_of, mask_of}
 
 -- the range and the mask of an entry, where all its numbers are of 32 bits
@@ -38,7 +38,7 @@ no_actions = record {
 
 -- the set that is handed in, empty where one of the texts names no action
 abbrev pub encoded_set : List (List ℕ) → ActionSet
-encoded_set texts = if are_actions texts then set_of texts else no_actions
+encoded_set texts = if are_actions texts then actions_of texts else no_actions
 
 -- the text of a value, empty where it is none
 abbrev pub text_or_empty : Data → List ℕ

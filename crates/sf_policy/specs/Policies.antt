@@ -12,7 +12,7 @@ use Rattle.sf_policy.specs.declared.policy.words.WordEntry.{WordEntry}
 use Rattle.sf_policy.specs.Keys.{word_keys, question_keys, top_keys, has_only}
 use Rattle.sf_policy.specs.Trees.{each_of, tables_of, number_at, text_at}
 use Rattle.sf_policy.specs.Words.{entry_at, has_range, has_mask, range_of, mask_of}
-use Rattle.sf_policy.specs.Actions.{names_at, are_actions, set_of}
+use Rattle.sf_policy.specs.Actions.{names_at, are_actions, actions_of}
 
 -- what the table of a question says, each value of its kind
 pub record Entry : Type 0 where
@@ -46,7 +46,7 @@ question_of_entry number e =
       name = e.name;
       ranges = map range_of e.words;
       masks = map mask_of e.words;
-      actions = set_of e.actions;
+      actions = actions_of e.actions;
     })
 
 -- the question of an entry that was read; one that could not be read has a wrong key
