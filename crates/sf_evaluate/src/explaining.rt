@@ -14,21 +14,20 @@ ghost use Rattle.clap.specs.Words.{subcommand_rows_of};
 ghost use Rattle.sf_policy.specs.Faults.{without_place};
 ghost use Rattle.sf_command_line.specs.Options.{IsUnasked};
 
-use crate::fault::Fault as RunFault;
 use crate::words::is_given;
 use clap::ArgMatches;
 use hints::{
-    Hint, hint_of_filter, hint_of_input, hint_of_names, hint_of_policy, hint_of_profile,
-    hint_of_unknown, hint_of_unread,
+    Hint, hint_of_filter, hint_of_input, hint_of_names, hint_of_policy, hint_of_read,
+    hint_of_unknown,
 };
 pub(crate) use kinds::bytes_of_text;
 use kinds::{Kind, kind_of};
-use meanings::{meaning_of, meaning_of_refusal};
+use meanings::{meaning_of, meaning_of_syntax};
 pub(crate) use places::lines_of_questions;
 use places::position_of;
 use policies::Page;
 pub(crate) use refusals::OtherSet;
-use refusals::push_profile;
+use refusals::refusal_text;
 pub(crate) use roles::Which;
 use roles::{Role, count_before_filters, count_of, file_at, filter_path, which_policy};
 use sf_calls::{read_arguments, read_word};
@@ -170,7 +169,7 @@ impl Notes {
         &mut self,
         alloc: Global,
         matches: &ArgMatches<'_>,
-        ran: &Result<u8, RunFault>,
+        ran: &Result<u8, crate::Fault>,
         explains: bool,
         reason: &str,
     )
@@ -181,7 +180,7 @@ impl Notes {
             × (self.new.refusal ≡ self.old.refusal) × (self.new.files ≡ self.old.files) }
     {
         if let Err(fault) = ran {
-            if let (RunFault::Other(other), Some((_, found))) = (fault, matches.subcommand()) {
+            if let (crate::Fault::Other(other), Some((_, found))) = (fault, matches.subcommand()) {
                 self.which = which_policy(found, other, self.files);
             }
             self.explanation = explanation(alloc, matches, fault, self, explains, reason);
@@ -397,21 +396,6 @@ fn push_place(
     }
 }
 
-/// The hint for a file that can't be read: what kind of file is wanted. `place` is the file's, from 0, among all files
-/// that are read, and `reason` says why the file can't be read. `None` for a filter or a profile, where no file is at
-/// the place, and where `hint_of_unread` gives `None`.
-fn hint_of_read(found: &ArgMatches<'_>, place: usize, reason: &str) -> Option<Hint> {
-    let (role, path) = file_at(found, place)?;
-    let ready = match role {
-        Role::Names => "a file of names is wanted, as policies/names/x86_64.toml is one",
-        Role::Policy => "a policy file is wanted, as policies/x86_64.toml is one",
-        Role::Control => "a policy file is wanted, whose questions must be allowed",
-        Role::Accept => "a file is wanted with the name of a question on each line",
-        Role::Filter | Role::Profile => return None,
-    };
-    hint_of_unread(path, reason, ready)
-}
-
 /// The hint at what may have been meant by what is refused with this fault; `None` where that isn't known. `reason` is
 /// why a file can't be read. An error only where an allocation is refused.
 fn hint_of(
@@ -439,37 +423,6 @@ fn hint_of(
         }
         _ => Ok(None),
     }
-}
-
-/// What the fault `Syntax` means for a file that was read in this role. `Syntax` never comes for a filter or a profile,
-/// which get the words for a policy here.
-fn meaning_of_syntax(role: Role) -> &'static str {
-    match role {
-        Role::Names => "the file of names is no UTF-8 or no TOML",
-        Role::Accept => "the file of questions that may be allowed is no UTF-8",
-        Role::Policy | Role::Control | Role::Filter | Role::Profile => meaning_of(&Fault::Syntax),
-    }
-}
-
-/// The lines that explain why a profile is refused: the set of names or the key at fault, what the fault means, and a
-/// hint where the profile itself is refused, if there is one. An error only where an allocation is refused, or was
-/// refused before, so that the notes lack the set or the key.
-fn refusal_text(
-    alloc: Global,
-    found: &ArgMatches<'_>,
-    refusal: sf_profile::Fault,
-    notes: &Notes,
-) -> Result<String, AllocError> {
-    let mut text = String::new(alloc);
-    push_profile(&mut text, found, notes)?;
-    let meaning = meaning_of_refusal(refusal);
-    write!(text, "{meaning}\n")?;
-    if matches!(&notes.other, Ok(None)) {
-        if let Some(hint) = hint_of_profile(notes.kind_at(notes.files.saturating_sub(1))) {
-            hint.push(&mut text)?;
-        }
-    }
-    Ok(text)
 }
 
 /// The lines that explain a fault: where it lies, what it means, and a hint where there is one. `reason` is why a file
@@ -501,7 +454,7 @@ fn fault_text(
 fn explanation(
     alloc: Global,
     matches: &ArgMatches<'_>,
-    fault: &RunFault,
+    fault: &crate::Fault,
     notes: &Notes,
     explains: bool,
     reason: &str,
@@ -514,7 +467,7 @@ fn explanation(
         return None;
     }
     match fault {
-        RunFault::Profile(refusal) => refusal_text(alloc, found, *refusal, notes).ok(),
-        RunFault::Other(other) => fault_text(alloc, found, other, notes, reason).ok(),
+        crate::Fault::Profile(refusal) => refusal_text(alloc, found, *refusal, notes).ok(),
+        crate::Fault::Other(other) => fault_text(alloc, found, other, notes, reason).ok(),
     }
 }

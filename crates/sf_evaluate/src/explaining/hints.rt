@@ -1,6 +1,8 @@
 //! What may have been meant by something that is refused. No contract speaks of it.
 
 use super::kinds::Kind;
+use super::roles::{Role, file_at};
+use clap::ArgMatches;
 use sf_policy::{Fault, Refusal, WORD_KEYS};
 use std::alloc::{AllocError, Global};
 use toml::Value;
@@ -122,11 +124,26 @@ pub(crate) fn hint_of_profile(kind: Kind) -> Option<Hint> {
 /// The hint for a file that can't be read: the sentence `ready`, which says what file is wanted. It is given where
 /// `path` has no `/`, since a name may have been given in place of a path. It is also given where `reason`, the
 /// system's words, says that the path is that of a folder. Else `None`.
-pub(crate) fn hint_of_unread(path: &str, reason: &str, ready: &'static str) -> Option<Hint> {
+fn hint_of_unread(path: &str, reason: &str, ready: &'static str) -> Option<Hint> {
     if path.contains('/') && !reason.starts_with("Is a directory") {
         return None;
     }
     Some(Hint::Sentence(ready))
+}
+
+/// The hint for a file that can't be read: what kind of file is wanted. `place` is the file's, from 0, among all files
+/// that are read, and `reason` says why the file can't be read. `None` for a filter or a profile, where no file is at
+/// the place, and where `hint_of_unread` gives `None`.
+pub(crate) fn hint_of_read(found: &ArgMatches<'_>, place: usize, reason: &str) -> Option<Hint> {
+    let (role, path) = file_at(found, place)?;
+    let ready = match role {
+        Role::Names => "a file of names is wanted, as policies/names/x86_64.toml is one",
+        Role::Policy => "a policy file is wanted, as policies/x86_64.toml is one",
+        Role::Control => "a policy file is wanted, whose questions must be allowed",
+        Role::Accept => "a file is wanted with the name of a question on each line",
+        Role::Filter | Role::Profile => return None,
+    };
+    hint_of_unread(path, reason, ready)
 }
 
 /// The hint for a file of this kind that is refused as a policy. `None` where the file seems to be a policy, for a text

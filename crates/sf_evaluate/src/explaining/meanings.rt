@@ -1,5 +1,6 @@
 //! What a fault means, in words for a person.
 
+use super::roles::Role;
 use sf_policy::Fault;
 
 /// What a fault means, without the end of a line. Faults that share a number may have different words.
@@ -43,6 +44,16 @@ pub(crate) fn meaning_of(fault: &Fault) -> &'static str {
         Fault::Read => "a file can't be read, or has more than 1 MiB",
         Fault::Write => "standard output can't be written, or a signal interrupted that",
         Fault::Memory => "memory ran out",
+    }
+}
+
+/// What the fault `Syntax` means for a file that was read in this role. `Syntax` never comes for a filter or a profile,
+/// which get the words for a policy here.
+pub(crate) fn meaning_of_syntax(role: Role) -> &'static str {
+    match role {
+        Role::Names => "the file of names is no UTF-8 or no TOML",
+        Role::Accept => "the file of questions that may be allowed is no UTF-8",
+        Role::Policy | Role::Control | Role::Filter | Role::Profile => meaning_of(&Fault::Syntax),
     }
 }
 

@@ -1,9 +1,11 @@
 //! What is said of a profile that is refused, or of a set of calls for which `profile` is refused.
 
-use crate::explaining::Notes;
+use super::Notes;
+use super::hints::hint_of_profile;
+use super::meanings::meaning_of_refusal;
 use clap::ArgMatches;
 use sf_command_line::text_of;
-use std::alloc::AllocError;
+use std::alloc::{AllocError, Global};
 
 /// A set of calls of a file of names that is none of the five of `CallSet`.
 #[derive(Drop)]
@@ -60,7 +62,7 @@ fn push_refused_profile(
 
 /// Adds the lines of what `profile` refuses: of the set of calls that the notes have as `other`, or else of the
 /// profile. An error where there was no memory to keep which set or key it is, or an allocation is refused.
-pub(crate) fn push_profile(
+fn push_profile(
     text: &mut String,
     found: &ArgMatches<'_>,
     notes: &Notes,
@@ -70,4 +72,25 @@ pub(crate) fn push_profile(
         Ok(None) => push_refused_profile(text, found, notes),
         Err(_) => Err(AllocError),
     }
+}
+
+/// The lines that explain why a profile is refused: the set of names or the key at fault, what the fault means, and a
+/// hint where the profile itself is refused, if there is one. An error only where an allocation is refused, or was
+/// refused before, so that the notes lack the set or the key.
+pub(crate) fn refusal_text(
+    alloc: Global,
+    found: &ArgMatches<'_>,
+    refusal: sf_profile::Fault,
+    notes: &Notes,
+) -> Result<String, AllocError> {
+    let mut text = String::new(alloc);
+    push_profile(&mut text, found, notes)?;
+    let meaning = meaning_of_refusal(refusal);
+    write!(text, "{meaning}\n")?;
+    if matches!(&notes.other, Ok(None)) {
+        if let Some(hint) = hint_of_profile(notes.kind_at(notes.files.saturating_sub(1))) {
+            hint.push(&mut text)?;
+        }
+    }
+    Ok(text)
 }
