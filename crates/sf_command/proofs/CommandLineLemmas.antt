@@ -8,7 +8,8 @@ use Rattle.sf_command_line.specs.CommandLine.{IsKnown, errors_at, subcommand_at}
 use Rattle.sf_command_line.specs.SubcommandLaws.{known_subcommand}
 use Rattle.sf_evaluate.specs.declared.fault.Fault.{Fault}
 use Rattle.sf_evaluate.specs.Profiles.{profile_words_fit}
-use Rattle.sf_command.specs.Runs.{HasWrongWord, Helps, IsHelp, RefusesAs, RefusesWords, RunsAs, WritesText, words_fit_for}
+use Rattle.sf_command.specs.Runs.{HasWrongWord, Helps, IsHelp, RefusesAs, RefusesWords, WritesText, words_fit_for}
+use Rattle.sf_command.specs.Subcommands.{RunsAs}
 
 -- an answer to a call for help or for the version is what the words ask for
 pub helps : (words : List Text) (e : Error) (status : ℕ) (old new : Option Text) → HasKind (errors_at words) e

@@ -5,7 +5,7 @@ use Rattle.sf_policy.specs.declared.fault.Fault.TheVariants.{Input as InputFault
 use Rattle.sf_names.specs.Names.{NamesData}
 use Rattle.sf_evaluate.specs.Asking.{LacksName, numbers_fit}
 use Rattle.clap.specs.Words.{Row, Text}
-use Rattle.sf_command.specs.Runs.{AreNamed, OnCalls, RefusesEval}
+use Rattle.sf_command.specs.Subcommands.{AreNamed, OnCalls, RefusesEval}
 use Rattle.sf_evaluate.specs.Wanted.{are_known, calls_asked}
 
 -- where no input is asked for, though it is spelled, a name is unknown

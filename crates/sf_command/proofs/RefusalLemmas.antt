@@ -1,7 +1,7 @@
 -- Why what is done with files is refused.
 use Rattle.std.proofs.Common.{◌≡◌, ◌⊎◌, inl, inr, ℕ, List, Option, Bor}
 use Rattle.sf_policy.specs.declared.fault.Fault.{Fault}
-use Rattle.sf_policy.specs.declared.fault.Fault.TheVariants.{Memory, Read}
+use Rattle.sf_policy.specs.declared.fault.Fault.TheVariants.{Memory, Read, Write}
 use Rattle.sf_policy.specs.Filters.{IsFirstRefusal}
 use Rattle.sf_command.specs.Audits.{AskedData, IsAskedBy, IsRefusedFor, ReadData, RefusesAudit}
 use Rattle.sf_command.specs.Comparisons.{AreBothRead, RefusesComparison}
@@ -54,3 +54,20 @@ needs_why holds paths kept budget e all (inr (inl first)) =
     inr (inr (inr (all.files, all.read, inl (kept_refusal holds paths kept all e first))))
 needs_why holds paths kept budget e all (inr (inr later)) =
     inr (inr (inr (kept, kept_stack holds paths kept all later.programs later.spelled, inr later)))
+
+-- where a listing isn't written, it is refused
+pub unwritten_listing : (holds : List ℕ → Option (List ℕ)) (paths : List (Bor (List ℕ))) (same : Type 0) (e : Fault)
+    → (e ≡ Write) ⊎ ((e ≡ Memory) × same) → RefusesListing holds paths e
+unwritten_listing holds paths same e (inl write) = inr (inl write)
+unwritten_listing holds paths same e (inr memory) = inr (inr (inl memory.0))
+
+-- where a report isn't written, the audit is refused
+pub unwritten_audit : (holds : List ℕ → Option (List ℕ)) (asked : AskedData) (paths : List (Bor (List ℕ)))
+    (same : Type 0) (e : Fault) → (e ≡ Write) ⊎ ((e ≡ Memory) × same) → RefusesAudit holds asked paths e
+unwritten_audit holds asked paths same e (inl write) = inl write
+unwritten_audit holds asked paths same e (inr memory) = inr (inl memory.0)
+
+-- nothing is written where memory failed
+pub quiet_by : (same : Type 0) (e : Fault) → (e ≡ Write) ⊎ ((e ≡ Memory) × same) → (e ≡ Write) ⊎ same
+quiet_by same e (inl write) = inl write
+quiet_by same e (inr memory) = inr memory.1

@@ -3,4 +3,5 @@ pub mod Audits
 pub mod Comparisons
 pub mod Listings
 pub mod Needs
+pub mod Subcommands
 pub mod Runs

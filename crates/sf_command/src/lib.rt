@@ -9,6 +9,7 @@ mod listing;
 mod means;
 mod needing;
 mod status;
+mod subcommands;
 mod usage;
 mod watching;
 

@@ -5,7 +5,7 @@ use Rattle.sf_command_line.specs.OptionsLaws.{paths_found}
 use Rattle.sf_command.proofs.CommandLineLemmas.{without_third}
 use Rattle.sf_command.proofs.NamingLemmas.{asked_why}
 use Rattle.sf_evaluate.specs.FilesLaws.{handed_on}
-use Rattle.sf_command.proofs.dispatch.run_eval.Goals as goal
+use Rattle.sf_command.proofs.subcommands.run_eval.Goals as goal
 
 pub returns-clause-done : goal.returns-clause-done
 returns-clause-done g c = record {

@@ -2,7 +2,7 @@ use Rattle.std.proofs.Common.{codes, refl}
 use Rattle.std.proofs.lemmas.Result.{IfErr-weaker, IfOk-weaker}
 use Rattle.clap.specs.Words.{found_of}
 use Rattle.sf_command_line.specs.OptionsLaws.{paths_found}
-use Rattle.sf_command.proofs.dispatch.run_needed.Goals as goal
+use Rattle.sf_command.proofs.subcommands.run_needed.Goals as goal
 
 pub returns-clause-done : goal.returns-clause-done
 returns-clause-done g c = IfOk-weaker c.needed.result _ _ (λ s written. record {

@@ -3,7 +3,7 @@ use Rattle.std.proofs.Common.{arith}
 use Rattle.sf_command_line.specs.OptionsLaws.{paths_found}
 use Rattle.sf_command.proofs.CommandLineLemmas.{without_third}
 use Rattle.sf_evaluate.specs.FilesLaws.{handed_on}
-use Rattle.sf_command.proofs.dispatch.run_check.Goals as goal
+use Rattle.sf_command.proofs.subcommands.run_check.Goals as goal
 
 pub returns-clause-done : goal.returns-clause-done
 returns-clause-done g c = grind (arith, common_steps, paths_found)

@@ -1,6 +1,6 @@
 use Rattle.std.proofs.Common.{inl, inr, refl}
 use Rattle.std.proofs.lemmas.Result.{IfErr-weaker, IfOk-weaker}
-use Rattle.sf_command.proofs.dispatch.run_on_stack.Goals as goal
+use Rattle.sf_command.proofs.subcommands.run_on_stack.Goals as goal
 
 pub returns-in-audit-clause-done : goal.returns-in-audit-clause-done
 returns-in-audit-clause-done g c = IfOk-weaker c.run_audit.result _ _

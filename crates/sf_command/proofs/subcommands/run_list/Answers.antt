@@ -5,7 +5,7 @@ use Rattle.clap.specs.Words.{found_of}
 use Rattle.sf_command_line.specs.OptionsLaws.{paths_found}
 use Rattle.sf_command.proofs.NamingLemmas.{calls_refused}
 use Rattle.sf_evaluate.specs.FilesLaws.{handed_on}
-use Rattle.sf_command.proofs.dispatch.run_list.Goals as goal
+use Rattle.sf_command.proofs.subcommands.run_list.Goals as goal
 
 pub returns-clause-done : goal.returns-clause-done
 returns-clause-done g c = IfOk-weaker c.list.result _ _ (λ s written. record {

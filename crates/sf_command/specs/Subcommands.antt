@@ -1,0 +1,231 @@
+-- What each subcommand does, by the values of its arguments, and why it is refused.
+use Rattle.std.specs.Prelude.{◌≡◌, ◌⊎◌, ℕ, Bool, true, false, if◌then◌else◌, List, Option, Some, codes, option_map}
+use Rattle.std.specs.Str.{bytes_eq}
+use Rattle.std.specs.Borrow.{Bor}
+use Rattle.clap.specs.Words.{Row, Text, first_of, one_of}
+use Rattle.sf_insn.specs.declared.input.Input.{Input}
+use Rattle.sf_names.specs.Names.{NamesData}
+use Rattle.sf_policy.specs.declared.fault.Fault.{Fault}
+use Rattle.sf_policy.specs.declared.fault.Fault.TheVariants.{Input as InputFault, UnknownName}
+use Rattle.sf_compare.specs.declared.relation.Relation.{Relation}
+use Rattle.sf_compare.specs.declared.relation.Relation.TheVariants.{Looser, Tighter, Different}
+use Rattle.sf_command_line.specs.Options.{ArePaths, IsOptionNumber, IsSwitch}
+use Rattle.sf_command.specs.Audits.{AskedData, AuditsFiles, RefusesAudit}
+use Rattle.sf_command.specs.Comparisons.{ComparesFiles, RefusesComparison}
+use Rattle.sf_command.specs.Listings.{ListsFiles, RefusesListing}
+use Rattle.sf_command.specs.Needs.{RefusesNeeds, TellsNeeds}
+use Rattle.sf_evaluate.specs.Names.{AreNamesRead, RefusesNaming}
+use Rattle.sf_evaluate.specs.Outputs.{AnswersFiles, ChecksFiles, RefusesCheck}
+use Rattle.sf_evaluate.specs.Asking.{AsksInput, LacksName, numbers_fit}
+use Rattle.sf_evaluate.specs.Profiles.{WritesProfile}
+use Rattle.sf_evaluate.specs.Wanted.{are_known, calls_asked}
+use Rattle.sf_list.specs.Differences.{ShownData}
+
+-- the relation that a status is about: `Different` where the switch is given, and else `Looser`
+abbrev pub IsAskedRelation : Option Text → Relation → Type 0
+IsAskedRelation text asked =
+    (text ≡ Some (codes "true") → asked ≡ Different) × (text ≡ Some (codes "false") → asked ≡ Looser)
+
+-- a relation of answers, by its word
+abbrev pub relation_named : Text → Relation
+relation_named word =
+    if bytes_eq word (codes "looser") then Looser
+    else if bytes_eq word (codes "tighter") then Tighter
+    else Different
+
+-- the relation that the rows of a comparison are asked for by; none where all rows are shown
+abbrev pub relation_of_rows : Option Text → Option Relation
+relation_of_rows text = option_map relation_named text
+
+-- what is shown of the rows of a comparison
+abbrev pub shown_by : List Row → ShownData
+shown_by rows = record { only = relation_of_rows (first_of (codes "only") rows); calls = calls_asked rows }
+
+-- the files of names that are named have these names
+pub record AreNamed (holds : Text → Option Text) (rows : List Row) (names : List NamesData) : Type 0 where
+  pub paths : List (Bor Text)
+  pub named : ArePaths (codes "names") rows paths
+  pub read : AreNamesRead holds paths names
+
+-- these are the files by which an audit is asked
+pub record IsAskedFor (rows : List Row) (asked : AskedData) : Type 0 where
+  pub policies : ArePaths (codes "policy") rows asked.policies
+  pub control : asked.control ≡ first_of (codes "control") rows
+  pub accept : asked.accept ≡ first_of (codes "accept") rows
+
+module _ (holds : Text → Option Text) (rows : List Row) (status : ℕ) (old new : Option Text) where
+  -- the files that are named were audited by the files that ask
+  pub record Audits : Type 0 where
+    pub paths : List (Bor Text)
+    pub named : ArePaths (codes "filters") rows paths
+    pub budget : ℕ
+    pub counted : IsOptionNumber (one_of (codes "budget") rows) 1000000 100000 budget
+    pub regions : Bool
+    pub listed : IsSwitch (one_of (codes "regions") rows) regions
+    pub why : Bool
+    pub explained : IsSwitch (one_of (codes "why") rows) why
+    pub json : Bool
+    pub in_json : IsSwitch (one_of (codes "json") rows) json
+    pub names : List NamesData
+    pub called : AreNamed holds rows names
+    pub asked : AskedData
+    pub asked_for : IsAskedFor rows asked
+    pub audited : AuditsFiles holds asked paths names budget regions why json status old new
+
+  -- the files that are named were checked
+  pub record Checks : Type 0 where
+    pub paths : List (Bor Text)
+    pub named : ArePaths (codes "filters") rows paths
+    pub with_instructions : Bool
+    pub listed : IsSwitch (one_of (codes "instructions") rows) with_instructions
+    pub json : Bool
+    pub in_json : IsSwitch (one_of (codes "json") rows) json
+    pub checked : ChecksFiles with_instructions json holds paths old new
+    pub status_is : status ≡ 0
+
+  -- the input that is asked for was evaluated by the files that are named
+  pub record Evaluates : Type 0 where
+    pub paths : List (Bor Text)
+    pub named : ArePaths (codes "filters") rows paths
+    pub traced : Bool
+    pub in_full : IsSwitch (one_of (codes "trace") rows) traced
+    pub brief : Bool
+    pub in_brief : IsSwitch (one_of (codes "trace-true") rows) brief
+    pub json : Bool
+    pub in_json : IsSwitch (one_of (codes "json") rows) json
+    pub names : List NamesData
+    pub called : AreNamed holds rows names
+    pub input : Input
+    pub asked : AsksInput rows names input
+    pub evaluated : AnswersFiles input (record { traced = traced; brief = brief; json = json }) holds
+        paths names old new
+    pub status_is : status ≡ 0
+
+  -- the old and the new files that are named were compared
+  pub record Compares : Type 0 where
+    pub old_paths : List (Bor Text)
+    pub named_old : ArePaths (codes "old") rows old_paths
+    pub new_paths : List (Bor Text)
+    pub named_new : ArePaths (codes "new") rows new_paths
+    pub budget : ℕ
+    pub counted : IsOptionNumber (one_of (codes "budget") rows) 1000000 100000 budget
+    pub leaves : ℕ
+    pub limited : IsOptionNumber (one_of (codes "leaves") rows) 1000000 20000 leaves
+    pub asked : Relation
+    pub switched : IsAskedRelation (one_of (codes "same") rows) asked
+    pub with_rows : Bool
+    pub listed : IsSwitch (one_of (codes "rows") rows) with_rows
+    pub names : List NamesData
+    pub called : AreNamed holds rows names
+    pub known : are_known names (calls_asked rows) ≡ true
+    pub json : Bool
+    pub in_json : IsSwitch (one_of (codes "json") rows) json
+    pub compared : ComparesFiles holds old_paths new_paths names budget leaves asked with_rows json (shown_by rows)
+        status old new
+
+  -- the files that are named were listed
+  pub record Lists : Type 0 where
+    pub paths : List (Bor Text)
+    pub named : ArePaths (codes "filters") rows paths
+    pub budget : ℕ
+    pub counted : IsOptionNumber (one_of (codes "budget") rows) 1000000 100000 budget
+    pub leaves : ℕ
+    pub limited : IsOptionNumber (one_of (codes "leaves") rows) 1000000 20000 leaves
+    pub names : List NamesData
+    pub called : AreNamed holds rows names
+    pub known : are_known names (calls_asked rows) ≡ true
+    pub json : Bool
+    pub in_json : IsSwitch (one_of (codes "json") rows) json
+    pub listed : ListsFiles holds paths names (calls_asked rows) json budget leaves status old new
+
+  -- what is needed of the files that are named was told
+  pub record Needs : Type 0 where
+    pub paths : List (Bor Text)
+    pub named : ArePaths (codes "filters") rows paths
+    pub budget : ℕ
+    pub counted : IsOptionNumber (one_of (codes "budget") rows) 1000000 100000 budget
+    pub json : Bool
+    pub in_json : IsSwitch (one_of (codes "json") rows) json
+    pub needed : TellsNeeds holds paths budget json status old new
+
+  -- the filter of the profile that is named was written, or what is told of it
+  pub record Profiles : Type 0 where
+    pub written : WritesProfile holds rows old new
+    pub status_is : status ≡ 0
+
+-- one of the seven subcommands is named, and what belongs to its name holds of the values of its arguments
+abbrev pub ByName : (audit check eval compare list needed profile : List Row → Type 0)
+    → Option (Text × List Row) → Type 0
+ByName audit check eval compare list needed profile named =
+    (found : Text × List Row) × (named ≡ Some found)
+    × (((found.0 ≡ codes "audit") × audit found.1) ⊎ ((found.0 ≡ codes "check") × check found.1)
+    ⊎ ((found.0 ≡ codes "eval") × eval found.1) ⊎ ((found.0 ≡ codes "compare") × compare found.1)
+    ⊎ ((found.0 ≡ codes "list") × list found.1) ⊎ ((found.0 ≡ codes "needed") × needed found.1)
+    ⊎ ((found.0 ≡ codes "profile") × profile found.1))
+
+-- what was done is what the named subcommand asks for
+abbrev pub RunsAs : (Text → Option Text) → Option (Text × List Row) → ℕ → Option Text → Option Text → Type 0
+RunsAs holds named status old new = ByName
+    (λ rows. Audits holds rows status old new)
+    (λ rows. Checks holds rows status old new)
+    (λ rows. Evaluates holds rows status old new)
+    (λ rows. Compares holds rows status old new)
+    (λ rows. Lists holds rows status old new)
+    (λ rows. Needs holds rows status old new)
+    (λ rows. Profiles holds rows status old new)
+    named
+
+-- this holds of the paths that an argument names
+abbrev pub OnPaths : Text → List Row → (List (Bor Text) → Type 0) → Type 0
+OnPaths name rows P = (paths : List (Bor Text)) × ArePaths name rows paths × P paths
+
+-- a file of names is refused, or else this is so
+abbrev pub OnNames : (Text → Option Text) → List Row → Fault → Type 0 → Type 0
+OnNames holds rows fault P = OnPaths (codes "names") rows (λ paths. RefusesNaming holds paths fault) ⊎ P
+
+-- a call that is asked for by its name is one of no set
+abbrev pub RefusesCalls : (Text → Option Text) → List Row → Fault → Type 0
+RefusesCalls holds rows fault =
+    (fault ≡ UnknownName)
+    × ((sets : List NamesData) × AreNamed holds rows sets × (are_known sets (calls_asked rows) ≡ false))
+
+-- a file of names is refused, or a call that is asked for, or else this is so
+abbrev pub OnCalls : (Text → Option Text) → List Row → Fault → Type 0 → Type 0
+OnCalls holds rows fault P = OnNames holds rows fault (RefusesCalls holds rows fault ⊎ P)
+
+-- with the sets of the files of names that are named this input is asked for
+abbrev pub IsAsked : (Text → Option Text) → List Row → Type 0
+IsAsked holds rows =
+    (names : List NamesData) × (input : Input) × AreNamed holds rows names × AsksInput rows names input
+
+-- a name that is given is none of the sets of the files of names that are named, and their calls
+abbrev pub IsUnknown : (Text → Option Text) → List Row → Type 0
+IsUnknown holds rows = (names : List NamesData) × AreNamed holds rows names × LacksName rows names
+
+-- Why `eval` is refused behind its files of names: no input is spelled, or a number is too wide; a name is unknown; or
+-- an input is asked for, and the filter files are refused as by `check`.
+abbrev pub RefusesEval : (Text → Option Text) → List Row → Fault → Type 0
+RefusesEval holds rows fault =
+    ((fault ≡ InputFault) × (numbers_fit rows ≡ false))
+    ⊎ ((fault ≡ UnknownName) × (numbers_fit rows ≡ true) × IsUnknown holds rows)
+    ⊎ (IsAsked holds rows × OnPaths (codes "filters") rows (λ paths. RefusesCheck holds paths fault))
+
+-- why `needed` is refused, for the filter files that are named and the budget that is given
+abbrev pub RefusesNeedsOf : (Text → Option Text) → List Row → Fault → Type 0
+RefusesNeedsOf holds rows fault = OnPaths (codes "filters") rows
+    (λ paths. (budget : ℕ) × IsOptionNumber (one_of (codes "budget") rows) 1000000 100000 budget
+    × RefusesNeeds holds paths budget fault)
+
+-- why what the named subcommand asks for is refused, where it is one of the six that take filters
+abbrev pub RefusesOnStack : (Text → Option Text) → Option (Text × List Row) → Fault → Type 0
+RefusesOnStack holds named fault = ByName
+    (λ rows. OnNames holds rows fault (OnPaths (codes "filters") rows
+    (λ paths. (asked : AskedData) × IsAskedFor rows asked × RefusesAudit holds asked paths fault)))
+    (λ rows. OnPaths (codes "filters") rows (λ paths. RefusesCheck holds paths fault))
+    (λ rows. OnNames holds rows fault (RefusesEval holds rows fault))
+    (λ rows. OnCalls holds rows fault (OnPaths (codes "old") rows (λ old. OnPaths (codes "new") rows
+    (λ new. RefusesComparison holds old new fault))))
+    (λ rows. OnCalls holds rows fault (OnPaths (codes "filters") rows (λ paths. RefusesListing holds paths fault)))
+    (λ rows. RefusesNeedsOf holds rows fault)
+    (λ rows. ⊥)
+    named

@@ -1,0 +1,374 @@
+//! The subcommands that take filters: each reads its words from the matches, and does what they ask for.
+ghost use Rattle.std.specs.Prelude.{◌≡◌, ◌≢◌, ◌≤◌, ◌⊎◌, ℕ, List, Some, codes, IfOk, IfErr};
+ghost use Rattle.clap.specs.Words.{first_of, found_of, one_of, rows_of};
+ghost use Rattle.sf_policy.specs.declared.fault.Fault.TheVariants.{Write as WriteFault};
+ghost use Rattle.sf_command.specs.Audits.{AskedData, RefusesAudit};
+ghost use Rattle.sf_command.specs.Comparisons.{RefusesComparison};
+ghost use Rattle.sf_command.specs.Listings.{RefusesListing};
+ghost use Rattle.sf_evaluate.specs.Names.{RefusesNaming};
+ghost use Rattle.sf_evaluate.specs.Outputs.{RefusesCheck};
+ghost use Rattle.sf_command.specs.Subcommands.{AreNamed, Audits, Checks, Compares, Evaluates, RunsAs, IsAskedFor, IsAskedRelation, Lists, Needs, OnCalls, OnNames, OnPaths, RefusesEval, RefusesNeedsOf, RefusesOnStack, relation_of_rows, relation_named};
+ghost use Rattle.sf_command_line.specs.CommandLine.{IsKnown};
+
+use crate::auditing::{Asked, AuditTask, AuditTerms, audit};
+use crate::comparing::{ComparisonTask, ComparisonTerms, compare};
+use crate::listing::{ListingTask, ListingTerms, list};
+use crate::means::Means;
+use crate::needing::{NeededTerms, needed};
+use crate::watching::{Meter, Watched};
+use clap::ArgMatches;
+use sf_command_line::{
+    budget_of, given_text, leaves_of, wants_brief_trace, wants_instructions, wants_json,
+    wants_progress, wants_regions, wants_rows, wants_same, wants_trace, wants_why, workers_of,
+};
+use sf_compare::Relation;
+use sf_evaluate::{
+    CheckManner, Evaluation, Files, Manner, Notes, asked_input, check, evaluate, known_calls,
+    numbers_fit, read_all_names,
+};
+use sf_list::Shown;
+use sf_names::Names;
+use sf_policy::Fault;
+use std::alloc::Global;
+use std::io::Write;
+use std::sync::Wait;
+use std::thread::Threads;
+
+/// The sets of calls in the files that `--names` gives, file after file; an empty list where the option isn't given.
+/// The notes count the files, and the sets of each. The caller's condition: the notes have counted no file before.
+///
+/// The refusal is that of the first file that is refused: `Read`, `Syntax`, `NamesKey`, `NamesCount` or `NamesRange`
+/// (`Fault` says when each comes). `Memory` can come anywhere.
+fn names_of<F: Files>(
+    alloc: Global,
+    found: &ArgMatches<'_>,
+    files: &mut F,
+    notes: &mut Notes,
+) -> Result<Vec<Names>, Fault>
+    ensures called { IfOk result (λ v. AreNamed (F.holds files.old)
+        (rows_of (found_of found.now)) v.items) }
+    ensures refused { IfErr result (λ e. OnPaths (codes "names") (rows_of (found_of found.now))
+        (λ paths. RefusesNaming (F.holds files.old) paths e)) }
+    ensures same { (p : List ℕ) → F.holds files.new p ≡ F.holds files.old p }
+{
+    let paths = found.get_strs("names").unwrap_or(&[]);
+    read_all_names(alloc, paths, files, notes)
+}
+
+/// The gate of a run. Where `--progress` is given, it passes each call on to the meter, and the meter is given the
+/// budget here. Else the meter isn't called at all.
+fn watched<'a, M: Meter>(found: &ArgMatches<'_>, meter: &'a M) -> Watched<'a, M> {
+    Watched::of(meter, wants_progress(found), budget_of(found))
+}
+
+/// A copy of these means in which `gate` stands in place of their gate.
+fn with_gate<'r, 'g, R, M, G>(means: &Means<'r, '_, R, M>, gate: &'g G) -> Means<'r, 'g, R, G> {
+    Means {
+        rt: means.rt,
+        alloc: means.alloc,
+        gate,
+    }
+}
+
+/// Runs `audit` as the matches of the subcommand say, and gives the exit status that it gives, 0 to 2. The caller has
+/// seen by `words_fit_for` that the words fit, and the notes have counted no file before.
+///
+/// Refusals, tried in this order: `Read`, `Syntax`, `NamesKey`, `NamesCount` or `NamesRange` for a file of names; those
+/// of `audit`. `Memory` can come anywhere. After any error but `Write` nothing is written.
+fn run_audit<R: Threads + Wait + Sync, F: Files, M: Meter, O: Write>(
+    means: &Means<'_, '_, R, M>,
+    found: &ArgMatches<'_>,
+    files: &mut F,
+    notes: &mut Notes,
+    out: &mut O,
+) -> Result<u8, Fault>
+    ensures done { IfOk result (λ s. Audits (F.holds files.old) (rows_of (found_of found.now)) s
+        (O.contents out.old) (O.contents out.new)) }
+    ensures status { IfOk result (λ s. s ≤ 2) }
+    ensures quiet { IfErr result (λ e. (e ≡ WriteFault) ⊎ (out.new ≡ out.old)) }
+    ensures refused { IfErr result (λ e. OnNames (F.holds files.old)
+        (rows_of (found_of found.now)) e
+        (OnPaths (codes "filters") (rows_of (found_of found.now))
+        (λ paths. (asked : AskedData) × IsAskedFor (rows_of (found_of found.now)) asked
+        × RefusesAudit (F.holds files.old) asked paths e))) }
+{
+    let names = names_of(means.alloc, found, files, notes)?;
+    let paths = found.get_strs("filters").unwrap_or(&[]);
+    let terms = AuditTerms {
+        budget: budget_of(found),
+        workers: workers_of(found),
+        regions: wants_regions(found),
+        why: wants_why(found),
+        json: wants_json(found),
+    };
+    let asked = Asked {
+        policies: found.get_strs("policy").unwrap_or(&[]),
+        control: given_text(found, "control"),
+        accept: given_text(found, "accept"),
+    };
+    let task = AuditTask {
+        asked: &asked,
+        paths,
+        names: &names,
+        terms,
+    };
+    let gate = watched(found, means.gate);
+    audit(&with_gate(means, &gate), &task, files, notes, out)
+}
+
+/// Runs `check` on the filter files that the matches of the subcommand name. The exit status is 0.
+///
+/// Refusals, tried in this order: `Read` where a file can't be read or is too long; what `stack_of` refuses; `Write`
+/// where standard output can't be written. `Memory` can come anywhere. After any error but `Write` nothing is written.
+fn run_check<F: Files, O: Write>(
+    alloc: Global,
+    found: &ArgMatches<'_>,
+    files: &mut F,
+    notes: &mut Notes,
+    out: &mut O,
+) -> Result<u8, Fault>
+    ensures done { IfOk result (λ s. Checks (F.holds files.old) (rows_of (found_of found.now)) s
+        (O.contents out.old) (O.contents out.new)) }
+    ensures quiet { IfErr result (λ e. (e ≡ WriteFault) ⊎ (out.new ≡ out.old)) }
+    ensures refused { IfErr result (λ e. OnPaths (codes "filters") (rows_of (found_of found.now))
+        (λ paths. RefusesCheck (F.holds files.old) paths e)) }
+{
+    let paths = found.get_strs("filters").unwrap_or(&[]);
+    let how = CheckManner {
+        listed: wants_instructions(found),
+        json: wants_json(found),
+    };
+    check(alloc, paths, how, files, notes, out)?;
+    Ok(0)
+}
+
+/// Runs `eval` on the input that the words of the subcommand ask for, and on the filter files that they name. The
+/// caller has seen by `words_fit_for` that the words have the right form, and the notes have counted no file before.
+/// The exit status is 0.
+///
+/// Refusals, tried in this order: `Input` where `--input` spells no input, or a number is too wide, as `numbers_fit`
+/// says; `Read`, `Syntax`, `NamesKey`, `NamesCount` or `NamesRange` for a file of names; `UnknownName` where no set has
+/// the name behind `--arch`, or that set has no call with the name behind `--call`; `Read` where a filter file can't be
+/// read or is too long; what `stack_of` refuses; `Write` where standard output can't be written. `Memory` can come
+/// anywhere. After any error but `Write` nothing is written.
+fn run_eval<F: Files, O: Write>(
+    alloc: Global,
+    found: &ArgMatches<'_>,
+    files: &mut F,
+    notes: &mut Notes,
+    out: &mut O,
+) -> Result<u8, Fault>
+    ensures done { IfOk result (λ s. Evaluates (F.holds files.old)
+        (rows_of (found_of found.now)) s (O.contents out.old) (O.contents out.new)) }
+    ensures quiet { IfErr result (λ e. (e ≡ WriteFault) ⊎ (out.new ≡ out.old)) }
+    ensures refused { IfErr result (λ e. OnNames (F.holds files.old)
+        (rows_of (found_of found.now)) e
+        (RefusesEval (F.holds files.old) (rows_of (found_of found.now)) e)) }
+{
+    if !numbers_fit(found) {
+        return Err(Fault::Input);
+    }
+    let names = names_of(alloc, found, files, notes)?;
+    let input = asked_input(found, &names, notes)?;
+    let paths = found.get_strs("filters").unwrap_or(&[]);
+    let how = Manner {
+        traced: wants_trace(found),
+        brief: wants_brief_trace(found),
+        json: wants_json(found),
+    };
+    let asked = Evaluation {
+        input: &input,
+        how,
+        names: &names,
+    };
+    evaluate(alloc, &asked, paths, files, notes, out)?;
+    Ok(0)
+}
+
+/// The relation that the exit status of a comparison is about: `Different` where `--same` is given, and else `Looser`.
+fn relation_of_status(found: &ArgMatches<'_>) -> Relation
+    ensures { IsAskedRelation (one_of (codes "same") (rows_of (found_of found.now))) result }
+{
+    if wants_same(found) {
+        Relation::Different
+    } else {
+        Relation::Looser
+    }
+}
+
+/// The relation that a word of `--only` names. Each word but `looser` and `tighter` gives `Different`: `rows_fit` has
+/// let only `different` through beside them.
+fn relation_named(word: &str) -> Relation
+    ensures { result ≡ relation_named word.now }
+{
+    match word {
+        "looser" => Relation::Looser,
+        "tighter" => Relation::Tighter,
+        _ => Relation::Different,
+    }
+}
+
+/// The relation that `--only` names: only rows that have it are shown. `None` where the option isn't given: then all
+/// rows with a difference are shown. The caller has seen by `rows_fit` that the word is `looser`, `tighter` or
+/// `different`; any other would give `Different`.
+fn relation_of_rows(found: &ArgMatches<'_>) -> Option<Relation>
+    ensures { result ≡ relation_of_rows (first_of (codes "only") (rows_of (found_of found.now))) }
+{
+    match given_text(found, "only") {
+        Some(word) => Some(relation_named(word)),
+        None => None,
+    }
+}
+
+/// Runs `compare` as the matches of the subcommand say, and gives the exit status that it gives, 0 to 2. The caller has
+/// seen by `words_fit_for` that the words fit, and the notes have counted no file before.
+///
+/// Refusals, tried in this order: `Read`, `Syntax`, `NamesKey`, `NamesCount` or `NamesRange` for a file of names;
+/// `UnknownName` where `--calls` names a call that no set has; those of `compare`. `Memory` can come anywhere. After
+/// any error but `Write` nothing is written.
+fn run_compare<R: Threads + Wait + Sync, F: Files, M: Meter, O: Write>(
+    means: &Means<'_, '_, R, M>,
+    found: &ArgMatches<'_>,
+    files: &mut F,
+    notes: &mut Notes,
+    out: &mut O,
+) -> Result<u8, Fault>
+    ensures done { IfOk result (λ s. Compares (F.holds files.old) (rows_of (found_of found.now)) s
+        (O.contents out.old) (O.contents out.new)) }
+    ensures status { IfOk result (λ s. s ≤ 2) }
+    ensures quiet { IfErr result (λ e. (e ≡ WriteFault) ⊎ (out.new ≡ out.old)) }
+    ensures refused { IfErr result (λ e. OnCalls (F.holds files.old)
+        (rows_of (found_of found.now)) e
+        (OnPaths (codes "old") (rows_of (found_of found.now))
+        (λ old. OnPaths (codes "new") (rows_of (found_of found.now))
+        (λ new. RefusesComparison (F.holds files.old) old new e)))) }
+{
+    let names = names_of(means.alloc, found, files, notes)?;
+    let shown = Shown {
+        only: relation_of_rows(found),
+        calls: known_calls(means.alloc, found, &names, notes)?,
+    };
+    let old = found.get_strs("old").unwrap_or(&[]);
+    let new = found.get_strs("new").unwrap_or(&[]);
+    let terms = ComparisonTerms {
+        budget: budget_of(found),
+        workers: workers_of(found),
+        asked: relation_of_status(found),
+        rows: wants_rows(found),
+        json: wants_json(found),
+        leaves: leaves_of(found),
+    };
+    let task = ComparisonTask {
+        old,
+        new,
+        sets: &names,
+        terms,
+        shown: &shown,
+    };
+    let gate = watched(found, means.gate);
+    compare(&with_gate(means, &gate), &task, files, notes, out)
+}
+
+/// Runs `list` as the matches of the subcommand say, and gives the exit status that it gives, 0 or 2. The caller has
+/// seen by `words_fit_for` that the words fit, and the notes have counted no file before.
+///
+/// Refusals, tried in this order: `Read`, `Syntax`, `NamesKey`, `NamesCount` or `NamesRange` for a file of names;
+/// `UnknownName` where `--calls` names a call that no set has; those of `list`. `Memory` can come anywhere. After any
+/// error but `Write` nothing is written.
+fn run_list<R: Threads + Wait + Sync, F: Files, M: Meter, O: Write>(
+    means: &Means<'_, '_, R, M>,
+    found: &ArgMatches<'_>,
+    files: &mut F,
+    notes: &mut Notes,
+    out: &mut O,
+) -> Result<u8, Fault>
+    ensures done { IfOk result (λ s. Lists (F.holds files.old) (rows_of (found_of found.now)) s
+        (O.contents out.old) (O.contents out.new)) }
+    ensures status { IfOk result (λ s. s ≤ 2) }
+    ensures quiet { IfErr result (λ e. (e ≡ WriteFault) ⊎ (out.new ≡ out.old)) }
+    ensures refused { IfErr result (λ e. OnCalls (F.holds files.old)
+        (rows_of (found_of found.now)) e
+        (OnPaths (codes "filters") (rows_of (found_of found.now))
+        (λ paths. RefusesListing (F.holds files.old) paths e))) }
+{
+    let names = names_of(means.alloc, found, files, notes)?;
+    let calls = known_calls(means.alloc, found, &names, notes)?;
+    let paths = found.get_strs("filters").unwrap_or(&[]);
+    let terms = ListingTerms {
+        budget: budget_of(found),
+        workers: workers_of(found),
+        leaves: leaves_of(found),
+        json: wants_json(found),
+    };
+    let task = ListingTask {
+        paths,
+        sets: &names,
+        calls: &calls,
+        terms,
+    };
+    let gate = watched(found, means.gate);
+    list(&with_gate(means, &gate), &task, files, notes, out)
+}
+
+/// Runs `needed` as the matches of the subcommand say, and gives the exit status that it gives, 0 to 2. The refusals
+/// are those of `needed`: `Read`, a fault of the filters, `Write` or `Memory`.
+fn run_needed<R: Threads + Wait + Sync, F: Files, M: Meter, O: Write>(
+    means: &Means<'_, '_, R, M>,
+    found: &ArgMatches<'_>,
+    files: &mut F,
+    notes: &mut Notes,
+    out: &mut O,
+) -> Result<u8, Fault>
+    ensures done { IfOk result (λ s. Needs (F.holds files.old) (rows_of (found_of found.now)) s
+        (O.contents out.old) (O.contents out.new)) }
+    ensures status { IfOk result (λ s. s ≤ 2) }
+    ensures quiet { IfErr result (λ e. (e ≡ WriteFault) ⊎ (out.new ≡ out.old)) }
+    ensures refused { IfErr result (λ e. RefusesNeedsOf (F.holds files.old)
+        (rows_of (found_of found.now)) e) }
+{
+    let paths = found.get_strs("filters").unwrap_or(&[]);
+    let terms = NeededTerms {
+        budget: budget_of(found),
+        workers: workers_of(found),
+        json: wants_json(found),
+    };
+    let gate = watched(found, means.gate);
+    needed(&with_gate(means, &gate), paths, terms, files, notes, out)
+}
+
+/// Runs the subcommand with this name, one of the six that take filters, and gives its exit status, 0 to 2. For another
+/// name the status is 4: no file is read then, and nothing is written. The caller's conditions: the name isn't that of
+/// `profile`, the words fit by `words_fit_for`, and the notes have counted no file before.
+///
+/// The refusals are those of the subcommand; the function that is called for it lists them. After any error but `Write`
+/// nothing is written.
+pub fn run_on_stack<R: Threads + Wait + Sync, F: Files, M: Meter, O: Write>(
+    means: &Means<'_, '_, R, M>,
+    name: &str,
+    found: &ArgMatches<'_>,
+    files: &mut F,
+    notes: &mut Notes,
+    out: &mut O,
+) -> Result<u8, Fault>
+    requires { name.now ≢ codes "profile" }
+    ensures status { IfOk result (λ s. (s ≤ 2) ⊎ (s ≡ 4)) }
+    ensures done { IfOk result (λ s. s ≤ 2 → RunsAs (F.holds files.old)
+        (Some (name.now, rows_of (found_of found.now))) s (O.contents out.old)
+        (O.contents out.new)) }
+    ensures usage { IfOk result (λ s. s ≡ 4
+        → ¬ IsKnown (Some (name.now, rows_of (found_of found.now)))
+        × (files.new ≡ files.old) × (out.new ≡ out.old)) }
+    ensures quiet { IfErr result (λ e. (e ≡ WriteFault) ⊎ (out.new ≡ out.old)) }
+    ensures refused { IfErr result (RefusesOnStack (F.holds files.old)
+        (Some (name.now, rows_of (found_of found.now)))) }
+{
+    match name {
+        "audit" => run_audit(means, found, files, notes, out),
+        "check" => run_check(means.alloc, found, files, notes, out),
+        "eval" => run_eval(means.alloc, found, files, notes, out),
+        "compare" => run_compare(means, found, files, notes, out),
+        "list" => run_list(means, found, files, notes, out),
+        "needed" => run_needed(means, found, files, notes, out),
+        _ => Ok(4),
+    }
+}
