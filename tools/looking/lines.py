@@ -1,7 +1,7 @@
 """Which lines are too long to be read: of proofs, definitions, comments and documents past 120 columns, and of clauses
-past 100 bytes.
+past 100 bytes. And source files of more than 500 lines.
 
-    tools/look lines            the files that have one
+    tools/look lines            the files that have one, or too many
     tools/look lines --write    breaks them first, and lays the files of crates out anew (`rattle fmt`)
 
 In crates/ the .antt files are looked at, but for their `use` lines, and in .rt files comments, clauses (`requires`,
@@ -24,6 +24,7 @@ OF_PROOFS = 120
 OF_COMMENTS = 120
 OF_CLAUSES = 100
 OF_DOCUMENTS = 120
+MOST_LINES = 500
 
 OPENING, CLOSING = "({[", ")}]"
 CONNECTIVES = ("→", "×", "⊎", "↔")
@@ -282,11 +283,14 @@ def documents():
 
 
 def fault(path, is_writing):
-    """What is wrong with a file that has a line that is too long, or still has one after writing; else None."""
+    """What is wrong with a file that has a line that is too long, or still has one after writing; or with a source file
+    that has too many lines; else None."""
     text = path.read_text()
     new, long = {".antt": of_proofs, ".rt": of_source, ".md": of_document}[path.suffix](text)
     if new == text and not long:
-        return None
+        count = text.count("\n")
+        is_full = path.suffix == ".rt" and count > MOST_LINES
+        return f"{shown(path)}: has {count} lines, and not {MOST_LINES} at most" if is_full else None
     if is_writing and new != text:
         path.write_text(new)
         if path.suffix != ".md":
@@ -296,7 +300,7 @@ def fault(path, is_writing):
 
 
 def look(words):
-    """The files with long lines, and how many have none."""
+    """The files with long lines, or with too many, and how many have neither."""
     files = [p for p in sorted(CRATES.rglob("*")) if p.suffix in (".antt", ".rt") and "out" not in p.parts]
     found = [fault(path, words == ["--write"]) for path in [*files, *documents()]]
     faults = [one for one in found if one]

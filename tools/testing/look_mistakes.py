@@ -3,7 +3,7 @@ import re
 from collections import namedtuple
 
 from looking.edits import TIERS
-from testing.look_tree import FILES, clause, wide
+from testing.look_tree import FILES, clause, lengthened, wide
 
 # A mistake: the look that has to find it, what it is, the files that it changes with their new texts (None: the file is
 # gone), and the words that each line about it has to have.
@@ -105,7 +105,7 @@ def other(file, old, new):
 
 
 def lines():
-    """Lines that are too long by one column, or by one byte."""
+    """Lines that are too long by one column, or by one byte, and one line too many."""
     def found(what, files):
         return Mistake("lines", what, files, [next(iter(files))])
 
@@ -125,6 +125,7 @@ def lines():
     for head in ("    ghost view = { λ f. ", "    ghost near: { "):
         item = clause(head, 100) + ";"
         yield found(f"the ghost item `{head}`", more(FACTS, f"impl Model for Known {{\n{item}\n}}\n"))
+    yield Mistake("lines", "a line too many", {INNER: lengthened(FILES[INNER], 501)}, [f"{INNER}: has 501 lines"])
     for file in ("README.md", PAGE):
         for what, head in (("paragraph", "Long "), ("entry", "- long "), ("numbered entry", "1. long "), ("quotation", "> long "),
                            ("heading", "## Long "), ("comment", "<!-- long ")):

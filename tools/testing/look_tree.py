@@ -17,6 +17,11 @@ def clause(head, size):
     return head + ("m + " * 40)[: size - len((head + end).encode())] + end
 
 
+def lengthened(text, count):
+    """The text of a source file with further lines, so that it has this many."""
+    return text + "// Nothing.\n" * (count - text.count("\n"))
+
+
 # The text of each file. The counts in docs/DEFINITIONS.md were counted by hand.
 FILES = {
     # That of the repository: which crates use which.
@@ -352,7 +357,8 @@ mod command;
 
 pub use command::command;
 """,
-    "crates/sf_command/src/command.rt": """//! A command.
+    "crates/sf_command/src/command.rt": lengthened(
+        """//! A command.
 
 ghost use Rattle.sf_command.specs.Runs.{IsDone};
 
@@ -363,6 +369,8 @@ pub fn command(status: u32) -> u32
     status
 }
 """,
+        500,
+    ),
     "crates/sf_command/specs/Lib.antt": """pub mod Runs
 """,
     "crates/sf_command/specs/Runs.antt": """-- What a command does.
