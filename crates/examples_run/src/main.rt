@@ -1,15 +1,21 @@
 //! Checks, evaluates, audits, compares and lists real filters. Lines such as `check A.bpf B.bpf`, `eval HEX A.bpf
 //! B.bpf`, `audit POLICY A.bpf B.bpf`, `compare OLD.bpf -- NEW.bpf` and `list A.bpf B.bpf` come on standard input. The
-//! files stand in the folder in which the program runs.
+//! files stand in the folder in which the program runs. `diagram A.bpf B.bpf` compares what the stack answers by its
+//! diagram with what it answers where it is run, and `random` does so for random stacks.
 #![tactic(auto)]
 
+mod aiming;
 mod auditing;
 mod comparing;
+mod diagrams;
 mod listing;
+mod making;
 mod meeting;
+mod numbers;
 
 use crate::auditing::show_audit;
 use crate::comparing::show_comparison;
+use crate::diagrams::{Counts, of_random_stacks, of_stack};
 use crate::listing::show_listing;
 use hex::FromHex;
 use sf_check::{Program, Stack, check};
@@ -94,6 +100,22 @@ fn show_comparison_of<R: Files + Print + Threads + Wait + Sync + AllocGlobal>(
     show_comparison(rt, rt.alloc(), &filters, older)
 }
 
+/// Shows on how many inputs the answers of stacks were compared, and on how many they differ.
+fn show_counts<R: Print>(rt: &R, counts: Counts) -> io::Result<()> {
+    println!(rt; "{} inputs, {} differ", counts.inputs, counts.wrong)
+}
+
+/// Shows the same for the stack of the filter files.
+fn show_diagram<R: Files + Print + AllocGlobal>(rt: &R, paths: &[&str]) -> Result<(), Fail> {
+    let mut codes = Vec::new(rt.alloc());
+    for path in paths {
+        let bytes = fs::read(rt, path)?;
+        codes.push(decode(rt.alloc(), &bytes)?)?;
+    }
+    show_counts(rt, of_stack(rt.alloc(), &codes)?)?;
+    Ok(())
+}
+
 /// Does what one line says.
 fn show<R: Files + Print + Threads + Wait + Sync + AllocGlobal>(
     rt: &R,
@@ -106,6 +128,8 @@ fn show<R: Files + Print + Threads + Wait + Sync + AllocGlobal>(
         ["audit", policy, paths @ ..] => show_audit_of(rt, policy, paths)?,
         ["compare", paths @ ..] => show_comparison_of(rt, paths)?,
         ["list", paths @ ..] => show_listing(rt, rt.alloc(), &filters_in(rt, paths)?)?,
+        ["diagram", paths @ ..] => show_diagram(rt, paths)?,
+        ["random"] => show_counts(rt, of_random_stacks(rt.alloc(), 300)?)?,
         _ => println!(rt; "unknown line")?,
     }
     Ok(())
