@@ -6,7 +6,7 @@ use std::alloc::Global;
 
 /// The AND of the variables 2 and 5: its value where only 5 is true, its value where both are, and the variables that
 /// are true in the first input where it is 1.
-fn conjunction(alloc: Global) -> Result<(u32, u32, Option<Vec<u16>>), Fault> {
+fn conjunction(alloc: Global) -> Result<(u64, u64, Option<Vec<u16>>), Fault> {
     let mut store = Store::new(alloc, 100)?;
     let zero = store.leaf(0)?;
     let first = store.literal(2)?;
@@ -20,7 +20,7 @@ fn conjunction(alloc: Global) -> Result<(u32, u32, Option<Vec<u16>>), Fault> {
 
 /// The newer of two filters answers ERRNO 1 where variable 0 is true, else ALLOW with data; the older one KILL_PROCESS
 /// where variable 1 is true, else ERRNO 2. The answers of both, of the inputs where none, only 0, and only 1 is true.
-fn answers(alloc: Global) -> Result<(u32, u32, u32), Fault> {
+fn answers(alloc: Global) -> Result<(u64, u64, u64), Fault> {
     let mut store = Store::new(alloc, 100)?;
     let allow = store.leaf(0x7fff0007)?;
     let first = store.leaf(0x00050001)?;
@@ -53,7 +53,7 @@ fn main(rt: HostRuntime) -> Result<(), anyhow::Error> {
     let tighter = Operation::Tighter.apply(0x00050001, 0x7ffc0000);
     let different = Operation::Different.apply(3, 4);
     let pair = Operation::Pair.apply(2, 3);
-    let next = Operation::NextBit.apply(0x80000005, 1);
+    let next = Operation::NextBit.apply(0x8000000000000005, 1);
     println!(rt; "{allowed:#x} {looser} {tighter} {different} {pair} {next}")?;
     let (refused, again) = small(rt.alloc())?;
     println!(rt; "{refused:?} {again}")?;

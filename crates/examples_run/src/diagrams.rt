@@ -42,7 +42,7 @@ fn answer_by(alloc: Global, store: &Store, id: Id, input: &Input) -> Result<Answ
     let variables = variables_of(alloc, input)?;
     let value = value_of(store, id, &variables);
     Ok(Answer {
-        action: Action::of_number(value & 0xffff0000),
+        action: Action::of_number((value & 0xffff0000) as u32),
         info: (value & 0xffff) as u16,
     })
 }

@@ -38,7 +38,7 @@ number-begun ts us ids id n bits w e leaf =
 pub number-more : (m n : ℕ) (ts us vs : List Tree) (ids : List ℕ) (so_far new : ℕ) (bits : Bits) → m ≡ n + 1
     → n < 32 → KeepsTrees ts us → IsWord ts ids
     → value (tree_at vs new) bits
-    ≡ (2 * value (tree_at us so_far) bits + value (tree_at us (slice_index ids n)) bits) % 2 ^ 32
+    ≡ (2 * value (tree_at us so_far) bits + value (tree_at us (slice_index ids n)) bits) % 2 ^ 64
     → value (tree_at us so_far) bits ≡ word_value ts (drop m ids) bits
     → value (tree_at vs new) bits ≡ word_value ts (drop n ids) bits
 number-more m n ts us vs ids so_far new bits e l k w one before =

@@ -10,7 +10,7 @@ use sf_diagram::{Fault, Id, Operation, Store, merge};
 use std::alloc::Global;
 
 /// SECCOMP_RET_ALLOW: the answer of no filters.
-const ALLOW: u32 = 0x7fff0000;
+const ALLOW: u64 = 0x7fff0000;
 
 /// The answers of a stack, given by its programs, the oldest one first. `Spent` and `Memory` as the store has them;
 /// nodes may have been added then.

@@ -190,7 +190,7 @@ fn source_diagram(store: &mut Store, known: &Known, source: Source) -> Result<Id
 {
     match source {
         Source::Constant(number) => {
-            let leaf = store.leaf(number)?;
+            let leaf = store.leaf(number as u64)?;
             Ok(leaf)
         }
         _ => {

@@ -40,7 +40,7 @@ pub(crate) fn constant_word(store: &mut Store, number: u32) -> Result<Word, Faul
 {
     let mut bits: [Id; 32] = [0; 32];
     for i in 0..32 {
-        let bit = store.leaf((number >> i) % 2)?;
+        let bit = store.leaf(((number >> i) % 2) as u64)?;
         bits[i] = bit;
     }
     Ok(Word { bits })

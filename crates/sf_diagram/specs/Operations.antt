@@ -29,7 +29,7 @@ looser_of before after = if nat_lt (reach_by (action_bits before)) (reach_by (ac
 
 -- 0 for two equal numbers, and else the two as one number, of which each has half of the bits
 abbrev pub pair_of : ℕ → ℕ → ℕ
-pair_of first second = if first == second then 0 else first % 65536 * 65536 + second % 65536
+pair_of first second = if first == second then 0 else first % 2 ^ 32 * 2 ^ 32 + second % 2 ^ 32
 
 -- the number that an operation makes of two
 abbrev pub merged_of : Operation → ℕ → ℕ → ℕ
@@ -38,4 +38,4 @@ merged_of Looser before after = looser_of before after
 merged_of Tighter before after = looser_of after before
 merged_of Different first second = if first == second then 0 else 1
 merged_of Pair first second = pair_of first second
-merged_of NextBit first second = (2 * first + second) % 2 ^ 32
+merged_of NextBit first second = (2 * first + second) % 2 ^ 64

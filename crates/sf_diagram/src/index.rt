@@ -14,7 +14,7 @@ pub type Id = u32;
 #[derive(Clone, Copy, Debug, PartialEq, Eq)]
 pub enum Node {
     /// A leaf with a number.
-    Number(u32),
+    Number(u64),
     /// A variable, the node where it is false, and the node where it is true.
     Choice(u16, Id, Id),
 }

@@ -1,6 +1,6 @@
 //! Laws of trees, each the contract of a function that does nothing.
 
-ghost use Rattle.std.specs.Prelude.{◌≡◌, ◌≢◌, ◌<◌, ◌/◌, ◌%◌, ℕ, List, length};
+ghost use Rattle.std.specs.Prelude.{◌≡◌, ◌≢◌, ◌<◌, ◌/◌, ◌%◌, ◌^◌, ℕ, List, length};
 ghost use Rattle.sf_diagram.specs.Trees.{Tree, Bits, value, IsOrderedTree, IsReducedTree};
 ghost use Rattle.sf_diagram.specs.Stores.{tree_at, AreCanonical};
 ghost use Rattle.sf_diagram.specs.Operations.{pair_of};
@@ -19,8 +19,8 @@ pub fn equal_values_make_equal_ids()
         → i ≡ j }
 {}
 
-/// The number that stands for two different small numbers isn't 0, and gives them back.
+/// The number that stands for two different numbers below 2^32 isn't 0, and gives them back.
 pub fn pairs_give_both_back()
-    ensures { (a b : ℕ) → a < 65536 → b < 65536 → a ≢ b
-        → (pair_of a b ≢ 0) × (pair_of a b / 65536 ≡ a) × (pair_of a b % 65536 ≡ b) }
+    ensures { (a b : ℕ) → a < 2 ^ 32 → b < 2 ^ 32 → a ≢ b → (pair_of a b ≢ 0)
+        × (pair_of a b / 2 ^ 32 ≡ a) × (pair_of a b % 2 ^ 32 ≡ b) }
 {}

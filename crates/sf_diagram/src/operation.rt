@@ -17,22 +17,22 @@ pub enum Operation {
     /// 1 where the numbers differ, else 0.
     Different,
     /// 0 where the numbers are equal; else both as one number, the first in the upper half of its bits. This tells
-    /// numbers below 65,536 apart, as the places of answers in a list.
+    /// numbers below 2^32 apart, as return values of filters are.
     Pair,
-    /// The first number with the second, 0 or 1, as one more bit behind it, modulo 2^32.
+    /// The first number with the second, 0 or 1, as one more bit behind it, modulo 2^64.
     NextBit,
 }
 
 /// The rank of an action's number; the action of the lowest rank has precedence. The unsigned order of ranks is the
-/// signed order of these numbers.
-fn rank_of(number: u32) -> u32
-    ensures { result ≡ rank number }
+/// signed order of these numbers as words.
+fn rank_of(action: u64) -> u64
+    ensures { result ≡ rank action }
 {
-    number.wrapping_add(0x80000000)
+    action.wrapping_add(0x80000000) % 0x1_0000_0000
 }
 
 /// Of two return values the one that counts.
-fn folded(newer: u32, older: u32) -> u32
+fn folded(newer: u64, older: u64) -> u64
     ensures { result ≡ folded_of newer older }
 {
     if rank_of(older & 0xffff0000) < rank_of(newer & 0xffff0000) {
@@ -43,7 +43,7 @@ fn folded(newer: u32, older: u32) -> u32
 }
 
 /// How far an action lets a call get: 2, it is carried out; 1, another process decides; 0, it is refused.
-fn reach(action: u32) -> u32
+fn reach(action: u64) -> u64
     ensures { result ≡ reach_by action }
 {
     if action == 0x7fff0000 || action == 0x7ffc0000 {
@@ -56,7 +56,7 @@ fn reach(action: u32) -> u32
 }
 
 /// 1 where a call gets further by the second answer than by the first, else 0.
-fn looser(before: u32, after: u32) -> u32
+fn looser(before: u64, after: u64) -> u64
     ensures { result ≡ looser_of before after }
 {
     if reach(before & 0xffff0000) < reach(after & 0xffff0000) {
@@ -67,19 +67,19 @@ fn looser(before: u32, after: u32) -> u32
 }
 
 /// 0 for equal numbers, else both as one number.
-fn pair(first: u32, second: u32) -> u32
+fn pair(first: u64, second: u64) -> u64
     ensures { result ≡ pair_of first second }
 {
     if first == second {
         0
     } else {
-        first % 65536 * 65536 + second % 65536
+        first % 0x1_0000_0000 * 0x1_0000_0000 + second % 0x1_0000_0000
     }
 }
 
 impl Operation {
     /// What the operation makes of two numbers.
-    pub fn apply(self, first: u32, second: u32) -> u32
+    pub fn apply(self, first: u64, second: u64) -> u64
         ensures { result ≡ merged_of self first second }
     {
         match self {

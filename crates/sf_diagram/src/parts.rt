@@ -40,7 +40,7 @@ pub(crate) fn split(store: &Store, id: Id, variable: u16) -> (Id, Id)
 #[derive(Clone, Copy)]
 pub(crate) enum Tops {
     /// The numbers of two leaves.
-    Numbers(u32, u32),
+    Numbers(u64, u64),
     /// The lesser variable.
     Variable(u16),
 }

@@ -19,7 +19,7 @@ fn is_true(variables: &[u16], variable: u16) -> bool
 
 /// The number to which an input leads from a node. Of the input are given the variables that are true. The caller's
 /// condition: there is such a node.
-pub fn value_of(store: &Store, id: Id, variables: &[u16]) -> u32
+pub fn value_of(store: &Store, id: Id, variables: &[u16]) -> u64
     requires { id < length store.now.trees }
     ensures { result ≡ value (tree_at store.now.trees id) (bits_with variables.now) }
 {

@@ -91,7 +91,7 @@ impl Store {
 
     /// The leaf with this number: one that is there already, or a new one. `Spent` where it would be one more node than
     /// are allowed, `Memory` where an allocation is refused; nothing changes then.
-    pub fn leaf(&mut self, number: u32) -> Result<Id, Fault>
+    pub fn leaf(&mut self, number: u64) -> Result<Id, Fault>
         ensures within { IfOk result (λ id. id < length self.new.trees) }
         ensures tree { IfOk result (λ id. tree_at self.new.trees id ≡ Leaf number) }
         ensures keeps { KeepsStore self.old self.new }
