@@ -1,7 +1,7 @@
--- What operations make of two numbers. Three of them take return values of filters, by seccomp(2).
+-- What operations make of two numbers. Four of them take return values of filters, by seccomp(2).
 use Rattle.std.specs.Prelude.{ℕ, ◌+◌, ◌*◌, ◌%◌, ◌^◌, ◌==◌, ◌||◌, nat_lt, bit_and, if◌then◌else◌}
 use Rattle.sf_diagram.specs.declared.operation.Operation.{Operation}
-use Rattle.sf_diagram.specs.declared.operation.Operation.TheVariants.{Fold, Looser, Tighter, Different, Pair, NextBit}
+use Rattle.sf_diagram.specs.declared.operation.Operation.TheVariants.{Fold, Looser, Tighter, Different, Pretended, Pair, NextBit}
 
 -- the action of a return value: SECCOMP_RET_ACTION_FULL
 abbrev pub action_bits : ℕ → ℕ
@@ -27,6 +27,10 @@ reach_by action =
 abbrev pub looser_of : ℕ → ℕ → ℕ
 looser_of before after = if nat_lt (reach_by (action_bits before)) (reach_by (action_bits after)) then 1 else 0
 
+-- 1 where the second return value is ERRNO with data 0 and the first is another one, else 0
+abbrev pub pretended_of : ℕ → ℕ → ℕ
+pretended_of before after = if before == after then 0 else if after == 0x00050000 then 1 else 0
+
 -- 0 for two equal numbers, and else the two as one number, of which each has half of the bits
 abbrev pub pair_of : ℕ → ℕ → ℕ
 pair_of first second = if first == second then 0 else first % 2 ^ 32 * 2 ^ 32 + second % 2 ^ 32
@@ -37,5 +41,6 @@ merged_of Fold newer older = folded_of newer older
 merged_of Looser before after = looser_of before after
 merged_of Tighter before after = looser_of after before
 merged_of Different first second = if first == second then 0 else 1
+merged_of Pretended before after = pretended_of before after
 merged_of Pair first second = pair_of first second
 merged_of NextBit first second = (2 * first + second) % 2 ^ 64

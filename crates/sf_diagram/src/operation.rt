@@ -1,7 +1,7 @@
 //! What a merge makes of two numbers.
 
 ghost use Rattle.std.specs.Prelude.{◌≡◌, ℕ, true};
-ghost use Rattle.sf_diagram.specs.Operations.{action_bits, folded_of, looser_of, merged_of, pair_of, rank, reach_by};
+ghost use Rattle.sf_diagram.specs.Operations.{action_bits, folded_of, looser_of, merged_of, pair_of, pretended_of, rank, reach_by};
 
 /// What is made of the numbers that two trees have on an input.
 #[derive(Clone, Copy, Debug, PartialEq, Eq)]
@@ -16,6 +16,9 @@ pub enum Operation {
     Tighter,
     /// 1 where the numbers differ, else 0.
     Different,
+    /// 1 where the second answer is ERRNO with data 0 and the first is another one, else 0. Such a call isn't made, and
+    /// is reported as done.
+    Pretended,
     /// 0 where the numbers are equal; else both as one number, the first in the upper half of its bits. This tells
     /// numbers below 2^32 apart, as return values of filters are.
     Pair,
@@ -66,6 +69,17 @@ fn looser(before: u64, after: u64) -> u64
     }
 }
 
+/// 1 where the second answer is ERRNO with data 0 and the first is another one, else 0.
+fn pretended(before: u64, after: u64) -> u64
+    ensures { result ≡ pretended_of before after }
+{
+    if before != after && after == 0x00050000 {
+        1
+    } else {
+        0
+    }
+}
+
 /// 0 for equal numbers, else both as one number.
 fn pair(first: u64, second: u64) -> u64
     ensures { result ≡ pair_of first second }
@@ -87,6 +101,7 @@ impl Operation {
             Operation::Looser => looser(first, second),
             Operation::Tighter => looser(second, first),
             Operation::Different => { if first == second { 0 } else { 1 } }
+            Operation::Pretended => pretended(first, second),
             Operation::Pair => pair(first, second),
             Operation::NextBit => first.wrapping_mul(2).wrapping_add(second),
         }
@@ -108,7 +123,8 @@ impl Operation {
     {
         match self {
             Operation::Fold | Operation::NextBit => false,
-            Operation::Looser | Operation::Tighter | Operation::Different | Operation::Pair => true,
+            Operation::Looser | Operation::Tighter | Operation::Different => true,
+            Operation::Pretended | Operation::Pair => true,
         }
     }
 }

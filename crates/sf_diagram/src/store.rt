@@ -1,6 +1,6 @@
 //! A store of decision trees, in which equal trees are one node.
 
-ghost use Rattle.std.specs.Prelude.{◌≡◌, ◌≢◌, ◌↔◌, suc, ◌<◌, length, OnErr, IfOk, IfErr, IfSome};
+ghost use Rattle.std.specs.Prelude.{◌≡◌, ◌≢◌, ◌↔◌, suc, ◌<◌, ◌≤◌, length, OnErr, IfOk, IfErr, IfSome};
 ghost use Rattle.sf_diagram.specs.Trees.{Leaf, Fork, IsJoined, IsOrderedTree, IsOrderedFrom, IsReducedTree};
 ghost use Rattle.sf_diagram.specs.Stores.{empty_store, tree_at, KeepsStore, IsLawfulStore, HasNoRoom};
 ghost use Rattle.sf_diagram.specs.Nodes.{OperandsBelow, tree_of};
@@ -50,6 +50,14 @@ impl Store {
             cache: Vec::new(alloc),
             most,
         })
+    }
+
+    /// How many nodes the store has, of those that are allowed.
+    pub fn count(&self) -> usize
+        ensures count { result ≡ length self.now.trees }
+        ensures few { result ≤ self.now.most }
+    {
+        self.nodes.len()
     }
 
     /// The node at a place. The caller's condition: there is one.
