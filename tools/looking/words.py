@@ -85,7 +85,7 @@ WORDS = [
     ("reply replies", above("ask"), "what all regions tell of a question"),
     ("probe probes", only("sf_ask", "sf_crew"), "what of a question is held against a region first"),
     ("doubt doubts doubtful", above("ask"), "a verdict that leaves a question open"),
-    ("change", above("compare"), "an input that two stacks answer so that the answers are related"),
+    ("change", above("compare") | above("relations"), "an input that two stacks answer so that the answers are related"),
     ("hit hits", above("ask"), "a verdict with a member that breaks the question"),
     ("break breaks broken", above("ask"), "an input that is in a question, and its action is asked about"),
     ("query queries", only("sf_piece"), "a condition that an instruction asks for"),

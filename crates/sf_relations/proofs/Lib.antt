@@ -1,0 +1,7 @@
+pub mod NumberLemmas
+pub mod OrderLemmas
+pub mod FindingLemmas
+pub mod JoinLemmas
+pub mod PartLemmas
+pub mod KeptLemmas
+pub mod OneLemmas

@@ -1,0 +1,235 @@
+-- Inputs before others, by their bits and by their variables.
+use Rattle.std.proofs.Common.{◌≡◌, ◌⊎◌, ℕ, zero, suc, ◌+◌, ◌-◌, ◌*◌, ◌/◌, ◌%◌, ◌^◌, ◌<◌, ◌≤◌, ◌==◌, Bool, true, false, List, map, refl, sym, ap, ap₂, ◌∙◌, inl, inr, arith}
+use Rattle.std.specs.Prelude.{nat_lt, slice_index, if◌then◌else◌}
+use Rattle.std.specs.List.{range_with_len}
+use Rattle.std.proofs.lemmas.Bool.{agree_below_at, cases_eq, cases_lt, eqb-true, lt-ltb, le-ltb, ltb-true}
+use Rattle.std.proofs.lemmas.List.FromFn.{fill_by_all, get_or-map-range_with_len}
+use Rattle.std.proofs.Math.Nat.{pow-le-pow_right, pow-suc}
+use Rattle.sf_insn.specs.declared.input.Input.{Input}
+use Rattle.sf_insn.specs.Inputs.{IsInput}
+use Rattle.sf_diagram.specs.Trees.{Bits}
+use Rattle.sf_diagram.specs.LeastInputs.{IsEarlierInput}
+use Rattle.sf_behaviour.specs.InputBits.{number_by, places_of_words, words_in_order, input_first, input_number, input_by, input_bits}
+use Rattle.sf_relations.specs.Order.{bit_in_order, ComesBefore}
+
+-- ---- a word by its variables
+
+bit-more : (b : Bool) (p m : ℕ) → m < p → (if b then 1 else 0) * p + m < p * 2
+bit-more true p m l = omega arith
+bit-more false p m l = omega arith
+
+pub number-small : (first n : ℕ) (bits : Bits) → number_by first 1 n bits < 2 ^ n
+unfolding number_by
+number-small first zero bits = omega arith
+number-small first (suc n) bits =
+    rw (pow-suc 2 n) (bit-more (bits (first + 1 * (31 - n))) (2 ^ n) (number_by first 1 n bits)
+    (number-small first n bits))
+
+-- one more bit
+number-more : (first n : ℕ) (bits : Bits) → number_by first 1 (n + 1) bits
+    ≡ (if bits (first + 1 * (31 - n)) then 1 else 0) * 2 ^ n + number_by first 1 n bits
+unfolding number_by
+number-more first n bits =
+    let next : n + 1 ≡ suc n = omega arith in
+    ap (λ (m : ℕ). number_by first 1 m bits) next
+
+pub number-none : (first : ℕ) (bits : Bits) → 0 ≡ number_by first 1 0 bits
+unfolding number_by
+number-none first bits = refl
+
+pub half-small : (n : ℕ) → n < 32 → 2 ^ n * 2 ≤ 2 ^ 32
+half-small n l =
+    let two : zero < 2 = omega arith in
+    let most : suc n ≤ 32 = omega arith in
+    let bound : 2 ^ suc n ≤ 2 ^ 32 = pow-le-pow_right {n = 2} two {i = suc n} {j = 32} most in
+    omega (arith, bound, pow-suc 2 n)
+
+-- a number with one more bit, as it is added
+pub number-step : (first n : ℕ) (bits : Bits) (b : Bool) (m k : ℕ) → n < 32 → bits (first + (31 - n)) ≡ b
+    → m ≡ number_by first 1 n bits → k ≡ (if b then m + 1 * 2 ^ n % 2 ^ 32 else m)
+    → k ≡ number_by first 1 (n + 1) bits
+number-step first n bits b m k l at so_far e =
+    let place : first + 1 * (31 - n) ≡ first + (31 - n) = omega arith in
+    let here : bits (first + 1 * (31 - n)) ≡ b = ap bits place ∙ at in
+    let more : number_by first 1 (n + 1) bits ≡ (if b then 1 else 0) * 2 ^ n + number_by first 1 n bits
+    = number-more first n bits
+    ∙ ap (λ (x : Bool). (if x then 1 else 0) * 2 ^ n + number_by first 1 n bits) here in
+    by b e more
+  where
+    by : (b : Bool) → k ≡ (if b then m + 1 * 2 ^ n % 2 ^ 32 else m)
+        → number_by first 1 (n + 1) bits ≡ (if b then 1 else 0) * 2 ^ n + number_by first 1 n bits
+        → k ≡ number_by first 1 (n + 1) bits
+    by true e more = omega (arith, e, more, so_far, half-small n l, number-small first n bits)
+    by false e more = omega (arith, e, more, so_far)
+
+-- the lowest n bits are the same
+abbrev AgreeBelow : ℕ → ℕ → Bits → Bits → Type 0
+AgreeBelow first n a b = (i : ℕ) → i < n → a (first + 1 * (31 - i)) ≡ b (first + 1 * (31 - i))
+
+agree-more : (first n : ℕ) (a b : Bits) → a (first + 1 * (31 - n)) ≡ b (first + 1 * (31 - n)) → AgreeBelow first n a b
+    → AgreeBelow first (suc n) a b
+agree-more first n a b here below i l = elim (cases_eq i n) [
+  | inl e ↦ rw e here
+  | inr ne ↦ below i (omega arith)
+]
+
+-- variables that agree make one number
+same-number : (first n : ℕ) (a b : Bits) → AgreeBelow first n a b → number_by first 1 n a ≡ number_by first 1 n b
+unfolding number_by
+same-number first zero a b same = refl
+same-number first (suc n) a b same =
+    ap₂ (λ (x : Bool) (y : ℕ). (if x then 1 else 0) * 2 ^ n + y) (same n (omega arith))
+    (same-number first n a b (λ i l. same i (omega arith)))
+
+-- and variables of one number agree
+agree : (first n : ℕ) (a b : Bits) → number_by first 1 n a ≡ number_by first 1 n b → AgreeBelow first n a b
+unfolding number_by
+agree first zero a b e = λ i l. absurd (omega arith)
+agree first (suc n) a b e =
+    top (a (first + 1 * (31 - n))) (b (first + 1 * (31 - n))) refl refl (agree first n a b) e
+  where
+    top : (x y : Bool) → a (first + 1 * (31 - n)) ≡ x → b (first + 1 * (31 - n)) ≡ y
+        → (number_by first 1 n a ≡ number_by first 1 n b → AgreeBelow first n a b)
+        → (if x then 1 else 0) * 2 ^ n + number_by first 1 n a ≡ (if y then 1 else 0) * 2 ^ n + number_by first 1 n b
+        → AgreeBelow first (suc n) a b
+    top true true ea eb rest e = agree-more first n a b (ea ∙ sym eb) (rest (omega arith))
+    top false false ea eb rest e = agree-more first n a b (ea ∙ sym eb) (rest (omega arith))
+    top true false ea eb rest e = absurd (omega (arith, number-small first n b))
+    top false true ea eb rest e = absurd (omega (arith, number-small first n a))
+
+-- ---- words of an input
+
+-- each input has variables that make it
+abbrev pub HaveVariables : Type 0
+HaveVariables = (d : Input) → IsInput d → input_by (input_bits d) ≡ d
+
+-- and variables have an input
+abbrev pub AreInputs : Type 0
+AreInputs = (bits : Bits) → IsInput (input_by bits)
+
+input-word : (bits : Bits) (w : ℕ) → w < 16 → slice_index (input_by bits).words w ≡ input_number bits w
+input-word bits w l =
+    let same : 0 + w ≡ w = omega arith in
+    get_or-map-range_with_len (input_number bits) 0 16 w w 0 l same
+
+place-of-word : (place : ℕ) → place < 16 → slice_index places_of_words (slice_index words_in_order place) ≡ place
+place-of-word place l = eqb-true (slice_index places_of_words (slice_index words_in_order place)) place
+    (agree_below_at (λ n. slice_index places_of_words (slice_index words_in_order n) == n) (λ n. true) 16 place refl l)
+
+word-there : (place : ℕ) → place < 16 → slice_index words_in_order place < 16
+word-there place l = ltb-true (slice_index words_in_order place) 16
+    (agree_below_at (λ n. nat_lt (slice_index words_in_order n) 16) (λ n. true) 16 place refl l)
+
+place-there : (w : ℕ) → w < 16 → slice_index places_of_words w < 16
+place-there w l = ltb-true (slice_index places_of_words w) 16
+    (agree_below_at (λ n. nat_lt (slice_index places_of_words n) 16) (λ n. true) 16 w refl l)
+
+-- the word at a place of the order has the next 32 variables
+word-number : (bits : Bits) (place : ℕ) → place < 16
+    → slice_index (input_by bits).words (slice_index words_in_order place) ≡ number_by (576 + 32 * place) 1 32 bits
+word-number bits place l =
+    input-word bits (slice_index words_in_order place) (word-there place l)
+    ∙ ap (λ (p : ℕ). number_by (576 + 32 * p) 1 32 bits) (place-of-word place l)
+
+abbrev pub with_words : List ℕ → Input
+with_words ws = record { words = ws }
+
+-- variables that agree behind those of registers make one input
+pub same-input : (a b : Bits) → AreInputs → ((p : ℕ) → p < 512 → a (576 + p) ≡ b (576 + p)) → input_by a ≡ input_by b
+same-input a b inputs same =
+    let words : (input_by a).words ≡ map (input_number b) (range_with_len 0 16)
+    = fill_by_all (input_number b) (input_by a).words 16 0 (inputs a).sixteen (λ w l.
+    input-word a w l ∙ same-number (input_first w) 32 a b (λ i li.
+    let there = place-there w l in
+    let p : ℕ = 32 * slice_index places_of_words w + (31 - i) in
+    let at : input_first w + 1 * (31 - i) ≡ 576 + p = omega arith in
+    rw at (same p (omega (arith, there))))) in
+    ap (λ (ws : List ℕ). with_words ws) words
+
+-- the bits of an input that variables make are these variables
+made-bits : (bits : Bits) → HaveVariables → AreInputs → (p : ℕ) → p < 512
+    → bit_in_order (input_by bits) p ≡ bits (576 + p)
+made-bits bits have inputs p l =
+    let others : Bits = input_bits (input_by bits) in
+    let place : ℕ = p / 32 in
+    let i : ℕ = 31 - p % 32 in
+    let at : 576 + 32 * place + 1 * (31 - i) ≡ 576 + p = omega arith in
+    let word : number_by (576 + 32 * place) 1 32 others ≡ number_by (576 + 32 * place) 1 32 bits
+    = sym (word-number others place (omega arith))
+    ∙ ap (λ (d : Input). slice_index d.words (slice_index words_in_order place)) (have (input_by bits) (inputs bits))
+    ∙ word-number bits place (omega arith) in
+    rw at at (agree (576 + 32 * place) 32 others bits word i (omega arith))
+
+-- ---- inputs before others
+
+-- the variables of an input, with other variables in front
+abbrev behind : Bits → Input → Bits
+behind front d v = if nat_lt v 576 then front v else input_bits d v
+
+behind-bit : (front : Bits) (d : Input) (p : ℕ) → behind front d (576 + p) ≡ bit_in_order d p
+behind-bit front d p =
+    let not_before : 576 ≤ 576 + p = omega arith in
+    rw (le-ltb (576 + p) 576 not_before) refl
+
+-- variables of an input that come before others
+pub record AreEarlierVariables (d : Input) (others : Bits) : Type 0 where
+  pub bits : Bits
+  pub made : input_by bits ≡ d
+  pub earlier : IsEarlierInput bits others
+
+-- an input that comes before that of some variables has variables that come before them
+pub earlier-variables : (others : Bits) (d : Input) → HaveVariables → AreInputs → IsInput d
+    → ComesBefore d (input_by others) → AreEarlierVariables d others
+earlier-variables others d have inputs h before = record {
+  bits = behind others d;
+  made = same-input (behind others d) (input_bits d) inputs (λ p l. behind-bit others d p) ∙ have d h;
+  earlier = (
+    576 + before.place,
+    behind-bit others d before.place ∙ before.lower,
+    sym (made-bits others have inputs before.place before.within) ∙ before.higher,
+    λ v l. elim (cases_lt v 576) [
+      | inl low ↦ rw (lt-ltb v 576 low) refl
+      | inr high ↦
+          let p : ℕ = v - 576 in
+          let at : 576 + p ≡ v = omega arith in
+          rw at at (behind-bit others d p ∙ before.same p (omega arith)
+          ∙ made-bits others have inputs p (omega (arith, before.within)))
+    ],
+  );
+}
+
+-- of two inputs one comes before the other, unless their first n bits are the same
+pub first-difference : (a b : Input) (n : ℕ) → n ≤ 512
+    → ((p : ℕ) → p < n → bit_in_order a p ≡ bit_in_order b p) ⊎ (ComesBefore a b ⊎ ComesBefore b a)
+first-difference a b zero l = inl (λ p q. absurd (omega arith))
+first-difference a b (suc n) l = elim (first-difference a b n (omega arith)) [
+  | inr found ↦ inr found
+  | inl same ↦ here (bit_in_order a n) (bit_in_order b n) refl refl same
+]
+  where
+    next : ((p : ℕ) → p < n → bit_in_order a p ≡ bit_in_order b p) → bit_in_order a n ≡ bit_in_order b n
+        → (p : ℕ) → p < suc n → bit_in_order a p ≡ bit_in_order b p
+    next same e p q = elim (cases_eq p n) [
+      | inl at ↦ rw at e
+      | inr ne ↦ same p (omega arith)
+    ]
+
+    here : (x y : Bool) → bit_in_order a n ≡ x → bit_in_order b n ≡ y
+        → ((p : ℕ) → p < n → bit_in_order a p ≡ bit_in_order b p)
+        → ((p : ℕ) → p < suc n → bit_in_order a p ≡ bit_in_order b p) ⊎ (ComesBefore a b ⊎ ComesBefore b a)
+    here true true ea eb same = inl (next same (ea ∙ sym eb))
+    here false false ea eb same = inl (next same (ea ∙ sym eb))
+    here false true ea eb same = inr (inl (record {
+      place = n;
+      within = omega arith;
+      lower = ea;
+      higher = eb;
+      same = same;
+    }))
+    here true false ea eb same = inr (inr (record {
+      place = n;
+      within = omega arith;
+      lower = eb;
+      higher = ea;
+      same = λ p q. sym (same p q);
+    }))

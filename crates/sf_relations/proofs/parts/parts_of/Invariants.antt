@@ -1,0 +1,12 @@
+use Rattle.std.proofs.Common.{◌-◌, length, drop}
+use Rattle.sf_diagram.specs.Stores.{KeepsStore}
+use Rattle.sf_behaviour.specs.Answering.{IsBehaviour}
+use Rattle.sf_relations.specs.Parts.{AreParts}
+use Rattle.sf_relations.proofs.parts.parts_of.Given as goal
+
+abbrev pub invariant-loop-i : goal.invariant-loop-i
+invariant-loop-i l = record {
+  keeps : KeepsStore l.fn.store l.store;
+  so_far : IsBehaviour (drop (length l.programs - l.i) l.programs) l.store.trees l.so_far;
+  parts : AreParts l.store.trees l.programs l.i l.alone.items l.last.items;
+}

@@ -1,0 +1,13 @@
+-- What a comparison of two stacks finds.
+use Rattle.std.specs.Prelude.{List}
+use Rattle.sf_check.specs.declared.insn.Insn.{Insn}
+use Rattle.sf_relations.specs.declared.relation.Relation.TheVariants.{Looser, Tighter, Different, Pretended}
+use Rattle.sf_relations.specs.declared.findings.Findings.{Findings}
+use Rattle.sf_relations.specs.Changes.{IsFinding}
+
+-- of each relation between the answers of an old stack and of a new one
+pub record AreFindingsBetween (old new : List (List Insn)) (f : Findings) : Type 0 where
+  pub looser : IsFinding old new Looser f.looser
+  pub tighter : IsFinding old new Tighter f.tighter
+  pub different : IsFinding old new Different f.different
+  pub pretended : IsFinding old new Pretended f.pretended
