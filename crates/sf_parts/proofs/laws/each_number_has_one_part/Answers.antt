@@ -1,0 +1,17 @@
+use Rattle.std.proofs.Common.{◌≡◌, ℕ, List, [], ◌∷◌, refl, ap, ◌∙◌}
+use Rattle.std.specs.Prelude.{◌+◌, count_by, if◌then◌else◌}
+use Rattle.std.proofs.lemmas.List.Sums.{sum_by-cons}
+use Rattle.sf_parts.specs.Parts.{PartData, form_has, parts_in}
+use Rattle.sf_parts.proofs.HolderLemmas.{holders, AreParts}
+use Rattle.sf_parts.proofs.WayLemmas.{parts_in-right}
+use Rattle.sf_parts.proofs.laws.each_number_has_one_part.Goals as goal
+
+holders-count : (n : ℕ) (ps : List PartData) → count_by (λ p. form_has p.form n) ps ≡ holders n ps
+holders-count n [] = refl
+holders-count n (p ∷ ps) =
+    sum_by-cons (λ (q : PartData). if form_has q.form n then 1 else 0) p ps
+    ∙ ap (λ (m : ℕ). (if form_has p.form n then 1 else 0) + m) (holders-count n ps)
+
+pub returns : goal.returns
+returns c = λ word apart t n o.
+    holders-count n (parts_in word apart t) ∙ (parts_in-right word apart t o).once n

@@ -1,0 +1,15 @@
+use Rattle.std.proofs.Common.{◌≡◌, ◌<◌, ◌++◌, ◌∷◌, [], length, map, drop}
+use Rattle.std.specs.Prelude.{All}
+use Rattle.sf_diagram.specs.Stores.{tree_at}
+use Rattle.sf_parts.specs.Parts.{behinds_after}
+use Rattle.sf_parts.specs.Stored.{run_seen}
+use Rattle.sf_parts.proofs.parts.behinds_of.Given as goal
+
+abbrev pub invariant-loop-run : goal.invariant-loop-run
+invariant-loop-run l = record {
+  kept : All (λ b. b < length l.store.trees) l.known.items;
+  so_far : map (tree_at l.store.trees) l.known.items
+      ++ behinds_after (tree_at l.store.trees l.rest ∷ map (tree_at l.store.trees) l.known.items)
+      (map (run_seen l.store.trees) (drop l.run-index l.runs))
+      ≡ behinds_after (tree_at l.store.trees l.rest ∷ []) (map (run_seen l.store.trees) l.runs);
+}

@@ -1,0 +1,5 @@
+pub mod Words
+pub mod Runs
+pub mod Parts
+pub mod Rows
+pub mod Stored
