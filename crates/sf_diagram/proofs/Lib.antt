@@ -1,8 +1,6 @@
 pub mod TreeLemmas
 pub mod NodeLemmas
-pub mod ChoiceLemmas
-pub mod IndexLemmas
-pub mod MergeLemmas
-pub mod LeastLemmas
+pub mod TaskLemmas
 pub mod SpentLemmas
-pub mod CacheLemmas
+pub mod IndexLemmas
+pub mod LeastLemmas

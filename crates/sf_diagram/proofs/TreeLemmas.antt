@@ -1,8 +1,9 @@
 -- Ordered reduced trees with one value on each input are equal.
-use Rattle.std.proofs.Common.{◌≡◌, ◌≢◌, ℕ, zero, suc, ◌+◌, ◌<◌, ◌≤◌, ◌==◌, Bool, true, false, refl, sym, ap, ◌∙◌, inl, inr, arith}
+use Rattle.std.proofs.Common.{◌≡◌, ◌≢◌, ℕ, suc, ◌<◌, ◌==◌, Bool, true, false, refl, sym, ap, ◌∙◌, inl, inr, arith}
 use Rattle.std.specs.Prelude.{if◌then◌else◌}
-use Rattle.std.proofs.lemmas.Bool.{cases_order}
+use Rattle.std.proofs.lemmas.Bool.{cases_lt, cases_order}
 use Rattle.sf_diagram.specs.Trees.{Tree, Leaf, Fork, Bits, value, IsOrderedFrom, IsOrderedTree, IsReducedTree}
+use Rattle.sf_diagram.specs.Tasks.{AreFrom}
 
 -- an input with one variable set to b
 abbrev pub with_bit : Bits → ℕ → Bool → Bits
@@ -14,16 +15,21 @@ with_bit-same bits v b = grind arith
 pub with_bit-other : (bits : Bits) (v : ℕ) (b : Bool) (w : ℕ) → w ≢ v → with_bit bits v b w ≡ bits w
 with_bit-other bits v b w h = grind arith
 
+-- no variable below n matters to a tree that is ordered from n on
+pub value-from : (t : Tree) (n : ℕ) → IsOrderedFrom n t → AreFrom n (value t)
+value-from (Leaf c) n o x y same = refl
+value-from (Fork v p q) n o x y same =
+    rw (
+      same v o.0,
+      value-from p (suc v) o.1 x y (λ w l. same w (omega (arith, o.0, l))),
+      value-from q (suc v) o.2 x y (λ w l. same w (omega (arith, o.0, l))),
+    ) refl
+
 -- a variable above a tree does not matter to it
 pub value-above : (t : Tree) (n v : ℕ) (b : Bool) (bits : Bits) → IsOrderedFrom n t → v < n
     → value t (with_bit bits v b) ≡ value t bits
-value-above (Leaf c) n v b bits o l = refl
-value-above (Fork w p q) n v b bits o l =
-    rw (
-      with_bit-other bits v b w (λ e. absurd (omega (arith, e, o.0))),
-      value-above p (suc w) v b bits o.1 (omega (arith, o.0)),
-      value-above q (suc w) v b bits o.2 (omega (arith, o.0)),
-    ) refl
+value-above t n v b bits o l =
+    value-from t n o (with_bit bits v b) bits (λ w le. with_bit-other bits v b w (omega arith))
 
 pub value-lower : (v : ℕ) (p q : Tree) (bits : Bits) → IsOrderedFrom (suc v) p
     → value (Fork v p q) (with_bit bits v false) ≡ value p bits
@@ -33,66 +39,69 @@ pub value-higher : (v : ℕ) (p q : Tree) (bits : Bits) → IsOrderedFrom (suc v
     → value (Fork v p q) (with_bit bits v true) ≡ value q bits
 value-higher v p q bits o = rw (with_bit-same bits v true) (value-above q (suc v) v true bits o (omega arith))
 
-pub ordered-weaker : (t : Tree) (m n : ℕ) → IsOrderedFrom n t → m ≤ n → IsOrderedFrom m t
-ordered-weaker (Leaf c) m n o l = tt
-ordered-weaker (Fork v p q) m n o l = (omega (arith, o.0), o.1, o.2)
-
-abbrev size : Tree → ℕ
-size (Leaf c) = 1
-size (Fork v p q) = size p + size q + 1
-
 abbrev AreOne : Tree → Tree → Type 0
 AreOne s t = (bits : Bits) → value s bits ≡ value t bits
 
--- trees up to this size in sum are equal where their values are
-abbrev IsOneUpTo : ℕ → Type 0
-IsOneUpTo fuel = (s t : Tree) → size s + size t ≤ fuel → IsOrderedTree s → IsReducedTree s → IsOrderedTree t
-    → IsReducedTree t
-    → AreOne s t → s ≡ t
+-- each ordered reduced tree that has the values of this one is this one
+abbrev IsAlone : Tree → Type 0
+IsAlone s = (t : Tree) (n : ℕ) → IsOrderedFrom n t → IsReducedTree t → AreOne s t → s ≡ t
 
-size-some : (t : Tree) → 1 ≤ size t
-size-some (Leaf c) = omega arith
-size-some (Fork v p q) = omega arith
+leaf-alone : (c : ℕ) → IsAlone (Leaf c)
+leaf-alone c (Leaf d) n o r same = ap Leaf (same (λ _. false))
+leaf-alone c (Fork w p q) n o r same =
+    let low : Leaf c ≡ p =
+    leaf-alone c p (suc w) o.1 r.1 (λ x. same (with_bit x w false) ∙ value-lower w p q x o.1) in
+    let high : Leaf c ≡ q =
+    leaf-alone c q (suc w) o.2 r.2 (λ x. same (with_bit x w true) ∙ value-higher w p q x o.2) in
+    absurd (r.0 (sym low ∙ high))
 
--- a fork whose variable is above another tree has not that tree's value on each input
-one-above : (fuel v : ℕ) (p q t : Tree) → IsOneUpTo fuel → size p + size q + size t ≤ fuel
-    → IsOrderedTree (Fork v p q) → IsReducedTree (Fork v p q) → IsOrderedFrom (suc v) t → IsReducedTree t
-    → AreOne (Fork v p q) t → ⊥
-one-above fuel v p q t h l o r ot rt same =
-    let low : p ≡ t = h p t (omega arith) (ordered-weaker p 0 (suc v) o.1 (omega arith)) r.1
-    (ordered-weaker t 0 (suc v) ot (omega arith)) rt (λ x. sym (value-lower v p q x o.1)
-    ∙ same (with_bit x v false) ∙ value-above t (suc v) v false x ot (omega arith)) in
-    let high : q ≡ t = h q t (omega arith) (ordered-weaker q 0 (suc v) o.2 (omega arith)) r.2
-    (ordered-weaker t 0 (suc v) ot (omega arith)) rt (λ x. sym (value-higher v p q x o.2)
-    ∙ same (with_bit x v true) ∙ value-above t (suc v) v true x ot (omega arith)) in
-    r.0 (low ∙ sym high)
-
-one-step : (fuel : ℕ) → IsOneUpTo fuel → IsOneUpTo (suc fuel)
-one-step fuel h (Leaf c) (Leaf d) l os rs ot rt same = ap Leaf (same (λ _. false))
-one-step fuel h (Leaf c) (Fork w p q) l os rs ot rt same =
-    absurd (one-above fuel w p q (Leaf c) h (omega arith) ot rt tt tt (λ x. sym (same x)))
-one-step fuel h (Fork v p q) (Leaf d) l os rs ot rt same =
-    absurd (one-above fuel v p q (Leaf d) h (omega arith) os rs tt tt same)
-one-step fuel h (Fork v p q) (Fork w r s) l os rs ot rt same = elim (cases_order v w) [
-  | inr (inl less) ↦ absurd (one-above fuel v p q (Fork w r s) h (omega arith) os rs (omega arith, ot.1, ot.2) rt same)
+fork-alone : (v : ℕ) (p q : Tree) → IsAlone p → IsAlone q → IsOrderedFrom (suc v) p → IsOrderedFrom (suc v) q
+    → p ≢ q → IsAlone (Fork v p q)
+fork-alone v p q hp hq op oq ne (Leaf d) n o r same =
+    let low : p ≡ Leaf d = hp (Leaf d) 0 tt tt (λ x. sym (value-lower v p q x op) ∙ same (with_bit x v false)) in
+    let high : q ≡ Leaf d = hq (Leaf d) 0 tt tt (λ x. sym (value-higher v p q x oq) ∙ same (with_bit x v true)) in
+    absurd (ne (low ∙ sym high))
+fork-alone v p q hp hq op oq ne (Fork w s t) n o r same = elim (cases_order v w) [
   | inl e ↦ (
-      let also : AreOne (Fork v p q) (Fork v r s) = rw (← e) at same in
-      let otr : IsOrderedFrom (suc v) r = rw e ot.1 in
-      let ots : IsOrderedFrom (suc v) s = rw e ot.2 in
-      let low : p ≡ r = h p r (omega arith) (ordered-weaker p 0 (suc v) os.1 (omega arith)) rs.1
-      (ordered-weaker r 0 (suc v) otr (omega arith)) rt.1
-      (λ x. sym (value-lower v p q x os.1) ∙ also (with_bit x v false) ∙ value-lower v r s x otr) in
-      let high : q ≡ s = h q s (omega arith) (ordered-weaker q 0 (suc v) os.2 (omega arith)) rs.2
-      (ordered-weaker s 0 (suc v) ots (omega arith)) rt.2
-      (λ x. sym (value-higher v p q x os.2) ∙ also (with_bit x v true) ∙ value-higher v r s x ots) in
+      let low : p ≡ s = hp s (suc w) o.1 r.1 (λ x. sym (value-lower v p q x op) ∙ same (with_bit x v false)
+      ∙ rw e (value-lower w s t x o.1)) in
+      let high : q ≡ t = hq t (suc w) o.2 r.2 (λ x. sym (value-higher v p q x oq) ∙ same (with_bit x v true)
+      ∙ rw e (value-higher w s t x o.2)) in
       rw (e, low, high) refl)
-  | inr (inr more) ↦ absurd (one-above fuel w r s (Fork v p q) h (omega arith) ot rt (omega arith, os.1, os.2) rs
-      (λ x. sym (same x)))
+  | inr (inl less) ↦ (
+      let u : Tree = Fork w s t in
+      let ou : IsOrderedFrom (suc v) u = (omega arith, o.1, o.2) in
+      let low : p ≡ u = hp u (suc v) ou r (λ x. sym (value-lower v p q x op) ∙ same (with_bit x v false)
+      ∙ value-above u (suc v) v false x ou (omega arith)) in
+      let high : q ≡ u = hq u (suc v) ou r (λ x. sym (value-higher v p q x oq) ∙ same (with_bit x v true)
+      ∙ value-above u (suc v) v true x ou (omega arith)) in
+      absurd (ne (low ∙ sym high)))
+  | inr (inr more) ↦ (
+      let u : Tree = Fork v p q in
+      let ou : IsOrderedFrom (suc w) u = (omega arith, op, oq) in
+      let low : u ≡ s = fork-alone v p q hp hq op oq ne s (suc w) o.1 r.1 (λ x.
+      sym (value-above u (suc w) w false x ou (omega arith)) ∙ same (with_bit x w false) ∙ value-lower w s t x o.1) in
+      let high : u ≡ t = fork-alone v p q hp hq op oq ne t (suc w) o.2 r.2 (λ x.
+      sym (value-above u (suc w) w true x ou (omega arith)) ∙ same (with_bit x w true) ∙ value-higher w s t x o.2) in
+      absurd (r.0 (sym low ∙ high)))
 ]
 
-one : (fuel : ℕ) → IsOneUpTo fuel
-one zero s t l os rs ot rt same = absurd (omega (arith, size-some s))
-one (suc fuel) s t l os rs ot rt same = one-step fuel (one fuel) s t l os rs ot rt same
+alone : (s : Tree) (n : ℕ) → IsOrderedFrom n s → IsReducedTree s → IsAlone s
+alone (Leaf c) n o r = leaf-alone c
+alone (Fork v p q) n o r =
+    fork-alone v p q (alone p (suc v) o.1 r.1) (alone q (suc v) o.2 r.2) o.1 o.2 r.0
 
 pub one-tree : (s t : Tree) → IsOrderedTree s → IsReducedTree s → IsOrderedTree t → IsReducedTree t → AreOne s t → s ≡ t
-one-tree s t os rs ot rt same = one (size s + size t) s t (omega arith) os rs ot rt same
+one-tree s t os rs ot rt same = alone s 0 os rs t 0 ot rt same
+
+-- an ordered reduced tree to whose values no variable below n matters is ordered from n on
+pub ordered-from : (t : Tree) (n : ℕ) (f : Bits → ℕ) → IsOrderedTree t → IsReducedTree t
+    → ((bits : Bits) → value t bits ≡ f bits) → AreFrom n f → IsOrderedFrom n t
+ordered-from (Leaf c) n f o r same from = tt
+ordered-from (Fork v p q) n f o r same from = elim (cases_lt v n) [
+  | inl less ↦ absurd (r.0 (alone p (suc v) o.1 r.1 q (suc v) o.2 r.2 (λ x. sym (value-lower v p q x o.1)
+      ∙ same (with_bit x v false) ∙ from (with_bit x v false) (with_bit x v true) (λ w l.
+      with_bit-other x v false w (omega arith) ∙ sym (with_bit-other x v true w (omega arith)))
+      ∙ sym (same (with_bit x v true)) ∙ value-higher v p q x o.2)))
+  | inr le ↦ (le, o.1, o.2)
+]

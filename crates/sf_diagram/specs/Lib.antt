@@ -2,10 +2,10 @@ pub mod Trees
 pub mod TreeCode
 pub mod Stores
 pub mod Nodes
-pub mod Parts
 pub mod Choices
 pub mod Operations
 pub mod Merges
+pub mod Tasks
 pub mod LeastInputs
 pub mod Index
 pub mod Remembered

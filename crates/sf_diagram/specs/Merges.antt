@@ -1,6 +1,6 @@
 -- A tree that an operation makes of two others.
 use Rattle.std.specs.Prelude.{◌≡◌, ℕ}
-use Rattle.sf_diagram.specs.Trees.{Tree, Bits, value, IsOrderedFrom}
+use Rattle.sf_diagram.specs.Trees.{Tree, Bits, value}
 use Rattle.sf_diagram.specs.Operations.{merged_of}
 use Rattle.sf_diagram.specs.declared.operation.Operation.{Operation}
 
@@ -8,8 +8,6 @@ use Rattle.sf_diagram.specs.declared.operation.Operation.{Operation}
 abbrev pub merged_value : Operation → Tree → Tree → Bits → ℕ
 merged_value operation first second bits = merged_of operation (value first bits) (value second bits)
 
--- On each input the last tree has the number that the operation makes of the values of the other two. It has no
--- variable that is less than all of theirs.
+-- on each input the last tree has the number that the operation makes of the values of the other two
 pub record IsMerged (operation : Operation) (first second t : Tree) : Type 0 where
   pub values : (bits : Bits) → value t bits ≡ merged_value operation first second bits
-  pub ordered : (n : ℕ) → IsOrderedFrom n first → IsOrderedFrom n second → IsOrderedFrom n t

@@ -1,5 +1,5 @@
 -- The nodes of a store, and the trees for which they stand.
-use Rattle.std.specs.Prelude.{◌≡◌, ℕ, ◌<◌, ◌^◌, List, [], ◌∷◌, ◌++◌, length, slice_index_or}
+use Rattle.std.specs.Prelude.{◌≡◌, ℕ, ◌<◌, List, [], ◌∷◌, ◌++◌, length, slice_index_or}
 use Rattle.sf_diagram.specs.Trees.{Tree, Leaf, Fork}
 use Rattle.sf_diagram.specs.Stores.{tree_at, AreCanonical}
 use Rattle.sf_diagram.specs.declared.index.Node.{Node}
@@ -30,7 +30,6 @@ trees_of ns = trees_after [] ns
 
 -- the operands of each node are older, and the trees of the nodes are canonical
 pub record IsStore (ns : List Node) : Type 0 where
-  pub small : length ns < 2 ^ 32
   pub count : length (trees_of ns) ≡ length ns
   pub older : (i : ℕ) → i < length ns → OperandsBelow i (stored_node ns i)
   pub trees : (i : ℕ) → i < length ns → tree_at (trees_of ns) i ≡ tree_of (trees_of ns) (stored_node ns i)

@@ -1,6 +1,6 @@
 //! Nodes, with an index by which an equal node is found without going through all of them.
 
-ghost use Rattle.std.specs.Prelude.{◌≡◌, ◌≢◌, ℕ, ◌+◌, ◌<◌, ◌^◌, List, [], ◌∷◌, ◌++◌, length, OnOk, OnErr, IfOk, IsTrue, false};
+ghost use Rattle.std.specs.Prelude.{◌≡◌, ◌≢◌, ℕ, ◌+◌, ◌<◌, ◌^◌, List, [], ◌∷◌, ◌++◌, length, IfSome, IfNone, OnOk, OnErr, IfOk, IsTrue, false};
 ghost use Rattle.sf_diagram.specs.Nodes.{stored_node};
 ghost use Rattle.sf_diagram.specs.Index.{bucket_of, nodes_of, IsInBuckets};
 
@@ -19,6 +19,9 @@ pub enum Node {
     Choice(u16, Id, Id),
 }
 
+/// A store has many nodes.
+const _: () = prove!(size_of::<Node>() <= 16);
+
 /// A node, and where to look next for a node of its hash.
 #[derive(Clone, Copy)]
 pub(crate) struct Interned {
@@ -27,9 +30,6 @@ pub(crate) struct Interned {
     /// One more than the place of the newest older node of the same hash, or 0 where there is none.
     pub(crate) link: u32,
 }
-
-/// How many buckets an index without nodes has.
-const BUCKETS: usize = 1023;
 
 /// The hash of a node, which is the number of its bucket: equal nodes have the same one. The factors only spread the
 /// nodes over the buckets. The caller's condition: there are buckets.
@@ -60,10 +60,10 @@ fn is_same(a: Node, b: Node) -> bool
 /// nodes, as `Indexed` keeps them.
 fn place_of(interned: &[Interned], heads: &[u32], node: Node) -> Option<usize>
     requires indexed { IsInBuckets interned.now heads.now }
-    ensures found { (i : ℕ) → result ≡ Some i → (i < length (nodes_of interned.now))
-        × (stored_node (nodes_of interned.now) i ≡ node) }
-    ensures absent { result ≡ None → (i : ℕ) → i < length (nodes_of interned.now)
-        → stored_node (nodes_of interned.now) i ≢ node }
+    ensures found { IfSome result (λ i. (i < length (nodes_of interned.now))
+        × (stored_node (nodes_of interned.now) i ≡ node)) }
+    ensures absent { IfNone result ((i : ℕ) → i < length (nodes_of interned.now)
+        → stored_node (nodes_of interned.now) i ≢ node) }
 {
     let mut next = heads[hash(node, heads.len())] as usize;
     // `next` is one more than the place to look at, as heads and links are.
@@ -118,16 +118,9 @@ impl Model for Indexed {
 }
 
 impl Indexed {
-    /// No nodes. `AllocError` where an allocation is refused.
-    pub(crate) fn new(alloc: Global) -> Result<Indexed, AllocError>
-        ensures { IfOk result (λ n. n ≡ []) }
-    {
-        Indexed::with_buckets(alloc, BUCKETS)
-    }
-
     /// No nodes, and so many buckets. `AllocError` where an allocation is refused. The caller's condition: that is not
     /// none.
-    fn with_buckets(alloc: Global, buckets: usize) -> Result<Indexed, AllocError>
+    pub(crate) fn new(alloc: Global, buckets: usize) -> Result<Indexed, AllocError>
         requires { 0 < buckets }
         ensures { IfOk result (λ n. n ≡ []) }
     {
@@ -154,10 +147,10 @@ impl Indexed {
 
     /// The place of the newest node that is equal to `node`; `None` where no node is.
     pub(crate) fn find(&self, node: Node) -> Option<usize>
-        ensures found { (i : ℕ) → result ≡ Some i → (i < length self.now)
-            × (stored_node self.now i ≡ node) }
-        ensures absent { result ≡ None → (i : ℕ) → i < length self.now
-            → stored_node self.now i ≢ node }
+        ensures found { IfSome result (λ i. (i < length self.now)
+            × (stored_node self.now i ≡ node)) }
+        ensures absent { IfNone result ((i : ℕ) → i < length self.now
+            → stored_node self.now i ≢ node) }
     {
         place_of(self.interned.as_slice(), self.heads.as_slice(), node)
     }
@@ -180,10 +173,7 @@ impl Indexed {
         ensures { IfOk result (λ n. n ≡ self.now) }
     {
         let alloc = *self.heads.allocator();
-        let mut bigger = Indexed::with_buckets(
-            alloc,
-            self.len().saturating_mul(2).saturating_add(1),
-        )?;
+        let mut bigger = Indexed::new(alloc, self.len().saturating_mul(2).saturating_add(1))?;
         for i in 0..self.len() {
             bigger.push(self.node(i))?;
         }

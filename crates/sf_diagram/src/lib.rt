@@ -1,22 +1,19 @@
 //! Ordered reduced decision diagrams over bits, with numbers at their leaves.
 #![tactic(auto)]
 
-mod cache;
-mod choice;
 mod fault;
 mod index;
 mod laws;
-mod merging;
+mod making;
 mod operation;
-mod parts;
 mod reading;
 mod store;
+mod task;
 
-pub use choice::choose;
 pub use fault::Fault;
 pub use index::{Id, Node};
 pub use laws::{equal_values_make_equal_ids, equal_values_make_equal_trees, pairs_give_both_back};
-pub use merging::merge;
+pub use making::{choose, merge};
 pub use operation::Operation;
 pub use reading::{least_input, value_of};
 pub use store::Store;

@@ -128,10 +128,3 @@ impl Operation {
         }
     }
 }
-
-/// Whether two operations are the same one.
-pub(crate) fn is_same_operation(a: Operation, b: Operation) -> bool
-    ensures { result ≡ true → a ≡ b }
-{
-    a == b
-}

@@ -4,22 +4,23 @@ ghost use Rattle.std.specs.Prelude.{◌≡◌, ◌≢◌, ◌↔◌, suc, ◌<�
 ghost use Rattle.sf_diagram.specs.Trees.{Leaf, Fork, IsJoined, IsOrderedTree, IsOrderedFrom, IsReducedTree};
 ghost use Rattle.sf_diagram.specs.Stores.{empty_store, tree_at, KeepsStore, IsLawfulStore, HasNoRoom};
 ghost use Rattle.sf_diagram.specs.Nodes.{OperandsBelow, tree_of};
-ghost use Rattle.sf_diagram.specs.Choices.{IsChosen};
-ghost use Rattle.sf_diagram.specs.Merges.{IsMerged};
+ghost use Rattle.sf_diagram.specs.Tasks.{AreBelow, wanted, HasValues};
 
-use crate::cache::{Remembered, place};
 use crate::fault::Fault;
 use crate::index::{Id, Indexed, Node};
-use crate::operation::{Operation, is_same_operation};
+use crate::task::{Remembered, Task, is_same_task, place};
 use std::alloc::Global;
 use std::marker::Model;
+
+/// How many buckets a store without nodes has.
+const BUCKETS: usize = 1023;
 
 /// Decision trees, oldest first. Each is ordered and reduced, and none stands twice.
 #[derive(Drop)]
 pub struct Store {
     // The nodes. The operands of each are older.
     nodes: Indexed,
-    // Results of operations. A new one takes the place of an older one.
+    // Results of tasks. A new one takes the place of an older one.
     cache: Vec<Remembered>,
     // How many nodes are allowed.
     most: u32,
@@ -46,7 +47,7 @@ impl Store {
         ensures memory { IfErr result (λ e. e ≡ Fault.Memory) }
     {
         Ok(Store {
-            nodes: Indexed::new(alloc)?,
+            nodes: Indexed::new(alloc, BUCKETS)?,
             cache: Vec::new(alloc),
             most,
         })
@@ -153,19 +154,22 @@ impl Store {
         Ok(literal)
     }
 
-    /// The result of choosing by these three, where it is remembered.
-    pub(crate) fn recall_chosen(&self, test: Id, taken: Id, other: Id) -> Option<Id>
+    /// The node of a task's tree, where it is remembered.
+    pub(crate) fn recall(&self, task: Task) -> Option<Id>
         ensures within { IfSome result (λ id. id < length self.now.trees) }
-        ensures chosen { IfSome result (λ id. IsChosen (tree_at self.now.trees test)
-            (tree_at self.now.trees taken) (tree_at self.now.trees other)
-            (tree_at self.now.trees id)) }
+        ensures made { IfSome result
+            (λ id. HasValues (tree_at self.now.trees id) (wanted self.now.trees task)) }
     {
         if self.cache.is_empty() {
             return None;
         }
-        match self.cache[place(test, taken, other, self.cache.len())] {
-            Remembered::Chosen(a, b, c, result) if a == test && b == taken && c == other => {
-                Some(result)
+        match self.cache[place(task, self.cache.len())] {
+            Remembered::Made(known, id) => {
+                if is_same_task(known, task) {
+                    Some(id)
+                } else {
+                    None
+                }
             }
             _ => None,
         }
@@ -186,21 +190,12 @@ impl Store {
         Ok(())
     }
 
-    /// Remembers the result of choosing by these three. `Memory` where an allocation is refused. The caller's
-    /// conditions: the four are there, and the result is right.
-    pub(crate) fn remember_chosen(
-        &mut self,
-        test: Id,
-        taken: Id,
-        other: Id,
-        chosen: Id,
-    ) -> Result<(), Fault>
-        requires test { test < length self.old.trees }
-        requires taken { taken < length self.old.trees }
-        requires other { other < length self.old.trees }
-        requires within { chosen < length self.old.trees }
-        requires chosen { IsChosen (tree_at self.old.trees test) (tree_at self.old.trees taken)
-            (tree_at self.old.trees other) (tree_at self.old.trees chosen) }
+    /// Remembers the node of a task's tree. `Memory` where an allocation is refused. The caller's conditions: all nodes
+    /// are there, and this is the tree of the task.
+    pub(crate) fn remember(&mut self, task: Task, id: Id) -> Result<(), Fault>
+        requires below { AreBelow (length self.old.trees) task }
+        requires within { id < length self.old.trees }
+        requires made { HasValues (tree_at self.old.trees id) (wanted self.old.trees task) }
         ensures same { self.new ≡ self.old }
         ensures memory { IfErr result (λ e. e ≡ Fault.Memory) }
     {
@@ -208,55 +203,8 @@ impl Store {
         if self.cache.is_empty() {
             return Ok(());
         }
-        let at = place(test, taken, other, self.cache.len());
-        self.cache[at] = Remembered::Chosen(test, taken, other, chosen);
-        Ok(())
-    }
-
-    /// The result of merging these two by the operation, where it is remembered.
-    pub(crate) fn recall_merged(&self, operation: Operation, first: Id, second: Id) -> Option<Id>
-        ensures within { IfSome result (λ id. id < length self.now.trees) }
-        ensures merged { IfSome result (λ id. IsMerged operation (tree_at self.now.trees first)
-            (tree_at self.now.trees second) (tree_at self.now.trees id)) }
-    {
-        if self.cache.is_empty() {
-            return None;
-        }
-        match self.cache[place(first, second, 1, self.cache.len())] {
-            Remembered::Merged(by, a, b, result) => {
-                if is_same_operation(by, operation) && a == first && b == second {
-                    Some(result)
-                } else {
-                    None
-                }
-            }
-            _ => None,
-        }
-    }
-
-    /// Remembers the result of merging these two by the operation. `Memory` where an allocation is refused. The
-    /// caller's conditions: the three are there, and the result is right.
-    pub(crate) fn remember_merged(
-        &mut self,
-        operation: Operation,
-        first: Id,
-        second: Id,
-        merged: Id,
-    ) -> Result<(), Fault>
-        requires first { first < length self.old.trees }
-        requires second { second < length self.old.trees }
-        requires within { merged < length self.old.trees }
-        requires merged { IsMerged operation (tree_at self.old.trees first)
-            (tree_at self.old.trees second) (tree_at self.old.trees merged) }
-        ensures same { self.new ≡ self.old }
-        ensures memory { IfErr result (λ e. e ≡ Fault.Memory) }
-    {
-        self.make_room()?;
-        if self.cache.is_empty() {
-            return Ok(());
-        }
-        let at = place(first, second, 1, self.cache.len());
-        self.cache[at] = Remembered::Merged(operation, first, second, merged);
+        let at = place(task, self.cache.len());
+        self.cache[at] = Remembered::Made(task, id);
         Ok(())
     }
 }

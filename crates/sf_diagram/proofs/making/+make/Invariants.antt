@@ -1,0 +1,5 @@
+use Rattle.sf_diagram.specs.Tasks.{weight}
+use Rattle.sf_diagram.proofs.making.+make.Given as goal
+
+abbrev pub decreases-make : goal.decreases-make
+decreases-make l = weight l.task

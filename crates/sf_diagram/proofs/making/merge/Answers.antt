@@ -1,0 +1,10 @@
+use Rattle.std.proofs.lemmas.Result.{err_from_is_err_and}
+use Rattle.sf_diagram.proofs.making.merge.Goals as goal
+
+pub returns-clause-merged : goal.returns-clause-merged
+returns-clause-merged c = record { values = c.in_ok-id.ensures.made.each }
+
+pub returns-in_err-id-clause-spent : goal.returns-in_err-id-clause-spent
+returns-in_err-id-clause-spent c =
+    let p = err_from_is_err_and c.from_residual.result c.from_residual.ensures.1 in
+    rw (p.1, p.2) c.in_err-id.ensures.spent
