@@ -1,66 +1,56 @@
 -- Diagrams of numbers, and their fold to an answer.
-use Rattle.std.proofs.Common.{◌≡◌, ℕ, ◌+◌, ◌*◌, ◌/◌, ◌%◌, ◌<◌, ◌≤◌, ◌^◌, Bool, true, false, List, [], ◌∷◌, ◌++◌, length, map, take, drop, refl, sym, ap, ap₂, subst, ◌∙◌, arith}
-use Rattle.std.specs.Prelude.{slice_index, nat_lt, if◌then◌else◌}
-use Rattle.std.proofs.Math.Nat.{le-mul_of_pos_right}
-use Rattle.std.proofs.lemmas.Nat.{and_mask, pow_pos}
+use Rattle.sf_behaviour.proofs.Common.{◌≡◌, ℕ, ◌+◌, ◌*◌, ◌/◌, ◌%◌, ◌<◌, ◌≤◌, ◌^◌, Bool, true, false, List, [], ◌∷◌, ◌++◌, length, map, refl, sym, ap, ap₂, subst, ◌∙◌, arith, slice_index, if◌then◌else◌, Input, Insn, return_of, Tree, Leaf, Bits, value, tree_at, KeepsTrees, input_by, word_value, IsDiagramOf, IsWord}
+use Rattle.std.specs.Prelude.{nat_lt}
+use Rattle.std.proofs.lemmas.Nat.{and_mask, shr_le, shr-shr}
 use Rattle.std.proofs.lemmas.Nat.Bits.{and_high_mask}
-use Rattle.std.proofs.lemmas.List.{drop_more, drop_all, map_push}
-use Rattle.sf_insn.specs.declared.input.Input.{Input}
+use Rattle.std.proofs.lemmas.List.{map_push}
 use Rattle.sf_insn.specs.Inputs.{IsInput}
-use Rattle.sf_check.specs.declared.insn.Insn.{Insn}
 use Rattle.sf_run.specs.Answers.{action_bits, data_bits, action_number, rank, Answers, IsAnswer, folded_answer}
 use Rattle.sf_run.specs.AnswerLaws.{number-action_of, answer_more, answer_none, one}
-use Rattle.sf_run.specs.Machine.{return_of, returns_of}
+use Rattle.sf_run.specs.Machine.{returns_of}
 use Rattle.sf_run.specs.declared.action.Answer.{Answer}
-use Rattle.sf_diagram.specs.Trees.{Tree, Leaf, Bits, value}
-use Rattle.sf_diagram.specs.Stores.{tree_at, KeepsTrees}
 use Rattle.sf_diagram.specs.Merges.{IsMerged}
 use Rattle.sf_diagram.specs.Operations.{folded_of}
 use Rattle.sf_diagram.specs.declared.operation.Operation.TheVariants.{Fold}
 use Rattle.sf_behaviour.specs.Answering.{answer_with, HasAnswers, IsBehaviour}
-use Rattle.sf_behaviour.specs.InputBits.{input_by}
-use Rattle.sf_behaviour.specs.Words.{word_value, IsDiagramOf, IsWord}
-use Rattle.sf_behaviour.proofs.BitLemmas.{value-kept}
 use Rattle.sf_behaviour.proofs.InputLemmas.{input-is}
 use Rattle.sf_behaviour.proofs.ReplacingLemmas.{less-if}
-use Rattle.sf_behaviour.proofs.WordLemmas.{word_value-parts, word-small}
+use Rattle.sf_behaviour.proofs.WordLemmas.{bit-now, word-small}
 
 -- ---- a number, from its highest bit on
 
 -- no bits
-pub number-begun : (ts us : List Tree) (ids : List ℕ) (id n : ℕ) (bits : Bits) → IsWord ts ids → n ≡ 32
-    → tree_at us id ≡ Leaf 0 → value (tree_at us id) bits ≡ word_value ts (drop n ids) bits
-number-begun ts us ids id n bits w e leaf =
-    let none : drop n ids ≡ [] = drop_all n ids (omega (arith, w.count)) in
-    ap (λ (t : Tree). value t bits) leaf ∙ sym (ap (λ (xs : List ℕ). word_value ts xs bits) none)
+pub number-begun : {ts : List Tree} (us : List Tree) {ids : List ℕ} (id : ℕ) (bits : Bits) → IsWord ts ids
+    → tree_at us id ≡ Leaf 0 → value (tree_at us id) bits ≡ word_value ts ids bits / 2 ^ 32
+number-begun {ts} us {ids} id bits w leaf =
+    let none : 0 ≡ word_value ts ids bits / 2 ^ 32 = omega (arith, word-small bits w) in
+    ap (λ (t : Tree). value t bits) leaf ∙ none
+
+next-bit : (q r x s v : ℕ) → q / 2 ≡ r → x ≡ q % 2 → q < 2 ^ 32 → s ≡ r → v ≡ (2 * s + x) % 2 ^ 64 → v ≡ q
+next-bit q r x s v half bit small before one = omega arith
 
 -- one bit more; m is n + 1
-pub number-more : (m n : ℕ) (ts us vs : List Tree) (ids : List ℕ) (so_far new : ℕ) (bits : Bits) → m ≡ n + 1
+pub number-more : (m n : ℕ) {ts us : List Tree} (vs : List Tree) {ids : List ℕ} (so_far new : ℕ) (bits : Bits)
+    → m ≡ n + 1
     → n < 32 → KeepsTrees ts us → IsWord ts ids
     → value (tree_at vs new) bits
     ≡ (2 * value (tree_at us so_far) bits + value (tree_at us (slice_index ids n)) bits) % 2 ^ 64
-    → value (tree_at us so_far) bits ≡ word_value ts (drop m ids) bits
-    → value (tree_at vs new) bits ≡ word_value ts (drop n ids) bits
-number-more m n ts us vs ids so_far new bits e l k w one before =
-    let long : n < length ids = omega (arith, w.count) in
-    let bit : ℕ = value (tree_at ts (slice_index ids n)) bits in
-    let rest : ℕ = word_value ts (drop m ids) bits in
-    let now : value (tree_at us (slice_index ids n)) bits ≡ bit =
-    value-kept ts us (slice_index ids n) bits k (w.each n l) in
-    let next : word_value ts (drop n ids) bits ≡ bit + 2 * rest
-    = ap (λ (xs : List ℕ). word_value ts xs bits) (drop_more ids n 0 long)
-    ∙ ap (λ (j : ℕ). bit + 2 * word_value ts (drop j ids) bits) (sym e) in
-    let parts : word_value ts ids bits ≡ word_value ts (drop n ids) bits * 2 ^ n + word_value ts (take n ids) bits
-    = word_value-parts n ts ids bits (omega arith) in
-    let most : word_value ts (drop n ids) bits ≤ word_value ts (drop n ids) bits * 2 ^ n
-    = le-mul_of_pos_right (word_value ts (drop n ids) bits) (pow_pos n) in
-    let small : word_value ts (drop n ids) bits < 2 ^ 32 = omega (arith, most, parts, word-small ts ids bits w) in
-    omega (arith, one, before, now, next, small)
+    → value (tree_at us so_far) bits ≡ word_value ts ids bits / 2 ^ m
+    → value (tree_at vs new) bits ≡ word_value ts ids bits / 2 ^ n
+number-more m n {ts} {us} vs {ids} so_far new bits e l k w one before =
+    let number : ℕ = word_value ts ids bits in
+    let most : number / 2 ^ n ≤ number = shr_le number n in
+    let less : number < 2 ^ 32 = word-small bits w in
+    let small : number / 2 ^ n < 2 ^ 32 = omega (arith, most, less) in
+    next-bit (number / 2 ^ n) (number / 2 ^ m) (value (tree_at us (slice_index ids n)) bits)
+    (value (tree_at us so_far) bits) (value (tree_at vs new) bits)
+    (shr-shr number n 1 ∙ ap (λ (j : ℕ). number / 2 ^ j) (sym e)) (bit-now n bits k w l) small before one
 
 -- all bits
-pub number-made : (n : ℕ) (ts : List Tree) (ids : List ℕ) (bits : Bits) → n ≡ 0
-    → word_value ts (drop n ids) bits ≡ word_value ts ids bits
-number-made n ts ids bits e = ap (λ (m : ℕ). word_value ts (drop m ids) bits) e
+pub number-made : (n number : ℕ) → n ≡ 0 → number / 2 ^ n ≡ number
+number-made n number e =
+    let whole : number / 2 ^ 0 ≡ number = omega arith in
+    ap (λ (m : ℕ). number / 2 ^ m) e ∙ whole
 
 -- ---- the fold
 
@@ -140,5 +130,4 @@ same-values p q ts i j h k alike bits =
     same-answer (value (tree_at ts i) bits) (value (tree_at ts j) bits) (h.small bits) (k.small bits)
     (one (returns_of q (input_by bits)) (answer_with (value (tree_at ts i) bits))
     (answer_with (value (tree_at ts j) bits))
-    (alike (input_by bits) (answer_with (value (tree_at ts i) bits)) (input-is bits) (h.answers bits))
-    (k.answers bits))
+    (alike (input_by bits) (answer_with (value (tree_at ts i) bits)) (input-is bits) (h.answers bits)) (k.answers bits))

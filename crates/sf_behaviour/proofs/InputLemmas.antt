@@ -1,16 +1,12 @@
 -- Each input is that of some variables.
-use Rattle.std.proofs.Common.{◌≡◌, ℕ, ◌+◌, ◌-◌, ◌*◌, ◌/◌, ◌%◌, ◌<◌, ◌^◌, ◌==◌, List, true, length, map, get_or, refl, sym, ap, ap₂, subst, ◌∙◌, inl, inr, arith}
-use Rattle.std.specs.Prelude.{slice_index}
+use Rattle.sf_behaviour.proofs.Common.{◌≡◌, ℕ, ◌+◌, ◌-◌, ◌*◌, ◌/◌, ◌%◌, ◌<◌, ◌^◌, ◌==◌, List, true, length, refl, sym, ap, ap₂, subst, ◌∙◌, inl, inr, arith, slice_index, bit_at, cases_lt, length-map, Bits, Input, input_by}
 use Rattle.std.specs.List.{range_with_len}
-use Rattle.std.specs.Int.{bit_at}
-use Rattle.std.proofs.lemmas.Bool.{agree_below_at, cases_lt, eqb-true}
+use Rattle.std.proofs.lemmas.Bool.{agree_below_at, eqb-true}
 use Rattle.std.proofs.lemmas.Grind.{same_number_lists}
-use Rattle.std.proofs.lemmas.List.{get_or_past, length-map}
+use Rattle.std.proofs.lemmas.List.{get_or_past}
 use Rattle.std.proofs.lemmas.List.FromFn.{length-range_with_len}
-use Rattle.sf_diagram.specs.Trees.{Bits}
-use Rattle.sf_insn.specs.declared.input.Input.{Input}
 use Rattle.sf_insn.specs.Inputs.{IsInput}
-use Rattle.sf_behaviour.specs.InputBits.{places_of_words, words_in_order, input_first, input_number, input_by, input_bits}
+use Rattle.sf_behaviour.specs.InputBits.{places_of_words, words_in_order, input_first, input_number, input_bits}
 use Rattle.sf_behaviour.proofs.VariableLemmas.{number_by-is, number_by-small, input-word, with_words}
 
 word-at-place : (w : ℕ) → w < 16 → slice_index words_in_order (slice_index places_of_words w) ≡ w
@@ -18,9 +14,9 @@ word-at-place w l = eqb-true (slice_index words_in_order (slice_index places_of_
     (agree_below_at (λ n. slice_index words_in_order (slice_index places_of_words n) == n) (λ n. true) 16 w refl l)
 
 -- a variable of a word is that bit of the word
-bit-of-word : (d : Input) (w i : ℕ) → w < 16 → i < 32
+input-bit : (d : Input) (w i : ℕ) → w < 16 → i < 32
     → input_bits d (input_first w + 1 * (31 - i)) ≡ (bit_at (slice_index d.words w) i == 1)
-bit-of-word d w i lw li =
+input-bit d w i lw li =
     let place : (576 + 32 * slice_index places_of_words w + 1 * (31 - i) - 576) / 32 ≡ slice_index places_of_words w
     = omega arith in
     let bit : 31 - (576 + 32 * slice_index places_of_words w + 1 * (31 - i)) % 32 ≡ i = omega arith in
@@ -30,7 +26,7 @@ bit-of-word d w i lw li =
 number-of-word : (d : Input) (w : ℕ) → IsInput d → w < 16 → input_number (input_bits d) w ≡ slice_index d.words w
 number-of-word d w h l =
     let small : slice_index d.words w % 2 ^ 32 ≡ slice_index d.words w = omega (arith, h.each w) in
-    number_by-is (input_first w) 1 32 (slice_index d.words w) (input_bits d) (λ i li. bit-of-word d w i l li) ∙ small
+    number_by-is (input_first w) 1 32 (slice_index d.words w) (input_bits d) (λ i li. input-bit d w i l li) ∙ small
 
 -- some variables make an input
 pub input-is : (bits : Bits) → IsInput (input_by bits)

@@ -1,25 +1,9 @@
 -- Products, bit by bit.
-use Rattle.std.proofs.Common.{◌≡◌, ℕ, zero, suc, ◌+◌, ◌*◌, ◌%◌, ◌<◌, ◌^◌, List, take, sym, ap, ap₂, ◌∙◌, arith}
-use Rattle.std.specs.Prelude.{slice_index}
+use Rattle.sf_behaviour.proofs.Common.{◌≡◌, ℕ, zero, suc, ◌+◌, ◌*◌, ◌%◌, ◌<◌, ◌^◌, List, sym, ap, ap₂, ◌∙◌, arith, slice_index, bit_at, bit_at-lt, apply, Tree, Bits, value, tree_at, KeepsTrees, chosen_of, word_value, IsWord}
 use Rattle.std.proofs.Math.Nat.{add-mod, mod-mod}
-use Rattle.sf_insn.specs.Words.{apply}
 use Rattle.sf_insn.specs.declared.ops.BinOp.TheVariants.{Add, Mul}
-use Rattle.sf_diagram.specs.Trees.{Tree, Leaf, Bits, value}
-use Rattle.sf_diagram.specs.Stores.{tree_at, KeepsTrees}
-use Rattle.sf_diagram.specs.Choices.{chosen_of}
-use Rattle.sf_behaviour.specs.Words.{word_value, IsWord, IsWordOf}
-use Rattle.sf_behaviour.specs.Shifting.{moved}
-use Rattle.sf_behaviour.specs.declared.shifting.Direction.TheVariants.{Left}
-use Rattle.sf_behaviour.proofs.BitLemmas.{value-kept}
-use Rattle.sf_behaviour.proofs.WordLemmas.{word_value-more, word-kept, number-kept, all-bits}
-use Rattle.sf_behaviour.proofs.ShiftLemmas.{moved-value}
-
-pub word-of-kept : (ts us : List Tree) (ids : List ℕ) (f : Bits → ℕ) → KeepsTrees ts us → IsWordOf ts ids f
-    → IsWordOf us ids f
-word-of-kept ts us ids f k w = record {
-  word = word-kept ts us ids k w.word;
-  values = λ bits. number-kept ts us ids bits k w.word ∙ w.values bits;
-}
+use Rattle.sf_behaviour.proofs.WordLemmas.{bit-now, number-kept}
+use Rattle.sf_behaviour.proofs.StepLemmas.{low-more}
 
 -- one more bit of the second number
 product-more : (a m b p : ℕ) → b < 2
@@ -33,44 +17,35 @@ product-more a m (suc zero) p l =
     sym (add-mod (a * m) (a * p) (2 ^ 32)) ∙ ap (λ (n : ℕ). n % 2 ^ 32) both
 product-more a m (suc (suc b)) p l = absurd (omega arith)
 
-pub product-step : (n : ℕ) (ts us vs ws : List Tree) (a b ids row new none : List ℕ) (z : ℕ) (bits : Bits)
-    → KeepsTrees ts us → KeepsTrees us vs → IsWord ts a → IsWord ts b → IsWord us ids → n < 32
-    → tree_at us z ≡ Leaf 0 → word_value us none bits ≡ 0
-    → word_value vs row bits ≡ chosen_of (value (tree_at us (slice_index b n)) bits)
-    (word_value us (moved Left a n z) bits) (word_value us none bits)
+pub product-begun : (a b v : ℕ) → v ≡ 0 → v ≡ (a * (b % 2 ^ 0)) % 2 ^ 32
+product-begun a b v e =
+    let none : 0 ≡ b % 2 ^ 0 = omega arith in
+    let empty : 0 ≡ (a * 0) % 2 ^ 32 = omega arith in
+    e ∙ empty ∙ ap (λ (m : ℕ). (a * m) % 2 ^ 32) none
+
+pub product-step : (n : ℕ) {ts us vs : List Tree} (ws : List Tree) {a b ids : List ℕ} (ms none row new : List ℕ)
+    (bits : Bits) → KeepsTrees ts us → KeepsTrees us vs → IsWord ts a → IsWord ts b → IsWord us ids → n < 32
+    → word_value us none bits ≡ 0 → word_value us ms bits ≡ (word_value us a bits * 2 ^ n) % 2 ^ 32
+    → word_value vs row bits
+    ≡ chosen_of (value (tree_at us (slice_index b n)) bits) (word_value us ms bits) (word_value us none bits)
     → word_value ws new bits ≡ apply Add (word_value vs ids bits) (word_value vs row bits)
-    → word_value us ids bits ≡ (word_value ts a bits * word_value ts (take n b) bits) % 2 ^ 32
-    → word_value ws new bits ≡ (word_value ts a bits * word_value ts (take (n + 1) b) bits) % 2 ^ 32
-product-step n ts us vs ws a b ids row new none z bits k1 k2 wa wb w l zero_is none_is row_is new_is so_far =
+    → word_value us ids bits ≡ (word_value ts a bits * (word_value ts b bits % 2 ^ n)) % 2 ^ 32
+    → word_value ws new bits ≡ (word_value ts a bits * (word_value ts b bits % 2 ^ (n + 1))) % 2 ^ 32
+product-step n {ts} {us} {vs} ws {a} {b} {ids} ms none row new bits k1 k2 wa wb w l none_is moved_is row_is new_is
+    so_far =
     let number : ℕ = word_value ts a bits in
-    let low : ℕ = word_value ts (take n b) bits in
-    let bit : ℕ = value (tree_at ts (slice_index b n)) bits in
-    let is_bit = wb.each n l in
-    let total : word_value vs ids bits ≡ (number * low) % 2 ^ 32 = number-kept us vs ids bits k2 w ∙ so_far in
-    let added : word_value us (moved Left a n z) bits ≡ (number * 2 ^ n) % 2 ^ 32
-    = moved-value Left us a n z bits (word-kept ts us a k1 wa) (omega arith) zero_is
-    ∙ ap (λ (m : ℕ). (m * 2 ^ n) % 2 ^ 32) (number-kept ts us a bits k1 wa) in
-    let part : word_value vs row bits ≡ chosen_of bit ((number * 2 ^ n) % 2 ^ 32) 0
+    let by : ℕ = word_value ts b bits in
+    let added : word_value us ms bits ≡ (number * 2 ^ n) % 2 ^ 32
+    = moved_is ∙ ap (λ (m : ℕ). (m * 2 ^ n) % 2 ^ 32) (number-kept bits k1 wa) in
+    let part : word_value vs row bits ≡ chosen_of (bit_at by n) ((number * 2 ^ n) % 2 ^ 32) 0
     = row_is
-    ∙ ap (λ (t : ℕ). chosen_of t (word_value us (moved Left a n z) bits) (word_value us none bits))
-    (value-kept ts us (slice_index b n) bits k1 is_bit)
-    ∙ ap₂ (chosen_of bit) added none_is in
-    new_is ∙ ap₂ (apply Add) total part ∙ product-more number low bit (2 ^ n) (is_bit.small bits)
-    ∙ ap (λ (m : ℕ). (number * m) % 2 ^ 32) (sym (word_value-more n ts b bits wb.count l))
+    ∙ ap (λ (t : ℕ). chosen_of t (word_value us ms bits) (word_value us none bits)) (bit-now n bits k1 wb l)
+    ∙ ap₂ (chosen_of (bit_at by n)) added none_is in
+    new_is ∙ ap₂ (apply Add) (number-kept bits k2 w ∙ so_far) part
+    ∙ product-more number (by % 2 ^ n) (bit_at by n) (2 ^ n) (bit_at-lt by n)
+    ∙ ap (λ (m : ℕ). (number * m) % 2 ^ 32) (low-more by n)
 
-pub product-begun : (ts us : List Tree) (a b none : List ℕ) (bits : Bits) → word_value us none bits ≡ 0
-    → word_value us none bits ≡ (word_value ts a bits * word_value ts (take 0 b) bits) % 2 ^ 32
-product-begun ts us a b none bits e =
-    let empty : 0 ≡ (word_value ts a bits * 0) % 2 ^ 32 = omega arith in
-    e ∙ empty
-
-pub product-made : (n : ℕ) (ts us : List Tree) (a b new : List ℕ) → n ≡ 32 → IsWord ts b → IsWord us new
-    → ((bits : Bits) → word_value us new bits ≡ (word_value ts a bits * word_value ts (take n b) bits) % 2 ^ 32)
-    → IsWordOf us new (λ bits. apply Mul (word_value ts a bits) (word_value ts b bits))
-product-made n ts us a b new e wb w so_far = record {
-  word = w;
-  values = λ bits.
-      let all : word_value ts (take n b) bits ≡ word_value ts b bits
-      = ap (λ (m : ℕ). word_value ts (take m b) bits) e ∙ all-bits ts b bits wb.count in
-      so_far bits ∙ ap (λ (m : ℕ). (word_value ts a bits * m) % 2 ^ 32) all;
-}
+pub product-made : (n a b v : ℕ) → n ≡ 32 → b < 2 ^ 32 → v ≡ (a * (b % 2 ^ n)) % 2 ^ 32 → v ≡ apply Mul a b
+product-made n a b v e l so_far =
+    let all : b % 2 ^ 32 ≡ b = omega arith in
+    so_far ∙ ap (λ (m : ℕ). (a * (b % 2 ^ m)) % 2 ^ 32) e ∙ ap (λ (m : ℕ). (a * m) % 2 ^ 32) all

@@ -1,161 +1,138 @@
 -- Quotients, bit by bit from the highest.
-use Rattle.std.proofs.Common.{◌≡◌, ℕ, zero, suc, ◌+◌, ◌-◌, ◌*◌, ◌/◌, ◌%◌, ◌<◌, ◌≤◌, ◌==◌, ◌^◌, Bool, true, false, List, [], ◌∷◌, length, take, drop, replicate, refl, sym, ap, ap₂, subst, ◌∙◌, inl, inr, arith}
-use Rattle.std.specs.Prelude.{slice_index, slice_set, nat_lt, if◌then◌else◌}
-use Rattle.std.proofs.lemmas.Bool.{ltb-true, ltb-false, cases_eq, eq-eqb, ne_eqb}
+use Rattle.sf_behaviour.proofs.Common.{◌≡◌, ℕ, zero, suc, ◌+◌, ◌-◌, ◌*◌, ◌/◌, ◌%◌, ◌<◌, ◌≤◌, ◌==◌, ◌^◌, Bool, true, false, List, [], ◌∷◌, length, refl, sym, ap, ap₂, subst, ◌∙◌, inl, inr, arith, slice_index, slice_set, if◌then◌else◌, pow-suc, leb-true, cases_eq, eq-eqb, ne_eqb, get_or-set_other, pow_pos, pow-add, apply, passes, Equal, Tree, Bits, value, tree_at, KeepsTrees, chosen_of, word_value, IsTruthOf, IsWord, IsWordOf}
+use Rattle.std.specs.Prelude.{nat_le}
+use Rattle.std.proofs.Math.Nat.{le-div_iff_mul-le, div-lt_iff_lt-mul}
+use Rattle.std.proofs.lemmas.Bool.{leb-false}
 use Rattle.std.proofs.lemmas.Nat.{div-mul-add}
-use Rattle.std.proofs.lemmas.List.{drop_more, drop-set, drop_all, length-set, get_or-set_same, get_or-set_other, length-replicate, get_or-drop, length-drop}
-use Rattle.sf_insn.specs.Words.{apply, passes}
 use Rattle.sf_insn.specs.declared.ops.BinOp.TheVariants.{Div, Sub}
-use Rattle.sf_insn.specs.declared.ops.Test.TheVariants.{Equal, Greater}
-use Rattle.sf_diagram.specs.Trees.{Tree, Leaf, Bits, value}
-use Rattle.sf_diagram.specs.Stores.{tree_at, KeepsTrees}
-use Rattle.sf_diagram.specs.Choices.{chosen_of}
-use Rattle.sf_behaviour.specs.Words.{word_value, IsTruth, IsTruthOf, IsWord, IsWordOf}
-use Rattle.sf_behaviour.specs.Shifting.{moved}
+use Rattle.sf_insn.specs.declared.ops.Test.TheVariants.{GreaterOrEqual}
 use Rattle.sf_behaviour.specs.Dividing.{IsDigit}
-use Rattle.sf_behaviour.specs.declared.shifting.Direction.TheVariants.{Left}
-use Rattle.sf_behaviour.proofs.BitLemmas.{truth-kept, value-kept}
-use Rattle.sf_behaviour.proofs.WordLemmas.{begun-word, word_value-append, word_value-more, word_value-small, word-small, all-bits, number-kept}
-use Rattle.sf_behaviour.proofs.ShiftLemmas.{moved-word}
-use Rattle.sf_behaviour.proofs.ReplacingLemmas.{keeps-both}
+use Rattle.sf_behaviour.proofs.WordLemmas.{keeps-both, truth-kept, value-kept, word-small, number-kept}
 
 -- ---- one bit
 
--- the rest r, whose highest bit is `top`, doubled, with the next bit x: d has no place for `top`
-digit-with : (t : Bool) (top low d x b : ℕ) → (t ≡ true → d < b) → (t ≡ false → b ≤ d) → low < 2 ^ 31 → top < 2
-    → x < 2 → d ≡ x + 2 * low → b < 2 ^ 32 → top * 2 ^ 31 + low < b
-    → IsDigit (top * 2 ^ 31 + low) x b (chosen_of (if t then 1 else 0) top 1)
-    (chosen_of (chosen_of (if t then 1 else 0) top 1) ((d + (2 ^ 32 - b)) % 2 ^ 32) d)
-digit-with true zero low d x b below above ll lt lx e lb lr =
-    let less : d < b = below refl in
-    record { parts = omega arith; less = less }
-digit-with true (suc zero) low d x b below above ll lt lx e lb lr =
-    let less : d < b = below refl in
+-- the divisor, moved to the bit, is q
+digit-by : (t : Bool) (r q m d : ℕ) → (t ≡ true → q ≤ r) → (t ≡ false → r < q) → r < 2 ^ 32 → r < 2 * q
+    → m ≡ q % 2 ^ 32 → d ≡ (r + (2 ^ 32 - m)) % 2 ^ 32
+    → IsDigit r q (if t then 1 else 0) (chosen_of (if t then 1 else 0) d r)
+digit-by true r q m d fits above lr twice em ed =
+    let below : q ≤ r = fits refl in
     record { parts = omega arith; less = omega arith }
-digit-with false zero low d x b below above ll lt lx e lb lr =
-    let more : b ≤ d = above refl in
-    record { parts = omega arith; less = omega arith }
-digit-with false (suc zero) low d x b below above ll lt lx e lb lr =
-    let more : b ≤ d = above refl in
-    absurd (omega arith)
-digit-with t (suc (suc top)) low d x b below above ll lt lx e lb lr = absurd (omega arith)
+digit-by false r q m d fits above lr twice em ed = record { parts = omega arith; less = above refl }
 
--- the number of a word that is doubled
-doubled : (ts : List Tree) (ids : List ℕ) (next : ℕ) (bits : Bits)
-    → word_value ts (moved Left ids 1 next) bits
-    ≡ value (tree_at ts next) bits + 2 * word_value ts (take 31 ids) bits
-doubled ts ids next bits =
-    let one : word_value ts (replicate 1 next) bits ≡ value (tree_at ts next) bits = omega arith in
-    let count : 2 ^ length (replicate 1 next) ≡ 2 ^ 1 = ap (λ (n : ℕ). 2 ^ n) (length-replicate 1 next) in
-    let all : word_value ts (moved Left ids 1 next) bits
-    ≡ word_value ts (take 31 ids) bits * 2 ^ 1 + value (tree_at ts next) bits
-    = word_value-append ts (replicate 1 next) (take 31 ids) bits
-    ∙ ap₂ (λ (p n : ℕ). word_value ts (take 31 ids) bits * p + n) count one in
-    omega (arith, all)
-
--- the same for the numbers of the diagrams, in their order
-digit-of : (top low x b d g f m l : ℕ) → low < 2 ^ 31 → top < 2 → x < 2 → b < 2 ^ 32 → top * 2 ^ 31 + low < b
-    → d ≡ x + 2 * low → g ≡ (if nat_lt d b then 1 else 0) → f ≡ chosen_of g top 1 → m ≡ (d + (2 ^ 32 - b)) % 2 ^ 32
-    → l ≡ chosen_of f m d → IsDigit (top * 2 ^ 31 + low) x b f l
-digit-of top low x b d g f m l ll lt lx lb lr e eg ef em el =
-    let w = digit-with (nat_lt d b) top low d x b (ltb-true d b) (ltb-false d b) ll lt lx e lb lr in
-    let fits : f ≡ chosen_of (if nat_lt d b then 1 else 0) top 1 = ef ∙ ap (λ (n : ℕ). chosen_of n top 1) eg in
-    let left : l ≡ chosen_of (chosen_of (if nat_lt d b then 1 else 0) top 1) ((d + (2 ^ 32 - b)) % 2 ^ 32) d
-    = el ∙ ap₂ (λ (u v : ℕ). chosen_of u v d) fits em in
+digit-of : (r b p f m d l : ℕ) → 0 < p → r < 2 ^ 32 → r < 2 * (b * p) → f ≡ (if nat_le b (r / p) then 1 else 0)
+    → m ≡ (b * p) % 2 ^ 32 → d ≡ (r + (2 ^ 32 - m)) % 2 ^ 32 → l ≡ chosen_of f d r → IsDigit r (b * p) f l
+digit-of r b p f m d l some lr twice ef em ed el =
+    let w = digit-by (nat_le b (r / p)) r (b * p) m d (λ e. (le-div_iff_mul-le some).0 (leb-true b (r / p) e))
+    (λ e. (div-lt_iff_lt-mul some).0 (leb-false b (r / p) e)) lr twice em ed in
+    let left : l ≡ chosen_of (if nat_le b (r / p) then 1 else 0) d r = el ∙ ap (λ (n : ℕ). chosen_of n d r) ef in
     record {
-      parts = w.parts ∙ ap₂ (λ (u v : ℕ). b * u + v) (sym fits) (sym left);
-      less = subst (λ (v : ℕ). v < b) (sym left) w.less;
+      parts = w.parts ∙ ap₂ (λ (u v : ℕ). b * p * u + v) (sym ef) (sym left);
+      less = subst (λ (v : ℕ). v < b * p) (sym left) w.less;
     }
+
+pub twice-less : (r b n m : ℕ) → m ≡ n + 1 → r < b * 2 ^ m → r < 2 * (b * 2 ^ n)
+twice-less r b n m e l =
+    let double : b * 2 ^ m ≡ b * (2 ^ n * 2) = ap (λ (k : ℕ). b * 2 ^ k) e ∙ ap (λ (p : ℕ). b * p) (pow-add 2 n 1) in
+    omega (arith, l, double)
+
+pub digit-made : {s0 s1 s2 s3 : List Tree} {rest : List ℕ} (b high : List ℕ) {moved : List ℕ} (reduced left : List ℕ)
+    {fits : ℕ} (n : ℕ) (bits : Bits) → KeepsTrees s0 s1 → KeepsTrees s1 s2 → KeepsTrees s2 s3 → IsWord s0 rest
+    → IsWord s0 moved
+    → word_value s0 high bits ≡ word_value s0 rest bits / 2 ^ n
+    → word_value s0 moved bits ≡ (word_value s0 b bits * 2 ^ n) % 2 ^ 32
+    → IsTruthOf s1 fits (λ bits. if passes GreaterOrEqual (word_value s0 high bits) (word_value s0 b bits)
+    then 1 else 0)
+    → word_value s2 reduced bits ≡ apply Sub (word_value s1 rest bits) (word_value s1 moved bits)
+    → word_value s3 left bits
+    ≡ chosen_of (value (tree_at s2 fits) bits) (word_value s2 reduced bits) (word_value s2 rest bits)
+    → word_value s0 rest bits < 2 * (word_value s0 b bits * 2 ^ n)
+    → IsDigit (word_value s0 rest bits) (word_value s0 b bits * 2 ^ n) (value (tree_at s3 fits) bits)
+    (word_value s3 left bits)
+digit-made {s0} {s1} {s2} {s3} {rest} b high {moved} reduced left {fits} n bits k1 k2 k3 wr wm high_is moved_is fits_is
+    reduced_is left_is twice =
+    let r : ℕ = word_value s0 rest bits in
+    let q : ℕ = word_value s0 b bits * 2 ^ n in
+    let f : ℕ = value (tree_at s1 fits) bits in
+    let fits1 : f ≡ (if nat_le (word_value s0 b bits) (r / 2 ^ n) then 1 else 0)
+    = fits_is.values bits ∙ ap (λ (h : ℕ). if nat_le (word_value s0 b bits) h then 1 else 0) high_is in
+    let fits2 : value (tree_at s2 fits) bits ≡ f = value-kept bits k2 fits_is.truth in
+    let fits3 : value (tree_at s3 fits) bits ≡ f
+    = value-kept bits k3 (truth-kept k2 fits_is.truth) ∙ fits2 in
+    let reduced_now : word_value s2 reduced bits ≡ (r + (2 ^ 32 - word_value s0 moved bits)) % 2 ^ 32
+    = reduced_is ∙ ap₂ (apply Sub) (number-kept bits k1 wr) (number-kept bits k1 wm) in
+    let left_now : word_value s3 left bits ≡ chosen_of f (word_value s2 reduced bits) r
+    = left_is ∙ ap₂ (λ (u v : ℕ). chosen_of u (word_value s2 reduced bits) v) fits2
+    (number-kept bits (keeps-both k1 k2) wr) in
+    subst (λ (v : ℕ). IsDigit r q v (word_value s3 left bits)) (sym fits3)
+    (digit-of r (word_value s0 b bits) (2 ^ n) f (word_value s0 moved bits) (word_value s2 reduced bits)
+    (word_value s3 left bits) (pow_pos n) (word-small bits wr) twice fits1 moved_is reduced_now left_now)
 
 -- ---- all bits
 
--- a divided by b is q, and r is left
-pub record IsDivision (a b q r : ℕ) : Type 0 where
+-- a divided by b is q so far, where r is left; b fits into r less than p times
+pub record IsDivision (a b q p r : ℕ) : Type 0 where
   pub parts : a ≡ b * q + r
-  pub less : r < b
+  pub less : r < b * p
 
--- one more bit
-division-more : (a b q r x f l : ℕ) → IsDivision a b q r → IsDigit r x b f l
-    → IsDivision (x + 2 * a) b (f + 2 * q) l
-division-more a b q r x f l h d = record {
-  parts = omega (arith, h.parts, d.parts);
-  less = d.less;
-}
+-- a bit that is 0 was set
+set-value : (n : ℕ) (ts : List Tree) (ids : List ℕ) (id : ℕ) (bits : Bits) → n < length ids
+    → value (tree_at ts (slice_index ids n)) bits ≡ 0 → word_value ts (slice_set ids n id) bits
+    ≡ value (tree_at ts id) bits * 2 ^ n + word_value ts ids bits
+set-value n ts [] id bits l e = absurd (omega arith)
+set-value zero ts (x ∷ ids) id bits l e = omega (arith, e)
+set-value (suc n) ts (x ∷ ids) id bits l e =
+    let double : value (tree_at ts id) bits * 2 ^ suc n ≡ value (tree_at ts id) bits * (2 ^ n * 2)
+    = ap (λ (m : ℕ). value (tree_at ts id) bits * m) (pow-suc 2 n) in
+    omega (arith, double, set-value n ts ids id bits (omega arith) e)
 
-division-is : (a b q r : ℕ) → IsDivision a b q r → q ≡ a / b
-division-is a b q r h =
-    let same : q * b + r ≡ a = omega (arith, h.parts) in
-    sym (div-mul-add q b r h.less) ∙ ap (λ (m : ℕ). m / b) same
+-- the lower bits are 0 still
+pub unset-more : (n : ℕ) {us vs : List Tree} {ids : List ℕ} (id j : ℕ) (bits : Bits) → n < 32 → KeepsTrees us vs
+    → IsWord us ids → j < n → value (tree_at us (slice_index ids j)) bits ≡ 0
+    → value (tree_at vs (slice_index (slice_set ids n id) j)) bits ≡ 0
+unset-more n {vs} {ids} id j bits l k w lj e =
+    let ne : j ≡ n → ⊥ = λ same. absurd (omega arith) in
+    ap (λ (x : ℕ). value (tree_at vs x) bits) (get_or-set_other ids n j id 0 ne)
+    ∙ value-kept bits k (w.each j (omega arith)) ∙ e
 
--- a store that has grown gives diagrams the same number
-list-kept : (ts us : List Tree) (ids : List ℕ) (bits : Bits) → KeepsTrees ts us
-    → ((i : ℕ) → i < length ids → IsTruth ts (slice_index ids i)) → word_value us ids bits ≡ word_value ts ids bits
-list-kept ts us [] bits k h = refl
-list-kept ts us (x ∷ ids) bits k h =
-    ap₂ (λ (v w : ℕ). v + 2 * w) (ap (λ (t : Tree). value t bits) (k.same x (h 0 (omega arith)).within))
-    (list-kept ts us ids bits k (λ i l. h (suc i) (omega arith)))
+pub division-begun : {ts us : List Tree} {a : List ℕ} (b : ℕ) {none : List ℕ} (bits : Bits) → KeepsTrees ts us
+    → IsWord ts a → IsWordOf us none (λ bits. 0) → 0 < b
+    → IsDivision (word_value ts a bits) b (word_value us none bits) (2 ^ 32) (word_value us a bits)
+division-begun {ts} {us} {a} b {none} bits k wa h some =
+    let number : word_value us a bits ≡ word_value ts a bits = number-kept bits k wa in
+    let product : b * word_value us none bits ≡ b * 0 = ap (λ (m : ℕ). b * m) (h.values bits) in
+    let small : word_value ts a bits < 2 ^ 32 = word-small bits wa in
+    record { parts = omega (arith, number, product); less = omega (arith, number, small, some) }
 
--- the bits from place n on are made
-pub record IsMadeFrom (n : ℕ) (ts : List Tree) (ids : List ℕ) : Type 0 where
-  pub count : length ids ≡ 32
-  pub each : (i : ℕ) → n ≤ i → i < 32 → IsTruth ts (slice_index ids i)
-
--- one more of them; m is n + 1
-pub made-more : (m n : ℕ) (ts us : List Tree) (ids : List ℕ) (id : ℕ) → m ≡ n + 1 → KeepsTrees ts us → n < 32
-    → IsMadeFrom m ts ids → IsTruth us id → IsMadeFrom n us (slice_set ids n id)
-made-more m n ts us ids id e k l b t =
-    let long : n < length ids = omega (arith, b.count) in
-    record {
-      count = length-set ids n id ∙ b.count;
-      each = λ i low high. elim (cases_eq i n) [
-        | inl same ↦ subst (λ (j : ℕ). IsTruth us j)
-            (sym (ap (λ (j : ℕ). slice_index (slice_set ids n id) j) same ∙ get_or-set_same ids n id 0 long)) t
-        | inr ne ↦
-            let above : m ≤ i = omega arith in
-            subst (λ (j : ℕ). IsTruth us j) (sym (get_or-set_other ids n i id 0 ne))
-            (truth-kept ts us (slice_index ids i) k (b.each i above high))
-      ];
-    }
-
-pub division-step : (m n : ℕ) (ts us vs : List Tree) (a b ids rest left : List ℕ) (id : ℕ) (bits : Bits)
-    → m ≡ n + 1 → n < 32 → KeepsTrees ts us → KeepsTrees us vs → IsWord ts a → IsWord ts b → IsMadeFrom m us ids
-    → IsDigit (word_value us rest bits) (value (tree_at us (slice_index a n)) bits) (word_value us b bits)
-    (value (tree_at vs id) bits) (word_value vs left bits)
-    → IsDivision (word_value ts (drop m a) bits) (word_value ts b bits) (word_value us (drop m ids) bits)
-    (word_value us rest bits)
-    → IsDivision (word_value ts (drop n a) bits) (word_value ts b bits)
-    (word_value vs (drop n (slice_set ids n id)) bits) (word_value vs left bits)
-division-step m n ts us vs a b ids rest left id bits e l k1 k2 wa wb made digit so_far =
-    let x : ℕ = value (tree_at ts (slice_index a n)) bits in
+pub division-step : (n m : ℕ) {ts us vs : List Tree} (a : ℕ) {b ids : List ℕ} (rest left : List ℕ) (id : ℕ)
+    (bits : Bits) → n < 32 → KeepsTrees ts us → KeepsTrees us vs → IsWord ts b → IsWord us ids
+    → value (tree_at us (slice_index ids n)) bits ≡ 0
+    → IsDigit (word_value us rest bits) (word_value us b bits * 2 ^ n) (value (tree_at vs id) bits)
+    (word_value vs left bits)
+    → IsDivision a (word_value ts b bits) (word_value us ids bits) (2 ^ m) (word_value us rest bits)
+    → IsDivision a (word_value ts b bits) (word_value vs (slice_set ids n id) bits) (2 ^ n) (word_value vs left bits)
+division-step n m {ts} {us} {vs} a {b} {ids} rest left id bits l k1 k2 wb w unset digit so_far =
     let number : ℕ = word_value ts b bits in
-    let now_x : value (tree_at us (slice_index a n)) bits ≡ x
-    = value-kept ts us (slice_index a n) bits k1 (wa.each n l) in
-    let now_b : word_value us b bits ≡ number = number-kept ts us b bits k1 wb in
-    let one : IsDigit (word_value us rest bits) x number (value (tree_at vs id) bits) (word_value vs left bits)
-    = record {
-      parts = ap (λ (v : ℕ). 2 * word_value us rest bits + v) (sym now_x) ∙ digit.parts
-          ∙ ap (λ (v : ℕ). v * value (tree_at vs id) bits + word_value vs left bits) now_b;
-      less = subst (λ (v : ℕ). word_value vs left bits < v) now_b digit.less;
-    } in
-    let more = division-more (word_value ts (drop m a) bits) number (word_value us (drop m ids) bits)
-    (word_value us rest bits) x (value (tree_at vs id) bits) (word_value vs left bits) so_far one in
-    let long_a : n < length a = omega (arith, wa.count) in
-    let long : n < length ids = omega (arith, made.count) in
-    let of_a : word_value ts (drop n a) bits ≡ x + 2 * word_value ts (drop m a) bits
-    = ap (λ (xs : List ℕ). word_value ts xs bits) (drop_more a n 0 long_a)
-    ∙ ap (λ (k : ℕ). x + 2 * word_value ts (drop k a) bits) (sym e) in
-    let kept : word_value vs (drop m ids) bits ≡ word_value us (drop m ids) bits
-    = list-kept us vs (drop m ids) bits k2 (λ j lj. subst (λ (i : ℕ). IsTruth us i) (sym (get_or-drop m ids j 0))
-    (made.each (m + j) (omega arith) (omega (arith, lj, length-drop m ids, made.count)))) in
-    let of_ids : word_value vs (drop n (slice_set ids n id)) bits
-    ≡ value (tree_at vs id) bits + 2 * word_value us (drop m ids) bits
-    = ap (λ (xs : List ℕ). word_value vs xs bits) (drop-set ids n id long)
-    ∙ ap (λ (k : ℕ). value (tree_at vs id) bits + 2 * word_value vs (drop k ids) bits) (sym e)
-    ∙ ap (λ (v : ℕ). value (tree_at vs id) bits + 2 * v) kept in
+    let x : ℕ = value (tree_at vs id) bits in
+    let now_b : word_value us b bits ≡ number = number-kept bits k1 wb in
+    let zero_now : value (tree_at vs (slice_index ids n)) bits ≡ 0
+    = value-kept bits k2 (w.each n l) ∙ unset in
+    let quotient : word_value vs (slice_set ids n id) bits ≡ x * 2 ^ n + word_value us ids bits
+    = set-value n vs ids id bits (omega (arith, w.count)) zero_now
+    ∙ ap (λ (v : ℕ). x * 2 ^ n + v) (number-kept bits k2 w) in
+    let parts : word_value us rest bits ≡ number * 2 ^ n * x + word_value vs left bits
+    = digit.parts ∙ ap (λ (v : ℕ). v * 2 ^ n * x + word_value vs left bits) now_b in
+    let sum : number * word_value vs (slice_set ids n id) bits ≡ number * (x * 2 ^ n + word_value us ids bits)
+    = ap (λ (v : ℕ). number * v) quotient in
     record {
-      parts = of_a ∙ more.parts ∙ ap (λ (q : ℕ). number * q + word_value vs left bits) (sym of_ids);
-      less = more.less;
+      parts = omega (arith, so_far.parts, parts, sum);
+      less = subst (λ (v : ℕ). word_value vs left bits < v * 2 ^ n) now_b digit.less;
     }
+
+division-is : (a b q r : ℕ) → a ≡ b * q + r → r < b → q ≡ a / b
+division-is a b q r parts less =
+    let same : q * b + r ≡ a = omega arith in
+    sym (div-mul-add q b r less) ∙ ap (λ (m : ℕ). m / b) same
 
 -- the quotient, and 0 where the divisor is 0
 quotient-chosen : (t a b q : ℕ) → t ≡ (if b == 0 then 1 else 0) → (0 < b → q ≡ a / b)
@@ -172,133 +149,38 @@ quotient-chosen t a b q e h = elim (cases_eq b 0) [
       ∙ ap (λ (x : Bool). if x then 0 else a / b) (sym test)
 ]
 
--- ---- one bit, as it is made
-
--- a word that is doubled, with a next bit, is a word
-pub twice-word : (ts : List Tree) (rest twice : List ℕ) (next : ℕ) → twice ≡ moved Left rest 1 next → IsWord ts rest
-    → IsTruth ts next → IsWord ts twice
-twice-word ts rest twice next e w t = subst (λ (ids : List ℕ). IsWord ts ids) (sym e)
-    (moved-word Left ts rest 1 next w t (omega arith))
-
--- What makes one bit of a quotient, in a store that grows from s0 to s5.
-pub record AreDigitSteps (s0 s1 s2 s3 s4 s5 : List Tree) (rest b twice less left : List ℕ)
-    (next one greater fits : ℕ) : Type 0 where
-  pub keeps1 : KeepsTrees s0 s1
-  pub keeps2 : KeepsTrees s1 s2
-  pub keeps3 : KeepsTrees s2 s3
-  pub keeps4 : KeepsTrees s3 s4
-  pub rest_word : IsWord s0 rest
-  pub next_bit : IsTruth s0 next
-  pub b_word : IsWord s0 b
-  pub twice_is : twice ≡ moved Left rest 1 next
-  pub greater_is : IsTruthOf s1 greater
-      (λ bits. if passes Greater (word_value s0 b bits) (word_value s0 twice bits) then 1 else 0)
-  pub one_is : tree_at s2 one ≡ Leaf 1
-  pub fits_is : IsTruthOf s3 fits (λ bits. chosen_of (value (tree_at s2 greater) bits)
-      (value (tree_at s2 (slice_index rest 31)) bits) (value (tree_at s2 one) bits))
-  pub less_is : IsWordOf s4 less (λ bits. apply Sub (word_value s3 twice bits) (word_value s3 b bits))
-  pub left_is : IsWordOf s5 left (λ bits. chosen_of (value (tree_at s4 fits) bits)
-      (word_value s4 less bits) (word_value s4 twice bits))
-
-pub digit-made : (s0 s1 s2 s3 s4 s5 : List Tree) (rest b twice less left : List ℕ) (next one greater fits : ℕ)
-    (bits : Bits) → AreDigitSteps s0 s1 s2 s3 s4 s5 rest b twice less left next one greater fits
-    → KeepsTrees s4 s5 → word_value s0 rest bits < word_value s0 b bits
-    → IsDigit (word_value s0 rest bits) (value (tree_at s0 next) bits) (word_value s0 b bits)
-    (value (tree_at s5 fits) bits) (word_value s5 left bits)
-digit-made s0 s1 s2 s3 s4 s5 rest b twice less left next one greater fits bits m k5 smaller =
-    let k02 : KeepsTrees s0 s2 = keeps-both s0 s1 s2 m.keeps1 m.keeps2 in
-    let k03 : KeepsTrees s0 s3 = keeps-both s0 s2 s3 k02 m.keeps3 in
-    let k04 : KeepsTrees s0 s4 = keeps-both s0 s3 s4 k03 m.keeps4 in
-    let twice_word : IsWord s0 twice = twice-word s0 rest twice next m.twice_is m.rest_word m.next_bit in
-    let top_bit : IsTruth s0 (slice_index rest 31) = m.rest_word.each 31 (omega arith) in
-    let top : ℕ = value (tree_at s0 (slice_index rest 31)) bits in
-    let low : ℕ = word_value s0 (take 31 rest) bits in
-    let x : ℕ = value (tree_at s0 next) bits in
-    let n : ℕ = word_value s0 b bits in
-    let d : ℕ = word_value s0 twice bits in
-    let whole : word_value s0 rest bits ≡ top * 2 ^ 31 + low
-    = sym (all-bits s0 rest bits m.rest_word.count)
-    ∙ word_value-more 31 s0 rest bits m.rest_word.count (omega arith) in
-    let small : low < 2 ^ 31
-    = word_value-small 31 s0 rest bits (begun-word 31 s0 rest m.rest_word (omega arith)) (omega arith) in
-    let d_is : d ≡ x + 2 * low
-    = ap (λ (ids : List ℕ). word_value s0 ids bits) m.twice_is ∙ doubled s0 rest next bits in
-    let greater_now : value (tree_at s2 greater) bits ≡ (if nat_lt d n then 1 else 0)
-    = value-kept s1 s2 greater bits m.keeps2 m.greater_is.truth ∙ m.greater_is.values bits in
-    let one_now : value (tree_at s2 one) bits ≡ 1 = ap (λ (t : Tree). value t bits) m.one_is in
-    let top_now : value (tree_at s2 (slice_index rest 31)) bits ≡ top
-    = value-kept s0 s2 (slice_index rest 31) bits k02 top_bit in
-    let fits_now : value (tree_at s3 fits) bits ≡ chosen_of (value (tree_at s2 greater) bits) top 1
-    = m.fits_is.values bits
-    ∙ ap₂ (λ (u v : ℕ). chosen_of (value (tree_at s2 greater) bits) u v) top_now one_now in
-    let fits4 : value (tree_at s4 fits) bits ≡ value (tree_at s3 fits) bits
-    = value-kept s3 s4 fits bits m.keeps4 m.fits_is.truth in
-    let fits5 : value (tree_at s5 fits) bits ≡ value (tree_at s3 fits) bits
-    = value-kept s4 s5 fits bits k5 (truth-kept s3 s4 fits m.keeps4 m.fits_is.truth) ∙ fits4 in
-    let less_now : word_value s4 less bits ≡ (d + (2 ^ 32 - n)) % 2 ^ 32
-    = m.less_is.values bits ∙ ap₂ (apply Sub) (number-kept s0 s3 twice bits k03 twice_word)
-    (number-kept s0 s3 b bits k03 m.b_word) in
-    let left_now : word_value s5 left bits ≡ chosen_of (value (tree_at s3 fits) bits) (word_value s4 less bits) d
-    = m.left_is.values bits ∙ ap₂ (λ (u v : ℕ). chosen_of u (word_value s4 less bits) v) fits4
-    (number-kept s0 s4 twice bits k04 twice_word) in
-    let one_digit : IsDigit (top * 2 ^ 31 + low) x n (value (tree_at s3 fits) bits) (word_value s5 left bits)
-    = digit-of top low x n d (value (tree_at s2 greater) bits) (value (tree_at s3 fits) bits)
-    (word_value s4 less bits) (word_value s5 left bits) small (top_bit.small bits) (m.next_bit.small bits)
-    (word-small s0 b bits m.b_word) (subst (λ (v : ℕ). v < n) whole smaller) d_is greater_now fits_now less_now
-    left_now in
-    subst (λ (v : ℕ). IsDigit v x n (value (tree_at s5 fits) bits) (word_value s5 left bits)) (sym whole)
-    (subst (λ (v : ℕ). IsDigit (top * 2 ^ 31 + low) x n v (word_value s5 left bits)) (sym fits5) one_digit)
-
--- ---- the loop over the bits
-
--- no bit is made yet
-pub made-begun : (n : ℕ) (ts : List Tree) (ids : List ℕ) → n ≡ 32 → IsWord ts ids → IsMadeFrom n ts ids
-made-begun n ts ids e w = record { count = w.count; each = λ i low high. w.each i high }
-
--- all bits are made
-pub made-word : (n : ℕ) (ts : List Tree) (ids : List ℕ) → n ≡ 0 → IsMadeFrom n ts ids → IsWord ts ids
-made-word n ts ids e m = record { count = m.count; each = λ i l. m.each i (omega arith) l }
-
-pub division-begun : (n : ℕ) (ts us : List Tree) (a b none : List ℕ) (bits : Bits) → n ≡ 32 → IsWord ts a
-    → IsWordOf us none (λ bits. 0) → 0 < word_value ts b bits
-    → IsDivision (word_value ts (drop n a) bits) (word_value ts b bits) (word_value us (drop n none) bits)
-    (word_value us none bits)
-division-begun n ts us a b none bits e wa h some =
-    let no_a : word_value ts (drop n a) bits ≡ 0
-    = ap (λ (xs : List ℕ). word_value ts xs bits) (drop_all n a (omega (arith, wa.count))) in
-    let no_bits : word_value us (drop n none) bits ≡ 0
-    = ap (λ (xs : List ℕ). word_value us xs bits) (drop_all n none (omega (arith, h.word.count))) in
-    let zero_is : word_value us none bits ≡ 0 = h.values bits in
-    let product : word_value ts b bits * word_value us (drop n none) bits ≡ word_value ts b bits * 0
-    = ap (λ (m : ℕ). word_value ts b bits * m) no_bits in
-    record { parts = omega (arith, no_a, product, zero_is); less = omega (arith, zero_is, some) }
-
 -- the quotient of all bits, chosen by whether the divisor is 0
-pub quotient-made : (n : ℕ) (ts us vs ws : List Tree) (a b none quot rest word : List ℕ) (by_zero : ℕ) → n ≡ 0
-    → KeepsTrees ts us → KeepsTrees us vs → IsWord ts a → IsWord ts b → IsWordOf us none (λ bits. 0) → IsWord us quot
-    → ((bits : Bits) → 0 < word_value ts b bits → IsDivision (word_value ts (drop n a) bits)
-    (word_value ts b bits) (word_value us (drop n quot) bits) (word_value us rest bits))
+pub quotient-made : (n : ℕ) {ts us vs ws : List Tree} (a : List ℕ) {b none quot : List ℕ} (rest : List ℕ)
+    {word : List ℕ} {by_zero : ℕ} → n ≡ 0
+    → KeepsTrees ts us → KeepsTrees us vs → IsWord ts b → IsWordOf us none (λ bits. 0) → IsWord us quot
+    → ((bits : Bits) → 0 < word_value ts b bits → IsDivision (word_value ts a bits) (word_value ts b bits)
+    (word_value us quot bits) (2 ^ n) (word_value us rest bits))
     → IsTruthOf vs by_zero (λ bits. if passes Equal (word_value us b bits) (word_value us none bits) then 1 else 0)
     → IsWordOf ws word (λ bits. chosen_of (value (tree_at vs by_zero) bits) (word_value vs none bits)
     (word_value vs quot bits))
     → IsWordOf ws word (λ bits. apply Div (word_value ts a bits) (word_value ts b bits))
-quotient-made n ts us vs ws a b none quot rest word by_zero e k1 k2 wa wb zero_is wq so_far test h = record {
-  word = h.word;
-  values = λ bits.
-      let divisor : ℕ = word_value ts b bits in
-      let number : ℕ = word_value ts a bits in
-      let q : ℕ = word_value us quot bits in
-      let is_zero : value (tree_at vs by_zero) bits ≡ (if divisor == 0 then 1 else 0)
-      = test.values bits
-      ∙ ap₂ (λ (u v : ℕ). if u == v then 1 else 0) (number-kept ts us b bits k1 wb) (zero_is.values bits) in
-      let none_now : word_value vs none bits ≡ 0
-      = number-kept us vs none bits k2 zero_is.word ∙ zero_is.values bits in
-      let quot_now : word_value vs quot bits ≡ q = number-kept us vs quot bits k2 wq in
-      let whole : 0 < divisor → q ≡ number / divisor = λ some.
-      division-is number divisor q (word_value us rest bits)
-      (subst (λ (m : ℕ). IsDivision (word_value ts (drop m a) bits)
-      divisor (word_value us (drop m quot) bits) (word_value us rest bits)) e (so_far bits some)) in
-      h.values bits
-      ∙ ap₂ (λ (u v : ℕ). chosen_of (value (tree_at vs by_zero) bits) u v) none_now quot_now
-      ∙ quotient-chosen (value (tree_at vs by_zero) bits) number divisor q is_zero whole;
-}
+quotient-made n {ts} {us} {vs} a {b} {none} {quot} rest {word} {by_zero} e k1 k2 wb zero_is wq so_far test h
+    = record {
+      word = h.word;
+      values = λ bits.
+          let divisor : ℕ = word_value ts b bits in
+          let number : ℕ = word_value ts a bits in
+          let q : ℕ = word_value us quot bits in
+          let is_zero : value (tree_at vs by_zero) bits ≡ (if divisor == 0 then 1 else 0)
+          = test.values bits
+          ∙ ap₂ (λ (u v : ℕ). if u == v then 1 else 0) (number-kept bits k1 wb) (zero_is.values bits) in
+          let none_now : word_value vs none bits ≡ 0
+          = number-kept bits k2 zero_is.word ∙ zero_is.values bits in
+          let quot_now : word_value vs quot bits ≡ q = number-kept bits k2 wq in
+          let whole : 0 < divisor → q ≡ number / divisor = λ some.
+          division-is number divisor q (word_value us rest bits) (so_far bits some).parts
+          (subst (λ (m : ℕ). word_value us rest bits < m) (last divisor) (so_far bits some).less) in
+          h.values bits
+          ∙ ap₂ (λ (u v : ℕ). chosen_of (value (tree_at vs by_zero) bits) u v) none_now quot_now
+          ∙ quotient-chosen (value (tree_at vs by_zero) bits) number divisor q is_zero whole;
+    }
+  where
+    last : (d : ℕ) → d * 2 ^ n ≡ d
+    last d =
+        let one : d * 2 ^ 0 ≡ d = omega arith in
+        ap (λ (m : ℕ). d * 2 ^ m) e ∙ one

@@ -1,42 +1,26 @@
 -- What operations and tests make of two numbers with one more bit each.
-use Rattle.std.proofs.Common.{◌≡◌, ℕ, zero, suc, ◌+◌, ◌-◌, ◌*◌, ◌%◌, ◌<◌, ◌≤◌, ◌^◌, ◌==◌, Bool, true, false, not, refl, sym, ap, ◌∙◌, arith}
-use Rattle.std.specs.Prelude.{bit_and, bit_or, nat_lt, nat_le, if◌then◌else◌}
-use Rattle.std.specs.Int.{bit_at}
-use Rattle.std.specs.Int.Bits.{and_block, or_block, xor_block}
-use Rattle.std.proofs.lemmas.Bool.{eqb-true, eq-eqb, ltb-true, lt-ltb, le-ltb, leb-true, le-leb, lt-leb, ne_eqb}
+use Rattle.sf_behaviour.proofs.Common.{◌≡◌, ℕ, zero, suc, ◌+◌, ◌-◌, ◌*◌, ◌%◌, ◌<◌, ◌≤◌, ◌^◌, ◌==◌, Bool, true, false, refl, sym, ap, ◌∙◌, arith, if◌then◌else◌, bit_at, eq-eqb, lt-ltb, le-ltb, leb-true, ne_eqb, pow_pos, pow-add, passes, Test, Equal}
+use Rattle.std.proofs.Common.{not}
+use Rattle.std.specs.Prelude.{bit_and, bit_or, nat_lt, nat_le}
+use Rattle.std.specs.Int.Bits.{and_block}
+use Rattle.std.proofs.lemmas.Bool.{eqb-true, ltb-true, le-leb, lt-leb}
 use Rattle.std.proofs.lemmas.Bool.Decides.{same_from_decides}
-use Rattle.std.proofs.Math.Nat.{pow-suc}
-use Rattle.std.proofs.lemmas.Nat.{pow_pos, and_le_l, mod-pow-add}
-use Rattle.sf_insn.specs.Words.{passes}
-use Rattle.sf_insn.specs.declared.ops.Test.{Test}
-use Rattle.sf_insn.specs.declared.ops.Test.TheVariants.{Equal, Greater, GreaterOrEqual, AnyBit}
-use Rattle.sf_diagram.specs.Choices.{chosen_of}
-use Rattle.sf_behaviour.specs.Combining.{combined, tested_bits}
-use Rattle.sf_behaviour.specs.declared.combining.Bitwise.{Bitwise}
-use Rattle.sf_behaviour.specs.declared.combining.Bitwise.TheVariants.{And, Or, Xor}
-
--- an operation that treats each bit by itself
-abbrev pub IsBitwise : (ℕ → ℕ → ℕ) → Type 0
-IsBitwise f = (n a b x y : ℕ) → a < 2 ^ n → b < 2 ^ n → f (x * 2 ^ n + a) (y * 2 ^ n + b) ≡ f x y * 2 ^ n + f a b
-
-pub combined-more : (o : Bitwise) → IsBitwise (combined o)
-combined-more And n a b x y la lb = and_block n x y a b la lb
-combined-more Or n a b x y la lb = or_block n x y a b la lb
-combined-more Xor n a b x y la lb = xor_block n x y a b la lb
-
-pub chosen-more : (t : ℕ) → IsBitwise (chosen_of t)
-chosen-more zero n a b x y la lb = refl
-chosen-more (suc t) n a b x y la lb = refl
+use Rattle.std.proofs.lemmas.Nat.{and_le_l, mod-pow-add}
+use Rattle.sf_insn.specs.declared.ops.Test.TheVariants.{Greater, GreaterOrEqual, AnyBit}
+use Rattle.sf_behaviour.specs.Combining.{tested_bits}
 
 -- a difference of n bits, with one more bit
 pub less-more : (n a b c d x y z e : ℕ) → d + b ≡ a + c * 2 ^ n → z + y + c ≡ x + 2 * e
     → (z * 2 ^ n + d) + (y * 2 ^ n + b) ≡ (x * 2 ^ n + a) + e * 2 ^ (n + 1)
 less-more n a b c d x y z e low high =
-    let next : n + 1 ≡ suc n = omega arith in
     let scaled : (z + y + c) * 2 ^ n ≡ (x + 2 * e) * 2 ^ n = ap (λ (m : ℕ). m * 2 ^ n) high in
-    let double : 2 ^ (n + 1) ≡ 2 ^ n * 2 = ap (λ (m : ℕ). 2 ^ m) next ∙ pow-suc 2 n in
-    let last : e * 2 ^ (n + 1) ≡ e * (2 ^ n * 2) = ap (λ (m : ℕ). e * m) double in
+    let last : e * 2 ^ (n + 1) ≡ e * (2 ^ n * 2) = ap (λ (m : ℕ). e * m) (pow-add 2 n 1) in
     omega (arith, low, scaled, last)
+
+pub more-small : (n v w : ℕ) → v < 2 → w < 2 ^ n → v * 2 ^ n + w < 2 ^ (n + 1)
+more-small n zero w lv lw = omega (arith, lw, pow-add 2 n 1)
+more-small n (suc zero) w lv lw = omega (arith, lw, pow-add 2 n 1)
+more-small n (suc (suc v)) w lv lw = absurd (omega arith)
 
 -- a difference of 32 bits
 pub less-all : (a b c d : ℕ) → a < 2 ^ 32 → b < 2 ^ 32 → d < 2 ^ 32 → d + b ≡ a + c * 2 ^ 32

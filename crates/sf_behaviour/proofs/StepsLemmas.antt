@@ -1,30 +1,15 @@
 -- Steps, and the diagrams of the last places.
-use Rattle.std.proofs.Common.{◌≡◌, ◌⊎◌, ℕ, zero, suc, ◌+◌, ◌-◌, ◌<◌, ◌≤◌, ◌^◌, List, [], ◌∷◌, ◌++◌, length, length-append, get_or, take, Option, Some, None, refl, sym, ap, ap₂, subst, ◌∙◌, inl, inr, arith}
-use Rattle.std.specs.Prelude.{map, slice_get}
-use Rattle.std.proofs.lemmas.Bool.{cases_lt}
+use Rattle.sf_behaviour.proofs.Common.{◌≡◌, ℕ, zero, suc, ◌+◌, ◌<◌, ◌≤◌, List, [], ◌∷◌, ◌++◌, length, Option, Some, None, refl, sym, ap, ap₂, subst, ◌∙◌, inl, inr, arith, Contains, slice_get, slice_index, slice_set, cases_lt, length-map, length-set, same_Some, Insn, IsLawfulProgram, Tree, value, tree_at, KeepsTrees, insns_of, AreSteps, Tells, TellFrom, return_of, input_by, IsDiagramOf, places_after, source_in, IsEffectOf, Known, IsKnowledge, start_bits, Step, Effect, Sets, Tests}
+use Rattle.std.proofs.Common.{◌⊎◌, length-append, get_or, take}
 use Rattle.std.proofs.lemmas.List.{get_or_push, get_or_append_left, map-append, take_more}
-use Rattle.std.proofs.lemmas.Option.{same_Some, slice_get-get_or, slice_get_within, get_or_from_slice_get}
-use Rattle.sf_check.specs.declared.insn.Insn.{Insn}
-use Rattle.sf_check.specs.Programs.{IsAt, IsLawfulProgram}
-use Rattle.sf_diagram.specs.Trees.{Tree, Bits, value}
-use Rattle.sf_diagram.specs.Stores.{tree_at, KeepsTrees}
-use Rattle.sf_behaviour.specs.Telling.{known_after, insns_of, IsStep, AreSteps, Tells, TellLast}
-use Rattle.sf_run.specs.Machine.{return_of}
-use Rattle.sf_behaviour.specs.InputBits.{input_by}
-use Rattle.sf_behaviour.specs.Words.{IsDiagramOf}
-use Rattle.sf_behaviour.specs.Effects.{source_in, IsEffectOf}
-use Rattle.sf_behaviour.specs.Registers.{IsRegister, start_bits}
-use Rattle.sf_behaviour.specs.Knowledge.{known_word, known_with, IsKnowledge, IsLess}
-use Rattle.sf_behaviour.specs.declared.knowing.Known.{Known}
-use Rattle.sf_behaviour.specs.declared.registers.Register.{Register}
-use Rattle.sf_behaviour.specs.declared.effects.Effect.{Effect}
-use Rattle.sf_behaviour.specs.declared.effects.Effect.TheVariants.{Sets, Skips, Tests, Returns}
-use Rattle.sf_behaviour.specs.declared.steps.Step.{Step}
-use Rattle.sf_behaviour.specs.declared.words.Word.{Word}
-use Rattle.sf_behaviour.proofs.WordLemmas.{number-kept}
-use Rattle.sf_behaviour.proofs.ProductLemmas.{word-of-kept}
-use Rattle.sf_behaviour.proofs.VariableLemmas.{other-bit, apart}
-use Rattle.sf_behaviour.proofs.KnowledgeLemmas.{knowledge-kept, known-there, set-own, set-other, set-sixteen, source-kept}
+use Rattle.std.proofs.lemmas.Option.{slice_get-get_or, slice_get_within, get_or_from_slice_get}
+use Rattle.sf_check.specs.ContainsLaws.{contains_cons, contains_nil}
+use Rattle.sf_check.specs.Programs.{IsAt}
+use Rattle.sf_behaviour.specs.Telling.{IsStep}
+use Rattle.sf_behaviour.specs.Steps.{IsAfter}
+use Rattle.sf_behaviour.specs.declared.effects.Effect.TheVariants.{Skips, Returns}
+use Rattle.sf_behaviour.proofs.WordLemmas.{number-kept, set-each, word-of-kept, word-of-same}
+use Rattle.sf_behaviour.proofs.KnowledgeLemmas.{input-word-kept, knowledge-kept, set-knowledge, source-kept}
 use Rattle.sf_behaviour.proofs.TellLemmas.{tells-kept, tells-program}
 
 module _ {B : Type 0} where
@@ -46,6 +31,26 @@ module _ {B : Type 0} where
         inr (sym here, sym (get_or_push xs x x i here) ∙ get_or_from_slice_get (xs ++ x ∷ []) i y x e)
   ]
 
+-- ---- places to which steps lead
+
+pub one-place : (p q : ℕ) → Contains (p ∷ []) q → p ≡ q
+one-place p q c = elim (contains_cons p [] q c) [ inl e ↦ e | inr none ↦ absurd (contains_nil q none) ]
+
+pub two-places : (p r q : ℕ) → Contains (p ∷ r ∷ []) q → (p ≡ q) ⊎ (r ≡ q)
+two-places p r q c = elim (contains_cons p (r ∷ []) q c) [ inl e ↦ inl e | inr more ↦ inr (one-place r q more) ]
+
+-- a step leads to later places
+pub leads-later : (at q : ℕ) (e : Effect) → Contains (places_after at e) q → at < q
+leads-later at q (Sets r source) c = let e : at + 1 ≡ q = one-place (at + 1) q c in omega arith
+leads-later at q (Skips n) c = let e : at + 1 + n ≡ q = one-place (at + 1 + n) q c in omega arith
+leads-later at q (Tests test other t f) c = elim (two-places (at + 1 + t) (at + 1 + f) q c) [
+  | inl e ↦ omega arith
+  | inr e ↦ omega arith
+]
+leads-later at q (Returns source) c = absurd (contains_nil q c)
+
+-- ---- steps
+
 -- the instruction of a step stands at its place
 pub step-at : (steps : List Step) (place : ℕ) (step : Step) → slice_get steps place ≡ Some step
     → IsAt (insns_of steps) place step.insn
@@ -57,97 +62,112 @@ step-at (s ∷ steps) zero step e = ap (λ (o : Option Step). insn_of o) e
     insn_of None = None
 step-at (s ∷ steps) (suc place) step e = step-at steps place step e
 
-pub step-kept : (ts us : List Tree) (step : Step) → KeepsTrees ts us → IsStep ts step → IsStep us step
-step-kept ts us step keeps h = record {
+-- what is known behind a step that sets no register, and behind one that does
+pub after-same : {ts : List Tree} {step : Step} {e : Effect} → IsStep ts step → step.effect ≡ e
+    → IsAfter ts step.known e step.after
+after-same {ts} {step} h is = subst (λ (f : Effect). IsAfter ts step.known f step.after) is h.after
+
+pub after-knowledge : {ts : List Tree} {step : Step} → IsStep ts step → IsKnowledge ts step.after
+after-knowledge {ts} {step} h = by step.effect refl
+  where
+    by : (e : Effect) → step.effect ≡ e → IsKnowledge ts step.after
+    by (Sets r source) is =
+        let set = after-same h is in
+        let there = (subst (λ (f : Effect). IsEffectOf step.insn f) is h.effect).there.0 in
+        subst (λ (k : Known). IsKnowledge ts k) (sym set.is)
+        (set-knowledge ts step.known r set.word there h.known (λ w e. (set.fixed w e).0))
+    by e is = subst (λ (k : Known). IsKnowledge ts k) (sym (after-same h is)) h.known
+
+after-kept : (ts us : List Tree) (k l : Known) (e : Effect) → KeepsTrees ts us → IsKnowledge ts k → IsAfter ts k e l
+    → IsAfter us k e l
+after-kept ts us k l (Sets r source) keeps knows h = record {
+  word = h.word;
+  is = h.is;
+  fixed = λ w e. (
+    input-word-kept keeps (h.fixed w e).0,
+    word-of-same (λ bits. source_in ts k bits source) (λ bits. source_in us k bits source)
+        (λ bits. sym (source-kept bits source keeps knows)) (word-of-kept keeps (h.fixed w e).1),
+  );
+}
+after-kept ts us k l e keeps knows h = h
+
+pub step-kept : {ts us : List Tree} {step : Step} → KeepsTrees ts us → IsStep ts step → IsStep us step
+step-kept {ts} {us} {step} keeps h = record {
   effect = h.effect;
-  known = knowledge-kept ts us step.known keeps h.known;
-  after = knowledge-kept ts us (known_after step) keeps h.after;
-  word = λ r source w is has.
-      let old = h.word r source w is has in
-      record {
-        word = (word-of-kept ts us w.bits (λ bits. source_in ts step.known bits source) keeps old).word;
-        values = λ bits. number-kept ts us w.bits bits keeps old.word ∙ old.values bits
-            ∙ sym (source-kept ts us step.known bits source keeps h.known);
-      };
+  known = knowledge-kept keeps h.known;
+  after = after-kept ts us step.known step.after step.effect keeps h.known h.after;
 }
 
-pub steps-kept : (ts us : List Tree) (steps : List Step) → KeepsTrees ts us → AreSteps ts steps → AreSteps us steps
-steps-kept ts us steps keeps h = record {
-  each = λ place step at. step-kept ts us step keeps (h.each place step at);
+pub steps-kept : {ts us : List Tree} {steps : List Step} → KeepsTrees ts us → AreSteps ts steps → AreSteps us steps
+steps-kept keeps h = record {
+  each = λ place step at. step-kept keeps (h.each place step at);
   less = h.less;
-  start = λ step r w bits at known. number-kept ts us w.bits bits keeps ((h.each 0 step at).known.each r w known).word
+  start = λ step r w bits at known. number-kept bits keeps ((h.each 0 step at).known.each r w known).word
       ∙ h.start step r w bits at known;
 }
 
-pub last-kept : (ts us : List Tree) (steps : List Step) (ids : List ℕ) → KeepsTrees ts us → AreSteps ts steps
-    → TellLast ts steps ids → TellLast us steps ids
-last-kept ts us steps ids keeps are h = record {
-  each = λ i place id step at there l. tells-kept (insns_of steps) place ts us step.known id keeps
-      (are.each place step there).known (h.each i place id step at there l);
+-- ---- the diagrams of places
+
+pub from-kept : {ts us : List Tree} {steps : List Step} {ids : List ℕ} {first : ℕ} → KeepsTrees ts us
+    → AreSteps ts steps → TellFrom ts steps ids first → TellFrom us steps ids first
+from-kept keeps are h = record {
+  count = h.count;
+  each = λ place step low there. tells-kept keeps
+      (are.each place step there).known (h.each place step low there);
 }
 
--- the diagram of one of the last places
-pub behind-tells : (ts : List Tree) (steps : List Step) (ids : List ℕ) (place n : ℕ) (step : Step) (id : ℕ)
-    → n ≡ length steps → place < length steps → length steps ≤ length ids + place → TellLast ts steps ids
-    → slice_get steps place ≡ Some step → id ≡ get_or ids (n - 1 - place) id
-    → Tells (insns_of steps) place ts step.known id
-behind-tells ts steps ids place n step id size inside there last at is =
-    last.each (n - 1 - place) place id step (element-at ids (n - 1 - place) id (omega arith) is) at (omega arith)
-
--- one place more
-pub tells-more : (ts us : List Tree) (steps : List Step) (ids : List ℕ) (place id : ℕ) → KeepsTrees ts us
-    → AreSteps ts steps → TellLast ts steps ids → length ids + suc place ≡ length steps
-    → (now : Step) → slice_get steps place ≡ Some now → Tells (insns_of steps) place us now.known id
-    → TellLast us steps (ids ++ id ∷ [])
-tells-more ts us steps ids place id keeps are last count now here new = record {
-  each = λ i q v step e there l. elim (at-push ids id v i e) [
-    | inl old ↦ tells-kept (insns_of steps) q ts us step.known v keeps (are.each q step there).known
-        (last.each i q v step old.1 there l)
-    | inr last-one ↦
-        let first : i ≡ length ids = last-one.0 in
-        let place_is : q ≡ place = omega arith in
-        let same : now ≡ step
-        = same_Some now step (sym here ∙ subst (λ (p : ℕ). slice_get steps p ≡ Some step) place_is there) in
-        subst (λ (u : ℕ). Tells (insns_of steps) q us step.known u) last-one.1
-        (subst (λ (p : ℕ). Tells (insns_of steps) p us step.known id) (sym place_is)
-        (subst (λ (s : Step). Tells (insns_of steps) place us s.known id) same new))
-  ];
+-- one place more; first is place + 1
+pub from-more : (ts us : List Tree) (steps : List Step) (ids : List ℕ) (first place id : ℕ) (now : Step)
+    → first ≡ place + 1 → KeepsTrees ts us → AreSteps ts steps → TellFrom ts steps ids first
+    → slice_get steps place ≡ Some now → Tells (insns_of steps) place us now.known id
+    → TellFrom us steps (slice_set ids place id) place
+from-more ts us steps ids first place id now e keeps are h here new = record {
+  count = length-set ids place id ∙ h.count;
+  each = λ q step low there. set-each
+      (λ (p x : ℕ). (s : Step) → slice_get steps p ≡ Some s → Tells (insns_of steps) p us s.known x) ids place id q
+      (omega (arith, h.count, slice_get_within steps place now here))
+      (λ s at. subst (λ (t : Step). Tells (insns_of steps) place us t.known id) (same_Some now s (sym here ∙ at)) new)
+      (λ ne s at. (from-kept keeps are h).each q s (omega arith) at) step there;
 }
 
-pub tells-none : (ts : List Tree) (steps : List Step) (ids : List ℕ) → length ids ≡ 0 → TellLast ts steps ids
-tells-none ts steps ids none = record {
-  each = λ i place id step at there l.
-      let within : i < length ids = slice_get_within ids i id at in
+-- no place
+pub from-none : (ts : List Tree) (steps : List Step) (ids : List ℕ) (first : ℕ) → length ids ≡ length steps
+    → length steps ≤ first → TellFrom ts steps ids first
+from-none ts steps ids first count past = record {
+  count = count;
+  each = λ place step low there.
+      let within : place < length steps = slice_get_within steps place step there in
       absurd (omega arith);
 }
 
--- the diagram of place 0, with all registers 0, has the number that the program returns
-pub program-diagram : (program : List Insn) (ts : List Tree) (steps : List Step) (ids : List ℕ) (id n new : ℕ)
-    → n ≡ length steps → insns_of steps ≡ program → IsLawfulProgram program → AreSteps ts steps
-    → TellLast ts steps ids
-    → length ids ≡ length steps → slice_get ids (n - 1) ≡ Some id
+pub steps-some : (steps : List Step) (program : List Insn) → insns_of steps ≡ program → 0 < length program
+    → 0 < length steps
+steps-some steps program code some =
+    omega (arith, some, ap (λ (xs : List Insn). length xs) code, length-map steps (λ (s : Step). s.insn))
+
+-- the diagram of the first place
+pub first-tells : {ts : List Tree} (steps : List Step) {ids : List ℕ} (first : ℕ) {id : ℕ} → first ≡ 0
+    → 0 < length steps
+    → TellFrom ts steps ids first → id ≡ slice_index ids 0
+    → (s : Step) × (slice_get steps 0 ≡ Some s) × Tells (insns_of steps) 0 ts s.known id
+first-tells [] first e some h is = absurd (omega arith)
+first-tells {ts} (s ∷ steps) first e some h is = (
+  s,
+  refl,
+  subst (λ (x : ℕ). Tells (insns_of (s ∷ steps)) 0 ts s.known x) (sym is) (h.each 0 s (omega arith) refl),
+)
+
+-- with all registers 0 it has the number that the program returns
+pub program-diagram : (program : List Insn) (ts : List Tree) (steps : List Step) (ids : List ℕ) (first id new : ℕ)
+    → first ≡ 0 → insns_of steps ≡ program → IsLawfulProgram program → AreSteps ts steps
+    → TellFrom ts steps ids first → id ≡ slice_index ids 0
     → IsDiagramOf ts new (λ bits. value (tree_at ts id) (start_bits bits))
     → IsDiagramOf ts new (λ bits. return_of program (input_by bits))
-program-diagram program ts [] ids id n new size code lawful are last count at h =
-    let none : 0 ≡ length program = ap (λ (xs : List Insn). length xs) code in
-    absurd (omega (arith, lawful.some))
-program-diagram program ts (s ∷ steps) ids id n new size code lawful are last count at h =
-    let all : List Step = s ∷ steps in
-    let t = last.each (n - 1) 0 id s at refl (omega arith) in
-    subst (λ (c : List Insn). IsDiagramOf ts new (λ bits. return_of c (input_by bits))) code
-    (tells-program (insns_of all) ts s.known id new
-    (subst (λ (c : List Insn). IsLawfulProgram c) (sym code) lawful) t
-    (λ r v bits known. are.start s r v bits refl known) h)
-
--- the diagram of place 0 is there, and its values are words
-pub last-there : (ts : List Tree) (steps : List Step) (ids : List ℕ) (id n : ℕ) → n ≡ length steps
-    → TellLast ts steps ids → length ids ≡ length steps → slice_get ids (n - 1) ≡ Some id
-    → (id < length ts) × ((bits : Bits) → value (tree_at ts id) bits < 2 ^ 32)
-last-there ts [] ids id n size last count at =
-    let within : n - 1 < length ids = slice_get_within ids (n - 1) id at in
-    absurd (omega arith)
-last-there ts (s ∷ steps) ids id n size last count at =
-    let t = last.each (n - 1) 0 id s at refl (omega arith) in (t.within, t.small)
+program-diagram program ts steps ids first id new e code lawful are h is at_start =
+    let t = first-tells steps first e (steps-some steps program code lawful.some) h is in
+    subst (λ (c : List Insn). IsDiagramOf ts new (λ bits. return_of c (input_by bits))) code (tells-program
+    (subst (λ (c : List Insn). IsLawfulProgram c) (sym code) lawful) t.2
+    (λ r v bits known. are.start t.0 r v bits t.1 known) at_start)
 
 -- the instructions of steps, one by one
 pub code-more : (steps : List Step) (new : Step) (insns : List Insn) (i : ℕ) (d : Insn) → insns_of steps ≡ take i insns

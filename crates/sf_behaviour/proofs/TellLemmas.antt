@@ -1,38 +1,16 @@
 -- What a diagram tells of the runs from a place, by what the diagrams of the places behind tell.
-use Rattle.std.proofs.Common.{◌≡◌, ℕ, zero, suc, ◌+◌, ◌-◌, ◌<◌, ◌≤◌, ◌==◌, ◌^◌, Bool, true, false, List, [], ◌∷◌, ◌++◌, length, length-append, get_or, Option, Some, None, refl, sym, ap, ap₂, subst, ◌∙◌, inl, inr, arith}
-use Rattle.std.specs.Prelude.{◌&&◌, IsSome, option_map, slice_get, if◌then◌else◌}
-use Rattle.std.proofs.lemmas.Bool.{cases_lt}
-use Rattle.std.proofs.lemmas.List.{get_or_push, get_or_append_left}
-use Rattle.std.proofs.lemmas.Option.{same_Some, slice_get-get_or, slice_get_within, get_or_from_slice_get}
-use Rattle.sf_insn.specs.declared.input.Input.{Input}
-use Rattle.sf_insn.specs.declared.ops.Test.{Test}
-use Rattle.sf_insn.specs.Words.{passes}
-use Rattle.sf_check.specs.declared.insn.Insn.{Insn}
-use Rattle.sf_check.specs.declared.insn.Operand.{Operand}
-use Rattle.sf_check.specs.Programs.{IsAt, IsLawfulProgram}
-use Rattle.sf_diagram.specs.Trees.{Tree, Bits, value}
-use Rattle.sf_diagram.specs.Stores.{tree_at, KeepsTrees}
-use Rattle.sf_run.specs.Machine.{State, Progress, goes, returns, stuck, operand_of, start, insn_progress, Outcome, outcome_from, run_for, return_of}
+use Rattle.sf_behaviour.proofs.Common.{◌≡◌, ℕ, zero, suc, ◌+◌, ◌<◌, ◌==◌, ◌^◌, Bool, true, false, List, [], ◌++◌, length, Option, Some, None, refl, sym, ap, ap₂, subst, ◌∙◌, arith, ◌&&◌, slice_set, if◌then◌else◌, same_Some, Input, Test, passes, Insn, Operand, IsLawfulProgram, Tree, Bits, value, tree_at, KeepsTrees, State, start, return_of, input_by, A, X, IsRegister, start_bits, next_with, with_register, Known, known_word, held_in, IsInputWord, IsKnowledge, IsLess, divides, source_number, operand_in, source_in, set_progress, effect_progress, IsEffectOf, Tells, IsReplaced, word_value, IsDiagramOf, IsWord, Effect, Tests, Source, Word}
+use Rattle.std.specs.Prelude.{IsSome}
+use Rattle.sf_check.specs.Programs.{IsAt}
+use Rattle.sf_run.specs.Machine.{Progress, goes, returns, stuck, operand_of, insn_progress, Outcome, outcome_from, run_for}
 use Rattle.sf_run.specs.Reachable.{put}
 use Rattle.sf_run.specs.RunLaws.{option_map_some, step_is, safe_start, ends_from, value_is}
-use Rattle.sf_behaviour.specs.InputBits.{input_by}
-use Rattle.sf_behaviour.specs.Registers.{IsRegister, start_bits, next_with, with_register, register_number}
-use Rattle.sf_behaviour.specs.Knowledge.{known_word, known_with, held_in, Fits, IsKnowledge, IsLess}
-use Rattle.sf_behaviour.specs.Effects.{divides, source_number, operand_in, source_in, set_progress, return_progress, effect_progress, unmet, IsEffectOf}
-use Rattle.sf_behaviour.specs.Telling.{insns_of, Tells, TellLast}
-use Rattle.sf_behaviour.specs.Replacing.{IsReplaced}
-use Rattle.sf_behaviour.specs.Words.{word_value, IsDiagramOf, IsWord, IsWordOf}
-use Rattle.sf_behaviour.specs.declared.registers.Register.{Register}
-use Rattle.sf_behaviour.specs.declared.registers.Register.TheVariants.{A, X, Scratch}
-use Rattle.sf_behaviour.specs.declared.knowing.Known.{Known}
-use Rattle.sf_behaviour.specs.declared.effects.Effect.{Effect}
-use Rattle.sf_behaviour.specs.declared.effects.Effect.TheVariants.{Tests}
-use Rattle.sf_behaviour.specs.declared.effects.Source.{Source}
-use Rattle.sf_behaviour.specs.declared.steps.Step.{Step}
-use Rattle.sf_behaviour.specs.declared.words.Word.{Word}
+use Rattle.sf_behaviour.specs.Knowledge.{Fits}
+use Rattle.sf_behaviour.specs.Effects.{return_progress, unmet}
+use Rattle.sf_behaviour.specs.Steps.{IsSetTo}
 use Rattle.sf_behaviour.proofs.ReplacingLemmas.{less-if, replaced-value}
 use Rattle.sf_behaviour.proofs.VariableLemmas.{with-register-input, start-input}
-use Rattle.sf_behaviour.proofs.KnowledgeLemmas.{fits-unknown, fits-known, fits-less, fits-same, fits-kept, a-in, operand-in, source-in, start-fits, knowledge-less, less-set, set-sixteen}
+use Rattle.sf_behaviour.proofs.KnowledgeLemmas.{fits-set, fits-less, fits-kept, a-in, operand-in, source-in, start-fits, knowledge-less, set-knowledge}
 
 -- ---- runs
 
@@ -74,10 +52,10 @@ pub record Follows (code : List Insn) (place : ℕ) (does : Input → State → 
       → outcome_from (run_for m code (input_by bits)) (does (input_by bits) s) ≡ Some o
       → value (tree_at ts id) bits ≡ o.1
 
-pub tells-step : (code : List Insn) (place : ℕ) (i : Insn) (effect : Effect) (ts : List Tree) (k : Known) (id : ℕ)
+pub tells-step : {code : List Insn} {place : ℕ} {i : Insn} {effect : Effect} {ts : List Tree} {k : Known} {id : ℕ}
     → IsAt code place i → IsEffectOf i effect → Follows code place (λ d s. effect_progress d s effect) ts k id
     → Tells code place ts k id
-tells-step code place i effect ts k id at is f = record {
+tells-step {code} {i} at is f = record {
   within = f.within;
   small = f.small;
   values = λ bits s n o here fits run.
@@ -91,38 +69,30 @@ tells-step code place i effect ts k id at is f = record {
 }
 
 -- a store that has grown
-pub tells-kept : (code : List Insn) (place : ℕ) (ts us : List Tree) (k : Known) (id : ℕ) → KeepsTrees ts us
+pub tells-kept : {code : List Insn} {place : ℕ} {ts us : List Tree} {k : Known} {id : ℕ} → KeepsTrees ts us
     → IsKnowledge ts k → Tells code place ts k id → Tells code place us k id
-tells-kept code place ts us k id keeps knows t = record {
+tells-kept {id} keeps knows t = record {
   within = omega (arith, keeps.longer, t.within);
   small = λ bits. subst (λ (u : Tree). value u bits < 2 ^ 32) (sym (keeps.same id t.within)) (t.small bits);
   values = λ bits s n o here fits e. ap (λ (u : Tree). value u bits) (keeps.same id t.within)
-      ∙ t.values bits s n o here (fits-kept ts us k bits s keeps knows fits) e;
+      ∙ t.values bits s n o here (fits-kept bits s keeps knows fits) e;
 }
 
-placed : (s : State) (r : Register) (n place : ℕ) → s.place ≡ place → (next_with s r n).place ≡ place + 1
-placed s A n place here = ap (λ (p : ℕ). p + 1) here
-placed s X n place here = ap (λ (p : ℕ). p + 1) here
-placed s (Scratch k) n place here = ap (λ (p : ℕ). p + 1) here
+placed : (s : State) (r : ℕ) (n place : ℕ) → s.place ≡ place → (next_with s r n).place ≡ place + 1
+placed s zero n place here = ap (λ (p : ℕ). p + 1) here
+placed s (suc zero) n place here = ap (λ (p : ℕ). p + 1) here
+placed s (suc (suc k)) n place here = ap (λ (p : ℕ). p + 1) here
 
--- a state has the same numbers at another place
-moved : (s : State) (place : ℕ) (ts : List Tree) (k : Known) (bits : Bits) → Fits ts k bits s
-    → Fits ts k bits (record s { place = place })
-moved s place ts k bits fits A n e = fits A n e
-moved s place ts k bits fits X n e = fits X n e
-moved s place ts k bits fits (Scratch i) n e = fits (Scratch i) n e
-
--- where a register is set to a number that isn't known
-pub follows-unknown : (code : List Insn) (place : ℕ) (r : Register) (source : Source) (ts us : List Tree) (k : Known)
-    (next id : ℕ) → IsRegister r → IsKnowledge ts k → KeepsTrees ts us
-    → Tells code (place + 1) ts (known_with k r None) next
-    → ((bits : Bits) → source_in ts k bits source < 2 ^ 32)
+-- where a register is set
+pub follows-set : (code : List Insn) (place r : ℕ) (source : Source) {ts us : List Tree} {k l : Known} {next id : ℕ}
+    → IsRegister r → IsKnowledge ts k → KeepsTrees ts us → IsSetTo ts k r source l
+    → Tells code (place + 1) ts l next → ((bits : Bits) → source_in ts k bits source < 2 ^ 32)
     → IsReplaced r us (λ bits. source_in ts k bits source) next id
     → Follows code place (λ d s. set_progress s r (source_number d s source)) us k id
-follows-unknown code place r source ts us k next id there knows keeps behind small h = record {
+follows-set code place r source {ts} {us} {k} {l} {next} {id} there knows keeps set behind small h = record {
   within = h.within;
   small = λ bits. subst (λ (n : ℕ). n < 2 ^ 32) (sym (is bits)) (behind.small (with_register r (number bits) bits));
-  values = λ bits s m o here fits e. is bits ∙ by bits s m o here (fits-kept ts us k bits s keeps knows fits)
+  values = λ bits s m o here fits e. is bits ∙ by bits s m o here (fits-kept bits s keeps knows fits)
       (source_number (input_by bits) s source) refl e;
 }
   where
@@ -130,7 +100,12 @@ follows-unknown code place r source ts us k next id there knows keeps behind sma
     number bits = source_in ts k bits source
 
     is : (bits : Bits) → value (tree_at us id) bits ≡ value (tree_at ts next) (with_register r (number bits) bits)
-    is bits = replaced-value r ts us number next id bits keeps behind.within h
+    is bits = replaced-value bits keeps behind.within h
+
+    -- the known word has the number
+    known : (bits : Bits) (n : ℕ) → n ≡ number bits → (w : Word) → set.word ≡ Some w
+        → word_value ts w.bits (with_register r n bits) ≡ n
+    known bits n e w at = (set.fixed w at).0.same r n bits there ∙ (set.fixed w at).1.values bits ∙ sym e
 
     by : (bits : Bits) (s : State) (m : ℕ) (o : List Bool × ℕ) → s.place ≡ place → Fits ts k bits s → (from : Option ℕ)
         → source_number (input_by bits) s source ≡ from
@@ -144,45 +119,26 @@ follows-unknown code place r source ts us k next id there knows keeps behind sma
         let same : run_for m code (input_by (with_register r n bits)) (next_with s r n) ≡ Some rest.0
         = subst (λ (d : Input). run_for m code d (next_with s r n) ≡ Some rest.0)
         (sym (with-register-input r n bits there)) rest.1 in
+        let after : Fits ts l (with_register r n bits) (next_with s r n)
+        = subst (λ (j : Known). Fits ts j (with_register r n bits) (next_with s r n)) (sym set.is)
+        (fits-set ts k bits s r n set.word knows there low (known bits n is) fits) in
         ap (λ (x : ℕ). value (tree_at ts next) (with_register r x bits)) (sym is)
-        ∙ behind.values (with_register r n bits) (next_with s r n) m rest.0 (placed s r n place here)
-        (fits-unknown ts k bits s r n knows there low fits) same ∙ rest.2
-
--- where a register is set to the number of a known word
-pub follows-known : (code : List Insn) (place : ℕ) (r : Register) (source : Source) (ts : List Tree) (k : Known)
-    (w : Word) (next : ℕ) → IsRegister r → IsKnowledge ts k → IsWordOf ts w.bits (λ bits. source_in ts k bits source)
-    → Tells code (place + 1) ts (known_with k r (Some w)) next
-    → Follows code place (λ d s. set_progress s r (source_number d s source)) ts k next
-follows-known code place r source ts k w next there knows word behind = record {
-  within = behind.within;
-  small = behind.small;
-  values = λ bits s m o here fits e. by bits s m o here fits (source_number (input_by bits) s source) refl e;
-}
-  where
-    by : (bits : Bits) (s : State) (m : ℕ) (o : List Bool × ℕ) → s.place ≡ place → Fits ts k bits s → (from : Option ℕ)
-        → source_number (input_by bits) s source ≡ from
-        → outcome_from (run_for m code (input_by bits)) (set_progress s r from) ≡ Some o
-        → value (tree_at ts next) bits ≡ o.1
-    by bits s m o here fits None from e = absurd cc
-    by bits s m o here fits (Some n) from e =
-        let is : n ≡ word_value ts w.bits bits = source-in ts k bits s source n fits from ∙ sym (word.values bits) in
-        let rest = goes-on m code (input_by bits) o [] (next_with s r n) e in
-        behind.values bits (next_with s r n) m rest.0 (placed s r n place here)
-        (fits-known ts k bits s r n w knows there is fits) rest.1 ∙ rest.2
+        ∙ behind.values (with_register r n bits) (next_with s r n) m rest.0 (placed s r n place here) after same
+        ∙ rest.2
 
 -- where 0 is returned if the source divides by 0
 pub follows-guard : (code : List Insn) (place : ℕ) (source : Source) (does : Input → State → Progress)
-    (ts us : List Tree) (k : Known) (id new : ℕ) → KeepsTrees ts us → IsKnowledge ts k → Follows code place does ts k id
+    {ts us : List Tree} {k : Known} {id new : ℕ} → KeepsTrees ts us → IsKnowledge ts k → Follows code place does ts k id
     → IsDiagramOf us new (λ bits. if divides source && (held_in ts k bits X == 0) then 0
     else value (tree_at ts id) bits)
     → Follows code place (λ d s. if divides source && (s.x == 0) then returns [] 0 else does d s) us k new
-follows-guard code place source does ts us k id new keeps knows f h = record {
+follows-guard code place source does {ts} {k} {id} keeps knows f h = record {
   within = h.within;
   small = λ bits. subst (λ (n : ℕ). n < 2 ^ 32) (sym (h.values bits))
       (less-if (divides source && (held_in ts k bits X == 0)) 0 (value (tree_at ts id) bits) (omega arith)
       (f.small bits));
   values = λ bits s m o here fits' e.
-      let fits : Fits ts k bits s = fits-kept ts us k bits s keeps knows fits' in
+      let fits : Fits ts k bits s = fits-kept bits s keeps knows fits' in
       h.values bits
       ∙ ap (λ (x : ℕ). if divides source && (x == 0) then 0 else value (tree_at ts id) bits) (sym (fits X s.x refl))
       ∙ by bits s m o here fits (divides source && (s.x == 0)) e;
@@ -195,32 +151,32 @@ follows-guard code place source does ts us k id new keeps knows f h = record {
     by bits s m o here fits false e = f.values bits s m o here fits e
 
 -- where instructions are skipped
-pub follows-skip : (code : List Insn) (place n : ℕ) (ts : List Tree) (k : Known) (id : ℕ)
+pub follows-skip : {code : List Insn} (place n : ℕ) {ts : List Tree} {k : Known} {id : ℕ}
     → Tells code (place + 1 + n) ts k id
     → Follows code place (λ d s. goes [] (record s { place = s.place + 1 + n })) ts k id
-follows-skip code place n ts k id behind = record {
+follows-skip {code} place n behind = record {
   within = behind.within;
   small = behind.small;
   values = λ bits s m o here fits e.
       let rest = goes-on m code (input_by bits) o [] (record s { place = s.place + 1 + n }) e in
       behind.values bits (record s { place = s.place + 1 + n }) m rest.0 (ap (λ (p : ℕ). p + 1 + n) here)
-      (moved s (s.place + 1 + n) ts k bits fits) rest.1 ∙ rest.2;
+      fits rest.1 ∙ rest.2;
 }
 
 -- where A is tested
-pub follows-test : (code : List Insn) (place : ℕ) (test : Test) (other : Operand) (t f : ℕ) (ts us : List Tree)
-    (k : Known) (one_way other_way id : ℕ) → KeepsTrees ts us → IsKnowledge ts k
+pub follows-test : (code : List Insn) (place : ℕ) (test : Test) (other : Operand) (t f : ℕ) {ts us : List Tree}
+    {k : Known} {one_way other_way id : ℕ} → KeepsTrees ts us → IsKnowledge ts k
     → Tells code (place + 1 + t) ts k one_way → Tells code (place + 1 + f) ts k other_way
     → IsDiagramOf us id (λ bits. if passes test (held_in ts k bits A) (operand_in ts k bits other)
     then value (tree_at ts one_way) bits else value (tree_at ts other_way) bits)
     → Follows code place (λ d s. effect_progress d s (Tests test other t f)) us k id
-follows-test code place test other t f ts us k one_way other_way id keeps knows taken skipped h = record {
+follows-test code place test other t f {ts} {k} {one_way} {other_way} keeps knows taken skipped h = record {
   within = h.within;
   small = λ bits. subst (λ (n : ℕ). n < 2 ^ 32) (sym (h.values bits))
       (less-if (passes test (held_in ts k bits A) (operand_in ts k bits other)) (value (tree_at ts one_way) bits)
       (value (tree_at ts other_way) bits) (taken.small bits) (skipped.small bits));
   values = λ bits s m o here fits' e.
-      let fits : Fits ts k bits s = fits-kept ts us k bits s keeps knows fits' in
+      let fits : Fits ts k bits s = fits-kept bits s keeps knows fits' in
       h.values bits
       ∙ ap₂ (λ (a b : ℕ). if passes test a b then value (tree_at ts one_way) bits
       else value (tree_at ts other_way) bits) (sym (a-in ts k bits s fits)) (sym (operand-in ts k bits s other fits))
@@ -231,18 +187,18 @@ follows-test code place test other t f ts us k one_way other_way id keeps knows 
         → outcome_from (run_for m code (input_by bits))
         (goes [] (record s { place = s.place + 1 + (if b then t else f) })) ≡ Some o
         → (if b then value (tree_at ts one_way) bits else value (tree_at ts other_way) bits) ≡ o.1
-    by bits s m o here fits true e = (follows-skip code place t ts k one_way taken).values bits s m o here fits e
-    by bits s m o here fits false e = (follows-skip code place f ts k other_way skipped).values bits s m o here fits e
+    by bits s m o here fits true e = (follows-skip place t taken).values bits s m o here fits e
+    by bits s m o here fits false e = (follows-skip place f skipped).values bits s m o here fits e
 
 -- where a number is returned
-pub follows-return : (code : List Insn) (place : ℕ) (source : Source) (ts us : List Tree) (k : Known) (id : ℕ)
+pub follows-return : (code : List Insn) (place : ℕ) (source : Source) {ts us : List Tree} {k : Known} {id : ℕ}
     → KeepsTrees ts us → IsKnowledge ts k → IsDiagramOf us id (λ bits. source_in ts k bits source)
     → ((bits : Bits) → value (tree_at us id) bits < 2 ^ 32)
     → Follows code place (λ d s. return_progress (source_number d s source)) us k id
-follows-return code place source ts us k id keeps knows h small = record {
+follows-return code place source {ts} {k} keeps knows h small = record {
   within = h.within;
   small = small;
-  values = λ bits s m o here fits e. h.values bits ∙ by bits s m o (fits-kept ts us k bits s keeps knows fits)
+  values = λ bits s m o here fits e. h.values bits ∙ by bits s m o (fits-kept bits s keeps knows fits)
       (source_number (input_by bits) s source) refl e;
 }
   where
@@ -257,17 +213,17 @@ follows-return code place source ts us k id keeps knows h small = record {
 -- ---- what is known at a place
 
 -- a diagram for a place where one register more is known
-pub tells-learnt : (code : List Insn) (place : ℕ) (ts us : List Tree) (k : Known) (r : Register) (w : Word)
-    (id new : ℕ) → KeepsTrees ts us → IsKnowledge ts k → IsKnowledge ts (known_with k r (Some w)) → IsRegister r
+pub tells-learnt : (code : List Insn) (place : ℕ) (ts us : List Tree) (k : Known) (r : ℕ) (w : Word)
+    (id new : ℕ) → KeepsTrees ts us → IsKnowledge ts k → IsKnowledge ts (slice_set k r (Some w)) → IsRegister r
     → known_word k r ≡ None → IsWord ts w.bits
     → IsReplaced r us (word_value ts w.bits) id new
-    → Tells code place ts k id → Tells code place us (known_with k r (Some w)) new
+    → Tells code place ts k id → Tells code place us (slice_set k r (Some w)) new
 tells-learnt code place ts us k r w id new keeps knows more there unknown word h t = record {
   within = h.within;
   small = λ bits. subst (λ (n : ℕ). n < 2 ^ 32) (sym (is bits)) (t.small (with_register r (number bits) bits));
   values = λ bits s n o here fits e.
-      let old : Fits ts (known_with k r (Some w)) bits s
-      = fits-kept ts us (known_with k r (Some w)) bits s keeps more fits in
+      let old : Fits ts (slice_set k r (Some w)) bits s
+      = fits-kept bits s keeps more fits in
       is bits ∙ t.values (with_register r (number bits) bits) s n o here
       (fits-less ts k bits s r w knows there unknown word old)
       (subst (λ (d : Input). run_for n code d s ≡ Some o) (sym (with-register-input r (number bits) bits there)) e);
@@ -277,16 +233,7 @@ tells-learnt code place ts us k r w id new keeps knows more there unknown word h
     number bits = word_value ts w.bits bits
 
     is : (bits : Bits) → value (tree_at us new) bits ≡ value (tree_at ts id) (with_register r (number bits) bits)
-    is bits = replaced-value r ts us number id new bits keeps t.within h
-
--- a diagram for a place where just as much is known
-pub tells-same : (code : List Insn) (place : ℕ) (ts : List Tree) (k l : Known) (id : ℕ) → IsLess k l → IsLess l k
-    → Tells code place ts k id → Tells code place ts l id
-tells-same code place ts k l id up down t = record {
-  within = t.within;
-  small = t.small;
-  values = λ bits s n o here fits e. t.values bits s n o here (fits-same ts k l bits s up down fits) e;
-}
+    is bits = replaced-value bits keeps t.within h
 
 -- ---- whole programs
 
@@ -295,12 +242,12 @@ some-is None h = absurd cc
 some-is (Some p) h = (p, refl)
 
 -- the diagram of place 0, with all registers 0, has the number that the program returns
-pub tells-program : (code : List Insn) (ts : List Tree) (k : Known) (id new : ℕ) → IsLawfulProgram code
+pub tells-program : {code : List Insn} {ts : List Tree} {k : Known} {id new : ℕ} → IsLawfulProgram code
     → Tells code 0 ts k id
-    → ((r : Register) (w : Word) (bits : Bits) → known_word k r ≡ Some w → word_value ts w.bits bits ≡ 0)
+    → ((r : ℕ) (w : Word) (bits : Bits) → known_word k r ≡ Some w → word_value ts w.bits bits ≡ 0)
     → IsDiagramOf ts new (λ bits. value (tree_at ts id) (start_bits bits))
     → IsDiagramOf ts new (λ bits. return_of code (input_by bits))
-tells-program code ts k id new lawful t zero-words h = record {
+tells-program {code} {ts} {k} lawful t zero-words h = record {
   within = h.within;
   values = λ bits.
       let d : Input = input_by (start_bits bits) in
@@ -313,12 +260,13 @@ tells-program code ts k id new lawful t zero-words h = record {
 }
 
 -- where one register more is known, by what is known in the end
-pub tells-more-known : (ts us : List Tree) (k l : Known) (r : Register) (w : Word) (id new : ℕ)
-    → KeepsTrees ts us → IsKnowledge ts l → IsLess k l → length k.scratch ≡ 16 → IsRegister r → known_word l r ≡ Some w
+pub tells-more-known : (ts us : List Tree) (k l : Known) (r : ℕ) (w : Word) (id new : ℕ)
+    → KeepsTrees ts us → IsKnowledge ts l → IsLess k l → length k ≡ 18 → IsRegister r → known_word l r ≡ Some w
     → known_word k r ≡ None
     → IsReplaced r us (word_value ts w.bits) id new
-    → (code : List Insn) (place : ℕ) → Tells code place ts k id → Tells code place us (known_with k r (Some w)) new
-tells-more-known ts us k l r w id new keeps knows less sixteen there has unknown h code place t =
-    tells-learnt code place ts us k r w id new keeps (knowledge-less ts k l less sixteen knows)
-    (knowledge-less ts (known_with k r (Some w)) l (less-set k l r w less has there sixteen)
-    (set-sixteen k r (Some w) sixteen) knows) there unknown (knows.each r w has).word h t
+    → (code : List Insn) (place : ℕ) → Tells code place ts k id → Tells code place us (slice_set k r (Some w)) new
+tells-more-known ts us k l r w id new keeps knows less count there has unknown h code place t =
+    let before = knowledge-less ts k l less count knows in
+    tells-learnt code place ts us k r w id new keeps before
+    (set-knowledge ts k r (Some w) there before (λ v e. subst (λ (u : Word). IsInputWord ts u.bits) (same_Some w v e)
+    (knows.each r w has))) there unknown (knows.each r w has).word h t

@@ -1,150 +1,186 @@
--- Words whose bits are made one by one, the lowest first.
-use Rattle.std.proofs.Common.{◌≡◌, ℕ, zero, suc, ◌+◌, ◌*◌, ◌<◌, ◌≤◌, ◌^◌, List, [], ◌∷◌, ◌++◌, length, take, drop, refl, sym, ap, ap₂, subst, ◌∙◌, inl, inr, arith}
-use Rattle.std.specs.Prelude.{slice_index, slice_set}
-use Rattle.std.proofs.Math.Nat.{pow-suc}
-use Rattle.std.proofs.lemmas.Bool.{cases_eq}
-use Rattle.std.proofs.lemmas.List.{take-append-drop, take_more, take_more_set, take_all, length-take-le, length-set, get_or-set_same, get_or-set_other}
-use Rattle.sf_diagram.specs.Trees.{Tree, Bits, value}
-use Rattle.sf_diagram.specs.Stores.{tree_at, KeepsTrees}
-use Rattle.sf_behaviour.specs.Words.{word_value, IsTruth, IsWord, IsWordOf}
-use Rattle.sf_behaviour.proofs.BitLemmas.{truth-kept, value-kept}
+-- Words by their bits, in stores that grow.
+use Rattle.sf_behaviour.proofs.Common.{◌≡◌, ℕ, zero, suc, ◌+◌, ◌-◌, ◌*◌, ◌/◌, ◌%◌, ◌<◌, ◌^◌, List, [], ◌∷◌, length, refl, sym, ap, ap₂, subst, ◌∙◌, inl, inr, arith, slice_index, slice_set, bit_at, pow-suc, cases_eq, length-set, get_or-set_same, get_or-set_other, bit_at_cat_low, Tree, Bits, value, tree_at, KeepsTrees, word_value, IsTruth, IsTruthOf, IsWord, IsWordOf}
+use Rattle.std.proofs.Common.{◌≢◌}
+use Rattle.std.proofs.lemmas.Nat.Bits.{bit_at_lowest, bit_at-suc, bit_at-zero, bit_at_cat_high, same_from_bits_below}
 
--- the first n bits are made
-pub record IsBegun (n : ℕ) (ts : List Tree) (ids : List ℕ) : Type 0 where
-  pub count : length ids ≡ 32
-  pub each : (i : ℕ) → i < n → IsTruth ts (slice_index ids i)
+-- ---- stores that grow
 
-pub begun-word : (n : ℕ) (ts : List Tree) (ids : List ℕ) → IsWord ts ids → n ≤ 32 → IsBegun n ts ids
-begun-word n ts ids w l = record { count = w.count; each = λ i li. w.each i (omega arith) }
-
-pub word-kept : (ts us : List Tree) (ids : List ℕ) → KeepsTrees ts us → IsWord ts ids → IsWord us ids
-word-kept ts us ids k w = record {
-  count = w.count;
-  each = λ i l. truth-kept ts us (slice_index ids i) k (w.each i l);
+pub keeps-both : {a b c : List Tree} → KeepsTrees a b → KeepsTrees b c → KeepsTrees a c
+keeps-both h k = record {
+  longer = omega (arith, h.longer, k.longer);
+  same = λ i l. k.same i (omega (arith, h.longer)) ∙ h.same i l;
 }
 
--- one more bit
-pub begun-more : (n : ℕ) (ts us : List Tree) (ids : List ℕ) (id : ℕ) → KeepsTrees ts us → n < 32 → IsBegun n ts ids
-    → IsTruth us id → IsBegun (n + 1) us (slice_set ids n id)
-begun-more n ts us ids id k l b t =
-    let long : n < length ids = omega (arith, b.count) in
-    record {
-      count = length-set ids n id ∙ b.count;
-      each = λ i li. elim (cases_eq i n) [
-        | inl e ↦ subst (λ (j : ℕ). IsTruth us j)
-            (sym (ap (λ (j : ℕ). slice_index (slice_set ids n id) j) e ∙ get_or-set_same ids n id 0 long)) t
-        | inr ne ↦ subst (λ (j : ℕ). IsTruth us j) (sym (get_or-set_other ids n i id 0 ne))
-            (truth-kept ts us (slice_index ids i) k (b.each i (omega arith)))
-      ];
-    }
+pub truth-kept : {ts us : List Tree} {id : ℕ} → KeepsTrees ts us → IsTruth ts id → IsTruth us id
+truth-kept {id} k t = record {
+  within = omega (arith, k.longer, t.within);
+  small = λ bits. subst (λ (n : ℕ). n < 2) (sym (ap (λ (u : Tree). value u bits) (k.same id t.within))) (t.small bits);
+}
 
--- ---- numbers
+pub value-kept : {ts us : List Tree} {id : ℕ} (bits : Bits) → KeepsTrees ts us → IsTruth ts id
+    → value (tree_at us id) bits ≡ value (tree_at ts id) bits
+value-kept {id} bits k t = ap (λ (u : Tree). value u bits) (k.same id t.within)
 
-pub word_value-append : (ts : List Tree) (low high : List ℕ) (bits : Bits) → word_value ts (low ++ high) bits
-    ≡ word_value ts high bits * 2 ^ length low + word_value ts low bits
-word_value-append ts [] high bits = omega arith
-word_value-append ts (x ∷ low) high bits =
-    let below : word_value ts (low ++ high) bits ≡ word_value ts high bits * 2 ^ length low + word_value ts low bits
-    = word_value-append ts low high bits in
-    let double : 2 ^ suc (length low) ≡ 2 ^ length low * 2 = pow-suc 2 (length low) in
-    let scaled : word_value ts high bits * 2 ^ suc (length low) ≡ word_value ts high bits * (2 ^ length low * 2)
-    = ap (λ (m : ℕ). word_value ts high bits * m) double in
-    omega (arith, below, scaled)
+pub truth-of-kept : {ts us : List Tree} {id : ℕ} {f : Bits → ℕ} → KeepsTrees ts us → IsTruthOf ts id f
+    → IsTruthOf us id f
+truth-of-kept k h = record {
+  truth = truth-kept k h.truth;
+  values = λ bits. value-kept bits k h.truth ∙ h.values bits;
+}
 
-word_value-push : (ts : List Tree) (ids : List ℕ) (id : ℕ) (bits : Bits) → word_value ts (ids ++ id ∷ []) bits
-    ≡ value (tree_at ts id) bits * 2 ^ length ids + word_value ts ids bits
-word_value-push ts ids id bits =
-    let one : word_value ts (id ∷ []) bits ≡ value (tree_at ts id) bits = omega arith in
-    word_value-append ts ids (id ∷ []) bits ∙ ap (λ (m : ℕ). m * 2 ^ length ids + word_value ts ids bits) one
+-- ---- lists of bits
 
--- a number by its first n bits and the others
-pub word_value-parts : (n : ℕ) (ts : List Tree) (ids : List ℕ) (bits : Bits) → n ≤ length ids
-    → word_value ts ids bits ≡ word_value ts (drop n ids) bits * 2 ^ n + word_value ts (take n ids) bits
-word_value-parts n ts ids bits l =
-    ap (λ (xs : List ℕ). word_value ts xs bits) (sym (take-append-drop n ids))
-    ∙ word_value-append ts (take n ids) (drop n ids) bits
-    ∙ ap (λ (m : ℕ). word_value ts (drop n ids) bits * 2 ^ m + word_value ts (take n ids) bits) (length-take-le n ids l)
+abbrev AreTruths : List Tree → List ℕ → Type 0
+AreTruths ts ids = (i : ℕ) → i < length ids → IsTruth ts (slice_index ids i)
 
--- the number of the first n bits, with one more
-pub word_value-more : (n : ℕ) (ts : List Tree) (ids : List ℕ) (bits : Bits) → length ids ≡ 32 → n < 32
-    → word_value ts (take (n + 1) ids) bits
-    ≡ value (tree_at ts (slice_index ids n)) bits * 2 ^ n + word_value ts (take n ids) bits
-word_value-more n ts ids bits count l =
-    let long : n < length ids = omega arith in
-    let size : length (take n ids) ≡ n = length-take-le n ids (omega arith) in
-    ap (λ (xs : List ℕ). word_value ts xs bits) (take_more ids n 0 long)
-    ∙ word_value-push ts (take n ids) (slice_index ids n) bits
-    ∙ ap (λ (m : ℕ). value (tree_at ts (slice_index ids n)) bits * 2 ^ m + word_value ts (take n ids) bits) size
-
--- a store that has grown gives the first n bits the same number
-pub word_value-kept : (n : ℕ) (ts us : List Tree) (ids : List ℕ) (bits : Bits) → KeepsTrees ts us → IsBegun n ts ids
-    → n ≤ 32 → word_value us (take n ids) bits ≡ word_value ts (take n ids) bits
-word_value-kept zero ts us ids bits k b l = refl
-word_value-kept (suc n) ts us ids bits k b l =
-    let next : suc n ≡ n + 1 = omega arith in
-    let here : IsTruth ts (slice_index ids n) = b.each n (omega arith) in
-    let before : IsBegun n ts ids = record { count = b.count; each = λ i li. b.each i (omega arith) } in
-    let same : value (tree_at us (slice_index ids n)) bits * 2 ^ n + word_value us (take n ids) bits
-    ≡ value (tree_at ts (slice_index ids n)) bits * 2 ^ n + word_value ts (take n ids) bits
-    = ap₂ (λ (x y : ℕ). x * 2 ^ n + y) (value-kept ts us (slice_index ids n) bits k here)
-    (word_value-kept n ts us ids bits k before (omega arith)) in
-    ap (λ (m : ℕ). word_value us (take m ids) bits) next ∙ word_value-more n us ids bits b.count (omega arith) ∙ same
-    ∙ sym (word_value-more n ts ids bits b.count (omega arith))
-    ∙ ap (λ (m : ℕ). word_value ts (take m ids) bits) (sym next)
-
--- what one more bit makes of the number
-pub word_value-set : (n : ℕ) (ts us : List Tree) (ids : List ℕ) (id : ℕ) (bits : Bits) → KeepsTrees ts us
-    → IsBegun n ts ids → n < 32 → word_value us (take (n + 1) (slice_set ids n id)) bits
-    ≡ value (tree_at us id) bits * 2 ^ n + word_value ts (take n ids) bits
-word_value-set n ts us ids id bits k b l =
-    let long : n < length ids = omega (arith, b.count) in
-    let size : length (take n ids) ≡ n = length-take-le n ids (omega arith) in
-    ap (λ (xs : List ℕ). word_value us xs bits) (take_more_set ids n id long)
-    ∙ word_value-push us (take n ids) id bits
-    ∙ ap (λ (m : ℕ). value (tree_at us id) bits * 2 ^ m + word_value us (take n ids) bits) size
-    ∙ ap (λ (m : ℕ). value (tree_at us id) bits * 2 ^ n + m) (word_value-kept n ts us ids bits k b (omega arith))
-
-below-more : (p v w : ℕ) → v < 2 → w < p → v * p + w < p * 2
-below-more p zero w lv lw = omega arith
-below-more p (suc zero) w lv lw = omega arith
-below-more p (suc (suc v)) w lv lw = absurd (omega arith)
-
--- the first n bits make a number of n bits
-pub word_value-small : (n : ℕ) (ts : List Tree) (ids : List ℕ) (bits : Bits) → IsBegun n ts ids → n ≤ 32
-    → word_value ts (take n ids) bits < 2 ^ n
-word_value-small zero ts ids bits b l = omega arith
-word_value-small (suc n) ts ids bits b l =
-    let here : IsTruth ts (slice_index ids n) = b.each n (omega arith) in
-    let before : IsBegun n ts ids = record { count = b.count; each = λ i li. b.each i (omega arith) } in
-    let less : value (tree_at ts (slice_index ids n)) bits * 2 ^ n + word_value ts (take n ids) bits < 2 ^ n * 2
-    = below-more (2 ^ n) (value (tree_at ts (slice_index ids n)) bits) (word_value ts (take n ids) bits)
-    (here.small bits) (word_value-small n ts ids bits before (omega arith)) in
-    let next : suc n ≡ n + 1 = omega arith in
-    let same : word_value ts (take (suc n) ids) bits
-    ≡ value (tree_at ts (slice_index ids n)) bits * 2 ^ n + word_value ts (take n ids) bits
-    = ap (λ (m : ℕ). word_value ts (take m ids) bits) next ∙ word_value-more n ts ids bits b.count (omega arith) in
-    let double : 2 ^ suc n ≡ 2 ^ n * 2 = pow-suc 2 n in
-    omega (arith, less, same, double)
-
-pub all-bits : (ts : List Tree) (ids : List ℕ) (bits : Bits) → length ids ≡ 32
-    → word_value ts (take 32 ids) bits ≡ word_value ts ids bits
-all-bits ts ids bits count = ap (λ (xs : List ℕ). word_value ts xs bits) (take_all 32 ids (omega arith))
-
-pub word-small : (ts : List Tree) (ids : List ℕ) (bits : Bits) → IsWord ts ids → word_value ts ids bits < 2 ^ 32
-word-small ts ids bits w = subst (λ (n : ℕ). n < 2 ^ 32) (all-bits ts ids bits w.count)
-    (word_value-small 32 ts ids bits (begun-word 32 ts ids w (omega arith)) (omega arith))
-
--- a store that has grown gives a word the same number
-pub number-kept : (ts us : List Tree) (ids : List ℕ) (bits : Bits) → KeepsTrees ts us → IsWord ts ids
+list-kept : (ts us : List Tree) (ids : List ℕ) (bits : Bits) → KeepsTrees ts us → AreTruths ts ids
     → word_value us ids bits ≡ word_value ts ids bits
-number-kept ts us ids bits k w = sym (all-bits us ids bits w.count)
-    ∙ word_value-kept 32 ts us ids bits k (begun-word 32 ts ids w (omega arith)) (omega arith)
-    ∙ all-bits ts ids bits w.count
+list-kept ts us [] bits k h = refl
+list-kept ts us (id ∷ ids) bits k h =
+    ap₂ (λ (v w : ℕ). v + 2 * w) (ap (λ (t : Tree). value t bits) (k.same id (h 0 (omega arith)).within))
+    (list-kept ts us ids bits k (λ i l. h (suc i) (omega arith)))
 
--- a word of which all bits are made
-pub word-made : (ts : List Tree) (ids : List ℕ) (f : Bits → ℕ) → IsBegun 32 ts ids
-    → ((bits : Bits) → word_value ts (take 32 ids) bits ≡ f bits) → IsWordOf ts ids f
-word-made ts ids f b h = record {
-  word = record { count = b.count; each = b.each };
-  values = λ bits. sym (all-bits ts ids bits b.count) ∙ h bits;
+list-small : (ts : List Tree) (ids : List ℕ) (bits : Bits) → AreTruths ts ids → word_value ts ids bits < 2 ^ length ids
+list-small ts [] bits h = omega arith
+list-small ts (id ∷ ids) bits h =
+    let first : value (tree_at ts id) bits < 2 = (h 0 (omega arith)).small bits in
+    let rest : word_value ts ids bits < 2 ^ length ids = list-small ts ids bits (λ i l. h (suc i) (omega arith)) in
+    let double : 2 ^ suc (length ids) ≡ 2 ^ length ids * 2 = pow-suc 2 (length ids) in
+    omega (arith, first, rest, double)
+
+list-bit : (ts : List Tree) (ids : List ℕ) (bits : Bits) (i : ℕ) → AreTruths ts ids → i < length ids
+    → bit_at (word_value ts ids bits) i ≡ value (tree_at ts (slice_index ids i)) bits
+list-bit ts [] bits i h l = absurd (omega arith)
+list-bit ts (id ∷ ids) bits zero h l =
+    let first : value (tree_at ts id) bits < 2 = (h 0 (omega arith)).small bits in
+    let last : (value (tree_at ts id) bits + 2 * word_value ts ids bits) % 2 ≡ value (tree_at ts id) bits
+    = omega (arith, first) in
+    bit_at_lowest (value (tree_at ts id) bits + 2 * word_value ts ids bits) ∙ last
+list-bit ts (id ∷ ids) bits (suc i) h l =
+    let first : value (tree_at ts id) bits < 2 = (h 0 (omega arith)).small bits in
+    let half : (value (tree_at ts id) bits + 2 * word_value ts ids bits) / 2 ≡ word_value ts ids bits
+    = omega (arith, first) in
+    bit_at-suc (value (tree_at ts id) bits + 2 * word_value ts ids bits) i ∙ ap (λ (n : ℕ). bit_at n i) half
+    ∙ list-bit ts ids bits i (λ j lj. h (suc j) (omega arith)) (omega arith)
+
+-- ---- words
+
+are-truths : {ts : List Tree} {ids : List ℕ} → IsWord ts ids → AreTruths ts ids
+are-truths w i l = w.each i (omega (arith, w.count))
+
+pub word-small : {ts : List Tree} {ids : List ℕ} (bits : Bits) → IsWord ts ids → word_value ts ids bits < 2 ^ 32
+word-small {ts} {ids} bits w =
+    subst (λ (n : ℕ). word_value ts ids bits < 2 ^ n) w.count (list-small ts ids bits (are-truths w))
+
+-- one bit of the number of a word
+pub bit-of-word : {ts : List Tree} {ids : List ℕ} (bits : Bits) (i : ℕ) → IsWord ts ids → i < 32
+    → bit_at (word_value ts ids bits) i ≡ value (tree_at ts (slice_index ids i)) bits
+bit-of-word {ts} {ids} bits i w l = list-bit ts ids bits i (are-truths w) (omega (arith, w.count))
+
+-- the same in a store that has grown
+pub bit-now : (n : ℕ) {ts us : List Tree} {ids : List ℕ} (bits : Bits) → KeepsTrees ts us → IsWord ts ids → n < 32
+    → value (tree_at us (slice_index ids n)) bits ≡ bit_at (word_value ts ids bits) n
+bit-now n bits k w l = value-kept bits k (w.each n l) ∙ sym (bit-of-word bits n w l)
+
+pub number-kept : {ts us : List Tree} {ids : List ℕ} (bits : Bits) → KeepsTrees ts us → IsWord ts ids
+    → word_value us ids bits ≡ word_value ts ids bits
+number-kept {ts} {us} {ids} bits k w = list-kept ts us ids bits k (are-truths w)
+
+pub word-kept : {ts us : List Tree} {ids : List ℕ} → KeepsTrees ts us → IsWord ts ids → IsWord us ids
+word-kept k w = record {
+  count = w.count;
+  each = λ i l. truth-kept k (w.each i l);
 }
+
+pub word-of-kept : {ts us : List Tree} {ids : List ℕ} {f : Bits → ℕ} → KeepsTrees ts us → IsWordOf ts ids f
+    → IsWordOf us ids f
+word-of-kept k w = record {
+  word = word-kept k w.word;
+  values = λ bits. number-kept bits k w.word ∙ w.values bits;
+}
+
+pub word-of-back : {ts us : List Tree} {ids : List ℕ} {f : Bits → ℕ} → KeepsTrees ts us → IsWord ts ids
+    → IsWordOf us ids f → IsWordOf ts ids f
+word-of-back k w h = record { word = w; values = λ bits. sym (number-kept bits k w) ∙ h.values bits }
+
+pub word-of-same : {ts : List Tree} {ids : List ℕ} (f g : Bits → ℕ) → ((bits : Bits) → f bits ≡ g bits)
+    → IsWordOf ts ids f → IsWordOf ts ids g
+word-of-same f g same w = record { word = w.word; values = λ bits. w.values bits ∙ same bits }
+
+-- a bit of the word 0
+pub none-bit : {ts : List Tree} {none : List ℕ} (i : ℕ) → IsWordOf ts none (λ bits. 0) → i < 32
+    → IsTruthOf ts (slice_index none i) (λ bits. 0)
+none-bit i h l = record {
+  truth = h.word.each i l;
+  values = λ bits. sym (bit-of-word bits i h.word l) ∙ ap (λ (n : ℕ). bit_at n i) (h.values bits)
+      ∙ bit_at-zero i;
+}
+
+-- ---- words whose bits are made one by one
+
+-- what holds of each element of a list holds after one was set
+pub set-each : (P : ℕ → ℕ → Type 0) (ids : List ℕ) (n id i : ℕ) → n < length ids → P n id
+    → (i ≢ n → P i (slice_index ids i)) → P i (slice_index (slice_set ids n id) i)
+set-each P ids n id i l here there = elim (cases_eq i n) [
+  | inl e ↦ subst (λ (j : ℕ). P j (slice_index (slice_set ids n id) j)) (sym e)
+      (subst (λ (x : ℕ). P n x) (sym (get_or-set_same ids n id 0 l)) here)
+  | inr ne ↦ subst (λ (x : ℕ). P i x) (sym (get_or-set_other ids n i id 0 ne)) (there ne)
+]
+
+pub word-set : {ts us : List Tree} {ids : List ℕ} (n : ℕ) {id : ℕ} → KeepsTrees ts us → n < 32 → IsWord ts ids
+    → IsTruth us id → IsWord us (slice_set ids n id)
+word-set {us} {ids} n {id} k l w t = record {
+  count = length-set ids n id ∙ w.count;
+  each = λ i li. set-each (λ (j x : ℕ). IsTruth us x) ids n id i (omega (arith, w.count)) t
+      (λ ne. truth-kept k (w.each i li));
+}
+
+-- the first n diagrams are the lowest bits of these numbers
+pub record IsBegun (n : ℕ) (ts : List Tree) (ids : List ℕ) (f : Bits → ℕ) : Type 0 where
+  pub count : length ids ≡ 32
+  pub each : (i : ℕ) → i < n → IsTruthOf ts (slice_index ids i) (λ bits. bit_at (f bits) i)
+
+-- one more of them
+pub begun-more : (n : ℕ) {ts us : List Tree} {ids : List ℕ} {id : ℕ} {f : Bits → ℕ} → KeepsTrees ts us → n < 32
+    → IsBegun n ts ids f → IsTruthOf us id (λ bits. bit_at (f bits) n) → IsBegun (n + 1) us (slice_set ids n id) f
+begun-more n {us} {ids} {id} {f} k l b t = record {
+  count = length-set ids n id ∙ b.count;
+  each = λ i li. set-each (λ (j x : ℕ). IsTruthOf us x (λ bits. bit_at (f bits) j)) ids n id i
+      (omega (arith, b.count)) t (λ ne. truth-of-kept k (b.each i (omega arith)));
+}
+
+-- the bit above n others
+pub top-bit : (x n low : ℕ) → x < 2 → low < 2 ^ n → bit_at (x * 2 ^ n + low) n ≡ x
+top-bit x n low lx ll =
+    let none : n - n ≡ 0 = omega arith in
+    let small : x % 2 ≡ x = omega arith in
+    bit_at_cat_high x n low n ll (omega arith) ∙ ap (λ (i : ℕ). bit_at x i) none ∙ bit_at_lowest x ∙ small
+
+-- one more, above numbers of n bits
+pub begun-above : (n : ℕ) {ts us : List Tree} {ids : List ℕ} {id : ℕ} {f : Bits → ℕ} → KeepsTrees ts us → n < 32
+    → IsBegun n ts ids f → ((bits : Bits) → f bits < 2 ^ n) → IsTruth us id
+    → IsBegun (n + 1) us (slice_set ids n id) (λ bits. value (tree_at us id) bits * 2 ^ n + f bits)
+begun-above n {us} {id} {f} k l b small t =
+    begun-more n k l (record {
+      count = b.count;
+      each = λ i li. record {
+        truth = (b.each i li).truth;
+        values = λ bits. (b.each i li).values bits
+            ∙ sym (bit_at_cat_low (value (tree_at us id) bits) n (f bits) i li);
+      };
+    }) (record {
+      truth = t;
+      values = λ bits. sym (top-bit (value (tree_at us id) bits) n (f bits) (t.small bits) (small bits));
+    })
+
+-- all of them: the word has these numbers
+pub word-made : (n : ℕ) {ts : List Tree} {ids : List ℕ} {f : Bits → ℕ} → n ≡ 32 → ((bits : Bits) → f bits < 2 ^ 32)
+    → IsBegun n ts ids f → IsWordOf ts ids f
+word-made n {ts} {ids} {f} e small b = record {
+  word = word;
+  values = λ bits. same_from_bits_below 32 (word_value ts ids bits) (f bits) (word-small bits word) (small bits)
+      (λ i l. bit-of-word bits i word l ∙ (b.each i (omega arith)).values bits);
+}
+  where
+    word : IsWord ts ids
+    word = record { count = b.count; each = λ i l. (b.each i (omega arith)).truth }

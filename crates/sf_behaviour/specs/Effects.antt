@@ -2,7 +2,7 @@
 use Rattle.std.specs.Prelude.{◌≡◌, ℕ, ◌+◌, ◌<◌, ◌==◌, ◌&&◌, Bool, true, false, List, [], ◌∷◌, Option, Some, None, slice_index, if◌then◌else◌}
 use Rattle.sf_insn.specs.declared.input.Input.{Input}
 use Rattle.sf_insn.specs.declared.ops.BinOp.{BinOp}
-use Rattle.sf_insn.specs.declared.ops.BinOp.TheVariants.{Add, Sub, Mul, Div, Or, And, Lsh, Rsh, Xor}
+use Rattle.sf_insn.specs.declared.ops.BinOp.TheVariants.{Div}
 use Rattle.sf_insn.specs.Words.{apply, negation_of, passes}
 use Rattle.sf_check.specs.declared.insn.Insn.{Insn}
 use Rattle.sf_check.specs.declared.insn.Operand.{Operand}
@@ -11,11 +11,8 @@ use Rattle.sf_check.specs.Insns.{successors}
 use Rattle.sf_diagram.specs.Trees.{Tree, Bits}
 use Rattle.sf_run.specs.Machine.{State, Progress, goes, returns, stuck, operand_of, insn_progress}
 use Rattle.sf_behaviour.specs.InputBits.{input_by}
-use Rattle.sf_behaviour.specs.Registers.{IsRegister, register_number, next_with}
-use Rattle.sf_behaviour.specs.Knowledge.{held_in}
-use Rattle.sf_behaviour.specs.declared.knowing.Known.{Known}
-use Rattle.sf_behaviour.specs.declared.registers.Register.{Register}
-use Rattle.sf_behaviour.specs.declared.registers.Register.TheVariants.{A, X}
+use Rattle.sf_behaviour.specs.Registers.{A, X, IsRegister, register_number, next_with}
+use Rattle.sf_behaviour.specs.Knowledge.{Known, held_in}
 use Rattle.sf_behaviour.specs.declared.effects.Source.{Source}
 use Rattle.sf_behaviour.specs.declared.effects.Source.TheVariants.{Constant, Word, Held, Negation, Result}
 use Rattle.sf_behaviour.specs.declared.effects.Effect.{Effect}
@@ -52,15 +49,7 @@ source_in ts k bits (Result op other) =
 -- an operation that divides by X: where that is 0, the program returns 0
 abbrev pub divides_by_x : BinOp → Operand → Bool
 divides_by_x Div OfX = true
-divides_by_x Div (Fixed k) = false
-divides_by_x Add other = false
-divides_by_x Sub other = false
-divides_by_x Mul other = false
-divides_by_x Or other = false
-divides_by_x And other = false
-divides_by_x Lsh other = false
-divides_by_x Rsh other = false
-divides_by_x Xor other = false
+divides_by_x op other = false
 
 -- the source is made by such an operation
 abbrev pub divides : Source → Bool
@@ -68,7 +57,7 @@ divides (Result op other) = divides_by_x op other
 divides _ = false
 
 -- on to the next place with a register set, or stuck where the source has no number
-abbrev pub set_progress : State → Register → Option ℕ → Progress
+abbrev pub set_progress : State → ℕ → Option ℕ → Progress
 set_progress s r (Some n) = goes [] (next_with s r n)
 set_progress s r None = stuck
 

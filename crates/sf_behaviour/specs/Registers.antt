@@ -1,52 +1,36 @@
 -- The registers of a run, and their bits as variables of diagrams.
-use Rattle.std.specs.Prelude.{◌≡◌, ℕ, zero, suc, ◌+◌, ◌-◌, ◌*◌, ◌/◌, ◌%◌, ◌<◌, ◌==◌, ◌&&◌, Bool, false, nat_le, nat_lt, Option, Some, None, slice_get, slice_set, if◌then◌else◌}
+use Rattle.std.specs.Prelude.{ℕ, zero, suc, ◌+◌, ◌-◌, ◌*◌, ◌/◌, ◌%◌, ◌<◌, ◌==◌, ◌&&◌, Bool, false, nat_lt, List, ◌∷◌, Option, Some, None, slice_index_or, slice_set, if◌then◌else◌}
 use Rattle.std.specs.Int.{bit_at}
 use Rattle.sf_diagram.specs.Trees.{Bits}
 use Rattle.sf_run.specs.Machine.{State}
 use Rattle.sf_behaviour.specs.InputBits.{number_by}
-use Rattle.sf_behaviour.specs.declared.registers.Register.{Register}
-use Rattle.sf_behaviour.specs.declared.registers.Register.TheVariants.{A, X, Scratch}
 
--- a register that there is
-abbrev pub IsRegister : Register → Type 0
-IsRegister A = Unit {0}
-IsRegister X = Unit {0}
-IsRegister (Scratch k) = k < 16
+-- A register is given by its number: A, X, and then M[0] to M[15].
+abbrev pub A : ℕ
+A = 0
 
--- all registers in order
-abbrev pub register_at : ℕ → Register
-register_at zero = A
-register_at (suc zero) = X
-register_at (suc (suc k)) = Scratch k
+abbrev pub X : ℕ
+X = 1
 
--- Where the variables of a register begin. The bits of A and X stand in turns.
-abbrev pub register_first : Register → ℕ
-register_first A = 0
-register_first X = 1
-register_first (Scratch k) = 64 + 32 * k
+-- there is such a register
+abbrev pub IsRegister : ℕ → Type 0
+IsRegister r = r < 18
 
--- how far the variables of a register are apart
-abbrev pub register_distance : Register → ℕ
-register_distance A = 2
-register_distance X = 2
-register_distance (Scratch k) = 1
+-- The variable of a register's highest bit. Two registers have 64 variables together, in turns.
+abbrev pub register_first : ℕ → ℕ
+register_first r = 64 * (r / 2) + r % 2
 
 -- the number that a register has where these variables are true
-abbrev pub register_by : Register → Bits → ℕ
-register_by r bits = number_by (register_first r) (register_distance r) 32 bits
-
--- which of 32 bits at equal distances a variable is, if it is one; the highest bit is the first of them
-abbrev pub bit_from : ℕ → ℕ → ℕ → Option ℕ
-bit_from first distance variable =
-    if nat_le first variable && ((variable - first) % distance == 0) && nat_lt ((variable - first) / distance) 32
-    then Some (31 - (variable - first) / distance) else None
+abbrev pub register_by : ℕ → Bits → ℕ
+register_by r bits = number_by (register_first r) 2 32 bits
 
 -- which bit of the register a variable is, if it is one
-abbrev pub register_bit : Register → ℕ → Option ℕ
-register_bit r variable = bit_from (register_first r) (register_distance r) variable
+abbrev pub register_bit : ℕ → ℕ → Option ℕ
+register_bit r variable =
+    if (variable / 64 == r / 2) && (variable % 2 == r % 2) then Some (31 - variable % 64 / 2) else None
 
 -- the variables with those of a register as this number has them
-abbrev pub with_register : Register → ℕ → Bits → Bits
+abbrev pub with_register : ℕ → ℕ → Bits → Bits
 with_register r n bits variable = from (register_bit r variable)
   where
     from : Option ℕ → Bool
@@ -57,18 +41,16 @@ with_register r n bits variable = from (register_bit r variable)
 abbrev pub start_bits : Bits → Bits
 start_bits bits variable = if nat_lt variable 576 then false else bits variable
 
+-- the numbers of a state's registers; None for a scratch word that isn't set
+abbrev pub registers_of : State → List (Option ℕ)
+registers_of s = Some s.a ∷ Some s.x ∷ s.scratch
+
 -- the number of a register in a state, if it has one
-abbrev pub register_number : State → Register → Option ℕ
-register_number s A = Some s.a
-register_number s X = Some s.x
-register_number s (Scratch k) = from (slice_get s.scratch k)
-  where
-    from : Option (Option ℕ) → Option ℕ
-    from (Some word) = word
-    from None = None
+abbrev pub register_number : State → ℕ → Option ℕ
+register_number s r = slice_index_or (registers_of s) r None
 
 -- the next place's state, with this number in a register
-abbrev pub next_with : State → Register → ℕ → State
-next_with s A n = record s { place = s.place + 1; a = n }
-next_with s X n = record s { place = s.place + 1; x = n }
-next_with s (Scratch k) n = record s { place = s.place + 1; scratch = slice_set s.scratch k (Some n) }
+abbrev pub next_with : State → ℕ → ℕ → State
+next_with s zero n = record s { place = s.place + 1; a = n }
+next_with s (suc zero) n = record s { place = s.place + 1; x = n }
+next_with s (suc (suc k)) n = record s { place = s.place + 1; scratch = slice_set s.scratch k (Some n) }

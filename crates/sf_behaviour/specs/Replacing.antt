@@ -5,14 +5,13 @@ use Rattle.std.specs.Ordering.{nat_cmp}
 use Rattle.sf_diagram.specs.Trees.{Tree, Bits, value}
 use Rattle.sf_diagram.specs.Stores.{tree_at}
 use Rattle.sf_behaviour.specs.Registers.{with_register}
-use Rattle.sf_behaviour.specs.declared.registers.Register.{Register}
 
 -- the second diagram has the value of the first where the register has this number
-pub record IsReplaced (r : Register) (ts : List Tree) (number : Bits → ℕ) (id new : ℕ) : Type 0 where
+pub record IsReplaced (r : ℕ) (ts : List Tree) (number : Bits → ℕ) (id new : ℕ) : Type 0 where
   pub id_within : id < length ts
   pub within : new < length ts
   pub values : (bits : Bits) → value (tree_at ts new) bits ≡ value (tree_at ts id) (with_register r (number bits) bits)
 
 -- the map has for diagrams such others
-pub record AreReplaced (r : Register) (ts : List Tree) (number : Bits → ℕ) (made : BTreeMap ℕ ℕ) : Type 0 where
+pub record AreReplaced (r : ℕ) (ts : List Tree) (number : Bits → ℕ) (made : BTreeMap ℕ ℕ) : Type 0 where
   pub each : (id new : ℕ) → get nat_cmp made id ≡ Some new → IsReplaced r ts number id new

@@ -4,7 +4,7 @@ ghost use Rattle.std.specs.Prelude.{◌≡◌, IfOk, IfErr};
 ghost use Rattle.sf_diagram.specs.Trees.{value};
 ghost use Rattle.sf_diagram.specs.Stores.{tree_at, KeepsStore, IsFull};
 ghost use Rattle.sf_behaviour.specs.Words.{word_value, IsTruth, IsTruthOf, IsWord, IsWordOf};
-ghost use Rattle.sf_behaviour.specs.Combining.{combined};
+ghost use Rattle.sf_behaviour.specs.Combining.{combined, IsBitwise};
 
 use crate::truths::{differ, pick};
 use crate::words::Word;
@@ -19,14 +19,19 @@ pub(crate) enum Bitwise {
     Or,
     /// Bitwise exclusive or.
     Xor,
+    /// The first one where a diagram is 1, else the second.
+    Choose(Id),
 }
 
-/// What an operation makes of two bits. `Spent` and `Memory` as the store has them; nodes may have been added then.
+/// What an operation makes of two bits. The caller's condition: the diagrams are 0 or 1 on each input.
 pub(crate) fn combine_bits(store: &mut Store, operation: Bitwise, a: Id, b: Id) -> Result<Id, Fault>
+    requires operation { IsBitwise store.old.trees operation }
     requires a { IsTruth store.old.trees a }
     requires b { IsTruth store.old.trees b }
-    ensures truth { IfOk result (λ id. IsTruthOf store.new.trees id (λ bits. combined operation
-        (value (tree_at store.old.trees a) bits) (value (tree_at store.old.trees b) bits))) }
+    ensures truth { IfOk result (λ id. IsTruthOf store.new.trees id
+        (λ bits. combined store.old.trees bits
+        operation (value (tree_at store.old.trees a) bits)
+        (value (tree_at store.old.trees b) bits))) }
     ensures keeps { KeepsStore store.old store.new }
     ensures spent { IfErr result (λ e. e ≡ Fault.Spent → IsFull store.new) }
 {
@@ -34,21 +39,24 @@ pub(crate) fn combine_bits(store: &mut Store, operation: Bitwise, a: Id, b: Id) 
         Bitwise::And => pick(store, b, a, b),
         Bitwise::Or => pick(store, b, b, a),
         Bitwise::Xor => differ(store, a, b),
+        Bitwise::Choose(test) => pick(store, test, a, b),
     }
 }
 
-/// What an operation makes of two words. The caller's condition: they are words of the store. `Spent` and `Memory` as
-/// the store has them; nodes may have been added then.
+/// What an operation makes of two words. The caller's conditions: they are words of the store, and the diagram by which
+/// it chooses is 0 or 1 on each input.
 pub(crate) fn combine(
     store: &mut Store,
     operation: Bitwise,
     a: &Word,
     b: &Word,
 ) -> Result<Word, Fault>
+    requires operation { IsBitwise store.old.trees operation }
     requires a { IsWord store.old.trees a.now.bits }
     requires b { IsWord store.old.trees b.now.bits }
-    ensures word { IfOk result (λ w. IsWordOf store.new.trees w.bits (λ bits. combined operation
-        (word_value store.old.trees a.now.bits bits)
+    ensures word { IfOk result (λ w. IsWordOf store.new.trees w.bits
+        (λ bits. combined store.old.trees bits
+        operation (word_value store.old.trees a.now.bits bits)
         (word_value store.old.trees b.now.bits bits))) }
     ensures keeps { KeepsStore store.old store.new }
     ensures spent { IfErr result (λ e. e ≡ Fault.Spent → IsFull store.new) }

@@ -1,6 +1,6 @@
 //! Differences and sums of words.
 
-ghost use Rattle.std.specs.Prelude.{◌≡◌, ◌+◌, ◌*◌, ℕ, IfOk, IfErr};
+ghost use Rattle.std.specs.Prelude.{◌≡◌, ◌+◌, ◌*◌, IfOk, IfErr};
 ghost use Rattle.sf_insn.specs.Words.{apply, negation_of};
 ghost use Rattle.sf_insn.specs.declared.ops.BinOp.TheVariants.{Add, Sub};
 ghost use Rattle.sf_diagram.specs.Trees.{Bits, value};
@@ -12,7 +12,7 @@ use crate::words::{Word, constant_word};
 use sf_diagram::{Fault, Id, Store};
 
 /// A bit of a difference: that of `a` less that of `b` less what is borrowed for the lower bits; and whether it borrows
-/// from the next bit. `Spent` and `Memory` as the store has them; nodes may have been added then.
+/// from the next bit.
 fn difference_bit(store: &mut Store, a: Id, b: Id, borrowed: Id) -> Result<(Id, Id), Fault>
     requires a { IsTruth store.old.trees a }
     requires b { IsTruth store.old.trees b }
@@ -31,8 +31,7 @@ fn difference_bit(store: &mut Store, a: Id, b: Id, borrowed: Id) -> Result<(Id, 
     Ok((bit, borrows))
 }
 
-/// The first word less the second, modulo 2^32. The caller's condition: they are words of the store. `Spent` and
-/// `Memory` as the store has them; nodes may have been added then.
+/// The first word less the second, modulo 2^32. The caller's condition: they are words of the store.
 pub(crate) fn difference(store: &mut Store, a: &Word, b: &Word) -> Result<Word, Fault>
     requires a { IsWord store.old.trees a.now.bits }
     requires b { IsWord store.old.trees b.now.bits }
@@ -52,8 +51,7 @@ pub(crate) fn difference(store: &mut Store, a: &Word, b: &Word) -> Result<Word, 
     Ok(Word { bits })
 }
 
-/// Minus a word, modulo 2^32. The caller's condition: it is a word of the store. `Spent` and `Memory` as the store has
-/// them; nodes may have been added then.
+/// Minus a word, modulo 2^32. The caller's condition: it is a word of the store.
 pub(crate) fn negation(store: &mut Store, a: &Word) -> Result<Word, Fault>
     requires { IsWord store.old.trees a.now.bits }
     ensures word { IfOk result (λ w. IsWordOf store.new.trees w.bits
@@ -67,7 +65,7 @@ pub(crate) fn negation(store: &mut Store, a: &Word) -> Result<Word, Fault>
 }
 
 /// The sum of two words, modulo 2^32: the first less minus the second. The caller's condition: they are words of the
-/// store. `Spent` and `Memory` as the store has them; nodes may have been added then.
+/// store.
 pub(crate) fn sum(store: &mut Store, a: &Word, b: &Word) -> Result<Word, Fault>
     requires a { IsWord store.old.trees a.now.bits }
     requires b { IsWord store.old.trees b.now.bits }

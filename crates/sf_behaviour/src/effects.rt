@@ -1,21 +1,20 @@
 //! What instructions do, by the registers that they set.
 
 ghost use Rattle.std.specs.Prelude.{◌≡◌, IfOk, IfErr};
-ghost use Rattle.sf_insn.specs.Words.{apply, negation_of};
+ghost use Rattle.sf_insn.specs.Words.{apply};
 ghost use Rattle.sf_check.specs.Insns.{IsInRange};
 ghost use Rattle.sf_diagram.specs.Stores.{KeepsStore, IsFull};
 ghost use Rattle.sf_behaviour.specs.Registers.{IsRegister};
 ghost use Rattle.sf_behaviour.specs.Knowledge.{held_in, IsKnowledge};
 ghost use Rattle.sf_behaviour.specs.Effects.{divides, divides_by_x, operand_in, source_in, IsEffectOf, IsSource};
 ghost use Rattle.sf_behaviour.specs.Words.{word_value, IsWord, IsWordOf};
-ghost use Rattle.sf_behaviour.specs.declared.registers.Register.TheVariants.{A as TheA};
 
 use crate::combining::{Bitwise, combine};
 use crate::differences::{difference, negation, sum};
-use crate::knowing::Known;
+use crate::knowing::{Known, word_of};
 use crate::products::product;
 use crate::quotients::quotient;
-use crate::registers::{Register, register_word};
+use crate::registers::{A, Register, SCRATCH, X, register_word};
 use crate::shifting::{Direction, shift};
 use crate::words::{Word, constant_word, input_word};
 use sf_check::{Insn, Operand};
@@ -56,30 +55,29 @@ pub(crate) fn effect_of(insn: &Insn) -> Effect
     ensures { IsEffectOf insn.now result }
 {
     match *insn {
-        Insn::LoadWord(i) => Effect::Sets(Register::A, Source::Word(i)),
-        Insn::LoadConstant(k) => Effect::Sets(Register::A, Source::Constant(k)),
-        Insn::LoadScratch(k) => Effect::Sets(Register::A, Source::Held(Register::Scratch(k))),
-        Insn::LoadLength => Effect::Sets(Register::A, Source::Constant(64)),
-        Insn::LoadXConstant(k) => Effect::Sets(Register::X, Source::Constant(k)),
-        Insn::LoadXScratch(k) => Effect::Sets(Register::X, Source::Held(Register::Scratch(k))),
-        Insn::LoadXLength => Effect::Sets(Register::X, Source::Constant(64)),
-        Insn::StoreA(k) => Effect::Sets(Register::Scratch(k), Source::Held(Register::A)),
-        Insn::StoreX(k) => Effect::Sets(Register::Scratch(k), Source::Held(Register::X)),
-        Insn::Alu(op, other) => Effect::Sets(Register::A, Source::Result(op, other)),
-        Insn::Negate => Effect::Sets(Register::A, Source::Negation),
+        Insn::LoadWord(i) => Effect::Sets(A, Source::Word(i)),
+        Insn::LoadConstant(k) => Effect::Sets(A, Source::Constant(k)),
+        Insn::LoadScratch(k) => Effect::Sets(A, Source::Held(SCRATCH + k as usize)),
+        Insn::LoadLength => Effect::Sets(A, Source::Constant(64)),
+        Insn::LoadXConstant(k) => Effect::Sets(X, Source::Constant(k)),
+        Insn::LoadXScratch(k) => Effect::Sets(X, Source::Held(SCRATCH + k as usize)),
+        Insn::LoadXLength => Effect::Sets(X, Source::Constant(64)),
+        Insn::StoreA(k) => Effect::Sets(SCRATCH + k as usize, Source::Held(A)),
+        Insn::StoreX(k) => Effect::Sets(SCRATCH + k as usize, Source::Held(X)),
+        Insn::Alu(op, other) => Effect::Sets(A, Source::Result(op, other)),
+        Insn::Negate => Effect::Sets(A, Source::Negation),
         Insn::Jump(k) => Effect::Skips(k),
         Insn::Branch(test, other, on_true, on_false) => {
             Effect::Tests(test, other, on_true, on_false)
         }
         Insn::ReturnConstant(k) => Effect::Returns(Source::Constant(k)),
-        Insn::ReturnA => Effect::Returns(Source::Held(Register::A)),
-        Insn::Tax => Effect::Sets(Register::X, Source::Held(Register::A)),
-        Insn::Txa => Effect::Sets(Register::A, Source::Held(Register::X)),
+        Insn::ReturnA => Effect::Returns(Source::Held(A)),
+        Insn::Tax => Effect::Sets(X, Source::Held(A)),
+        Insn::Txa => Effect::Sets(A, Source::Held(X)),
     }
 }
 
-/// What an operation makes of two words. The caller's condition: they are words of the store. `Spent` and `Memory` as
-/// the store has them; nodes may have been added then.
+/// What an operation makes of two words. The caller's condition: they are words of the store.
 fn operate(store: &mut Store, op: BinOp, a: &Word, b: &Word) -> Result<Word, Fault>
     requires a { IsWord store.old.trees a.now.bits }
     requires b { IsWord store.old.trees b.now.bits }
@@ -103,7 +101,7 @@ fn operate(store: &mut Store, op: BinOp, a: &Word, b: &Word) -> Result<Word, Fau
 }
 
 /// The word of a register: the one that it is known to have, or else its own. The caller's conditions: there is such a
-/// register, and what is known is right. `Spent` and `Memory` as the store has them; nodes may have been added then.
+/// register, and what is known is right.
 pub(crate) fn held_word(store: &mut Store, known: &Known, register: Register) -> Result<Word, Fault>
     requires register { IsRegister register }
     requires known { IsKnowledge store.old.trees known.now }
@@ -112,7 +110,7 @@ pub(crate) fn held_word(store: &mut Store, known: &Known, register: Register) ->
     ensures keeps { KeepsStore store.old store.new }
     ensures spent { IfErr result (λ e. e ≡ Fault.Spent → IsFull store.new) }
 {
-    match known.word(register) {
+    match word_of(known, register) {
         Some(word) => Ok(word),
         None => {
             let own = register_word(store, register)?;
@@ -121,9 +119,8 @@ pub(crate) fn held_word(store: &mut Store, known: &Known, register: Register) ->
     }
 }
 
-/// The word of an operand. The caller's condition: what is known is right. `Spent` and `Memory` as the store has them;
-/// nodes may have been added then.
-pub(crate) fn operand_word(store: &mut Store, known: &Known, other: Operand) -> Result<Word, Fault>
+/// The word of an operand. The caller's condition: what is known is right.
+fn operand_word(store: &mut Store, known: &Known, other: Operand) -> Result<Word, Fault>
     requires { IsKnowledge store.old.trees known.now }
     ensures word { IfOk result (λ w. IsWordOf store.new.trees w.bits
         (λ bits. operand_in store.old.trees known.now bits other)) }
@@ -132,42 +129,33 @@ pub(crate) fn operand_word(store: &mut Store, known: &Known, other: Operand) -> 
 {
     match other {
         Operand::Constant(k) => constant_word(store, k),
-        Operand::X => held_word(store, known, Register::X),
+        Operand::X => held_word(store, known, X),
     }
 }
 
-/// The word that an operation makes of A and an operand. The caller's condition: what is known is right. `Spent` and
-/// `Memory` as the store has them; nodes may have been added then.
-fn result_word(store: &mut Store, known: &Known, op: BinOp, other: Operand) -> Result<Word, Fault>
-    requires { IsKnowledge store.old.trees known.now }
-    ensures word { IfOk result (λ w. IsWordOf store.new.trees w.bits (λ bits. apply op
-        (held_in store.old.trees known.now bits TheA)
-        (operand_in store.old.trees known.now bits other))) }
+/// The words of a register and of an operand. The caller's conditions: there is such a register, and what is known is
+/// right.
+pub(crate) fn held_words(
+    store: &mut Store,
+    known: &Known,
+    register: Register,
+    other: Operand,
+) -> Result<(Word, Word), Fault>
+    requires register { IsRegister register }
+    requires known { IsKnowledge store.old.trees known.now }
+    ensures first { IfOk result (λ p. IsWordOf store.new.trees p.0.bits
+        (λ bits. held_in store.old.trees known.now bits register)) }
+    ensures second { IfOk result (λ p. IsWordOf store.new.trees p.1.bits
+        (λ bits. operand_in store.old.trees known.now bits other)) }
     ensures keeps { KeepsStore store.old store.new }
     ensures spent { IfErr result (λ e. e ≡ Fault.Spent → IsFull store.new) }
 {
-    let a = held_word(store, known, Register::A)?;
+    let a = held_word(store, known, register)?;
     let b = operand_word(store, known, other)?;
-    let word = operate(store, op, &a, &b)?;
-    Ok(word)
+    Ok((a, b))
 }
 
-/// Minus A. The caller's condition: what is known is right. `Spent` and `Memory` as the store has them; nodes may have
-/// been added then.
-fn negation_word(store: &mut Store, known: &Known) -> Result<Word, Fault>
-    requires { IsKnowledge store.old.trees known.now }
-    ensures word { IfOk result (λ w. IsWordOf store.new.trees w.bits
-        (λ bits. negation_of (held_in store.old.trees known.now bits TheA))) }
-    ensures keeps { KeepsStore store.old store.new }
-    ensures spent { IfErr result (λ e. e ≡ Fault.Spent → IsFull store.new) }
-{
-    let a = held_word(store, known, Register::A)?;
-    let word = negation(store, &a)?;
-    Ok(word)
-}
-
-/// The word of a source. The caller's conditions: the source is there, and what is known is right. `Spent` and `Memory`
-/// as the store has them; nodes may have been added then.
+/// The word of a source. The caller's conditions: the source is there, and what is known is right.
 pub(crate) fn source_word(store: &mut Store, known: &Known, source: Source) -> Result<Word, Fault>
     requires source { IsSource source }
     requires known { IsKnowledge store.old.trees known.now }
@@ -180,8 +168,16 @@ pub(crate) fn source_word(store: &mut Store, known: &Known, source: Source) -> R
         Source::Constant(k) => constant_word(store, k),
         Source::Word(i) => input_word(store, i as usize),
         Source::Held(register) => held_word(store, known, register),
-        Source::Negation => negation_word(store, known),
-        Source::Result(op, other) => result_word(store, known, op, other),
+        Source::Negation => {
+            let held = held_word(store, known, A)?;
+            let minus = negation(store, &held)?;
+            Ok(minus)
+        }
+        Source::Result(op, other) => {
+            let (a, b) = held_words(store, known, A, other)?;
+            let made = operate(store, op, &a, &b)?;
+            Ok(made)
+        }
     }
 }
 

@@ -6,15 +6,14 @@ ghost use Rattle.sf_insn.specs.declared.ops.BinOp.TheVariants.{Mul};
 ghost use Rattle.sf_diagram.specs.Stores.{KeepsStore, IsFull};
 ghost use Rattle.sf_behaviour.specs.Words.{word_value, IsWord, IsWordOf};
 
-use crate::choosing::choose_word;
+use crate::combining::{Bitwise, combine};
 use crate::differences::sum;
 use crate::shifting::{Direction, move_bits};
 use crate::words::{Word, constant_word};
 use sf_diagram::{Fault, Store};
 
 /// The product of two words, modulo 2^32: the sum of the first word, moved to each bit of the second that is 1. The
-/// caller's condition: they are words of the store. `Spent` and `Memory` as the store has them; nodes may have been
-/// added then.
+/// caller's condition: they are words of the store.
 pub(crate) fn product(store: &mut Store, a: &Word, b: &Word) -> Result<Word, Fault>
     requires a { IsWord store.old.trees a.now.bits }
     requires b { IsWord store.old.trees b.now.bits }
@@ -24,12 +23,11 @@ pub(crate) fn product(store: &mut Store, a: &Word, b: &Word) -> Result<Word, Fau
     ensures keeps { KeepsStore store.old store.new }
     ensures spent { IfErr result (λ e. e ≡ Fault.Spent → IsFull store.new) }
 {
-    let zero = store.leaf(0)?;
     let none = constant_word(store, 0)?;
     let mut total = none;
     for i in 0..32 {
-        let moved = move_bits(Direction::Left, a, i, zero);
-        let row = choose_word(store, b.bits[i], &moved, &none)?;
+        let moved = move_bits(Direction::Left, a, i, none.bits[0]);
+        let row = combine(store, Bitwise::Choose(b.bits[i]), &moved, &none)?;
         total = sum(store, &total, &row)?;
     }
     Ok(total)

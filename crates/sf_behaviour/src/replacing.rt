@@ -1,54 +1,50 @@
 //! Diagrams in which a word stands in the place of a register.
 
-ghost use Rattle.std.specs.Prelude.{◌≡◌, ◌≤◌, ◌<◌, ◌-◌, ◌/◌, ◌%◌, ◌==◌, ◌&&◌, ℕ, nat_lt, length, OnOk, IfOk, IfErr, IfSome, if◌then◌else◌};
+ghost use Rattle.std.specs.Prelude.{◌≡◌, ◌≤◌, ◌<◌, ℕ, length, OnOk, IfOk, IfErr, IfSome, if◌then◌else◌};
 ghost use Rattle.sf_diagram.specs.Trees.{Bits, value};
 ghost use Rattle.sf_diagram.specs.Stores.{tree_at, KeepsStore, IsFull};
-ghost use Rattle.sf_behaviour.specs.Words.{word_value, IsDiagramOf, IsTruthOf, IsWord};
-ghost use Rattle.sf_behaviour.specs.Registers.{register_bit, with_register, start_bits};
+ghost use Rattle.sf_behaviour.specs.Words.{IsDiagramOf, IsTruthOf, IsWord, IsWordOf};
+ghost use Rattle.sf_behaviour.specs.Registers.{register_bit, with_register, start_bits, IsRegister};
 ghost use Rattle.sf_behaviour.specs.Replacing.{IsReplaced, AreReplaced};
 
-use crate::registers::{Register, distance, first_variable};
+use crate::inputs::REGISTER_BITS;
+use crate::registers::{Register, highest_bit};
 use crate::words::Word;
 use sf_diagram::{Fault, Id, Node, Store, choose};
 use std::alloc::Global;
 use std::collections::BTreeMap;
-
-/// How many variables stand above those of the input: those of A, X and the 16 scratch words.
-const REGISTERS: u16 = 576;
 
 /// Which bit of the register a variable is, if it is one.
 fn bit_of(register: Register, variable: u16) -> Option<u8>
     ensures bit { result ≡ register_bit register variable }
     ensures few { IfSome result (λ bit. bit < 32) }
 {
-    let first = first_variable(register);
-    if variable < first {
-        return None;
-    }
-    let behind = variable - first;
-    let distance = distance(register);
-    if behind % distance == 0 && behind / distance < 32 {
-        Some((31 - behind / distance) as u8)
+    let variable = variable as usize;
+    if variable / 64 == register / 2 && variable % 2 == register % 2 {
+        Some((31 - variable % 64 / 2) as u8)
     } else {
         None
     }
 }
 
-/// A variable that is greater than each of the register's, as all greater ones are.
+/// A variable that is greater than each of the register's, as all greater ones are. The caller's condition: there is
+/// such a register.
 fn first_past(register: Register) -> u16
+    requires { IsRegister register }
     ensures { (w : ℕ) → result ≤ w → register_bit register w ≡ None }
 {
-    first_variable(register) + 32 * distance(register)
+    highest_bit(register) + 64
 }
 
 /// The diagram that is 1 where a variable is true once the word stands in the place of the register, else 0. The
-/// caller's condition: it is a word of the store. `Spent` and `Memory` as the store has them; nodes may have been added
-/// then.
+/// caller's condition: it is a word of the store.
 fn bit_for(store: &mut Store, register: Register, by: &Word, variable: u16) -> Result<Id, Fault>
     requires { IsWord store.old.trees by.now.bits }
-    ensures truth { IfOk result (λ id. IsTruthOf store.new.trees id
-        (λ bits. if with_register register
-        (word_value store.old.trees by.now.bits bits) bits variable then 1 else 0)) }
+    ensures within { IfOk result (λ id. id < length store.new.trees) }
+    ensures truth { IfOk result (λ id. (f : Bits → ℕ)
+        → IsWordOf store.old.trees by.now.bits f
+        → IsTruthOf store.new.trees id
+        (λ bits. if with_register register (f bits) bits variable then 1 else 0)) }
     ensures keeps { KeepsStore store.old store.new }
     ensures spent { IfErr result (λ e. e ≡ Fault.Spent → IsFull store.new) }
 {
@@ -62,8 +58,8 @@ fn bit_for(store: &mut Store, register: Register, by: &Word, variable: u16) -> R
 }
 
 /// The diagram in which the word stands in the place of the register. What is made for a node is put into `made`, and
-/// isn't made again. The caller's conditions: the node is there, it is a word of the store, and `made` is right.
-/// `Spent` and `Memory` as the store has them; nodes may have been added then.
+/// isn't made again. The caller's conditions: the node and the register are there, it is a word of the store, and
+/// `made` is right.
 fn replace_in(
     store: &mut Store,
     made: &mut BTreeMap<Id, Id>,
@@ -73,12 +69,15 @@ fn replace_in(
 ) -> Result<Id, Fault>
     requires within { id < length store.old.trees }
     requires by { IsWord store.old.trees by.now.bits }
-    requires made { AreReplaced register store.old.trees
-        (word_value store.old.trees by.now.bits) made.old }
-    ensures replaced { IfOk result (λ new. IsReplaced register store.new.trees
-        (word_value store.old.trees by.now.bits) id new) }
-    ensures made { OnOk result (AreReplaced register store.new.trees
-        (word_value store.old.trees by.now.bits) made.new) }
+    requires made { (f : Bits → ℕ) → IsWordOf store.old.trees by.now.bits f
+        → AreReplaced register store.old.trees f made.old }
+    requires register { IsRegister register }
+    ensures within { IfOk result (λ new. new < length store.new.trees) }
+    ensures replaced { IfOk result (λ new. (f : Bits → ℕ)
+        → IsWordOf store.old.trees by.now.bits f
+        → IsReplaced register store.new.trees f id new) }
+    ensures made { OnOk result ((f : Bits → ℕ) → IsWordOf store.old.trees by.now.bits f
+        → AreReplaced register store.new.trees f made.new) }
     ensures keeps { KeepsStore store.old store.new }
     ensures spent { IfErr result (λ e. e ≡ Fault.Spent → IsFull store.new) }
 {
@@ -101,8 +100,8 @@ fn replace_in(
     Ok(new)
 }
 
-/// The diagram in which the word stands in the place of the register. The caller's conditions: the node is there, and
-/// it is a word of the store. `Spent` and `Memory` as the store has them; nodes may have been added then.
+/// The diagram in which the word stands in the place of the register. The caller's conditions: the node and the
+/// register are there, and it is a word of the store.
 pub(crate) fn replace(
     alloc: Global,
     store: &mut Store,
@@ -112,8 +111,11 @@ pub(crate) fn replace(
 ) -> Result<Id, Fault>
     requires within { id < length store.old.trees }
     requires by { IsWord store.old.trees by.now.bits }
-    ensures replaced { IfOk result (λ new. IsReplaced register store.new.trees
-        (word_value store.old.trees by.now.bits) id new) }
+    requires register { IsRegister register }
+    ensures within { IfOk result (λ new. new < length store.new.trees) }
+    ensures replaced { IfOk result (λ new. (f : Bits → ℕ)
+        → IsWordOf store.old.trees by.now.bits f
+        → IsReplaced register store.new.trees f id new) }
     ensures keeps { KeepsStore store.old store.new }
     ensures spent { IfErr result (λ e. e ≡ Fault.Spent → IsFull store.new) }
 {
@@ -132,7 +134,7 @@ pub(crate) fn at_start(store: &Store, id: Id) -> Id
         Node::Number(_) => return id,
         Node::Choice(variable, lower, _) => (variable, lower),
     };
-    if variable >= REGISTERS {
+    if variable >= REGISTER_BITS {
         return id;
     }
     at_start(store, lower)

@@ -1,12 +1,13 @@
 //! Shifts of words.
 
-ghost use Rattle.std.specs.Prelude.{◌≡◌, ◌<◌, ◌≤◌, slice_index, IfOk, IfErr};
+ghost use Rattle.std.specs.Prelude.{◌≡◌, ◌<◌, ◌≤◌, List, IfOk, IfErr};
 ghost use Rattle.sf_insn.specs.Words.{apply};
+ghost use Rattle.sf_diagram.specs.Trees.{Tree};
 ghost use Rattle.sf_diagram.specs.Stores.{KeepsStore, IsFull};
-ghost use Rattle.sf_behaviour.specs.Words.{word_value, IsWord, IsWordOf};
-ghost use Rattle.sf_behaviour.specs.Shifting.{moved, shift_of};
+ghost use Rattle.sf_behaviour.specs.Words.{word_value, IsTruthOf, IsWord, IsWordOf};
+ghost use Rattle.sf_behaviour.specs.Shifting.{moved, shift_of, shifted_by};
 
-use crate::choosing::choose_word;
+use crate::combining::{Bitwise, combine};
 use crate::words::Word;
 use sf_diagram::{Fault, Id, Store};
 
@@ -24,12 +25,12 @@ pub(crate) enum Direction {
 fn moved_bit(direction: Direction, word: &Word, by: usize, zero: Id, bit: usize) -> Id
     requires bit { bit < 32 }
     requires by { by ≤ 32 }
-    ensures { result ≡ slice_index (moved direction word.now.bits by zero) bit }
+    ensures { result ≡ moved direction word.now.bits by zero bit }
 {
     match direction {
         Direction::Left => { if bit < by { zero } else { word.bits[bit - by] } }
         Direction::Right => {
-            if bit < 32 - by {
+            if by + bit < 32 {
                 word.bits[by + bit]
             } else {
                 zero
@@ -38,11 +39,13 @@ fn moved_bit(direction: Direction, word: &Word, by: usize, zero: Id, bit: usize)
     }
 }
 
-/// The word with its bits moved, and `zero` where no bit is moved to. The caller's condition: it is moved by no more
-/// bits than it has.
+/// The word with its bits moved, and `zero`, the diagram of 0, where no bit is moved to. The caller's condition: it is
+/// moved by no more bits than it has.
 pub(crate) fn move_bits(direction: Direction, word: &Word, by: usize, zero: Id) -> Word
     requires { by ≤ 32 }
-    ensures { result.bits ≡ moved direction word.now.bits by zero }
+    ensures { (ts : List Tree) → IsWord ts word.now.bits → IsTruthOf ts zero (λ bits. 0)
+        → IsWordOf ts result.bits
+        (λ bits. shifted_by direction (word_value ts word.now.bits bits) by) }
 {
     let mut bits = word.bits;
     for i in 0..32 {
@@ -51,8 +54,7 @@ pub(crate) fn move_bits(direction: Direction, word: &Word, by: usize, zero: Id) 
     Word { bits }
 }
 
-/// The first word, shifted by the second modulo 32. The caller's condition: they are words of the store. `Spent` and
-/// `Memory` as the store has them; nodes may have been added then.
+/// The first word, shifted by the second modulo 32. The caller's condition: they are words of the store.
 pub(crate) fn shift(
     store: &mut Store,
     direction: Direction,
@@ -68,12 +70,12 @@ pub(crate) fn shift(
     ensures spent { IfErr result (λ e. e ≡ Fault.Spent → IsFull store.new) }
 {
     let zero = store.leaf(0)?;
-    let mut shifted = *word;
+    let mut so_far = *word;
     let mut places = 1;
     for i in 0..5 {
-        let moved = move_bits(direction, &shifted, places, zero);
-        shifted = choose_word(store, by.bits[i], &moved, &shifted)?;
+        let moved = move_bits(direction, &so_far, places, zero);
+        so_far = combine(store, Bitwise::Choose(by.bits[i]), &moved, &so_far)?;
         places = 2 * places;
     }
-    Ok(shifted)
+    Ok(so_far)
 }

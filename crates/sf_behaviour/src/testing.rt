@@ -13,8 +13,7 @@ use crate::words::Word;
 use sf_diagram::{Fault, Id, Store};
 use sf_insn::Test;
 
-/// Whether a test passes by one more bit of two words, where `lower` says whether it passes by the lower bits. `Spent`
-/// and `Memory` as the store has them; nodes may have been added then.
+/// Whether a test passes by one more bit of two words, where `lower` says whether it passes by the lower bits.
 fn test_bits(store: &mut Store, test: Test, a: Id, b: Id, lower: Id) -> Result<Id, Fault>
     requires a { IsTruth store.old.trees a }
     requires b { IsTruth store.old.trees b }
@@ -43,7 +42,7 @@ fn test_bits(store: &mut Store, test: Test, a: Id, b: Id, lower: Id) -> Result<I
 }
 
 /// Whether a test of the first word against the second passes: 1 or 0. The caller's condition: they are words of the
-/// store. `Spent` and `Memory` as the store has them; nodes may have been added then.
+/// store.
 pub(crate) fn test_words(store: &mut Store, test: Test, a: &Word, b: &Word) -> Result<Id, Fault>
     requires a { IsWord store.old.trees a.now.bits }
     requires b { IsWord store.old.trees b.now.bits }

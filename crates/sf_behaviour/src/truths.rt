@@ -8,7 +8,7 @@ ghost use Rattle.sf_behaviour.specs.Words.{IsTruth, IsTruthOf};
 
 use sf_diagram::{Fault, Id, Operation, Store, choose, merge};
 
-/// Where two of them differ. `Spent` and `Memory` as the store has them; nodes may have been added then.
+/// Where two of them differ.
 pub(crate) fn differ(store: &mut Store, a: Id, b: Id) -> Result<Id, Fault>
     requires a { IsTruth store.old.trees a }
     requires b { IsTruth store.old.trees b }
@@ -21,8 +21,7 @@ pub(crate) fn differ(store: &mut Store, a: Id, b: Id) -> Result<Id, Fault>
     Ok(id)
 }
 
-/// The second of them where the first is 1, else the third. `Spent` and `Memory` as the store has them; nodes may have
-/// been added then.
+/// The second of them where the first is 1, else the third.
 pub(crate) fn pick(store: &mut Store, test: Id, taken: Id, other: Id) -> Result<Id, Fault>
     requires test { IsTruth store.old.trees test }
     requires taken { IsTruth store.old.trees taken }

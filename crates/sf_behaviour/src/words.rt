@@ -2,9 +2,10 @@
 
 ghost use Rattle.std.specs.Prelude.{◌≡◌, ◌+◌, ◌-◌, ◌*◌, ◌<◌, ◌≤◌, slice_index, IfOk, IfErr};
 ghost use Rattle.sf_diagram.specs.Stores.{KeepsStore, IsFull};
-ghost use Rattle.sf_behaviour.specs.InputBits.{number_by, input_first, input_by};
+ghost use Rattle.sf_behaviour.specs.InputBits.{number_by, input_by};
 ghost use Rattle.sf_behaviour.specs.Words.{word_value, IsDiagramOf, IsWord, IsWordOf};
 
+use crate::inputs::first_variable;
 use sf_diagram::{Fault, Id, Operation, Store, merge};
 
 /// A word that depends on the input, by a diagram for each of its bits, the lowest bit first. Each diagram is 0 or 1 on
@@ -15,24 +16,7 @@ pub(crate) struct Word {
     pub bits: [Id; 32],
 }
 
-/// Where each word of the input stands in the order of the diagrams' variables: architecture, number of the call,
-/// arguments, instruction pointer, of two halves the upper one first.
-const PLACES: [u16; 16] = [1, 0, 15, 14, 3, 2, 5, 4, 7, 6, 9, 8, 11, 10, 13, 12];
-
-/// How many variables stand before those of the input: the bits of A, X and the scratch words.
-const REGISTER_BITS: u16 = 18 * 32;
-
-/// The variable of the highest bit of a word of the input. The caller's condition: there is such a word.
-fn first_variable(word: usize) -> u16
-    requires { word < 16 }
-    ensures is { result ≡ input_first word }
-    ensures small { result < 16384 }
-{
-    REGISTER_BITS + 32 * PLACES[word]
-}
-
-/// The word that is the same number on each input. `Spent` and `Memory` as the store has them; nodes may have been
-/// added then.
+/// The word that is the same number on each input.
 pub(crate) fn constant_word(store: &mut Store, number: u32) -> Result<Word, Fault>
     ensures word { IfOk result (λ w. IsWordOf store.new.trees w.bits (λ bits. number)) }
     ensures keeps { KeepsStore store.old store.new }
@@ -59,8 +43,7 @@ fn variable_of(first: u16, distance: u16, bit: u16) -> u16
 }
 
 /// The word whose bits are these variables: 32 at equal distances, of which the first is the highest bit. The caller's
-/// conditions: the first is below 16,384, and they are at most 2 apart. `Spent` and `Memory` as the store has them;
-/// nodes may have been added then.
+/// conditions: the first is below 16,384, and they are at most 2 apart.
 pub(crate) fn variable_word(store: &mut Store, first: u16, distance: u16) -> Result<Word, Fault>
     requires first { first < 16384 }
     requires distance { distance ≤ 2 }
@@ -78,7 +61,7 @@ pub(crate) fn variable_word(store: &mut Store, first: u16, distance: u16) -> Res
 }
 
 /// A word of the input, by its number: `Input` of `sf_insn` says which is which. The caller's condition: there is such
-/// a word. `Spent` and `Memory` as the store has them; nodes may have been added then.
+/// a word.
 pub(crate) fn input_word(store: &mut Store, word: usize) -> Result<Word, Fault>
     requires { word < 16 }
     ensures word { IfOk result (λ w. IsWordOf store.new.trees w.bits
@@ -90,8 +73,7 @@ pub(crate) fn input_word(store: &mut Store, word: usize) -> Result<Word, Fault>
     Ok(word)
 }
 
-/// One diagram with the numbers of a word at its leaves. The caller's condition: it is a word of the store. `Spent` and
-/// `Memory` as the store has them; nodes may have been added then.
+/// One diagram with the numbers of a word at its leaves. The caller's condition: it is a word of the store.
 pub(crate) fn number_diagram(store: &mut Store, word: &Word) -> Result<Id, Fault>
     requires { IsWord store.old.trees word.now.bits }
     ensures number { IfOk result

@@ -1,6 +1,5 @@
-use Rattle.std.proofs.Common.{[], ◌∷◌, ◌++◌, arith}
+use Rattle.sf_behaviour.proofs.Common.{[], ◌∷◌, ◌++◌, arith, keeps_more}
 use Rattle.std.proofs.lemmas.Grind.{common_steps}
-use Rattle.sf_diagram.specs.KeepLaws.{keeps_more}
 use Rattle.sf_behaviour.proofs.AnswerLemmas.{fold-begun, fold-more}
 use Rattle.sf_behaviour.proofs.answers.behaviour.Goals as goal
 

@@ -1,6 +1,4 @@
-use Rattle.std.proofs.Common.{◌≡◌, List, map}
-use Rattle.sf_check.specs.declared.insn.Insn.{Insn}
-use Rattle.sf_diagram.specs.Stores.{KeepsStore}
+use Rattle.sf_behaviour.proofs.Common.{◌≡◌, List, map, Insn, KeepsStore}
 use Rattle.sf_behaviour.specs.Answering.{HasAnswers}
 use Rattle.sf_behaviour.proofs.AnswerLemmas.{returns_on}
 use Rattle.sf_behaviour.proofs.answers.behaviour.Given as goal

@@ -1,7 +1,4 @@
-use Rattle.std.proofs.Common.{◌≡◌, take}
-use Rattle.sf_diagram.specs.Trees.{Bits}
-use Rattle.sf_diagram.specs.Stores.{KeepsStore}
-use Rattle.sf_behaviour.specs.Words.{word_value}
+use Rattle.sf_behaviour.proofs.Common.{KeepsStore, word_value}
 use Rattle.sf_behaviour.specs.Combining.{combined}
 use Rattle.sf_behaviour.proofs.WordLemmas.{IsBegun}
 use Rattle.sf_behaviour.proofs.combining.combine.Given as goal
@@ -9,8 +6,6 @@ use Rattle.sf_behaviour.proofs.combining.combine.Given as goal
 abbrev pub invariant-loop-i : goal.invariant-loop-i
 invariant-loop-i l = record {
   keeps : KeepsStore l.fn.store l.store;
-  begun : IsBegun l.i l.store.trees l.bits;
-  so_far : (bits : Bits) → word_value l.store.trees (take l.i l.bits) bits
-      ≡ combined l.operation (word_value l.fn.store.trees (take l.i l.a.bits) bits)
-      (word_value l.fn.store.trees (take l.i l.b.bits) bits);
+  begun : IsBegun l.i l.store.trees l.bits (λ bits. combined l.fn.store.trees bits l.operation
+      (word_value l.fn.store.trees l.a.bits bits) (word_value l.fn.store.trees l.b.bits bits));
 }

@@ -1,11 +1,9 @@
-use Rattle.std.proofs.Common.{sym}
+use Rattle.sf_behaviour.proofs.Common.{sym}
 use Rattle.sf_behaviour.proofs.KnowledgeLemmas.{held-known, held-own}
 use Rattle.sf_behaviour.proofs.effects.held_word.Goals as goal
 
 pub returns-in-Some-clause-word : goal.returns-in-Some-clause-word
-returns-in-Some-clause-word c =
-    held-known c.args.store.now.trees c.args.known.now c.args.register c.in-Some.word c.requires.known
-    (sym c.in-Some.ensures)
+returns-in-Some-clause-word c = held-known c.args.register c.requires.known (sym c.in-Some.ensures)
 
 pub returns-in_ok-own-in-None-clause-word : goal.returns-in_ok-own-in-None-clause-word
 returns-in_ok-own-in-None-clause-word c =

@@ -1,61 +1,56 @@
-use Rattle.std.proofs.Common.{◌∙◌, Some, ap, arith, rules}
-use Rattle.std.specs.Prelude.{Option}
-use Rattle.std.proofs.lemmas.Option.{get_or_from_slice_get}
-use Rattle.sf_diagram.specs.KeepLaws.{keeps_more}
-use Rattle.sf_behaviour.specs.declared.knowing.Known.{Known}
-use Rattle.sf_behaviour.proofs.StepsLemmas.{element-at}
-use Rattle.sf_behaviour.proofs.ForwardLemmas.{forward-code, forward-more, forward-start, forward-steps, get-same, inside-at, range-at, right-kept}
+use Rattle.sf_behaviour.proofs.Common.{◌∙◌, Some, replicate, refl, arith, rules, keeps_more, Step}
+use Rattle.std.proofs.Common.{length-append}
+use Rattle.std.proofs.lemmas.List.{get_or_default, take_all}
+use Rattle.sf_behaviour.proofs.KnowledgeLemmas.{knowledge-kept}
+use Rattle.sf_behaviour.proofs.StepsLemmas.{code-more}
+use Rattle.sf_behaviour.proofs.ForwardLemmas.{range-at, steps-more, steps-none, zero-kept, zero-knowledge, zero-values}
 use Rattle.sf_behaviour.proofs.forward.forward_steps.Goals as goal
 
 pub loop-i-init : goal.loop-i-init
 loop-i-init c = record {
   keeps = c.in_ok-zero.ensures.keeps;
-  forward = rw c.new-steps.ensures.items (forward-start c.constant_word.new.store.trees c.args.insns.now
-      c.in_ok-known.known.items c.all.result c.in_ok-zero.zero c.requires.some
-      (c.in_ok-known.ensures.items_if_clones_equal (search rules)) c.in_ok-zero.ensures.word c.all.ensures.words
-      c.all.ensures.sixteen);
+  knows = zero-knowledge c.constant_word.new.store.trees c.in_ok-zero.zero (replicate 18 (Some c.in_ok-zero.zero)) refl
+      c.in_ok-zero.ensures.word;
+  zeros = λ r w bits. zero-values c.constant_word.new.store.trees c.in_ok-zero.zero
+      (replicate 18 (Some c.in_ok-zero.zero)) r w bits refl c.in_ok-zero.ensures.word;
+  count = search rules;
+  code = rw c.new-steps.ensures.items refl;
+  steps = rw c.new-steps.ensures.items (steps-none c.constant_word.new.store.trees);
 }
+
+pub known_at-known-requires : goal.known_at-known-requires
+known_at-known-requires c = omega (arith, c.loop-i.invariant.count, c.requires.short)
 
 pub step_of-requires-clause-range : goal.step_of-requires-clause-range
 step_of-requires-clause-range c = range-at c.args.insns.now c.loop-i.i _ c.requires (omega arith)
 
 pub step_of-requires-clause-known : goal.step_of-requires-clause-known
 step_of-requires-clause-known c =
-    c.known_there-there.ensures.right c.loop-i.store.trees (λ k e.
-    c.loop-i.invariant.forward.right c.loop-i.i k
-    (element-at c.loop-i.known.items c.loop-i.i c.index.result.now (omega arith) c.index.ensures
-    ∙ ap (λ (o : Option Known). Some o) e))
-
-pub reach_next-requires-clause-inside : goal.reach_next-requires-clause-inside
-reach_next-requires-clause-inside c = λ q e.
-    let within = inside-at c.args.insns.now c.loop-i.i q _ c.in_ok-step.step c.requires (omega arith)
-    c.in_ok-step.ensures.insn c.in_ok-step.ensures.step.effect e in
-    omega (arith, within, c.loop-i.invariant.forward.size)
+    c.known_at-known.ensures.right c.loop-i.store.trees c.loop-i.invariant.steps c.loop-i.invariant.knows
 
 pub loop-i-preserved : goal.loop-i-preserved
 loop-i-preserved c =
-    let keeps = c.in_ok-step.ensures.keeps in
-    let r = c.reach_next.ensures in
+    let h = c.loop-i.invariant in
+    let e = c.in_ok-step.ensures in
+    let known = c.known_at-known.ensures in
+    let us = c.step_of.new.store.trees in
+    let start = replicate 18 (Some c.in_ok-zero.zero) in
     record {
-      keeps = keeps_more _ _ _ c.loop-i.invariant.keeps keeps;
-      forward = rw c.in_ok-push.ensures.items (forward-more _ _ c.args.insns.now c.loop-i.i c.loop-i.known.items
-          c.reach_next.new.known.items c.loop-i.steps.items c.in_ok-step.step keeps.trees c.loop-i.invariant.forward
-          (omega arith)
-          (get-same c.args.insns.now c.loop-i.i _ c.in_ok-step.step.insn c.in_ok-step.step.insn (omega arith)
-          c.in_ok-step.ensures.insn)
-          c.in_ok-step.ensures.step (λ k e. c.in_ok-step.ensures.known ∙ c.known_there-there.ensures.some k
-          (c.index.ensures ∙ get_or_from_slice_get c.loop-i.known.items c.loop-i.i (Some k) c.index.result.now e))
-          r.size r.reached r.stay r.earlier
-          (r.right _ c.in_ok-step.ensures.step.after (right-kept _ _ c.loop-i.known.items keeps.trees
-          c.loop-i.invariant.forward.right)));
+      keeps = keeps_more _ _ _ h.keeps e.keeps;
+      knows = knowledge-kept e.keeps.trees h.knows;
+      zeros = zero-kept e.keeps.trees h.knows h.zeros;
+      count = rw c.in_ok-push.ensures.items (omega (arith, h.count, length-append {A = Step}));
+      code = rw c.in_ok-push.ensures.items (code-more c.loop-i.steps.items c.in_ok-step.step c.args.insns.now c.loop-i.i
+          c.in_ok-step.step.insn h.code (omega arith)
+          (e.insn ∙ get_or_default c.args.insns.now c.loop-i.i _ c.in_ok-step.step.insn (omega arith)));
+      steps = rw c.in_ok-push.ensures.items (steps-more c.loop-i.store.trees us c.loop-i.steps.items c.loop-i.i
+          c.in_ok-step.step start e.keeps.trees h.steps h.count e.step
+          (λ p s at to. rw e.known (known.less p s at to)) (λ none. e.known ∙ known.first none)
+          (zero-kept e.keeps.trees h.knows h.zeros));
     }
 
 pub returns-clause-steps : goal.returns-clause-steps
-returns-clause-steps c =
-    forward-steps c.loop-i.store.trees c.args.insns.now c.loop-i.i c.loop-i.known.items c.loop-i.steps.items
-    c.loop-i.invariant.forward
+returns-clause-steps c = c.loop-i.invariant.steps
 
 pub returns-clause-code : goal.returns-clause-code
-returns-clause-code c =
-    forward-code c.loop-i.store.trees c.args.insns.now c.loop-i.i c.loop-i.known.items c.loop-i.steps.items
-    (omega arith) c.loop-i.invariant.forward
+returns-clause-code c = c.loop-i.invariant.code ∙ take_all c.loop-i.i c.args.insns.now (omega arith)

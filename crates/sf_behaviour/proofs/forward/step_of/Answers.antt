@@ -1,11 +1,13 @@
-use Rattle.std.proofs.Common.{refl}
-use Rattle.sf_behaviour.proofs.ForwardLemmas.{step-made}
+use Rattle.sf_behaviour.proofs.KnowledgeLemmas.{knowledge-kept}
 use Rattle.sf_behaviour.proofs.forward.step_of.Goals as goal
 
-pub fixed_word-requires-clause-there : goal.fixed_word-requires-clause-there
-fixed_word-requires-clause-there c = c.effect_of-effect.ensures.there
+pub known_after-requires-clause-there : goal.known_after-requires-clause-there
+known_after-requires-clause-there c = c.effect_of-effect.ensures.there
 
 pub returns-clause-step : goal.returns-clause-step
-returns-clause-step c =
-    step-made c.args.store.now.trees c.fixed_word.new.store.trees _ c.in_ok-word.ensures.keeps.trees
-    c.effect_of-effect.ensures c.requires.known (λ w r source has is. c.in_ok-word.ensures.word w r source has is)
+returns-clause-step c = record {
+  effect = c.effect_of-effect.ensures;
+  known = knowledge-kept
+      c.in_ok-after.ensures.keeps.trees c.requires.known;
+  after = c.in_ok-after.ensures.after;
+}

@@ -1,115 +1,85 @@
-use Rattle.std.proofs.Common.{◌+◌, subst, arith}
-use Rattle.sf_diagram.specs.KeepLaws.{keeps_more}
-use Rattle.sf_behaviour.specs.Telling.{insns_of, Tells}
-use Rattle.sf_behaviour.specs.declared.knowing.Known.{Known}
+use Rattle.sf_behaviour.proofs.Common.{◌+◌, [], ◌∷◌, refl, arith, keeps_more, insns_of}
+use Rattle.sf_check.specs.ContainsLaws.{contains_here, contains_there}
 use Rattle.sf_behaviour.proofs.EffectLemmas.{chosen-diagram}
 use Rattle.sf_behaviour.proofs.KnowledgeLemmas.{knowledge-kept}
-use Rattle.sf_behaviour.proofs.PlaceLemmas.{false-leads, false-less, leads-inside, place-known, place-return, place-skip, place-test, place-unknown, set-leads, skip-leads, true-leads}
-use Rattle.sf_behaviour.proofs.StepsLemmas.{last-kept, steps-kept}
-use Rattle.sf_behaviour.proofs.TellLemmas.{tells-kept}
+use Rattle.sf_behaviour.proofs.PlaceLemmas.{place-kept, place-step, same-tells, set-follows, set-there, this-step}
+use Rattle.sf_behaviour.proofs.StepsLemmas.{after-knowledge, after-same, step-kept}
+use Rattle.sf_behaviour.proofs.TellLemmas.{follows-return, follows-skip, follows-test, tells-kept}
 use Rattle.sf_behaviour.proofs.places.diagram_of_place.Goals as goal
 
-pub diagram_behind-requires-clause-inside : goal.diagram_behind-requires-clause-inside
-diagram_behind-requires-clause-inside c =
-    leads-inside c.args.store.now.trees c.args.steps.now.items c.args.place
-    (c.args.place + 1) c.args.step.now c.requires.lawful c.requires.steps c.requires.at
-    (set-leads c.args.place c.args.step.now c.in-Sets.register c.in-Sets.source c.in-Sets.is)
+-- ---- a register is set
 
-pub diagram_behind-requires-in-Skips-clause-inside : goal.diagram_behind-requires-in-Skips-clause-inside
-diagram_behind-requires-in-Skips-clause-inside c =
-    leads-inside c.args.store.now.trees c.args.steps.now.items c.args.place
-    (c.args.place + 1 + c.in-Skips.k) c.args.step.now c.requires.lawful c.requires.steps c.requires.at
-    (skip-leads c.args.place c.args.step.now c.in-Skips.k c.in-Skips.is)
+pub diagram_behind-requires : goal.diagram_behind-requires
+diagram_behind-requires c = record {
+  place = c.args.place;
+  is = c.requires;
+  leads = rw c.in-Sets.is (contains_here (c.args.place + 1) [] (c.args.place + 1) refl);
+}
 
-pub diagram_behind-requires-in-Tests-clause-inside : goal.diagram_behind-requires-in-Tests-clause-inside
-diagram_behind-requires-in-Tests-clause-inside c =
-    leads-inside c.args.store.now.trees c.args.steps.now.items c.args.place
-    (c.args.place + 1 + c.in-Tests.on_true) c.args.step.now c.requires.lawful c.requires.steps c.requires.at
-    (true-leads c.args.place c.args.step.now c.in-Tests.test c.in-Tests.operand c.in-Tests.on_true
-    c.in-Tests.on_false c.in-Tests.is)
+pub set_diagram-requires-clause-register : goal.set_diagram-requires-clause-register
+set_diagram-requires-clause-register c = (set-there c.requires c.in-Sets.is).0
 
-pub diagram_behind-requires-in-Tests-2-clause-steps : goal.diagram_behind-requires-in-Tests-2-clause-steps
-diagram_behind-requires-in-Tests-2-clause-steps c =
-    steps-kept c.args.store.now.trees _ c.args.steps.now.items c.in_ok-taken-in-Tests.ensures.keeps.trees
-    c.requires.steps
-
-pub diagram_behind-requires-in-Tests-2-clause-inside : goal.diagram_behind-requires-in-Tests-2-clause-inside
-diagram_behind-requires-in-Tests-2-clause-inside c =
-    leads-inside c.args.store.now.trees c.args.steps.now.items c.args.place
-    (c.args.place + 1 + c.in-Tests.on_false) c.args.step.now c.requires.lawful c.requires.steps c.requires.at
-    (false-leads c.args.place c.args.step.now c.in-Tests.test c.in-Tests.operand c.in-Tests.on_true
-    c.in-Tests.on_false c.in-Tests.is)
-
-pub diagram_behind-requires-in-Tests-2-clause-behind : goal.diagram_behind-requires-in-Tests-2-clause-behind
-diagram_behind-requires-in-Tests-2-clause-behind c =
-    last-kept c.args.store.now.trees _ c.args.steps.now.items c.args.behind.now.items
-    c.in_ok-taken-in-Tests.ensures.keeps.trees c.requires.steps
-    c.requires.behind
-
-pub diagram_behind-requires-in-Tests-2-clause-known : goal.diagram_behind-requires-in-Tests-2-clause-known
-diagram_behind-requires-in-Tests-2-clause-known c =
-    knowledge-kept c.args.store.now.trees _ c.args.step.now.known c.in_ok-taken-in-Tests.ensures.keeps.trees
-    (c.requires.steps.each c.args.place c.args.step.now c.requires.at).known
-
-pub diagram_behind-requires-in-Tests-2-clause-less : goal.diagram_behind-requires-in-Tests-2-clause-less
-diagram_behind-requires-in-Tests-2-clause-less c = λ next there.
-    false-less c.args.store.now.trees c.args.steps.now.items c.args.place c.args.step.now next c.in-Tests.test
-    c.in-Tests.operand c.in-Tests.on_true c.in-Tests.on_false
-    c.requires.steps c.requires.at c.in-Tests.is there
+pub set_diagram-requires-clause-source : goal.set_diagram-requires-clause-source
+set_diagram-requires-clause-source c = (set-there c.requires c.in-Sets.is).1
 
 pub set_diagram-requires-clause-known : goal.set_diagram-requires-clause-known
 set_diagram-requires-clause-known c =
-    knowledge-kept c.args.store.now.trees _ c.args.step.now.known c.in_ok-next-in-Sets.ensures.keeps.trees
-    (c.requires.steps.each c.args.place c.args.step.now c.requires.at).known
+    knowledge-kept c.in_ok-next-in-Sets.ensures.keeps.trees (this-step c.requires).known
 
 pub guarded_diagram-requires-clause-known : goal.guarded_diagram-requires-clause-known
 guarded_diagram-requires-clause-known c =
-    knowledge-kept c.args.store.now.trees _ c.args.step.now.known c.in_ok-next-in-Sets.ensures.keeps.trees
-    (c.requires.steps.each c.args.place c.args.step.now c.requires.at).known
+    knowledge-kept (keeps_more _ _ _ c.in_ok-next-in-Sets.ensures.keeps c.in_ok-set-in-Sets.ensures.keeps).trees
+    (this-step c.requires).known
 
-pub guarded_diagram-requires-in-None-clause-known : goal.guarded_diagram-requires-in-None-clause-known
-guarded_diagram-requires-in-None-clause-known c =
-    knowledge-kept c.args.store.now.trees _ c.args.step.now.known
-    (keeps_more _ _ _ c.in_ok-next-in-Sets.ensures.keeps c.in_ok-set-in-None.ensures.keeps).trees
-    (c.requires.steps.each c.args.place c.args.step.now c.requires.at).known
+pub returns-in_ok-guarded-in-Sets-clause-tells : goal.returns-in_ok-guarded-in-Sets-clause-tells
+returns-in_ok-guarded-in-Sets-clause-tells c =
+    let kept = place-kept c.in_ok-next-in-Sets.ensures.keeps.trees c.requires in
+    place-step kept c.in-Sets.is (set-follows c.in_ok-set-in-Sets.ensures.keeps.trees
+    c.in_ok-guarded-in-Sets.ensures.keeps.trees kept c.in-Sets.is c.in_ok-next-in-Sets.ensures.tells
+    c.in_ok-set-in-Sets.ensures.small c.in_ok-set-in-Sets.ensures.replaced c.in_ok-guarded-in-Sets.ensures.values)
 
-pub returns-in_ok-known_set-in-Some-clause-tells : goal.returns-in_ok-known_set-in-Some-clause-tells
-returns-in_ok-known_set-in-Some-clause-tells c =
-    let before = c.diagram_behind.new.store.trees in
-    place-known before _ c.args.steps.now.items c.args.place c.args.step.now
-    c.in-Sets.register c.in-Sets.source _ c.in_ok-next-in-Sets.next c.in_ok-known_set-in-Some.known_set
-    c.in_ok-known_set-in-Some.ensures.keeps.trees
-    (steps-kept c.args.store.now.trees before c.args.steps.now.items c.in_ok-next-in-Sets.ensures.keeps.trees
-    c.requires.steps) c.requires.at c.in-Sets.is c.in-Some.is
-    (subst (λ (k : Known). Tells (insns_of c.args.steps.now.items) (c.args.place + 1) before k
-    c.in_ok-next-in-Sets.next) c.set.ensures c.in_ok-next-in-Sets.ensures.tells)
-    c.in_ok-known_set-in-Some.ensures.values
+-- ---- instructions are skipped
 
-pub returns-in_ok-guarded-in-None-clause-tells : goal.returns-in_ok-guarded-in-None-clause-tells
-returns-in_ok-guarded-in-None-clause-tells c =
-    let before = c.diagram_behind.new.store.trees in
-    place-unknown before _ _ c.args.steps.now.items
-    c.args.place c.args.step.now c.in-Sets.register c.in-Sets.source
-    c.in_ok-next-in-Sets.next c.in_ok-set-in-None.set c.in_ok-guarded-in-None.guarded
-    c.in_ok-set-in-None.ensures.keeps.trees c.in_ok-guarded-in-None.ensures.keeps.trees
-    (steps-kept c.args.store.now.trees before c.args.steps.now.items c.in_ok-next-in-Sets.ensures.keeps.trees
-    c.requires.steps) c.requires.at c.in-Sets.is c.in-None.is
-    (subst (λ (k : Known). Tells (insns_of c.args.steps.now.items) (c.args.place + 1) before k
-    c.in_ok-next-in-Sets.next) c.set.ensures c.in_ok-next-in-Sets.ensures.tells)
-    c.in_ok-set-in-None.ensures.small c.in_ok-set-in-None.ensures.replaced c.in_ok-guarded-in-None.ensures.values
+pub diagram_behind-requires-in-Skips : goal.diagram_behind-requires-in-Skips
+diagram_behind-requires-in-Skips c =
+    let next = c.args.place + 1 + c.in-Skips.k in
+    record {
+      place = c.args.place;
+      is = c.requires;
+      leads = rw c.in-Skips.is (contains_here next [] next refl);
+    }
 
 pub returns-in_ok-skipped-in-Skips-clause-tells : goal.returns-in_ok-skipped-in-Skips-clause-tells
 returns-in_ok-skipped-in-Skips-clause-tells c =
-    place-skip _ c.args.steps.now.items c.args.place c.in-Skips.k c.args.step.now c.in_ok-skipped-in-Skips.skipped
-    (steps-kept c.args.store.now.trees _ c.args.steps.now.items c.in_ok-skipped-in-Skips.ensures.keeps.trees
-    c.requires.steps) c.requires.at c.in-Skips.is
-    c.in_ok-skipped-in-Skips.ensures.tells
+    place-step c.requires c.in-Skips.is (follows-skip c.args.place c.in-Skips.k
+    (same-tells (after-same (this-step c.requires) c.in-Skips.is) c.in_ok-skipped-in-Skips.ensures.tells))
+
+-- ---- A is tested
+
+pub diagram_behind-requires-in-Tests : goal.diagram_behind-requires-in-Tests
+diagram_behind-requires-in-Tests c =
+    let hit = c.args.place + 1 + c.in-Tests.on_true in
+    let miss = c.args.place + 1 + c.in-Tests.on_false in
+    record {
+      place = c.args.place;
+      is = c.requires;
+      leads = rw c.in-Tests.is (contains_here hit (miss ∷ []) hit refl);
+    }
+
+pub diagram_behind-requires-in-Tests-2 : goal.diagram_behind-requires-in-Tests-2
+diagram_behind-requires-in-Tests-2 c =
+    let hit = c.args.place + 1 + c.in-Tests.on_true in
+    let miss = c.args.place + 1 + c.in-Tests.on_false in
+    record {
+      place = c.args.place;
+      is = place-kept c.in_ok-taken-in-Tests.ensures.keeps.trees c.requires;
+      leads = rw c.in-Tests.is (contains_there hit (miss ∷ []) miss (contains_here miss [] miss refl));
+    }
 
 pub test_diagram-requires-clause-known : goal.test_diagram-requires-clause-known
 test_diagram-requires-clause-known c =
-    knowledge-kept c.args.store.now.trees _ c.args.step.now.known
-    (keeps_more _ _ _ c.in_ok-taken-in-Tests.ensures.keeps c.in_ok-other-in-Tests.ensures.keeps).trees
-    (c.requires.steps.each c.args.place c.args.step.now c.requires.at).known
+    knowledge-kept (keeps_more _ _ _ c.in_ok-taken-in-Tests.ensures.keeps c.in_ok-other-in-Tests.ensures.keeps).trees
+    (this-step c.requires).known
 
 pub choose-requires-clause-taken : goal.choose-requires-clause-taken
 choose-requires-clause-taken c =
@@ -130,24 +100,24 @@ returns-in_ok-tested-in-Tests-clause-tells c =
     let second = c.in_ok-other-in-Tests.ensures in
     let passed = c.in_ok-passed-in-Tests.ensures in
     let last = c.in_ok-tested-in-Tests.ensures in
-    let both = keeps_more _ _ _ first.keeps second.keeps in
-    let k = c.args.step.now.known in
-    place-test _ _ c.args.steps.now.items c.args.place c.args.step.now c.in-Tests.test
-    c.in-Tests.operand c.in-Tests.on_true c.in-Tests.on_false
-    c.in_ok-taken-in-Tests.taken c.in_ok-other-in-Tests.other c.in_ok-tested-in-Tests.tested
-    (keeps_more _ _ _ passed.keeps last.keeps).trees
-    (steps-kept c.args.store.now.trees _ c.args.steps.now.items both.trees c.requires.steps) c.requires.at
-    c.in-Tests.is
-    (tells-kept (insns_of c.args.steps.now.items) (c.args.place + 1 + c.in-Tests.on_true) _ _ k
-    c.in_ok-taken-in-Tests.taken second.keeps.trees (knowledge-kept c.args.store.now.trees _ k first.keeps.trees
-    (c.requires.steps.each c.args.place c.args.step.now c.requires.at).known) first.tells)
-    second.tells
+    let both = (keeps_more _ _ _ first.keeps second.keeps).trees in
+    let code = insns_of c.args.steps.now.items in
+    let is_step = this-step c.requires in
+    let same = after-same is_step c.in-Tests.is in
+    place-step c.requires c.in-Tests.is
+    (follows-test code c.args.place c.in-Tests.test c.in-Tests.operand c.in-Tests.on_true c.in-Tests.on_false
+    (keeps_more _ _ _ passed.keeps last.keeps).trees (knowledge-kept both is_step.known)
+    (same-tells same (tells-kept second.keeps.trees
+    (after-knowledge (step-kept first.keeps.trees is_step)) first.tells)) (same-tells same second.tells)
     (chosen-diagram _ _ _ _ c.in_ok-passed-in-Tests.passed c.in_ok-taken-in-Tests.taken c.in_ok-other-in-Tests.other
     c.in_ok-tested-in-Tests.tested passed.keeps.trees (omega (arith, first.tells.within, second.keeps.trees.longer))
-    second.tells.within passed.truth last.within last.chosen)
+    second.tells.within passed.truth last.within last.chosen))
+
+-- ---- a number is returned
 
 pub returns-in_ok-returned-in-Returns-clause-tells : goal.returns-in_ok-returned-in-Returns-clause-tells
 returns-in_ok-returned-in-Returns-clause-tells c =
-    place-return c.args.store.now.trees _ c.args.steps.now.items c.args.place c.args.step.now c.in-Returns.source
-    c.in_ok-returned-in-Returns.returned c.in_ok-returned-in-Returns.ensures.keeps.trees c.requires.steps c.requires.at
-    c.in-Returns.is c.in_ok-returned-in-Returns.ensures.values c.in_ok-returned-in-Returns.ensures.small
+    let e = c.in_ok-returned-in-Returns.ensures in
+    place-step c.requires c.in-Returns.is
+    (follows-return (insns_of c.args.steps.now.items) c.args.place c.in-Returns.source e.keeps.trees
+    (this-step c.requires).known e.values e.small)

@@ -1,18 +1,11 @@
-use Rattle.std.proofs.Common.{◌∙◌, sym, arith}
-use Rattle.sf_insn.specs.declared.ops.Test.TheVariants.{Equal}
-use Rattle.sf_insn.specs.Words.{passes}
+use Rattle.sf_behaviour.proofs.Common.{◌∙◌, sym, arith, Equal, passes, X, held_in, operand_in}
 use Rattle.sf_check.specs.declared.insn.Operand.TheVariants.{Constant}
-use Rattle.sf_behaviour.specs.Knowledge.{held_in}
-use Rattle.sf_behaviour.specs.Effects.{operand_in}
-use Rattle.sf_behaviour.specs.declared.registers.Register.TheVariants.{X}
 use Rattle.sf_behaviour.proofs.EffectLemmas.{chosen-diagram, guard-value, guard-none}
 use Rattle.sf_behaviour.proofs.KnowledgeLemmas.{knowledge-kept}
 use Rattle.sf_behaviour.proofs.places.guarded_diagram.Goals as goal
 
 pub test_diagram-requires-clause-known : goal.test_diagram-requires-clause-known
-test_diagram-requires-clause-known c =
-    knowledge-kept c.args.store.now.trees c.leaf.new.self.trees c.args.known.now c.in_ok-zero.ensures.keeps.trees
-    c.requires.known
+test_diagram-requires-clause-known c = knowledge-kept c.in_ok-zero.ensures.keeps.trees c.requires.known
 
 pub returns-clause-values : goal.returns-clause-values
 returns-clause-values c =

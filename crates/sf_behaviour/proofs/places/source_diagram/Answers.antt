@@ -1,5 +1,4 @@
-use Rattle.std.proofs.Common.{ℕ, ◌<◌, ◌^◌, ◌∙◌, ap, sym, subst, arith}
-use Rattle.sf_diagram.specs.Trees.{Tree, value}
+use Rattle.sf_behaviour.proofs.Common.{ℕ, ◌<◌, ◌^◌, ◌∙◌, ap, sym, subst, arith, Tree, value}
 use Rattle.sf_behaviour.proofs.WordLemmas.{word-small}
 use Rattle.sf_behaviour.proofs.places.source_diagram.Goals as goal
 
@@ -21,6 +20,5 @@ returns-in_ok-id-in_default-clause-values c = record {
 
 pub returns-in_ok-id-in_default-clause-small : goal.returns-in_ok-id-in_default-clause-small
 returns-in_ok-id-in_default-clause-small c = λ bits.
-    subst (λ (n : ℕ). n < 2 ^ 32) (sym (c.in_ok-id-in_default.ensures.number.values bits))
-    (word-small c.source_word.new.store.trees c.in_ok-word-in_default.word.bits bits
+    subst (λ (n : ℕ). n < 2 ^ 32) (sym (c.in_ok-id-in_default.ensures.number.values bits)) (word-small bits
     c.in_ok-word-in_default.ensures.word.word)

@@ -1,51 +1,72 @@
-use Rattle.std.proofs.Common.{ℕ, ◌<◌, ◌^◌, ◌-◌, ◌∙◌, length-append, rules, sym, subst, arith}
-use Rattle.sf_check.specs.Programs.{IsLawfulProgram}
-use Rattle.sf_diagram.specs.KeepLaws.{keeps_more}
-use Rattle.sf_behaviour.specs.Registers.{start_bits}
-use Rattle.sf_behaviour.proofs.StepsLemmas.{last-there, program-diagram, steps-kept, tells-more, tells-none}
+use Rattle.sf_behaviour.proofs.Common.{List, ap, rules, slice_set, ◌≡◌, ◌<◌, ◌^◌, ◌-◌, ◌+◌, ◌∙◌, ℕ, length, sym, subst, arith, IsLawfulProgram, keeps_more, start_bits, TellFrom}
+use Rattle.std.proofs.lemmas.List.{length-replicate}
+use Rattle.sf_behaviour.proofs.StepsLemmas.{first-tells, from-more, from-none, program-diagram, steps-kept, steps-some}
 use Rattle.sf_behaviour.proofs.program.returned.Goals as goal
 
 pub forward_steps-requires : goal.forward_steps-requires
 forward_steps-requires c = subst IsLawfulProgram (sym c.insns.ensures.same) c.insns.ensures.lawful
 
 pub loop-i-init : goal.loop-i-init
-loop-i-init c = record {
-  keeps = c.in_ok-steps.ensures.keeps;
-  count = search rules;
-  steps = c.in_ok-steps.ensures.steps;
-  last = tells-none c.forward_steps.new.store.trees c.in_ok-steps.steps.items c.new-ids.result.items (search rules);
-}
+loop-i-init c =
+    let made = c.in_ok-ids.ensures.items_if_clones_equal (search rules) in
+    let size : c.len.result ≡ length c.in_ok-steps.steps.items = omega arith in
+    record {
+      keeps = c.in_ok-steps.ensures.keeps;
+      steps = c.in_ok-steps.ensures.steps;
+      some = steps-some c.in_ok-steps.steps.items c.insns.result.now c.in_ok-steps.ensures.code
+          (subst IsLawfulProgram (sym c.insns.ensures.same) c.insns.ensures.lawful).some;
+      behind = from-none c.forward_steps.new.store.trees c.in_ok-steps.steps.items c.in_ok-ids.ids.items
+          (length c.in_ok-steps.steps.items - 0)
+          (ap (λ (xs : List ℕ). length xs) made ∙ length-replicate c.len.result 0 ∙ size) (omega arith);
+    }
 
-pub diagram_of_place-requires-clause-lawful : goal.diagram_of_place-requires-clause-lawful
-diagram_of_place-requires-clause-lawful c =
-    subst IsLawfulProgram (sym (c.in_ok-steps.ensures.code ∙ c.insns.ensures.same)) c.insns.ensures.lawful
+pub diagram_of_place-requires : goal.diagram_of_place-requires
+diagram_of_place-requires c =
+    let place = c.len-in-loop-i.result - 1 - c.loop-i.i in
+    let next : length c.in_ok-steps.steps.items - c.loop-i.i ≡ place + 1 = omega arith in
+    record {
+      lawful = subst IsLawfulProgram (sym (c.in_ok-steps.ensures.code ∙ c.insns.ensures.same)) c.insns.ensures.lawful;
+      are = c.loop-i.invariant.steps;
+      inside = omega arith;
+      at = c.step_at-step.ensures;
+      behind = subst (λ (n : ℕ). TellFrom c.loop-i.store.trees c.in_ok-steps.steps.items c.loop-i.ids.items n) next
+          c.loop-i.invariant.behind;
+    }
+
+pub loop-i-preserved : goal.loop-i-preserved
+loop-i-preserved c =
+    let h = c.loop-i.invariant in
+    let e = c.in_ok-id.ensures in
+    let steps = c.in_ok-steps.steps.items in
+    let place = c.len-in-loop-i.result - 1 - c.loop-i.i in
+    let next : place ≡ length steps - (c.loop-i.i + 1) = omega arith in
+    record {
+      keeps = keeps_more _ _ _ h.keeps e.keeps;
+      steps = steps-kept e.keeps.trees h.steps;
+      some = h.some;
+      behind = subst (λ (n : ℕ). TellFrom c.diagram_of_place.new.store.trees steps
+          (slice_set c.loop-i.ids.items place c.in_ok-id.id) n) next (from-more c.loop-i.store.trees
+          c.diagram_of_place.new.store.trees steps c.loop-i.ids.items (length steps - c.loop-i.i) place c.in_ok-id.id
+          c.step_at-step.result (omega arith) e.keeps.trees h.steps h.behind c.step_at-step.ensures e.tells);
+    }
+
+pub id_at-first-requires : goal.id_at-first-requires
+id_at-first-requires c = omega (arith, c.loop-i.invariant.behind.count, c.loop-i.invariant.some)
 
 pub at_start-id-requires : goal.at_start-id-requires
 at_start-id-requires c =
-    (last-there c.loop-i.store.trees c.in_ok-steps.steps.items c.loop-i.ids.items c.id_at-first.result
-    c.len-2.result (omega arith) c.loop-i.invariant.last (omega arith) c.id_at-first.ensures).0
+    (first-tells c.in_ok-steps.steps.items (length c.in_ok-steps.steps.items - c.loop-i.i) (omega arith)
+    c.loop-i.invariant.some c.loop-i.invariant.behind c.id_at-first.ensures).2.within
 
 pub returns-clause-small : goal.returns-clause-small
 returns-clause-small c = λ bits.
     subst (λ (n : ℕ). n < 2 ^ 32) (sym (c.at_start-id.ensures.values bits))
-    ((last-there c.loop-i.store.trees c.in_ok-steps.steps.items c.loop-i.ids.items c.id_at-first.result
-    c.len-2.result (omega arith) c.loop-i.invariant.last (omega arith) c.id_at-first.ensures).1 (start_bits bits))
+    ((first-tells c.in_ok-steps.steps.items (length c.in_ok-steps.steps.items - c.loop-i.i) (omega arith)
+    c.loop-i.invariant.some c.loop-i.invariant.behind c.id_at-first.ensures).2.small (start_bits bits))
 
 pub returns-clause-number : goal.returns-clause-number
 returns-clause-number c =
     program-diagram c.args.program.now c.loop-i.store.trees c.in_ok-steps.steps.items c.loop-i.ids.items
-    c.id_at-first.result c.len-2.result c.at_start-id.result (omega arith)
-    (c.in_ok-steps.ensures.code ∙ c.insns.ensures.same)
-    c.insns.ensures.lawful c.loop-i.invariant.steps c.loop-i.invariant.last (omega arith) c.id_at-first.ensures
-    c.at_start-id.ensures
-
-pub loop-i-preserved : goal.loop-i-preserved
-loop-i-preserved c = record {
-  keeps = keeps_more _ _ _ c.loop-i.invariant.keeps c.in_ok-id.ensures.keeps;
-  count = rw c.in_ok-push.ensures.items (omega (arith, length-append {A = ℕ}));
-  steps = steps-kept _ _ c.in_ok-steps.steps.items c.in_ok-id.ensures.keeps.trees c.loop-i.invariant.steps;
-  last = rw c.in_ok-push.ensures.items (tells-more _ _ c.in_ok-steps.steps.items c.loop-i.ids.items
-      (c.len.result - 1 - c.loop-i.i) c.in_ok-id.id c.in_ok-id.ensures.keeps.trees c.loop-i.invariant.steps
-      c.loop-i.invariant.last (omega arith) c.step_at-step.result c.step_at-step.ensures
-      c.in_ok-id.ensures.tells);
-}
+    (length c.in_ok-steps.steps.items - c.loop-i.i) c.id_at-first.result c.at_start-id.result (omega arith)
+    (c.in_ok-steps.ensures.code ∙ c.insns.ensures.same) c.insns.ensures.lawful c.loop-i.invariant.steps
+    c.loop-i.invariant.behind c.id_at-first.ensures c.at_start-id.ensures

@@ -1,12 +1,10 @@
-use Rattle.std.proofs.Common.{◌≡◌, length}
-use Rattle.sf_diagram.specs.Stores.{KeepsStore}
-use Rattle.sf_behaviour.specs.Telling.{AreSteps, TellLast}
+use Rattle.sf_behaviour.proofs.Common.{◌-◌, ◌<◌, length, KeepsStore, AreSteps, TellFrom}
 use Rattle.sf_behaviour.proofs.program.returned.Given as goal
 
 abbrev pub invariant-loop-i : goal.invariant-loop-i
 invariant-loop-i l = record {
   keeps : KeepsStore l.fn.store l.store;
-  count : length l.ids.items ≡ l.i;
   steps : AreSteps l.store.trees l.steps.items;
-  last : TellLast l.store.trees l.steps.items l.ids.items;
+  some : 0 < length l.steps.items;
+  behind : TellFrom l.store.trees l.steps.items l.ids.items (length l.steps.items - l.i);
 }

@@ -1,7 +1,10 @@
-use Rattle.sf_behaviour.proofs.VariableLemmas.{register-made}
+use Rattle.sf_behaviour.proofs.Common.{ℕ, ap, register_by}
+use Rattle.sf_behaviour.specs.InputBits.{number_by}
+use Rattle.sf_behaviour.proofs.WordLemmas.{word-of-same}
 use Rattle.sf_behaviour.proofs.registers.register_word.Goals as goal
 
 pub returns-clause-word : goal.returns-clause-word
 returns-clause-word c =
-    register-made c.args.register c.variable_word.new.store.trees c.in_ok-word.word.bits c.first_variable.result
-    c.distance.result c.first_variable.ensures.is c.distance.ensures.is c.in_ok-word.ensures.word
+    word-of-same (number_by c.highest_bit.result 2 32)
+    (register_by c.args.register) (λ bits. ap (λ (n : ℕ). number_by n 2 32 bits) c.highest_bit.ensures.is)
+    c.in_ok-word.ensures.word

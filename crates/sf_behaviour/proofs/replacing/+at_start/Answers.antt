@@ -1,7 +1,4 @@
-use Rattle.std.proofs.Common.{◌∙◌, sym, ap, arith}
-use Rattle.sf_diagram.specs.Trees.{Tree, value}
-use Rattle.sf_diagram.specs.Stores.{tree_at}
-use Rattle.sf_behaviour.specs.Registers.{start_bits}
+use Rattle.sf_behaviour.proofs.Common.{◌∙◌, sym, ap, arith, Tree, value, tree_at, start_bits}
 use Rattle.sf_behaviour.proofs.ReplacingLemmas.{start-leaf, start-lower, start-stays}
 use Rattle.sf_behaviour.proofs.replacing.+at_start.Goals as goal
 
@@ -12,8 +9,8 @@ returns-in-Number t c = record {
       start-leaf (tree_at c.args.store.now.trees c.args.id) c.in-Number.field-0 bits c.in-Number.ensures.tree;
 }
 
-pub returns-then-variable-ge-REGISTERS : goal.returns-then-variable-ge-REGISTERS
-returns-then-variable-ge-REGISTERS t c =
+pub returns-then-variable-ge-REGISTER_BITS : goal.returns-then-variable-ge-REGISTER_BITS
+returns-then-variable-ge-REGISTER_BITS t c =
     let ts = c.args.store.now.trees in
     record {
       within = c.requires;

@@ -1,4 +1,3 @@
-use Rattle.std.proofs.Common.{ap, sym, ◌∙◌}
 use Rattle.sf_behaviour.proofs.VariableLemmas.{input-made}
 use Rattle.sf_behaviour.proofs.words.input_word.Goals as goal
 

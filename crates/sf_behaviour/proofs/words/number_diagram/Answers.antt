@@ -1,6 +1,4 @@
-use Rattle.std.proofs.Common.{◌≡◌, ◌+◌, ◌-◌, ◌∙◌, ℕ, ap, drop, arith}
-use Rattle.sf_diagram.specs.KeepLaws.{keeps_more}
-use Rattle.sf_behaviour.specs.Words.{word_value}
+use Rattle.sf_behaviour.proofs.Common.{◌≡◌, ◌+◌, ◌-◌, ◌/◌, ◌^◌, ◌∙◌, ℕ, ap, arith, keeps_more, word_value}
 use Rattle.sf_behaviour.proofs.AnswerLemmas.{number-begun, number-more, number-made}
 use Rattle.sf_behaviour.proofs.words.number_diagram.Goals as goal
 
@@ -8,9 +6,8 @@ pub loop-i-init : goal.loop-i-init
 loop-i-init c = record {
   keeps = c.in_ok-number.ensures.keeps;
   within = c.in_ok-number.ensures.within;
-  so_far = λ bits. number-begun c.args.store.now.trees c.leaf.new.self.trees c.args.word.now.bits
-      c.in_ok-number.number 32
-      bits c.requires (omega arith) c.in_ok-number.ensures.tree;
+  so_far = λ bits. number-begun c.leaf.new.self.trees
+      c.in_ok-number.number bits c.requires c.in_ok-number.ensures.tree;
 }
 
 pub merge-requires-clause-second : goal.merge-requires-clause-second
@@ -23,22 +20,21 @@ loop-i-preserved c =
     let first = c.args.store.now in
     let before = c.loop-i.store in
     let after = c.merge.new.store in
-    let kept = c.in_ok-number-2.ensures.keeps in
     let i = c.loop-i.i in
     let next : 31 - i ≡ 32 - (i + 1) = omega arith in
     record {
-      keeps = keeps_more first before after c.loop-i.invariant.keeps kept;
+      keeps = keeps_more first before after c.loop-i.invariant.keeps c.in_ok-number-2.ensures.keeps;
       within = c.in_ok-number-2.ensures.within;
-      so_far = λ bits. number-more (32 - i) (31 - i) first.trees before.trees after.trees c.args.word.now.bits
+      so_far = λ bits. number-more (32 - i) (31 - i) after.trees
           c.loop-i.number c.in_ok-number-2.number bits (omega arith) (omega arith)
           c.loop-i.invariant.keeps.trees c.requires (c.in_ok-number-2.ensures.merged.values bits)
           (c.loop-i.invariant.so_far bits)
-          ∙ ap (λ (k : ℕ). word_value first.trees (drop k c.args.word.now.bits) bits) next;
+          ∙ ap (λ (k : ℕ). word_value first.trees c.args.word.now.bits bits / 2 ^ k) next;
     }
 
 pub returns-clause-number : goal.returns-clause-number
 returns-clause-number c = record {
   within = c.loop-i.invariant.within;
   values = λ bits. c.loop-i.invariant.so_far bits
-      ∙ number-made (32 - c.loop-i.i) c.args.store.now.trees c.args.word.now.bits bits (omega arith);
+      ∙ number-made (32 - c.loop-i.i) (word_value c.args.store.now.trees c.args.word.now.bits bits) (omega arith);
 }
