@@ -19,7 +19,8 @@ use Rattle.sf_book.specs.Unfoldings.{Unfolding, Outstanding, Region, Emptied, Fo
 use Rattle.sf_book.proofs.Kept.{may_place, left_over}
 use Rattle.sf_book.proofs.Lists.{sum_by-map_same}
 use Rattle.sf_book.proofs.Lawful.{leased_piece, after_split, after_answer, after_empty}
-use Rattle.sf_book.proofs.Trees.{pieces-one, sum-map, is-name, own-name, the-name}
+use Rattle.sf_book.proofs.NameLists.{weighed, permuted, is-name, own-name, the-name}
+use Rattle.sf_book.proofs.Trees.{pieces-one, sum-map}
 
 -- an unfolding in which another one took the place of the outstanding piece of a name
 pub record HasGrown (stack : List (List Insn)) (u w : Unfolding) (n : List Bool) : Type 0 where
@@ -129,7 +130,7 @@ is-outstanding b id w l m h =
     let one : f n ≡ 1 = ap bit (own-name n) in
     let out = taken-out b id w f l m in
     let names = sum-map f (λ (e : OutstandingData). e.piece.name) b.outstanding in
-    let same = h.outstanding f in
+    let same = weighed h.outstanding f in
     let found = some_there (λ k. is-name n k) (outstanding_in h.tree) (omega arith) in (
       found.0,
       slice_get_within (outstanding_in h.tree) found.0 found.1 found.2,
@@ -164,21 +165,21 @@ module _ (one : IsExecutionOne) (b : BookData) (id : ℕ) (w : WorkData) (l : Is
         tree = g.tree;
         unfolds = g.unfolds;
         first = ap (λ (q : PieceData). q.name) g.same ∙ h.first;
-        outstanding = λ z.
+        outstanding = permuted (λ z.
             let name : OutstandingData → List Bool = λ e. e.piece.name in
             let v : OutstandingData → ℕ = λ e. z e.piece.name in
             let a = sum-map z name ((es ++ leased_piece i f ∷ []) ++ leased_piece j t ∷ []) in
             let c = sum_by_push v (es ++ leased_piece i f ∷ []) (leased_piece j t) in
             let d = sum_by_push v es (leased_piece i f) in
             let out = taken-out b id w z l m in
-            let before = h.outstanding z in
+            let before = weighed h.outstanding z in
             let old = sum-map z name b.outstanding in
             let now = g.outstanding z in
             let two = sum_by-cons z f.name (t.name ∷ []) in
             let last = sum_by-cons z t.name [] in
-            omega arith;
-        regions = λ z. let a = h.regions z in let c = g.regions z in omega arith;
-        emptied = λ z. let a = h.emptied z in let c = g.emptied z in omega arith;
+            omega arith);
+        regions = permuted (λ z. let a = weighed h.regions z in let c = g.regions z in omega arith);
+        emptied = permuted (λ z. let a = weighed h.emptied z in let c = g.emptied z in omega arith);
         splits = let a = h.splits in let c = g.forks in omega arith;
         reached = All-push (IsReachedIn b.stack) (es ++ leased_piece i f ∷ []) (leased_piece j t)
             (All-push (IsReachedIn b.stack) es (leased_piece i f) left-reached pf) pt;
@@ -194,25 +195,25 @@ module _ (one : IsExecutionOne) (b : BookData) (id : ℕ) (w : WorkData) (l : Is
         tree = g.tree;
         unfolds = g.unfolds;
         first = ap (λ (q : PieceData). q.name) g.same ∙ h.first;
-        outstanding = λ z.
+        outstanding = permuted (λ z.
             let name : OutstandingData → List Bool = λ e. e.piece.name in
             let x = sum-map z name (without id b.outstanding) in
             let out = taken-out b id w z l m in
-            let before = h.outstanding z in
+            let before = weighed h.outstanding z in
             let old = sum-map z name b.outstanding in
             let now = g.outstanding z in
-            omega arith;
-        regions = λ z.
+            omega arith);
+        regions = permuted (λ z.
             let name : RegionData → List Bool = λ r. r.piece.name in
             let v : RegionData → ℕ = λ r. z r.piece.name in
             let x = sum-map z name (b.regions ++ r ∷ []) in
             let c = sum_by_push v b.regions r in
-            let before = h.regions z in
+            let before = weighed h.regions z in
             let old = sum-map z name b.regions in
             let now = g.regions z in
             let last = sum_by-cons z w.piece.name [] in
-            omega arith;
-        emptied = λ z. let x = h.emptied z in let c = g.emptied z in omega arith;
+            omega arith);
+        emptied = permuted (λ z. let x = weighed h.emptied z in let c = g.emptied z in omega arith);
         splits = let x = h.splits in let c = g.forks in omega arith;
         reached = left-reached;
         settled = All-push (IsRegionOf b.stack) b.regions r h.settled (p, step);
@@ -226,21 +227,21 @@ module _ (one : IsExecutionOne) (b : BookData) (id : ℕ) (w : WorkData) (l : Is
         tree = g.tree;
         unfolds = g.unfolds;
         first = ap (λ (q : PieceData). q.name) g.same ∙ h.first;
-        outstanding = λ z.
+        outstanding = permuted (λ z.
             let name : OutstandingData → List Bool = λ e. e.piece.name in
             let x = sum-map z name (without id b.outstanding) in
             let out = taken-out b id w z l m in
-            let before = h.outstanding z in
+            let before = weighed h.outstanding z in
             let old = sum-map z name b.outstanding in
             let now = g.outstanding z in
-            omega arith;
-        regions = λ z. let x = h.regions z in let c = g.regions z in omega arith;
-        emptied = λ z.
+            omega arith);
+        regions = permuted (λ z. let x = weighed h.regions z in let c = g.regions z in omega arith);
+        emptied = permuted (λ z.
             let c = sum_by_push z b.emptied w.piece.name in
-            let x = h.emptied z in
+            let x = weighed h.emptied z in
             let now = g.emptied z in
             let last = sum_by-cons z w.piece.name [] in
-            omega arith;
+            omega arith);
         splits = let x = h.splits in let c = g.forks in omega arith;
         reached = left-reached;
         settled = h.settled;
@@ -252,9 +253,9 @@ fringe-fresh stack r budget p e = record {
   tree = Outstanding r;
   unfolds = p;
   first = e;
-  outstanding = λ f. refl;
-  regions = λ f. refl;
-  emptied = λ f. refl;
+  outstanding = permuted (λ f. refl);
+  regions = permuted (λ f. refl);
+  emptied = permuted (λ f. refl);
   splits = refl;
   reached = All-cons (IsReachedIn stack) (record { id = 0; piece = r; leased = false }) [] p
       (All-nil (IsReachedIn stack));
@@ -268,11 +269,11 @@ fringe-marks b g pieces h = record {
   tree = h.tree;
   unfolds = h.unfolds;
   first = h.first;
-  outstanding = λ f.
+  outstanding = permuted (λ f.
       let name : OutstandingData → List Bool = λ e. e.piece.name in
       sum-map f name (map g b.outstanding)
       ∙ sum_by-map_same (λ e. f e.piece.name) g (λ e. ap (λ (p : PieceData). f p.name) (pieces e)) b.outstanding
-      ∙ sym (sum-map f name b.outstanding) ∙ h.outstanding f;
+      ∙ sym (sum-map f name b.outstanding) ∙ weighed h.outstanding f);
   regions = h.regions;
   emptied = h.emptied;
   splits = h.splits;
@@ -288,10 +289,10 @@ fringe-permuted b rs p h = record {
   unfolds = h.unfolds;
   first = h.first;
   outstanding = h.outstanding;
-  regions = λ f.
+  regions = permuted (λ f.
       let name : RegionData → List Bool = λ r. r.piece.name in
       sum-map f name rs ∙ sum_by-IsPermutation (λ r. f r.piece.name) b.regions rs p
-      ∙ sym (sum-map f name b.regions) ∙ h.regions f;
+      ∙ sym (sum-map f name b.regions) ∙ weighed h.regions f);
   emptied = h.emptied;
   splits = h.splits;
   reached = h.reached;

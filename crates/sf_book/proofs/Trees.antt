@@ -16,12 +16,12 @@ use Rattle.sf_run.specs.declared.action.Answer.{Answer}
 use Rattle.sf_piece.specs.Pieces.{PieceData, StepData, Split, Settled, Empty}
 use Rattle.sf_piece.specs.Execution.{HasStep}
 use Rattle.sf_piece.specs.OneExecution.{IsExecutionOne}
-use Rattle.sf_piece.specs.Pieces.{is_prefix}
 use Rattle.sf_book.specs.Books.{RegionData, OutstandingData, BookData, IsSettled}
 use Rattle.sf_book.specs.NameOrderLaws.{strictly_in_order}
-use Rattle.sf_book.specs.PartitionLaws.{some_there, prefix-refl}
+use Rattle.sf_book.specs.PartitionLaws.{some_there}
 use Rattle.sf_book.specs.PrefixCounts.{bit, prefix_bit}
-use Rattle.sf_book.specs.Unfoldings.{Unfolding, Outstanding, Region, Emptied, Fork, HaveSameElements, IsFringe, IsRegionOf, HaveOneOutcome, top_of, IsPieceOf, IsUnfolding, outstanding_in, emptied_in, regions_in, forks_in}
+use Rattle.sf_book.proofs.NameLists.{HaveSameElements, weighed, permuted, weighs-none, is-name, own-name, the-name}
+use Rattle.sf_book.specs.Unfoldings.{Unfolding, Outstanding, Region, Emptied, Fork, IsFringe, IsRegionOf, HaveOneOutcome, top_of, IsPieceOf, IsUnfolding, outstanding_in, emptied_in, regions_in, forks_in}
 
 none-left : {A : Type 0} (xs ys : List A) → xs ++ ys ≡ [] → xs ≡ []
 none-left [] ys e = refl
@@ -89,38 +89,6 @@ pub sum-map : {A B : Type 0} (f : B → ℕ) (g : A → B) (xs : List A) → sum
 sum-map f g [] = refl
 sum-map f g (x ∷ xs) = sum_by-cons f (g x) (map g xs)
     ∙ (ap (λ k. f (g x) + k) (sum-map f g xs) ∙ sym (sum_by-cons (λ x. f (g x)) x xs))
-
--- a list that weighs nothing is empty
-weighs-none : {A : Type 0} (xs : List A) → HaveSameElements [] xs → xs ≡ []
-weighs-none [] h = refl
-weighs-none (x ∷ xs) h = let w = h (λ y. 1) in let all = sum_by-cons (λ y. 1) x xs in absurd (omega arith)
-
--- names that begin each other are one
-both-begin : (m n : List Bool) → is_prefix m n ≡ true → is_prefix n m ≡ true → m ≡ n
-both-begin [] [] h k = refl
-both-begin [] (y ∷ n) h k = let clash : false ≡ true = k in absurd cc
-both-begin (x ∷ m) [] h k = let clash : false ≡ true = h in absurd cc
-both-begin (true ∷ m) (true ∷ n) h k = ap (λ l. true ∷ l) (both-begin m n h k)
-both-begin (true ∷ m) (false ∷ n) h k = let clash : false ≡ true = h in absurd cc
-both-begin (false ∷ m) (true ∷ n) h k = let clash : false ≡ true = h in absurd cc
-both-begin (false ∷ m) (false ∷ n) h k = ap (λ l. false ∷ l) (both-begin m n h k)
-
--- whether a name is this one
-pub is-name : List Bool → List Bool → Bool
-is-name n m = is_prefix m n && is_prefix n m
-
-pub own-name : (n : List Bool) → is-name n n ≡ true
-unfolding is-name
-own-name n = rw (prefix-refl n) refl
-
-pub the-name : (n m : List Bool) → is-name n m ≡ true → m ≡ n
-unfolding is-name
-the-name n m h = on (is_prefix m n) (is_prefix n m) refl refl h
-  where
-    on : (a b : Bool) → is_prefix m n ≡ a → is_prefix n m ≡ b → (a && b) ≡ true → m ≡ n
-    on true true e f g = both-begin m n e f
-    on true false e f g = let clash : false ≡ true = g in absurd cc
-    on false b e f g = let clash : false ≡ true = g in absurd cc
 
 -- a region of the other list with a piece of this name
 record HasName (rs : List RegionData) (n : List Bool) : Type 0 where
@@ -230,7 +198,7 @@ same-through xs us vs ys h e k f = h f ∙ ap (λ zs. sum_by f zs) e ∙ sym (k 
 -- nothing is outstanding in the tree of a book in which nothing is
 none-in : (b : BookData) (h : IsFringe b) → b.outstanding ≡ [] → outstanding_in h.tree ≡ []
 none-in b h none = weighs-none (outstanding_in h.tree)
-    (λ f. ap (λ es. sum_by f (map (λ (e : OutstandingData). e.piece.name) es)) (sym none) ∙ h.outstanding f)
+    (λ f. ap (λ es. sum_by f (map (λ (e : OutstandingData). e.piece.name) es)) (sym none) ∙ weighed h.outstanding f)
 
 pub results-one : IsExecutionOne → (b c : BookData) → IsSettled b → IsSettled c → IsFringe b → IsFringe c
     → b.stack ≡ c.stack → b.outstanding ≡ [] → c.outstanding ≡ [] → HaveOneOutcome b c
@@ -241,10 +209,10 @@ results-one one b c s t h k e x y =
     let few : (b : BookData) → IsSettled b → (n : List Bool)
     → sum_by (λ (r : RegionData). prefix_bit r.name n) b.regions ≤ 1
     = λ b s n. let a = s.lawful.apart n in omega arith in
-    let emptied = same-through b.emptied (emptied_in h.tree) (emptied_in k.tree) c.emptied h.emptied
-    (ap emptied_in trees) k.emptied in
+    let emptied = same-through b.emptied (emptied_in h.tree) (emptied_in k.tree) c.emptied (weighed h.emptied)
+    (ap emptied_in trees) (weighed k.emptied) in
     let pieces = same-through (piece-names b.regions) (regions_in h.tree) (regions_in k.tree) (piece-names c.regions)
-    h.regions (ap regions_in trees) k.regions in
+    (weighed h.regions) (ap regions_in trees) (weighed k.regions) in
     let splits : b.splits ≡ c.splits = h.splits ∙ ap forks_in trees ∙ sym k.splits in
     let rs = pieces (λ n. 1) in
     let es = emptied (λ n. 1) in
@@ -252,7 +220,7 @@ results-one one b c s t h k e x y =
       regions = regions-one one b.stack b.regions c.regions h.settled
           (subst (λ (z : List (List Insn)). All (IsRegionOf z) c.regions) (sym e) k.settled)
           (strictly_in_order b.regions s.order (few b s)) (strictly_in_order c.regions t.order (few c t)) pieces;
-      emptied = emptied;
+      emptied = permuted emptied;
       splits = splits;
       commits = commits-one b c s t splits rs es;
     }

@@ -1,5 +1,6 @@
 -- How far the execution tree of a stack is unfolded, and when a book is the fringe of an unfolding.
-use Rattle.std.specs.Prelude.{◌≡◌, ℕ, ◌+◌, Bool, List, [], ◌∷◌, ◌++◌, map, All, sum_by}
+use Rattle.std.specs.Prelude.{◌≡◌, ℕ, ◌+◌, Bool, List, [], ◌∷◌, ◌++◌, map, All}
+use Rattle.std.specs.List.Sorted.{IsPermutation}
 use Rattle.sf_check.specs.declared.insn.Insn.{Insn}
 use Rattle.sf_run.specs.declared.action.Answer.{Answer}
 use Rattle.sf_piece.specs.Pieces.{PieceData, Split, Settled, Empty}
@@ -62,24 +63,20 @@ forks_in (Region p name answer) = 0
 forks_in (Emptied p) = 0
 forks_in (Fork p f t) = 1 + forks_in f + forks_in t
 
--- Each element stands as often in both lists: whatever the elements weigh, both lists have the same weight.
-abbrev pub HaveSameElements : {X : Type 0} → List X → List X → Type 0
-HaveSameElements {X} xs ys = (weight : X → ℕ) → sum_by weight xs ≡ sum_by weight ys
-
 -- the region's piece is one of the stack, and it settles by the rules with this whole name and answer
 abbrev pub IsRegionOf : List (List Insn) → RegionData → Type 0
 IsRegionOf stack r = IsPieceOf stack r.piece × HasStep r.piece (Settled r.answer) r.name
 
--- A book is the fringe of an unfolding of its stack, which begins with a piece of empty name. By their names, what is
--- outstanding, settled and emptied are the ends of its branches; each outstanding piece is one that the rules reach;
--- each region is by the rules one of the stack; and there are as many splits as forks.
+-- A book is the fringe of an unfolding of its stack, which begins with a piece of empty name. In some order, the names
+-- of what is outstanding, settled and emptied are those of the ends of its branches; each outstanding piece is one that
+-- the rules reach; each region is by the rules one of the stack; and there are as many splits as forks.
 pub record IsFringe (b : BookData) : Type 0 where
   pub tree : Unfolding
   pub unfolds : IsUnfolding b.stack tree
   pub first : (top_of tree).name ≡ []
-  pub outstanding : HaveSameElements (map (λ (e : OutstandingData). e.piece.name) b.outstanding) (outstanding_in tree)
-  pub regions : HaveSameElements (map (λ (r : RegionData). r.piece.name) b.regions) (regions_in tree)
-  pub emptied : HaveSameElements b.emptied (emptied_in tree)
+  pub outstanding : IsPermutation (map (λ (e : OutstandingData). e.piece.name) b.outstanding) (outstanding_in tree)
+  pub regions : IsPermutation (map (λ (r : RegionData). r.piece.name) b.regions) (regions_in tree)
+  pub emptied : IsPermutation b.emptied (emptied_in tree)
   pub splits : b.splits ≡ forks_in tree
   pub reached : All (λ (e : OutstandingData). IsPieceOf b.stack e.piece) b.outstanding
   pub settled : All (IsRegionOf b.stack) b.regions
@@ -88,7 +85,7 @@ pub record IsFringe (b : BookData) : Type 0 where
 -- splits and commits.
 pub record HaveOneOutcome (b c : BookData) : Type 0 where
   pub regions : b.regions ≡ c.regions
-  pub emptied : HaveSameElements b.emptied c.emptied
+  pub emptied : IsPermutation b.emptied c.emptied
   pub splits : b.splits ≡ c.splits
   pub commits : b.commits ≡ c.commits
 
