@@ -19,7 +19,7 @@ use Rattle.sf_question.specs.Actions.{has_action}
 use Rattle.sf_piece.specs.Pieces.{PieceData, is_member}
 use Rattle.sf_piece.specs.PlainPieces.{IsPlainPiece}
 use Rattle.sf_question.specs.QuestionData.{QuestionData}
-use Rattle.sf_ask.specs.Breaking.{IsInQuestion}
+use Rattle.sf_question.specs.Breaking.{IsInQuestion}
 use Rattle.sf_ask.specs.Verdicts.{IsLowInput, IsMemberAt, IsBreakAt, IsRightVerdict}
 use Rattle.sf_ask.proofs.Leasts.{least-admitted, least-below, least-agrees}
 use Rattle.sf_ask.specs.Trying.{IsNumberBefore, IsLeastInput}

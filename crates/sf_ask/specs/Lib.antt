@@ -1,6 +1,5 @@
 pub mod QuestionBits
 pub mod QuestionBitsLaws
-pub mod Breaking
 pub mod Trying
 pub mod Judging
 pub mod OneResult

@@ -1,7 +1,6 @@
 -- What explorations of one stack that ended with nothing outstanding have in common.
 use Rattle.std.proofs.Common.{◌≡◌, ℕ, Bool, List, [], ◌∷◌, length, Some, slice_get, refl, sym, ◌∙◌, ap, subst, arith}
-use Rattle.std.specs.Prelude.{sum_by}
-use Rattle.std.proofs.lemmas.List.Sums.{sum_by-cons}
+use Rattle.std.proofs.lemmas.List.Sorted.{length_permutation}
 use Rattle.std.proofs.lemmas.Option.{same_Some, slice_get_within, get_or_from_slice_get}
 use Rattle.sf_sym.specs.Pool.{IsPool}
 use Rattle.sf_piece.specs.OneExecution.{IsExecutionOne}
@@ -11,7 +10,7 @@ use Rattle.sf_ask.specs.declared.verdict.Verdict.{Verdict}
 use Rattle.sf_ask.specs.Judging.{HasVerdict, HasVerdictAt}
 use Rattle.sf_ask.specs.OneResult.{HaveOneVerdict}
 use Rattle.sf_question.specs.QuestionData.{QuestionData}
-use Rattle.sf_book.specs.Unfoldings.{HaveOneOutcome, HaveSameElements, IsFringe, IsRegionOf}
+use Rattle.sf_book.specs.Unfoldings.{HaveOneOutcome, IsFringe, IsRegionOf}
 
 -- the pool of a region's piece is lawful
 pub lawful_pool : IsExecutionOne → (s : BookData) → IsFringe s → (place : ℕ) (r : RegionData)
@@ -30,21 +29,13 @@ one_verdict_at tree verdict s t q fringe same place v w a b =
     verdict a.region q v w (lawful_pool tree s fringe place a.region a.there) a.verdict
     (subst (λ (r : RegionData). HasVerdict r q w) (sym region) b.verdict)
 
--- a list weighs as much as it has elements
-weighs : (xs : List (List Bool)) → sum_by (λ x. 1) xs ≡ length xs
-weighs [] = refl
-weighs (x ∷ xs) = let rest = weighs xs in let one = sum_by-cons (λ (y : List Bool). 1) x xs in omega arith
-
-as_many : (xs ys : List (List Bool)) → HaveSameElements xs ys → length xs ≡ length ys
-as_many xs ys same = sym (weighs xs) ∙ same (λ x. 1) ∙ weighs ys
-
 -- the counts are the same
 pub same_counts : (b c : BookData) → HaveOneOutcome b c → b.outstanding ≡ [] → c.outstanding ≡ []
     → counts_of b ≡ counts_of c
 same_counts b c one none none' =
     let left = ap length (none ∙ sym none') in
     let settled = ap length one.regions in
-    let emptied = as_many b.emptied c.emptied one.emptied in
+    let emptied = sym (length_permutation b.emptied c.emptied one.emptied) in
     λ j. let counts : Counts = record {
       left = left j;
       settled = settled j;

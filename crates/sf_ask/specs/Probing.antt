@@ -5,7 +5,7 @@ use Rattle.sf_run.specs.declared.action.Action.{Action}
 use Rattle.sf_sym.specs.declared.pool.Node.{Node}
 use Rattle.sf_dom.specs.Facts.{FactsView, Covers, NoInput}
 use Rattle.sf_question.specs.Actions.{has_action}
-use Rattle.sf_ask.specs.Breaking.{IsInQuestion}
+use Rattle.sf_question.specs.Breaking.{IsInQuestion}
 use Rattle.sf_ask.specs.Judging.{CantTakeInQuestion}
 use Rattle.sf_ask.specs.QuestionBits.{has_bit}
 use Rattle.sf_question.specs.QuestionData.{QuestionData, range_at}

@@ -11,7 +11,7 @@ use Rattle.sf_piece.specs.Pieces.{PieceData, is_member}
 use Rattle.sf_ask.specs.declared.verdict.Verdict.{Verdict}
 use Rattle.sf_ask.specs.declared.verdict.Verdict.TheVariants.{Clear, Hit, Doubt}
 use Rattle.sf_question.specs.QuestionData.{QuestionData, range_at, mask_at, is_whole}
-use Rattle.sf_ask.specs.Breaking.{IsNumberOf, IsInQuestion}
+use Rattle.sf_question.specs.Breaking.{IsNumberOf, IsInQuestion}
 use Rattle.sf_ask.specs.Judging.{TakeInRange}
 use Rattle.sf_ask.specs.Trying.{IsTried}
 use Rattle.sf_ask.specs.Verdicts.{IsLowInput}

@@ -6,7 +6,7 @@ use Rattle.sf_insn.specs.Inputs.{IsInput}
 use Rattle.sf_dom.specs.Facts.{FactsView, AreConfined, known_at}
 use Rattle.sf_piece.specs.Pieces.{PieceData}
 use Rattle.sf_question.specs.QuestionData.{QuestionData}
-use Rattle.sf_ask.specs.Breaking.{IsNumberOf, IsInQuestion}
+use Rattle.sf_question.specs.Breaking.{IsNumberOf, IsInQuestion}
 
 -- where the word stands before the place `end`, the number is one that the question leaves for it
 abbrev pub IsNumberBefore : QuestionData → ℕ → ℕ → ℕ → Type 0

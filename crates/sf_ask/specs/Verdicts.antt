@@ -10,7 +10,7 @@ use Rattle.sf_ask.specs.declared.verdict.Reply.{Reply}
 use Rattle.sf_ask.specs.declared.verdict.Reply.TheVariants.{Never, Allowed, Unsettled}
 use Rattle.sf_question.specs.Actions.{has_action}
 use Rattle.sf_question.specs.QuestionData.{QuestionData}
-use Rattle.sf_ask.specs.Breaking.{IsNumberOf, IsInQuestion, Breaks}
+use Rattle.sf_question.specs.Breaking.{IsNumberOf, IsInQuestion, Breaks}
 use Rattle.sf_ask.specs.Trying.{IsTried}
 
 -- the low input of a question: it has in each word the least number that the question leaves for it

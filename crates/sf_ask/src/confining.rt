@@ -2,7 +2,7 @@
 
 ghost use Rattle.std.specs.Prelude.{◌≡◌, ◌<◌, ◌≤◌, true, false, Ok, List, length, IfOk, IfErr, MatchBool, MatchOption};
 ghost use Rattle.sf_dom.specs.Facts.{Covers, AreConfined, ConfinesWord, NoInput, HasIn, known_at};
-ghost use Rattle.sf_ask.specs.Breaking.{IsNumberOf, IsInQuestion};
+ghost use Rattle.sf_question.specs.Breaking.{IsNumberOf, IsInQuestion};
 ghost use Rattle.sf_question.specs.QuestionData.{is_whole};
 ghost use Rattle.sf_ask.specs.Judging.{TakeInRange, TakeInMask, TakeInWord, TakeInQuestion, CantTakeInQuestion};
 ghost use Rattle.sf_ask.specs.Probing.{IsRuledOut};

@@ -2,3 +2,4 @@ pub mod Numbers
 pub mod Actions
 pub mod QuestionData
 pub mod Questions
+pub mod Breaking

@@ -1,5 +1,5 @@
 use Rattle.std.proofs.Common.{sym, ◌∙◌}
-use Rattle.sf_ask.specs.Breaking.{IsInQuestion}
+use Rattle.sf_question.specs.Breaking.{IsInQuestion}
 use Rattle.sf_dom.specs.Facts.{AreConfined}
 use Rattle.sf_ask.specs.Trying.{IsNumberBefore}
 use Rattle.sf_ask.proofs.Searching.{doubtful, least-hit, exact-hit}
