@@ -5,3 +5,4 @@ pub mod HolderLemmas
 pub mod WayLemmas
 pub mod RowLemmas
 pub mod StoredLemmas
+pub mod SpentLemmas

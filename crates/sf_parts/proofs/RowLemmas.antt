@@ -20,7 +20,7 @@ use Rattle.sf_parts.proofs.HolderLemmas.{LeadsTo, HasNumber, holders, AreParts}
 use Rattle.sf_parts.proofs.WayLemmas.{parts_in-right}
 
 -- behind a word comes a tree that tests later words only
-behind-ordered : (word : ℕ) (t : Tree) (n m : ℕ) → 32 * word ≤ m → IsOrderedFrom m t
+pub behind-ordered : (word : ℕ) (t : Tree) (n m : ℕ) → 32 * word ≤ m → IsOrderedFrom m t
     → IsOrderedFrom (32 * suc word) (behind word t n)
 behind-ordered word (Leaf c) n m le o = tt
 behind-ordered word (Fork v p q) n m le o =
@@ -45,7 +45,7 @@ behind-below word limit (Fork v p q) n h =
     (λ _. h)
 
 -- a tree that does not test a word first tests later words only
-later-ordered : (word v : ℕ) (p q : Tree) → IsOrderedFrom (32 * word) (Fork v p q) → (v / 32 == word) ≡ false
+pub later-ordered : (word v : ℕ) (p q : Tree) → IsOrderedFrom (32 * word) (Fork v p q) → (v / 32 == word) ≡ false
     → IsOrderedFrom (32 * suc word) (Fork v p q)
 later-ordered word v p q o out =
     let other : v / 32 ≢ word = eqb-false (v / 32) word out in

@@ -1,8 +1,8 @@
 -- The rows of a tree: what the inputs are that get a number.
-use Rattle.std.specs.Prelude.{ℕ, zero, suc, ◌/◌, ◌==◌, Bool, List, [], ◌∷◌, ◌++◌, if◌then◌else◌}
+use Rattle.std.specs.Prelude.{ℕ, zero, suc, ◌/◌, ◌<◌, ◌==◌, ◌⊎◌, Bool, List, [], ◌∷◌, ◌++◌, if◌then◌else◌}
 use Rattle.std.specs.List.{flat_map, list_all}
 use Rattle.sf_diagram.specs.Trees.{Tree, Leaf, Fork, Bits}
-use Rattle.sf_parts.specs.Words.{word_number}
+use Rattle.sf_parts.specs.Words.{word_number, test_count}
 use Rattle.sf_parts.specs.Parts.{FormData, form_has, parts_in}
 
 -- the number of a word is one of those that are written so
@@ -34,3 +34,10 @@ rows_under apart hidden (suc n) word (Fork variable lower higher) conditions =
     (λ p. rows_under apart hidden n (suc word) p.behind (conditions ++ record { word = word; form = p.form } ∷ []))
     (parts_in word (word == apart) (Fork variable lower higher))
     else rows_under apart hidden n (suc word) (Fork variable lower higher) conditions
+
+-- some word is tested more often than a limit, counted along each way from one of its tests on
+abbrev pub IsCrowded : ℕ → Tree → Type 0
+IsCrowded limit (Leaf number) = ⊥
+IsCrowded limit (Fork variable lower higher) =
+    (limit < test_count (variable / 32) (Fork variable lower higher))
+    ⊎ (IsCrowded limit lower ⊎ IsCrowded limit higher)

@@ -15,3 +15,4 @@ pub use laws::{
     rows_have_the_number,
 };
 pub use rows::{Condition, ROWS, Row, rows_of};
+pub use word::TESTS;

@@ -1,11 +1,13 @@
 //! The rows of a diagram.
 
-ghost use Rattle.std.specs.Prelude.{◌≡◌, ◌==◌, ◌+◌, ◌<◌, ◌≤◌, [], ◌∷◌, ◌++◌, length, IfOk, IfErr, OnOk, if◌then◌else◌};
+ghost use Rattle.std.specs.Prelude.{◌≡◌, ◌⊎◌, ◌==◌, ◌+◌, ◌*◌, ◌<◌, ◌≤◌, [], ◌∷◌, ◌++◌, length, false, IfOk, IfErr, OnOk, if◌then◌else◌};
+ghost use Rattle.sf_diagram.specs.Trees.{IsOrderedFrom};
 ghost use Rattle.sf_diagram.specs.Stores.{tree_at, IsLawfulStore};
-ghost use Rattle.sf_parts.specs.Rows.{rows_under};
+ghost use Rattle.sf_parts.specs.Rows.{rows_under, IsCrowded};
 
 use crate::form::Form;
 use crate::parts::parts_of;
+use crate::word::TESTS;
 use sf_diagram::{Fault, Id, Node, Store};
 use std::alloc::{AllocError, Global};
 use std::marker::Model;
@@ -88,7 +90,8 @@ fn push_row(
 ) -> Result<(), Fault>
     ensures rows { OnOk result (rows.new.items ≡ rows.old.items ++ (if number == hidden then []
         else record { conditions = conditions.now; number = number } ∷ [])) }
-    ensures spent { IfErr result (λ e. e ≡ Fault.Spent → ROWS ≤ length rows.old.items) }
+    ensures spent { IfErr result (λ e. e ≡ Fault.Spent
+        → (ROWS ≤ length rows.old.items) × ((number == hidden) ≡ false)) }
 {
     if number == hidden {
         return Ok(());
@@ -118,6 +121,11 @@ fn push_rows(
         ++ rows_under words.apart words.hidden words.left words.word
         (tree_at store.now.trees id) conditions.old.items) }
     ensures conditions { OnOk result (conditions.new.items ≡ conditions.old.items) }
+    ensures spent { IfErr result (λ e. e ≡ Fault.Spent
+        → IsOrderedFrom (32 * words.word) (tree_at store.now.trees id)
+        → (ROWS < length rows.old.items + length (rows_under words.apart words.hidden words.left
+        words.word (tree_at store.now.trees id) conditions.old.items))
+        ⊎ IsCrowded TESTS (tree_at store.now.trees id)) }
 {
     let variable = match store.node(id) {
         Node::Number(number) => return push_row(alloc, conditions, number, words.hidden, rows),
@@ -162,8 +170,12 @@ pub fn rows_of(
     requires lawful { IsLawfulStore store.now }
     requires within { id < length store.now.trees }
     requires words { word + words < 65536 }
-    ensures { IfOk result (λ v. v.items
+    ensures rows { IfOk result (λ v. v.items
         ≡ rows_under apart hidden words word (tree_at store.now.trees id) []) }
+    ensures spent { IfErr result (λ e. e ≡ Fault.Spent
+        → IsOrderedFrom (32 * word) (tree_at store.now.trees id)
+        → (ROWS < length (rows_under apart hidden words word (tree_at store.now.trees id) []))
+        ⊎ IsCrowded TESTS (tree_at store.now.trees id)) }
 {
     let mut conditions = Vec::new(alloc);
     let mut rows = Vec::new(alloc);

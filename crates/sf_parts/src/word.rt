@@ -9,7 +9,7 @@ use crate::bits::weight;
 use sf_diagram::{Fault, Id, Node, Store};
 
 /// How often a word may be tested, counted along each way.
-pub(crate) const TESTS: u32 = 65536;
+pub const TESTS: u32 = 65536;
 
 /// The variable of a node, where it leads if this is false, and where if it is true; `None` where the node does not
 /// test the word. The caller's condition: there is such a node.

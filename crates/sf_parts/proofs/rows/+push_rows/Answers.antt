@@ -1,11 +1,15 @@
-use Rattle.std.proofs.Common.{◌≡◌, ◌≢◌, ℕ, suc, ◌+◌, ◌-◌, ◌++◌, ◌∷◌, [], ◌==◌, List, length, get_or, map, take, sym, ap, ap₂, subst, ◌∙◌, arith}
-use Rattle.std.proofs.lemmas.Result.{on_ok_weaker}
+use Rattle.std.proofs.Common.{◌≡◌, ◌≢◌, ℕ, suc, ◌+◌, ◌-◌, ◌++◌, ◌∷◌, [], ◌==◌, List, length, get_or, map, take, refl, inr, sym, ap, ap₂, subst, ◌∙◌, arith}
+use Rattle.std.proofs.lemmas.Result.{on_ok_weaker, err_from_is_err_and}
 use Rattle.std.proofs.lemmas.List.{append-nil}
 use Rattle.sf_diagram.specs.Stores.{tree_at}
 use Rattle.sf_parts.specs.Parts.{parts_in}
 use Rattle.sf_parts.specs.Rows.{ConditionData, RowData}
 use Rattle.sf_parts.specs.Stored.{StoredPart, part_seen}
 use Rattle.sf_parts.proofs.RowLemmas.{rows_behind, rows-leaf, rows-none, rows-outside, rows-all, rows-step, conditions-back}
+use Rattle.sf_parts.specs.declared.rows.TheConstants.{ROWS}
+use Rattle.sf_parts.specs.declared.word.TheConstants.{TESTS}
+use Rattle.sf_parts.proofs.RunLemmas.{err-more}
+use Rattle.sf_parts.proofs.SpentLemmas.{leaf-over, outside-over, crowded-here, step-over}
 use Rattle.sf_parts.proofs.rows.+push_rows.Goals as goal
 
 pub returns-in-Number-clause-rows : goal.returns-in-Number-clause-rows
@@ -77,3 +81,53 @@ returns-clause-rows t c =
     (tree_at ts c.args.id) _ _ c.args.conditions.now.items c.deref-part-items.result.now next c.in-Choice.ensures.tree
     c.if-variable-words.false
     (ap (map (part_seen ts)) c.deref-part-items.ensures.value ∙ c.in_ok-parts.ensures.parts) c.loop-part-test.false)
+
+pub returns-in-Number-clause-spent : goal.returns-in-Number-clause-spent
+returns-in-Number-clause-spent t c =
+    let w = c.args.words in
+    err-more c.push_row.result _ _ c.push_row.ensures.spent
+    (λ e h spent o. leaf-over ROWS TESTS (length c.args.rows.now.items) w.apart w.hidden w.left w.word
+    c.in-Number.number
+    (tree_at c.args.store.now.trees c.args.id) c.args.conditions.now.items c.in-Number.ensures.tree (h spent))
+
+pub returns-then-variable-words-clause-spent : goal.returns-then-variable-words-clause-spent
+returns-then-variable-words-clause-spent t c =
+    let w = c.args.words in
+    let next : w.left ≡ suc (w.left - 1) = omega arith in
+    let following : w.word + 1 ≡ suc w.word = omega arith in
+    err-more c.push_rows.result _ _ c.push_rows.ensures.spent
+    (λ e h spent o. outside-over ROWS TESTS (length c.args.rows.now.items) w.apart w.hidden w.left (w.left - 1) w.word
+    (w.word + 1) c.in-Choice.variable (tree_at c.args.store.now.trees c.args.id) _ _ c.args.conditions.now.items next
+    following c.in-Choice.ensures.tree c.if-variable-words.true (h spent) o)
+
+pub returns-in_err-parts-clause-spent : goal.returns-in_err-parts-clause-spent
+returns-in_err-parts-clause-spent t c =
+    let p = err_from_is_err_and c.from_residual.result c.from_residual.ensures.1 in
+    rw (p.1, p.2) (λ e o. inr (crowded-here TESTS c.args.words.word c.in-Choice.variable
+    (tree_at c.args.store.now.trees c.args.id) _ _ c.in-Choice.ensures.tree c.if-variable-words.false
+    (c.in_err-parts.ensures.spent e)))
+
+pub returns-in_err-push_rows-clause-spent : goal.returns-in_err-push_rows-clause-spent
+returns-in_err-push_rows-clause-spent t c =
+    let w = c.args.words in
+    let ts = c.args.store.now.trees in
+    let next : w.left ≡ suc (w.left - 1) = omega arith in
+    let following : w.word + 1 ≡ suc w.word = omega arith in
+    let cs = c.args.conditions.now.items in
+    let part : StoredPart = record { form = c.part.inside.form; behind = c.part.inside.behind } in
+    let is : part ≡ get_or c.deref-part-items.result.now c.loop-part.part-index part
+    = subst (λ (q : StoredPart). q ≡ get_or c.deref-part-items.result.now c.loop-part.part-index q) (sym c.part.view_is)
+    c.part-item.is in
+    let pushed : c.push.new.self.items ≡ cs ++ record { word = w.word; form = c.part.inside.form } ∷ []
+    = c.in_ok-push.ensures.items
+    ∙ ap₂ (λ (xs : List ConditionData) (x : ConditionData). xs ++ x ∷ []) c.loop-part.invariant.conditions
+    c.in_ok-condition.ensures in
+    let p = err_from_is_err_and c.from_residual-in_err-push_rows.result
+    c.from_residual-in_err-push_rows.ensures.1 in
+    rw (p.1, p.2) (λ e o. step-over ROWS TESTS (length c.args.rows.now.items) w.apart w.hidden w.left
+    (w.left - 1) w.word
+    (w.word + 1) c.in-Choice.variable c.loop-part.part-index ts (tree_at ts c.args.id) _ _ cs c.push.new.self.items
+    c.deref-part-items.result.now part c.args.rows.now.items c.loop-part.rows.items next following
+    c.in-Choice.ensures.tree c.if-variable-words.false (omega arith) is
+    (ap (map (part_seen ts)) c.deref-part-items.ensures.value ∙ c.in_ok-parts.ensures.parts)
+    c.loop-part.invariant.rows refl pushed (c.in_err-push_rows.ensures.spent e) o)
