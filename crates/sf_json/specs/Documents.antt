@@ -89,6 +89,10 @@ counts_document counts = fields (
     ∷ (codes "regions", count counts.settled)
     ∷ (codes "splits", count counts.splits) ∷ [])
 
+-- how many nodes diagrams have
+abbrev pub diagram_document : ℕ → Data
+diagram_document nodes = fields ((codes "nodes", count nodes) ∷ [])
+
 -- ---- the text
 
 -- a document on a line of its own

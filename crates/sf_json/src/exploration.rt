@@ -1,7 +1,7 @@
-//! What is shown of an exploration as JSON: the size of its stack, and its counts.
+//! What is shown of stacks as JSON: their size, the counts of an exploration, and the nodes of diagrams.
 
 ghost use Rattle.std.specs.Prelude.{◌≡◌, ◌≤◌, length, IfOk};
-ghost use Rattle.sf_json.specs.Documents.{counts_document, sizes_document};
+ghost use Rattle.sf_json.specs.Documents.{counts_document, diagram_document, sizes_document};
 ghost use Rattle.serde_json.specs.View.{view};
 
 use crate::document::{Document, Fields};
@@ -34,5 +34,13 @@ pub fn counts_document(alloc: Global, counts: Counts) -> Result<Document, AllocE
         .with("emptied", Document::count(counts.emptied))?
         .with("splits", Document::number(counts.splits))?
         .with("commits", Document::number(counts.commits))?;
+    Ok(Document::object(fields))
+}
+
+/// The object with how many nodes diagrams have (`nodes`). An error where an allocation is refused.
+pub fn diagram_document(alloc: Global, nodes: usize) -> Result<Document, AllocError>
+    ensures { IfOk result (λ d. view d ≡ diagram_document nodes) }
+{
+    let fields = Fields::new(alloc).with("nodes", Document::count(nodes))?;
     Ok(Document::object(fields))
 }

@@ -9,6 +9,6 @@ mod writing;
 
 pub use answer::{action_document, answer_document};
 pub use document::{Document, Fields};
-pub use exploration::{counts_document, sizes_document};
+pub use exploration::{counts_document, diagram_document, sizes_document};
 pub use input::{input_document, word_document};
 pub use writing::{line_of, write_document};

@@ -4,6 +4,8 @@ use Rattle.sf_policy.specs.declared.fault.Fault.{Fault}
 use Rattle.sf_policy.specs.declared.fault.Fault.TheVariants as faults
 use Rattle.sf_names.specs.declared.fault.Fault.{Fault as NamesFault}
 use Rattle.sf_names.specs.declared.fault.Fault.TheVariants as names_faults
+use Rattle.sf_diagram.specs.declared.fault.Fault.{Fault as DiagramFault}
+use Rattle.sf_diagram.specs.declared.fault.Fault.TheVariants as diagram_faults
 use Rattle.sf_policy.specs.declared.policy.refusal.Refusal.{Refusal}
 
 -- why the program refuses a file of names
@@ -13,6 +15,11 @@ of_names names_faults.Key = faults.NamesKey
 of_names names_faults.Count = faults.NamesCount
 of_names names_faults.Range = faults.NamesRange
 of_names names_faults.Memory = faults.Memory
+
+-- the fault of stacks for which a store of diagrams has this one, where it may have this many nodes
+abbrev pub of_diagrams : DiagramFault → ℕ → Fault
+of_diagrams diagram_faults.Spent nodes = faults.TooLarge nodes
+of_diagrams diagram_faults.Memory nodes = faults.Memory
 
 -- the number of each refusal, and of refused memory
 abbrev pub fault_number : Fault → ℕ
@@ -27,6 +34,7 @@ fault_number (faults.Scratch filter at) = 24
 fault_number faults.NoFilter = 25
 fault_number faults.TooMany = 26
 fault_number faults.PathLength = 27
+fault_number (faults.TooLarge nodes) = 32
 fault_number faults.Version = 40
 fault_number faults.TopKey = 41
 fault_number (faults.Key question) = 41

@@ -1,10 +1,12 @@
 -- Texts that several reports share, and what is written of a text where writing fails.
-use Rattle.std.specs.Prelude.{◌≡◌, ℕ, ◌-◌, ◌^◌, false, List, [], ◌∷◌, ◌++◌, codes, Option}
+use Rattle.std.specs.Prelude.{◌≡◌, ℕ, ◌-◌, ◌^◌, false, List, [], ◌∷◌, ◌++◌, codes, length, Option}
 use Rattle.std.specs.Fmt.{decimal, digits, padded_integral, format_spec}
 use Rattle.std.specs.Io.KnownBytes.{Appends}
 use Rattle.hex.specs.Hex.{encode_lower}
 use Rattle.sf_insn.specs.declared.input.Input.{Input}
 use Rattle.sf_insn.specs.Inputs.{input_bytes}
+use Rattle.sf_check.specs.declared.insn.Insn.{Insn}
+use Rattle.sf_check.specs.Stacks.{path_length}
 use Rattle.sf_run.specs.declared.action.Action.{Action}
 use Rattle.sf_run.specs.declared.action.Answer.{Answer}
 use Rattle.sf_run.specs.declared.action.Action.TheVariants.{KillProcess, KillThread, Trap, Errno, UserNotif, Trace, Log, Allow, Other}
@@ -22,6 +24,15 @@ counts_line counts =
     line (codes "regions" ∷ decimal counts.settled ∷ codes "open" ∷ decimal counts.left ∷ codes "emptied"
     ∷ decimal counts.emptied
     ∷ codes "splits" ∷ decimal counts.splits ∷ codes "commits" ∷ decimal counts.commits ∷ [])
+
+-- how many filters a stack has, and the length of the path through them
+abbrev pub filters_line : List (List Insn) → List ℕ
+filters_line programs = line (codes "filters" ∷ decimal (length programs) ∷ codes "path"
+    ∷ decimal (path_length programs) ∷ [])
+
+-- how many nodes diagrams have
+abbrev pub nodes_line : ℕ → List ℕ
+nodes_line nodes = line (codes "diagram" ∷ codes "nodes" ∷ decimal nodes ∷ [])
 
 -- the 64 bytes of an input as hexadecimal digits
 abbrev pub hex_text : Input → List ℕ

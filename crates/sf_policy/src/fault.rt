@@ -2,7 +2,7 @@
 
 ghost use Rattle.std.specs.Prelude.{◌≡◌};
 ghost use Rattle.sf_policy.specs.declared.fault.Fault.TheVariants.{Memory};
-ghost use Rattle.sf_policy.specs.Faults.{fault_number};
+ghost use Rattle.sf_policy.specs.Faults.{fault_number, of_diagrams};
 
 use std::alloc::{AllocError, AllocFailed};
 use thiserror::Error;
@@ -41,13 +41,17 @@ pub enum Fault {
     /// There is no filter.
     #[error("25 NoFilter")]
     NoFilter,
-    /// There are more than 64 filters, in both stacks together where two are compared.
+    /// There are more than 64 filters.
     #[error("26 TooMany")]
     TooMany,
-    /// The path through all filters, those of both stacks where two are compared, is longer than 32768. It counts all
-    /// their instructions, and 4 more for each filter but the newest.
+    /// The path through all filters is longer than 32768. It counts all their instructions, and 4 more for each filter
+    /// but the newest.
     #[error("27 PathLength")]
     PathLength,
+    /// The decision diagrams of the answers would have more nodes than this, which are allowed. The text is a sentence
+    /// without a number, since nothing that was given is wrong.
+    #[error("too large: more than {nodes} nodes; --nodes takes more")]
+    TooLarge { nodes: u32 },
     /// The policy's version is missing, or is neither 1 nor 2.
     #[error("40 Version")]
     Version,
@@ -110,7 +114,7 @@ pub enum Fault {
 }
 
 impl Fault {
-    /// The number at the head of the fault's text.
+    /// The number of the fault. It is at the head of the text of all but `TooLarge`.
     pub fn number(&self) -> u16
         ensures { result ≡ fault_number self.now }
     {
@@ -126,6 +130,7 @@ impl Fault {
             Fault::NoFilter => 25,
             Fault::TooMany => 26,
             Fault::PathLength => 27,
+            Fault::TooLarge { .. } => 32,
             Fault::Version => 40,
             Fault::TopKey | Fault::Key { .. } | Fault::NamesKey => 41,
             Fault::Range { .. } | Fault::NamesRange => 42,
@@ -138,6 +143,16 @@ impl Fault {
             Fault::Read => 50,
             Fault::Write => 51,
             Fault::Memory => 60,
+        }
+    }
+
+    /// The fault of stacks for which a store of diagrams has this one. `nodes` is how many nodes it may have.
+    pub fn of_diagrams(fault: sf_diagram::Fault, nodes: u32) -> Fault
+        ensures { result ≡ of_diagrams fault nodes }
+    {
+        match fault {
+            sf_diagram::Fault::Spent => Fault::TooLarge { nodes },
+            sf_diagram::Fault::Memory => Fault::Memory,
         }
     }
 }

@@ -15,7 +15,7 @@ pub use action::push_action;
 pub use fault::Fault;
 pub use filters::stack_of;
 pub use policy::{Refusal, WORD_KEYS, read_policy, read_policy_at};
-pub use texts::{hex_of, push_counts, write_bytes};
+pub use texts::{hex_of, push_counts, push_nodes, push_size, write_bytes};
 
 /// The most questions of a policy and of an audit.
 pub const MOST_QUESTIONS: usize = 256;

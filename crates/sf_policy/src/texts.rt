@@ -1,11 +1,12 @@
 //! Texts that several reports share, and how a text is written.
 
-ghost use Rattle.std.specs.Prelude.{◌≡◌, ◌++◌, IfErr, IfOk, OnErr, OnOk, string_bytes};
+ghost use Rattle.std.specs.Prelude.{◌≡◌, ◌≤◌, ◌++◌, IfErr, IfOk, OnErr, OnOk, length, string_bytes};
 ghost use Rattle.std.specs.Io.KnownBytes.{Appends};
-ghost use Rattle.sf_policy.specs.Texts.{AppendsFront, counts_line, hex_text};
+ghost use Rattle.sf_policy.specs.Texts.{AppendsFront, counts_line, hex_text, nodes_line, filters_line};
 ghost use Rattle.sf_policy.specs.declared.fault.Fault.TheVariants.{Write as WriteFault};
 
 use crate::fault::Fault;
+use sf_check::{Program, path_length};
 use sf_insn::{Input, bytes_of_input};
 use sf_run::Counts;
 use std::alloc::{AllocError, Global};
@@ -33,6 +34,27 @@ pub fn push_counts(text: &mut String, counts: Counts) -> Result<(), AllocError>
         text,
         "regions {regions} open {open} emptied {emptied} splits {splits} commits {commits}\n"
     )
+}
+
+/// Adds the line with the size of a stack: how many filters it has, and the length of the path through them
+/// (`path_length`). The caller's condition: there are at most 64 programs. `AllocError` where an allocation is refused:
+/// a part of the line may stand in the text then.
+pub fn push_size(text: &mut String, programs: &[Program]) -> Result<(), AllocError>
+    requires { length programs.now ≤ 64 }
+    ensures { OnOk result (string_bytes text.new ≡ string_bytes text.old
+        ++ filters_line programs.now) }
+{
+    let filters = programs.len();
+    let path = path_length(programs);
+    write!(text, "filters {filters} path {path}\n")
+}
+
+/// Adds the line that tells how many nodes diagrams have. `AllocError` where an allocation is refused: a part of the
+/// line may stand in the text then.
+pub fn push_nodes(text: &mut String, nodes: usize) -> Result<(), AllocError>
+    ensures { OnOk result (string_bytes text.new ≡ string_bytes text.old ++ nodes_line nodes) }
+{
+    write!(text, "diagram nodes {nodes}\n")
 }
 
 /// Writes all the bytes, with as many writes as it takes. `Write` where a write fails (also where a signal interrupts
