@@ -109,51 +109,43 @@ eval_line = with_rule (with_rule (with_rule (with_rule (with_rule (with_rule (wi
     (switch_rule (codes "explain-errors")))
     filters_rule
 
--- `compare --old FILE.. --new FILE.. [--budget N] [--workers N] [--same] [--rows] [--only RELATION]
--- [--calls [NAME,..]] [--leaves N] [--names FILE].. [--json] [--progress] [--quiet] [--explain-errors]`
+-- `compare --old FILE.. --new FILE.. [--nodes N] [--same] [--rows] [--only RELATION] [--calls [NAME,..]]
+-- [--names FILE].. [--json] [--quiet] [--explain-errors]`
 abbrev pub compare_line : App
 compare_line = with_rule (with_rule (with_rule (with_rule (with_rule (with_rule (with_rule (with_rule (with_rule
-    (with_rule (with_rule (with_rule (with_rule (with_rule
+    (with_rule (with_rule
     (new_app (codes "compare"))
     (files_rule (codes "old")))
     (files_rule (codes "new")))
-    (number_rule (codes "budget") 1000000 (codes "100000")))
-    (number_rule (codes "workers") 64 (codes "4")))
+    (number_rule (codes "nodes") 16000000 (codes "1000000")))
     (switch_rule (codes "same")))
     (switch_rule (codes "rows")))
     (option_rule (codes "only")))
     (choice_rule (codes "calls")))
-    (number_rule (codes "leaves") 1000000 (codes "20000")))
     (repeated_rule (codes "names")))
     (switch_rule (codes "json")))
-    (switch_rule (codes "progress")))
     (switch_rule (codes "quiet")))
     (switch_rule (codes "explain-errors"))
 
--- `list [--budget N] [--workers N] [--leaves N] [--names FILE].. [--calls [NAME,..]] [--json] [--progress]
--- [--quiet] [--explain-errors] FILTER..`
+-- `list [--nodes N] [--names FILE].. [--calls [NAME,..]] [--digest] [--json] [--quiet] [--explain-errors] FILTER..`
 abbrev pub list_line : App
-list_line = with_rule (with_rule (with_rule (with_rule (with_rule (with_rule (with_rule (with_rule (with_rule (with_rule
+list_line = with_rule (with_rule (with_rule (with_rule (with_rule (with_rule (with_rule (with_rule
     (new_app (codes "list"))
-    (number_rule (codes "budget") 1000000 (codes "100000")))
-    (number_rule (codes "workers") 64 (codes "4")))
-    (number_rule (codes "leaves") 1000000 (codes "20000")))
+    (number_rule (codes "nodes") 16000000 (codes "1000000")))
     (repeated_rule (codes "names")))
     (choice_rule (codes "calls")))
+    (switch_rule (codes "digest")))
     (switch_rule (codes "json")))
-    (switch_rule (codes "progress")))
     (switch_rule (codes "quiet")))
     (switch_rule (codes "explain-errors")))
     filters_rule
 
--- `needed [--budget N] [--workers N] [--json] [--progress] [--quiet] [--explain-errors] FILTER..`
+-- `needed [--nodes N] [--json] [--quiet] [--explain-errors] FILTER..`
 abbrev pub needed_line : App
-needed_line = with_rule (with_rule (with_rule (with_rule (with_rule (with_rule (with_rule
+needed_line = with_rule (with_rule (with_rule (with_rule (with_rule
     (new_app (codes "needed"))
-    (number_rule (codes "budget") 1000000 (codes "100000")))
-    (number_rule (codes "workers") 64 (codes "4")))
+    (number_rule (codes "nodes") 16000000 (codes "1000000")))
     (switch_rule (codes "json")))
-    (switch_rule (codes "progress")))
     (switch_rule (codes "quiet")))
     (switch_rule (codes "explain-errors")))
     filters_rule

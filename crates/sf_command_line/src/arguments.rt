@@ -55,7 +55,7 @@ pub(crate) fn accept<'a>(alloc: Global) -> Arg<'a>
     )
 }
 
-/// `--progress`: whether it is shown how far an exploration is.
+/// `--progress`: whether it is shown how far the exploration of an audit is.
 pub(crate) fn progress<'a>(alloc: Global) -> Arg<'a>
     ensures rule { rule_of result ≡ switch_rule (codes "progress") }
     ensures own { result.global ≡ false }
@@ -71,7 +71,8 @@ pub(crate) fn json<'a>(alloc: Global) -> Arg<'a>
     switch(alloc, "json").help("Write one JSON document in place of the text")
 }
 
-/// `--budget`: the most works that are committed in each exploration, 1 to 1,000,000; 100,000 where it isn't given.
+/// `--budget`: the most works that are committed in the exploration of an audit, 1 to 1,000,000; 100,000 where it isn't
+/// given.
 pub(crate) fn budget<'a>(alloc: Global) -> Arg<'a>
     ensures rule { rule_of result ≡ number_rule (codes "budget") 1000000 (codes "100000") }
     ensures own { result.global ≡ false }
@@ -95,17 +96,28 @@ pub(crate) fn workers<'a>(alloc: Global) -> Arg<'a>
         .help("The number of workers, 1 to 64: 1 is as fast, and answers more under a budget")
 }
 
-/// `--leaves`: after how many leaves of a picture no further fork is begun, 1 to 1,000,000; 20,000 where it isn't
-/// given. Each branch that is left then gets a leaf.
-pub(crate) fn leaves<'a>(alloc: Global) -> Arg<'a>
-    ensures rule { rule_of result ≡ number_rule (codes "leaves") 1000000 (codes "20000") }
+/// `--nodes`: the most nodes that the decision diagrams of the answers may have, 1 to 16,000,000; 1,000,000 where it
+/// isn't given.
+pub(crate) fn nodes<'a>(alloc: Global) -> Arg<'a>
+    ensures rule { rule_of result ≡ number_rule (codes "nodes") 16000000 (codes "1000000") }
     ensures own { result.global ≡ false }
 {
-    let numbers = value_parser!(u32).range(1..=1_000_000);
-    option(alloc, "leaves", "N")
+    let numbers = value_parser!(u32).range(1..=16_000_000);
+    option(alloc, "nodes", "N")
         .value_parser(numbers)
-        .default_value("20000")
-        .help("The most leaves that are drawn, 1 to 1000000")
+        .default_value("1000000")
+        .help("The most nodes that the decision diagrams may have, 1 to 16000000")
+}
+
+/// `--digest`: whether a digest of all rows is written in place of these. It goes without `--names`, `--calls` and
+/// `--json`, which is seen later.
+pub(crate) fn digest<'a>(alloc: Global) -> Arg<'a>
+    ensures rule { rule_of result ≡ switch_rule (codes "digest") }
+    ensures own { result.global ≡ false }
+{
+    switch(alloc, "digest").help(
+        "Write one line with a digest of the rows: stacks that answer alike have the same",
+    )
 }
 
 /// `--regions`: whether a report lists the settled regions.

@@ -139,13 +139,20 @@ pub fn wants_quiet(found: &ArgMatches<'_>) -> bool
     is_on(found, "quiet")
 }
 
-/// After how many leaves of a picture no further fork is begun, by `--leaves`; 20,000 where it isn't given. The form of
-/// the command line lets only 1 to 1,000,000 through.
-pub fn leaves_of(found: &ArgMatches<'_>) -> u32
-    ensures { IsOptionNumber (one_of (codes "leaves") (rows_of (found_of found.now)))
-        1000000 20000 result }
+/// The most nodes that decision diagrams may have, by `--nodes`; 1,000,000 where it isn't given. The form of the
+/// command line lets only 1 to 16,000,000 through.
+pub fn nodes_of(found: &ArgMatches<'_>) -> u32
+    ensures { IsOptionNumber (one_of (codes "nodes") (rows_of (found_of found.now)))
+        16000000 1000000 result }
 {
-    found.get_one::<u32>("leaves").unwrap_or(20_000)
+    found.get_one::<u32>("nodes").unwrap_or(1_000_000)
+}
+
+/// Whether `--digest` is given: a digest of all rows of a list is then written in place of these.
+pub fn wants_digest(found: &ArgMatches<'_>) -> bool
+    ensures { IsSwitch (one_of (codes "digest") (rows_of (found_of found.now))) result }
+{
+    is_on(found, "digest")
 }
 
 /// Whether `--why` is given: an audit then shows for each example why the stack answers it as it does.

@@ -4,35 +4,35 @@ ghost use Rattle.clap.specs.Words.{app_of};
 ghost use Rattle.sf_command_line.specs.CommandLine.{audit_line, check_line, command_line, compare_line, eval_line, list_line, needed_line, profile_line, program_line};
 
 use crate::arguments::{
-    accept, arch, arguments, budget, call, calls, cap, conflicts, control, explain, files, filters,
-    input, instructions, json, kernel, leaves, machine, names, newer, notes, nr, only, policy,
-    profile_file, progress, quiet, regions, rows, same_switch, skip_unknown, trace, trace_true,
-    why, workers,
+    accept, arch, arguments, budget, call, calls, cap, conflicts, control, digest, explain, files,
+    filters, input, instructions, json, kernel, machine, names, newer, nodes, notes, nr, only,
+    policy, profile_file, progress, quiet, regions, rows, same_switch, skip_unknown, trace,
+    trace_true, why, workers,
 };
 use clap::Command;
 use std::alloc::{AllocError, Global};
 
 /// The version of the program, as `--version` shows it.
-const VERSION: &str = "1.6.0";
+const VERSION: &str = "2.0.0";
 
 /// What stands at the end of the program's `--help`.
 const AFTER_HELP: &str = "Exit status:
-  0  every question is never; compare: looser is never; list: each row has one answer; needed: each filter is;
-     check, eval, profile, help: done
+  0  every question is never; compare: looser is never; needed: each filter is; list, check, eval, profile,
+     help: done
   1  some question is allowed, and not accepted; compare: looser is found; needed: some filter is spare
-  2  some question is unsettled, and none allowed, or the control doesn't hold; compare: looser is unsettled;
-     list: a row has several answers; needed: it is unsettled whether some filter is
+  2  some question is unsettled, and none allowed, or the control doesn't hold; list, compare, needed: --nodes
+     doesn't suffice, and nothing is written
   3  a filter, the stack, the policy, a profile, a file of names or the input is refused
   4  the command line is refused
   5  a file can't be read, standard output can't be written, or memory ran out
 
 Limits:
-  1 to 64 filters of 1 to 4096 instructions each (compare: of both stacks together; needed: 1 to 32)
-  a path length of at most 32768 (compare and needed: of both stacks together)
+  1 to 64 filters of 1 to 4096 instructions each (compare: in each stack)
+  a path length of at most 32768 (compare: in each stack)
   1 to 256 questions of all policies together, and of a control
-  1 to 1000000 pieces that are worked on (--budget), 100000 if not given
-  1 to 64 workers (--workers), 4 if not given: 1 is as fast, and answers more under a budget
-  1 to 1000000 leaves of a list (--leaves), 20000 if not given
+  audit: 1 to 1000000 pieces that are worked on (--budget), 100000 if not given
+  audit: 1 to 64 workers (--workers), 4 if not given: 1 is as fast, and answers more under a budget
+  list, compare, needed: 1 to 16000000 nodes of decision diagrams (--nodes), 1000000 if not given
   1048576 bytes of a file
 
 Errors:
@@ -109,16 +109,13 @@ fn compare<'a>(alloc: Global) -> Result<Command<'a>, AllocError>
             "The filter files before the change, in order of installation",
         ))?
         .arg(files(alloc, "new", "The filter files after the change"))?
-        .arg(budget(alloc))?
-        .arg(workers(alloc))?
+        .arg(nodes(alloc))?
         .arg(same_switch(alloc))?
         .arg(rows(alloc))?
         .arg(only(alloc))?
         .arg(calls(alloc))?
-        .arg(leaves(alloc))?
         .arg(names(alloc))?
         .arg(json(alloc))?
-        .arg(progress(alloc))?
         .arg(quiet(alloc))?
         .arg(explain(alloc))
 }
@@ -129,13 +126,11 @@ fn list<'a>(alloc: Global) -> Result<Command<'a>, AllocError>
 {
     Command::new(alloc, "list")
         .about("List for all inputs what a stack of filters answers")
-        .arg(budget(alloc))?
-        .arg(workers(alloc))?
-        .arg(leaves(alloc))?
+        .arg(nodes(alloc))?
         .arg(names(alloc))?
         .arg(calls(alloc))?
+        .arg(digest(alloc))?
         .arg(json(alloc))?
-        .arg(progress(alloc))?
         .arg(quiet(alloc))?
         .arg(explain(alloc))?
         .arg(filters(alloc))
@@ -147,10 +142,8 @@ fn needed<'a>(alloc: Global) -> Result<Command<'a>, AllocError>
 {
     Command::new(alloc, "needed")
         .about("Tell for each filter of a stack whether more gets through without it")
-        .arg(budget(alloc))?
-        .arg(workers(alloc))?
+        .arg(nodes(alloc))?
         .arg(json(alloc))?
-        .arg(progress(alloc))?
         .arg(quiet(alloc))?
         .arg(explain(alloc))?
         .arg(filters(alloc))

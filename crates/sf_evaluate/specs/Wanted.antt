@@ -1,4 +1,4 @@
--- The calls that `list` and `compare` are asked to tell one by one, and which rows of a comparison.
+-- The calls that `list` and `compare` are asked to tell one by one, which rows of a comparison, and the digest of rows.
 use Rattle.std.specs.Prelude.{Bool, true, false, ◌&&◌, ◌||◌, ◌==◌, not, List, [], codes, count_by, is_some, Option, Some, None, option_map}
 use Rattle.std.specs.List.{list_all, list_any}
 use Rattle.std.specs.Option.{option_map_or}
@@ -33,17 +33,23 @@ abbrev pub is_relation : Text → Bool
 is_relation text = bytes_eq text (codes "looser") ||
     (bytes_eq text (codes "tighter") || bytes_eq text (codes "different"))
 
--- the rows of a comparison are asked for
-abbrev pub has_rows : List Row → Bool
-has_rows rows = bytes_eq (text_of (codes "rows") rows) (codes "true")
+-- a switch is given
+abbrev pub is_switched_on : Text → List Row → Bool
+is_switched_on name rows = bytes_eq (text_of name rows) (codes "true")
 
 -- what is said of the rows of a comparison needs rows
 abbrev pub has_rows_if_needed : List Row → Bool
-has_rows_if_needed rows = has_rows rows || not (is_given (codes "calls") rows || is_given (codes "only") rows)
+has_rows_if_needed rows =
+    is_switched_on (codes "rows") rows || not (is_given (codes "calls") rows || is_given (codes "only") rows)
 
 -- what is said of the rows of a comparison needs rows, and names a relation
 abbrev pub rows_fit : List Row → Bool
 rows_fit rows = has_rows_if_needed rows && option_map_or is_relation (first_of (codes "only") rows) true
+
+-- a digest is that of all rows, each by itself: it goes without names, calls and JSON
+abbrev pub digest_fits : List Row → Bool
+digest_fits rows = not (is_switched_on (codes "digest") rows) || not (has_file_of_names rows
+    || (is_given (codes "calls") rows || is_switched_on (codes "json") rows))
 
 -- some set has a call with this name
 abbrev pub is_known_call : List NamesData → Text → Bool

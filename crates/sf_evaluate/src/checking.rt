@@ -68,7 +68,7 @@ pub fn print<O: Write>(text: &str, out: &mut O) -> Result<(), Fault>
 
 /// The input that 128 hexadecimal digits spell, in lower or upper case: two digits for each of the 64 bytes of
 /// `struct seccomp_data`, whose words are little-endian. `Input` where the text is anything else.
-pub fn input_of(text: &str) -> Result<Input, Fault>
+pub(crate) fn input_of(text: &str) -> Result<Input, Fault>
     ensures spelled { IfOk result (λ d. decode_sized text.now 64 ≡ Ok (input_bytes d)) }
     ensures refused { IfErr result (λ e. (e ≡ InputFault)
         × (IsOk (decode_sized text.now 64) → ⊥)) }

@@ -16,7 +16,7 @@ mod telling;
 mod texts;
 mod words;
 
-pub use checking::{CheckManner, Evaluation, Manner, check, evaluate, input_of, print};
+pub use checking::{CheckManner, Evaluation, Manner, check, evaluate, print};
 pub use explaining::Notes;
 pub use fault::Fault;
 pub use files::{
@@ -27,6 +27,6 @@ pub use profiling::profile;
 pub use telling::{tell, tell_fault, warn};
 pub use texts::why_text;
 pub use words::{
-    asked_input, calls_fit, eval_words_fit, known_calls, numbers_fit, profile_words_fit, rows_fit,
-    tell_wrong_words,
+    asked_input, calls_fit, digest_fits, eval_words_fit, known_calls, numbers_fit,
+    profile_words_fit, rows_fit, tell_wrong_words,
 };

@@ -18,18 +18,34 @@ use std::io::Write;
 /// most 20 digits each.
 const LINE: usize = 96;
 
-/// The exit status of a fault. It is 3 where the filters, a policy, a profile, a file of names, the file of `--accept`,
-/// the input, or the name of a call or of a set of calls is refused. It is 5 where reading, writing or memory fails:
-/// these faults have the numbers from 50.
+/// The number of `TooLarge`.
+const TOO_LARGE: u16 = 32;
+
+/// The exit status of a fault. It is 2 for `TooLarge`: nothing is wrong, but more nodes are needed than are allowed. It
+/// is 3 where the filters, a policy, a profile, a file of names, the file of `--accept`, the input, or the name of a
+/// call or of a set of calls is refused. It is 5 where reading, writing or memory fails: these faults have the numbers
+/// from 50.
 fn status_of(fault: &Fault) -> u8
     ensures { result ≡ fault_status (fault_number fault.now) }
 {
-    if fault.number() < 50 { 3 } else { 5 }
+    let number = fault.number();
+    if number == TOO_LARGE {
+        2
+    } else if number < 50 {
+        3
+    } else {
+        5
+    }
 }
 
-/// The line of a fault: `error`, its number, its name, and its place where it has one.
+/// The line of a fault: `error`, its number, its name, and its place where it has one. That of `TooLarge` is its text
+/// alone, a sentence.
 fn line_of(fault: &Fault) -> InlineText<LINE> {
-    InlineText::of(format_args!("error {fault}\n"))
+    if fault.number() == TOO_LARGE {
+        InlineText::of(format_args!("{fault}\n"))
+    } else {
+        InlineText::of(format_args!("error {fault}\n"))
+    }
 }
 
 /// The line of a fault in one of several policies, or in that of the control. `policy` says which one it is, such as

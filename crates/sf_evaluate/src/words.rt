@@ -10,4 +10,4 @@ pub use asking::{asked_input, eval_words_fit, numbers_fit};
 pub use misfits::tell_wrong_words;
 pub use settings::profile_words_fit;
 pub(crate) use settings::{is_among, settings_of};
-pub use wanted::{calls_fit, known_calls, rows_fit};
+pub use wanted::{calls_fit, digest_fits, known_calls, rows_fit};

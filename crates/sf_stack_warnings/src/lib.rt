@@ -7,5 +7,5 @@ mod passing;
 mod texts;
 
 pub use errno::zero_errors;
-pub use passing::lets_none_through;
-pub use texts::{warnings_of_both, warnings_of_stack};
+pub use passing::{lets_none_through, may_let_through};
+pub use texts::warnings_of_stack;

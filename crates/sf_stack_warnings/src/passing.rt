@@ -8,7 +8,7 @@ use sf_run::Action;
 
 /// Whether a call may get through by an action: by ALLOW and LOG it does, and by TRACE and USER_NOTIF another process
 /// decides.
-pub(crate) fn may_let_through(action: Action) -> bool
+pub fn may_let_through(action: Action) -> bool
     ensures { result ≡ may_let_through action }
 {
     matches!(

@@ -2,7 +2,7 @@
 
 use super::asking::{has_names, is_given};
 use super::settings::wrong_word_text;
-use super::wanted::{calls_fit, push_wrong_calls, push_wrong_rows};
+use super::wanted::{calls_fit, digest_fits, push_wrong_calls, push_wrong_digest, push_wrong_rows};
 use crate::fault::Fault;
 use clap::ArgMatches;
 use sf_calls::{are_arguments, is_number};
@@ -173,14 +173,17 @@ fn misfit_text(alloc: Global, found: &ArgMatches<'_>) -> Result<String, AllocErr
 }
 
 /// The lines that say what is wrong with the words of `list` or `compare`: with `--calls` where `calls_fit` is false,
-/// else with the options of `compare` about rows. The last line points to `--help`. The caller has seen that
-/// `calls_fit` or `rows_fit` is false. An error where an allocation is refused.
+/// else with `--digest` where `digest_fits` is false, else with the options of `compare` about rows. The last line
+/// points to `--help`. The caller has seen that one of these is false, or `rows_fit`. An error where an allocation is
+/// refused.
 fn wrong_rows_text(alloc: Global, found: &ArgMatches<'_>) -> Result<String, AllocError> {
     let mut text = String::new(alloc);
-    if calls_fit(found) {
-        push_wrong_rows(&mut text, found)?;
-    } else {
+    if !calls_fit(found) {
         push_wrong_calls(&mut text, found)?;
+    } else if !digest_fits(found) {
+        push_wrong_digest(&mut text)?;
+    } else {
+        push_wrong_rows(&mut text, found)?;
     }
     text.push_str("\nFor more information, try '--help'.\n")?;
     Ok(text)

@@ -1,4 +1,5 @@
-//! The calls that `list` and `compare` are asked to show one by one, and which rows `compare` is asked to show.
+//! The calls that `list` and `compare` are asked to show one by one, which rows `compare` is asked to show, and the
+//! digest of the rows of `list`.
 
 ghost use Rattle.std.specs.Prelude.{◌≡◌, ◌==◌, ◌&&◌, ◌⊎◌, IfErr, IfOk, None, codes, false, true, count_by, length, map, option_map, slice_get};
 ghost use Rattle.std.specs.List.{list_all};
@@ -7,7 +8,7 @@ ghost use Rattle.std.specs.Option.{option_map_or};
 ghost use Rattle.clap.specs.Words.{first_of, found_of, rows_of};
 ghost use Rattle.sf_calls.specs.Numbers.{comma_parts};
 ghost use Rattle.sf_policy.specs.declared.fault.Fault.TheVariants.{Memory as MemoryFault, UnknownName as UnknownNameFault};
-ghost use Rattle.sf_evaluate.specs.Wanted.{are_known, calls_asked, calls_fit, has_rows_if_needed, is_known_call, is_wanted_once, is_relation, names_in_text, rows_fit};
+ghost use Rattle.sf_evaluate.specs.Wanted.{are_known, calls_asked, calls_fit, digest_fits, has_rows_if_needed, is_known_call, is_wanted_once, is_relation, names_in_text, rows_fit};
 
 use super::asking::{has_names, is_given};
 use crate::explaining::Notes;
@@ -84,6 +85,15 @@ pub fn rows_fit(found: &ArgMatches<'_>) -> bool
     ensures { result ≡ rows_fit (rows_of (found_of found.now)) }
 {
     has_rows_if_needed(found) && only_fits(found)
+}
+
+/// Whether `--digest` isn't given, or is given without `--names`, `--calls` and `--json`. (A switch that is given has
+/// the text `true`.)
+pub fn digest_fits(found: &ArgMatches<'_>) -> bool
+    ensures { result ≡ digest_fits (rows_of (found_of found.now)) }
+{
+    text_of(found, "digest") != "true"
+        || !(has_names(found) || is_given(found, "calls") || text_of(found, "json") == "true")
 }
 
 /// The names in a text, with commas between them; an empty list where the text is empty. An error where an allocation
@@ -201,6 +211,14 @@ pub(crate) fn push_wrong_calls(
     write!(text, "error: {name:?} is no name of a call, for --calls\n")?;
     text.push_str(
         "  For all calls, let another option follow --calls, or give it behind the filters.\n",
+    )
+}
+
+/// Adds the line that says what is wrong with `--digest`. The caller has seen that `digest_fits` is false. An error
+/// where an allocation is refused; a part of the line may stand in the text then.
+pub(crate) fn push_wrong_digest(text: &mut String) -> Result<(), AllocError> {
+    text.push_str(
+        "error: --digest is that of all rows: give it without --names, --calls and --json\n",
     )
 }
 

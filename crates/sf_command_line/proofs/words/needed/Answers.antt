@@ -8,18 +8,14 @@ pub returns : goal.returns
 returns c =
     let bare : app_of c.about.result ≡ new_app (codes "needed") =
     ap app_of_fields c.about.ensures ∙ c.new.ensures.app in
-    let with_budget = c.in_ok-arg.ensures.shape c.budget.ensures.own
-    ∙ ap₂ with_rule bare c.budget.ensures.rule in
-    let with_workers = c.in_ok-arg-2.ensures.shape c.workers.ensures.own
-    ∙ ap₂ with_rule with_budget c.workers.ensures.rule in
-    let with_json = c.in_ok-arg-3.ensures.shape c.json.ensures.own
-    ∙ ap₂ with_rule with_workers c.json.ensures.rule in
-    let with_progress = c.in_ok-arg-4.ensures.shape c.progress.ensures.own
-    ∙ ap₂ with_rule with_json c.progress.ensures.rule in
-    let with_quiet = c.in_ok-arg-5.ensures.shape c.quiet.ensures.own
-    ∙ ap₂ with_rule with_progress c.quiet.ensures.rule in
-    let with_explain = c.in_ok-arg-6.ensures.shape c.explain.ensures.own
+    let with_nodes = c.in_ok-arg.ensures.shape c.nodes.ensures.own
+    ∙ ap₂ with_rule bare c.nodes.ensures.rule in
+    let with_json = c.in_ok-arg-2.ensures.shape c.json.ensures.own
+    ∙ ap₂ with_rule with_nodes c.json.ensures.rule in
+    let with_quiet = c.in_ok-arg-3.ensures.shape c.quiet.ensures.own
+    ∙ ap₂ with_rule with_json c.quiet.ensures.rule in
+    let with_explain = c.in_ok-arg-4.ensures.shape c.explain.ensures.own
     ∙ ap₂ with_rule with_quiet c.explain.ensures.rule in
-    IfOk-weaker c.arg-7.result _ _ (λ r h. h.shape c.filters.ensures.own
+    IfOk-weaker c.arg-5.result _ _ (λ r h. h.shape c.filters.ensures.own
     ∙ ap₂ with_rule with_explain c.filters.ensures.rule)
-    c.arg-7.ensures
+    c.arg-5.ensures

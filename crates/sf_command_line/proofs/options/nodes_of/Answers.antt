@@ -2,10 +2,10 @@ use Rattle.std.proofs.Common.{codes, arith}
 use Rattle.std.specs.Str.Parse.{ParsesUnsigned, ExplainsUnsignedError, HasUnsignedDigitsIfOk}
 use Rattle.clap.specs.Words.{found_of}
 use Rattle.sf_command_line.proofs.CommandLineLemmas.{number_found}
-use Rattle.sf_command_line.proofs.options.leaves_of.Goals as goal
+use Rattle.sf_command_line.proofs.options.nodes_of.Goals as goal
 
 pub returns : goal.returns
 returns c = rw c.unwrap_or.ensures (number_found (λ bs r. ParsesUnsigned 32 10 bs r × ExplainsUnsignedError 10 bs r
     × HasUnsignedDigitsIfOk bs r)
-    32 1000000 20000 (found_of c.args.found.now) (codes "leaves") _
+    32 16000000 1000000 (found_of c.args.found.now) (codes "nodes") _
     (omega arith) c.get_one.ensures.none c.get_one.ensures.value (λ bs r g. g.0))
