@@ -1,10 +1,7 @@
 pub mod TextLemmas
-pub mod PartLemmas
-pub mod SpanLemmas
-pub mod ForkLemmas
+pub mod InputLemmas
+pub mod RangeLemmas
+pub mod NamedLemmas
 pub mod RowLemmas
-pub mod CallLemmas
-pub mod GapLemmas
-pub mod UnnamedLemmas
-pub mod PairLemmas
-pub mod OrderLemmas
+pub mod AnswerLemmas
+pub mod OtherLemmas

@@ -1,60 +1,69 @@
--- Words with something between them, added one after the other.
-use Rattle.std.proofs.lemmas.Grind.{common_steps}
-use Rattle.std.proofs.Common.{arith, ◌≡◌, ℕ, ◌<◌, ◌+◌, false, List, [], ◌∷◌, ◌++◌, append_assoc, append-nil, refl, sym, drop, get_or, length}
-use Rattle.std.specs.Prelude.{codes}
+-- Texts with something between them, added one after the other.
+use Rattle.std.proofs.Common.{◌≡◌, ℕ, ◌<◌, ◌+◌, ◌||◌, Bool, true, false, List, [], ◌∷◌, ◌++◌, append_assoc, refl, sym, ap, ◌∙◌, drop, get_or, length, map}
+use Rattle.std.specs.Prelude.{codes, not}
+use Rattle.std.specs.Borrow.{Bor}
+use Rattle.std.specs.List.{list_any}
 use Rattle.std.proofs.lemmas.List.{drop_more}
-use Rattle.sf_rows.specs.declared.conditions.Style.{Style}
-use Rattle.sf_rows.specs.declared.parts.Span.{Span}
-use Rattle.sf_rows.specs.Rows.{ConditionData}
-use Rattle.sf_rows.specs.Calls.{further_words, is_on_call}
-use Rattle.sf_rows.specs.Lines.{condition_words, conditions_words, labels_words, span_words, spans_words}
+use Rattle.std.proofs.lemmas.Bool.{cond-true, cond-false}
+use Rattle.sf_parts.specs.Rows.{ConditionData}
+use Rattle.sf_rows.specs.Lines.{condition_words, further, is_on, joined}
 
--- spans after these words, if there are any
-abbrev pub spans_after_words : Style → List ℕ → List Span → List ℕ
-spans_after_words style before [] = []
-spans_after_words style before (s ∷ ss) = before ++ spans_words style (s ∷ ss)
+-- one more text was added, before those that are left
+joined-first : (next text before middle after more : List ℕ) (left : List (List ℕ)) → middle ≡ text ++ before
+    → after ≡ middle ++ more → after ++ joined next next left ≡ text ++ joined before next (more ∷ left)
+joined-first next text before middle after more left p q =
+    ap (λ (l : List ℕ). l ++ joined next next left) (q ∙ ap (λ (l : List ℕ). l ++ more) p)
+    ∙ append_assoc (text ++ before) more (joined next next left)
+    ∙ append_assoc text before (more ++ joined next next left)
 
-spans_first : (style : Style) (s : Span) (ss : List Span)
-    → spans_words style (s ∷ ss) ≡ span_words style s ++ spans_after_words style (codes ",") ss
-spans_first style s [] = sym (append-nil (span_words style s))
-spans_first style s (t ∷ ss) = refl
+-- an element of a list, and those after it
+first-left : {X : Type 0} (xs : List X) (i : ℕ) (x : X) → i < length xs → x ≡ get_or xs i x
+    → x ∷ drop (i + 1) xs ≡ drop i xs
+first-left {X} xs i x lt is = ap (λ (y : X). y ∷ drop (i + 1) xs) is ∙ sym (drop_more xs i x lt)
 
--- one more span was added
-pub spans_more : (style : Style) (text before middle after whole : List ℕ) (ss : List Span) (i : ℕ) (d : Span)
-    → i < length ss → middle ≡ text ++ before → after ≡ middle ++ span_words style (get_or ss i d)
-    → text ++ spans_after_words style before (drop i ss) ≡ whole
-    → after ++ spans_after_words style (codes ",") (drop (i + 1) ss) ≡ whole
-spans_more style text before middle after whole ss i d lt p q h = search (arith, append_assoc, spans_first, drop_more)
+-- one more element was shown
+pub joined-more : {X : Type 0} (f : X → List ℕ) (next text before middle after whole : List ℕ) (xs : List X) (i : ℕ)
+    (d x : X) → i < length xs → x ≡ get_or xs i d → middle ≡ text ++ before → after ≡ middle ++ f x
+    → text ++ joined before next (map f (drop i xs)) ≡ whole
+    → after ++ joined next next (map f (drop (i + 1) xs)) ≡ whole
+joined-more {X} f next text before middle after whole xs i d x lt is p q h =
+    joined-first next text before middle after (f x) (map f (drop (i + 1) xs)) p q
+    ∙ ap (λ (ys : List X). text ++ joined before next (map f ys))
+    (ap (λ (y : X). y ∷ drop (i + 1) xs) is ∙ sym (drop_more xs i d lt))
+    ∙ h
 
--- labels after these words, if there are any
-abbrev pub labels_after_words : List (List ℕ) → List ℕ → List ℕ → List ℕ
-labels_after_words words before [] = []
-labels_after_words words before (l ∷ ls) = before ++ labels_words words (l ∷ ls)
+-- a condition that stands behind `arch` or `nr`
+abbrev pub is_placed : ConditionData → Bool
+is_placed c = is_on 18 c || is_on 19 c
 
-labels_first : (words : List (List ℕ)) (l : ℕ) (ls : List ℕ)
-    → labels_words words (l ∷ ls) ≡ get_or words l [] ++ labels_after_words words (codes " | ") ls
-labels_first words l [] = sym (append-nil (get_or words l []))
-labels_first words l (m ∷ ls) = refl
+-- one more condition was shown
+pub further-shown : (text before middle after whole : List ℕ) (cs : List ConditionData) (i : ℕ) (c : ConditionData)
+    → i < length cs → c ≡ get_or cs i c → is_placed c ≡ false → middle ≡ text ++ before
+    → after ≡ middle ++ condition_words c
+    → text ++ joined before (codes " and ") (map condition_words (further (drop i cs))) ≡ whole
+    → after ++ joined (codes " and ") (codes " and ") (map condition_words (further (drop (i + 1) cs))) ≡ whole
+further-shown text before middle after whole cs i c lt is off p q h =
+    let left = further (drop (i + 1) cs) in
+    let kept : further (c ∷ drop (i + 1) cs) ≡ c ∷ left = cond-true (not (is_placed c)) (c ∷ left) left (ap not off) in
+    joined-first (codes " and ") text before middle after (condition_words c) (map condition_words left) p q
+    ∙ ap (λ (ys : List ConditionData). text ++ joined before (codes " and ") (map condition_words ys))
+    (sym kept ∙ ap further (first-left cs i c lt is))
+    ∙ h
 
--- the words of one more label were added
-pub labels_more : (words : List (List ℕ)) (text before middle after whole : List ℕ) (ls : List ℕ) (i d : ℕ)
-    → i < length ls → middle ≡ text ++ before → after ≡ middle ++ get_or words (get_or ls i d) []
-    → text ++ labels_after_words words before (drop i ls) ≡ whole
-    → after ++ labels_after_words words (codes " | ") (drop (i + 1) ls) ≡ whole
-labels_more words text before middle after whole ls i d lt p q h = search (arith, append_assoc, labels_first, drop_more)
+-- one more condition was passed over
+pub further-placed : (text before whole : List ℕ) (cs : List ConditionData) (i : ℕ) (c : ConditionData)
+    → i < length cs → c ≡ get_or cs i c → is_placed c ≡ true
+    → text ++ joined before (codes " and ") (map condition_words (further (drop i cs))) ≡ whole
+    → text ++ joined before (codes " and ") (map condition_words (further (drop (i + 1) cs))) ≡ whole
+further-placed text before whole cs i c lt is on h =
+    let left = further (drop (i + 1) cs) in
+    let passed : further (c ∷ drop (i + 1) cs) ≡ left = cond-false (not (is_placed c)) (c ∷ left) left (ap not on) in
+    ap (λ (ys : List ConditionData). text ++ joined before (codes " and ") (map condition_words ys))
+    (sym passed ∙ ap further (first-left cs i c lt is))
+    ∙ h
 
--- one more condition was added
-pub conditions_more : (text before middle after whole : List ℕ) (cs : List ConditionData) (i : ℕ) (d : ConditionData)
-    → i < length cs → middle ≡ text ++ before → after ≡ middle ++ condition_words (get_or cs i d)
-    → text ++ conditions_words before (drop i cs) ≡ whole
-    → after ++ conditions_words (codes " and ") (drop (i + 1) cs) ≡ whole
-conditions_more text before middle after whole cs i d lt p q h = grind (arith, common_steps, append_assoc, drop_more)
-
--- one more condition was added, which is one on another word than the call's number and its architecture
-pub further_more : (text before middle after whole : List ℕ) (cs : List ConditionData) (i : ℕ) (d : ConditionData)
-    → i < length cs → is_on_call (get_or cs i d) ≡ false → middle ≡ text ++ before
-    → after ≡ middle ++ condition_words (get_or cs i d)
-    → text ++ further_words before (drop i cs) ≡ whole
-    → after ++ further_words (codes " and ") (drop (i + 1) cs) ≡ whole
-further_more text before middle after whole cs i d lt off p q h =
-    grind (arith, common_steps, append_assoc, drop_more)
+-- one of some texts, over the texts themselves
+pub any_now : {X : Type 0} (p : X → Bool) (bs : List (Bor X))
+    → list_any (λ b. p b.now) bs ≡ list_any p (map (λ b. b.now) bs)
+any_now p [] = refl
+any_now p (b ∷ bs) = ap (λ (t : Bool). p b.now || t) (any_now p bs)

@@ -1,70 +1,55 @@
--- Rows as JSON. Each field is always there: one that doesn't apply is null.
-use Rattle.std.specs.Prelude.{ℕ, not, List, [], ◌∷◌, codes, map, slice_index_or, Option, Some, None}
-use Rattle.std.specs.List.{filter}
-use Rattle.serde_json.specs.Data.{Data, null, string}
+-- Rows as JSON.
+use Rattle.std.specs.Prelude.{ℕ, List, [], ◌∷◌, codes, map, Option, Some, None}
+use Rattle.serde_json.specs.Data.{Data, boolean, null, string}
 use Rattle.sf_names.specs.Names.{NamesData}
-use Rattle.sf_json.specs.Documents.{count, fields, list_of}
-use Rattle.sf_rows.specs.Parts.{PartData}
-use Rattle.sf_rows.specs.Rows.{ConditionData, RowData}
-use Rattle.sf_rows.specs.Lines.{arch_words, condition_words, nr_words, row_names}
-use Rattle.sf_rows.specs.Calls.{CallRowData, call_rows, is_on_call}
-use Rattle.sf_rows.specs.Written.{other_rows, written_count, written_undetermined}
+use Rattle.sf_json.specs.Documents.{answer_document, count, fields, list_of, with_field}
+use Rattle.sf_behaviour.specs.Answering.{answer_with}
+use Rattle.sf_parts.specs.declared.form.Span.{Span}
+use Rattle.sf_parts.specs.Rows.{ConditionData, RowData}
+use Rattle.sf_rows.specs.declared.subject.Subject.{Subject}
+use Rattle.sf_rows.specs.declared.subject.Subject.TheVariants.{Stack, Change}
+use Rattle.sf_rows.specs.Rows.{before_of, after_of}
+use Rattle.sf_rows.specs.Shown.{CallRowData, ShownData, shown_count}
+use Rattle.sf_rows.specs.Lines.{row_names, word_words}
 
--- the architectures, in the words of a row's line; null where all are meant
-abbrev pub arch_document : Option PartData → Data
-arch_document None = null
-arch_document (Some p) = string (arch_words (Some p))
+-- numbers from a first one to a last one
+abbrev pub range_document : Span → Data
+range_document s = list_of (count s.first ∷ count s.last ∷ [])
 
--- the call numbers, in the words of a row's line; null where all are meant
-abbrev pub nr_document : Option PartData → Data
-nr_document None = null
-nr_document (Some p) = string (nr_words (Some p))
-
--- a condition, in the words of a row's line
+-- a condition: on these bits of this word an input has a number of these ranges, or, with `not`, none of them
 abbrev pub condition_document : ConditionData → Data
-condition_document c = string (condition_words c)
+condition_document c = fields (
+    (codes "mask", count c.form.mask)
+    ∷ (codes "not", boolean c.form.without)
+    ∷ (codes "ranges", list_of (map range_document c.form.spans))
+    ∷ (codes "word", string (word_words c.word)) ∷ [])
 
--- what a label stands for: the answer at its place; null behind all places
-abbrev pub label_document : List Data → ℕ → Data
-label_document answers label = slice_index_or answers label null
+-- an object, and what the number of a row says: the answer, or the old one and the new one
+abbrev pub with_answers : Subject → ℕ → Data → Data
+with_answers Stack n d = with_field (codes "answer") (answer_document (answer_with n)) d
+with_answers Change n d = with_field (codes "new") (answer_document (after_of n))
+    (with_field (codes "old") (answer_document (before_of n)) d)
 
--- a row: its architectures, call numbers and further conditions, its answers, and the names of the calls in it
-abbrev pub row_document : List NamesData → List Data → RowData → Data
-row_document sets answers r = fields (
-    (codes "answers", list_of (map (label_document answers) r.labels))
-    ∷ (codes "arch", arch_document r.scope.arch)
-    ∷ (codes "calls", list_of (map string (row_names sets r.scope)))
-    ∷ (codes "conditions", list_of (map condition_document r.scope.conditions))
-    ∷ (codes "nr", nr_document r.scope.nr) ∷ [])
+-- a row: its conditions, what its number says, and the names of the calls in it
+abbrev pub row_document : Subject → List NamesData → RowData → Data
+row_document s sets r = with_answers s r.number (fields (
+    (codes "calls", list_of (map string (row_names sets r.conditions)))
+    ∷ (codes "conditions", list_of (map condition_document r.conditions)) ∷ []))
 
--- those conditions that are on other words than the call's number and its architecture
-abbrev pub further_of : List ConditionData → List ConditionData
-further_of cs = filter (λ (c : ConditionData). not (is_on_call c)) cs
+-- a row of a call: the set and the name of the call, the row's conditions, and what its number says
+abbrev pub call_row_document : Subject → CallRowData → Data
+call_row_document s r = with_answers s r.row.number (fields (
+    (codes "call", string r.name)
+    ∷ (codes "conditions", list_of (map condition_document r.row.conditions))
+    ∷ (codes "set", string r.set) ∷ []))
 
--- a row of a call: the set and the name of the call, the conditions on other words, and the answers
-abbrev pub call_row_document : List Data → CallRowData → Data
-call_row_document answers r = fields (
-    (codes "answers", list_of (map (label_document answers) r.row.labels))
-    ∷ (codes "call", string r.name)
-    ∷ (codes "conditions", list_of (map condition_document (further_of r.row.scope.conditions)))
-    ∷ (codes "set", string r.set) ∷ [])
+-- the rows that are shown call by call; null where none are
+abbrev pub calls_document : Subject → Option (List CallRowData) → Data
+calls_document s None = null
+calls_document s (Some rows) = list_of (map (call_row_document s) rows)
 
--- the rows of the calls that are asked for; null where rows aren't told call by call
-abbrev pub calls_document : List NamesData → List Data → Option (List (List ℕ)) → List RowData → Data
-calls_document sets answers None rows = null
-calls_document sets answers (Some wanted) rows = list_of (map (call_row_document answers) (call_rows wanted rows sets))
-
--- the rows that are told by themselves: all; where rows are told call by call, those that are told beside these
-abbrev pub single_rows : List NamesData → Option (List (List ℕ)) → List RowData → List RowData
-single_rows sets None rows = rows
-single_rows sets (Some wanted) rows = other_rows wanted sets rows
-
--- the rows that are told by themselves, as JSON
-abbrev pub rows_document : List NamesData → List Data → Option (List (List ℕ)) → List RowData → Data
-rows_document sets answers calls rows = list_of (map (row_document sets answers) (single_rows sets calls rows))
-
--- how many rows are told, those of calls among them, and how many of them have several answers
-abbrev pub total_document : List NamesData → Option (List (List ℕ)) → List RowData → Data
-total_document sets calls rows = fields (
-    (codes "rows", count (written_count sets calls rows))
-    ∷ (codes "undetermined", count (written_undetermined sets calls rows)) ∷ [])
+-- an object, and what is shown: rows of calls, rows, and how many there are
+abbrev pub with_rows : Subject → List NamesData → ShownData → Data → Data
+with_rows s sets shown d = with_field (codes "total") (fields ((codes "rows", count (shown_count shown)) ∷ []))
+    (with_field (codes "rows") (list_of (map (row_document s sets) shown.rows))
+    (with_field (codes "calls") (calls_document s shown.calls) d))

@@ -1,12 +1,6 @@
-pub mod Parts
+pub mod Trees
+pub mod TreeLaws
 pub mod Rows
-pub mod InOrder
-pub mod InOrderLaws
-pub mod Answers
-pub mod Pairs
-pub mod PairsLaws
+pub mod Shown
 pub mod Lines
-pub mod Calls
-pub mod Unnamed
-pub mod Written
 pub mod Documents

@@ -1,95 +1,46 @@
--- The rows of a picture: which inputs lie in each, and the labels of its answers.
-use Rattle.std.specs.Prelude.{ℕ, zero, suc, ◌==◌, ◌&&◌, ◌||◌, nat_le, not, Bool, true, false, List, [], ◌∷◌, ◌++◌, length, slice_index, slice_index_or, Option, Some, None, if◌then◌else◌}
-use Rattle.std.specs.List.{flat_map}
+-- The rows of a tree: which inputs lie in each, and what its number says of them.
+use Rattle.std.specs.Prelude.{◌≡◌, ℕ, ◌-◌, ◌/◌, ◌%◌, ◌^◌, Bool, List, [], slice_index}
+use Rattle.std.specs.List.{list_all}
 use Rattle.sf_insn.specs.declared.input.Input.{Input}
-use Rattle.sf_picture.specs.declared.axis.Axis.{Axis}
-use Rattle.sf_picture.specs.declared.picture.Branch.{Branch}
-use Rattle.sf_picture.specs.declared.picture.Branch.TheVariants.{Leaf, Fork}
-use Rattle.sf_picture.specs.PictureData.{ForkData, PictureData}
-use Rattle.sf_picture.specs.Pictures.{fork_at, number_on}
-use Rattle.sf_rows.specs.declared.parts.Span.{Span}
-use Rattle.sf_rows.specs.Parts.{PartData, fork_parts, run_parts}
+use Rattle.sf_run.specs.declared.action.Answer.{Answer}
+use Rattle.sf_diagram.specs.Trees.{Tree}
+use Rattle.sf_behaviour.specs.InputBits.{words_in_order}
+use Rattle.sf_behaviour.specs.Answering.{answer_with}
+use Rattle.sf_parts.specs.Words.{behind}
+use Rattle.sf_parts.specs.Parts.{form_has}
+use Rattle.sf_parts.specs.Rows.{ConditionData, RowData, rows_under}
+use Rattle.sf_names.specs.Names.{CallData, NamesData}
+use Rattle.sf_rows.specs.declared.subject.Subject.{Subject}
+use Rattle.sf_rows.specs.declared.subject.Subject.TheVariants.{Stack, Change}
 
--- a condition on inputs: their numbers of this axis are in this part
-pub record ConditionData : Type 0 where
-  pub axis : Axis
-  pub part : PartData
+-- the number that an input has in a word of trees: of these the words 18 to 33 are the input's
+abbrev pub tree_word : Input → ℕ → ℕ
+tree_word d word = slice_index d.words (slice_index words_in_order (word - 18))
 
--- Which inputs a row is about: those with an architecture of a part, with a call number of a part, and that meet
--- further conditions. Where no part is given, all architectures or all call numbers are meant.
-pub record ScopeData : Type 0 where
-  pub arch : Option PartData
-  pub nr : Option PartData
-  pub conditions : List ConditionData
+-- an input lies in a row: in each word on which the row has a condition it has one of the numbers that are meant
+abbrev pub lies_in : Input → RowData → Bool
+lies_in d r = list_all (λ (c : ConditionData). form_has c.form (tree_word d c.word)) r.conditions
 
--- a row: which inputs it is about, and the labels of its answers
-pub record RowData : Type 0 where
-  pub scope : ScopeData
-  pub labels : List ℕ
+-- an input is one of a call of a set
+abbrev pub IsOfCall : NamesData → CallData → Input → Type 0
+IsOfCall n c d = (slice_index d.words 1 ≡ n.arch) × (slice_index d.words 0 ≡ c.number)
 
--- all inputs
-abbrev pub whole_scope : ScopeData
-whole_scope = record { arch = None; nr = None; conditions = [] }
+-- the answers of the old stack and of the new one, by the number that stands for both
+abbrev pub before_of : ℕ → Answer
+before_of n = answer_with (n / 2 ^ 32)
 
--- whether an axis is the whole of this word
-abbrev pub is_of_whole_word : Axis → ℕ → Bool
-is_of_whole_word a word = (a.word == word) && (a.mask == 4294967295)
+abbrev pub after_of : ℕ → Answer
+after_of n = answer_with (n % 2 ^ 32)
 
--- whether no part of a word's numbers is given: all are meant
-abbrev pub is_any : Option PartData → Bool
-is_any None = true
-is_any (Some p) = false
+-- the number whose inputs no row shows: for a stack no answer has it; of a change it says that nothing changes
+abbrev pub hidden_number : Subject → ℕ
+hidden_number Stack = 2 ^ 32
+hidden_number Change = 0
 
--- The scope of those inputs of a scope whose numbers of an axis are in a part. The part becomes that of the
--- architectures or of the call numbers, if the axis is this whole word and no part is given yet; else it is one more
--- condition.
-abbrev pub scope_within : ScopeData → Axis → PartData → ScopeData
-scope_within scope a p =
-    if is_of_whole_word a 1 && is_any scope.arch then record scope { arch = Some p } else
-    if is_of_whole_word a 0 && is_any scope.nr then record scope { nr = Some p } else
-    record scope { conditions = scope.conditions ++ record { axis = a; part = p } ∷ [] }
+-- the rows of a tree; those of one architecture stand by the numbers of calls
+abbrev pub rows_of : Subject → Tree → List RowData
+rows_of s t = rows_under 19 (hidden_number s) 16 18 t []
 
--- the parts of a fork; on the axis of call numbers each run is a part by itself
-abbrev pub parts_at : ForkData → List PartData
-parts_at f = if is_of_whole_word f.axis 0 then run_parts 0 f.runs else fork_parts f.runs
-
--- the rows from a branch on, through at most so many forks
-abbrev pub rows_along : PictureData → ℕ → Branch → ScopeData → List RowData
-rows_along p n (Leaf i) scope = record { scope = scope; labels = slice_index_or p.leaves i [] } ∷ []
-rows_along p zero (Fork i) scope = []
-rows_along p (suc n) (Fork i) scope =
-    flat_map (λ (part : PartData). rows_along p n part.next (scope_within scope (fork_at p.forks i).axis part))
-    (parts_at (fork_at p.forks i))
-
--- all rows of a picture
-abbrev pub rows_of : PictureData → List RowData
-rows_of p = rows_along p (length p.forks) p.root whole_scope
-
--- the rows that are listed: all rows of the picture, if there is one
-abbrev pub listed_rows : Option PictureData → List RowData
-listed_rows None = []
-listed_rows (Some p) = rows_of p
-
--- whether a number is one of spans
-abbrev pub is_in_spans : List Span → ℕ → Bool
-is_in_spans [] n = false
-is_in_spans (s ∷ ss) n = (nat_le s.first n && nat_le n s.last) || is_in_spans ss n
-
--- whether a number is one of a part
-abbrev pub is_in_part : PartData → ℕ → Bool
-is_in_part p n = if p.is_rest then not (is_in_spans p.spans n) else is_in_spans p.spans n
-
--- whether a number is one of a part, or all are meant
-abbrev pub meets_part : Option PartData → ℕ → Bool
-meets_part None n = true
-meets_part (Some p) n = is_in_part p n
-
--- whether an input has its number in each part
-abbrev pub meets_all : List ConditionData → Input → Bool
-meets_all [] d = true
-meets_all (c ∷ cs) d = is_in_part c.part (number_on c.axis d) && meets_all cs d
-
--- whether a row with this scope is about an input: it lies in the row
-abbrev pub is_in_scope : ScopeData → Input → Bool
-is_in_scope scope d = meets_part scope.arch (slice_index d.words 1) && (meets_part scope.nr (slice_index d.words 0)
-    && meets_all scope.conditions d)
+-- the rows of a call: those of what comes behind its architecture and its number
+abbrev pub rows_of_call : Subject → Tree → (arch number : ℕ) → List RowData
+rows_of_call s t arch number = rows_under 19 (hidden_number s) 14 20 (behind 19 (behind 18 t arch) number) []

@@ -1,140 +1,146 @@
-//! Rows, shown call by call: for each call that has a name the rows that are about it.
+//! The rows of calls that have a name.
 //!
-//! Where a function here errs, an allocation was refused; a part of what it adds may have been added then.
+//! Where a function here that adds rows errs, some of them may have been added.
 
-ghost use Rattle.std.specs.Prelude.{◌≡◌, ◌++◌, IfOk, OnOk, count_by, map, string_bytes};
-ghost use Rattle.std.specs.List.{flat_map, list_all, list_any};
+ghost use Rattle.std.specs.Prelude.{◌≡◌, ◌≤◌, ◌<◌, ◌++◌, ◌==◌, IfOk, OnOk, length, map};
+ghost use Rattle.std.specs.Int.{bit_at};
+ghost use Rattle.std.specs.List.{flat_map, list_any};
 ghost use Rattle.std.specs.Str.{bytes_eq};
-ghost use Rattle.sf_names.specs.Names.{CallData};
-ghost use Rattle.sf_rows.specs.Calls.{call_row_line, call_meets, call_rows, is_about_call, is_on_call, is_wanted, number_on_axis, row_if_about, rows_if_wanted, rows_of_call, rows_of_set};
-ghost use Rattle.sf_rows.specs.Lines.{is_undetermined};
+ghost use Rattle.sf_diagram.specs.Stores.{IsLawfulStore, tree_at};
+ghost use Rattle.sf_parts.specs.Words.{behind};
+ghost use Rattle.sf_rows.specs.Rows.{rows_of_call};
+ghost use Rattle.sf_rows.specs.Shown.{call_row, call_rows, is_wanted, rows_if_wanted};
 
-use crate::conditions::push_conditions_beyond_call;
-use crate::lines::push_labels;
-use crate::parts::{has_part, meets_part};
-use crate::rows::{Condition, Row, Scope};
+use crate::subject::{Subject, hidden_number};
+use crate::words::{ARCH, NR};
+use sf_diagram::{Fault, Id, Node, Store};
 use sf_names::{Call, Names};
-use sf_picture::Axis;
+use sf_parts::{Row, rows_of};
 use std::alloc::{AllocError, Global};
 use std::marker::Model;
 
-/// A row that is about a call which has a name.
+/// A row of a call that has a name. All inputs of the call are meant that meet the row's conditions.
 #[derive(Drop)]
-pub(crate) struct CallRow<'a> {
+pub struct CallRow<'a> {
     /// The call's set.
     names: &'a Names,
     /// The call.
     call: &'a Call,
     /// The row.
-    row: &'a Row,
+    row: Row,
 }
 
 impl<'a> Model for CallRow<'a> {
-    ghost use Rattle.sf_rows.specs.Calls.{CallRowData, call_row};
+    ghost use Rattle.sf_rows.specs.Shown.{CallRowData, call_row};
 
     ghost Value = { CallRowData };
 
-    ghost view = { λ c. call_row c.names.now c.call.now c.row.now };
+    ghost view = { λ c. call_row c.names.now c.call.now c.row };
 }
 
 impl<'a> CallRow<'a> {
     /// The name of the call's set.
-    pub(crate) fn set(&self) -> &str
+    pub fn set(&self) -> &str
         ensures { result.now ≡ self.now.set }
     {
         self.names.set()
     }
 
     /// The name of the call.
-    pub(crate) fn name(&self) -> &str
+    pub fn name(&self) -> &str
         ensures { result.now ≡ self.now.name }
     {
         self.call.name()
     }
 
     /// The row.
-    pub(crate) fn row(&self) -> &Row
+    pub fn row(&self) -> &Row
         ensures { result.now ≡ self.now.row }
     {
-        self.row
-    }
-
-    /// Whether the row has several labels.
-    fn is_undetermined(&self) -> bool
-        ensures { result ≡ is_undetermined self.now.row }
-    {
-        self.row.labels().len() > 1
+        &self.row
     }
 }
 
-/// The number that all inputs of a call have on an axis of the word 0 or 1. The word 0 of the inputs is `number`, the
-/// call's number, and the word 1 is `arch`, its architecture. An axis of any other word is taken for one of the word 1.
-fn number_of_call(arch: u32, number: u32, axis: Axis) -> u32
-    ensures { result ≡ number_on_axis arch number axis }
-{
-    let word = if axis.word == 0 { number } else { arch };
-    word & axis.mask
+/// The diagram of which rows are.
+#[derive(Clone, Copy)]
+pub(crate) struct Source<'s> {
+    /// The store in which it stands.
+    pub(crate) store: &'s Store,
+    /// What rows show.
+    pub(crate) subject: Subject,
+    /// The diagram.
+    pub(crate) id: Id,
 }
 
-/// Whether the inputs of a call meet a condition on their number or their architecture. A condition on another word
-/// counts as met: some of the call's inputs may meet it.
-fn call_meets(arch: u32, number: u32, condition: &Condition) -> bool
-    ensures { result ≡ call_meets arch number condition.now }
+/// Whether a number has the bit of this weight: 0 for the lowest bit.
+pub(crate) fn has_bit(number: u32, bit: u32) -> bool
+    requires { bit < 32 }
+    ensures { result ≡ (bit_at number bit == 1) }
 {
-    !condition.is_on_call()
-        || has_part(
-            condition.part(),
-            number_of_call(arch, number, condition.axis()),
-        )
+    number >> bit & 1 == 1
 }
 
-/// Whether the inputs of a call meet each condition on their number or their architecture.
-fn call_meets_all(arch: u32, number: u32, conditions: &[Condition]) -> bool
-    ensures { result ≡ list_all (call_meets arch number) conditions.now }
+/// What comes behind a word where it has this number. The caller's condition: there is such a node.
+fn behind(store: &Store, word: u16, number: u32, id: Id) -> Id
+    requires { id < length store.now.trees }
+    ensures within { result < length store.now.trees }
+    ensures behind { tree_at store.now.trees result
+        ≡ behind word (tree_at store.now.trees id) number }
+    ensures lawful { IsLawfulStore store.now }
 {
-    conditions
-        .iter()
-        .all(|condition| call_meets(arch, number, condition))
+    match store.node(id) {
+        Node::Number(_) => id,
+        Node::Choice(variable, lower, higher) => {
+            if variable / 32 != word {
+                return id;
+            }
+            if has_bit(number, 31 - variable as u32 % 32) {
+                return behind(store, word, number, higher);
+            }
+            behind(store, word, number, lower)
+        }
+    }
 }
 
-/// Whether a row with this scope is about a call: as far as the call's number and architecture tell, its inputs may lie
-/// in the row.
-fn is_about_call(arch: u32, number: u32, scope: &Scope) -> bool
-    ensures { result ≡ is_about_call arch number scope.now }
+/// The rows of the call with this architecture and this number, of which each has conditions on other words only. The
+/// caller's conditions: the diagram is there, and is one of inputs.
+fn rows_of_call(
+    alloc: Global,
+    source: &Source<'_>,
+    arch: u32,
+    number: u32,
+) -> Result<Vec<Row>, Fault>
+    requires { source.now.id < length source.now.store.now.trees }
+    ensures { IfOk result (λ v. v.items ≡ rows_of_call source.now.subject
+        (tree_at source.now.store.now.trees source.now.id) arch number) }
 {
-    meets_part(scope.nr(), number)
-        && meets_part(scope.arch(), arch)
-        && call_meets_all(arch, number, scope.conditions())
+    let store = source.store;
+    let of_arch = behind(store, ARCH, arch, source.id);
+    let of_call = behind(store, NR, number, of_arch);
+    let rows = rows_of(
+        alloc,
+        store,
+        20,
+        14,
+        NR,
+        hidden_number(source.subject),
+        of_call,
+    )?;
+    Ok(rows)
 }
 
-/// Adds a row as one of this call, if the row is about the call. `names` is the call's set.
-fn push_if_about<'a>(
+/// Adds rows as those of a call of a set.
+fn push_rows<'a>(
     into: &mut Vec<CallRow<'a>>,
     names: &'a Names,
     call: &'a Call,
-    row: &'a Row,
+    rows: Vec<Row>,
 ) -> Result<(), AllocError>
     ensures { OnOk result (into.new.items ≡ into.old.items
-        ++ row_if_about names.now call.now row.now) }
-{
-    if is_about_call(names.arch(), call.number(), row.scope()) {
-        into.push(CallRow { names, call, row })?;
-    }
-    Ok(())
-}
-
-/// Adds the rows that are about a call, in their order. `names` is the call's set.
-fn push_rows_of_call<'a>(
-    into: &mut Vec<CallRow<'a>>,
-    rows: &'a [Row],
-    names: &'a Names,
-    call: &'a Call,
-) -> Result<(), AllocError>
-    ensures { OnOk result (into.new.items ≡ into.old.items
-        ++ rows_of_call rows.now names.now call.now) }
+        ++ map (call_row names.now call.now) rows.items) }
 {
     for row in rows {
-        push_if_about(into, names, call, row)?;
+        into.push(CallRow { names, call, row })?;
     }
     Ok(())
 }
@@ -161,93 +167,65 @@ fn is_wanted(wanted: &[&str], call: &Call) -> bool
     wanted.is_empty() || is_among(wanted, call.name())
 }
 
-/// Adds the rows of a call, if the call is asked for. `names` is the call's set.
-fn push_rows_if_wanted<'a>(
+/// Adds the rows of a call of a set, if it is asked for. The caller's condition: the diagram is there.
+fn push_if_wanted<'a>(
+    alloc: Global,
     into: &mut Vec<CallRow<'a>>,
+    source: &Source<'_>,
     wanted: &[&str],
-    rows: &'a [Row],
     names: &'a Names,
     call: &'a Call,
-) -> Result<(), AllocError>
+) -> Result<(), Fault>
+    requires { source.now.id < length source.now.store.now.trees }
     ensures { OnOk result (into.new.items ≡ into.old.items
-        ++ rows_if_wanted (map (λ t. t.now) wanted.now) rows.now names.now call.now) }
+        ++ rows_if_wanted (map (λ t. t.now) wanted.now) source.now.subject
+        (tree_at source.now.store.now.trees source.now.id) names.now call.now) }
 {
     if is_wanted(wanted, call) {
-        return push_rows_of_call(into, rows, names, call);
+        let rows = rows_of_call(alloc, source, names.arch(), call.number())?;
+        push_rows(into, names, call, rows)?;
     }
     Ok(())
 }
 
-/// Adds, call after call, the rows of those calls of a set that are asked for.
-fn push_rows_of_set<'a>(
+/// Adds, call after call, the rows of those calls of a set that are asked for. The caller's condition: the diagram is
+/// there.
+fn push_set<'a>(
+    alloc: Global,
     into: &mut Vec<CallRow<'a>>,
+    source: &Source<'_>,
     wanted: &[&str],
-    rows: &'a [Row],
     names: &'a Names,
-) -> Result<(), AllocError>
+) -> Result<(), Fault>
+    requires { source.now.id < length source.now.store.now.trees }
     ensures { OnOk result (into.new.items ≡ into.old.items
-        ++ rows_of_set (map (λ t. t.now) wanted.now) rows.now names.now) }
+        ++ flat_map (rows_if_wanted (map (λ t. t.now) wanted.now) source.now.subject
+        (tree_at source.now.store.now.trees source.now.id) names.now) names.now.calls) }
 {
     let calls = names.calls();
     for call in calls {
-        push_rows_if_wanted(into, wanted, rows, names, call)?;
+        push_if_wanted(alloc, into, source, wanted, names, call)?;
     }
     Ok(())
 }
 
-/// The rows of the calls whose names are in `wanted`, or of all calls where `wanted` is empty: set after set, in a set
-/// in the order of its calls, and of a call in the order of the rows. A row stands there once for each of these calls
-/// that it is about. An error where an allocation is refused.
+/// The rows of the calls whose names are in `wanted`, or of all calls where `wanted` is empty: set after set, and in a
+/// set in the order of its calls. The caller's condition: the diagram is there. `Spent` where
+/// there would be more rows than are allowed, `Memory` where an allocation is refused.
 pub(crate) fn call_rows<'a>(
     alloc: Global,
+    source: &Source<'_>,
     wanted: &[&str],
-    rows: &'a [Row],
     sets: &'a [Names],
-) -> Result<Vec<CallRow<'a>>, AllocError>
+) -> Result<Vec<CallRow<'a>>, Fault>
+    requires { source.now.id < length source.now.store.now.trees }
     ensures { IfOk result (λ v. v.items
-        ≡ call_rows (map (λ t. t.now) wanted.now) rows.now sets.now) }
+        ≡ call_rows (map (λ t. t.now) wanted.now) source.now.subject
+        (tree_at source.now.store.now.trees source.now.id) sets.now) }
 {
-    let mut all = Vec::new(alloc);
+    let mut rows = Vec::new(alloc);
     for names in sets {
-        push_rows_of_set(&mut all, wanted, rows, names)?;
+        push_set(alloc, &mut rows, source, wanted, names)?;
     }
-    Ok(all)
-}
-
-/// How many rows of calls have several labels.
-pub(crate) fn count_undetermined(rows: &[CallRow<'_>]) -> usize
-    ensures { result ≡ count_by (λ r. is_undetermined r.row) rows.now }
-{
-    rows.iter().filter(|row| row.is_undetermined()).count()
-}
-
-/// Adds the line of a row of a call: the name of the call's set, the call's name, the words of the row's labels, and
-/// the row's conditions on other words than the call's number and its architecture. `words` are the words of the
-/// labels, each at its label's place.
-fn push_call_row(text: &mut String, words: &[String], row: &CallRow<'_>) -> Result<(), AllocError>
-    ensures { OnOk result (string_bytes text.new ≡ string_bytes text.old
-        ++ call_row_line (map string_bytes words.now) row.now) }
-{
-    let set = row.names.set();
-    let name = row.call.name();
-    write!(text, "{set} {name} ")?;
-    push_labels(text, words, row.row.labels())?;
-    push_conditions_beyond_call(text, row.row.scope().conditions())?;
-    text.push_str("\n")?;
-    Ok(())
-}
-
-/// Adds the line of each of these rows of calls. `words` are the words of the labels, each at its label's place.
-pub(crate) fn push_call_rows(
-    text: &mut String,
-    words: &[String],
-    rows: &[CallRow<'_>],
-) -> Result<(), AllocError>
-    ensures { OnOk result (string_bytes text.new ≡ string_bytes text.old
-        ++ flat_map (call_row_line (map string_bytes words.now)) rows.now) }
-{
-    for row in rows {
-        push_call_row(text, words, row)?;
-    }
-    Ok(())
+    Ok(rows)
 }

@@ -1,132 +1,198 @@
-//! Rows as JSON: each by itself, or call by call.
+//! Rows as JSON. An error of a function here means that an allocation was refused.
 
-mod calls;
-mod names;
-mod rows;
-
-ghost use Rattle.std.specs.Prelude.{◌≡◌, ◌∷◌, [], codes, IfErr, IfOk, Some, None, map, option_map};
+ghost use Rattle.std.specs.Prelude.{◌≡◌, IfOk, map, option_map, string_bytes};
+ghost use Rattle.serde_json.specs.Data.{string};
 ghost use Rattle.serde_json.specs.View.{view};
-ghost use Rattle.sf_policy.specs.declared.fault.Fault.TheVariants.{Memory as MemoryFault};
-ghost use Rattle.sf_json.specs.Documents.{count, fields};
-ghost use Rattle.sf_rows.specs.Documents.{calls_document, rows_document, total_document};
+ghost use Rattle.sf_json.specs.Documents.{list_of};
+ghost use Rattle.sf_rows.specs.Lines.{row_names};
+ghost use Rattle.sf_rows.specs.Documents.{call_row_document, calls_document, condition_document, range_document, row_document, with_rows, with_answers};
 
-use crate::calls::{call_rows, count_undetermined as count_undetermined_calls};
-use crate::rows::{Row, count_undetermined};
-use crate::written::other_rows;
-use calls::call_row_documents;
-use rows::row_documents;
-use sf_json::{Document, Fields};
+use crate::calls::CallRow;
+use crate::names::row_names;
+use crate::shown::{Shown, shown_count};
+use crate::subject::{Subject, after_of, answer_of, before_of};
+use crate::words::name_of;
+use sf_json::{Document, Fields, answer_document};
 use sf_names::Names;
-use sf_policy::Fault;
+use sf_parts::{Condition, Row, Span};
 use std::alloc::{AllocError, Global};
 
-/// Rows as JSON, and their counts.
-#[derive(Drop)]
-pub struct RowDocuments {
-    /// The array of the rows of calls, call by call; `null` where no calls are asked for.
-    pub calls: Document,
-    /// The array of the rows that are shown each by itself: all rows where `calls` is `null`, else those of the inputs
-    /// that belong to no call with a name. It is empty where calls are asked for by their names.
-    pub rows: Document,
-    /// An object: `rows` is how many rows there are in `calls` and `rows`, and `undetermined` how many of these have
-    /// several labels.
-    pub total: Document,
+/// A span as the array of its first number and its last one.
+fn range_document(alloc: Global, span: Span) -> Result<Document, AllocError>
+    ensures { IfOk result (λ d. view d ≡ range_document span) }
+{
+    let ends = vec![in alloc; Document::number(span.first), Document::number(span.last)]?;
+    Document::array(alloc, ends)
 }
 
-/// The object that counts rows: its field `rows` is how many are shown, and `undetermined` how many of these have
-/// several labels.
-fn total_of(alloc: Global, rows: usize, undetermined: usize) -> Result<Document, AllocError>
-    ensures { IfOk result (λ d. view d ≡ fields ((codes "rows", count rows)
-        ∷ (codes "undetermined", count undetermined) ∷ [])) }
+/// Spans, each as an array.
+fn range_documents(alloc: Global, spans: &[Span]) -> Result<Vec<Document>, AllocError>
+    ensures { IfOk result (λ v. map view v.items ≡ map range_document spans.now) }
 {
+    let mut documents = Vec::new(alloc);
+    for span in spans {
+        documents.push(range_document(alloc, *span)?)?;
+    }
+    Ok(documents)
+}
+
+/// A condition as an object: its word (`word`), the bits that count (`mask`), the ranges of numbers (`ranges`), and
+/// whether these are left out (`not`).
+fn condition_document(alloc: Global, condition: &Condition) -> Result<Document, AllocError>
+    ensures { IfOk result (λ d. view d ≡ condition_document condition.now) }
+{
+    let ranges = range_documents(alloc, &condition.form.spans)?;
     let fields = Fields::new(alloc)
-        .with("rows", Document::count(rows))?
-        .with("undetermined", Document::count(undetermined))?;
+        .with("word", Document::copy_of(alloc, name_of(condition.word))?)?
+        .with("mask", Document::number(condition.form.mask))?
+        .with("not", Document::truth(condition.form.without))?
+        .with("ranges", Document::array(alloc, ranges)?)?;
     Ok(Document::object(fields))
 }
 
-/// Rows as JSON, each by itself. The result's `rows` has all of them, and its `calls` is `null`. `sets` give the names
-/// of the calls in a row, and `answers` are what labels stand for, each at its label's place.
-fn single_rows(
-    alloc: Global,
-    sets: &[Names],
-    answers: &[Document],
-    rows: &[Row],
-) -> Result<RowDocuments, AllocError>
-    ensures calls { IfOk result (λ t. view t.calls
-        ≡ calls_document sets.now (map view answers.now) None rows.now) }
-    ensures rows { IfOk result (λ t. view t.rows
-        ≡ rows_document sets.now (map view answers.now) None rows.now) }
-    ensures total { IfOk result (λ t. view t.total ≡ total_document sets.now None rows.now) }
+/// Conditions, each as an object.
+fn condition_documents(alloc: Global, conditions: &[Condition]) -> Result<Vec<Document>, AllocError>
+    ensures { IfOk result (λ v. map view v.items ≡ map condition_document conditions.now) }
 {
-    let documents = row_documents(alloc, sets, answers, rows)?;
-    let total = total_of(alloc, rows.len(), count_undetermined(rows))?;
-    Ok(RowDocuments {
-        calls: Document::null(),
-        rows: Document::array(alloc, documents)?,
-        total,
-    })
+    let mut documents = Vec::new(alloc);
+    for condition in conditions {
+        documents.push(condition_document(alloc, condition)?)?;
+    }
+    Ok(documents)
 }
 
-/// Rows as JSON, call by call. The result's `calls` has the rows of those calls of `sets` whose names are in `wanted`.
-/// Where `wanted` is empty, it has the rows of all calls of `sets`. A row stands there once for each of these calls
-/// that it is about. The result's `rows` is empty where `wanted` has names. Else it has the rows of the inputs that
-/// belong to no call with a name. `answers` are what labels stand for, each at its label's place. `Memory` where an
-/// allocation is refused, or where a part's spans have too many owners.
-fn rows_by_call(
+/// Fields, and what the number of a row says: the answer (`answer`), or the old stack's (`old`) and the new one's
+/// (`new`).
+fn with_answers(
     alloc: Global,
-    sets: &[Names],
-    answers: &[Document],
-    wanted: &[&str],
-    rows: &[Row],
-) -> Result<RowDocuments, Fault>
-    ensures calls { IfOk result (λ t. view t.calls ≡ calls_document sets.now
-        (map view answers.now)
-        (Some (map (λ w. w.now) wanted.now)) rows.now) }
-    ensures rows { IfOk result (λ t. view t.rows ≡ rows_document sets.now (map view answers.now)
-        (Some (map (λ w. w.now) wanted.now)) rows.now) }
-    ensures total { IfOk result (λ t. view t.total
-        ≡ total_document sets.now (Some (map (λ w. w.now) wanted.now)) rows.now) }
-    ensures refused { IfErr result (λ e. e ≡ MemoryFault) }
+    fields: Fields,
+    subject: Subject,
+    number: u64,
+) -> Result<Fields, AllocError>
+    ensures { IfOk result (λ f. view f ≡ with_answers subject number (view fields)) }
 {
-    let calls = call_rows(alloc, wanted, rows, sets)?;
-    let others = other_rows(alloc, sets, wanted, rows)?;
-    let call_documents = call_row_documents(alloc, answers, &calls)?;
-    let documents = row_documents(alloc, sets, answers, &others)?;
-    let count = calls.len() + others.len();
-    let undetermined = count_undetermined_calls(&calls) + count_undetermined(&others);
-    Ok(RowDocuments {
-        calls: Document::array(alloc, call_documents)?,
-        rows: Document::array(alloc, documents)?,
-        total: total_of(alloc, count, undetermined)?,
-    })
+    match subject {
+        Subject::Stack => fields.with("answer", answer_document(alloc, answer_of(number))?),
+        Subject::Change => fields
+            .with("old", answer_document(alloc, before_of(number))?)?
+            .with("new", answer_document(alloc, after_of(number))?),
+    }
 }
 
-/// Rows as JSON. Where `calls` is `None`, each row is shown by itself. Where `calls` has names, the rows of the calls
-/// of `sets` with these names are shown; a name that no set has adds nothing. Where `calls` is an empty list, the rows
-/// of all calls of `sets` are shown, and beside them those of the inputs that belong to no call with a name.
-///
-/// `sets` give the names of calls, and `answers` are what labels stand for, each at its label's place. A label behind
-/// all places, as that of two answers that are the same, is shown as `null`. `Memory` where an allocation is refused,
-/// or where a part's spans have too many owners.
-pub fn documents_of_rows(
+/// Texts as documents.
+fn text_documents(alloc: Global, texts: Vec<String>) -> Result<Vec<Document>, AllocError>
+    ensures { IfOk result (λ v. map view v.items
+        ≡ map string (map string_bytes texts.items)) }
+{
+    let mut documents = Vec::new(alloc);
+    for text in texts {
+        documents.push(Document::text(text))?;
+    }
+    Ok(documents)
+}
+
+/// A row as an object: its conditions (`conditions`), what its number says, and the names of its calls (`calls`).
+fn row_document(
     alloc: Global,
+    subject: Subject,
     sets: &[Names],
-    answers: &[Document],
-    calls: &Option<Vec<&str>>,
+    row: &Row,
+) -> Result<Document, AllocError>
+    ensures { IfOk result (λ d. view d ≡ row_document subject sets.now row.now) }
+{
+    let names = text_documents(alloc, row_names(alloc, sets, &row.conditions)?)?;
+    let conditions = condition_documents(alloc, &row.conditions)?;
+    let fields = Fields::new(alloc)
+        .with("conditions", Document::array(alloc, conditions)?)?
+        .with("calls", Document::array(alloc, names)?)?;
+    let shown = with_answers(alloc, fields, subject, row.number)?;
+    Ok(Document::object(shown))
+}
+
+/// Rows, each as an object.
+fn row_documents(
+    alloc: Global,
+    subject: Subject,
+    sets: &[Names],
     rows: &[Row],
-) -> Result<RowDocuments, Fault>
-    ensures calls { IfOk result (λ t. view t.calls ≡ calls_document sets.now
-        (map view answers.now)
-        (option_map (λ v. map (λ w. w.now) v.items) calls.now) rows.now) }
-    ensures rows { IfOk result (λ t. view t.rows ≡ rows_document sets.now (map view answers.now)
-        (option_map (λ v. map (λ w. w.now) v.items) calls.now) rows.now) }
-    ensures total { IfOk result (λ t. view t.total ≡ total_document sets.now
-        (option_map (λ v. map (λ w. w.now) v.items) calls.now) rows.now) }
-    ensures refused { IfErr result (λ e. e ≡ MemoryFault) }
+) -> Result<Vec<Document>, AllocError>
+    ensures { IfOk result (λ v. map view v.items
+        ≡ map (row_document subject sets.now) rows.now) }
+{
+    let mut documents = Vec::new(alloc);
+    for row in rows {
+        documents.push(row_document(alloc, subject, sets, row)?)?;
+    }
+    Ok(documents)
+}
+
+/// A row of a call as an object: the names of the call's set and of the call (`set` and `call`), the row's conditions
+/// (`conditions`), and what its number says.
+fn call_row_document(
+    alloc: Global,
+    subject: Subject,
+    row: &CallRow<'_>,
+) -> Result<Document, AllocError>
+    ensures { IfOk result (λ d. view d ≡ call_row_document subject row.now) }
+{
+    let conditions = condition_documents(alloc, &row.row().conditions)?;
+    let fields = Fields::new(alloc)
+        .with("set", Document::copy_of(alloc, row.set())?)?
+        .with("call", Document::copy_of(alloc, row.name())?)?
+        .with("conditions", Document::array(alloc, conditions)?)?;
+    let shown = with_answers(alloc, fields, subject, row.row().number)?;
+    Ok(Document::object(shown))
+}
+
+/// Rows of calls, each as an object.
+fn call_row_documents(
+    alloc: Global,
+    subject: Subject,
+    rows: &[CallRow<'_>],
+) -> Result<Vec<Document>, AllocError>
+    ensures { IfOk result (λ v. map view v.items ≡ map (call_row_document subject) rows.now) }
+{
+    let mut documents = Vec::new(alloc);
+    for row in rows {
+        documents.push(call_row_document(alloc, subject, row)?)?;
+    }
+    Ok(documents)
+}
+
+/// The array of the rows that are shown call by call; `null` where none are.
+fn calls_document(
+    alloc: Global,
+    subject: Subject,
+    calls: &Option<Vec<CallRow<'_>>>,
+) -> Result<Document, AllocError>
+    ensures { IfOk result (λ d. view d ≡ calls_document subject
+        (option_map (λ v. v.items) calls.now)) }
 {
     match calls {
-        Some(wanted) => rows_by_call(alloc, sets, answers, wanted, rows),
-        None => Ok(single_rows(alloc, sets, answers, rows)?),
+        Some(rows) => {
+            let documents = call_row_documents(alloc, subject, rows)?;
+            Document::array(alloc, documents)
+        }
+        None => Ok(Document::null()),
     }
+}
+
+/// Fields, and what is shown: the rows of calls (`calls`, `null` where none are shown), the other rows (`rows`), and an
+/// object with the number of both together (`total`, at `rows`). `sets` give the names of the calls of a row. An error
+/// where an allocation is refused.
+pub fn with_rows(
+    alloc: Global,
+    fields: Fields,
+    subject: Subject,
+    sets: &[Names],
+    shown: &Shown<'_>,
+) -> Result<Fields, AllocError>
+    ensures { IfOk result (λ f. view f ≡ with_rows subject sets.now shown.now (view fields)) }
+{
+    let rows = row_documents(alloc, subject, sets, shown.rows())?;
+    let total = Fields::new(alloc).with("rows", Document::count(shown_count(shown)))?;
+    fields
+        .with("calls", calls_document(alloc, subject, shown.calls())?)?
+        .with("rows", Document::array(alloc, rows)?)?
+        .with("total", Document::object(total))
 }

@@ -1,40 +1,123 @@
 //! Laws of rows, each the contract of a function that does nothing.
 
-ghost use Rattle.std.specs.Prelude.{◌≡◌, List, true, Contains, count_by, if◌then◌else◌};
+ghost use Rattle.std.specs.Prelude.{◌≡◌, ◌≢◌, ◌↔◌, ◌==◌, ℕ, List, Contains, Option, None, count_by, if◌then◌else◌, true};
 ghost use Rattle.sf_insn.specs.declared.input.Input.{Input};
 ghost use Rattle.sf_insn.specs.Inputs.{IsInput};
+ghost use Rattle.sf_check.specs.declared.insn.Insn.{Insn};
+ghost use Rattle.sf_run.specs.declared.action.Answer.{Answer};
+ghost use Rattle.sf_run.specs.Answers.{Answers};
+ghost use Rattle.sf_diagram.specs.Trees.{Bits, Tree, value};
+ghost use Rattle.sf_behaviour.specs.Answering.{answer_with};
+ghost use Rattle.sf_behaviour.specs.InputBits.{input_bits};
+ghost use Rattle.sf_parts.specs.Rows.{RowData};
 ghost use Rattle.sf_names.specs.Names.{CallData, NamesData};
-ghost use Rattle.sf_picture.specs.PictureData.{PictureData};
-ghost use Rattle.sf_picture.specs.Pictures.{IsPicture, labels_at};
-ghost use Rattle.sf_rows.specs.Calls.{IsOfCall, is_in_line, rows_of_call};
-ghost use Rattle.sf_rows.specs.Rows.{RowData, rows_of, is_in_scope};
-ghost use Rattle.sf_rows.specs.Unnamed.{is_in_named_call, unnamed_rows};
+ghost use Rattle.sf_relations.specs.declared.relation.Relation.{Relation};
+ghost use Rattle.sf_rows.specs.declared.subject.Subject.{Subject};
+ghost use Rattle.sf_rows.specs.declared.subject.Subject.TheVariants as subject;
+ghost use Rattle.sf_rows.specs.Trees.{IsAnswersTree, IsInputTree, IsTreeOf, change_number, is_named_call, unnamed_number};
+ghost use Rattle.sf_rows.specs.Rows.{IsOfCall, after_of, before_of, lies_in, rows_of, rows_of_call, hidden_number, tree_word};
+ghost use Rattle.sf_rows.specs.Shown.{IsShown, ShownData};
 
-/// Each input lies in exactly one row of a picture, and this row has the labels that the picture shows the input.
-pub fn each_input_lies_in_one_row()
-    ensures one { (p : PictureData) (d : Input) → IsPicture p → IsInput d
-        → count_by (λ r. is_in_scope r.scope d) (rows_of p) ≡ 1 }
-    ensures labels { (p : PictureData) (d : Input) (r : RowData) → IsPicture p → IsInput d
-        → Contains (rows_of p) r → is_in_scope r.scope d ≡ true
-        → r.labels ≡ labels_at p d }
-{}
+use sf_behaviour::each_input_has_variables;
+use sf_diagram::{equal_values_make_equal_trees, pairs_give_both_back};
+use sf_parts::{each_input_is_in_one_row, parts_lead_on, rows_have_the_number};
 
-/// Each input of a call meets the conditions in the line of exactly one row of the call. These are the row's conditions
-/// on other words than the call's number and its architecture.
-pub fn each_input_of_a_call_lies_in_one_line()
-    ensures { (p : PictureData) (n : NamesData) (c : CallData) (d : Input)
-        → IsPicture p → IsInput d → IsOfCall n c d
-        → count_by (λ r. is_in_line r d) (rows_of_call (rows_of p) n c) ≡ 1 }
+/// An input lies in exactly one row of a tree, or, where the tree has the number that no row shows, in none. The row
+/// has the number that the tree has on the input.
+pub fn each_input_lies_in_its_row()
+    ensures one { (s : Subject) (t : Tree) (d : Input) → IsInputTree t → IsInput d
+        → count_by (lies_in d) (rows_of s t)
+        ≡ (if value t (input_bits d) == hidden_number s then 0 else 1) }
+    ensures number { (s : Subject) (t : Tree) (d : Input) (r : RowData) → IsInputTree t
+        → IsInput d → Contains (rows_of s t) r → lies_in d r ≡ true
+        → r.number ≡ value t (input_bits d) }
 {
-    each_input_lies_in_one_row();
+    each_input_has_variables();
+    each_input_is_in_one_row();
+    rows_have_the_number();
 }
 
-/// Where all rows of a picture are shown for all calls one by one, the rows of `unnamed_rows` follow. Each input that
-/// belongs to no call with a name lies in exactly one of these, and an input of a call with a name lies in none.
-pub fn each_other_input_lies_in_one_row()
-    ensures { (p : PictureData) (sets : List NamesData) (d : Input) → IsPicture p → IsInput d
-        → count_by (λ r. is_in_scope r.scope d) (unnamed_rows sets (rows_of p))
-        ≡ (if is_in_named_call sets d then 0 else 1) }
+/// An input of a call lies in exactly one of its rows, or, where the tree has the number that no row shows, in none.
+/// The row has the number that the tree has on the input.
+pub fn each_input_of_a_call_lies_in_its_row()
+    ensures one { (s : Subject) (t : Tree) (n : NamesData) (c : CallData) (d : Input)
+        → IsInputTree t → IsInput d → IsOfCall n c d
+        → count_by (lies_in d) (rows_of_call s t n.arch c.number)
+        ≡ (if value t (input_bits d) == hidden_number s then 0 else 1) }
+    ensures number { (s : Subject) (t : Tree) (n : NamesData) (c : CallData) (d : Input)
+        (r : RowData) → IsInputTree t → IsInput d → IsOfCall n c d
+        → Contains (rows_of_call s t n.arch c.number) r → lies_in d r ≡ true
+        → r.number ≡ value t (input_bits d) }
 {
-    each_input_lies_in_one_row();
+    each_input_has_variables();
+    each_input_is_in_one_row();
+    rows_have_the_number();
+    parts_lead_on();
+}
+
+/// The tree of a stack's answers has on each input the number of the stack's answer, which is one that a row shows. It
+/// is a tree over inputs.
+pub fn trees_have_the_answers()
+    ensures answer { (programs : List (List Insn)) (t : Tree) (d : Input) (a : Answer)
+        → IsAnswersTree programs t → IsInput d → Answers programs d a
+        → (answer_with (value t (input_bits d)) ≡ a)
+        × (value t (input_bits d) ≢ hidden_number subject.Stack) }
+    ensures input { (programs : List (List Insn)) (t : Tree) → IsAnswersTree programs t
+        → IsInputTree t }
+{
+    each_input_has_variables();
+    equal_values_make_equal_trees();
+}
+
+/// The tree of what changes between two stacks has 0 on each input that both answer alike. On each other input it has
+/// the number that gives both answers back.
+pub fn trees_have_the_changes()
+    ensures same { (old new : List (List Insn)) (s t u : Tree) (d : Input) (a : Answer)
+        → IsAnswersTree old s → IsAnswersTree new t
+        → IsTreeOf (λ bits. change_number None (value s bits) (value t bits)) u → IsInput d
+        → Answers old d a → Answers new d a → value u (input_bits d)
+        ≡ hidden_number subject.Change }
+    ensures changed { (old new : List (List Insn)) (s t u : Tree) (d : Input) (a b : Answer)
+        → IsAnswersTree old s → IsAnswersTree new t
+        → IsTreeOf (λ bits. change_number None (value s bits) (value t bits)) u → IsInput d
+        → Answers old d a → Answers new d b → a ≢ b
+        → (value u (input_bits d) ≢ hidden_number subject.Change)
+        × (before_of (value u (input_bits d)) ≡ a) × (after_of (value u (input_bits d)) ≡ b) }
+    ensures input { (only : Option Relation) (s t u : Tree) → IsInputTree s → IsInputTree t
+        → IsTreeOf (λ bits. change_number only (value s bits) (value t bits)) u
+        → IsInputTree u }
+{
+    each_input_has_variables();
+    equal_values_make_equal_trees();
+    pairs_give_both_back();
+}
+
+/// Where all calls are shown, the rows beside those of calls have each input of a call without a name, as all rows of
+/// the tree have it, and no input of a named call.
+pub fn each_other_input_lies_in_its_row()
+    ensures one { (s : Subject) (t rest : Tree) (sets : List NamesData) (d : Input)
+        → IsInputTree t → IsTreeOf (unnamed_number sets (hidden_number s) t) rest → IsInput d
+        → count_by (lies_in d) (rows_of s rest)
+        ≡ (if is_named_call sets (tree_word d 18) (tree_word d 19) then 0
+        else if value t (input_bits d) == hidden_number s then 0 else 1) }
+    ensures number { (s : Subject) (t rest : Tree) (sets : List NamesData) (d : Input) (r : RowData)
+        → IsInputTree t → IsTreeOf (unnamed_number sets (hidden_number s) t) rest → IsInput d
+        → Contains (rows_of s rest) r → lies_in d r ≡ true
+        → r.number ≡ value t (input_bits d) }
+{
+    each_input_lies_in_its_row();
+    equal_values_make_equal_trees();
+}
+
+/// Two stacks that answer alike on each input have one tree, and so the same rows; and what is shown of a tree is one.
+pub fn equal_answers_are_shown_alike()
+    ensures tree { (p q : List (List Insn)) (s t : Tree) → IsAnswersTree p s → IsAnswersTree q t
+        → ((d : Input) (a : Answer) → IsInput d → Answers p d a
+        → Answers q d a) → s ≡ t }
+    ensures shown { (calls : Option (List (List ℕ))) (s : Subject) (t : Tree)
+        (sets : List NamesData) (x y : ShownData)
+        → IsShown calls s t sets x → IsShown calls s t sets y → x ≡ y }
+{
+    each_input_has_variables();
+    equal_values_make_equal_trees();
 }

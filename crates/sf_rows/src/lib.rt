@@ -1,21 +1,23 @@
-//! The rows of a picture, as text and as JSON: which inputs lie in each, and what the labels of its answers stand for.
+//! The rows of decision diagrams over inputs, as text and as JSON: what a stack answers, and what changes from one
+//! stack to another; each row by itself, or call by call.
 #![tactic(auto)]
 
-pub mod answers;
 mod calls;
-mod conditions;
+mod changes;
+mod digest;
 mod document;
-mod labels;
 pub mod laws;
 mod lines;
-mod named;
-pub mod pairs;
-mod parts;
-mod rows;
-mod spans;
-mod unnamed;
-mod written;
+mod names;
+mod others;
+mod shown;
+mod subject;
+mod words;
 
-pub use document::{RowDocuments, documents_of_rows};
-pub use rows::{Row, count_undetermined, rows_in};
-pub use written::{Lines, push_lines};
+pub use calls::CallRow;
+pub use changes::changes_between;
+pub use digest::digest_of_rows;
+pub use document::with_rows;
+pub use lines::push_lines;
+pub use shown::{Shown, show, shown_count};
+pub use subject::Subject;

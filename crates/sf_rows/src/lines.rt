@@ -2,91 +2,114 @@
 //!
 //! Where a function here errs, an allocation was refused; a part of what it adds may stand in the text then.
 
-ghost use Rattle.std.specs.Prelude.{◌≡◌, ◌++◌, [], OnOk, map, slice_index_or, string_bytes};
+ghost use Rattle.std.specs.Prelude.{◌≡◌, ◌++◌, [], OnOk, option_map, string_bytes};
 ghost use Rattle.std.specs.List.{flat_map};
-ghost use Rattle.sf_rows.specs.Lines.{labels_words, place_words, row_line};
+ghost use Rattle.std.specs.Option.{option_map_or};
+ghost use Rattle.sf_rows.specs.Lines.{call_row_line, row_line, lines_of_rows};
 
-use crate::conditions::{push_arch, push_conditions, push_nr};
-use crate::named::push_row_names;
-use crate::rows::{Row, Scope};
+use crate::calls::CallRow;
+use crate::names::{push_names, row_names};
+use crate::shown::Shown;
+use crate::subject::{Subject, push_answers};
+use crate::words::{push_conditions, push_places};
 use sf_names::Names;
-use std::alloc::AllocError;
+use sf_parts::Row;
+use std::alloc::{AllocError, Global};
 
-/// The words of a label, which stand at its place in `words`; an empty text where the label is behind all places.
-fn words_at(words: &[String], label: usize) -> &str
-    ensures { result.now ≡ slice_index_or (map string_bytes words.now) label [] }
-{
-    match words.get(label) {
-        Some(text) => text.as_str(),
-        None => "",
-    }
-}
-
-/// Adds the words of labels, with ` | ` between them. `words` are the words of the labels, each at its label's place; a
-/// label behind all places has no words, and adds an empty text.
-pub(crate) fn push_labels(
-    text: &mut String,
-    words: &[String],
-    labels: &[usize],
-) -> Result<(), AllocError>
-    ensures { OnOk result (string_bytes text.new ≡ string_bytes text.old
-        ++ labels_words (map string_bytes words.now) labels.now) }
-{
-    let mut before = "";
-    for label in labels {
-        text.push_str(before)?;
-        text.push_str(words_at(words, *label))?;
-        before = " | ";
-    }
-    Ok(())
-}
-
-/// Adds `arch ` and the architectures of a row, ` nr ` and its call numbers, and a space.
-fn push_place(text: &mut String, scope: &Scope) -> Result<(), AllocError>
-    ensures { OnOk result (string_bytes text.new ≡ string_bytes text.old
-        ++ place_words scope.now) }
-{
-    text.push_str("arch ")?;
-    push_arch(text, scope.arch())?;
-    text.push_str(" nr ")?;
-    push_nr(text, scope.nr())?;
-    text.push_str(" ")?;
-    Ok(())
-}
-
-/// Adds the line of a row: its architectures and call numbers, the words of its labels, its other conditions, and the
-/// names that `push_row_names` gives. `names` are the sets of calls, and `words` the words of the labels, each at its
-/// label's place.
+/// Adds the line of a row: its architectures and call numbers, what its number says, its other conditions, and the
+/// names of its calls.
 fn push_row(
+    alloc: Global,
     text: &mut String,
-    names: &[Names],
-    words: &[String],
+    subject: Subject,
+    sets: &[Names],
     row: &Row,
 ) -> Result<(), AllocError>
     ensures { OnOk result (string_bytes text.new ≡ string_bytes text.old
-        ++ row_line names.now (map string_bytes words.now) row.now) }
+        ++ row_line subject sets.now row.now) }
 {
-    push_place(text, row.scope())?;
-    push_labels(text, words, row.labels())?;
-    push_conditions(text, row.scope().conditions())?;
-    push_row_names(text, names, row.scope())?;
-    text.push_str("\n")?;
-    Ok(())
+    let names = row_names(alloc, sets, &row.conditions)?;
+    push_places(text, &row.conditions)?;
+    push_answers(text, subject, row.number)?;
+    push_conditions(text, &row.conditions)?;
+    push_names(text, &names)?;
+    text.push_str("\n")
 }
 
-/// Adds a line for each row. `names` are the sets of calls, and `words` the words of the labels, each at its label's
-/// place.
+/// Adds a line for each row. `sets` give the names of calls.
 pub(crate) fn push_rows(
+    alloc: Global,
     text: &mut String,
-    names: &[Names],
-    words: &[String],
+    subject: Subject,
+    sets: &[Names],
     rows: &[Row],
 ) -> Result<(), AllocError>
     ensures { OnOk result (string_bytes text.new ≡ string_bytes text.old
-        ++ flat_map (row_line names.now (map string_bytes words.now)) rows.now) }
+        ++ flat_map (row_line subject sets.now) rows.now) }
 {
     for row in rows {
-        push_row(text, names, words, row)?;
+        push_row(alloc, text, subject, sets, row)?;
     }
     Ok(())
+}
+
+/// Adds the line of a row of a call: the name of the call's set, the call's name, what the row's number says, and its
+/// conditions.
+fn push_call_row(text: &mut String, subject: Subject, row: &CallRow<'_>) -> Result<(), AllocError>
+    ensures { OnOk result (string_bytes text.new ≡ string_bytes text.old
+        ++ call_row_line subject row.now) }
+{
+    let set = row.set();
+    let name = row.name();
+    write!(text, "{set} {name} ")?;
+    push_answers(text, subject, row.row().number)?;
+    push_conditions(text, &row.row().conditions)?;
+    text.push_str("\n")
+}
+
+/// Adds the line of each of these rows of calls.
+fn push_call_rows(
+    text: &mut String,
+    subject: Subject,
+    rows: &[CallRow<'_>],
+) -> Result<(), AllocError>
+    ensures { OnOk result (string_bytes text.new ≡ string_bytes text.old
+        ++ flat_map (call_row_line subject) rows.now) }
+{
+    for row in rows {
+        push_call_row(text, subject, row)?;
+    }
+    Ok(())
+}
+
+/// Adds the lines of the rows of calls, if any are shown.
+fn push_calls(
+    text: &mut String,
+    subject: Subject,
+    calls: &Option<Vec<CallRow<'_>>>,
+) -> Result<(), AllocError>
+    ensures { OnOk result (string_bytes text.new ≡ string_bytes text.old
+        ++ option_map_or (flat_map (call_row_line subject))
+        (option_map (λ v. v.items) calls.now) []) }
+{
+    match calls {
+        Some(rows) => push_call_rows(text, subject, rows),
+        None => Ok(()),
+    }
+}
+
+/// Adds the lines of the rows that are shown: first those of calls. `sets` give the names of the calls of the other
+/// rows.
+pub fn push_lines(
+    alloc: Global,
+    text: &mut String,
+    subject: Subject,
+    sets: &[Names],
+    shown: &Shown<'_>,
+) -> Result<(), AllocError>
+    ensures { OnOk result (string_bytes text.new ≡ string_bytes text.old
+        ++ lines_of_rows subject sets.now shown.now) }
+{
+    push_calls(text, subject, shown.calls())?;
+    push_rows(alloc, text, subject, sets, shown.rows())
 }

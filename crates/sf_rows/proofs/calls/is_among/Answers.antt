@@ -1,6 +1,6 @@
 use Rattle.std.proofs.Common.{◌∙◌}
 use Rattle.std.specs.Str.{bytes_eq}
-use Rattle.sf_rows.proofs.CallLemmas.{any_now}
+use Rattle.sf_rows.proofs.TextLemmas.{any_now}
 use Rattle.sf_rows.proofs.calls.is_among.Goals as goal
 
 pub returns : goal.returns

@@ -1,8 +1,8 @@
-use Rattle.std.proofs.Common.{◌≡◌, ◌++◌, take, map, string_bytes}
+use Rattle.std.proofs.Common.{◌≡◌, ◌++◌, take, string_bytes}
 use Rattle.std.specs.List.{flat_map}
 use Rattle.sf_rows.specs.Lines.{row_line}
 use Rattle.sf_rows.proofs.lines.push_rows.Given as goal
 
 abbrev pub invariant-loop-row : goal.invariant-loop-row
-invariant-loop-row l = string_bytes l.text
-    ≡ string_bytes l.initial.text ++ flat_map (row_line l.names (map string_bytes l.words)) (take l.row-index l.rows)
+invariant-loop-row l =
+    string_bytes l.text ≡ string_bytes l.initial.text ++ flat_map (row_line l.subject l.sets) (take l.row-index l.rows)

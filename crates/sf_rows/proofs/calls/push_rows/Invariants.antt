@@ -1,0 +1,6 @@
+use Rattle.std.proofs.Common.{◌≡◌, ◌++◌, map}
+use Rattle.sf_rows.specs.Shown.{call_row}
+use Rattle.sf_rows.proofs.calls.push_rows.Given as goal
+
+abbrev pub invariant-loop-row : goal.invariant-loop-row
+invariant-loop-row l = l.into.items ≡ l.initial.into.items ++ map (call_row l.names l.call) l.yielded

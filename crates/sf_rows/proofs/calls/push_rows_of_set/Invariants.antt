@@ -1,8 +1,0 @@
-use Rattle.std.proofs.Common.{◌≡◌, ◌++◌, map, take}
-use Rattle.std.specs.List.{flat_map}
-use Rattle.sf_rows.specs.Calls.{rows_if_wanted}
-use Rattle.sf_rows.proofs.calls.push_rows_of_set.Given as goal
-
-abbrev pub invariant-loop-call : goal.invariant-loop-call
-invariant-loop-call l = l.into.items ≡ l.initial.into.items
-    ++ flat_map (rows_if_wanted (map (λ t. t.now) l.wanted) l.rows l.names) (take l.call-index l.calls)

@@ -1,0 +1,8 @@
+use Rattle.std.proofs.Common.{◌≡◌, ◌++◌, map, take, string_bytes}
+use Rattle.std.specs.List.{flat_map}
+use Rattle.sf_names.specs.Names.{name_between}
+use Rattle.sf_rows.proofs.names.push_calls.Given as goal
+
+abbrev pub invariant-loop-call : goal.invariant-loop-call
+invariant-loop-call l = map string_bytes l.names.items ≡ map string_bytes l.initial.names.items
+    ++ flat_map (name_between l.span.first l.span.last) (take l.call-index l.calls)

@@ -1,0 +1,39 @@
+use Rattle.std.proofs.Common.{◌+◌, ◌-◌, ◌*◌, ◌∙◌, ap, arith, refl, sym}
+use Rattle.std.specs.Prelude.{if◌then◌else◌}
+use Rattle.std.specs.List.{list_any}
+use Rattle.sf_rows.proofs.NamedLemmas.{agrees, chosen-diagram, diagram-kept, diagram-same, flag, leaf-diagram, literal-diagram, one-of-all, one-of-none, one-of-step}
+use Rattle.sf_rows.proofs.others.+one_of.Goals as goal
+
+pub returns-then-is_empty-clause-values : goal.returns-then-is_empty-clause-values
+returns-then-is_empty-clause-values t c =
+    diagram-same _ _ _ _ (leaf-diagram _ _ 0 c.in_ok-none.ensures.within c.in_ok-none.ensures.tree)
+    (λ b. sym (ap flag
+    (one-of-none c.args.word c.args.bits b c.args.numbers.now (sym c.is_empty.ensures ∙ c.if-is_empty.true))))
+
+pub returns-then-bits-eq0-clause-values : goal.returns-then-bits-eq0-clause-values
+returns-then-bits-eq0-clause-values t c =
+    diagram-same _ _ _ _ (leaf-diagram _ _ 1 c.in_ok-one.ensures.within c.in_ok-one.ensures.tree)
+    (λ b. sym (ap flag (one-of-all c.args.word c.args.bits b c.args.numbers.now c.if-bits-eq0.true
+    (sym c.is_empty.ensures ∙ c.if-is_empty.false))))
+
+pub returns-clause-values : goal.returns-clause-values
+returns-clause-values t c =
+    let n = c.args.bits - 1 in
+    let v = 32 * c.args.word + (31 - n) in
+    let s1 = c.one_of.new.store in
+    let s2 = c.one_of-2.new.store in
+    let s3 = c.literal.new.self in
+    let set = c.deref.result.now in
+    let unset = c.deref-2.result.now in
+    diagram-same _ _ _ _
+    (chosen-diagram s3.trees c.choose.new.store.trees _ _ _ _ (λ b. if b v then 1 else 0)
+    (λ b. if list_any (agrees c.args.word n b) set then 1 else 0)
+    (λ b. if list_any (agrees c.args.word n b) unset then 1 else 0)
+    (literal-diagram s3.trees _ v c.in_ok-variable.ensures.within c.in_ok-variable.ensures.tree)
+    (diagram-kept s2.trees s3.trees _ _ c.in_ok-variable.ensures.keeps.trees
+    (diagram-kept s1.trees s2.trees _ _ c.in_ok-lower.ensures.keeps.trees c.in_ok-higher.ensures.values))
+    (diagram-kept s2.trees s3.trees _ _ c.in_ok-variable.ensures.keeps.trees c.in_ok-lower.ensures.values)
+    c.in_ok-id.ensures.within c.in_ok-id.ensures.chosen)
+    (λ b. one-of-step c.args.word n c.args.bits v b c.args.numbers.now set unset
+    (c.deref.ensures.value ∙ c.in_ok-set.ensures.set) (c.deref-2.ensures.value ∙ c.in_ok-set.ensures.unset) refl
+    (omega arith))

@@ -1,0 +1,46 @@
+use Rattle.std.proofs.Common.{◌+◌, ◌∙◌, Bool, ap, arith, sym, take}
+use Rattle.std.specs.Prelude.{◌&&◌, ◌||◌, ◌==◌, if◌then◌else◌}
+use Rattle.std.specs.List.{list_any}
+use Rattle.std.proofs.lemmas.List.Folds.{list_any_more}
+use Rattle.sf_diagram.specs.Trees.{Bits}
+use Rattle.sf_diagram.specs.KeepLaws.{keeps_more}
+use Rattle.sf_names.specs.Names.{NamesData}
+use Rattle.sf_parts.specs.Words.{word_number}
+use Rattle.sf_rows.specs.Trees.{is_call_number}
+use Rattle.sf_rows.proofs.NamedLemmas.{chosen-diagram, diagram-kept, diagram-same, leaf-diagram, named-step}
+use Rattle.sf_rows.proofs.others.named_calls.Goals as goal
+
+-- a set has the call of an input
+abbrev has_call : Bits → NamesData → Bool
+has_call b n = (n.arch == word_number 18 b) && list_any (is_call_number (word_number 19 b)) n.calls
+
+pub loop-names-init : goal.loop-names-init
+loop-names-init c = record {
+  keeps = c.in_ok-named.ensures.keeps;
+  values = leaf-diagram _ _ 0 c.in_ok-named.ensures.within c.in_ok-named.ensures.tree;
+}
+
+pub loop-names-preserved : goal.loop-names-preserved
+loop-names-preserved c =
+    let s0 = c.loop-names.store in
+    let s1 = c.calls_of.new.store in
+    let s2 = c.leaf-in-loop-names.new.self in
+    let n = c.names-item.result in
+    let sets = c.args.sets.now in
+    let i = c.loop-names.names-index in
+    record {
+      keeps = keeps_more _ _ _ c.loop-names.invariant.keeps (keeps_more _ _ _ c.in_ok-of_set.ensures.keeps
+          (keeps_more _ _ _ c.in_ok-one.ensures.keeps c.in_ok-named-2.ensures.keeps));
+      values = diagram-same _ _ _ _
+          (chosen-diagram s2.trees c.choose.new.store.trees _ _ _ _ (λ b. if has_call b n then 1 else 0) (λ b. 1)
+          (λ b. if list_any (has_call b) (take i sets) then 1 else 0)
+          (diagram-kept s1.trees s2.trees _ _ c.in_ok-one.ensures.keeps.trees c.in_ok-of_set.ensures.values)
+          (leaf-diagram s2.trees _ 1 c.in_ok-one.ensures.within c.in_ok-one.ensures.tree)
+          (diagram-kept s1.trees s2.trees _ _ c.in_ok-one.ensures.keeps.trees
+          (diagram-kept s0.trees s1.trees _ _ c.in_ok-of_set.ensures.keeps.trees c.loop-names.invariant.values))
+          c.in_ok-named-2.ensures.within c.in_ok-named-2.ensures.chosen)
+          (λ b. named-step (has_call b n) (list_any (has_call b) (take i sets))
+          (list_any (has_call b) (take (i + 1) sets))
+          (list_any_more (has_call b) sets i n (omega arith)
+          ∙ ap (λ (m : NamesData). list_any (has_call b) (take i sets) || has_call b m) (sym c.names-item.is)));
+    }

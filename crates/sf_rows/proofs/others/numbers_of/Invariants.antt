@@ -1,0 +1,10 @@
+use Rattle.std.proofs.Common.{◌≡◌, ℕ, ◌<◌, ◌^◌, map, take}
+use Rattle.std.specs.Prelude.{All}
+use Rattle.sf_names.specs.Names.{CallData}
+use Rattle.sf_rows.proofs.others.numbers_of.Given as goal
+
+abbrev pub invariant-loop-call : goal.invariant-loop-call
+invariant-loop-call l = record {
+  numbers : l.numbers.items ≡ map (λ (c : CallData). c.number) (take l.call-index l.calls);
+  small : All (λ (n : ℕ). n < 2 ^ 32) l.numbers.items;
+}

@@ -1,0 +1,13 @@
+use denote.Shadow.{shadow}
+use denote.Text.{Utf8}
+use Rattle.std.proofs.Common.{◌≡◌, ◌++◌, [], drop, map, string_bytes}
+use Rattle.std.specs.Prelude.{codes}
+use Rattle.sf_rows.specs.Lines.{joined, span_words}
+use Rattle.sf_rows.proofs.words.push_spans.Given as goal
+
+abbrev pub invariant-loop-span : goal.invariant-loop-span
+invariant-loop-span l = record {
+  words : string_bytes l.text ++ joined l.before (codes ",") (map (span_words l.style) (drop l.span-index l.spans))
+      ≡ string_bytes l.initial.text ++ joined [] (codes ",") (map (span_words l.style) l.spans);
+  text : shadow (Utf8 l.before);
+}

@@ -1,0 +1,92 @@
+//! What rows show, and how it is shown.
+//!
+//! Where a function here that adds text errs, an allocation was refused; a part of what it adds may stand in the text
+//! then.
+
+ghost use Rattle.std.specs.Prelude.{◌≡◌, ◌++◌, OnOk, codes, string_bytes};
+ghost use Rattle.sf_policy.specs.Texts.{answer_words};
+ghost use Rattle.sf_behaviour.specs.Answering.{answer_with};
+ghost use Rattle.sf_rows.specs.Rows.{after_of, before_of, hidden_number};
+ghost use Rattle.sf_rows.specs.Lines.{answers_words};
+
+use sf_policy::push_action;
+use sf_run::{Action, Answer};
+use std::alloc::AllocError;
+
+/// What rows show.
+#[derive(Clone, Copy, Debug, PartialEq, Eq)]
+pub enum Subject {
+    /// What a stack answers. The number of a row is that of an answer.
+    Stack,
+    /// What changes from one stack to another. The number of a row stands for two answers, the old one in the upper
+    /// half of its bits.
+    Change,
+}
+
+/// The number whose inputs no row shows.
+pub(crate) fn hidden_number(subject: Subject) -> u64
+    ensures { result ≡ hidden_number subject }
+{
+    match subject {
+        Subject::Stack => 0x1_0000_0000,
+        Subject::Change => 0,
+    }
+}
+
+/// The answer that a number names. Bits above the lowest 32 don't count.
+pub(crate) fn answer_of(number: u64) -> Answer
+    ensures { result ≡ answer_with number }
+{
+    Answer {
+        action: Action::of_number((number & 0xffff0000) as u32),
+        info: (number & 0xffff) as u16,
+    }
+}
+
+/// The answer of the old stack, by the number that stands for both answers.
+pub(crate) fn before_of(number: u64) -> Answer
+    ensures { result ≡ before_of number }
+{
+    answer_of(number / 0x1_0000_0000)
+}
+
+/// The answer of the new stack, by the number that stands for both answers.
+pub(crate) fn after_of(number: u64) -> Answer
+    ensures { result ≡ after_of number }
+{
+    answer_of(number % 0x1_0000_0000)
+}
+
+/// Adds an answer: its action as `push_action` writes it, a space, and its data in decimal.
+fn push_answer(text: &mut String, answer: Answer) -> Result<(), AllocError>
+    ensures { OnOk result (string_bytes text.new ≡ string_bytes text.old ++ answer_words answer) }
+{
+    push_action(text, answer.action)?;
+    let info = answer.info;
+    write!(text, " {info}")
+}
+
+/// Adds both answers, with ` -> ` between them.
+fn push_change(text: &mut String, before: Answer, after: Answer) -> Result<(), AllocError>
+    ensures { OnOk result (string_bytes text.new ≡ string_bytes text.old
+        ++ (answer_words before ++ (codes " -> " ++ answer_words after))) }
+{
+    push_answer(text, before)?;
+    text.push_str(" -> ")?;
+    push_answer(text, after)
+}
+
+/// Adds what the number of a row says: an answer, or two with ` -> ` between them.
+pub(crate) fn push_answers(
+    text: &mut String,
+    subject: Subject,
+    number: u64,
+) -> Result<(), AllocError>
+    ensures { OnOk result (string_bytes text.new ≡ string_bytes text.old
+        ++ answers_words subject number) }
+{
+    match subject {
+        Subject::Stack => push_answer(text, answer_of(number)),
+        Subject::Change => push_change(text, before_of(number), after_of(number)),
+    }
+}
