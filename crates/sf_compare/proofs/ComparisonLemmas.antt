@@ -1,37 +1,63 @@
--- Why what `compare` answers is a comparison of the files.
-use Rattle.std.proofs.Common.{◌≡◌, ℕ, ◌≤◌, List, length, ap, arith, subst, sym, ◌∙◌}
+-- Comparisons of the same files.
+use Rattle.std.proofs.Common.{◌≡◌, ℕ, Bool, List, Option, Decides, sym, subst}
+use Rattle.std.proofs.lemmas.Bool.Decides.{same_from_decides}
 use Rattle.sf_check.specs.declared.insn.Insn.{Insn}
-use Rattle.sf_check.specs.Stacks.{IsPlain}
-use Rattle.sf_book.specs.Books.{BookData}
-use Rattle.sf_crew.specs.Explorations.{IsExactExploration, IsExplorationOf}
-use Rattle.sf_policy.specs.Filters.{SpellStack}
-use Rattle.sf_policy.specs.FiltersLaws.{as_many}
-use Rattle.sf_compare.specs.FoundSoFar.{AreFindingsByRule}
-use Rattle.sf_compare.specs.Comparisons.{Compared, IsComparison}
+use Rattle.sf_policy.specs.Filters.{SpellPrograms}
+use Rattle.sf_relations.specs.declared.relation.Relation.{Relation}
+use Rattle.sf_relations.specs.declared.relation.Relation.TheVariants.{Looser, Tighter, Different, Pretended}
+use Rattle.sf_relations.specs.declared.examples.Example.{Example}
+use Rattle.sf_relations.specs.declared.findings.Findings.{Findings}
+use Rattle.sf_relations.specs.Changes.{IsFinding}
+use Rattle.sf_relations.specs.Comparing.{AreFindingsBetween}
+use Rattle.sf_compare.specs.Comparisons.{Compared, IsComparison, LetsSomeThrough}
 
--- the explored stack has a program for each file
-pub within_explored : (files : List (List ℕ)) (program stack : List (List Insn)) (budget : ℕ) (s : BookData)
-    (old_count count : ℕ) → SpellStack files program → stack ≡ program → IsExplorationOf stack budget s
-    → length files ≡ count → old_count ≤ count → old_count ≤ length s.stack
-within_explored files program stack budget s old_count count spelled is end counted within =
-    let programs : length program ≡ length files = as_many files program spelled.spelled in
-    let explored : length s.stack ≡ length program = ap (λ (l : List (List Insn)). length l) (end.of ∙ is) in
-    omega (arith, programs, explored, counted, within)
+abbrev OneStack : Type 0
+OneStack = (files : List (List ℕ)) (a b : List (List Insn)) → SpellPrograms files a → SpellPrograms files b → a ≡ b
 
--- the files spell the stack that was explored, and what is found is told by that exploration
-pub compared : (files : List (List ℕ)) (program stack : List (List Insn)) (old_count budget : ℕ) (s : BookData)
-    (c : Compared) → SpellStack files program → stack ≡ program → IsExplorationOf stack budget s
-    → (IsPlain stack → IsExactExploration stack budget s) → c.settled ≡ s → c.old_count ≡ old_count
-    → AreFindingsByRule s old_count c.findings → IsComparison files old_count budget c
-compared files program stack old_count budget s c spelled is end plain same parted found =
-    let at : c.settled.stack ≡ stack = ap (λ (b : BookData). b.stack) same ∙ end.of in
-    record {
-      stack = rw (at, is) spelled;
-      compared = record {
-        end = rw same (subst (λ (st : List (List Insn)). IsExplorationOf st budget s) (sym end.of) end);
-        plain = rw same (subst (λ (st : List (List Insn)). IsPlain st → IsExactExploration st budget s)
-            (sym end.of) plain);
-        parted = parted;
-        each_relation = rw same found;
-      };
-    }
+abbrev OneFinding : Type 0
+OneFinding = (old new : List (List Insn)) (r : Relation) (a b : Option Example) → IsFinding old new r a
+    → IsFinding old new r b → a ≡ b
+
+abbrev findings_of : Option Example → Option Example → Option Example → Option Example → Findings
+findings_of l t d p = record { looser = l; tighter = t; different = d; pretended = p }
+
+same-parts : {l l' t t' d d' p p' : Option Example} → l ≡ l' → t ≡ t' → d ≡ d' → p ≡ p'
+    → findings_of l t d p ≡ findings_of l' t' d' p'
+same-parts el et ed ep = cc
+
+one-findings : OneFinding → (old new : List (List Insn)) (f g : Findings) → AreFindingsBetween old new f
+    → AreFindingsBetween old new g → f ≡ g
+one-findings one old new f g h k = same-parts (one old new Looser f.looser g.looser h.looser k.looser)
+    (one old new Tighter f.tighter g.tighter h.tighter k.tighter)
+    (one old new Different f.different g.different h.different k.different)
+    (one old new Pretended f.pretended g.pretended h.pretended k.pretended)
+
+abbrev compared_of : List (List Insn) → List (List Insn) → ℕ → Findings → Bool → Bool → Compared
+compared_of old new nodes findings through_old through_new = record {
+  old = old;
+  new = new;
+  nodes = nodes;
+  findings = findings;
+  through_old = through_old;
+  through_new = through_new;
+}
+
+same-compared : {o o' n n' : List (List Insn)} {m m' : ℕ} {f f' : Findings} {p p' q q' : Bool} → o ≡ o' → n ≡ n'
+    → m ≡ m' → f ≡ f' → p ≡ p' → q ≡ q' → compared_of o n m f p q ≡ compared_of o' n' m' f' p' q'
+same-compared eo en em ef ep eq = cc
+
+pub one-comparison : OneStack → OneFinding → (old new : List (List ℕ)) (c d : Compared) → IsComparison old new c
+    → IsComparison old new d → c.nodes ≡ d.nodes → c ≡ d
+one-comparison stack finding old new c d h k nodes =
+    let first : c.old ≡ d.old = stack old c.old d.old h.old_stack.spelled k.old_stack.spelled in
+    let second : c.new ≡ d.new = stack new c.new d.new h.new_stack.spelled k.new_stack.spelled in
+    let found : AreFindingsBetween c.old c.new d.findings
+    = subst (λ (ps : List (List Insn)). AreFindingsBetween ps c.new d.findings) (sym first)
+    (subst (λ (ps : List (List Insn)). AreFindingsBetween d.old ps d.findings) (sym second) k.findings) in
+    let was : Decides d.through_old (LetsSomeThrough c.old)
+    = subst (λ (ps : List (List Insn)). Decides d.through_old (LetsSomeThrough ps)) (sym first) k.through_old in
+    let is : Decides d.through_new (LetsSomeThrough c.new)
+    = subst (λ (ps : List (List Insn)). Decides d.through_new (LetsSomeThrough ps)) (sym second) k.through_new in
+    same-compared first second nodes (one-findings finding c.old c.new c.findings d.findings h.findings found)
+    (same_from_decides c.through_old d.through_old h.through_old was)
+    (same_from_decides c.through_new d.through_new h.through_new is)

@@ -1,4 +1,4 @@
-pub mod ChangeLemmas
+pub mod FaultLemmas
 pub mod ComparisonLemmas
 pub mod UserLemmas
-pub mod OneComparison
+pub mod PassingLemmas

@@ -1,6 +1,4 @@
-pub mod Relations
-pub mod Finding
-pub mod Changes
-pub mod FoundSoFar
 pub mod Comparisons
 pub mod Documents
+pub mod Faults
+pub mod Upward

@@ -1,146 +1,168 @@
 //! The comparison of two stacks of filter files.
 
-ghost use Rattle.std.specs.Prelude.{◌≡◌, ◌⊎◌, ◌<◌, ◌≤◌, length, map, IfOk, IfErr};
-ghost use Rattle.sf_policy.specs.Filters.{IsFirstRefusal};
-ghost use Rattle.sf_compare.specs.Changes.{AreAnswersOfRegions};
-ghost use Rattle.sf_compare.specs.Comparisons.{change_of, IsComparison};
-ghost use Rattle.sf_compare.specs.FoundSoFar.{AreFindingsByRule};
+ghost use Rattle.std.specs.Prelude.{◌≡◌, ◌⊎◌, ◌↔◌, ◌<◌, ◌≤◌, List, length, map, IfOk, IfErr, IsTrue};
+ghost use Rattle.sf_check.specs.declared.insn.Insn.{Insn};
+ghost use Rattle.sf_diagram.specs.Stores.{KeepsStore};
+ghost use Rattle.sf_behaviour.specs.Answering.{IsBehaviour};
+ghost use Rattle.sf_relations.specs.Comparing.{AreFindingsBetween};
+ghost use Rattle.sf_compare.specs.Comparisons.{IsComparison, LetsSomeThrough, finding_of};
+ghost use Rattle.sf_compare.specs.Faults.{IsRefusalOfBoth};
 
-use crate::changes::{Change, Findings, answers_of_regions, find_changes};
-use crate::relation::Relation;
-use sf_book::Settled;
-use sf_crew::{Gate, explore};
-use sf_policy::{Fault, stack_of};
-use sf_run::PartAnswers;
+use crate::files::stacks_of;
+use sf_behaviour::behaviour;
+use sf_check::Stack;
+use sf_diagram::{Id, Store};
+use sf_policy::Fault;
+use sf_relations::{Example, Findings, Relation, find_changes, least_example};
 use std::alloc::Global;
 use std::marker::Model;
-use std::sync::{Arc, Wait};
-use std::thread::Threads;
 
-/// What a comparison found: how the exploration of both stacks as one ended, how many of its programs are those of the
-/// old stack, the answers of both stacks to each region, and what was found of each relation.
+/// What is found of each relation between the answers of two stacks.
 #[derive(Drop)]
 pub struct Comparison {
-    settled: Settled,
-    old_count: usize,
-    answers: Vec<PartAnswers>,
+    old: Stack,
+    new: Stack,
+    // How many nodes the diagrams have.
+    nodes: usize,
     findings: Findings,
+    // Whether some call may get through the old stack, and through the new one.
+    through_old: bool,
+    through_new: bool,
 }
 
 impl Model for Comparison {
-    ghost use Rattle.sf_compare.specs.Comparisons.{Compared, IsOfTwoStacks};
+    ghost use Rattle.sf_compare.specs.Comparisons.{Compared};
 
     ghost Value = { Compared };
 
     ghost view = { λ c. record {
-      settled = c.settled;
-      old_count = c.old_count;
-      answers = c.answers.items;
+      old = c.old;
+      new = c.new;
+      nodes = c.nodes;
       findings = c.findings;
+      through_old = c.through_old;
+      through_new = c.through_new;
     } };
-
-    ghost invariant = { λ c. IsOfTwoStacks (record {
-      settled = c.settled;
-      old_count = c.old_count;
-      answers = c.answers.items;
-      findings = c.findings;
-    }) };
 }
 
 impl Comparison {
-    /// How the exploration of both stacks as one ended; the old one's programs stand before those of the new one.
-    pub fn settled(&self) -> &Settled
-        ensures { result.now ≡ self.now.settled }
+    /// The old stack.
+    pub fn old_stack(&self) -> &Stack
+        ensures { result.now ≡ self.now.old }
     {
-        &self.settled
+        &self.old
     }
 
-    /// How many of the explored stack's programs are those of the old stack. They stand first.
-    pub fn old_count(&self) -> usize
-        ensures same { result ≡ self.now.old_count }
-        ensures part { self.now.old_count ≤ length self.now.settled.stack }
+    /// The new stack.
+    pub fn new_stack(&self) -> &Stack
+        ensures { result.now ≡ self.now.new }
     {
-        self.old_count
+        &self.new
     }
 
-    /// The answers of both stacks to the members of each region, in the order of the regions.
-    pub fn answers(&self) -> &[PartAnswers]
-        ensures same { result.now ≡ self.now.answers }
-        ensures right { AreAnswersOfRegions self.now.settled self.now.old_count result.now }
+    /// How many nodes the diagrams have.
+    pub fn nodes(&self) -> usize
+        ensures { result ≡ self.now.nodes }
     {
-        self.answers.as_slice()
+        self.nodes
     }
 
-    /// What was found of a relation.
-    pub fn change(&self, relation: Relation) -> Change
-        ensures { result ≡ change_of self.now relation }
+    /// Whether some call may get through the old stack, and whether one may through the new one.
+    pub fn passing(&self) -> (bool, bool)
+        ensures old { result.0 ≡ self.now.through_old }
+        ensures new { result.1 ≡ self.now.through_new }
     {
-        self.findings.of(relation)
+        (self.through_old, self.through_new)
+    }
+
+    /// What is found of a relation: the least input that has it, with both answers, or `None` where no input has it.
+    pub fn finding(&self, relation: Relation) -> Option<Example>
+        ensures { result ≡ finding_of self.now.findings relation }
+    {
+        match relation {
+            Relation::Looser => self.findings.looser,
+            Relation::Tighter => self.findings.tighter,
+            Relation::Different => self.findings.different,
+            Relation::Pretended => self.findings.pretended,
+        }
     }
 }
 
-/// Makes the comparison from an exploration of both stacks as one: it adds the answers of both stacks to each region,
-/// and what is found of each relation. The first `old_count` programs of the explored stack are the old stack, and the
-/// others the new one. The caller's condition: the explored stack has at least `old_count` programs. `Memory` where an
-/// allocation is refused, or a region's facts have too many owners.
-fn comparison_of(
+/// Whether some call may get through a stack, by the diagram of its answers: by some answer it gets further than by
+/// KILL_THREAD, whose number is 0. The caller's condition: the diagram is there. `Spent` and `Memory` as the store has
+/// them.
+fn lets_some_through(
     alloc: Global,
-    settled: Settled,
-    old_count: usize,
-) -> Result<Comparison, sf_ask::Fault>
-    requires { old_count ≤ length settled.stack }
-    ensures same { IfOk result (λ c. c.settled ≡ settled) }
-    ensures parted { IfOk result (λ c. c.old_count ≡ old_count) }
-    ensures found { IfOk result (λ c. AreFindingsByRule settled old_count c.findings) }
+    store: &mut Store,
+    answers: Id,
+) -> Result<bool, sf_diagram::Fault>
+    requires { answers < length store.old.trees }
+    ensures through { IfOk result (λ through. (programs : List (List Insn))
+        → IsBehaviour programs store.old.trees answers
+        → (IsTrue through ↔ LetsSomeThrough programs)) }
+    ensures keeps { KeepsStore store.old store.new }
 {
-    let answers = answers_of_regions(alloc, &settled, old_count)?;
-    let findings = find_changes(alloc, &settled, old_count, answers.as_slice())?;
-    Ok(Comparison {
-        settled,
-        old_count,
-        answers,
-        findings,
-    })
+    let refused = store.leaf(0)?;
+    let found = least_example(alloc, store, Relation::Looser, refused, answers)?;
+    Ok(found.is_some())
 }
 
-/// Compares two stacks, for all inputs. The first `old_count` filter files are those of the old stack, and the others
-/// those of the new one. The files of each stack stand in order of installation, the newest last. A stack without files
-/// allows each input. Both stacks are explored as one, by at most `budget` works; where these aren't enough, pieces
-/// stay outstanding. The gate sees each work before it is committed.
-///
-/// The caller's conditions: at least `old_count` files, a budget from 1 to 1,000,000 (the contract holds for others
-/// too), and 1 to 64 workers. Where there are more than one, each gets a thread, unless it can't be started or nothing
-/// is left to do. Waits for the workers.
-///
-/// Refusals, tried in this order for the files of both stacks together, as if they were one stack: `NoFilter` where
-/// there is no file, `TooMany` where there are more than 64; for each file in order `Ragged`, `Empty` or `TooLong` for
-/// its length, or the first fault of its instructions; `PathLength` where the path through all filters is longer than
-/// 32768. `Memory` can come anywhere.
-pub fn compare<R: Threads + Wait + Sync, G: Gate>(
-    rt: &R,
+/// What is found of each relation between the answers of two stacks, whether some call may get through the old stack,
+/// whether one may through the new one, and how many nodes the diagrams have then. `Spent` where they would have more
+/// than `nodes`, `Memory` where an allocation is refused.
+fn find(
     alloc: Global,
-    filters: &[Vec<u8>],
-    old_count: usize,
-    budget: u32,
-    workers: usize,
-    gate: &G,
+    nodes: u32,
+    old: &Stack,
+    new: &Stack,
+) -> Result<(Findings, bool, bool, usize), sf_diagram::Fault>
+    ensures findings { IfOk result (λ f. AreFindingsBetween old.now new.now f.0) }
+    ensures old { IfOk result (λ f. IsTrue f.1 ↔ LetsSomeThrough old.now) }
+    ensures new { IfOk result (λ f. IsTrue f.2 ↔ LetsSomeThrough new.now) }
+    ensures few { IfOk result (λ f. f.3 ≤ nodes) }
+{
+    let mut store = Store::new(alloc, nodes)?;
+    let before = behaviour(alloc, &mut store, old.programs())?;
+    let after = behaviour(alloc, &mut store, new.programs())?;
+    let findings = find_changes(alloc, &mut store, before, after)?;
+    let through_old = lets_some_through(alloc, &mut store, before)?;
+    let through_new = lets_some_through(alloc, &mut store, after)?;
+    Ok((findings, through_old, through_new, store.count()))
+}
+
+/// Compares two stacks of filter files, for all inputs. The files of each stand in order of installation, the newest
+/// last.
+///
+/// Refusals, tried in this order: what `stack_of` refuses for the old files, then what it refuses for the new ones;
+/// then `TooLarge`, where the diagrams of the answers would have more than `nodes` nodes. Filters are numbered over
+/// both stacks, those of the old one first. `Memory` can come anywhere.
+pub fn compare(
+    alloc: Global,
+    nodes: u32,
+    old: &[Vec<u8>],
+    new: &[Vec<u8>],
 ) -> Result<Comparison, Fault>
-    requires workers { (0 < workers) × (workers ≤ 64) }
-    requires old_count { old_count ≤ length filters.now }
+    // What is found is right of the stacks that the files spell.
+    ensures found { IfOk result (IsComparison (map (λ f. f.items) old.now)
+        (map (λ f. f.items) new.now)) }
 
-    // What is found of the two stacks that the files spell is right.
-    ensures found { IfOk result (IsComparison (map (λ f. f.items) filters.now) old_count budget) }
+    // The diagrams have no more nodes than are allowed.
+    ensures few { IfOk result (λ c. c.nodes ≤ nodes) }
 
-    // Any error is the files' first refusal, or refused memory.
-    ensures refused { IfErr result (λ e. (e ≡ Fault.Memory)
-        ⊎ IsFirstRefusal (map (λ f. f.items) filters.now) e) }
+    // Any error is the files' first refusal, the budget of nodes, or refused memory.
+    ensures refused { IfErr result (λ e. (e ≡ Fault.Memory) ⊎ ((e ≡ Fault.TooLarge nodes)
+        ⊎ IsRefusalOfBoth (map (λ f. f.items) old.now) (map (λ f. f.items) new.now) e)) }
 {
-    let stack = Arc::new(alloc, stack_of(alloc, filters)?)?;
-    let Ok(settled) = explore(rt, alloc, stack, budget, workers, gate) else {
-        return Err(Fault::Memory);
-    };
-    match comparison_of(alloc, settled, old_count) {
-        Ok(comparison) => Ok(comparison),
-        Err(_) => Err(Fault::Memory),
+    let (old, new) = stacks_of(alloc, old, new)?;
+    match find(alloc, nodes, &old, &new) {
+        Ok((findings, through_old, through_new, nodes)) => Ok(Comparison {
+            old,
+            new,
+            nodes,
+            findings,
+            through_old,
+            through_new,
+        }),
+        Err(fault) => Err(Fault::of_diagrams(fault, nodes)),
     }
 }

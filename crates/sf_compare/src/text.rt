@@ -1,17 +1,15 @@
-//! The text of a comparison.
+//! The text of a comparison. After an error a part of what was to be added may stand in the text.
 
-ghost use Rattle.std.specs.Prelude.{◌≡◌, ◌≤◌, ◌⊎◌, ◌++◌, IfOk, IfErr, OnOk, OnErr, length, string_bytes};
+ghost use Rattle.std.specs.Prelude.{◌≡◌, ◌⊎◌, ◌++◌, IfOk, IfErr, OnOk, OnErr, string_bytes};
 ghost use Rattle.std.specs.Io.KnownBytes.{Appends};
 ghost use Rattle.sf_policy.specs.Texts.{AppendsFront, answer_words};
 ghost use Rattle.sf_policy.specs.declared.fault.Fault.TheVariants.{Memory as MemoryFault, Write as WriteFault};
-ghost use Rattle.sf_compare.specs.Comparisons.{change_line, changes_text, comparison_text, part_line, sizes_text};
+ghost use Rattle.sf_compare.specs.Comparisons.{change_line, changes_text, comparison_head, comparison_text, part_line};
 
-use crate::changes::Change;
 use crate::comparison::Comparison;
-use crate::relation::Relation;
-use sf_book::Settled;
-use sf_check::{Program, path_length};
-use sf_policy::{Fault, hex_of, push_action, push_counts, write_bytes};
+use sf_check::Stack;
+use sf_policy::{Fault, hex_of, push_action, push_nodes, push_size, write_bytes};
+use sf_relations::{Example, Relation};
 use sf_run::Answer;
 use std::alloc::{AllocError, Global};
 use std::io::Write;
@@ -28,22 +26,20 @@ fn words_of(alloc: Global, answer: Answer) -> Result<String, AllocError>
     Ok(text)
 }
 
-/// Adds the line of a relation: the word `relation`, and `never`, `unsettled` or `found`. Behind `found` the line has
-/// the example's bytes in hexadecimal digits, the old stack's answer to it, `->`, and the new stack's answer. An error
-/// where an allocation is refused: part of the line may be added then.
+/// Adds the line of a relation: the word `relation`, and `never` or `found`. Behind `found` the line has the example's
+/// bytes in hexadecimal digits, the old stack's answer to it, `->`, and the new stack's answer.
 fn push_change(
     alloc: Global,
     text: &mut String,
     relation: &str,
-    change: Change,
+    finding: Option<Example>,
 ) -> Result<(), AllocError>
     ensures { OnOk result (string_bytes text.new ≡ string_bytes text.old
-        ++ change_line relation.now change) }
+        ++ change_line relation.now finding) }
 {
-    match change {
-        Change::Never => write!(text, "{relation} never\n"),
-        Change::Unsettled => write!(text, "{relation} unsettled\n"),
-        Change::Found(example) => {
+    match finding {
+        None => write!(text, "{relation} never\n"),
+        Some(example) => {
             let digits = hex_of(alloc, &example.input)?;
             let before = words_of(alloc, example.before)?;
             let after = words_of(alloc, example.after)?;
@@ -52,58 +48,55 @@ fn push_change(
     }
 }
 
-/// Adds the lines of the relations: `looser`, `tighter` and `different`, in this order. An error where an allocation is
-/// refused: part of the lines may be added then.
+/// Adds the lines of the relations: `looser`, `tighter` and `different`, in this order.
 fn push_changes(alloc: Global, text: &mut String, comparison: &Comparison) -> Result<(), AllocError>
     ensures { OnOk result (string_bytes text.new ≡ string_bytes text.old
-        ++ changes_text comparison.now) }
+        ++ changes_text comparison.now.findings) }
 {
-    push_change(alloc, text, "looser", comparison.change(Relation::Looser))?;
-    push_change(alloc, text, "tighter", comparison.change(Relation::Tighter))?;
+    push_change(alloc, text, "looser", comparison.finding(Relation::Looser))?;
+    push_change(
+        alloc,
+        text,
+        "tighter",
+        comparison.finding(Relation::Tighter),
+    )?;
     push_change(
         alloc,
         text,
         "different",
-        comparison.change(Relation::Different),
+        comparison.finding(Relation::Different),
     )
 }
 
-/// Adds the line with the size of one of the two stacks: the word `which`, how many filters the stack has, and the
-/// length of the path through them (`path_length`). `which` is `old` or `new`. The caller's condition: there are at
-/// most 64 programs. An error where an allocation is refused: part of the line may be added then.
-fn push_stack_size(text: &mut String, which: &str, programs: &[Program]) -> Result<(), AllocError>
-    requires { length programs.now ≤ 64 }
+/// Adds the line with the size of one of the two stacks: the word `which`, which is `old` or `new`, and the line of
+/// `push_size`.
+fn push_part(text: &mut String, which: &str, stack: &Stack) -> Result<(), AllocError>
     ensures { OnOk result (string_bytes text.new ≡ string_bytes text.old
-        ++ part_line which.now programs.now) }
+        ++ part_line which.now stack.now) }
 {
-    let filters = programs.len();
-    let path = path_length(programs);
-    write!(text, "{which} filters {filters} path {path}\n")
+    write!(text, "{which} ")?;
+    push_size(text, stack.programs())
 }
 
-/// Adds what stands above the relations: the version of the text, the sizes of both stacks, and the counts of the
-/// exploration. The first `old_count` programs are the old stack, and the others the new one. The caller's condition:
-/// the explored stack has at least `old_count` programs. An error where an allocation is refused: part of the lines may
-/// be added then.
-fn push_head(text: &mut String, settled: &Settled, old_count: usize) -> Result<(), AllocError>
-    requires { old_count ≤ length settled.now.stack }
+/// Adds what stands above the relations: the version of the text, the sizes of both stacks, and how many nodes the
+/// diagrams have.
+fn push_head(text: &mut String, comparison: &Comparison) -> Result<(), AllocError>
     ensures { OnOk result (string_bytes text.new ≡ string_bytes text.old
-        ++ sizes_text settled.now old_count) }
+        ++ comparison_head comparison.now) }
 {
-    text.push_str("seccomp_audit compare 1\n")?;
-    let programs = settled.stack().programs();
-    push_stack_size(text, "old", &programs[..old_count])?;
-    push_stack_size(text, "new", &programs[old_count..])?;
-    push_counts(text, settled.counts())
+    text.push_str("seccomp_audit compare 2\n")?;
+    push_part(text, "old", comparison.old_stack())?;
+    push_part(text, "new", comparison.new_stack())?;
+    push_nodes(text, comparison.nodes())
 }
 
-/// The whole text of a comparison: its version, the sizes of both stacks, the counts of the exploration, and a line for
-/// each relation. An error where an allocation is refused.
+/// The whole text of a comparison: its version, the sizes of both stacks, how many nodes the diagrams have, and a line
+/// for each relation. An error where an allocation is refused.
 pub fn text_of_comparison(alloc: Global, comparison: &Comparison) -> Result<String, AllocError>
     ensures { IfOk result (λ text. string_bytes text ≡ comparison_text comparison.now) }
 {
     let mut text = String::new(alloc);
-    push_head(&mut text, comparison.settled(), comparison.old_count())?;
+    push_head(&mut text, comparison)?;
     push_changes(alloc, &mut text, comparison)?;
     Ok(text)
 }

@@ -1,5 +1,1 @@
-pub mod PlaceLemmas
-pub mod LeftLemmas
-pub mod AllowLemmas
-pub mod MeaningLemmas
-pub mod NeedsLemmas
+pub mod OneLemmas

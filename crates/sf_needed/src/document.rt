@@ -1,19 +1,18 @@
 //! Which filters of a stack are needed, as JSON.
 
-ghost use Rattle.std.specs.Prelude.{◌≡◌, ◌<◌, ◌+◌, All, map, IfOk};
+ghost use Rattle.std.specs.Prelude.{◌≡◌, ◌<◌, ◌+◌, Some, All, map, IfOk};
 ghost use Rattle.serde_json.specs.View.{view};
 ghost use Rattle.sf_json.specs.Documents.{count};
-ghost use Rattle.sf_needed.specs.Documents.{finding_document, finding_documents, finding_object, needed_document, needs_document, size_document, needed_totals_document};
+ghost use Rattle.sf_needed.specs.Documents.{finding_document, finding_documents, finding_object, needs_document, needed_totals_document};
 
-use crate::needs::Needs;
-use sf_compare::Change;
-use sf_insn::Input;
-use sf_json::{Document, Fields, input_document};
+use crate::needs::NeededFilters;
+use sf_json::{Document, Fields, diagram_document, input_document, sizes_document};
+use sf_relations::Example;
 use std::alloc::{AllocError, Global};
 
 /// The object of one filter: its number, counted from 1 (`number`), the word for what was found of it, which is
-/// `needed`, `spare` or `unsettled` (`result`), and an example (`example`). Without an example the caller gives null
-/// for it. An error where an allocation is refused.
+/// `needed` or `spare` (`result`), and an example (`example`), for which the caller gives null where there is none. An
+/// error where an allocation is refused.
 fn finding_object(
     alloc: Global,
     number: usize,
@@ -29,30 +28,36 @@ fn finding_object(
     Ok(Document::object(fields))
 }
 
-/// The object of a filter that is needed: its number, the word `needed`, and as the example this input, which gets
-/// further without the filter. The call of the example isn't named. An error where an allocation is refused.
-fn needed_document(alloc: Global, number: usize, input: &Input) -> Result<Document, AllocError>
-    ensures { IfOk result (λ d. view d ≡ needed_document number input.now) }
+/// The object of a filter that is needed, with this example. The call of the example isn't named. An error where an
+/// allocation is refused.
+fn needed_document(alloc: Global, number: usize, example: &Example) -> Result<Document, AllocError>
+    ensures { IfOk result (λ d. view d ≡ finding_document number (Some example.now)) }
 {
-    let example = input_document(alloc, &[], input)?;
-    finding_object(alloc, number, "needed", example)
+    let input = input_document(alloc, &[], &example.input)?;
+    finding_object(alloc, number, "needed", input)
 }
 
-/// The object of one filter: its number, what was found of it, and an example, which is null where the filter isn't
-/// needed. An error where an allocation is refused.
-fn finding_document(alloc: Global, number: usize, finding: Change) -> Result<Document, AllocError>
+/// The object of one filter: its number, what was found of it, and an example, which is null where the filter is spare.
+/// An error where an allocation is refused.
+fn finding_document(
+    alloc: Global,
+    number: usize,
+    finding: Option<Example>,
+) -> Result<Document, AllocError>
     ensures { IfOk result (λ d. view d ≡ finding_document number finding) }
 {
     match finding {
-        Change::Never => finding_object(alloc, number, "spare", Document::null()),
-        Change::Unsettled => finding_object(alloc, number, "unsettled", Document::null()),
-        Change::Found(example) => needed_document(alloc, number, &example.input),
+        None => finding_object(alloc, number, "spare", Document::null()),
+        Some(example) => needed_document(alloc, number, &example),
     }
 }
 
 /// The objects of all filters (`finding_document`), in their order, with numbers from 1. An error where an allocation
 /// is refused.
-fn finding_documents(alloc: Global, findings: &[Change]) -> Result<Vec<Document>, AllocError>
+fn finding_documents(
+    alloc: Global,
+    findings: &[Option<Example>],
+) -> Result<Vec<Document>, AllocError>
     ensures { IfOk result (λ v. map view v.items ≡ finding_documents 1 findings.now) }
 {
     let mut documents = Vec::new(alloc);
@@ -76,42 +81,30 @@ fn kept_documents(alloc: Global, kept: &[usize]) -> Result<Vec<Document>, AllocE
     Ok(documents)
 }
 
-/// The size of the stack as JSON: how many filters it has, and the length of the path through them. An error where an
-/// allocation is refused.
-fn size_document(alloc: Global, needs: &Needs) -> Result<Document, AllocError>
-    ensures { IfOk result (λ d. view d ≡ size_document needs.now) }
-{
-    let fields = Fields::new(alloc)
-        .with("filters", Document::count(needs.findings().len()))?
-        .with("path", Document::count(needs.path_length()))?;
-    Ok(Document::object(fields))
-}
-
-/// The totals as JSON: how many filters were found needed, spare and unsettled, and how many are kept. An error where
-/// an allocation is refused.
-fn totals_document(alloc: Global, needs: &Needs) -> Result<Document, AllocError>
+/// The totals as JSON: how many filters are needed, spare and kept. An error where an allocation is refused.
+fn totals_document(alloc: Global, needs: &NeededFilters) -> Result<Document, AllocError>
     ensures { IfOk result (λ d. view d ≡ needed_totals_document needs.now) }
 {
     let fields = Fields::new(alloc)
         .with("needed", Document::count(needs.count_needed()))?
         .with("spare", Document::count(needs.count_spare()))?
-        .with("unsettled", Document::count(needs.count_unsettled()))?
         .with("kept", Document::count(needs.kept().len()))?;
     Ok(Document::object(fields))
 }
 
 /// Which filters of a stack are needed, as JSON. The object has the name of the command (`needed`, in the field
-/// `seccomp_audit`), the version of the form, the size of the stack, what was found of each filter, the numbers of the
-/// filters that are kept, and the totals. An error where an allocation is refused.
-pub fn needs_document(alloc: Global, needs: &Needs) -> Result<Document, AllocError>
+/// `seccomp_audit`), the version of the form, the size of the stack, how many nodes the diagrams have, what was found
+/// of each filter, the numbers of the filters that are kept, and the totals. An error where an allocation is refused.
+pub fn needs_document(alloc: Global, needs: &NeededFilters) -> Result<Document, AllocError>
     ensures { IfOk result (λ d. view d ≡ needs_document needs.now) }
 {
     let filters = finding_documents(alloc, needs.findings())?;
     let kept = kept_documents(alloc, needs.kept())?;
     let fields = Fields::new(alloc)
         .with("seccomp_audit", Document::copy_of(alloc, "needed")?)?
-        .with("version", Document::number(1))?
-        .with("stack", size_document(alloc, needs)?)?
+        .with("version", Document::number(2))?
+        .with("stack", sizes_document(alloc, needs.stack().programs())?)?
+        .with("diagram", diagram_document(alloc, needs.nodes())?)?
         .with("filters", Document::array(alloc, filters)?)?
         .with("kept", Document::array(alloc, kept)?)?
         .with("totals", totals_document(alloc, needs)?)?;

@@ -1,29 +1,27 @@
-//! Laws of the definitions, each the contract of a function that does nothing.
+//! Laws of the definitions, each the contract of a function that only calls other laws.
 
-ghost use Rattle.std.specs.Prelude.{ℕ, List};
-ghost use Rattle.sf_compare.specs.declared.changes.Change.{Change};
-ghost use Rattle.sf_compare.specs.declared.relation.Relation.TheVariants.{Looser};
-ghost use Rattle.sf_check.specs.declared.insn.Insn.{Insn};
-ghost use Rattle.sf_policy.specs.Filters.{SpellStack};
-ghost use Rattle.sf_needed.specs.Needs.{AnswerAlike, Describes, IsFoundWithout, IsLeft};
+ghost use Rattle.std.specs.Prelude.{◌≡◌, ℕ, List};
+ghost use Rattle.sf_relations.specs.Needs.{AnswerTheSame, filters_at};
+ghost use Rattle.sf_needed.specs.Needs.{AreNeedsOfFiles, NeedsData};
 
-use sf_check::laws::one_program_of_a_file;
+use sf_policy::laws::one_stack;
+use sf_relations::{kept_filters_answer_alike, one_finding, one_list_of_kept_filters};
 
-/// However many filters `drop_while_alike` has dropped, those that are left answer each input as the whole stack does.
-pub fn dropping_changes_no_answer()
-    ensures { (files : List (List ℕ)) (budget : ℕ) (places : List ℕ) →
-        IsLeft files budget places → AnswerAlike files places }
+/// What is found of the same files differs at most in how many nodes the diagrams have. So it has one text and one
+/// document, where this number is the same.
+pub fn one_result()
+    ensures { (files : List (List ℕ)) (m n : NeedsData) → AreNeedsOfFiles files m
+        → AreNeedsOfFiles files n → m.nodes ≡ n.nodes → m ≡ n }
 {
-    one_program_of_a_file();
+    one_stack();
+    one_finding();
+    one_list_of_kept_filters();
 }
 
-/// A comparison of a stack with the stack without one of its filters finds the truth about this filter. Where it finds
-/// the filter spare, no input gets further without the filter. Where it finds the filter needed, the example gets
-/// further without the filter.
-pub fn a_finding_describes_its_filter()
-    ensures { (files : List (List ℕ)) (place budget : ℕ) (finding : Change)
-        (programs : List (List Insn)) → IsFoundWithout files place budget Looser finding
-        → SpellStack files programs → Describes programs place finding }
+/// The filters that are kept answer each input as the whole stack does.
+pub fn kept_filters_of_files_answer_alike()
+    ensures { (files : List (List ℕ)) (n : NeedsData) → AreNeedsOfFiles files n
+        → AnswerTheSame n.stack (filters_at n.stack n.kept) }
 {
-    one_program_of_a_file();
+    kept_filters_answer_alike();
 }

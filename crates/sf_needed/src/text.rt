@@ -1,42 +1,44 @@
-//! The text that says which filters of a stack are needed.
+//! The text that says which filters of a stack are needed. After an error a part of what was to be added may stand in
+//! the text.
 
-ghost use Rattle.std.specs.Prelude.{◌≡◌, ◌⊎◌, ◌++◌, ◌<◌, ◌^◌, All, IfOk, IfErr, OnOk, OnErr, length, string_bytes};
+ghost use Rattle.std.specs.Prelude.{◌≡◌, ◌⊎◌, ◌++◌, ◌<◌, All, IfOk, IfErr, OnOk, OnErr, string_bytes};
 ghost use Rattle.std.specs.Io.KnownBytes.{Appends};
 ghost use Rattle.sf_policy.specs.Texts.{AppendsFront};
 ghost use Rattle.sf_policy.specs.declared.fault.Fault.TheVariants.{Memory as MemoryFault, Write as WriteFault};
-ghost use Rattle.sf_needed.specs.Texts.{finding_line, finding_lines, needed_head_text, kept_line, kept_words, needs_text, needed_size_line, needed_total_line};
+ghost use Rattle.sf_needed.specs.Texts.{finding_line, finding_lines, kept_line, kept_words, needed_head_text, needs_text, needed_total_line};
 
-use crate::needs::Needs;
-use sf_compare::Change;
-use sf_policy::{Fault, hex_of, write_bytes};
+use crate::needs::NeededFilters;
+use sf_policy::{Fault, hex_of, push_nodes, push_size, write_bytes};
+use sf_relations::Example;
 use std::alloc::{AllocError, Global};
 use std::io::Write;
 
-/// Adds the line of a filter: `filter`, its number, from 1, and a word for what was found of it. The word is `spare`
-/// for `Never`, `unsettled` for `Unsettled`, and `needed` for `Found`. Behind `needed` come the bytes of the example's
-/// input as hexadecimal digits. An error where an allocation is refused; a part of the line may be added then.
+/// Adds the line of a filter: `filter`, its number, from 1, and `spare`, or `needed` with the bytes of the example's
+/// input as hexadecimal digits.
 fn push_finding(
     alloc: Global,
     text: &mut String,
     number: usize,
-    finding: Change,
+    finding: Option<Example>,
 ) -> Result<(), AllocError>
     ensures { OnOk result (string_bytes text.new ≡ string_bytes text.old
         ++ finding_line number finding) }
 {
     match finding {
-        Change::Never => write!(text, "filter {number} spare\n"),
-        Change::Unsettled => write!(text, "filter {number} unsettled\n"),
-        Change::Found(example) => {
+        None => write!(text, "filter {number} spare\n"),
+        Some(example) => {
             let digits = hex_of(alloc, &example.input)?;
             write!(text, "filter {number} needed {digits}\n")
         }
     }
 }
 
-/// Adds the lines of all filters, in their order, with numbers from 1. An error where an allocation is refused: part of
-/// the lines may be added then.
-fn push_findings(alloc: Global, text: &mut String, findings: &[Change]) -> Result<(), AllocError>
+/// Adds the lines of all filters, in their order, with numbers from 1.
+fn push_findings(
+    alloc: Global,
+    text: &mut String,
+    findings: &[Option<Example>],
+) -> Result<(), AllocError>
     ensures { OnOk result (string_bytes text.new ≡ string_bytes text.old
         ++ finding_lines 1 findings.now) }
 {
@@ -46,9 +48,8 @@ fn push_findings(alloc: Global, text: &mut String, findings: &[Change]) -> Resul
     Ok(())
 }
 
-/// Adds the numbers, from 1, of the filters at the places that are kept, each after a blank. Where there are none, adds
-/// a blank and a dash. The caller's condition: each place is below 64. An error where an allocation is refused: some
-/// numbers may be added then.
+/// Adds the numbers, from 1, of the filters at the places that are kept, each after a blank; where there are none, a
+/// blank and a dash. The caller's condition: each place is below 64.
 fn push_numbers(text: &mut String, kept: &[usize]) -> Result<(), AllocError>
     requires { All (λ p. p < 64) kept.now }
     ensures { OnOk result (string_bytes text.new ≡ string_bytes text.old ++ kept_words kept.now) }
@@ -63,7 +64,7 @@ fn push_numbers(text: &mut String, kept: &[usize]) -> Result<(), AllocError>
 }
 
 /// Adds the line of the filters that are kept: the word `kept`, and what `push_numbers` adds. The caller's condition:
-/// each place is below 64. An error where an allocation is refused: part of the line may be added then.
+/// each place is below 64.
 fn push_kept(text: &mut String, kept: &[usize]) -> Result<(), AllocError>
     requires { All (λ p. p < 64) kept.now }
     ensures { OnOk result (string_bytes text.new ≡ string_bytes text.old ++ kept_line kept.now) }
@@ -73,44 +74,31 @@ fn push_kept(text: &mut String, kept: &[usize]) -> Result<(), AllocError>
     text.push_str("\n")
 }
 
-/// Adds the line with the size of the stack: how many filters it has, and the length of the path through them. An error
-/// where an allocation is refused: part of the line may be added then.
-fn push_size(text: &mut String, filters: usize, path: usize) -> Result<(), AllocError>
-    ensures { OnOk result (string_bytes text.new ≡ string_bytes text.old
-        ++ needed_size_line filters path) }
-{
-    write!(text, "filters {filters} path {path}\n")
-}
-
-/// Adds the two lines above those of the filters: the version of the text, and the size of the stack. An error where an
-/// allocation is refused: part of the lines may be added then.
-fn push_head(text: &mut String, needs: &Needs) -> Result<(), AllocError>
+/// Adds the lines above those of the filters: the version of the text, the size of the stack, and how many nodes the
+/// diagrams have.
+fn push_head(text: &mut String, needs: &NeededFilters) -> Result<(), AllocError>
     ensures { OnOk result (string_bytes text.new ≡ string_bytes text.old
         ++ needed_head_text needs.now) }
 {
-    text.push_str("seccomp_audit needed 1\n")?;
-    push_size(text, needs.findings().len(), needs.path_length())
+    text.push_str("seccomp_audit needed 2\n")?;
+    push_size(text, needs.stack().programs())?;
+    push_nodes(text, needs.nodes())
 }
 
-/// Adds the last line: how many filters were found needed, spare and unsettled, and how many are kept. An error where
-/// an allocation is refused: part of the line may be added then.
-fn push_total(text: &mut String, needs: &Needs) -> Result<(), AllocError>
+/// Adds the last line: how many filters are needed, how many are spare, and how many are kept.
+fn push_total(text: &mut String, needs: &NeededFilters) -> Result<(), AllocError>
     ensures { OnOk result (string_bytes text.new ≡ string_bytes text.old
         ++ needed_total_line needs.now) }
 {
     let needed = needs.count_needed();
     let spare = needs.count_spare();
-    let unsettled = needs.count_unsettled();
     let kept = needs.kept().len();
-    write!(
-        text,
-        "total needed {needed} spare {spare} unsettled {unsettled} kept {kept}\n"
-    )
+    write!(text, "total needed {needed} spare {spare} kept {kept}\n")
 }
 
-/// The whole text that says which filters are needed. Its lines are the version of the text, the size of the stack, one
-/// line for each filter, the filters that are kept, and the totals. An error where an allocation is refused.
-pub fn text_of_needs(alloc: Global, needs: &Needs) -> Result<String, AllocError>
+/// The whole text that says which filters are needed: the lines of `push_head`, one line for each filter, the filters
+/// that are kept, and the totals. An error where an allocation is refused.
+pub fn text_of_needs(alloc: Global, needs: &NeededFilters) -> Result<String, AllocError>
     ensures { IfOk result (λ text. string_bytes text ≡ needs_text needs.now) }
 {
     let mut text = String::new(alloc);
@@ -125,7 +113,11 @@ pub fn text_of_needs(alloc: Global, needs: &Needs) -> Result<String, AllocError>
 ///
 /// `Write` where a write fails or takes no byte: at most a beginning of the text was written then. `Memory` where the
 /// text can't be built: nothing was written then.
-pub fn write_needed<W: Write>(alloc: Global, needs: &Needs, out: &mut W) -> Result<(), Fault>
+pub fn write_needed<W: Write>(
+    alloc: Global,
+    needs: &NeededFilters,
+    out: &mut W,
+) -> Result<(), Fault>
     // The text is written, where the writer's bytes are known.
     ensures written { OnOk result (Appends (W.contents out.old) (W.contents out.new)
         (needs_text needs.now)) }
