@@ -1,4 +1,4 @@
-//! Tests of listings and of what differs between stacks, over filters that are worked by hand; of files of names; and
+//! Tests of listings and of what changes between stacks, over filters that are worked by hand; of files of names; and
 //! of numbers with blanks.
 #![tactic(auto)]
 

@@ -1,13 +1,12 @@
 //! Listings of small stacks, worked by hand.
 use crate::profiles::{bits, profile, words};
 use samples::{ALLOW, op, raw};
-use sf_crew::Open;
 use sf_insn::RawInsn;
-use sf_list::{Listing, list, write_listing};
+use sf_list::{digest_of, list, write_listing};
+use sf_names::Names;
+use sf_policy::Fault;
 use std::alloc::Global;
-use std::sync::Wait;
 use std::test::Fail;
-use std::thread::Threads;
 
 /// The bytes of a filter file.
 pub(crate) fn bytes_of(alloc: Global, insns: &[RawInsn]) -> Result<Vec<u8>, Fail> {
@@ -29,40 +28,63 @@ pub(crate) fn text_of(bytes: Vec<u8>) -> Result<String, Fail> {
     }
 }
 
-/// Lists one filter, by one worker, with at most so many leaves.
-pub(crate) fn listing_of<R: Threads + Wait + Sync>(
-    rt: &R,
-    alloc: Global,
-    insns: &[RawInsn],
-    leaves: usize,
-) -> Result<Listing, Fail> {
-    let mut files = Vec::new(alloc);
-    files.push(bytes_of(alloc, insns)?)?;
-    Ok(list(rt, alloc, files.as_slice(), 100000, 1, leaves, &Open)?)
+/// The lines of a text behind the one that begins with these words.
+pub(crate) fn lines_behind(alloc: Global, text: &str, words: &str) -> Result<String, Fail> {
+    let mut rows = String::new(alloc);
+    let mut behind = false;
+    for line in text.lines() {
+        if behind {
+            rows.push_str(line)?;
+            rows.push_str("\n")?;
+        }
+        behind = behind || line.starts_with(words);
+    }
+    Ok(rows)
 }
 
-/// The text of the listing of one filter.
-pub(crate) fn listing_text<R: Threads + Wait + Sync>(
-    rt: &R,
+/// The text of the list of one filter. `calls` says how rows are shown.
+pub(crate) fn listing_text(
     alloc: Global,
     insns: &[RawInsn],
-    leaves: usize,
+    names: &[Names],
+    calls: &Option<Vec<&str>>,
 ) -> Result<String, Fail> {
-    let listing = listing_of(rt, alloc, insns, leaves)?;
+    let mut files = Vec::new(alloc);
+    files.push(bytes_of(alloc, insns)?)?;
+    let listing = list(alloc, 100000, files.as_slice(), names, calls)?;
     let mut out: Vec<u8> = Vec::new(alloc);
-    write_listing(alloc, &listing, &[], &None, &mut out)?;
+    write_listing(alloc, &listing, names, &mut out)?;
     text_of(out)
+}
+
+/// The rows of one filter, each by itself, and the line that counts them.
+pub(crate) fn listed_rows(
+    alloc: Global,
+    insns: &[RawInsn],
+    names: &[Names],
+) -> Result<String, Fail> {
+    let text = listing_text(alloc, insns, names, &None)?;
+    lines_behind(alloc, text.as_str(), "filters ")
+}
+
+#[test]
+fn what_stands_above_the_rows(rt: HostRuntime) -> Result<(), Fail> {
+    let text = listing_text(rt.alloc(), &[ALLOW], &[], &None)?;
+    let expected = "seccomp_audit list 2
+filters 1 path 1
+arch any nr any ALLOW 0
+total rows 1
+";
+    assert_eq!(rt; text.as_str(), expected);
+    Ok(())
 }
 
 #[test]
 fn a_profile_of_x86_64(rt: HostRuntime) -> Result<(), Fail> {
-    let text = listing_text(&rt, rt.alloc(), &profile(), 20000)?;
+    let text = listed_rows(rt.alloc(), &profile(), &[])?;
     assert_eq!(rt;
         text.as_str(),
-        "seccomp_audit list 1
-filters 1 path 13
-regions 6 open 0 emptied 0 splits 5 commits 11
-arch 0xC000003E nr 0..15 ALLOW 0
+        "arch 0xC000003E nr 0..15 ALLOW 0
 arch 0xC000003E nr 16 ERRNO 1 if arg1_lo = 0x5412
 arch 0xC000003E nr 16 ALLOW 0 if arg1_lo != 0x5412
 arch 0xC000003E nr 17..58 ALLOW 0
@@ -70,7 +92,7 @@ arch 0xC000003E nr 59 ERRNO 1
 arch 0xC000003E nr 60..0x3FFFFFFF ALLOW 0
 arch 0xC000003E nr 0x40000000..0xFFFFFFFF KILL_PROCESS 0
 arch != 0xC000003E nr any KILL_PROCESS 0
-total rows 8 undetermined 0
+total rows 8
 "
     );
     Ok(())
@@ -78,41 +100,37 @@ total rows 8 undetermined 0
 
 #[test]
 fn bits_of_an_argument(rt: HostRuntime) -> Result<(), Fail> {
-    let text = listing_text(&rt, rt.alloc(), &bits(), 20000)?;
+    let text = listed_rows(rt.alloc(), &bits(), &[])?;
     assert_eq!(rt;
         text.as_str(),
-        "seccomp_audit list 1
-filters 1 path 6
-regions 3 open 0 emptied 0 splits 2 commits 5
-arch any nr 0..55 ALLOW 0
+        "arch any nr 0..55 ALLOW 0
 arch any nr 56 ALLOW 0 if arg0_lo & 0x7E020000 = 0x0
 arch any nr 56 ERRNO 1 if arg0_lo & 0x7E020000 != 0x0
 arch any nr 57..0xFFFFFFFF ALLOW 0
-total rows 4 undetermined 0
+total rows 4
 "
     );
     Ok(())
 }
 
+/// A comparison of two words takes a node for each number of the first one.
 #[test]
 fn a_word_against_a_word(rt: HostRuntime) -> Result<(), Fail> {
-    let text = listing_text(&rt, rt.alloc(), &words(), 20000)?;
-    assert_eq!(rt;
-        text.as_str(),
-        "seccomp_audit list 1
-filters 1 path 6
-regions 2 open 0 emptied 0 splits 1 commits 3
-arch any nr any ERRNO 1 | ALLOW 0
-total rows 1 undetermined 1
-"
-    );
-    Ok(())
+    let alloc = rt.alloc();
+    let mut files = Vec::new(alloc);
+    files.push(bytes_of(alloc, &words())?)?;
+    match list(alloc, 1000, files.as_slice(), &[], &None) {
+        Ok(_) => Err("it is listed".into()),
+        Err(fault) => {
+            assert_eq!(rt; fault, Fault::TooLarge { nodes: 1000 });
+            Ok(())
+        }
+    }
 }
 
 #[test]
 fn a_difference(rt: HostRuntime) -> Result<(), Fail> {
-    let text = listing_text(
-        &rt,
+    let text = listed_rows(
         rt.alloc(),
         &[
             op(0x20, 0),
@@ -121,17 +139,14 @@ fn a_difference(rt: HostRuntime) -> Result<(), Fail> {
             op(0x06, 0x50001),
             ALLOW,
         ],
-        20000,
+        &[],
     )?;
     assert_eq!(rt;
         text.as_str(),
-        "seccomp_audit list 1
-filters 1 path 5
-regions 2 open 0 emptied 0 splits 1 commits 3
-arch any nr 0..58 ALLOW 0
+        "arch any nr 0..58 ALLOW 0
 arch any nr 59 ERRNO 1
 arch any nr 60..0xFFFFFFFF ALLOW 0
-total rows 3 undetermined 0
+total rows 3
 "
     );
     Ok(())
@@ -139,8 +154,7 @@ total rows 3 undetermined 0
 
 #[test]
 fn a_sum(rt: HostRuntime) -> Result<(), Fail> {
-    let text = listing_text(
-        &rt,
+    let text = listed_rows(
         rt.alloc(),
         &[
             op(0x20, 0),
@@ -151,19 +165,30 @@ fn a_sum(rt: HostRuntime) -> Result<(), Fail> {
             op(0x06, 0x50001),
             ALLOW,
         ],
-        20000,
+        &[],
     )?;
     assert_eq!(rt;
         text.as_str(),
-        "seccomp_audit list 1
-filters 1 path 7
-regions 3 open 0 emptied 0 splits 2 commits 5
-arch any nr 0..53 ALLOW 0
+        "arch any nr 0..53 ALLOW 0
 arch any nr 54 ERRNO 1
 arch any nr 55..65535 ALLOW 0
 arch any nr 0x10000..0xFFFFFFFF KILL_PROCESS 0
-total rows 4 undetermined 0
+total rows 4
 "
     );
+    Ok(())
+}
+
+/// By `sha256sum`, of the lines of the rows.
+#[test]
+fn the_digest_of_a_profile(rt: HostRuntime) -> Result<(), Fail> {
+    let alloc = rt.alloc();
+    let mut files = Vec::new(alloc);
+    files.push(bytes_of(alloc, &profile())?)?;
+    let listing = list(alloc, 100000, files.as_slice(), &[], &None)?;
+    let text = digest_of(alloc, &listing)?;
+    let expected =
+        "list 2 sha256 0fa7a002459c2670afcd8778f85ba3a193708987ac086c48610e5cfd237d474f\n";
+    assert_eq!(rt; text.as_str(), expected);
     Ok(())
 }

@@ -1,14 +1,11 @@
 //! Names of calls, read from files and written in rows.
-use crate::listings::{listing_of, text_of};
+use crate::listings::{lines_behind, listed_rows, listing_text};
 use crate::profiles::{bits, profile, two};
 use sf_insn::RawInsn;
-use sf_list::write_listing;
 use sf_names::{Names, read_names};
 use sf_policy::Fault;
 use std::alloc::Global;
-use std::sync::Wait;
 use std::test::Fail;
-use std::thread::Threads;
 
 const X86_64: &str = "arch = 0xC000003E
 [calls]
@@ -35,17 +32,9 @@ pub(crate) fn names_of(alloc: Global, texts: &[&str]) -> Result<Vec<Names>, Fail
 }
 
 /// The rows of a filter, with these names.
-fn rows_with<R: Threads + Wait + Sync>(
-    rt: &R,
-    alloc: Global,
-    insns: &[RawInsn],
-    texts: &[&str],
-) -> Result<String, Fail> {
+fn rows_with(alloc: Global, insns: &[RawInsn], texts: &[&str]) -> Result<String, Fail> {
     let names = names_of(alloc, texts)?;
-    let listing = listing_of(rt, alloc, insns, 20000)?;
-    let mut out: Vec<u8> = Vec::new(alloc);
-    write_listing(alloc, &listing, names.as_slice(), &None, &mut out)?;
-    let text = text_of(out)?;
+    let text = listed_rows(alloc, insns, names.as_slice())?;
     rows_in(alloc, text.as_str())
 }
 
@@ -63,7 +52,7 @@ fn rows_in(alloc: Global, text: &str) -> Result<String, Fail> {
 
 #[test]
 fn names_of_some_calls(rt: HostRuntime) -> Result<(), Fail> {
-    let text = rows_with(&rt, rt.alloc(), &profile(), &[X86_64])?;
+    let text = rows_with(rt.alloc(), &profile(), &[X86_64])?;
     assert_eq!(rt;
         text.as_str(),
         "arch 0xC000003E nr 0..15 ALLOW 0 # read,write
@@ -81,15 +70,15 @@ arch != 0xC000003E nr any KILL_PROCESS 0
 
 #[test]
 fn names_of_another_architecture(rt: HostRuntime) -> Result<(), Fail> {
-    let bare = rows_with(&rt, rt.alloc(), &profile(), &[])?;
-    let text = rows_with(&rt, rt.alloc(), &profile(), &[I386])?;
+    let bare = rows_with(rt.alloc(), &profile(), &[])?;
+    let text = rows_with(rt.alloc(), &profile(), &[I386])?;
     assert_eq!(rt; text.as_str(), bare.as_str());
     Ok(())
 }
 
 #[test]
 fn names_of_two_architectures(rt: HostRuntime) -> Result<(), Fail> {
-    let text = rows_with(&rt, rt.alloc(), &two(), &[X86_64, I386])?;
+    let text = rows_with(rt.alloc(), &two(), &[X86_64, I386])?;
     assert_eq!(rt;
         text.as_str(),
         "arch 0x40000003 nr 0..10 ALLOW 0 # open
@@ -115,15 +104,15 @@ calls = { open = 5, execve = 11 }
 
 #[test]
 fn names_of_two_sets_of_a_file(rt: HostRuntime) -> Result<(), Fail> {
-    let files = rows_with(&rt, rt.alloc(), &two(), &[X86_64, I386])?;
-    let text = rows_with(&rt, rt.alloc(), &two(), &[BOTH])?;
+    let files = rows_with(rt.alloc(), &two(), &[X86_64, I386])?;
+    let text = rows_with(rt.alloc(), &two(), &[BOTH])?;
     assert_eq!(rt; text.as_str(), files.as_str());
     Ok(())
 }
 
 #[test]
 fn rows_about_all_architectures_have_no_names(rt: HostRuntime) -> Result<(), Fail> {
-    let text = rows_with(&rt, rt.alloc(), &bits(), &[X86_64])?;
+    let text = rows_with(rt.alloc(), &bits(), &[X86_64])?;
     assert_eq!(rt;
         text.as_str(),
         "arch any nr 0..55 ALLOW 0
@@ -136,12 +125,8 @@ arch any nr 57..0xFFFFFFFF ALLOW 0
 }
 
 /// The first row of the profile, with the names of one file.
-fn first_row<R: Threads + Wait + Sync>(
-    rt: &R,
-    alloc: Global,
-    texts: &[&str],
-) -> Result<String, Fail> {
-    let text = rows_with(rt, alloc, &profile(), texts)?;
+fn first_row(alloc: Global, texts: &[&str]) -> Result<String, Fail> {
+    let text = rows_with(alloc, &profile(), texts)?;
     Ok(String::from_str(alloc, text.lines().next().unwrap_or(""))?)
 }
 
@@ -149,7 +134,7 @@ fn first_row<R: Threads + Wait + Sync>(
 fn eight_names_by_their_numbers(rt: HostRuntime) -> Result<(), Fail> {
     let file = "calls = { h = 0, g = 2, f = 3, e = 5, d = 7, c = 11, b = 13, a = 15 }
 arch = 0xC000003E";
-    let row = first_row(&rt, rt.alloc(), &[file])?;
+    let row = first_row(rt.alloc(), &[file])?;
     let expected = "arch 0xC000003E nr 0..15 ALLOW 0 # h,g,f,e,d,c,b,a";
     assert_eq!(rt; row.as_str(), expected);
     Ok(())
@@ -159,7 +144,7 @@ arch = 0xC000003E";
 fn of_nine_names_eight(rt: HostRuntime) -> Result<(), Fail> {
     let file = "arch = 0xC000003E
 calls = { i = 0, h = 1, g = 2, f = 3, e = 5, d = 7, c = 11, b = 13, a = 15 }";
-    let row = first_row(&rt, rt.alloc(), &[file])?;
+    let row = first_row(rt.alloc(), &[file])?;
     let expected = "arch 0xC000003E nr 0..15 ALLOW 0 # i,h,g,f,e,d,c,b,..";
     assert_eq!(rt; row.as_str(), expected);
     Ok(())
@@ -169,9 +154,60 @@ calls = { i = 0, h = 1, g = 2, f = 3, e = 5, d = 7, c = 11, b = 13, a = 15 }";
 fn names_of_one_number_and_of_two_files(rt: HostRuntime) -> Result<(), Fail> {
     let one = "arch = 0xC000003E
 calls = { second = 3, first = 3, low = 1, beyond = 16 }";
-    let row = first_row(&rt, rt.alloc(), &[one, X86_64])?;
+    let row = first_row(rt.alloc(), &[one, X86_64])?;
     let expected = "arch 0xC000003E nr 0..15 ALLOW 0 # low,first,second,read,write";
     assert_eq!(rt; row.as_str(), expected);
+    Ok(())
+}
+
+/// The lines of the calls of these names, or of all where none is named, and the line that counts them.
+fn calls_with(
+    alloc: Global,
+    insns: &[RawInsn],
+    texts: &[&str],
+    wanted: &[&str],
+) -> Result<String, Fail> {
+    let names = names_of(alloc, texts)?;
+    let mut calls = Vec::new(alloc);
+    for name in wanted {
+        calls.push(*name)?;
+    }
+    let text = listing_text(alloc, insns, names.as_slice(), &Some(calls))?;
+    lines_behind(alloc, text.as_str(), "filters ")
+}
+
+#[test]
+fn lines_of_one_call(rt: HostRuntime) -> Result<(), Fail> {
+    let text = calls_with(rt.alloc(), &profile(), &[BOTH], &["ioctl"])?;
+    let expected = "x86_64 ioctl ERRNO 1 if arg1_lo = 0x5412
+x86_64 ioctl ALLOW 0 if arg1_lo != 0x5412
+total lines 2
+";
+    assert_eq!(rt; text.as_str(), expected);
+    Ok(())
+}
+
+#[test]
+fn lines_of_all_calls_and_the_other_rows(rt: HostRuntime) -> Result<(), Fail> {
+    let text = calls_with(rt.alloc(), &profile(), &[BOTH], &[])?;
+    let expected = "i386 open KILL_PROCESS 0
+i386 execve KILL_PROCESS 0
+x86_64 read ALLOW 0
+x86_64 write ALLOW 0
+x86_64 ioctl ERRNO 1 if arg1_lo = 0x5412
+x86_64 ioctl ALLOW 0 if arg1_lo != 0x5412
+x86_64 execve ERRNO 1
+arch 0x40000003 nr 0..4 KILL_PROCESS 0
+arch 0x40000003 nr 6..10 KILL_PROCESS 0
+arch 0x40000003 nr 12..0xFFFFFFFF KILL_PROCESS 0
+arch 0xC000003E nr 2..15 ALLOW 0
+arch 0xC000003E nr 17..58 ALLOW 0
+arch 0xC000003E nr 60..0x3FFFFFFF ALLOW 0
+arch 0xC000003E nr 0x40000000..0xFFFFFFFF KILL_PROCESS 0
+arch not in 0x40000003,0xC000003E nr any KILL_PROCESS 0
+total lines 15
+";
+    assert_eq!(rt; text.as_str(), expected);
     Ok(())
 }
 

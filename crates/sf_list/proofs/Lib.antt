@@ -1,4 +1,1 @@
-pub mod DifferenceLemmas
 pub mod ListingLemmas
-pub mod OneListing
-pub mod OneDifferences

@@ -1,38 +1,50 @@
--- Why what `list` answers is a listing of the files.
-use Rattle.std.proofs.Common.{◌≡◌, ℕ, ◌<◌, List, length, MatchOption, OnErr, Result, Ok, Err, IfOk, ap, subst, sym, ◌∙◌}
-use Rattle.sf_check.specs.declared.insn.Insn.{Insn}
-use Rattle.sf_check.specs.Stacks.{IsPlain}
-use Rattle.sf_book.specs.Books.{BookData}
-use Rattle.sf_crew.specs.Explorations.{IsExactExploration, IsExplorationOf}
-use Rattle.sf_policy.specs.Filters.{SpellStack}
-use Rattle.sf_list.specs.Listings.{IsListing, IsPictured, Listed}
+-- Inputs whose tree has the number that no row shows, or another; all changes; listings that show the same.
+use Rattle.std.proofs.Common.{◌≡◌, ◌≢◌, ◌∙◌, ℕ, ◌==◌, List, ◌++◌, ap, ap₂, subst, sym}
+use Rattle.std.specs.Prelude.{if◌then◌else◌, Option, None}
+use Rattle.std.proofs.lemmas.Bool.{cond-false, cond-true, eq-eqb, ne_eqb}
+use Rattle.sf_diagram.specs.Trees.{Bits, Tree, value}
+use Rattle.sf_policy.specs.Texts.{filters_line}
+use Rattle.sf_names.specs.Names.{NamesData}
+use Rattle.sf_rows.specs.declared.subject.Subject.TheVariants as subject
+use Rattle.sf_relations.specs.declared.relation.Relation.{Relation}
+use Rattle.sf_rows.specs.Trees.{IsTreeOf, change_number}
+use Rattle.sf_rows.specs.Rows.{rows_of}
+use Rattle.sf_rows.specs.Shown.{ShownData}
+use Rattle.sf_rows.specs.Lines.{lines_of_rows}
+use Rattle.sf_list.specs.Listings.{Listed, digest_line, listing_text, listing_title, rows_total_line}
 
--- the files spell the stack that was explored, and the picture is of that exploration
-listed : (files : List (List ℕ)) (program stack : List (List Insn)) (budget : ℕ) (s : BookData) (l : Listed)
-    → SpellStack files program → stack ≡ program → IsExplorationOf stack budget s
-    → (IsPlain stack → IsExactExploration stack budget s) → l.settled ≡ s
-    → MatchOption l.picture (0 < length s.outstanding) (IsPictured s l.answers) → IsListing files budget l
-listed files program stack budget s l spelled is end plain same picture =
-    let at : l.settled.stack ≡ stack = ap (λ (b : BookData). b.stack) same ∙ end.of in
-    record {
-      stack = rw (at, is) spelled;
-      end = rw same (subst (λ (st : List (List Insn)). IsExplorationOf st budget s) (sym end.of) end);
-      plain = rw same (subst (λ (st : List (List Insn)). IsPlain st → IsExactExploration st budget s)
-          (sym end.of) plain);
-      picture = rw same picture;
-    }
+pub one-where-shown : (v hidden : ℕ) → v ≢ hidden → ◌≡◌ {A = ℕ} (if v == hidden then 0 else 1) 1
+one-where-shown v hidden other = cond-false (v == hidden) 0 1 (ne_eqb v hidden other)
 
-pub listed_if : {L E : Type 0} (view : L → Listed) (files : List (List ℕ)) (program stack : List (List Insn))
-    (budget : ℕ) (s : BookData) (r : Result L E) → SpellStack files program → stack ≡ program
-    → IsExplorationOf stack budget s → (IsPlain stack → IsExactExploration stack budget s)
-    → IfOk r (λ l. (view l).settled ≡ s)
-    → IfOk r (λ l. MatchOption (view l).picture (0 < length s.outstanding) (IsPictured s (view l).answers))
-    → IfOk r (λ l. IsListing files budget (view l))
-listed_if view files program stack budget s (Ok l) spelled is end plain same picture =
-    listed files program stack budget s (view l) spelled is end plain same picture
-listed_if view files program stack budget s (Err e) spelled is end plain same picture = tt
+pub none-where-hidden : (v hidden : ℕ) → v ≡ hidden → ◌≡◌ {A = ℕ} (if v == hidden then 0 else 1) 0
+none-where-hidden v hidden same = cond-true (v == hidden) 0 1 (eq-eqb v hidden same)
 
--- what is so holds where there is an error
-pub on_error : {T E : Type 0} (r : Result T E) (P : Type 0) → P → OnErr r P
-on_error (Ok x) P p = tt
-on_error (Err e) P p = p
+-- where no relation is asked for, the tree is that of all changes
+pub all-changed : (only : Option Relation) (s t u : Tree)
+    → IsTreeOf (λ bits. change_number only (value s bits) (value t bits)) u → only ≡ None
+    → IsTreeOf (λ bits. change_number None (value s bits) (value t bits)) u
+all-changed only s t u is none =
+    subst (λ (o : Option Relation). IsTreeOf (λ (bits : Bits). change_number o (value s bits) (value t bits)) u) none is
+
+-- the text of listings, by the line with the size of the stack
+text_with : List NamesData → ShownData → List ℕ → List ℕ
+text_with sets shown size = listing_title shown.calls ++ (size ++ (lines_of_rows subject.Stack sets shown
+    ++ rows_total_line shown))
+
+pub told-alike : (sets : List NamesData) (k l : Listed) → filters_line k.programs ≡ filters_line l.programs
+    → k.shown ≡ l.shown → listing_text sets k ≡ listing_text sets l
+unfolding text_with
+told-alike sets k l size shown = ap₂ (text_with sets) shown size
+
+-- the digest's line of listings, by the rows
+pub digested-alike : (k l : Listed) (s t : Tree)
+    → k.shown ≡ record { calls = None; rows = rows_of subject.Stack s }
+    → l.shown ≡ record { calls = None; rows = rows_of subject.Stack t }
+    → s ≡ t → digest_line k ≡ digest_line l
+digested-alike k l s t before after one =
+    let same : k.shown ≡ l.shown = before ∙ ap (λ (u : Tree). let x : ShownData = record {
+      calls = None;
+      rows = rows_of subject.Stack u;
+    } in x) one ∙ sym after in
+    let line_of = λ (x : ShownData). digest_line (record { programs = k.programs; shown = x }) in
+    ap line_of same

@@ -1,3 +1,3 @@
 pub mod Listings
-pub mod Differences
 pub mod Documents
+pub mod Changes

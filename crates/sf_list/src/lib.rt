@@ -1,16 +1,16 @@
-//! The whole picture of a stack of filter files, as rows: for each architecture and each run of call numbers what the
-//! stack answers, and on which words that depends. Also the rows in which the answers of two stacks may differ.
+//! What a stack of filter files does to each input, and what changes from one stack to another, as rows: each by
+//! itself, or call by call.
 #![tactic(auto)]
 
-mod changed;
-mod differences;
+mod changes;
+mod digest;
 mod document;
 pub mod laws;
 mod listing;
 mod text;
 
-pub use changed::{Shown, write_differences};
-pub use differences::{Differences, draw_differences};
-pub use document::{ListingDocument, differences_document, listing_document};
+pub use changes::{Changes, changes_document, list_changes, write_changes};
+pub use digest::digest_of;
+pub use document::listing_document;
 pub use listing::{Listing, list};
 pub use text::write_listing;

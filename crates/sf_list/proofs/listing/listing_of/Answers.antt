@@ -1,7 +1,14 @@
+use Rattle.sf_rows.specs.TreeLaws.{answers_tree}
+use Rattle.sf_diagram.specs.Stores.{tree_at}
 use Rattle.sf_list.proofs.listing.listing_of.Goals as goal
 
-pub picture_by-requires-clause-each : goal.picture_by-requires-clause-each
-picture_by-requires-clause-each c = rw c.as_slice.ensures.value c.in_ok-answers.ensures.each
-
-pub picture_by-requires-clause-order : goal.picture_by-requires-clause-order
-picture_by-requires-clause-order c = rw c.as_slice.ensures.value c.in_ok-answers.ensures.order
+pub returns : goal.returns
+returns c =
+    let before = c.behaviour.new.store in
+    let id = c.in_ok-answers.answers in λ files spelled. record {
+      stack = spelled;
+      tree = tree_at before.trees id;
+      answers = answers_tree c.args.stack before.trees id c.node-node.ensures.lawful.canonical
+          (rw c.programs.ensures.same at c.in_ok-answers.ensures.answers);
+      shown = c.in_ok-shown.ensures.shown;
+    }

@@ -1,9 +1,0 @@
-use Rattle.std.proofs.lemmas.Result.{on_ok_weaker}
-use Rattle.sf_policy.specs.TextLaws.{added_three}
-use Rattle.sf_list.proofs.text.push_head.Goals as goal
-
-pub returns : goal.returns
-returns c = on_ok_weaker c.push_counts.result
-    (λ e. added_three _ _ _ _ _ _ _ (rw c.title_of.ensures at c.in_ok-push_str.ensures.bytes)
-    (rw (c.programs.ensures.same, c.deref.ensures, c.stack.ensures.value) at c.in_ok-push_stack.ensures)
-    (rw c.counts.ensures.counts at e)) c.push_counts.ensures
