@@ -5,7 +5,7 @@ ghost use Rattle.std.specs.Prelude.{◌<◌, length};
 use crate::aiming::aimed_inputs;
 use crate::making::random_code;
 use crate::numbers::Numbers;
-use sf_behaviour::behaviour;
+use sf_behaviour::{behaviour, first_variable};
 use sf_check::{Stack, check};
 use sf_diagram::{Id, Store, value_of};
 use sf_insn::{Input, RawInsn};
@@ -20,16 +20,13 @@ pub struct Counts {
     pub wrong: u32,
 }
 
-/// The words of an input in the order of the diagrams' variables.
-const ORDER: [usize; 16] = [1, 0, 5, 4, 7, 6, 9, 8, 11, 10, 13, 12, 15, 14, 3, 2];
-
 /// The variables that are true for an input.
 fn variables_of(alloc: Global, input: &Input) -> Result<Vec<u16>, AllocError> {
     let mut variables = Vec::new(alloc);
     for i in 0..512u16 {
-        let word = input.words[ORDER[(i / 32) as usize] % 16];
-        if (word >> (31 - i % 32)) % 2 == 1 {
-            variables.push(576 + i)?;
+        let word = (i / 32) as usize;
+        if (input.words[word] >> (31 - i % 32)) % 2 == 1 {
+            variables.push(first_variable(word) + i % 32)?;
         }
     }
     Ok(variables)

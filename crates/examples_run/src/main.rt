@@ -82,22 +82,14 @@ fn show_audit_of<R: Files + Print + Threads + Wait + Sync + AllocGlobal>(
 }
 
 /// Shows what a comparison finds. The old stack's files stand before the word `--`, and the new one's behind it.
-fn show_comparison_of<R: Files + Print + Threads + Wait + Sync + AllocGlobal>(
-    rt: &R,
-    paths: &[&str],
-) -> Result<(), Fail> {
-    let mut filters = Vec::new(rt.alloc());
-    let mut older = 0;
-    for path in paths {
-        if *path == "--" {
-            older = filters.len();
-        } else {
-            let bytes = fs::read(rt, path)?;
-            filters.push(bytes)?;
-        }
-    }
-    let older = older.min(filters.len());
-    show_comparison(rt, rt.alloc(), &filters, older)
+fn show_comparison_of<R: Files + Print + AllocGlobal>(rt: &R, paths: &[&str]) -> Result<(), Fail> {
+    let Some(middle) = paths.iter().position(|path| *path == "--") else {
+        println!(rt; "no --")?;
+        return Ok(());
+    };
+    let old = filters_in(rt, paths.get(..middle).unwrap_or(&[]))?;
+    let new = filters_in(rt, paths.get(middle.saturating_add(1)..).unwrap_or(&[]))?;
+    show_comparison(rt, rt.alloc(), &old, &new)
 }
 
 /// Shows on how many inputs the answers of stacks were compared, and on how many they differ.

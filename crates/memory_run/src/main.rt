@@ -65,8 +65,8 @@ fn calls_on<R: Threads + Wait + Sync + AllocGlobal>(
     let settled = settle_stack(alloc, score, &stack, &mut text)?;
     write_verdicts(alloc, &settled, &mut text)?;
     audit_files(rt, score, files, page)?;
-    compare_files(rt, score, files, page)?;
-    list_files(rt, score, files, page)?;
+    compare_files(alloc, files, page)?;
+    list_files(alloc, files, page)?;
     Ok(text)
 }
 

@@ -1,14 +1,21 @@
 -- What `clap` says of words that don't fit the form of the command line.
-use Rattle.std.proofs.Common.{◌≡◌, ◌≢◌, ◌⊎◌, ◌≤◌, ◌∙◌, codes, false, inl, inr, ℕ, List, [], Result, Ok, Err, arith, subst, sym}
-use Rattle.std.specs.Prelude.{IfOk, Option}
+use Rattle.std.proofs.Common.{◌≡◌, ◌≢◌, ◌⊎◌, ◌≤◌, ◌∙◌, ap, codes, true, false, inl, inr, ℕ, Bool, List, [], Result, Ok, Err, arith, refl, subst, sym}
+use Rattle.std.specs.Prelude.{◌==◌, IfOk, Option, if◌then◌else◌, nat_lt}
 use Rattle.clap.specs.Words.{HasKind, IsAmong, Kinds, Row, Text, kind_of}
 use Rattle.clap.specs.declared.error.Error.{Error}
 use Rattle.clap.specs.declared.error.kind.ErrorKind.TheVariants.{OutOfMemory}
 use Rattle.sf_command_line.specs.CommandLine.{IsKnown, errors_at, subcommand_at}
 use Rattle.sf_command_line.specs.SubcommandLaws.{known_subcommand}
+use Rattle.sf_policy.specs.declared.fault.Fault.TheVariants.{TooLarge, Write}
+use Rattle.sf_profile.specs.Faults.{fault_number as profile_number}
+use Rattle.sf_profile.specs.declared.fault.Fault.{Fault as ProfileFault}
+use Rattle.sf_profile.specs.declared.fault.Fault.TheVariants as profile_faults
+use Rattle.sf_evaluate.specs.Faults.{fault_number}
+use Rattle.sf_evaluate.specs.Status.{fault_status}
 use Rattle.sf_evaluate.specs.declared.fault.Fault.{Fault}
+use Rattle.sf_evaluate.specs.declared.fault.Fault.TheVariants.{Other, Profile}
 use Rattle.sf_evaluate.specs.Profiles.{profile_words_fit}
-use Rattle.sf_command.specs.Runs.{HasWrongWord, Helps, IsHelp, RefusesAs, RefusesWords, WritesText, words_fit_for}
+use Rattle.sf_command.specs.Runs.{HasWrongWord, Helps, IsHelp, IsTooLarge, RefusesAs, RefusesAsAsked, RefusesWords, WritesText, words_fit_for}
 use Rattle.sf_command.specs.Subcommands.{RunsAs}
 
 -- an answer to a call for help or for the version is what the words ask for
@@ -24,11 +31,6 @@ pub some_error : (words : List Text) (e : Error) → HasKind (errors_at words) e
     → ¬ (errors_at words ≡ [])
 some_error words e (inl memory) other none = other memory
 some_error words e (inr among) other none = subst (λ (ks : Kinds). IsAmong (kind_of e) ks) none among
-
--- a choice without the third statement
-pub without_third : {P Q R : Type 0} → P ⊎ (Q × R) → P ⊎ Q
-without_third (inl p) = inl p
-without_third (inr (q, r)) = inr q
 
 -- words for which `profile` or `eval` ended with status 4, or for which no subcommand is known, are refused
 pub refused_words : (words : List Text) (named : Option (Text × List Row)) → named ≡ subcommand_at words
@@ -58,3 +60,39 @@ done_as holds found named status old new is done = subst (λ n. RunsAs holds n s
 pub refused_as : (holds : Text → Option Text) (found named : Option (Text × List Row)) (e : Fault) → named ≡ found
     → RefusesAs holds found e → RefusesAs holds named e
 refused_as holds found named e is why = subst (λ n. RefusesAs holds n e) (sym is) why
+
+-- no fault has the status of a command line that is refused
+pub no_usage : (number : ℕ) → fault_status number ≡ 4 → ⊥
+no_usage number four = by (number == 32) (nat_lt number 50) four
+  where
+    by : (large low : Bool) → ◌≡◌ {A = ℕ} (if large then 2 else if low then 3 else 5) 4 → ⊥
+    by true low same = omega (arith, same)
+    by false true same = omega (arith, same)
+    by false false same = omega (arith, same)
+
+-- no refusal of a profile has a status up to 2
+profile_status : (refusal : ProfileFault) → fault_status (profile_number refusal) ≤ 2 → ⊥
+profile_status profile_faults.Memory small = omega (arith, small)
+profile_status refusal small = omega (arith, small)
+
+-- diagrams that are too large are the only fault with a status up to 2
+only_too_large : (e : Fault) → fault_status (fault_number e) ≤ 2 → (nodes : ℕ) × (e ≡ Other (TooLarge nodes))
+only_too_large (Profile refusal) small = absurd (profile_status refusal small)
+only_too_large (Other (TooLarge nodes)) small = (nodes, refl)
+only_too_large (Other fault) small = absurd (omega (arith, small))
+
+-- diagrams that are too large aren't written
+not_written : {Same : Type 0} (e : Fault) (nodes : ℕ) → e ≡ Other (TooLarge nodes) → (e ≡ Other Write) ⊎ Same → Same
+not_written e nodes large (inl write) = cc
+not_written e nodes large (inr same) = same
+
+-- where the status of a fault is at most 2, diagrams are too large, and nothing was written
+pub too_large : (holds : Text → Option Text) (words : List Text) (e : Fault) (status : ℕ) (Same : Type 0)
+    → RefusesAsAsked holds words e → status ≡ fault_status (fault_number e) → (e ≡ Other Write) ⊎ Same → status ≤ 2
+    → (status ≡ 2) × Same × IsTooLarge holds words
+too_large holds words e status Same why is quiet small =
+    let (nodes, large) = only_too_large e (subst (λ (s : ℕ). s ≤ 2) is small) in (
+      is ∙ ap (λ (f : Fault). fault_status (fault_number f)) large,
+      not_written e nodes large quiet,
+      (nodes, subst (λ (f : Fault). RefusesAsAsked holds words f) large why),
+    )

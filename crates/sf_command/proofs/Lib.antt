@@ -1,4 +1,5 @@
 pub mod KeptLemmas
+pub mod DiagramLemmas
 pub mod CommandLineLemmas
 pub mod ProfileLemmas
 pub mod RefusalLemmas

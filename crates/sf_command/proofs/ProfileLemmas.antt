@@ -1,5 +1,5 @@
 -- The filter of a profile, compared with other filters.
-use Rattle.std.proofs.Common.{◌≡◌, ◌∙◌, ℕ, List, [], ◌∷◌, ap, refl, subst, sym, take}
+use Rattle.std.proofs.Common.{◌≡◌, ◌∙◌, ℕ, List, [], ◌∷◌, Option, None, ap, refl, subst, sym}
 use Rattle.sf_insn.specs.declared.input.Input.{Input}
 use Rattle.sf_insn.specs.Inputs.{IsInput}
 use Rattle.sf_check.specs.declared.insn.Insn.{Insn}
@@ -10,35 +10,30 @@ use Rattle.sf_policy.specs.Filters.{SpellPrograms}
 use Rattle.sf_profile.specs.Data.{PlanData}
 use Rattle.sf_profile.specs.Filters.{IsFilterOf}
 use Rattle.sf_profile.specs.Meaning.{meaning}
-use Rattle.sf_compare.specs.Changes.{IsRightChange}
-use Rattle.sf_compare.specs.Finding.{new_of}
-use Rattle.sf_compare.specs.Comparisons.{Compared, IsComparison, change_of}
-use Rattle.sf_compare.specs.Relations.{AreRelated}
-use Rattle.sf_compare.specs.declared.relation.Relation.TheVariants.{Looser}
-use Rattle.sf_compare.specs.declared.changes.Change.{Change}
-use Rattle.sf_compare.specs.declared.changes.Change.TheVariants.{Never}
-
--- the first of some programs
-first_of : (p : List Insn) (rest : List (List Insn)) → take 1 (p ∷ rest) ≡ p ∷ []
-first_of p rest = refl
+use Rattle.sf_relations.specs.Changes.{IsFinding, IsUnchanged}
+use Rattle.sf_relations.specs.Relations.{AreRelated}
+use Rattle.sf_relations.specs.declared.examples.Example.{Example}
+use Rattle.sf_relations.specs.declared.relation.Relation.TheVariants.{Looser}
+use Rattle.sf_compare.specs.Comparisons.{Compared, IsComparison, finding_of}
 
 pub kept : ((bytes : List ℕ) (a b : List Insn) → SpellsProgram bytes a → SpellsProgram bytes b → a ≡ b)
-    → (bytes : List ℕ) (plan : PlanData) (files : List (List ℕ)) (budget : ℕ) (c : Compared) (d : Input) (a : Answer)
-    → IsFilterOf bytes plan → IsComparison (bytes ∷ files) 1 budget c → change_of c Looser ≡ Never → IsInput d
-    → Answers (new_of c.settled 1) d a → AreRelated Looser (meaning plan d) a → ⊥
-kept one bytes plan files budget c d a filter comparison never input answers further =
-    by c.settled.stack refl comparison.stack.spelled
+    → (bytes : List ℕ) (plan : PlanData) (files : List (List ℕ)) (c : Compared) (d : Input) (a : Answer)
+    → IsFilterOf bytes plan → IsComparison (bytes ∷ []) files c → finding_of c.findings Looser ≡ None → IsInput d
+    → Answers c.new d a → AreRelated Looser (meaning plan d) a → ⊥
+kept one bytes plan files c d a filter comparison never input answers further =
+    by c.old refl comparison.old_stack.spelled
   where
-    right : IsRightChange c.settled 1 Looser Never
-    right = subst (λ (change : Change). IsRightChange c.settled 1 Looser change) never
-        (comparison.compared.each_relation Looser).right
+    unchanged : IsUnchanged c.old c.new Looser
+    unchanged = subst (λ (found : Option Example). IsFinding c.old c.new Looser found) never
+        comparison.findings.looser
 
-    by : (stack : List (List Insn)) → c.settled.stack ≡ stack → SpellPrograms (bytes ∷ files) stack → ⊥
+    by : (stack : List (List Insn)) → c.old ≡ stack → SpellPrograms (bytes ∷ []) stack → ⊥
     by [] e spelled = absurd spelled
-    by (p ∷ rest) e spelled =
-        let same : take 1 c.settled.stack ≡ filter.program ∷ [] = ap (take 1) e ∙ first_of p rest
+    by (p ∷ q ∷ rest) e spelled = absurd spelled.1
+    by (p ∷ []) e spelled =
+        let same : c.old ≡ filter.program ∷ [] = e
         ∙ ap (λ (q : List Insn). q ∷ []) (one bytes p filter.program spelled.0 filter.spelled) in
-        right.1 d (meaning plan d) a (record {
+        unchanged d (meaning plan d) a (record {
           input = input;
           answered_before = subst (λ (st : List (List Insn)). Answers st d (meaning plan d)) (sym same)
               (filter.answers d input);

@@ -1,5 +1,6 @@
 pub mod Status
 pub mod Audits
+pub mod Diagrams
 pub mod Comparisons
 pub mod Listings
 pub mod Needs

@@ -5,7 +5,7 @@ use Rattle.std.specs.Io.KnownBytes.{Appends}
 use Rattle.clap.specs.Words.{IsAmong, Row, Text}
 use Rattle.clap.specs.declared.error.kind.ErrorKind.{ErrorKind}
 use Rattle.clap.specs.declared.error.kind.ErrorKind.TheVariants.{DisplayHelp, DisplayVersion}
-use Rattle.sf_policy.specs.declared.fault.Fault.TheVariants.{Memory, Write}
+use Rattle.sf_policy.specs.declared.fault.Fault.TheVariants.{Memory, TooLarge, Write}
 use Rattle.sf_command_line.specs.CommandLine.{errors_at, subcommand_at}
 use Rattle.sf_evaluate.specs.Faults.{IsOther}
 use Rattle.sf_evaluate.specs.declared.fault.Fault.{Fault}
@@ -13,14 +13,14 @@ use Rattle.sf_evaluate.specs.declared.fault.Fault.TheVariants.{Other}
 use Rattle.sf_evaluate.specs.Asking.{eval_words_fit}
 use Rattle.sf_evaluate.specs.Profiles.{RefusesProfile, profile_words_fit}
 use Rattle.sf_evaluate.specs.Expecting.{audit_words_fit}
-use Rattle.sf_evaluate.specs.Wanted.{calls_fit, rows_fit}
+use Rattle.sf_evaluate.specs.Wanted.{calls_fit, digest_fits, rows_fit}
 use Rattle.sf_command.specs.Subcommands.{RefusesOnStack, RunsAs}
 
 -- the words behind the options of a subcommand, which has this name, are among those that the options take
 abbrev pub words_fit_for : Text → List Row → Bool
 words_fit_for name rows =
     if bytes_eq name (codes "profile") then profile_words_fit rows
-    else if bytes_eq name (codes "list") then calls_fit rows
+    else if bytes_eq name (codes "list") then calls_fit rows && digest_fits rows
     else if bytes_eq name (codes "compare") then calls_fit rows && rows_fit rows
     else if bytes_eq name (codes "eval") then eval_words_fit rows
     else if bytes_eq name (codes "audit") then audit_words_fit rows
@@ -78,3 +78,7 @@ abbrev pub RefusesAsAsked : (Text → Option Text) → List Text → Fault → T
 RefusesAsAsked holds words fault =
     (fault ≡ Other Memory) ⊎ (fault ≡ Other Write)
     ⊎ ((errors_at words ≡ []) × RefusesAs holds (subcommand_at words) fault)
+
+-- what the words ask for takes decision diagrams with more nodes than they allow
+abbrev pub IsTooLarge : (Text → Option Text) → List Text → Type 0
+IsTooLarge holds words = (nodes : ℕ) × RefusesAsAsked holds words (Other (TooLarge nodes))

@@ -7,19 +7,21 @@ use Rattle.sf_insn.specs.declared.input.Input.{Input}
 use Rattle.sf_names.specs.Names.{NamesData}
 use Rattle.sf_policy.specs.declared.fault.Fault.{Fault}
 use Rattle.sf_policy.specs.declared.fault.Fault.TheVariants.{Input as InputFault, UnknownName}
-use Rattle.sf_compare.specs.declared.relation.Relation.{Relation}
-use Rattle.sf_compare.specs.declared.relation.Relation.TheVariants.{Looser, Tighter, Different}
+use Rattle.sf_relations.specs.declared.relation.Relation.{Relation}
+use Rattle.sf_relations.specs.declared.relation.Relation.TheVariants.{Looser, Tighter, Different}
 use Rattle.sf_command_line.specs.Options.{ArePaths, IsOptionNumber, IsSwitch}
 use Rattle.sf_command.specs.Audits.{AskedData, AuditsFiles, RefusesAudit}
-use Rattle.sf_command.specs.Comparisons.{ComparesFiles, RefusesComparison}
-use Rattle.sf_command.specs.Listings.{ListsFiles, RefusesListing}
-use Rattle.sf_command.specs.Needs.{RefusesNeeds, TellsNeeds}
+use Rattle.sf_command.specs.Comparisons.{ComparesFiles, RefusesComparison, WantedData}
+use Rattle.sf_command.specs.Diagrams.{RefusesStack}
+use Rattle.sf_command.specs.Listings.{ListsFiles}
+use Rattle.sf_command.specs.Needs.{TellsNeeds}
+use Rattle.sf_command.specs.declared.listing.ListingForm.{ListingForm}
+use Rattle.sf_command.specs.declared.listing.ListingForm.TheVariants as form
 use Rattle.sf_evaluate.specs.Names.{AreNamesRead, RefusesNaming}
 use Rattle.sf_evaluate.specs.Outputs.{AnswersFiles, ChecksFiles, RefusesCheck}
 use Rattle.sf_evaluate.specs.Asking.{AsksInput, LacksName, numbers_fit}
 use Rattle.sf_evaluate.specs.Profiles.{WritesProfile}
 use Rattle.sf_evaluate.specs.Wanted.{are_known, calls_asked}
-use Rattle.sf_list.specs.Differences.{ShownData}
 
 -- the relation that a status is about: `Different` where the switch is given, and else `Looser`
 abbrev pub IsAskedRelation : Option Text → Relation → Type 0
@@ -37,9 +39,25 @@ relation_named word =
 abbrev pub relation_of_rows : Option Text → Option Relation
 relation_of_rows text = option_map relation_named text
 
--- what is shown of the rows of a comparison
-abbrev pub shown_by : List Row → ShownData
-shown_by rows = record { only = relation_of_rows (first_of (codes "only") rows); calls = calls_asked rows }
+-- which rows of what changes are asked for
+abbrev pub wanted_by : List Row → WantedData
+wanted_by rows = record { only = relation_of_rows (first_of (codes "only") rows); calls = calls_asked rows }
+
+-- the form of a listing by its switches: a digest, else a document, else a text
+abbrev pub listing_form : (digest json : Bool) → ListingForm
+listing_form digest json = if digest then form.Digest else if json then form.Json else form.Text
+
+-- this form of a listing is asked for
+pub record IsAskedForm (rows : List Row) (form : ListingForm) : Type 0 where
+  pub digest : Bool
+  pub as_digest : IsSwitch (one_of (codes "digest") rows) digest
+  pub json : Bool
+  pub in_json : IsSwitch (one_of (codes "json") rows) json
+  pub form_is : form ≡ listing_form digest json
+
+-- so many nodes are allowed that decision diagrams may have: 1,000,000 where no number is given
+abbrev pub IsNodes : List Row → ℕ → Type 0
+IsNodes rows nodes = IsOptionNumber (one_of (codes "nodes") rows) 16000000 1000000 nodes
 
 -- the files of names that are named have these names
 pub record AreNamed (holds : Text → Option Text) (rows : List Row) (names : List NamesData) : Type 0 where
@@ -107,10 +125,6 @@ module _ (holds : Text → Option Text) (rows : List Row) (status : ℕ) (old ne
     pub named_old : ArePaths (codes "old") rows old_paths
     pub new_paths : List (Bor Text)
     pub named_new : ArePaths (codes "new") rows new_paths
-    pub budget : ℕ
-    pub counted : IsOptionNumber (one_of (codes "budget") rows) 1000000 100000 budget
-    pub leaves : ℕ
-    pub limited : IsOptionNumber (one_of (codes "leaves") rows) 1000000 20000 leaves
     pub asked : Relation
     pub switched : IsAskedRelation (one_of (codes "same") rows) asked
     pub with_rows : Bool
@@ -120,33 +134,27 @@ module _ (holds : Text → Option Text) (rows : List Row) (status : ℕ) (old ne
     pub known : are_known names (calls_asked rows) ≡ true
     pub json : Bool
     pub in_json : IsSwitch (one_of (codes "json") rows) json
-    pub compared : ComparesFiles holds old_paths new_paths names budget leaves asked with_rows json (shown_by rows)
-        status old new
+    pub compared : ComparesFiles holds old_paths new_paths names asked with_rows json (wanted_by rows) status old new
 
-  -- the files that are named were listed
+  -- the stack of the files that are named was listed
   pub record Lists : Type 0 where
     pub paths : List (Bor Text)
     pub named : ArePaths (codes "filters") rows paths
-    pub budget : ℕ
-    pub counted : IsOptionNumber (one_of (codes "budget") rows) 1000000 100000 budget
-    pub leaves : ℕ
-    pub limited : IsOptionNumber (one_of (codes "leaves") rows) 1000000 20000 leaves
     pub names : List NamesData
     pub called : AreNamed holds rows names
     pub known : are_known names (calls_asked rows) ≡ true
-    pub json : Bool
-    pub in_json : IsSwitch (one_of (codes "json") rows) json
-    pub listed : ListsFiles holds paths names (calls_asked rows) json budget leaves status old new
+    pub form : ListingForm
+    pub asked_form : IsAskedForm rows form
+    pub listed : ListsFiles holds paths names (calls_asked rows) form old new
+    pub status_is : status ≡ 0
 
   -- what is needed of the files that are named was told
   pub record Needs : Type 0 where
     pub paths : List (Bor Text)
     pub named : ArePaths (codes "filters") rows paths
-    pub budget : ℕ
-    pub counted : IsOptionNumber (one_of (codes "budget") rows) 1000000 100000 budget
     pub json : Bool
     pub in_json : IsSwitch (one_of (codes "json") rows) json
-    pub needed : TellsNeeds holds paths budget json status old new
+    pub needed : TellsNeeds holds paths json status old new
 
   -- the filter of the profile that is named was written, or what is told of it
   pub record Profiles : Type 0 where
@@ -179,6 +187,10 @@ RunsAs holds named status old new = ByName
 abbrev pub OnPaths : Text → List Row → (List (Bor Text) → Type 0) → Type 0
 OnPaths name rows P = (paths : List (Bor Text)) × ArePaths name rows paths × P paths
 
+-- this holds of how many nodes are allowed
+abbrev pub OnNodes : List Row → (ℕ → Type 0) → Type 0
+OnNodes rows P = (nodes : ℕ) × IsNodes rows nodes × P nodes
+
 -- a file of names is refused, or else this is so
 abbrev pub OnNames : (Text → Option Text) → List Row → Fault → Type 0 → Type 0
 OnNames holds rows fault P = OnPaths (codes "names") rows (λ paths. RefusesNaming holds paths fault) ⊎ P
@@ -210,12 +222,6 @@ RefusesEval holds rows fault =
     ⊎ ((fault ≡ UnknownName) × (numbers_fit rows ≡ true) × IsUnknown holds rows)
     ⊎ (IsAsked holds rows × OnPaths (codes "filters") rows (λ paths. RefusesCheck holds paths fault))
 
--- why `needed` is refused, for the filter files that are named and the budget that is given
-abbrev pub RefusesNeedsOf : (Text → Option Text) → List Row → Fault → Type 0
-RefusesNeedsOf holds rows fault = OnPaths (codes "filters") rows
-    (λ paths. (budget : ℕ) × IsOptionNumber (one_of (codes "budget") rows) 1000000 100000 budget
-    × RefusesNeeds holds paths budget fault)
-
 -- why what the named subcommand asks for is refused, where it is one of the six that take filters
 abbrev pub RefusesOnStack : (Text → Option Text) → Option (Text × List Row) → Fault → Type 0
 RefusesOnStack holds named fault = ByName
@@ -224,8 +230,9 @@ RefusesOnStack holds named fault = ByName
     (λ rows. OnPaths (codes "filters") rows (λ paths. RefusesCheck holds paths fault))
     (λ rows. OnNames holds rows fault (RefusesEval holds rows fault))
     (λ rows. OnCalls holds rows fault (OnPaths (codes "old") rows (λ old. OnPaths (codes "new") rows
-    (λ new. RefusesComparison holds old new fault))))
-    (λ rows. OnCalls holds rows fault (OnPaths (codes "filters") rows (λ paths. RefusesListing holds paths fault)))
-    (λ rows. RefusesNeedsOf holds rows fault)
+    (λ new. OnNodes rows (λ nodes. RefusesComparison holds old new nodes fault)))))
+    (λ rows. OnCalls holds rows fault (OnPaths (codes "filters") rows
+    (λ paths. OnNodes rows (λ nodes. RefusesStack holds paths nodes fault))))
+    (λ rows. OnPaths (codes "filters") rows (λ paths. OnNodes rows (λ nodes. RefusesStack holds paths nodes fault)))
     (λ rows. ⊥)
     named

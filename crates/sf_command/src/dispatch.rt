@@ -2,7 +2,7 @@
 ghost use Rattle.std.specs.Prelude.{◌≡◌, ◌≤◌, ◌⊎◌, map, string_bytes, IfOk, IfErr};
 ghost use Rattle.clap.specs.Words.{found_of, rows_of, subcommand_rows_of};
 ghost use Rattle.sf_policy.specs.declared.fault.Fault.TheVariants.{Write as WriteFault};
-ghost use Rattle.sf_command.specs.Runs.{DoesAsAsked, HasWrongWord, RefusesAs, RefusesAsAsked, RefusesWords, meant_words, words_fit_for};
+ghost use Rattle.sf_command.specs.Runs.{DoesAsAsked, HasWrongWord, IsTooLarge, RefusesAs, RefusesAsAsked, RefusesWords, meant_words, words_fit_for};
 ghost use Rattle.sf_command.specs.Subcommands.{RunsAs};
 ghost use Rattle.sf_command_line.specs.CommandLine.{IsKnown};
 ghost use Rattle.sf_evaluate.specs.Faults.{fault_number};
@@ -17,8 +17,8 @@ use crate::watching::Meter;
 use clap::ArgMatches;
 use sf_command_line::command_form;
 use sf_evaluate::{
-    Files, Notes, audit_words_fit, calls_fit, eval_words_fit, profile, profile_words_fit, rows_fit,
-    tell, tell_wrong_words, warn,
+    Files, Notes, audit_words_fit, calls_fit, digest_fits, eval_words_fit, profile,
+    profile_words_fit, rows_fit, tell, tell_wrong_words, warn,
 };
 use std::io::Write;
 use std::sync::Wait;
@@ -34,7 +34,7 @@ fn words_fit_for(name: &str, found: &ArgMatches<'_>) -> bool
     match name {
         "profile" => profile_words_fit(found),
         "eval" => eval_words_fit(found),
-        "list" => calls_fit(found),
+        "list" => calls_fit(found) && digest_fits(found),
         "compare" => calls_fit(found) && rows_fit(found),
         "audit" => audit_words_fit(found),
         _ => true,
@@ -123,12 +123,13 @@ fn run_words<R: Threads + Wait + Sync, F: Files, M: Meter, O: Write, E: Write>(
 /// Does what the words after the program's name ask for, and gives the exit status:
 ///
 /// - 0: done, also where help or the version is asked for. After an audit the control holds, and each question is
-///   never, or allowed with an accepted name. After a comparison the relation that is asked for is never. After a
-///   listing each input lies in a row with one answer. After `needed` each filter is needed.
+///   never, or allowed with an accepted name. After a comparison the relation that is asked for is never. After
+///   `needed` each filter is needed.
 /// - 1: the control of an audit holds, but an allowed question has a name that isn't accepted; or the relation that is
 ///   asked for is found; or some filter is spare.
-/// - 2: the control of an audit doesn't hold; or nothing gives status 1, and some question, the relation or some filter
-///   is unsettled; or, after a listing, some row has several answers or a piece is outstanding.
+/// - 2: the control of an audit doesn't hold; or nothing gives status 1, and some question is unsettled. Or `list`,
+///   `compare` or `needed` would take more nodes of decision diagrams than are allowed: standard output is left as it
+///   was then, and one line on standard error says so.
 /// - 3: the filters, a policy, a profile, a file of names, the file of `--accept`, a name behind `--calls`, `--call` or
 ///   `--arch`, or the input is refused. Standard output is left as it was.
 /// - 4: the command line is refused. No file was read, standard output is left as it was, and standard error has the
@@ -151,7 +152,9 @@ pub fn command<R: Threads + Wait + Sync, F: Files, M: Meter, O: Write, E: Write>
     ensures status { result ≤ 5 }
     ensures done { result ≤ 2 → DoesAsAsked (F.holds files.old)
         (meant_words (map string_bytes words.now)) result
-        (O.contents out.old) (O.contents out.new) }
+        (O.contents out.old) (O.contents out.new)
+        ⊎ ((result ≡ 2) × (out.new ≡ out.old)
+        × IsTooLarge (F.holds files.old) (meant_words (map string_bytes words.now))) }
     ensures usage { result ≡ 4 → RefusesWords (meant_words (map string_bytes words.now))
         × (files.new ≡ files.old) × (out.new ≡ out.old) }
     ensures refused { result ≡ 3 → (out.new ≡ out.old)

@@ -11,6 +11,7 @@ mod needing;
 mod status;
 mod subcommands;
 mod usage;
+mod warnings;
 mod watching;
 
 pub use dispatch::command;

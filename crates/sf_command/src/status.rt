@@ -1,11 +1,11 @@
 //! The exit statuses of what was found.
 
 ghost use Rattle.std.specs.Prelude.{◌≡◌, ◌≤◌};
-ghost use Rattle.sf_command.specs.Status.{audit_status, change_status, listing_status, needs_status};
+ghost use Rattle.sf_command.specs.Status.{audit_status, finding_status, needs_status};
 
 use sf_audit::{Expected, Outcome, count_unsettled};
-use sf_compare::Change;
-use sf_needed::Needs;
+use sf_needed::NeededFilters;
+use sf_relations::Example;
 
 /// The exit status of an audit: 2 where the control doesn't hold; else 1 where an allowed question has a name that
 /// isn't an accepted one; else 2 where some question of the audit is unsettled; else 0.
@@ -25,34 +25,21 @@ pub fn status_of_audit(expected: &Expected, outcome: &Outcome) -> u8
 }
 
 /// The exit status of a comparison, by what was found of the relation that it is about: 0 where no input has this
-/// relation between its two answers, 1 where an example is found, 2 where neither is known.
-pub fn status_of_change(change: Change) -> u8
-    ensures { result ≡ change_status change }
+/// relation between its two answers, 1 where one has.
+pub fn status_of_finding(finding: Option<Example>) -> u8
+    ensures status { result ≡ finding_status finding }
+    ensures few { result ≤ 1 }
 {
-    match change {
-        Change::Never => 0,
-        Change::Found(_) => 1,
-        Change::Unsettled => 2,
+    match finding {
+        None => 0,
+        Some(_) => 1,
     }
 }
 
-/// The exit status of a listing: 0 where it is `whole`, so that each input lies in a row with one answer, and else 2.
-pub fn status_of_listing(whole: bool) -> u8
-    ensures { result ≡ listing_status whole }
+/// The exit status of `needed`, by what was found of the filters: 1 where some filter is spare, 0 where all are needed.
+pub fn status_of_needs(needs: &NeededFilters) -> u8
+    ensures status { result ≡ needs_status needs.now.findings }
+    ensures few { result ≤ 1 }
 {
-    if whole { 0 } else { 2 }
-}
-
-/// The exit status of `needed`, by what was found of the filters: 1 where some filter is spare, 2 where none is spare
-/// and some is unsettled, 0 where all are needed.
-pub fn status_of_needs(needs: &Needs) -> u8
-    ensures { result ≡ needs_status needs.now.findings }
-{
-    if 0 < needs.count_spare() {
-        1
-    } else if 0 < needs.count_unsettled() {
-        2
-    } else {
-        0
-    }
+    if 0 < needs.count_spare() { 1 } else { 0 }
 }

@@ -4,31 +4,31 @@ ghost use Rattle.clap.specs.Words.{first_of, found_of, one_of, rows_of};
 ghost use Rattle.sf_policy.specs.declared.fault.Fault.TheVariants.{Write as WriteFault};
 ghost use Rattle.sf_command.specs.Audits.{AskedData, RefusesAudit};
 ghost use Rattle.sf_command.specs.Comparisons.{RefusesComparison};
-ghost use Rattle.sf_command.specs.Listings.{RefusesListing};
+ghost use Rattle.sf_command.specs.Diagrams.{RefusesStack};
 ghost use Rattle.sf_evaluate.specs.Names.{RefusesNaming};
 ghost use Rattle.sf_evaluate.specs.Outputs.{RefusesCheck};
-ghost use Rattle.sf_command.specs.Subcommands.{AreNamed, Audits, Checks, Compares, Evaluates, RunsAs, IsAskedFor, IsAskedRelation, Lists, Needs, OnCalls, OnNames, OnPaths, RefusesEval, RefusesNeedsOf, RefusesOnStack, relation_of_rows, relation_named};
+ghost use Rattle.sf_command.specs.Subcommands.{AreNamed, Audits, Checks, Compares, Evaluates, RunsAs, IsAskedFor, IsAskedForm, IsAskedRelation, Lists, Needs, OnCalls, OnNames, OnNodes, OnPaths, RefusesEval, RefusesOnStack, relation_of_rows, relation_named};
 ghost use Rattle.sf_command_line.specs.CommandLine.{IsKnown};
 
 use crate::auditing::{Asked, AuditTask, AuditTerms, audit};
 use crate::comparing::{ComparisonTask, ComparisonTerms, compare};
-use crate::listing::{ListingTask, ListingTerms, list};
+use crate::listing::{ListingForm, ListingTask, list};
 use crate::means::Means;
-use crate::needing::{NeededTerms, needed};
+use crate::needing::needed;
 use crate::watching::{Meter, Watched};
 use clap::ArgMatches;
 use sf_command_line::{
-    budget_of, given_text, leaves_of, wants_brief_trace, wants_instructions, wants_json,
-    wants_progress, wants_regions, wants_rows, wants_same, wants_trace, wants_why, workers_of,
+    budget_of, given_text, nodes_of, wants_brief_trace, wants_digest, wants_instructions,
+    wants_json, wants_progress, wants_regions, wants_rows, wants_same, wants_trace, wants_why,
+    workers_of,
 };
-use sf_compare::Relation;
 use sf_evaluate::{
     CheckManner, Evaluation, Files, Manner, Notes, asked_input, check, evaluate, known_calls,
     numbers_fit, read_all_names,
 };
-use sf_list::Shown;
 use sf_names::Names;
 use sf_policy::Fault;
+use sf_relations::Relation;
 use std::alloc::Global;
 use std::io::Write;
 use std::sync::Wait;
@@ -55,7 +55,7 @@ fn names_of<F: Files>(
     read_all_names(alloc, paths, files, notes)
 }
 
-/// The gate of a run. Where `--progress` is given, it passes each call on to the meter, and the meter is given the
+/// The gate of an audit. Where `--progress` is given, it passes each call on to the meter, and the meter is given the
 /// budget here. Else the meter isn't called at all.
 fn watched<'a, M: Meter>(found: &ArgMatches<'_>, meter: &'a M) -> Watched<'a, M> {
     Watched::of(meter, wants_progress(found), budget_of(found))
@@ -220,14 +220,14 @@ fn relation_of_rows(found: &ArgMatches<'_>) -> Option<Relation>
     }
 }
 
-/// Runs `compare` as the matches of the subcommand say, and gives the exit status that it gives, 0 to 2. The caller has
+/// Runs `compare` as the matches of the subcommand say, and gives the exit status that it gives, 0 or 1. The caller has
 /// seen by `words_fit_for` that the words fit, and the notes have counted no file before.
 ///
 /// Refusals, tried in this order: `Read`, `Syntax`, `NamesKey`, `NamesCount` or `NamesRange` for a file of names;
 /// `UnknownName` where `--calls` names a call that no set has; those of `compare`. `Memory` can come anywhere. After
 /// any error but `Write` nothing is written.
-fn run_compare<R: Threads + Wait + Sync, F: Files, M: Meter, O: Write>(
-    means: &Means<'_, '_, R, M>,
+fn run_compare<F: Files, O: Write>(
+    alloc: Global,
     found: &ArgMatches<'_>,
     files: &mut F,
     notes: &mut Notes,
@@ -235,48 +235,57 @@ fn run_compare<R: Threads + Wait + Sync, F: Files, M: Meter, O: Write>(
 ) -> Result<u8, Fault>
     ensures done { IfOk result (λ s. Compares (F.holds files.old) (rows_of (found_of found.now)) s
         (O.contents out.old) (O.contents out.new)) }
-    ensures status { IfOk result (λ s. s ≤ 2) }
+    ensures status { IfOk result (λ s. s ≤ 1) }
     ensures quiet { IfErr result (λ e. (e ≡ WriteFault) ⊎ (out.new ≡ out.old)) }
     ensures refused { IfErr result (λ e. OnCalls (F.holds files.old)
         (rows_of (found_of found.now)) e
         (OnPaths (codes "old") (rows_of (found_of found.now))
         (λ old. OnPaths (codes "new") (rows_of (found_of found.now))
-        (λ new. RefusesComparison (F.holds files.old) old new e)))) }
+        (λ new. OnNodes (rows_of (found_of found.now))
+        (λ nodes. RefusesComparison (F.holds files.old) old new nodes e))))) }
 {
-    let names = names_of(means.alloc, found, files, notes)?;
-    let shown = Shown {
-        only: relation_of_rows(found),
-        calls: known_calls(means.alloc, found, &names, notes)?,
-    };
-    let old = found.get_strs("old").unwrap_or(&[]);
-    let new = found.get_strs("new").unwrap_or(&[]);
+    let names = names_of(alloc, found, files, notes)?;
+    let calls = known_calls(alloc, found, &names, notes)?;
     let terms = ComparisonTerms {
-        budget: budget_of(found),
-        workers: workers_of(found),
+        nodes: nodes_of(found),
         asked: relation_of_status(found),
         rows: wants_rows(found),
+        only: relation_of_rows(found),
         json: wants_json(found),
-        leaves: leaves_of(found),
     };
     let task = ComparisonTask {
-        old,
-        new,
+        old: found.get_strs("old").unwrap_or(&[]),
+        new: found.get_strs("new").unwrap_or(&[]),
         sets: &names,
+        calls: &calls,
         terms,
-        shown: &shown,
     };
-    let gate = watched(found, means.gate);
-    compare(&with_gate(means, &gate), &task, files, notes, out)
+    compare(alloc, &task, files, notes, out)
 }
 
-/// Runs `list` as the matches of the subcommand say, and gives the exit status that it gives, 0 or 2. The caller has
-/// seen by `words_fit_for` that the words fit, and the notes have counted no file before.
+/// The form in which a stack is listed: a digest where `--digest` is given, else a document where `--json` is, else a
+/// text. The two don't come together, as `words_fit_for` has seen.
+fn form_of(found: &ArgMatches<'_>) -> ListingForm
+    ensures { IsAskedForm (rows_of (found_of found.now)) result }
+{
+    let (digest, json) = (wants_digest(found), wants_json(found));
+    if digest {
+        ListingForm::Digest
+    } else if json {
+        ListingForm::Json
+    } else {
+        ListingForm::Text
+    }
+}
+
+/// Runs `list` as the matches of the subcommand say. The exit status is 0. The caller has seen by `words_fit_for` that
+/// the words fit, and the notes have counted no file before.
 ///
 /// Refusals, tried in this order: `Read`, `Syntax`, `NamesKey`, `NamesCount` or `NamesRange` for a file of names;
 /// `UnknownName` where `--calls` names a call that no set has; those of `list`. `Memory` can come anywhere. After any
 /// error but `Write` nothing is written.
-fn run_list<R: Threads + Wait + Sync, F: Files, M: Meter, O: Write>(
-    means: &Means<'_, '_, R, M>,
+fn run_list<F: Files, O: Write>(
+    alloc: Global,
     found: &ArgMatches<'_>,
     files: &mut F,
     notes: &mut Notes,
@@ -284,36 +293,31 @@ fn run_list<R: Threads + Wait + Sync, F: Files, M: Meter, O: Write>(
 ) -> Result<u8, Fault>
     ensures done { IfOk result (λ s. Lists (F.holds files.old) (rows_of (found_of found.now)) s
         (O.contents out.old) (O.contents out.new)) }
-    ensures status { IfOk result (λ s. s ≤ 2) }
+    ensures status { IfOk result (λ s. s ≡ 0) }
     ensures quiet { IfErr result (λ e. (e ≡ WriteFault) ⊎ (out.new ≡ out.old)) }
     ensures refused { IfErr result (λ e. OnCalls (F.holds files.old)
         (rows_of (found_of found.now)) e
         (OnPaths (codes "filters") (rows_of (found_of found.now))
-        (λ paths. RefusesListing (F.holds files.old) paths e))) }
+        (λ paths. OnNodes (rows_of (found_of found.now))
+        (λ nodes. RefusesStack (F.holds files.old) paths nodes e)))) }
 {
-    let names = names_of(means.alloc, found, files, notes)?;
-    let calls = known_calls(means.alloc, found, &names, notes)?;
-    let paths = found.get_strs("filters").unwrap_or(&[]);
-    let terms = ListingTerms {
-        budget: budget_of(found),
-        workers: workers_of(found),
-        leaves: leaves_of(found),
-        json: wants_json(found),
-    };
+    let names = names_of(alloc, found, files, notes)?;
+    let calls = known_calls(alloc, found, &names, notes)?;
     let task = ListingTask {
-        paths,
+        paths: found.get_strs("filters").unwrap_or(&[]),
         sets: &names,
         calls: &calls,
-        terms,
+        form: form_of(found),
+        nodes: nodes_of(found),
     };
-    let gate = watched(found, means.gate);
-    list(&with_gate(means, &gate), &task, files, notes, out)
+    list(alloc, &task, files, notes, out)?;
+    Ok(0)
 }
 
-/// Runs `needed` as the matches of the subcommand say, and gives the exit status that it gives, 0 to 2. The refusals
-/// are those of `needed`: `Read`, a fault of the filters, `Write` or `Memory`.
-fn run_needed<R: Threads + Wait + Sync, F: Files, M: Meter, O: Write>(
-    means: &Means<'_, '_, R, M>,
+/// Runs `needed` as the matches of the subcommand say, and gives the exit status that it gives, 0 or 1. The refusals
+/// are those of `needed`: `Read`, a fault of the filters, `TooLarge`, `Write` or `Memory`.
+fn run_needed<F: Files, O: Write>(
+    alloc: Global,
     found: &ArgMatches<'_>,
     files: &mut F,
     notes: &mut Notes,
@@ -321,19 +325,15 @@ fn run_needed<R: Threads + Wait + Sync, F: Files, M: Meter, O: Write>(
 ) -> Result<u8, Fault>
     ensures done { IfOk result (λ s. Needs (F.holds files.old) (rows_of (found_of found.now)) s
         (O.contents out.old) (O.contents out.new)) }
-    ensures status { IfOk result (λ s. s ≤ 2) }
+    ensures status { IfOk result (λ s. s ≤ 1) }
     ensures quiet { IfErr result (λ e. (e ≡ WriteFault) ⊎ (out.new ≡ out.old)) }
-    ensures refused { IfErr result (λ e. RefusesNeedsOf (F.holds files.old)
-        (rows_of (found_of found.now)) e) }
+    ensures refused { IfErr result (λ e. OnPaths (codes "filters") (rows_of (found_of found.now))
+        (λ paths. OnNodes (rows_of (found_of found.now))
+        (λ nodes. RefusesStack (F.holds files.old) paths nodes e))) }
 {
     let paths = found.get_strs("filters").unwrap_or(&[]);
-    let terms = NeededTerms {
-        budget: budget_of(found),
-        workers: workers_of(found),
-        json: wants_json(found),
-    };
-    let gate = watched(found, means.gate);
-    needed(&with_gate(means, &gate), paths, terms, files, notes, out)
+    let json = wants_json(found);
+    needed(alloc, nodes_of(found), paths, json, files, notes, out)
 }
 
 /// Runs the subcommand with this name, one of the six that take filters, and gives its exit status, 0 to 2. For another
@@ -366,9 +366,9 @@ pub fn run_on_stack<R: Threads + Wait + Sync, F: Files, M: Meter, O: Write>(
         "audit" => run_audit(means, found, files, notes, out),
         "check" => run_check(means.alloc, found, files, notes, out),
         "eval" => run_eval(means.alloc, found, files, notes, out),
-        "compare" => run_compare(means, found, files, notes, out),
-        "list" => run_list(means, found, files, notes, out),
-        "needed" => run_needed(means, found, files, notes, out),
+        "compare" => run_compare(means.alloc, found, files, notes, out),
+        "list" => run_list(means.alloc, found, files, notes, out),
+        "needed" => run_needed(means.alloc, found, files, notes, out),
         _ => Ok(4),
     }
 }

@@ -25,6 +25,35 @@ fn visible_words(alloc: Global, words: &[String]) -> Result<Vec<String>, AllocEr
     Ok(all)
 }
 
+/// Options of an audit that `list`, `compare` and `needed` took before 2.0.0.
+const GONE: [&str; 4] = ["--workers", "--leaves", "--budget", "--progress"];
+
+/// What is said where one of them is given.
+const INSTEAD: &str = "
+list, compare and needed take no --workers, --leaves, --budget or --progress: they answer for each input exactly.
+--nodes N is there in their place: the most nodes that the decision diagrams may have, 1000000 if not given.
+";
+
+/// Whether a word is one of the options of `GONE`, alone or with a value behind `=`.
+fn is_gone(word: &str) -> bool {
+    let name = match word.split_once('=') {
+        Some((name, _)) => name,
+        None => word,
+    };
+    GONE.iter().any(|gone| name == *gone)
+}
+
+/// Whether the words give `list`, `compare` or `needed` an option of `GONE`.
+fn ask_for_gone(words: &[String]) -> bool {
+    match words.first() {
+        Some(command) => {
+            matches!(command.as_str(), "list" | "compare" | "needed")
+                && words.iter().any(|word| is_gone(word.as_str()))
+        }
+        None => false,
+    }
+}
+
 /// Why `clap` refuses the words. It writes a word as it gets it, so it gets the words here as a terminal shows them. It
 /// refuses these too: no option, subcommand or number has a hidden character or a `\`. Were they not refused, the text
 /// would be empty. An error where an allocation is refused.
@@ -43,9 +72,10 @@ fn refusal_text(alloc: Global, words: &[String]) -> Result<String, AllocError> {
 
 /// Writes what is said in place of matches of the words, for which `clap` gives `error`, and gives the exit status. The
 /// help or the version, where that was asked for, goes to standard output, and the status is 0. Otherwise the text of
-/// `refusal_text` goes to standard error, and the status is 4, also where standard error can't be written. `Memory`
-/// where an allocation was refused, to `clap` or here; nothing is written then. `Write` where standard output can't be
-/// written (a beginning of the text may be written then).
+/// `refusal_text` goes to standard error, with `INSTEAD` behind it where an option of `GONE` is given, and the status
+/// is 4, also where standard error can't be written. `Memory` where an allocation was refused, to `clap` or here;
+/// nothing is written then. `Write` where standard output can't be written (a beginning of the text may be written
+/// then).
 pub(crate) fn write_usage<O: Write, E: Write>(
     alloc: Global,
     words: &[String],
@@ -74,7 +104,10 @@ pub(crate) fn write_usage<O: Write, E: Write>(
             Ok(0)
         }
         _ => {
-            let text = refusal_text(alloc, words)?;
+            let mut text = refusal_text(alloc, words)?;
+            if ask_for_gone(words) {
+                text.push_str(INSTEAD)?;
+            }
             let _ = err.write_all(text.as_bytes());
             Ok(4)
         }

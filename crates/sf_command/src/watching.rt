@@ -1,12 +1,12 @@
-//! What is shown while a run goes on.
+//! What is shown while an audit goes on.
 
 use sf_crew::{Gate, Open};
 
 /// A gate that can show how far a run is, for `--progress`. It is given the budget first. Then it sees each work before
 /// this is committed, and each sheet of verdicts before this is entered.
 pub trait Meter: Gate {
-    /// Is called once, before the first exploration of a run that is to be shown. `budget` is the most works that are
-    /// committed in each exploration: `needed` has one for each comparison.
+    /// Is called once, before the exploration of an audit that is to be shown. `budget` is the most works that are
+    /// committed in it.
     fn begin(&self, budget: u32);
 }
 

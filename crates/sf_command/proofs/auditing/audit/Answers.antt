@@ -2,7 +2,7 @@ use Rattle.std.proofs.Common.{inl, inr, map, string_bytes}
 use Rattle.serde_json.specs.View.{view}
 use Rattle.sf_command.specs.Audits.{read_data}
 use Rattle.sf_command.proofs.KeptLemmas.{kept_refused_for, second_weaker}
-use Rattle.sf_command.proofs.RefusalLemmas.{audit_why, quiet_by, unread_why, unwritten_audit}
+use Rattle.sf_command.proofs.RefusalLemmas.{audit_why, unread_why, unwritten_audit, without_second}
 use Rattle.sf_evaluate.specs.KeptLaws.{kept_stack}
 use Rattle.sf_evaluate.specs.FilesLaws.{kept_same, handed_on}
 use Rattle.sf_command.proofs.auditing.audit.Goals as goal
@@ -60,4 +60,4 @@ returns-in_err-write_audit-clause-refused g c =
 pub returns-in_err-write_audit-clause-quiet : goal.returns-in_err-write_audit-clause-quiet
 returns-in_err-write_audit-clause-quiet g c =
     handed_on _ c.from_residual-in_err-write_audit.result c.in_err-write_audit.field-0.0
-    c.from_residual-in_err-write_audit.ensures.1 (quiet_by _ _ c.in_err-write_audit.ensures.refused)
+    c.from_residual-in_err-write_audit.ensures.1 (without_second c.in_err-write_audit.ensures.refused)

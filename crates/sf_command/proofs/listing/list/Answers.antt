@@ -1,36 +1,30 @@
-use Rattle.std.proofs.Common.{map}
-use Rattle.sf_evaluate.specs.KeptLaws.{kept_refusal, kept_stack}
-use Rattle.sf_command.proofs.KeptLemmas.{second_weaker}
+use Rattle.std.proofs.Common.{◌∙◌, false, sym, true}
+use Rattle.std.proofs.lemmas.Result.{IfErr-weaker, on_ok_weaker}
 use Rattle.sf_evaluate.specs.FilesLaws.{handed_on}
-use Rattle.sf_command.proofs.RefusalLemmas.{listing_why, quiet_by, unwritten_listing}
+use Rattle.sf_command.proofs.DiagramLemmas.{lists, stack_why, unread_stack}
 use Rattle.sf_command.proofs.listing.list.Goals as goal
 
+pub returns-then-is_digest-clause-written : goal.returns-then-is_digest-clause-written
+returns-then-is_digest-clause-written g c = on_ok_weaker c.list_stack.result
+    (lists _ _ _ c.in_ok-filters.ensures.read _ _ _ _ _ true (sym c.if-is_digest.true ∙ c.is_digest.ensures))
+    (rw c.deref.ensures.value at c.list_stack.ensures.written)
+
+pub returns-then-is_digest-clause-refused : goal.returns-then-is_digest-clause-refused
+returns-then-is_digest-clause-refused g c = IfErr-weaker c.list_stack.result _ _
+    (λ e why. stack_why _ _ _ _ e c.in_ok-filters.ensures.read (rw c.deref.ensures.value at why))
+    c.list_stack.ensures.refused
+
 pub returns-clause-written : goal.returns-clause-written
-returns-clause-written g c = record {
-  files = map (λ f. f.items) c.in_ok-filters.filters.items;
-  read = kept_stack _ _ _ c.in_ok-filters.ensures.read _
-      (rw c.deref.ensures.value at c.in_ok-listing.ensures.found.stack);
-  found = c.in_ok-listing.listing;
-  listing = rw c.deref.ensures.value at c.in_ok-listing.ensures.found;
-  rule = c.in_ok-listing.ensures.rule;
-  written = c.in_ok-whole.ensures.written;
-  status_is = rw c.in_ok-whole.ensures.whole at c.status_of_listing-status.ensures;
-}
+returns-clause-written g c = on_ok_weaker c.list_stack-2.result
+    (lists _ _ _ c.in_ok-filters.ensures.read _ _ _ _ _ false (sym c.if-is_digest.false ∙ c.is_digest.ensures))
+    (rw c.deref-2.ensures.value at c.list_stack-2.ensures.written)
 
-pub returns-in_err-listing-clause-refused : goal.returns-in_err-listing-clause-refused
-returns-in_err-listing-clause-refused g c =
-    handed_on _ c.from_residual-in_err-listing.result c.in_err-listing.field-0.0
-    c.from_residual-in_err-listing.ensures.1
-    (listing_why _ _ _ _ c.in_ok-filters.ensures.read.read
-    (second_weaker (kept_refusal _ _ _ c.in_ok-filters.ensures.read _)
-    (rw c.deref.ensures.value at c.in_err-listing.ensures.refused)))
+pub returns-clause-refused : goal.returns-clause-refused
+returns-clause-refused g c = IfErr-weaker c.list_stack-2.result _ _
+    (λ e why. stack_why _ _ _ _ e c.in_ok-filters.ensures.read (rw c.deref-2.ensures.value at why))
+    c.list_stack-2.ensures.refused
 
-pub returns-in_err-whole-clause-refused : goal.returns-in_err-whole-clause-refused
-returns-in_err-whole-clause-refused g c =
-    handed_on _ c.from_residual-in_err-whole.result c.in_err-whole.field-0.0 c.from_residual-in_err-whole.ensures.1
-    (unwritten_listing _ _ _ _ c.in_err-whole.ensures.refused)
-
-pub returns-in_err-whole-clause-quiet : goal.returns-in_err-whole-clause-quiet
-returns-in_err-whole-clause-quiet g c =
-    handed_on _ c.from_residual-in_err-whole.result c.in_err-whole.field-0.0 c.from_residual-in_err-whole.ensures.1
-    (quiet_by _ _ c.in_err-whole.ensures.refused)
+pub returns-in_err-filters-clause-refused : goal.returns-in_err-filters-clause-refused
+returns-in_err-filters-clause-refused g c =
+    handed_on _ c.from_residual.result c.in_err-filters.field-0.0 c.from_residual.ensures.1
+    (unread_stack _ _ _ _ c.in_err-filters.ensures.refused)

@@ -7,16 +7,12 @@ use Rattle.sf_command.proofs.subcommands.run_compare.Goals as goal
 
 pub returns-clause-done : goal.returns-clause-done
 returns-clause-done g c = IfOk-weaker c.compare.result _ _ (λ s written. record {
-  old_paths = c.unwrap_or-old.result.now;
-  named_old = rw c.unwrap_or-old.ensures (paths_found (found_of c.args.found.now) (codes "old") c.get_strs.result _
+  old_paths = c.unwrap_or.result.now;
+  named_old = rw c.unwrap_or.ensures (paths_found (found_of c.args.found.now) (codes "old") c.get_strs.result _
       c.get_strs.ensures refl);
-  new_paths = c.unwrap_or-new.result.now;
-  named_new = rw c.unwrap_or-new.ensures (paths_found (found_of c.args.found.now) (codes "new") c.get_strs-2.result _
+  new_paths = c.unwrap_or-2.result.now;
+  named_new = rw c.unwrap_or-2.ensures (paths_found (found_of c.args.found.now) (codes "new") c.get_strs-2.result _
       c.get_strs-2.ensures refl);
-  budget = c.budget_of.result;
-  counted = c.budget_of.ensures;
-  leaves = c.leaves_of.result;
-  limited = c.leaves_of.ensures;
   asked = c.relation_of_status.result;
   switched = c.relation_of_status.ensures;
   with_rows = c.wants_rows.result;
@@ -25,10 +21,10 @@ returns-clause-done g c = IfOk-weaker c.compare.result _ _ (λ s written. record
   in_json = c.wants_json.ensures;
   names = c.in_ok-names.names.items;
   called = c.in_ok-names.ensures.called;
-  known = rw c.deref.ensures.value at c.in_ok-known_calls.ensures.known;
+  known = rw c.deref.ensures.value at c.in_ok-calls.ensures.known;
   compared = rw (
     c.relation_of_rows.ensures,
-    c.in_ok-known_calls.ensures.asked,
+    c.in_ok-calls.ensures.asked,
     c.deref-2.ensures.value,
     fun_ext c.names_of.ensures.same,
   ) at written;
@@ -36,13 +32,13 @@ returns-clause-done g c = IfOk-weaker c.compare.result _ _ (λ s written. record
 
 pub returns-clause-refused : goal.returns-clause-refused
 returns-clause-refused g c = IfErr-weaker c.compare.result _ _ (λ e why. inr (inr (
-  c.unwrap_or-old.result.now,
-  rw c.unwrap_or-old.ensures (paths_found (found_of c.args.found.now) (codes "old") c.get_strs.result _
+  c.unwrap_or.result.now,
+  rw c.unwrap_or.ensures (paths_found (found_of c.args.found.now) (codes "old") c.get_strs.result _
       c.get_strs.ensures refl),
   (
-    c.unwrap_or-new.result.now,
-    rw c.unwrap_or-new.ensures (paths_found (found_of c.args.found.now) (codes "new") c.get_strs-2.result _
+    c.unwrap_or-2.result.now,
+    rw c.unwrap_or-2.ensures (paths_found (found_of c.args.found.now) (codes "new") c.get_strs-2.result _
         c.get_strs-2.ensures refl),
-    rw (fun_ext c.names_of.ensures.same) at why,
+    (c.nodes_of.result, c.nodes_of.ensures, rw (fun_ext c.names_of.ensures.same) at why),
   ),
 ))) c.compare.ensures.refused

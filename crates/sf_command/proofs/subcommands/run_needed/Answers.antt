@@ -9,10 +9,8 @@ returns-clause-done g c = IfOk-weaker c.needed.result _ _ (λ s written. record 
   paths = c.unwrap_or-paths.result.now;
   named = rw c.unwrap_or-paths.ensures (paths_found (found_of c.args.found.now) (codes "filters") c.get_strs.result _
       c.get_strs.ensures refl);
-  budget = c.budget_of.result;
-  counted = c.budget_of.ensures;
-  json = c.wants_json.result;
-  in_json = c.wants_json.ensures;
+  json = c.wants_json-json.result;
+  in_json = c.wants_json-json.ensures;
   needed = written;
 }) c.needed.ensures.written
 
@@ -21,5 +19,5 @@ returns-clause-refused g c = IfErr-weaker c.needed.result _ _ (λ e why. (
   c.unwrap_or-paths.result.now,
   rw c.unwrap_or-paths.ensures (paths_found (found_of c.args.found.now)
       (codes "filters") c.get_strs.result _ c.get_strs.ensures refl),
-  (c.budget_of.result, c.budget_of.ensures, why),
+  (c.nodes_of.result, c.nodes_of.ensures, why),
 )) c.needed.ensures.refused

@@ -1,4 +1,4 @@
-use Rattle.std.proofs.Common.{inl, inr, refl}
+use Rattle.std.proofs.Common.{arith, inl, inr, refl}
 use Rattle.std.proofs.lemmas.Result.{IfErr-weaker, IfOk-weaker}
 use Rattle.sf_command.proofs.subcommands.run_on_stack.Goals as goal
 
@@ -40,6 +40,10 @@ returns-in-eval-clause-refused g c = IfErr-weaker c.run_eval.result _ _
     ))
     c.run_eval.ensures.refused
 
+pub returns-in-compare-clause-status : goal.returns-in-compare-clause-status
+returns-in-compare-clause-status g c = IfOk-weaker c.run_compare.result _ _ (λ s few. inl (omega (arith, few)))
+    c.run_compare.ensures.status
+
 pub returns-in-compare-clause-done : goal.returns-in-compare-clause-done
 returns-in-compare-clause-done g c = IfOk-weaker c.run_compare.result _ _
     (λ s done small. (
@@ -56,6 +60,10 @@ returns-in-compare-clause-refused g c = IfErr-weaker c.run_compare.result _ _
       inr (inr (inr (inl (c.in-compare.is, why)))),
     )) c.run_compare.ensures.refused
 
+pub returns-in-list-clause-status : goal.returns-in-list-clause-status
+returns-in-list-clause-status g c = IfOk-weaker c.run_list.result _ _ (λ s zero. inl (omega (arith, zero)))
+    c.run_list.ensures.status
+
 pub returns-in-list-clause-done : goal.returns-in-list-clause-done
 returns-in-list-clause-done g c = IfOk-weaker c.run_list.result _ _
     (λ s done small. (
@@ -71,6 +79,10 @@ returns-in-list-clause-refused g c = IfErr-weaker c.run_list.result _ _
       refl,
       inr (inr (inr (inr (inl (c.in-list.is, why))))),
     )) c.run_list.ensures.refused
+
+pub returns-in-needed-clause-status : goal.returns-in-needed-clause-status
+returns-in-needed-clause-status g c = IfOk-weaker c.run_needed.result _ _ (λ s few. inl (omega (arith, few)))
+    c.run_needed.ensures.status
 
 pub returns-in-needed-clause-done : goal.returns-in-needed-clause-done
 returns-in-needed-clause-done g c = IfOk-weaker c.run_needed.result _ _
