@@ -1,5 +1,0 @@
-//! Tests of pictures of explorations.
-#![tactic(auto)]
-
-#[cfg(test)]
-mod pictures;
