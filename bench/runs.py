@@ -78,10 +78,10 @@ def audit_of(folder, policy, filters, budget=MOST_BUDGET, workers=1):
     return words + written(folder, filters)
 
 
-def comparison_of(folder, filters, budget=MOST_BUDGET, workers=1):
+def comparison_of(folder, filters):
     """The words that make it compare these filters with themselves."""
     paths = written(folder, filters)
-    return ["compare", "--budget", str(budget), "--workers", str(workers), "--old", *paths, "--new", *paths]
+    return ["compare", "--old", *paths, "--new", *paths]
 
 
 def commits_of(report):

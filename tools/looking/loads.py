@@ -13,9 +13,8 @@ FACTS = "sf_dom"
 
 # Those that explore, that read explorations, or that try or run such crates.
 EXPLORING = set("""
-    sf_dom facts_run facts_tests sf_piece sf_book sf_ask pieces_tests sf_picture picture_tests sf_stack_warnings sf_crew
-    crew_tests sf_audit sf_rows sf_compare sf_list sf_needed list_tests memory_run sf_command seccomp_audit command_run
-    examples_run
+    sf_dom facts_run facts_tests sf_piece sf_book sf_ask pieces_tests sf_stack_warnings sf_crew crew_tests sf_audit
+    memory_run sf_command seccomp_audit command_run examples_run
 """.split())
 
 

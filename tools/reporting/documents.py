@@ -10,8 +10,9 @@ HERE = pathlib.Path(__file__).resolve().parent
 # Where the schemas stand: in the repository, and where the program is installed.
 SCHEMAS = [HERE.parents[1] / "docs/schema", HERE.parents[2] / "share/seccomp_audit/schema"]
 
-VERSION = 1
-KINDS = ("audit", "compare", "list", "needed")
+# Of each command the version of its documents that is read.
+VERSIONS = {"audit": 1, "compare": 2, "list": 2, "needed": 2}
+KINDS = tuple(VERSIONS)
 
 
 class Refused(Exception):
@@ -31,7 +32,7 @@ class Document:
 
     @property
     def open(self):
-        """How many pieces of the exploration are outstanding. Where it isn't 0, the document doesn't say all."""
+        """How many pieces of an audit are outstanding. Where it isn't 0, the document doesn't say all."""
         return self.value["counts"]["open"] if "counts" in self.value else 0
 
 
@@ -59,8 +60,9 @@ def kind_of(value, path):
     command = value.get("seccomp_audit") if isinstance(value, dict) else None
     if command not in KINDS:
         raise Refused(f"{path}: no document of {', '.join(KINDS[:-1])} or {KINDS[-1]}")
-    if value.get("version") != VERSION or isinstance(value.get("version"), bool):
-        raise Refused(f"{path}: its version is {value.get('version')!r:.40}, and this program knows version {VERSION}")
+    version = value.get("version")
+    if version != VERSIONS[command] or isinstance(version, bool):
+        raise Refused(f"{path}: its version is {version!r:.40}, and this program knows version {VERSIONS[command]}")
     return "compare-rows" if command == "compare" and "shown" in value else command
 
 

@@ -41,8 +41,8 @@ def joined(effects):
 
 
 def change_of(told):
-    """What kind of change a row shows, by its pair of answers; None stands for two equal ones."""
-    if told is None or told["old"] == told["new"]:
+    """What kind of change a row shows, by its two answers."""
+    if told["old"] == told["new"]:
         return "same"
     old, new = REACH[effect_of(told["old"])], REACH[effect_of(told["new"])]
     return "looser" if new > old else "tighter" if new < old else "different"
@@ -61,8 +61,6 @@ def answer_in_words(answer):
 
 def told_in_words(told):
     """What a row says: an answer, or those of both stacks."""
-    if told is None:
-        return "unchanged"
     if "old" not in told:
         return answer_in_words(told)
     return f"{answer_in_words(told['old'])} → {answer_in_words(told['new'])}"

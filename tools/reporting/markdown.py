@@ -3,9 +3,9 @@ from .documents import Refused
 from .effects import EFFECTS, answer_in_words, joined
 from .groups import arranged
 from .marks import LONGEST_TEXT, code, in_table, listed, plain_or_code
-from .phrases import MADE_BY, UNSETTLED, call_of, control_of, counted, not_complete, source_of
+from .phrases import MADE_BY, call_of, control_of, counted, not_complete, source_of
 from .picture import Picture, Strip
-from .rows import rows_of
+from .rows import rows_alone, rows_of
 from .x32 import effect_of_x32
 
 MOST_NAMES = 8
@@ -74,14 +74,8 @@ def openness(picture):
 def of_list(document, report):
     """What is said of a list."""
     lines = [title_of(document, f"What {stack_of(document.value['stack'])} lets through"), ""]
-    if document.open:
-        return [*lines, "There are no rows, since the list isn't complete.", ""]
     picture = Picture(rows_of(document, report.sets), report.sets)
     lines += table_of(picture.counts()) if report.sets else ["Calls aren't counted, since no names are given.", ""]
-    undetermined = document.value["total"]["undetermined"]
-    if undetermined:
-        rows = counted(undetermined, "row has", "rows have")
-        lines += [f"**{rows} several answers**: which of them an input gets isn't told.", ""]
     return [*lines, openness(picture), ""]
 
 
@@ -149,15 +143,12 @@ def of_needed(document, _report):
     """What is said of which filters are needed."""
     filters = document.value["filters"]
     spare = [str(it["number"]) for it in filters if it["result"] == "spare"]
-    undecided = [str(it["number"]) for it in filters if it["result"] == "unsettled"]
     kept = [str(number) for number in document.value["kept"]]
     lines = [title_of(document, f"Which filters are needed of {stack_of(document.value['stack'])}"), ""]
     if spare:
         lines.append(f"No call gets further if one of these filters is left out: {', '.join(spare)}. "
                      f"Together these are enough: {', '.join(kept) or 'none'}.")
-    if undecided:
-        lines.append(f"**Unsettled**: {', '.join(undecided)}.")
-    return [*lines, *([] if spare or undecided else ["Each filter is needed."]), ""]
+    return [*lines, *([] if spare else ["Each filter is needed."]), ""]
 
 
 def relation_said(name, change):
@@ -165,8 +156,6 @@ def relation_said(name, change):
     found, never = RELATIONS[name]
     if change["result"] == "never":
         return f"- {name}: {never}."
-    if change["result"] == "unsettled":
-        return f"- **{name}: unsettled**: {UNSETTLED}."
     line = f"- **{name}: {found}**"
     if change["example"]:
         line += f", for example {code(call_of(change['example']), LONGEST_TEXT)}"
@@ -175,10 +164,11 @@ def relation_said(name, change):
     return f"{line}."
 
 
-def rows_said(value):
+def rows_said(document):
     """The line of the rows of a comparison, with the calls and the numbers that they are about."""
+    value = document.value
     about = [f"{row['set']} {row['call']}" for row in value["calls"] or []]
-    about += [f"arch {row['arch'] or 'any'} nr {row['nr'] or 'any'}" for row in value["rows"]]
+    about += [f"arch {arch} nr {numbers}" for arch, numbers in (row.words for row in rows_alone(document))]
     names = listed(list(dict.fromkeys(about)), MOST_NAMES) if about else "none"
     return f"- rows that are {value['shown']} ({value['total']['rows']}): {names}."
 
@@ -188,8 +178,8 @@ def of_comparison(document, _report):
     value = document.value
     title = f"What changes from {stack_of(value['old'])} to {stack_of(value['new'])}"
     lines = [title_of(document, title), "", *(relation_said(name, value[name]) for name in RELATIONS)]
-    if document.kind == "compare-rows" and value["total"]:
-        lines.append(rows_said(value))
+    if document.kind == "compare-rows":
+        lines.append(rows_said(document))
     return [*lines, ""]
 
 

@@ -75,8 +75,6 @@ def of_other_architectures(picture, found):
 
 def list_part(document, sets, identity):
     """The section of a list: what calls get, in sentences, maps and rows."""
-    if document.open:
-        return section("What it does", paragraph("There are no rows: the exploration stopped before its end."))
     picture = Picture(rows_of(document, sets), sets)
     found = picture.maps()
     told = counts_in_words(picture.counts()) + of_other_architectures(picture, found)
@@ -87,8 +85,7 @@ def list_part(document, sets, identity):
 
 def needed_part(document):
     """The section of what is found of each filter."""
-    words = {"needed": "is needed", "spare": "changes nothing: no call gets further without it",
-             "unsettled": "may be needed or not: neither was found"}
+    words = {"needed": "is needed", "spare": "changes nothing: no call gets further without it"}
     lines = []
     for it in document.value["filters"]:
         example = f", for instance for {element('code', escaped(call_of(it['example'])))}" if it["example"] else ""
@@ -100,7 +97,7 @@ def needed_part(document):
 def lists_of(report, document):
     """The lists of OLD and NEW, where the report has these two. Refused where they can't be of the compared stacks."""
     lists = [it for it in report.documents if it.kind == "list"]
-    if len(lists) != 2 or document.kind != "compare-rows" or any(it.open for it in lists):
+    if len(lists) != 2 or document.kind != "compare-rows":
         return []
     for name, it in zip(("old", "new"), lists):
         if it.value["stack"] != document.value[name]:

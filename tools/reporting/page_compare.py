@@ -18,8 +18,6 @@ def change_line(kind, change):
     never, found = WORDS[kind]
     if change["result"] == "never":
         return escaped(never)
-    if change["result"] == "unsettled":
-        return badge("handed", "? unsettled") + escaped(f" {found}: neither found nor ruled out.")
     example = element("code", escaped(call_of(change["example"])))
     told = escaped(told_in_words(change))
     return f"{badge(kind, CHANGES[kind][1])} {escaped(found)}: for instance {example}: {told}"
@@ -83,5 +81,5 @@ def compare_part(document, sets, lists, identity):
     """The section of a comparison. `lists` are those of OLD and NEW, or none."""
     value = document.value
     lines = bullets(change_line(kind, value[kind]) for kind in WORDS)
-    has_rows = document.kind == "compare-rows" and not document.open
+    has_rows = document.kind == "compare-rows"
     return section("What the change does", lines, rows_part(document, sets, lists, identity) if has_rows else "")

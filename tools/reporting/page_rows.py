@@ -109,9 +109,7 @@ def names_of(row):
 
 def row_line(place, row, effect):
     """A row of the table."""
-    told = " or ".join(told_in_words(one) for one in row.answers)
-    note = " (which of them isn't known)" if len(row.answers) > 1 else ""
-    answer = badge(effect, f"{MARKS[effect][1]} {told}") + note
+    answer = badge(effect, f"{MARKS[effect][1]} {told_in_words(row.told)}")
     conditions = "".join(element("div", breakable(one)) for one in row.conditions)
     cells = [str(place + 1), breakable(row.words[0]), breakable(row.words[1]), names_of(row), answer, conditions]
     return element("tr", "".join(element("td", one) for one in cells), data_e=effect)

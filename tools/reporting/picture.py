@@ -139,7 +139,7 @@ class Picture:
         self.rows, self.sets = rows, sets
         self.join = joined_changes if is_of_change else joined
         of_one = change_of if is_of_change else effect_of
-        self.effects = [self.join(of_one(told) for told in row.answers) for row in rows]
+        self.effects = [of_one(row.told) for row in rows]
         kinds = {}
         for place, row in enumerate(rows):
             kinds.setdefault((row.words, tuple(row.on_call)), []).append(place)

@@ -1,4 +1,5 @@
 """Checks a value against a JSON Schema, by the keywords that the schemas in docs/schema use."""
+import functools
 import re
 
 KINDS = {"object": dict, "array": list, "string": str, "boolean": bool, "null": type(None)}
@@ -16,16 +17,16 @@ def same(value, other):
     return type(value) is type(other) and value == other
 
 
-def fits_pattern(value, pattern):
-    """Whether a text fits a pattern, whose end is that of the text: Python would pass over a last newline."""
-    return re.search(re.sub(r"\$$", r"\\Z", pattern), value) is not None
+@functools.cache
+def expression_of(pattern):
+    """A pattern as Python has it, whose end is that of the text: Python would pass over a last newline."""
+    return re.compile(re.sub(r"\$$", r"\\Z", pattern))
 
 
 def faults(schema, value, whole, at="the document"):
     """Where a value doesn't fit a schema. `whole` is the schema that has the definitions."""
-    unknown = set(schema) - KEYWORDS
-    if unknown:
-        yield f"the schema has keywords that aren't checked: {unknown}"
+    if not KEYWORDS.issuperset(schema):
+        yield f"the schema has keywords that aren't checked: {set(schema) - KEYWORDS}"
     if "$ref" in schema:
         yield from faults(whole["$defs"][schema["$ref"].removeprefix("#/$defs/")], value, whole, at)
     if "anyOf" in schema and all(any(faults(one, value, whole, at)) for one in schema["anyOf"]):
@@ -37,7 +38,7 @@ def faults(schema, value, whole, at="the document"):
     if "type" in schema and not is_kind(value, schema["type"]):
         yield f"{at} is no {schema['type']}: {value!r:.80}"
         return
-    if isinstance(value, str) and not fits_pattern(value, schema.get("pattern", "")):
+    if "pattern" in schema and isinstance(value, str) and not expression_of(schema["pattern"]).search(value):
         yield f"{at} doesn't fit {schema['pattern']}: {value!r:.80}"
     if is_kind(value, "integer") and not schema.get("minimum", value) <= value <= schema.get("maximum", value):
         yield f"{at} is out of its range: {value}"
@@ -53,8 +54,9 @@ def faults(schema, value, whole, at="the document"):
 def faults_of_members(schema, value, whole, at):
     """Where the members of an object don't fit."""
     known = schema.get("properties", {})
-    for key in set(schema.get("required", ())) - set(value):
-        yield f"{at} lacks {key}"
+    for key in schema.get("required", ()):
+        if key not in value:
+            yield f"{at} lacks {key}"
     for key, member in value.items():
         if key in known:
             yield from faults(known[key], member, whole, f"{at}.{key}")

@@ -4,8 +4,8 @@
 
 Command lines over examples/, policies/ and filters made here are run both ways, and those of crates/command_run/stdin. Each
 document has to be one line, to fit its schema in docs/schema/, and to say what the text says: the text is made again from
-the document, and compared byte for byte. Both runs have to end with the same status, and where it is above 2 neither
-writes to standard output. A schema is read by a checker of the keywords that the schemas use, and by Debian's
+the document, and compared byte for byte. Both runs have to end with the same status, and where it is above 2, or the stack is
+too large, neither writes to standard output. A schema is read by a checker of the keywords that the schemas use, and by Debian's
 python3-jsonschema too, where it is there.
 
 Each difference gets a line. The last line is `N passed, M failed`; the status is 1 where M isn't 0 or N is.
@@ -62,25 +62,57 @@ def sizes_of(sizes):
     return "filters {filters} path {path}".format(**sizes)
 
 
+def nodes_of(diagram):
+    return f"diagram nodes {diagram['nodes']}"
+
+
 def upper(word):
     return "0x" + word[2:].upper()
 
 
-def told(answer):
-    """What a row says of one of its answers: that of one stack, or those of two."""
-    if answer is None:
-        return "unchanged"
-    return f"{answer_of(answer['old'])} -> {answer_of(answer['new'])}" if "old" in answer else answer_of(answer)
+def told(row):
+    """What a row says: the answer of one stack, or those of two."""
+    return f"{answer_of(row['old'])} -> {answer_of(row['new'])}" if "old" in row else answer_of(row["answer"])
+
+
+# How a number is written behind `arch`, behind `nr`, and in a condition; and what stands before one number, and before
+# several.
+FORMS = {
+    "arch": ("0x{:08X}".format, "", "in "),
+    "nr": (lambda number: str(number) if number < 1 << 16 else f"0x{number:X}", "", ""),
+    "if": ("0x{:X}".format, "= ", "in "),
+}
+
+
+def numbers_of(condition, form):
+    """The numbers of a condition, as they stand behind `arch` or `nr`, or in a condition."""
+    written, one, several = FORMS[form]
+    ranges = [tuple(map(written, ends)) for ends in condition["ranges"]]
+    is_one = len(ranges) == 1 and ranges[0][0] == ranges[0][1]
+    if condition["not"]:
+        one, several = "!= ", "not in "
+    return (one if is_one else several) + ",".join(first if first == last else f"{first}..{last}" for first, last in ranges)
+
+
+def condition_of(condition):
+    mask = "" if condition["mask"] == 0xFFFFFFFF else f" & 0x{condition['mask']:X}"
+    return f"{condition['word']}{mask} {numbers_of(condition, 'if')}"
 
 
 def row_of(row):
-    conditions = f" if {' and '.join(row['conditions'])}" if row["conditions"] else ""
-    answers = " | ".join(told(answer) for answer in row["answers"])
+    places, conditions = {"arch": "any", "nr": "any"}, []
+    for condition in row["conditions"]:
+        word = condition["word"]
+        if word in places and condition["mask"] == 0xFFFFFFFF:
+            places[word] = numbers_of(condition, word)
+        else:
+            conditions.append(condition_of(condition))
+    conditions = f" if {' and '.join(conditions)}" if conditions else ""
     if "set" in row:
-        return f"{row['set']} {row['call']} {answers}{conditions}"
+        return f"{row['set']} {row['call']} {told(row)}{conditions}"
     names = row["calls"][:8] + [".."] * (len(row["calls"]) > 8)
     names = f" # {','.join(names)}" if names else ""
-    return f"arch {row['arch'] or 'any'} nr {row['nr'] or 'any'} {answers}{conditions}{names}"
+    return f"arch {places['arch']} nr {places['nr']} {told(row)}{conditions}{names}"
 
 
 def rows_of(document):
@@ -115,37 +147,36 @@ def unexpected_in(document):
 
 
 def text_of_needed(document):
-    yield "seccomp_audit needed 1"
+    yield "seccomp_audit needed 2"
     yield sizes_of(document["stack"])
+    yield nodes_of(document["diagram"])
     for one in document["filters"]:
         example = f" {one['example']['bytes']}" if one["example"] else ""
         yield f"filter {one['number']} {one['result']}{example}"
     yield f"kept {' '.join(map(str, document['kept'])) or '-'}"
-    yield "total needed {needed} spare {spare} unsettled {unsettled} kept {kept}".format(**document["totals"])
+    yield "total needed {needed} spare {spare} kept {kept}".format(**document["totals"])
 
 
 def text_of_compare(document):
-    yield "seccomp_audit compare 1"
+    yield "seccomp_audit compare 2"
     yield f"old {sizes_of(document['old'])}"
     yield f"new {sizes_of(document['new'])}"
-    yield counts_of(document["counts"])
+    yield nodes_of(document["diagram"])
     for relation in ("looser", "tighter", "different"):
         change = document[relation]
         example = change["example"] and f" {change['example']['bytes']} {answer_of(change['old'])} -> {answer_of(change['new'])}"
         yield f"{relation} {change['result']}{example or ''}"
     if "rows" in document:
         yield from rows_of(document)
-        if document["total"]:
-            yield f"total {document['shown']} {document['total']['rows']} undetermined {document['total']['undetermined']}"
+        yield f"total {document['shown']} {document['total']['rows']}"
 
 
 def text_of_list(document):
     by_call = document["calls"] is not None
-    yield f"seccomp_audit {'calls' if by_call else 'list'} 1"
+    yield f"seccomp_audit {'calls' if by_call else 'list'} 2"
     yield sizes_of(document["stack"])
-    yield counts_of(document["counts"])
     yield from rows_of(document)
-    yield f"total {'lines' if by_call else 'rows'} {document['total']['rows']} undetermined {document['total']['undetermined']}"
+    yield f"total {'lines' if by_call else 'rows'} {document['total']['rows']}"
 
 
 def text_of_check(document):
@@ -284,7 +315,7 @@ class Script:
                 self.put(name, self.made(list(words_of(content))))
             elif word in ("run", "count", "limit", "interrupt"):
                 words = list(words_of(rest))
-                if words and words[0] in TEXTS and not {"--json", "--help", "-h", "-"} & set(words):
+                if words and words[0] in TEXTS and not {"--json", "--digest", "--help", "-h", "-"} & set(words):
                     yield schema_of(words), words, self.folder_of(words)
 
 
@@ -306,17 +337,17 @@ def command_lines(room):
         yield "check", ["check", "--instructions", *stack]
         for more in ([], ["--trace"], ["--trace-true"], ["--trace", "--names", NAMES], ["--names", NAMES]):
             yield "eval", ["eval", *more, "--input", example, *stack]
-        for more in ([], ["--names", NAMES], ["--calls", "ioctl,execve", "--names", NAMES], ["--budget", "3", "--workers", "1"]):
+        for more in ([], ["--names", NAMES], ["--calls", "ioctl,execve", "--names", NAMES], ["--calls", "--names", NAMES], ["--nodes", "3"]):
             yield "list", ["list", *more, *stack]
         for more in ([], ["--regions"], ["--names", NAMES], ["--why"], ["--why", "--names", NAMES], ["--budget", "2", "--workers", "1"],
                      ["--policy", "policies/aarch64.toml"]):
             yield "audit", ["audit", "--policy", "policies/x86_64.toml", *more, *stack]
         yield "needed", ["needed", *stack]
-        yield "needed", ["needed", "--budget", "1", "--workers", "1", *stack]
+        yield "needed", ["needed", "--nodes", "1", *stack]
     for old, new in (P1, P1), (P1, [changed]), ([changed], P1), (SNAP[:1], SNAP), (SSHD, SNAP):
-        for more in ([], ["--names", NAMES], ["--budget", "2", "--workers", "1"]):
+        for more in ([], ["--names", NAMES], ["--nodes", "2"]):
             yield "compare", ["compare", *more, "--old", *old, "--new", *new]
-        for more in ([], ["--names", NAMES], ["--only", "tighter"], ["--calls", "ioctl", "--names", NAMES], ["--budget", "2", "--workers", "1"]):
+        for more in ([], ["--names", NAMES], ["--only", "tighter"], ["--calls", "ioctl", "--names", NAMES], ["--nodes", "2"]):
             yield "compare-rows", ["compare", "--rows", *more, "--old", *old, "--new", *new]
 
 
@@ -340,6 +371,10 @@ def differences(program, name, words, place):
         return
     if said != refused:
         yield f"standard error has {refused!r:.80}, and not {said!r:.80}"
+    if status == 2 and said.startswith("too large: "):
+        if text or line:
+            yield f"something is written of what is too large: {line!r:.80}"
+        return
     if not line.endswith("\n") or line.count("\n") != 1:
         yield f"no document on one line: {line!r:.80}"
         return

@@ -6,17 +6,19 @@
 FILE.. is a stack, as the program takes it; --programs makes so many random ones, with masks, computed numbers and tests
 of single bits, every fourth with whole words and constants only. For each stack N inputs are made: a half lies in rows
 that are drawn by lot, the other half is aimed at the numbers in the filters. Each has to lie in exactly one row, which
-has its answer. The counts of the last line and the exit status have to fit the rows, and where whole words are compared
-with constants only, each row has to have one answer; such a random stack is given all leaves that there may be. With
---names, the lines of `list --calls` are compared, with this file of sets: those of the named calls, and the rows behind
-them.
+has its answer. The last line has to count the rows, the status has to be 0, and `list --digest` has to be the SHA-256 of
+the rows. With --names, the lines of `list --calls` are compared, with this file of sets: those of the named calls, and
+the rows behind them.
 
-Each random stack is compared with another one too, on as many inputs. An input that both answer alike lies in no row, or
-in one that says `unchanged`; any other lies in exactly one row, which has both answers.
+Each random stack is compared with another one too, on as many inputs. An input that both answer alike lies in no row; any
+other lies in exactly one row, which has both answers.
 
-Each difference gets a line. The last line is `N agree, M differ`; the status is 1 where M isn't 0 or N is.
+A stack may be too large: then nothing may be written to standard output, and the line before the last counts it. One
+with whole words and constants only never is. Each difference gets a line. The last line is `N agree, M differ`; the
+status is 1 where M isn't 0 or N is.
 """
 import argparse
+import hashlib
 import os
 import random
 import re
@@ -35,12 +37,10 @@ X86_64, I386, ARM_64 = 0xC000003E, 0x40000003, 0xC00000B7
 WORDS = ["nr", "arch", "ip_lo", "ip_hi"] + [f"arg{n}_{half}" for n in range(6) for half in ("lo", "hi")]
 NUMBERS = r"(?:\w+(?:\.\.\w+)?(?:,\w+(?:\.\.\w+)?)*)"
 ANSWER = r"[A-Z_]+(?::0x\w+)? \d+"
-OUTCOME = rf"(?:{ANSWER}(?: -> {ANSWER})?|unchanged)"
-ROW = re.compile(rf"arch ((?:in |!= |not in )?{NUMBERS}) nr ({NUMBERS}) ({OUTCOME}(?: \| {OUTCOME})*)(?: if (.+))?")
-CALL = re.compile(rf"(\w+) (\w+) ({ANSWER}(?: \| {ANSWER})*)(?: if (.+))?")
+ROW = re.compile(rf"arch ((?:in |!= |not in )?{NUMBERS}) nr ({NUMBERS}) ({ANSWER}(?: -> {ANSWER})?)(?: if (.+))?")
+CALL = re.compile(rf"(\w+) (\w+) ({ANSWER})(?: if (.+))?")
 CONDITION = re.compile(rf"(\w+)(?: & 0x(\w+))? (=|!=|in|not in) ({NUMBERS})")
-# For stacks of which each row has to have one answer.
-MOST_LEAVES = ("--leaves", "1000000")
+TOO_LARGE = re.compile(r"too large: more than \d+ nodes; --nodes takes more\n")
 ACTIONS = (0x7FFF0000, 0x7FFF0000, 0x80000000, 0x00050001, 0x00050026, 0x7FF00007, 0x00000000)
 
 
@@ -76,28 +76,28 @@ def span(text):
 
 
 def head_of(line, names):
-    """The parts of a line's architectures and call numbers, and its outcomes and conditions."""
+    """The parts of a line's architectures and call numbers, and its outcome and conditions."""
     if found := ROW.fullmatch(line):
-        arch, nr, outcomes, conditions = found.groups()
+        arch, nr, outcome, conditions = found.groups()
         how, _, numbers = arch.rpartition(" ")
-        return [Part(1, ALL, how in ("!=", "not in"), numbers), Part(0, ALL, False, nr)], outcomes, conditions
+        return [Part(1, ALL, how in ("!=", "not in"), numbers), Part(0, ALL, False, nr)], outcome, conditions
     if not (found := CALL.fullmatch(line)):
         sys.exit(f"no row: {line}")
-    chosen, call, answers, conditions = found.groups()
+    chosen, call, answer, conditions = found.groups()
     arch, nr = names[chosen]["arch"], names[chosen]["calls"][call]
-    return [Part(1, ALL, False, str(arch)), Part(0, ALL, False, str(nr))], answers, conditions
+    return [Part(1, ALL, False, str(arch)), Part(0, ALL, False, str(nr))], answer, conditions
 
 
 def row_of(line, names):
-    """The outcomes of a row, and the parts that an input has to lie in."""
-    parts, outcomes, conditions = head_of(line, names)
+    """The outcome of a row, and the parts that an input has to lie in."""
+    parts, outcome, conditions = head_of(line, names)
     for text in conditions.split(" and ") if conditions else []:
         condition = CONDITION.fullmatch(text)
         if not condition:
             sys.exit(f"no condition: {text}")
         word, mask, how, numbers = condition.groups()
         parts.append(Part(WORDS.index(word), int(mask, 16) if mask else ALL, how in ("!=", "not in"), numbers))
-    return outcomes.split(" | "), parts
+    return outcome, parts
 
 
 def sets_of(path):
@@ -107,13 +107,13 @@ def sets_of(path):
 
 
 def is_same(row, other):
-    """Whether two rows are about the same inputs, with the same outcomes."""
+    """Whether two rows are about the same inputs, with the same outcome."""
     return row[0] == other[0] and [vars(part) for part in row[1]] == [vars(part) for part in other[1]]
 
 
 def run(program, *words):
     ran = subprocess.run([program, *words], capture_output=True, text=True, check=False)
-    return ran.returncode, ran.stdout + ran.stderr
+    return ran.returncode, ran.stdout, ran.stderr
 
 
 def digits_of(words):
@@ -155,15 +155,28 @@ def inside(rng, known, parts):
 
 
 def answer_of(program, digits, paths):
-    return run(program, "eval", "--input", digits, *paths)[1].strip()
+    return "".join(run(program, "eval", "--input", digits, *paths)[1:]).strip()
+
+
+def is_too_large(ran):
+    """Whether the program says that a stack is too large, and nothing else."""
+    status, text, said = ran
+    return status == 2 and not text and TOO_LARGE.fullmatch(said)
 
 
 def rows_in(lines, names, last):
-    """The rows of lines, how many have several outcomes, and what is wrong with the last line, which counts both."""
+    """The rows of lines, and what is wrong with the last line, which counts them."""
     rows = [row_of(line, names) for line in lines[:-1]]
-    several = sum(len(outcomes) > 1 for outcomes, _ in rows)
-    due = f"{last} {len(rows)} undetermined {several}"
-    return rows, several, [] if lines[-1] == due else [f"{lines[-1]!r} in place of {due!r}"]
+    due = f"{last} {len(rows)}"
+    return rows, [] if lines[-1] == due else [f"{lines[-1]!r} in place of {due!r}"]
+
+
+def digest_faults(program, paths, lines):
+    """What is wrong with the digest of a stack whose rows have these lines."""
+    text = "".join(line + "\n" for line in lines)
+    due = f"list 2 sha256 {hashlib.sha256(text.encode()).hexdigest()}\n"
+    ran = run(program, "list", "--quiet", "--digest", *paths)
+    return [] if ran == (0, due, "") else [f"the digest is {ran}, and not {due!r}"]
 
 
 def strays(rows, outcome, rng, count, paths):
@@ -171,48 +184,47 @@ def strays(rows, outcome, rng, count, paths):
     known = sorted({constant for path in paths for constant in code_of(path)}) or [0]
     for n in range(count):
         words = inside(rng, known, rng.choice(rows)[1]) if n % 2 and rows else aimed(rng, known)
-        found = [outcomes for outcomes, parts in rows if all(part.has(words) for part in parts)]
+        found = [one for one, parts in rows if all(part.has(words) for part in parts)]
         told = outcome(digits_of(words))
-        if len(found) > 1 or told not in (found or [["unchanged"]])[0]:
+        if (found or ["unchanged"]) != [told]:
             yield f"{digits_of(words)}: {told}, in rows {found}"
 
 
 def of_list(program, paths, rng, count, plain, named):
-    """What differs for the list of a stack, how many inputs agree, and how many rows have several answers."""
-    leaves = MOST_LEAVES if plain else ()
-    status, text = run(program, "list", "--quiet", *leaves, *paths, *(("--calls", "--names", named) if named else ()))
-    if status not in (0, 2):
-        return [f"status {status}: {text.strip()}"], 0, 0
-    names = sets_of(named) if named else {}
-    lined, several, wrong = rows_in(text.split("\n")[3:-1], names, "total lines" if named else "total rows")
-    if status != (2 if several else 0):
-        wrong.append(f"status {status}, {several} undetermined")
-    if plain and several:
-        wrong.append(f"{several} rows of whole words have several answers")
+    """What differs for the list of a stack, how many inputs agree, and whether it is too large."""
+    ran = run(program, "list", "--quiet", *paths, *(("--calls", "--names", named) if named else ()))
+    if is_too_large(ran):
+        return ["whole words are too large"] if plain else [], 0, True
+    status, text, said = ran
+    if status or said:
+        return [f"status {status}: {said.strip()}"], 0, False
+    lines, names = text.split("\n")[2:-1], sets_of(named) if named else {}
+    lined, wrong = rows_in(lines, names, "total lines" if named else "total rows")
+    wrong += [] if named else digest_faults(program, paths, lines[:-1])
     # Two names of one call have the same lines.
-    rows = [row for n, row in enumerate(lined) if not any(is_same(row, other) for other in lined[:n][-20:])]
+    rows = [row for n, row in enumerate(lined) if not any(is_same(row, other) for other in lined[max(0, n - 20) : n])]
     stray = list(strays(rows, lambda digits: answer_of(program, digits, paths), rng, count, paths))
-    return wrong + stray, count - len(stray), several
+    return wrong + stray, count - len(stray), False
 
 
 def of_comparison(program, old, new, rng, count, plain):
     """The same for the rows in which two stacks differ."""
-    leaves = MOST_LEAVES if plain else ()
-    status, text = run(program, "compare", "--quiet", "--rows", *leaves, "--old", *old, "--new", *new)
-    if status not in (0, 1, 2):
-        return [f"status {status}: {text.strip()}"], 0, 0
+    ran = run(program, "compare", "--quiet", "--rows", "--old", *old, "--new", *new)
+    if is_too_large(ran):
+        return ["whole words are too large"] if plain else [], 0, True
+    status, text, said = ran
+    if status not in (0, 1) or said:
+        return [f"status {status}: {said.strip()}"], 0, False
     lines = text.split("\n")
     begin = next(n for n, line in enumerate(lines) if line.startswith("different ")) + 1
-    rows, several, wrong = rows_in(lines[begin:-1], {}, "total changed")
-    if plain and several:
-        wrong.append(f"{several} rows of whole words have several pairs of answers")
+    rows, wrong = rows_in(lines[begin:-1], {}, "total changed")
 
     def outcome(digits):
         before, after = (answer_of(program, digits, paths) for paths in (old, new))
         return "unchanged" if before == after else f"{before} -> {after}"
 
     stray = list(strays(rows, outcome, rng, count, [*old, *new]))
-    return wrong + stray, count - len(stray), several
+    return wrong + stray, count - len(stray), False
 
 
 def number(rng):
@@ -289,12 +301,12 @@ def main():
     parser.add_argument("--program", default=built("proved"))
     parser.add_argument("files", nargs="*", metavar="FILE")
     asked = parser.parse_args()
-    agree = differ = several = stacks = 0
+    agree = differ = large = stacks = 0
 
     def add(name, paths, found):
-        nonlocal agree, differ, several
-        wrong, right, undetermined = found
-        agree, differ, several = agree + right, differ + len(wrong), several + undetermined
+        nonlocal agree, differ, large
+        wrong, right, is_large = found
+        agree, differ, large = agree + right, differ + len(wrong), large + is_large
         for line in wrong:
             print(f"{name}: {line}", *map(digits_in, paths))
 
@@ -306,6 +318,6 @@ def main():
             stacks += 1
             add(name, old, of_list(asked.program, old, rng, asked.random, plain, asked.names))
             add(f"{name}, compared", [*old, *new], of_comparison(asked.program, old, new, rng, asked.random, plain))
-    print(f"{stacks} stacks, {several} rows with several answers")
+    print(f"{stacks} stacks, {large} lists and comparisons too large")
     print(f"{agree} agree, {differ} differ")
     sys.exit(0 if agree and not differ else 1)

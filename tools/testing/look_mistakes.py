@@ -285,9 +285,9 @@ def loads():
         told = f"sf_json stands on sf_dom, by {one}, and doesn't explore"
         yield found(f"a crate of texts that uses {one}", "sf_json: ", f"sf_json: {one} ", told)
     yield found("a new crate that explores", "sf_json: ", "sf_new: sf_crew\nsf_json: ", "sf_new stands on sf_dom, by sf_crew")
-    idle = "picture_tests doesn't stand on sf_dom"
-    yield found("a listed crate that explores no more", "picture_tests: .*$", "picture_tests: sf_insn", idle)
-    yield found("a listed crate that is gone", "picture_tests: .*\n", "", idle)
+    idle = "pieces_tests doesn't stand on sf_dom"
+    yield found("a listed crate that explores no more", "pieces_tests: .*$", "pieces_tests: sf_insn", idle)
+    yield found("a listed crate that is gone", "pieces_tests: .*\n", "", idle)
 
 
 def unused():

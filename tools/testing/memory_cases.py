@@ -134,12 +134,12 @@ def audit_words(paths, workers, budget=None):
     return ["audit", "--regions", "--workers", str(workers), *limit, "--policy", "policy", *paths]
 
 
-def comparison_words(paths, workers):
-    return ["compare", "--workers", str(workers), "--old", *paths, "--new", *paths]
+def comparison_words(paths):
+    return ["compare", "--old", *paths, "--new", *paths]
 
 
-def listing_words(paths, workers):
-    return ["list", "--workers", str(workers), *paths]
+def listing_words(paths):
+    return ["list", *paths]
 
 
 def threads_of(words):
@@ -185,14 +185,16 @@ def single_words(stacks):
     named = ["--names", "names"]
     yield ["eval", "--trace", "--call", "write", "--args", "0", "--arch", "aarch64", *named, *login]
     yield ["eval", "--explain-errors", "--call", "open", "--args", "0", "--arch", "aarch64", *named, *login]
-    yield ["list", "--workers", "1", *named, *login, "--calls"]
-    yield ["compare", "--workers", "1", "--rows", "--only", "looser", "--old", *login, "--new", *login, *named, "--calls", "write"]
+    yield ["list", *named, *login, "--calls"]
+    yield ["list", "--digest", *login]
+    yield ["list", "--nodes", "10", *login]
+    yield ["compare", "--rows", "--only", "looser", "--old", *login, "--new", *login, *named, "--calls", "write"]
     yield ["audit", "--workers", "1", "--why", *named, "--policy", "policy", *login]
     expecting = ["audit", "--workers", "1", "--policy", "control"]
     yield [*expecting, "--control", "policy", "--accept", "accepted", *login]
     yield [*expecting, "--policy", "policy", "--explain-errors", "--accept", "bad_accepted", *login]
     yield [*expecting, "--control", "control", *login]
-    yield ["needed", "--workers", "1", *login, *login]
+    yield ["needed", *login, *login]
     yield ["help", "needed"]
     making = ["profile", "--machine", "aarch64", "--names", "names"]
     yield [*making, "--skip-unknown", "profile"]

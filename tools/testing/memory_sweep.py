@@ -22,7 +22,7 @@ and then, with refuse.c beside this file before the C library:
   budgets    budgets that are spent, or just enough, also with refused growths and threads
   one core   2, 8 and 64 workers on one core beside a busy loop, also with refused threads and growths
 
-Audits, comparisons and lists are by 1, 2 and 8 workers. A run is right where it ends with the status and the very bytes
+Audits are by 1, 2 and 8 workers. A run is right where it ends with the status and the very bytes
 of the run that got all (of several workers, the run by one). Where a growth was refused it may also end with status 5,
 nothing on standard output and the line `error 60 Memory` on standard error; and where `--explain-errors` is given, with
 some of the lines that it has to write there, the first among them, or with what that line of refused memory means under
@@ -38,10 +38,9 @@ were wrong. The status is 1 where one was wrong, and where a part met no refusal
 With `--gate` only what the gate runs, in less than a minute: of CALLS the first growths, each refused once, and its
 first large ones, of which a bench's is the first of all, a few times each; workers that are refused all memory, a few
 times; the growths of an audit by 1, 2 and 8 workers, and of a comparison and a list, each refused once; and whether an
-audit, a comparison and a list start as many threads as their workers need. The last line is then `N passed, M
-failed`, of runs, and of parts that met no refusal.
+audit starts as many threads as its workers need. The last line is then `N passed, M failed`, of runs, and of parts that
+met no refusal.
 """
-import itertools
 import os
 import subprocess
 import sys
@@ -73,16 +72,9 @@ def audits_of(sweep, paths, numbers):
     return [sweep.case(audit_words(paths, workers), wanted) for workers in numbers]
 
 
-def comparisons_of(sweep, paths, numbers):
-    """Comparisons of a stack with itself by so many workers each, which have to end as with one."""
-    wanted = sweep.case(comparison_words(paths, 1)).wanted
-    return [sweep.case(comparison_words(paths, workers), wanted) for workers in numbers]
-
-
-def listings_of(sweep, paths, numbers):
-    """Lists of a stack by so many workers each, which have to end as with one."""
-    wanted = sweep.case(listing_words(paths, 1)).wanted
-    return [sweep.case(listing_words(paths, workers), wanted) for workers in numbers]
+def diagrams_of(sweep, paths):
+    """A comparison of a stack with itself, and its list."""
+    return [sweep.case(comparison_words(paths)), sweep.case(listing_words(paths))]
 
 
 def spending_of(sweep, paths):
@@ -98,20 +90,17 @@ def jobs_of(sweep, stacks):
     """What is to be run on all cores, the longest first: functions of no argument."""
     example = [os.path.join(ROOT, f"examples/snap-default/{name}.bpf") for name in ("01", "02")]
     audits = {name: audits_of(sweep, paths, WORKERS) for name, paths in {"example": example, **stacks}.items()}
-    changes = {name: comparisons_of(sweep, paths, WORKERS) for name, paths in stacks.items()}
-    lists = {name: listings_of(sweep, paths, WORKERS) for name, paths in stacks.items()}
-    single = [sweep.case(words) for words in single_words(stacks)]
+    single = [case for paths in stacks.values() for case in diagrams_of(sweep, paths)]
+    single += [sweep.case(words) for words in single_words(stacks)]
     for first in range(1, PARTS + 1):
         yield lambda first=first: sweep.refuse_calls(first, PARTS)
     for _ in range(JOBS):
         yield lambda: sweep.starve_workers(TIMES)
-    several = [case for cases in (*audits.values(), *changes.values(), *lists.values()) for case in cases]
-    for case in [*several, *single]:
+    for case in [*(case for cases in audits.values() for case in cases), *single]:
         for kind in ("REFUSE_GROWTH", "REFUSE_GROWTHS_FROM"):
             yield lambda case=case, kind=kind: sweep.refuse_each("growths", case, kind)
     for name, paths in stacks.items():
-        cases = [list(zip(WORKERS, found[name]))[1:] for found in (audits, changes, lists)]
-        for workers, case in itertools.chain(*cases):
+        for workers, case in list(zip(WORKERS, audits[name]))[1:]:
             yield lambda case=case, most=2 * workers + 1: sweep.refuse_threads("threads", case, most)
         for case in spending_of(sweep, paths):
             yield lambda case=case: sweep.spend("budgets", case)
@@ -125,13 +114,10 @@ def gate_jobs(sweep, stacks):
         yield lambda: sweep.refuse_large(FEW)
         yield lambda: sweep.starve_workers(FEW)
     paths = stacks["login"]
-    some = [*comparisons_of(sweep, paths, WORKERS[1:2]), *listings_of(sweep, paths, WORKERS[1:2])]
-    for case in [*audits_of(sweep, paths, WORKERS), *some]:
+    for case in [*audits_of(sweep, paths, WORKERS), *diagrams_of(sweep, paths)]:
         yield lambda case=case: sweep.refuse_each("growths", case, "REFUSE_GROWTH")
     for workers in WORKERS[1:]:
         yield lambda workers=workers: sweep.start_threads("starts", audit_words(["wide"], workers), 2 * workers - 1)
-        yield lambda workers=workers: sweep.start_threads("starts", comparison_words(["wide"], workers), workers)
-        yield lambda workers=workers: sweep.start_threads("starts", listing_words(["wide"], workers), workers)
 
 
 def crowd_all(sweep, stacks):

@@ -62,13 +62,12 @@ def part_of_condition(text):
 
 
 def row_of(cells):
-    """The parts that an input of a table's row has to lie in, and its answers."""
+    """The parts that an input of a table's row has to lie in, and its answer."""
     numbers = "".join(cells[2])
     spans = [(0, LAST)] if numbers == "any" else spans_of(numbers)
     parts = [part_of_architectures("".join(cells[1])), Part(0, LAST, False, spans)]
     parts += [part_of_condition(text) for text in cells[5] if text]
-    told = "".join(cells[4]).split(" (which")[0]
-    return parts, [one.strip() for one in told[2:].split(" or ")]
+    return parts, "".join(cells[4])[2:].strip()
 
 
 def input_for(rng, rows, places):
@@ -100,9 +99,9 @@ def fault_of(page, rows, words, answer):
     met = [row for row in places[0].rows if all(part.has(words) for part in rows[row][0])]
     if len(met) != 1:
         return f"meets the conditions of {len(met)} rows of its place"
-    if answer not in rows[met[0]][1]:
+    if answer != rows[met[0]][1]:
         return f"is answered {answer}, and its row says {rows[met[0]][1]}"
-    reached = {effect_of(one) for row in places[0].rows for one in rows[row][1]}
+    reached = {effect_of(rows[row][1]) for row in places[0].rows}
     due = {frozenset(("let",)): "let", frozenset(("handed",)): "handed", frozenset(("refused",)): "refused",
            frozenset(("killed",)): "killed", frozenset(("refused", "killed")): "stopped"}.get(
                frozenset(reached), "partly" if "let" in reached else "at_times")

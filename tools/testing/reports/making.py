@@ -29,12 +29,9 @@ def without_bits(mask):
     return filter_of((0x20, 0, 0, 0), (0x45, 0, 1, mask), (6, 0, 0, 0x80000000), (6, 0, 0, 0x7FFF0000))
 
 
-# One filter for all inputs: let through, and handed to a tracer. And one that compares two words with each other, as in
-# docs/GUIDE.md ("Rows with several answers").
+# One filter for all inputs: let through, and handed to a tracer.
 ALL = filter_of((6, 0, 0, 0x7FFF0000))
 TRACED = filter_of((6, 0, 0, 0x7FF00000))
-TWO_WORDS = filter_of((0x20, 0, 0, 16), (0x07, 0, 0, 0), (0x20, 0, 0, 24), (0x2D, 0, 1, 0), (6, 0, 0, 0x50001),
-                      (6, 0, 0, 0x7FFF0000))
 
 # Texts that would work as something else than text, in one of the forms. Each has the word that is looked for.
 WORD = "Stranger"
@@ -127,6 +124,16 @@ def hostile_audit():
     questions += [question(3, f"{text}a", unexpected=False, accepted=True) for text in HOSTILE]
     control = [{"name": text, "reply": "never"} for text in HOSTILE]
     return audit_of(questions, f"{WORD}/<b>`|\n", control, 1)
+
+
+def condition(word, *ranges, mask=0xFFFFFFFF, rest=False):
+    """A condition of a row: bits of a word under a mask are in ranges, or else in none of them."""
+    return {"mask": mask, "not": rest, "ranges": list(map(list, ranges)), "word": word}
+
+
+def row(*conditions, action="ALLOW", data=0):
+    """A row of a list."""
+    return {"answer": {"action": action, "data": data}, "calls": [], "conditions": list(conditions)}
 
 
 def fits_its_schema(document):

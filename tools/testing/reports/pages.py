@@ -12,6 +12,7 @@ from reporting.naming import sets_of
 
 from . import agreement
 from .dom import Page
+from .making import condition, row
 
 ROOT = pathlib.Path(__file__).resolve().parent.parent.parent.parent
 REPORT = ROOT / "tools/report"
@@ -115,13 +116,13 @@ def refusals(program):
     cases = {
         "a cut document": (text[:-30], "cut"),
         "a document without its last newline": (text[:-1], "cut"),
-        "another version": (json.dumps(value | {"version": 2}) + "\n", "version"),
+        "another version": (json.dumps(value | {"version": 1}) + "\n", "version"),
         "no version": (json.dumps({key: it for key, it in value.items() if key != "version"}) + "\n", "version"),
         "another command": (json.dumps(value | {"seccomp_audit": "guess"}) + "\n", "no document"),
         "an unknown member": (json.dumps(value | {"more": 1}) + "\n", "unknown member"),
         "no rows": (json.dumps({key: it for key, it in value.items() if key != "rows"}) + "\n", "lacks rows"),
-        "a condition of another form": (text.replace('"conditions":["arg', '"conditions":["arg9', 1), "no condition"),
-        "no JSON": ("seccomp_audit list 1\n", "no JSON"),
+        "a condition of another form": (text.replace('"word":"arg', '"word":"arg9', 1), "is none of"),
+        "no JSON": ("seccomp_audit list 2\n", "no JSON"),
         "nothing": ("", "cut"),
     }
     for what, (given, why) in cases.items():
@@ -139,27 +140,33 @@ def is_refused(ran, why=""):
 def malformed(program):
     """Whether documents that fit no row, and names in them that would work on a terminal, are refused with one line."""
     value = json.loads(listed(program, [ROOT / "examples/p1.bpf"]))
-    told = {"conditions": [], "answers": [{"action": "ALLOW", "data": 0}]}
-    row, call = {"arch": "0xC000003E", "nr": "1", "calls": [], **told}, {"set": "x86_64", "call": "read", **told}
-    yield "a row", made(json.dumps(value | {"rows": [row], "calls": [call]}) + "\n")[0] == 0, "isn't taken"
-    numbers = ("007", "5..1", "1..2..3", "1..", "..", "", "1,", "0x", "0xa", "0x100000000", "4294967296", "1" * 5000,
-               "\x1b[31m", "١")
-    for text in numbers:
-        for key in ("nr", "arch"):
-            ran = made(json.dumps(value | {"rows": [row | {key: text}]}) + "\n")
-            yield f"{key} {text:.20}", is_refused(ran, " of a row: "), ran
-    ran = made(json.dumps(value | {"rows": [row | {"nr": "5..1"}]}) + "\n")
-    yield "the document is named", ran[2] == "error: -: no span of a row: '5..1'\n", ran
-    conditions = ("arg0_lo = 007", "arg0_lo in 5..1", "nr & 0xFFFFFFFFFF = 0x1", "\x1b[31m = 1", "nr", "nr = 0x1\n")
-    for text in conditions:
-        ran = made(json.dumps(value | {"rows": [row | {"conditions": [text]}]}) + "\n", "--markdown")
-        yield f"condition {text}", is_refused(ran, " of a row"), ran
+    one = row(condition("arch", (0xC000003E, 0xC000003E)), condition("nr", (1, 1)))
+    call = {"set": "x86_64", "call": "read", "answer": one["answer"], "conditions": []}
+    yield "a row", made(json.dumps(value | {"rows": [one], "calls": [call]}) + "\n")[0] == 0, "isn't taken"
+    nr = condition("nr", (1, 1))
+    parts = {
+        "ranges": ([], [1], [[1]], [[1, 2, 3]], [["1", "1"]], [[0, 1 << 32]], [[-1, 0]], [[True, 1]], [[0.5, 1]],
+                   [None], None, "1..5", [[5, 1]], [[1, 1], [5, 1]]),
+        "mask": (-1, 1 << 32, None, "0x1", True, [1]),
+        "not": (None, 0, 1, "not", []),
+        "word": ("args", "nr\n", "\x1b[31m", "", None, 0, "arg6_lo"),
+    }
+    for key, others in parts.items():
+        for other in others:
+            for form in ("--html", "--markdown"):
+                ran = made(json.dumps(value | {"rows": [row(nr | {key: other})]}) + "\n", form)
+                yield f"{key} {other!r:.20} for {form}", is_refused(ran), ran
+    ran = made(json.dumps(value | {"rows": [row(condition("nr", (5, 1)))]}) + "\n")
+    yield "the document is named", ran[2] == "error: -: no range of a row: [5, 1]\n", ran
     cases = {
-        "no answers": {"rows": [row | {"answers": []}]},
-        "no answers of a call": {"calls": [call | {"answers": []}]},
-        "an action with a newline": {"rows": [row | {"answers": [{"action": "ALLOW\n", "data": 0}]}]},
+        "two conditions on a word": {"rows": [row(nr, condition("nr", (0, 0), mask=1))]},
+        "a condition on a call's number": {"calls": [call | {"conditions": [nr]}]},
+        "no answer": {"rows": [{key: it for key, it in one.items() if key != "answer"}]},
+        "no answer of a call": {"calls": [call | {"answer": None}]},
+        "both answers in a list": {"rows": [one | {"old": one["answer"], "new": one["answer"]}]},
+        "an action with a newline": {"rows": [row(action="ALLOW\n")]},
         "a member": {"\x1b[31m": 1},
-        "a member of a row": {"rows": [row | {"\x9b31m\n": 1}]},
+        "a member of a row": {"rows": [one | {"\x9b31m\n": 1}]},
         "a set": {"calls": [call | {"set": "\x1b[31m\nerror: "}]},
         "a call": {"calls": [call | {"call": "\u202e\x07\ud800"}]},
         "a version": {"version": "\x1b"},
@@ -228,17 +235,12 @@ def broken_ones(program):
 
 
 def not_whole(program):
-    """Whether a page of an exploration that stopped early says so, and looks like no other."""
-    paths = [ROOT / "examples/p1.bpf"]
-    for command in (("list",), ("audit", "--policy", ROOT / "policies/terminal-injection.toml")):
-        text = run(program, command[0], "--quiet", "--json", "--budget", 1, *command[1:], *paths).stdout
-        status, out, err = made(text)
-        yield f"an unfinished {command[0]} has a banner", status == 0 and BANNER in out, err or out[:300]
-    words = ("compare", "--rows", "--quiet", "--json", "--budget", 1, "--old", *paths, "--new", *filters_of("sshd-preauth"))
-    status, out, err = made(run(program, *words).stdout)
-    yield "an unfinished comparison has a banner and no rows", status == 0 and BANNER in out and "<table id" not in out, err
-    status, out, err = made(listed(program, paths))
-    yield "a finished list has no banner", status == 0 and BANNER not in out, err
+    """Whether a page of an audit that stopped early says so, and looks like no other."""
+    asked = ("--quiet", "--json", "--policy", ROOT / "policies/terminal-injection.toml", ROOT / "examples/p1.bpf")
+    status, out, err = made(run(program, "audit", "--budget", 1, *asked).stdout)
+    yield "an unfinished audit has a banner", status == 0 and BANNER in out, err or out[:300]
+    status, out, err = made(run(program, "audit", *asked).stdout)
+    yield "a finished audit has no banner", status == 0 and BANNER not in out, err
 
 
 def sizes(program):
@@ -254,17 +256,17 @@ def sizes(program):
     yield "docker's page with all questions has at most 600 KB", 100_000 < len(first.encode()) <= 600_000, len(first)
     yield "the same documents give the same page", first == second, ""
     value = json.loads(docker)
-    empty = value | {"rows": [], "total": {"rows": 0, "undetermined": 0}}
+    empty = value | {"rows": [], "total": {"rows": 0}}
     status, out, err = made(json.dumps(empty) + "\n")
     yield "a list without rows has a page", status == 0 and 'class="band unknown"' in out, err
 
 
 def of_many_rows(value, count):
     """A list whose rows are all about each number without bit 30, and differ in an argument."""
-    answers = [{"action": "ALLOW", "data": 0}, {"action": "ERRNO", "data": 1}]
-    rows = [{"arch": None, "nr": None, "calls": [], "answers": [answers[place % 2]],
-             "conditions": ["nr & 0x40000000 = 0x0", f"arg0_lo = 0x{place:X}"]} for place in range(count)]
-    return json.dumps(value | {"rows": rows, "total": {"rows": count, "undetermined": 0}}) + "\n"
+    answers = {"action": "ALLOW", "data": 0}, {"action": "ERRNO", "data": 1}
+    low = condition("nr", (0, 0), mask=0x40000000)
+    rows = [row(low, condition("arg0_lo", (place, place)), **answers[place % 2]) for place in range(count)]
+    return json.dumps(value | {"rows": rows, "total": {"rows": count}}) + "\n"
 
 
 def many_rows(program):

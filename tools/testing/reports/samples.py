@@ -4,6 +4,7 @@ import pathlib
 import struct
 import tempfile
 
+from .making import condition, row
 from .pages import HOSTILE, NAMES, REPORT, ROOT, STACKS, filters_of, listed, made, page_of, run, with_names
 
 LOAD, EQUAL, AT_LEAST, RETURN = 0x20, 0x15, 0x35, 0x06
@@ -30,9 +31,9 @@ def page_of_architectures(program, count):
 def page_of_rows(program, count):
     """The page of so many rows, one number each."""
     value = json.loads(listed(program, [ROOT / "examples/p1.bpf"]))
-    answers = [{"action": "ALLOW", "data": 0}, {"action": "ERRNO", "data": 1}]
-    row = {"arch": "0xC000003E", "calls": [], "conditions": []}
-    value["rows"] = [row | {"nr": str(number), "answers": [answers[number % 2]]} for number in range(count)]
+    answers = {"action": "ALLOW", "data": 0}, {"action": "ERRNO", "data": 1}
+    arch = condition("arch", (0xC000003E, 0xC000003E))
+    value["rows"] = [row(arch, condition("nr", (number, number)), **answers[number % 2]) for number in range(count)]
     value["total"]["rows"] = count
     return page_of(json.dumps(value) + "\n")
 
@@ -69,5 +70,5 @@ def pages(program, are_all):
     if are_all:
         found |= {stack: page_of(listed(program, filters_of(stack))) for stack in STACKS}
         found |= {"40 architectures": page_of_architectures(program, 40), "20,000 rows": page_of_rows(program, 20_000)}
-        found["no rows"] = page_of(json.dumps(sshd | {"rows": [], "total": {"rows": 0, "undetermined": 0}}) + "\n")
+        found["no rows"] = page_of(json.dumps(sshd | {"rows": [], "total": {"rows": 0}}) + "\n")
     return found

@@ -94,7 +94,7 @@ def columns_due(document):
     """In which columns of the table the rows of each call belong, by a list that shows all calls."""
     columns = defaultdict(set)
     for row in document.value["calls"]:
-        columns[row["set"], row["call"]] |= {COLUMN[answer["action"]] for answer in row["answers"]}
+        columns[row["set"], row["call"]] .add(COLUMN[row["answer"]["action"]])
     return columns
 
 
@@ -166,8 +166,6 @@ def of_other_numbers(maker):
     for data, others, word in due:
         text = text_of(maker.list(maker.file("made.bpf", data)))
         yield said(f"the filter {data.hex()}", text, [f"\nOther architectures: {others}. x32: {word}.\n"])
-    rows = "**1 row has several answers**: which of them an input gets isn't told."
-    yield said("rows with several answers", text_of(maker.list(maker.file("two.bpf", making.TWO_WORDS))), [rows])
     due = "X86_64 (0xC000003E): open for some calls. Other architectures: closed. x32: open."
     yield said("without names no calls are counted", text_of(maker.list(P1), sets=[]), [due], ["|---"])
 
@@ -178,8 +176,6 @@ def of_needed(maker):
     yield said("needed: one filter twice", text_of(maker.document("needed", P1, P1)), [due], ["Each filter"])
     text = text_of(maker.document("needed", *making.filters_of(making.SNAP)))
     yield said("needed: both filters of snap", text, ["Each filter is needed."], ["left out"])
-    text = text_of(maker.document("needed", "--budget", "3", "--workers", "1", *making.filters_of(making.SNAP)))
-    yield said("needed: unsettled", text, ["**Unsettled**: 1, 2."], ["Each filter", "left out"])
     text = text_of(maker.document("needed", maker.file("all.bpf", making.ALL)))
     yield said("needed: a filter that allows all", text, ["left out: 1. Together these are enough: none."])
 
@@ -191,7 +187,7 @@ def of_comparisons(maker):
     due = [
         "looser: some call gets further than before**, for example `x86_64 execve()`: `ERRNO 1` became `ALLOW 0`.\n",
         "tighter: some call gets less far than before**, for example `x86_64 vfork()`: `ALLOW 0` became `ERRNO 1`.\n",
-        "different: some call gets another answer**, for example `x86_64 execve()`: `ERRNO 1` became `ALLOW 0`.\n",
+        "different: some call gets another answer**, for example `x86_64 vfork()`: `ALLOW 0` became `ERRNO 1`.\n",
     ]
     yield said("compare: a number was mistyped", text_of(maker.document("compare", *making.NAMES, *both)), due)
     text = text_of(maker.document("compare", "--rows", "--calls", *making.NAMES, *both))
@@ -207,17 +203,11 @@ def of_comparisons(maker):
 
 
 def of_open(maker):
-    """What is said where the exploration isn't complete."""
-    stack = making.filters_of(making.SNAP)
-    audit, listing = maker.audit(making.SNAP, *FEW), maker.list(making.SNAP, *FEW)
-    comparison = maker.document("compare", *FEW, "--old", *stack, "--new", *stack)
-    whole = maker.list(P1)
+    """What is said where an audit isn't complete."""
+    audit, whole = maker.audit(making.SNAP, *FEW), maker.list(P1)
     top = r"\*\*Not complete: \d+ pieces of the exploration are outstanding\. Raise --budget\.\*\* \(`"
-    for document in (audit, listing, comparison):
-        text = text_of(whole, document)
-        yield f"markdown: {document.kind} that isn't complete: said at the very top", bool(re.match(top, text)), text
-    yield said("a list that isn't complete has no table", text_of(listing), ["There are no rows"], ["|---"])
-    yield said("compare: unsettled", text_of(comparison), ["- **looser: unsettled**: no example was found"])
+    text = text_of(whole, audit)
+    yield "markdown: an audit that isn't complete: said at the very top", bool(re.match(top, text)), text
     text = text_of(whole)
     yield "markdown: a complete one begins with its heading", text.startswith("## Report on seccomp filters\n"), text
     due = [f"\nUnsettled ({audit.value['totals']['unsettled']}): `handed-to-another-process`, "]
@@ -250,8 +240,7 @@ def of_code():
 def of_made():
     """What documents say that are made here."""
     sets = [naming.CallSet(f"a|{WORD}", 0xC000003E, {"read": 0})]
-    row = {"arch": None, "nr": None, "conditions": [], "answers": [{"action": "ALLOW", "data": 0}], "calls": []}
-    value = {**audit_of([]).value, "calls": None, "rows": [row], "total": {"rows": 1, "undetermined": 0}}
+    value = {"calls": None, "rows": [making.row()], "stack": {"filters": 1, "path": 1}, "total": {"rows": 1}}
     text = text_of(Document("list", value, "l.json"), sets=sets)
     yield said("a bar in a table begins no cell", text, [f"| `a\\|{WORD}` | 1 | 0 | 0 | 0 | 0 |\n"])
     text = text_of(Document("list", {**value, "rows": []}, "l.json"), sets=sets)
