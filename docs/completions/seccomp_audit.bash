@@ -6,14 +6,14 @@ _seccomp_audit() {
         audit) options="--policy --control --accept --budget --workers --regions --why --names --json --progress --quiet --explain-errors --help" ;;
         check) options="--instructions --json --quiet --explain-errors --help" ;;
         eval) options="--input --call --nr --arch --args --trace --trace-true --names --json --explain-errors --help" ;;
-        compare) options="--old --new --budget --workers --same --rows --only --calls --leaves --names --json --progress --quiet --explain-errors --help" ;;
-        list) options="--budget --workers --leaves --names --calls --json --progress --quiet --explain-errors --help" ;;
-        needed) options="--budget --workers --json --progress --quiet --explain-errors --help" ;;
+        compare) options="--old --new --nodes --same --rows --only --calls --names --json --quiet --explain-errors --help" ;;
+        list) options="--nodes --names --calls --digest --json --quiet --explain-errors --help" ;;
+        needed) options="--nodes --json --quiet --explain-errors --help" ;;
         profile) options="--machine --names --cap --kernel --conflicts --newer --skip-unknown --notes --quiet --explain-errors --help" ;;
     esac
     COMPREPLY=()
     case $before in
-        --arch|--args|--budget|--call|--calls|--cap|--conflicts|--input|--kernel|--leaves|--machine|--nr|--only|--workers) return ;;
+        --arch|--args|--budget|--call|--calls|--cap|--conflicts|--input|--kernel|--machine|--nodes|--nr|--only|--workers) return ;;
     esac
     if [[ $word == -* ]]; then
         mapfile -t COMPREPLY < <(compgen -W "$options" -- "$word")
