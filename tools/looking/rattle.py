@@ -1,6 +1,5 @@
-"""Reads Rattle, as far as the looks need it: the items of a source file with their clauses, what a crate hands out, the
-names that a module declares; the definitions and lemmas of a file of proofs, and what it imports; and what an edit
-replaces."""
+"""Reads Rattle, as far as the looks need it: the items of a source file with their clauses, and what a crate hands out;
+the definitions and lemmas of a file of proofs, and what it imports; and what an edit replaces."""
 import re
 from collections import namedtuple
 
@@ -125,18 +124,6 @@ def modules_in(library):
     return re.findall(r"(?m)^pub mod (\w+)", library)
 
 
-def names_declared(text):
-    """The names that a module declares, and the labels of its clauses."""
-    text = re.sub(r"//.*", "", text)
-    found = set(re.findall(r"\b(?:fn|struct|enum|trait|type|const(?! fn)|static|mod)\s+(\w+)", text))
-    found |= set(re.findall(r"\b(?:requires|ensures|ghost)\s+(\w+)\s*[{:]", text))
-    # Fields and parameters.
-    found |= set(re.findall(r"(?:^ +(?:pub(?:\(\w+\))? )?|[(,]\s*(?:mut )?)(\w+): (?!:)", text, re.M))
-    for body in re.findall(r"\benum \w+[^{]*\{(.*?)^\}", text, re.M | re.S):
-        found |= set(re.findall(r"^    ([A-Z]\w*)", body, re.M))
-    return found
-
-
 # ---- definitions and lemmas
 
 def head_of(line):
@@ -224,17 +211,6 @@ def has_public_definition(text):
     """Whether a file has a record or an abbreviation that others may cite."""
     heads = [head_of(line) for line in text.splitlines()]
     return any(head and head.indent == 0 and "pub" in head.words and len(head.words) > 1 for head in heads)
-
-
-def names_defined(text):
-    """The records, data and abbreviations of a file, and its fields."""
-    lines = [line for line in text.splitlines() if not line.lstrip().startswith("--")]
-    heads = [head for head in map(head_of, lines) if head]
-    return {re.match(r"[\w']+", head.name)[0] for head in heads if set(head.words) - {"pub"} or is_field(head)}
-
-
-def is_field(head):
-    return head.indent == 2 and head.words == ["pub"] and re.fullmatch(r"\w+", head.name)
 
 
 def names_used(text):

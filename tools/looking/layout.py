@@ -1,0 +1,65 @@
+"""Where files stand, and how long they and their lines are.
+
+    tools/look layout
+
+A line has at most 120 columns, except for `use` lines, texts in code, tables and what documents show; a source file has
+at most 500 lines. A folder below `proofs/` is named after a function, and other files there and in `specs/` stand in
+their `Lib.antt`. Laws hold no definition, and no crate imports from the `proofs/` of another. Names of edits differ in
+the three tiers, and each gate tries at most 70 edits. A crate has no other folders than these. Files are counted.
+"""
+import re
+import subprocess
+from collections import Counter
+
+from looking.edits import TIERS
+from looking.rattle import has_public_definition, modules_in, proofs_imported
+from looking.tree import CRATES, ROOT, crates, shown, sources
+
+COLUMNS, LINES, MOST_EDITS = 120, 500, 70
+ROOMS = {"src", "specs", "proofs", *TIERS, "args", "stdin", "stdout", "status", "data", "out"}
+MAY_BE_WIDE = re.compile(r'\s*((pub |ghost )*use |\|)|.*"')
+
+
+def of_text(path, text):
+    """What is wrong with the lines of a file."""
+    parts = re.split(r"(?m)^ *```.*$", text)[::2] if path.suffix == ".md" else [text]
+    wide = sum(len(line) > COLUMNS and not MAY_BE_WIDE.match(line) for part in parts for line in part.split("\n"))
+    yield f"{wide} lines have more than {COLUMNS} columns" if wide else ""
+    yield f"has more than {LINES} lines" if path.suffix == ".rt" and text.count("\n") > LINES else ""
+
+
+def of_proofs(crate, functions, path, text):
+    """What is wrong with where a file of definitions or proofs stands."""
+    yield from (f"imports from the proofs of {one}" for one in proofs_imported(text) - {crate.name} if (CRATES / one).is_dir())
+    yield "laws that hold a definition" if path.stem.endswith("Laws") and has_public_definition(text) else ""
+    folder = path.parent
+    if folder.parent != crate:
+        # A `+` stands before a call of the function in itself.
+        yield "" if folder.name.lstrip("+") in functions else "the crate has no such function"
+    elif path.name != "Lib.antt":
+        yield "" if path.stem in modules_in((folder / "Lib.antt").read_text()) else "isn't in Lib.antt"
+
+
+def of_crates():
+    """What is wrong with the folders of crates, and with the edits of all together."""
+    edits = [path for tier in TIERS for path in CRATES.glob(f"*/{tier}/*") if path.name != "WITHOUT.md"]
+    yield from (f"{shown(path)}: no room of a crate" for path in CRATES.glob("*/*") if path.name not in ROOMS)
+    yield from (f"{shown(path)}: no edit" for path in edits if path.suffix != ".edit")
+    names = Counter((path.parent.parent.name, path.name) for path in edits)
+    yield from (f"{crate}: {name} is in {count} tiers" for (crate, name), count in names.items() if count > 1)
+    if (tried := sum(path.parent.name != TIERS[-1] for path in edits)) > MOST_EDITS:
+        yield f"each gate tries {tried} edits, and not {MOST_EDITS} at most"
+
+
+def look(_):
+    """What is wrong, and how much is right."""
+    listed = subprocess.run(["git", "-C", str(ROOT), "ls-files", "*.md"], capture_output=True, text=True, check=True)
+    pages = [ROOT / name for name in listed.stdout.splitlines() if not name.startswith("crates/")]
+    found = [(path, fault) for path in pages for fault in of_text(path, path.read_text())]
+    for crate in crates():
+        code, proofs = sources(crate), [*crate.glob("specs/**/*.antt"), *crate.glob("proofs/**/*.antt")]
+        functions = {name for path in code for name in re.findall(r"\bfn (\w+)", path.read_text())}
+        found += [(path, fault) for path in code + proofs for fault in of_text(path, path.read_text())]
+        found += [(path, fault) for path in proofs for fault in of_proofs(crate, functions, path, path.read_text())]
+    faults = [f"{shown(path)}: {fault}" for path, fault in found if fault] + [*of_crates()]
+    return faults, sum(not fault for _, fault in found)
