@@ -18,7 +18,7 @@ FILES = [
     ("docs/POLICIES.md", "share/doc/{doc}/POLICIES.md"),
     ("examples/ci/github.yml", "share/doc/{doc}/ci/github.yml"),
     ("examples/ci/gitlab.yml", "share/doc/{doc}/ci/gitlab.yml"),
-    ("tools/showing.py", "libexec/seccomp_audit/showing.py"),
+    ("helpers/showing.py", "libexec/seccomp_audit/showing.py"),
 ]
 POLICIES = "share/seccomp_audit/policies"
 
@@ -28,15 +28,15 @@ OWN = ["libexec/seccomp_audit", "share/doc/{doc}", "share/seccomp_audit"]
 # The report's modules and the schemas of the documents that it reads: the folder in the repository, what is copied of it,
 # and the folder below PREFIX.
 FOLDERS = [
-    ("tools/reporting", (".py", ".css", ".js"), "libexec/seccomp_audit/reporting"),
+    ("report/reporting", (".py", ".css", ".js"), "libexec/seccomp_audit/reporting"),
     ("docs/schema", (".json",), "share/seccomp_audit/schema"),
 ]
 
-# Helpers in Python, and what a C compiler makes: the sources below tools/, the compiler's options, the target.
+# Helpers in Python, and what a C compiler makes: the sources in helpers/, the compiler's options, the target.
 # `kernel_agrees` does nothing without `ask_kernel`, so it goes where that goes.
-HELPERS = [(f"tools/{name}", f"bin/seccomp_audit_{name}")
-           for name in ("filter_of_profile", "report", "call_names", "policy_numbers")]
-KERNEL_AGREES = ("tools/kernel_agrees", "bin/seccomp_audit_kernel_agrees")
+HELPERS = [(path, f"bin/seccomp_audit_{os.path.basename(path)}") for path in (
+    "helpers/filter_of_profile", "report/report", "helpers/call_names", "helpers/policy_numbers")]
+KERNEL_AGREES = ("helpers/kernel_agrees", "bin/seccomp_audit_kernel_agrees")
 READ_FILTERS = (("read_filters.c", "read_thread.c"), (), "bin/seccomp_audit_read_filters")
 ASK_KERNEL = (("ask_kernel.c",), ("-pthread",), "libexec/seccomp_audit/ask_kernel")
 COMPILED = (READ_FILTERS[2], ASK_KERNEL[2])
@@ -68,10 +68,10 @@ def copy(source, target, mode):
 
 
 def is_compiled(sources, options, made):
-    """Compiles sources of tools/. Whether that went well: it doesn't where there is no compiler, or another machine."""
+    """Compiles sources of helpers/. Whether that went well: it doesn't where there is no compiler, or another machine."""
     words = [os.environ.get("CC") or "cc", "-O2", "-s", *options, "-o", made, *sources]
     try:
-        ran = subprocess.run(words, cwd=os.path.join(ROOT, "tools"), stdin=subprocess.DEVNULL, capture_output=True)
+        ran = subprocess.run(words, cwd=os.path.join(ROOT, "helpers"), stdin=subprocess.DEVNULL, capture_output=True)
     except FileNotFoundError:
         return False
     return ran.returncode == 0

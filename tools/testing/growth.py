@@ -4,7 +4,7 @@
 
 The kinds are profiles and files of names that strangers might make so that reading them takes long. The larger input
 of a kind may take 2.5 times the instructions of the other at most: so none grows with the square of its size. What
-pages of many rows take is tried by `tools/test report`.
+pages of many rows take is tried by `report/test`.
 
 It takes valgrind, whose cachegrind counts; where it isn't there nothing is tried, and a line says so. --table prints
 what each kind takes. The last line is `N passed, M failed`; the status is 1 where M isn't 0.

@@ -105,7 +105,7 @@ def try_install(room):
     try_by_headers(prefix, room)
     for name in HELPERS[:2]:
         ran = said(f"{prefix}/bin/{name}", "--help")
-        tell(ran.returncode == 0 and f"{prefix}/bin/{name} [" in ran.stdout and "tools/filter" not in ran.stdout, name, ran)
+        tell(ran.returncode == 0 and f"{prefix}/bin/{name} [" in ran.stdout and "helpers/filter" not in ran.stdout, name, ran)
     ran = subprocess.run([f"{prefix}/bin/{HELPERS[0]}", "--machine", "x86_64", PROFILE], capture_output=True)
     lacks = b"libseccomp.so.2: cannot open" in ran.stderr
     tell(lacks or ran.returncode == 0 and len(ran.stdout) > 8 and len(ran.stdout) % 8 == 0, HELPERS[0], ran)
@@ -128,7 +128,7 @@ def try_report(prefix):
     """The report runs at its new place, over a document of its own, and leaves nothing there."""
     before, name = files_below(prefix), HELPERS[3]
     ran = said(f"{prefix}/bin/{name}", "--help")
-    tell(ran.returncode == 0 and f"{prefix}/bin/{name} --html" in ran.stdout and "tools/report" not in ran.stdout, name, ran)
+    tell(ran.returncode == 0 and f"{prefix}/bin/{name} --html" in ran.stdout and "report/report" not in ran.stdout, name, ran)
     ran = subprocess.run([f"{prefix}/bin/{name}", "--html", "-"], input=DOCUMENT, capture_output=True, text=True)
     tell(ran.returncode == 0 and "All rows" in ran.stdout, f"{name} --html", ran)
     tell(files_below(prefix) == before, f"{name} leaves", files_below(prefix))
@@ -161,7 +161,7 @@ def try_by_headers(prefix, room):
     tell(ran.returncode == 2 and "FOLDER has to be given" in ran.stderr, f"{BY_HEADERS[0]} without a folder", ran)
     for path in (names, numbers):
         ran = said(path, "--help")
-        well = ran.returncode == 0 and f"    {path} [" in ran.stdout and "tools/call" not in ran.stdout
+        well = ran.returncode == 0 and f"    {path} [" in ran.stdout and "helpers/call" not in ran.stdout
         tell(well, f"{path} --help", ran)
         ran = said(path, "--\x1b[31m")
         tell(ran.returncode == 2 and "\x1b" not in ran.stderr, f"{path}, and a word that doesn't fit", ran)
@@ -222,7 +222,8 @@ def try_links(room, program):
 
 def try_empty(room):
     """An empty PREFIX is refused. That is tried on a copy that has no program, which could install nothing."""
-    shutil.copytree(os.path.join(ROOT, "tools"), os.path.join(room, "copy/tools"))
+    for folder in ("tools", "helpers"):
+        shutil.copytree(os.path.join(ROOT, folder), os.path.join(room, "copy", folder))
     for words in ([""], ["--unproved", ""]):
         ran = said(os.path.join(room, "copy/tools/install"), *words)
         well = ran.returncode == 1 and ran.stderr.startswith("tools/install: PREFIX is empty")

@@ -21,7 +21,8 @@ import sys
 import tempfile
 from concurrent.futures import ThreadPoolExecutor
 
-from reporting.schema import faults
+sys.path.append(str(pathlib.Path(__file__).resolve().parents[2] / "report"))
+from reporting.schema import faults  # noqa: E402
 
 try:
     import jsonschema

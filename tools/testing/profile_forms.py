@@ -1,4 +1,4 @@
-"""Compares which texts `seccomp_audit profile` and tools/filter_of_profile refuse for their form.
+"""Compares which texts `seccomp_audit profile` and helpers/filter_of_profile refuse for their form.
 
     tools/test profile_forms [PROGRAM]      (crates/seccomp_audit/out/seccomp_audit if none is named)
 
@@ -36,8 +36,8 @@ MEANT = {
 
 
 def tool():
-    """tools/filter_of_profile, as a module."""
-    loader = importlib.machinery.SourceFileLoader("filter_of_profile", os.path.join(ROOT, "tools/filter_of_profile"))
+    """helpers/filter_of_profile, as a module."""
+    loader = importlib.machinery.SourceFileLoader("filter_of_profile", os.path.join(ROOT, "helpers/filter_of_profile"))
     module = importlib.util.module_from_spec(importlib.util.spec_from_loader("filter_of_profile", loader))
     loader.exec_module(module)
     return module

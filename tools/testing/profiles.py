@@ -127,7 +127,7 @@ def endless_cases(program, room):
     with open(short, "w") as file:
         file.write(text.replace("\nSECONDS = 10\n", "\nSECONDS = 1\n"))
     os.chmod(short, 0o755)
-    shutil.copy(os.path.join(ROOT, "tools/showing.py"), room)
+    shutil.copy(os.path.join(ROOT, "helpers/showing.py"), room)
     source = os.path.join(room, "endless.c")
     with open(source, "w") as file:
         file.write(ENDLESS)

@@ -1,4 +1,4 @@
-"""Tries tools/read_filters.c: how it groups threads, and, where that can be, what it reads of a real process.
+"""Tries helpers/read_filters.c: how it groups threads, and, where that can be, what it reads of a real process.
 
     tools/test read_filters
 
@@ -18,7 +18,7 @@ import time
 from building.kit import ROOT
 
 SOURCE, ONE_THREAD, WAITING = (
-    os.path.join(ROOT, "tools", name) for name in ("read_filters.c", "read_thread.c", "testing/waiting.c"))
+    os.path.join(ROOT, name) for name in ("helpers/read_filters.c", "helpers/read_thread.c", "tools/testing/waiting.c"))
 FILTERS = [os.path.join(ROOT, "examples", path) for path in ("p1.bpf", "snap-default/02.bpf")]
 
 # Groups threads 10 to 15, of which 11, 12 and 15 have one filter, 13 the same twice, and 14 one of the same length.

@@ -11,7 +11,7 @@ from reporting.schema import faults
 from . import making
 from .making import ROOT, audit_of, question
 
-SCHEMA = ROOT / "tools/testing/reports/sarif-2.1.0.schema.json"
+SCHEMA = ROOT / "report/tests/sarif-2.1.0.schema.json"
 
 # Checks a value on standard input against the schema by python3-jsonschema. Ends with 3 where that isn't there.
 BY_LIBRARY = """

@@ -14,8 +14,8 @@ from . import agreement
 from .dom import Page
 from .making import condition, row
 
-ROOT = pathlib.Path(__file__).resolve().parent.parent.parent.parent
-REPORT = ROOT / "tools/report"
+ROOT = pathlib.Path(__file__).resolve().parent.parent.parent
+REPORT = ROOT / "report/report"
 NAMES = ROOT / "policies/names.toml"
 DATA = ROOT / "crates/examples_run/data"
 STACKS = sorted(path.name for path in DATA.iterdir())
@@ -47,7 +47,7 @@ def listed(program, paths):
 
 
 def made(document, *words):
-    """What `tools/report` makes of one document: its status, and what it writes to both streams."""
+    """What `report/report` makes of one document: its status, and what it writes to both streams."""
     ran = run(REPORT, *(words or ("--html",)), "-", given=document)
     return ran.returncode, ran.stdout, ran.stderr
 

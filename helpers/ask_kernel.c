@@ -1,6 +1,6 @@
 /* Asks the kernel what a stack of seccomp filters does to inputs, and carries out no call.
 
-   cc -O2 -pthread -o ask_kernel tools/ask_kernel.c && ./ask_kernel GUARD LISTENER FILE.. < INPUTS
+   cc -O2 -pthread -o ask_kernel helpers/ask_kernel.c && ./ask_kernel GUARD LISTENER FILE.. < INPUTS
 
    INPUTS has a line of 128 hexadecimal digits for each input, as `seccomp_audit eval --input` takes them. Each is
    answered by a line: THROUGH, TRACE N, USER_NOTIF, ERRNO N, TRAP N, KILL_THREAD, KILL_PROCESS, or UNTRIED and why.

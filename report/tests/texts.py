@@ -28,7 +28,7 @@ def same_bytes(maker):
             maker.document("compare", "--old", "examples/p1.bpf", "--new", *making.filters_of(making.SNAP_ALONE))]
     wrote = []
     for seed in ("1", "2"):
-        environment = {**os.environ, "PYTHONHASHSEED": seed, "PYTHONPATH": str(ROOT / "tools")}
+        environment = {**os.environ, "PYTHONHASHSEED": seed, "PYTHONPATH": f"{ROOT}/report:{ROOT}/helpers"}
         words = [sys.executable, "-B", "-c", WRITE, *(document.path for document in made)]
         ran = subprocess.run(words, cwd=ROOT, env=environment, capture_output=True)
         wrote.append((ran.returncode, ran.stdout))

@@ -5,7 +5,7 @@ import subprocess
 
 from reporting import documents
 
-ROOT = pathlib.Path(__file__).resolve().parent.parent.parent.parent
+ROOT = pathlib.Path(__file__).resolve().parent.parent.parent
 DATA = "crates/examples_run/data"
 DOCKER = f"{DATA}/docker-default-x86_64"
 FLATPAK = f"{DATA}/flatpak-run"
