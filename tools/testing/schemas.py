@@ -1,0 +1,108 @@
+"""Compares the documents of `seccomp_audit .. --json` with their schemas.
+
+    tools/test schemas [PROGRAM]        (crates/seccomp_audit/out/seccomp_audit if none is named)
+
+Command lines over examples/, policies/ and a filter made here are run with and without `--json`. Each document has to be
+one line without blanks, its keys in order, and has to fit its schema in docs/schema/. The question of an audit has to
+begin on the line that its document names. Both runs have to end with the same status and the same words on standard
+error. Debian's python3-jsonschema reads the schemas too, where it is there.
+
+Each difference gets a line. The last line is `N passed, M failed`; the status is 1 where M isn't 0 or N is.
+"""
+import json
+import os
+import pathlib
+import struct
+import subprocess
+import sys
+import tempfile
+from concurrent.futures import ThreadPoolExecutor
+
+ROOT = pathlib.Path(__file__).resolve().parent.parent.parent
+sys.path.append(str(ROOT / "report"))
+from reporting.schema import faults  # noqa: E402
+
+try:
+    import jsonschema
+except ImportError:
+    jsonschema = None
+
+BUILT = ROOT / "crates/seccomp_audit/out/seccomp_audit"
+SCHEMAS = {path.name.removesuffix(".schema.json"): json.loads(path.read_text()) for path in (ROOT / "docs/schema").iterdir()}
+NAMED = ["--names", "policies/names.toml"]
+CALLS = ["--calls", "ioctl,execve", *NAMED]
+SNAP = ["examples/snap-default/01.bpf", "examples/snap-default/02.bpf"]
+P1, SSHD = ["examples/p1.bpf"], ["examples/sshd-preauth/01.bpf"]
+
+# What each command is run with, before a stack or two.
+OF_ONE = {
+    "check": ([], ["--instructions"]),
+    "eval": [["--input", struct.pack("<16I", 16, 0xC000003E, 1, 2, *range(3, 15)).hex(), *more]
+             for more in ([], NAMED, ["--trace"], ["--trace-true"], ["--trace", *NAMED])],
+    "list": ([], NAMED, CALLS, ["--calls", *NAMED], ["--nodes", "3"]),
+    "audit": [["--policy", "policies/x86_64.toml", *more]
+              for more in ([], ["--regions"], ["--why"], ["--why", *NAMED], ["--budget", "2", "--workers", "1"],
+                           ["--policy", "policies/aarch64.toml"], ["--control", "policies/control-x86_64.toml"])],
+    "needed": ([], ["--nodes", "1"]),
+}
+OF_TWO = {
+    "compare": ([], NAMED, ["--nodes", "2"]),
+    "compare-rows": [["--rows", *more] for more in ([], NAMED, CALLS, ["--only", "tighter"], ["--nodes", "2"])],
+}
+
+
+def command_lines(changed):
+    """The command lines, each with the name of its schema. `changed` is a filter that differs from the first one."""
+    for stack in (P1, SSHD, SNAP):
+        yield from ((name, [name, *more, *stack]) for name, some in OF_ONE.items() for more in some)
+    for old, new in (P1, P1), (P1, [changed]), ([changed], P1), (SNAP[:1], SNAP), (SSHD, SNAP):
+        for name, some in OF_TWO.items():
+            yield from ((name, ["compare", *more, "--old", *old, "--new", *new]) for more in some)
+
+
+def run(program, words):
+    ran = subprocess.run([program, *words], cwd=ROOT, capture_output=True, text=True, stdin=subprocess.DEVNULL)
+    return ran.returncode, ran.stdout, ran.stderr
+
+
+def misplaced(document):
+    """The questions of an audit that don't begin on the line which the document names."""
+    for question in document.get("questions", ()):
+        origin = question["origin"]
+        line = (ROOT / origin["policy"]).read_text().split("\n")[origin["line"] - 1]
+        if line != "[[question]]":
+            yield f"no question begins where {question['name']} stands: {line!r:.80}"
+
+
+def wrong(program, name, words):
+    """What is wrong with the document of a command line."""
+    status, text, said = run(program, words)
+    other, line, told = run(program, [words[0], "--json", *words[1:]])
+    if (status, said) != (other, told):
+        yield f"ends with {other} and {told!r:.80}, and not {status} and {said!r:.80}"
+    if not text:
+        yield from [f"there is a document, and no text: {line!r:.80}"] if line else []
+        return
+    document = json.loads(line)
+    if json.dumps(document, ensure_ascii=False, separators=(",", ":"), sort_keys=True) + "\n" != line:
+        yield "isn't one line, or has blanks, or keys out of order"
+    schema = SCHEMAS[name]
+    yield from faults(schema, document, schema)
+    if jsonschema:
+        yield from (error.message[:200] for error in jsonschema.Draft202012Validator(schema).iter_errors(document))
+    yield from misplaced(document)
+
+
+def main():
+    program = str(pathlib.Path(sys.argv[1]).resolve() if sys.argv[1:] else BUILT)
+    passed = failed = 0
+    with tempfile.TemporaryDirectory() as room, ThreadPoolExecutor(len(os.sched_getaffinity(0))) as pool:
+        changed = pathlib.Path(room) / "changed.bpf"
+        # 59 is execve on x86-64: the changed filter asks for its neighbour.
+        changed.write_bytes((ROOT / P1[0]).read_bytes().replace(struct.pack("<I", 59), struct.pack("<I", 57)))
+        lines = list(command_lines(str(changed)))
+        for (_, words), found in zip(lines, pool.map(lambda line: list(wrong(program, *line)), lines)):
+            passed, failed = passed + (not found), failed + bool(found)
+            print("".join(f"{' '.join(words)}: {one}\n" for one in found), end="")
+    print(f"{passed} passed, {failed} failed")
+    return 1 if failed or not passed else 0
