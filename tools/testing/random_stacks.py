@@ -11,17 +11,13 @@ number, and its filters are shown as hexadecimal digits where they are short. A 
 last line is `N agree, M differ`; the status is 1 where M isn't 0.
 """
 import argparse
-import os
 import random
 import subprocess
 import sys
 import tempfile
 
-from building.kit import ROOT
+from building.plain import audit_of, plain
 from testing.random_filters import KINDS, encoded
-
-sys.path.append(os.path.join(ROOT, "bench"))
-from runs import audit_of, plain  # noqa: E402
 
 # Longer filters aren't shown.
 SHORT = 1024
