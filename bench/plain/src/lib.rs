@@ -1,20 +1,20 @@
-//! What `seccomp_audit` does with `audit`, `check` and `eval`, written plainly and without proofs.
+//! What `seccomp_audit audit` does, written plainly and without proofs.
 //! It is for measuring and for finding mistakes: no answer of `seccomp_audit` rests on it.
 
 mod arena;
 mod crew;
-pub mod excluded;
+mod excluded;
 mod explore;
-pub mod facts;
+mod facts;
 mod fault;
 mod learning;
 mod name;
 mod nodes;
 mod piece;
 mod policy;
+mod program;
 mod report;
 mod running;
-mod scalars;
 mod shared;
 mod splitting;
 mod sweep;
@@ -22,4 +22,3 @@ mod toml;
 mod worker;
 
 pub mod command_line;
-pub mod program;

@@ -1,6 +1,6 @@
 //! The policy file.
 
-use crate::fault::{fault, Fault};
+use crate::fault::Fault;
 use crate::program::{ACTIONS, OTHER};
 use crate::sweep::Question;
 use crate::toml::{parse, Table, Value};
@@ -17,14 +17,14 @@ type Demand = (i64, i64, i64, i64);
 
 /// The questions of a policy, or the first fault.
 pub fn read_policy(text: &str) -> Result<Vec<Question>, Fault> {
-    let tree = parse(text).ok_or(fault(46))?;
+    let tree = parse(text).ok_or(Fault(46))?;
     let version = match tree.get("version") {
         Some(Value::Integer(1)) => 1,
         Some(Value::Integer(2)) => 2,
-        _ => return Err(fault(40)),
+        _ => return Err(Fault(40)),
     };
     if tree.keys().any(|key| key != "version" && key != "question") {
-        return Err(fault(41));
+        return Err(Fault(41));
     }
     let mut tables: Vec<&Table> = Vec::new();
     match tree.get("question") {
@@ -33,20 +33,16 @@ pub fn read_policy(text: &str) -> Result<Vec<Question>, Fault> {
             for item in items {
                 match item {
                     Value::Table(table) => tables.push(table),
-                    _ => return Err(fault(41)),
+                    _ => return Err(Fault(41)),
                 }
             }
         }
-        Some(_) => return Err(fault(41)),
+        Some(_) => return Err(Fault(41)),
     }
     if tables.is_empty() || tables.len() > MOST_QUESTIONS {
-        return Err(fault(45));
+        return Err(Fault(45));
     }
-    tables
-        .iter()
-        .enumerate()
-        .map(|(i, table)| read_question(table, version).map_err(|f| fault(f).in_question(i + 1)))
-        .collect()
+    tables.iter().map(|table| read_question(table, version).map_err(Fault)).collect()
 }
 
 /// A question, or the number of its fault.

@@ -1,6 +1,6 @@
-//! Instructions, lawful programs and stacks, the concrete run, answers.
+//! Instructions, lawful programs and stacks, the trace of a run, answers.
 
-use crate::fault::{fault, Fault};
+use crate::fault::Fault;
 
 const MOST_INSTRUCTIONS: usize = 4096;
 const MOST_FILTERS: usize = 64;
@@ -18,13 +18,13 @@ pub struct Raw {
 /// The instructions of a file.
 pub fn decode(bytes: &[u8]) -> Result<Vec<Raw>, Fault> {
     if bytes.len() % 8 != 0 {
-        return Err(fault(10));
+        return Err(Fault(10));
     }
     if bytes.is_empty() {
-        return Err(fault(11));
+        return Err(Fault(11));
     }
     if bytes.len() / 8 > MOST_INSTRUCTIONS {
-        return Err(fault(12));
+        return Err(Fault(12));
     }
     Ok(bytes
         .chunks_exact(8)
@@ -35,18 +35,6 @@ pub fn decode(bytes: &[u8]) -> Result<Vec<Raw>, Fault> {
             k: u32::from_le_bytes([b[4], b[5], b[6], b[7]]),
         })
         .collect())
-}
-
-/// The file of instructions.
-pub fn encode(insns: &[Raw]) -> Vec<u8> {
-    let mut bytes = Vec::with_capacity(insns.len() * 8);
-    for insn in insns {
-        bytes.extend(insn.code.to_le_bytes());
-        bytes.push(insn.jt);
-        bytes.push(insn.jf);
-        bytes.extend(insn.k.to_le_bytes());
-    }
-    bytes
 }
 
 /// What an instruction computes.
@@ -225,20 +213,12 @@ fn read_insn(raw: Raw, at: usize, len: usize) -> Result<Insn, u16> {
 
 /// A lawful program, or the first fault.
 pub fn check(raws: &[Raw]) -> Result<Program, Fault> {
-    if raws.is_empty() {
-        return Err(fault(11));
-    }
-    if raws.len() > MOST_INSTRUCTIONS {
-        return Err(fault(12));
-    }
     let mut insns = Vec::with_capacity(raws.len());
     for (at, &raw) in raws.iter().enumerate() {
-        insns.push(
-            read_insn(raw, at, raws.len()).map_err(|number| fault(number).at_instruction(at))?,
-        );
+        insns.push(read_insn(raw, at, raws.len()).map_err(Fault)?);
     }
     if !matches!(insns.last(), Some(Insn::RetK(_) | Insn::RetA)) {
-        return Err(fault(23));
+        return Err(Fault(23));
     }
     // Jumps go forward only: one pass meets the masks of all ways into a place.
     let mut masks: Vec<Option<u16>> = vec![None; insns.len()];
@@ -251,7 +231,7 @@ pub fn check(raws: &[Raw]) -> Result<Program, Fault> {
         match insns[at] {
             Insn::LoadScratch(k) | Insn::LoadXScratch(k) => {
                 if mask >> k & 1 == 0 {
-                    return Err(fault(24).at_instruction(at));
+                    return Err(Fault(24));
                 }
                 flow(at + 1, mask)
             }
@@ -317,38 +297,24 @@ pub struct Stack {
 }
 
 impl Stack {
-    /// A stack of these programs, if it is lawful.
-    pub fn of(programs: Vec<Program>) -> Result<Stack, Fault> {
-        if programs.is_empty() {
-            return Err(fault(25));
-        }
-        if programs.len() > MOST_FILTERS {
-            return Err(fault(26));
-        }
-        let stack = Stack { programs };
-        if stack.path_length() > LONGEST_PATH {
-            return Err(fault(27));
-        }
-        Ok(stack)
-    }
     /// The length that the kernel limits: each filter but the first one counts four more.
     pub fn path_length(&self) -> usize {
         self.programs.iter().map(|p| p.insns.len() + 4).sum::<usize>() - 4
     }
-    /// Files to stack, in the order of refusals of an audit.
+    /// The stack of files, in order of installation, if it is lawful.
     pub fn of_files(files: &[Vec<u8>]) -> Result<Stack, Fault> {
         if files.is_empty() {
-            return Err(fault(25));
+            return Err(Fault(25));
         }
         if files.len() > MOST_FILTERS {
-            return Err(fault(26));
+            return Err(Fault(26));
         }
-        let mut programs = Vec::new();
-        for (place, bytes) in files.iter().enumerate() {
-            let read = decode(bytes).and_then(|raws| check(&raws));
-            programs.push(read.map_err(|fault| fault.in_filter(place + 1))?);
+        let read = |bytes: &Vec<u8>| decode(bytes).and_then(|raws| check(&raws));
+        let stack = Stack { programs: files.iter().map(read).collect::<Result<_, _>>()? };
+        if stack.path_length() > LONGEST_PATH {
+            return Err(Fault(27));
         }
-        Stack::of(programs)
+        Ok(stack)
     }
 }
 
@@ -463,16 +429,6 @@ pub fn run_traced(
         }
         pc = next;
     }
-}
-
-/// What a program returns for an input.
-pub fn run(program: &Program, input: &Input) -> u32 {
-    run_traced(program, input, &mut |_| true).expect("never ended")
-}
-
-/// The answer of a stack: the newest filter runs first.
-pub fn answer(stack: &Stack, input: &Input) -> Answer {
-    stack.programs.iter().rev().fold(START, |so_far, program| fold(so_far, run(program, input)))
 }
 
 /// Whether `name` is a beginning of the trace of `input`.

@@ -1,7 +1,7 @@
 //! The report.
 
 use crate::explore::Settled;
-use crate::fault::{fault, Fault};
+use crate::fault::Fault;
 use crate::program::{Input, Stack};
 use crate::sweep::{Question, Reply};
 use std::io::Write;
@@ -20,7 +20,7 @@ pub fn hex(input: &Input) -> String {
 pub fn put(out: &mut dyn Write, mut bytes: &[u8]) -> Result<(), Fault> {
     while !bytes.is_empty() {
         match out.write(bytes) {
-            Ok(0) | Err(_) => return Err(fault(51)),
+            Ok(0) | Err(_) => return Err(Fault(51)),
             Ok(count) => bytes = &bytes[count..],
         }
     }

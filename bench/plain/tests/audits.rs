@@ -1,13 +1,113 @@
 //! Audits whose regions, counts and replies were worked by hand.
 
-mod common;
-use common::*;
+use std::collections::HashMap;
 
+const NO_EXECVE: &str = "ld [4]; jeq 0xC000003E 1 0; ret 0x80000000; ld [0]; jeq 59 0 1; ret 0x00050001; ret 0x7fff0000";
+const NO_X32: &str = "ld [0]; jge 0x40000000 0 1; ret 0x00050026; ret 0x7fff0000";
+const DIVIDED: &str = "ld [16]; tax; ld #8; div x; ret a";
+const TWO_BITS: &str = "ld [16]; and #3; or #0x50000; ret a";
+const SIXTEEN_BITS: &str = "ld [16]; and #0xffff; or #0x50000; ret a";
+const BOUNDS: &str = "ld [0]; jge 100 0 3; jge 50 1 0; ret 0; ret 0x7fff0000; ret 0x00050001";
+const NUMBERS: &str =
+    "ld [0]; jgt 2 4 0; jeq 0 3 0; jeq 1 2 0; jeq 2 1 0; ret 0x80000000; ret 0x7fff0000";
+const ANY_OF_TWO_BITS: &str = "ld [0]; jset 5 0 1; ret 0x7fff0000; ret 0x80000000";
+const ONE_BIT: &str = "ld [0]; jset 0x40000000 0 1; ret 0x7fff0000; ret 0x80000000";
+/// A question about all inputs.
+const ANY: &str = "";
 const EXECVE: &str = "nr = 59\narch = 0xC000003E";
 const X32: &str = "nr = [0x40000000, 0x7fffffff]\narch = 0xC000003E";
 
 fn letters(text: &str) -> Vec<String> {
     text.split(", ").map(|line| line.to_string()).collect()
+}
+
+/// The bytes of instructions, each written as `NAME [ARGUMENT [JT JF]]`.
+fn asm(text: &str) -> Vec<u8> {
+    text.split(';').flat_map(|line| insn(line.trim())).collect()
+}
+
+fn insn(line: &str) -> [u8; 8] {
+    let parts: Vec<&str> = line.split_whitespace().collect();
+    let arg = parts.get(1).copied().unwrap_or("");
+    let digits = arg.trim_matches(['#', '[', ']']);
+    let k = match digits.strip_prefix("0x") {
+        Some(hex) => u32::from_str_radix(hex, 16).unwrap(),
+        None => digits.parse().unwrap_or(0),
+    };
+    let code: u16 = match parts[0] {
+        "ld" if arg.starts_with('#') => 0x00,
+        "ld" => 0x20,
+        "ldx" => 0x01,
+        "add" => 0x04,
+        "div" => 0x34,
+        "or" => 0x44,
+        "and" => 0x54,
+        "lsh" => 0x64,
+        "jeq" => 0x15,
+        "jgt" => 0x25,
+        "jge" => 0x35,
+        "jset" => 0x45,
+        "ret" if arg == "a" => 0x16,
+        "ret" => 0x06,
+        "tax" => 0x07,
+        other => panic!("{other}"),
+    };
+    let code = if arg == "x" { code | 8 } else { code };
+    let jump = |place: usize| parts.get(place).map_or(0, |word| word.parse().unwrap());
+    let k = k.to_le_bytes();
+    [code as u8, (code >> 8) as u8, jump(2), jump(3), k[0], k[1], k[2], k[3]]
+}
+
+/// What a report says, taken apart.
+struct Said {
+    status: u8,
+    path: String,
+    counts: String,
+    replies: Vec<String>,
+    regions: Vec<String>,
+}
+
+/// The report on filters, of a policy with these questions.
+fn audit(filters: &[&str], questions: &[&str], words: &[&str]) -> Said {
+    let questions = questions.iter().map(|words| format!("[[question]]\nname = \"q\"\n{words}\n"));
+    let policy = "version = 1\n".to_string() + &questions.collect::<String>();
+    let names: Vec<String> = (1..=filters.len()).map(|number| number.to_string()).collect();
+    let mut files: HashMap<String, Vec<u8>> =
+        names.iter().cloned().zip(filters.iter().map(|text| asm(text))).collect();
+    files.insert("p".to_string(), policy.into_bytes());
+    let options = ["audit", "--policy", "p", "--regions"].iter().chain(words);
+    let all: Vec<String> = options.map(|word| word.to_string()).chain(names).collect();
+    let (mut out, mut err) = (Vec::new(), Vec::new());
+    let mut read = |path: &str| files.get(path).cloned();
+    let status = plain::command_line::command(&all, &mut read, &mut out, &mut err);
+    assert_eq!(String::from_utf8(err).unwrap(), "");
+    said(status, &String::from_utf8(out).unwrap())
+}
+
+fn said(status: u8, report: &str) -> Said {
+    let (path, counts) = (String::new(), String::new());
+    let mut said = Said { status, path, counts, replies: Vec::new(), regions: Vec::new() };
+    for line in report.lines() {
+        let words: Vec<&str> = line.split(' ').collect();
+        match words[0] {
+            "filters" => said.path = words[3].to_string(),
+            "regions" => said.counts = [1, 3, 5, 7, 9].map(|place| words[place]).join("/"),
+            "question" => said.replies.push(words[3..].join(" ")),
+            "region" => said.regions.push(words[2..].join(" ")),
+            _ => {}
+        }
+    }
+    said
+}
+
+/// An example: its beginning in hexadecimal digits, the rest 0.
+fn allowed(start: &str) -> String {
+    format!("allowed {start}{}", "0".repeat(128 - start.len()))
+}
+
+fn chain(count: usize) -> String {
+    let tests = (0..count).map(|call| format!("jeq {call} 0 1; ret 0x7fff0000; "));
+    "ld [0]; ".to_string() + &tests.collect::<String>() + "ret 0x80000000"
 }
 
 #[test]
@@ -23,7 +123,6 @@ fn calls_and_ranges() {
         assert_eq!(said.status, 1);
         assert_eq!(said.replies, [allowed("000000403e0000c0")]);
     }
-    assert_eq!(eval(&[NO_EXECVE], &hex_input("000000403e0000c0")).out, "ALLOW 0\n");
     let said = audit(&[NO_EXECVE], &["arch = 0x40000003"], &[]);
     assert_eq!((said.status, said.replies[0].as_str()), (0, "never"));
 }
@@ -73,10 +172,6 @@ fn returned_words() {
             said.regions.iter().map(|r| r.split_once(' ').unwrap().1.to_string()).collect();
         assert_eq!(answers, letters("ERRNO 0, ERRNO 1, ERRNO 2, ERRNO 3"));
     }
-    assert_eq!(
-        eval(&[DIVIDED], &hex_input(&format!("{}02", "0".repeat(32)))).out,
-        "KILL_THREAD 4\n"
-    );
 }
 
 #[test]
@@ -186,70 +281,6 @@ fn plain_stacks() {
 }
 
 #[test]
-fn shared_paths() {
-    for m in [63, 64, 65, 128] {
-        let said = audit(&[&chain(m)], &[ANY], &[]);
-        assert_eq!(said.counts, format!("{}/0/0/{m}/{}", m + 1, 2 * m + 1));
-    }
-    let said = audit(&[&chain(511)], &["nr = [511, 4294967295]", "nr = [510, 4000]"], &[]);
-    assert_eq!(said.counts, "512/0/0/511/1023");
-    assert_eq!(said.replies, ["never".to_string(), allowed("fe010000")]);
-}
-
-#[test]
-fn hostile_files() {
-    let p1 = asm(NO_EXECVE);
-    let audit_line =
-        |filters: &[Vec<u8>]| with(&["audit", "--policy", "p"], &policy(&[ANY]), filters).err;
-    for count in [8, 32] {
-        assert_eq!(audit_line(&[p1[..count].to_vec()]), "error 23 Last filter 1\n");
-    }
-    for (counts, at) in [([16, 24], 1), ([40, 48], 4)] {
-        for count in counts {
-            let line = format!("error 22 Jump filter 1 instruction {at}\n");
-            assert_eq!(audit_line(&[p1[..count].to_vec()]), line);
-        }
-    }
-    assert_eq!(audit_line(&[p1.clone(), vec![]]), "error 11 Empty filter 2\n");
-    let neg = |count: usize| "neg; ".repeat(count - 1) + "ret 0x7fff0000";
-    let (long, newest) = (neg(4096), neg(4068));
-    let mut filters = vec![long.as_str(); 7];
-    filters.push(&newest);
-    let said = audit(&filters, &[ANY], &[]);
-    assert_eq!((said.regions, said.counts.as_str()), (vec!["- ALLOW 0".into()], "1/0/0/0/1"));
-    for text in [
-        format!("ld [0]; {}ret 0x7fff0000", "neg; ".repeat(4094)),
-        format!("{}ret 0x7fff0000", "ja 0; ".repeat(4095)),
-    ] {
-        let said = audit(&[&text], &[ANY], &[]);
-        assert_eq!((said.regions, said.counts.as_str()), (vec!["- ALLOW 0".into()], "1/0/0/0/1"));
-    }
-    let text =
-        format!("ld [0]; {}jeq 0 0 1; ret 0x7fff0000; ret 0x80000000", "tax; add x; ".repeat(2046));
-    let said = audit(&[&text], &[ANY], &[]);
-    assert_eq!(said.regions, letters("F KILL_PROCESS 0, T ALLOW 0"));
-    assert_eq!(said.counts, "2/0/0/1/3");
-    assert_eq!(said.replies, [allowed("")]);
-    let text = format!("ld [0]; {}ret 0x7fff0000", "jeq 0 0 0; ".repeat(4094));
-    let said = audit(&[&text], &[ANY], &["--budget", "3"]);
-    assert_eq!(said.counts, "2/0/0/1/3");
-    let names = ["F".repeat(4094) + " ALLOW 0", "T".repeat(4094) + " ALLOW 0"];
-    assert_eq!(said.regions, names);
-    let words: String = (0..16).map(|i| format!("ld [{}]; jeq 0 0 0; ", 4 * i)).collect();
-    let text = words + "ret 0x7fff0000";
-    for workers in ["1", "2", "8"] {
-        let said = audit(&[&text], &[ANY], &["--budget", "131071", "--workers", workers]);
-        assert_eq!(said.counts, "65536/0/0/65535/131071");
-        assert_eq!(said.replies, [allowed(&"01000000".repeat(16))]);
-        let mut sorted = said.regions.clone();
-        sorted.sort();
-        assert_eq!(said.regions, sorted);
-        let said = audit(&[&text], &[ANY], &["--budget", "131070", "--workers", workers]);
-        assert_eq!(said.counts, "65535/1/0/65535/131070");
-    }
-}
-
-#[test]
 fn single_bit_tests() {
     let text = "ld [0]; jge 5 0 7; jgt 10 6 0; jset 1 5 0; jeq 6 3 0; jeq 8 2 0; jeq 10 1 0; \
                 ret 0x80000000; ret 0x7fff0000; ret 0x00050001";
@@ -266,25 +297,4 @@ fn single_bit_tests() {
     }
     assert_eq!(audit(&[ANY_OF_TWO_BITS], &[ANY], &[]).replies, ["unsettled"]);
     assert_eq!(audit(&[ONE_BIT], &[ANY], &[]).replies, [allowed("00000040")]);
-}
-
-#[test]
-fn wide_stacks_and_policies() {
-    let said = audit(&["ret 0x7fff0000"; 64], &[ANY], &[]);
-    assert_eq!((said.path.as_str(), said.regions[0].as_str()), ("316", "- ALLOW 0"));
-    let ran = with(&["check"], "", &vec![asm("ret 0"); 65]);
-    assert_eq!(ran.err, "error 26 TooMany\n");
-    assert_eq!(with(&["check"], "", &vec![asm("ret 0"); 17]).status, 0);
-    let many = |count: usize| policy(&vec![ANY; count]);
-    let ran = with(&["audit", "--policy", "p"], &many(257), &[asm("ret 0")]);
-    assert_eq!(ran.err, "error 45 Count\n");
-    let ran = with(&["audit", "--policy", "p"], &many(65), &[asm(ANY_OF_TWO_BITS)]);
-    assert!(ran.out.starts_with(
-        "seccomp_audit report 2\nfilters 1 path 4 questions 65\nregions 2 open 0 emptied 0 splits 1 commits 3\n"
-    ));
-    assert_eq!(said_unsettled(&ran.out), 65);
-}
-
-fn said_unsettled(text: &str) -> usize {
-    text.lines().filter(|line| line.starts_with("question") && line.ends_with("unsettled")).count()
 }
