@@ -137,13 +137,9 @@ def is_refused(ran, why=""):
     return status == 1 and not out and is_line and why in err
 
 
-def malformed(program):
-    """Whether documents that fit no row, and names in them that would work on a terminal, are refused with one line."""
-    value = json.loads(listed(program, [ROOT / "examples/p1.bpf"]))
-    one = row(condition("arch", (0xC000003E, 0xC000003E)), condition("nr", (1, 1)))
-    call = {"set": "x86_64", "call": "read", "answer": one["answer"], "conditions": []}
-    yield "a row", made(json.dumps(value | {"rows": [one], "calls": [call]}) + "\n")[0] == 0, "isn't taken"
-    nr = condition("nr", (1, 1))
+def malformed_conditions(program):
+    """Whether conditions that no row has are refused with one line."""
+    value, nr = json.loads(listed(program, [ROOT / "examples/p1.bpf"])), condition("nr", (1, 1))
     parts = {
         "ranges": ([], [1], [[1]], [[1, 2, 3]], [["1", "1"]], [[0, 1 << 32]], [[-1, 0]], [[True, 1]], [[0.5, 1]],
                    [None], None, "1..5", [[5, 1]], [[1, 1], [5, 1]]),
@@ -158,6 +154,14 @@ def malformed(program):
                 yield f"{key} {other!r:.20} for {form}", is_refused(ran), ran
     ran = made(json.dumps(value | {"rows": [row(condition("nr", (5, 1)))]}) + "\n")
     yield "the document is named", ran[2] == "error: -: no range of a row: [5, 1]\n", ran
+
+
+def malformed(program):
+    """Whether documents that fit no row, and names in them that would work on a terminal, are refused with one line."""
+    value, nr = json.loads(listed(program, [ROOT / "examples/p1.bpf"])), condition("nr", (1, 1))
+    one = row(condition("arch", (0xC000003E, 0xC000003E)), nr)
+    call = {"set": "x86_64", "call": "read", "answer": one["answer"], "conditions": []}
+    yield "a row", made(json.dumps(value | {"rows": [one], "calls": [call]}) + "\n")[0] == 0, "isn't taken"
     cases = {
         "two conditions on a word": {"rows": [row(nr, condition("nr", (0, 0), mask=1))]},
         "a condition on a call's number": {"calls": [call | {"conditions": [nr]}]},
@@ -290,5 +294,5 @@ def many_rows(program):
 def cases(program, count):
     """All of these, each as what is tried, whether it is well, and what came."""
     yield from agreements(program, count)
-    for part in (facts, strangers, refusals, malformed, broken_ones, not_whole, sizes, many_rows):
+    for part in (facts, strangers, refusals, malformed_conditions, malformed, broken_ones, not_whole, sizes, many_rows):
         yield from part(program)

@@ -175,44 +175,46 @@ def write_files(folder):
     return stacks
 
 
+# Command lines that start no thread, some of which are refused. DIGITS are those of an input.
+DIGITS = "3b0000003e0000c0" + "0" * 112
+SINGLE = f"""
+eval --trace --call write --args 0 --arch aarch64 --names names login_0
+eval --explain-errors --call open --args 0 --arch aarch64 --names names login_0
+list --names names login_0 --calls
+list --digest login_0
+list --nodes 10 login_0
+compare --rows --only looser --old login_0 --new login_0 --names names --calls write
+audit --workers 1 --why --names names --policy policy login_0
+audit --workers 1 --policy control --control policy --accept accepted login_0
+audit --workers 1 --policy control --policy policy --explain-errors --accept bad_accepted login_0
+audit --workers 1 --policy control --control control login_0
+needed login_0 login_0
+help needed
+profile --machine aarch64 --names names --skip-unknown profile
+profile --machine aarch64 --names names --skip-unknown --notes profile
+profile --machine aarch64 --names names --explain-errors profile
+profile --machine aarch64 --names names bad_profile
+profile --machine aarch64 --names names --explain-errors bad_profile
+check login_0 cut
+compare --explain-errors --old login_0 --new cut
+list --explain-errors login_0 cut
+check missing
+eval --input {DIGITS[1:]} login_0
+audit --policy bad_policy login_0
+audit login_0
+audit --policy policy --control policy login_0
+audit --help
+check --explain-errors login_0 cut
+check --explain-errors login_0 missing
+eval --explain-errors --input {DIGITS[1:]} login_0
+audit --explain-errors --policy bad_policy login_0
+audit --explain-errors --policy no_policy login_0
+audit --explain-errors --policy missing login_0
+"""
+
+
 def single_words(stacks):
-    """Command lines that start no thread: of `check` and `eval`, and some that are refused or call for help."""
-    digits = "3b0000003e0000c0" + "0" * 112
+    """The words of these command lines, and of `check` and `eval` for each stack."""
     for paths in stacks.values():
-        yield ["check", *paths]
-        yield ["eval", "--input", digits, *paths]
-    login = stacks["login"]
-    named = ["--names", "names"]
-    yield ["eval", "--trace", "--call", "write", "--args", "0", "--arch", "aarch64", *named, *login]
-    yield ["eval", "--explain-errors", "--call", "open", "--args", "0", "--arch", "aarch64", *named, *login]
-    yield ["list", *named, *login, "--calls"]
-    yield ["list", "--digest", *login]
-    yield ["list", "--nodes", "10", *login]
-    yield ["compare", "--rows", "--only", "looser", "--old", *login, "--new", *login, *named, "--calls", "write"]
-    yield ["audit", "--workers", "1", "--why", *named, "--policy", "policy", *login]
-    expecting = ["audit", "--workers", "1", "--policy", "control"]
-    yield [*expecting, "--control", "policy", "--accept", "accepted", *login]
-    yield [*expecting, "--policy", "policy", "--explain-errors", "--accept", "bad_accepted", *login]
-    yield [*expecting, "--control", "control", *login]
-    yield ["needed", *login, *login]
-    yield ["help", "needed"]
-    making = ["profile", "--machine", "aarch64", "--names", "names"]
-    yield [*making, "--skip-unknown", "profile"]
-    yield [*making, "--skip-unknown", "--notes", "profile"]
-    yield [*making, "--explain-errors", "profile"]
-    yield [*making, "bad_profile"]
-    yield [*making, "--explain-errors", "bad_profile"]
-    yield ["check", *stacks["login"], "cut"]
-    yield ["compare", "--explain-errors", "--old", *stacks["login"], "--new", "cut"]
-    yield ["list", "--explain-errors", *stacks["login"], "cut"]
-    yield ["check", "missing"]
-    yield ["eval", "--input", digits[1:], *stacks["login"]]
-    yield ["audit", "--policy", "bad_policy", *stacks["login"]]
-    yield ["audit", *stacks["login"]]
-    yield ["audit", "--policy", "policy", "--control", "policy", *stacks["login"]]
-    yield ["audit", "--help"]
-    yield ["check", "--explain-errors", *stacks["login"], "cut"]
-    yield ["check", "--explain-errors", *stacks["login"], "missing"]
-    yield ["eval", "--explain-errors", "--input", digits[1:], *stacks["login"]]
-    for policy in ("bad_policy", "no_policy", "missing"):
-        yield ["audit", "--explain-errors", "--policy", policy, *stacks["login"]]
+        yield from (["check", *paths], ["eval", "--input", DIGITS, *paths])
+    yield from map(str.split, SINGLE.strip().splitlines())
