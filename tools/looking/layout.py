@@ -3,9 +3,9 @@
     tools/look layout
 
 A line has at most 120 columns, except for `use` lines, texts in code, tables and what documents show; a source file has
-at most 500 lines. A folder below `proofs/` is named after a function, and other files there and in `specs/` stand in
-their `Lib.antt`. Laws hold no definition, and no crate imports from the `proofs/` of another. Names of edits differ in
-the three tiers, and each gate tries at most 70 edits. A crate has no other folders than these. Files are counted.
+at most 500 lines. A folder below `proofs/` is named after a function or a module, and other files there and in `specs/`
+stand in their `Lib.antt`. Laws hold no definition, and no crate imports from the `proofs/` of another. Names of edits
+differ in the three tiers, and each gate tries at most 70 edits. A crate has no other folders. Files are counted.
 """
 import re
 import subprocess
@@ -28,14 +28,14 @@ def of_text(path, text):
     yield f"has more than {LINES} lines" if path.suffix == ".rt" and text.count("\n") > LINES else ""
 
 
-def of_proofs(crate, functions, path, text):
+def of_proofs(crate, names, path, text):
     """What is wrong with where a file of definitions or proofs stands."""
     yield from (f"imports from the proofs of {one}" for one in proofs_imported(text) - {crate.name} if (CRATES / one).is_dir())
     yield "laws that hold a definition" if path.stem.endswith("Laws") and has_public_definition(text) else ""
     folder = path.parent
     if folder.parent != crate:
         # A `+` stands before a call of the function in itself.
-        yield "" if folder.name.lstrip("+") in functions else "the crate has no such function"
+        yield "" if folder.name.lstrip("+") in names else "the crate has no such function or module"
     elif path.name != "Lib.antt":
         yield "" if path.stem in modules_in((folder / "Lib.antt").read_text()) else "isn't in Lib.antt"
 
@@ -58,8 +58,8 @@ def look(_):
     found = [(path, fault) for path in pages for fault in of_text(path, path.read_text())]
     for crate in crates():
         code, proofs = sources(crate), [*crate.glob("specs/**/*.antt"), *crate.glob("proofs/**/*.antt")]
-        functions = {name for path in code for name in re.findall(r"\bfn (\w+)", path.read_text())}
+        names = {name for path in code for name in [path.stem, *re.findall(r"\bfn (\w+)", path.read_text())]}
         found += [(path, fault) for path in code + proofs for fault in of_text(path, path.read_text())]
-        found += [(path, fault) for path in proofs for fault in of_proofs(crate, functions, path, path.read_text())]
+        found += [(path, fault) for path in proofs for fault in of_proofs(crate, names, path, path.read_text())]
     faults = [f"{shown(path)}: {fault}" for path, fault in found if fault] + [*of_crates()]
     return faults, sum(not fault for _, fault in found)
