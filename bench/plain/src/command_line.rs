@@ -11,7 +11,7 @@ use std::io::Write;
 const USAGE: &str = "\
 Audits a stack of seccomp filters, which stand in order of installation.
 
-Usage: plain audit --policy FILE [--budget N] [--workers N] [--regions] FILTER..
+Usage: plain audit --policy FILE [--budget N] [--workers 1] [--regions] FILTER..
 ";
 
 /// What a path's file holds, or None where it can't be read.
@@ -33,7 +33,6 @@ impl From<Fault> for Ended {
 struct Asked {
     policy: Option<String>,
     budget: usize,
-    workers: usize,
     regions: bool,
     filters: Vec<String>,
 }
@@ -57,8 +56,7 @@ pub fn command(words: &[String], read: Read, out: &mut dyn Write, err: &mut dyn 
 }
 
 fn asked_of(words: &[String]) -> Result<Asked, Ended> {
-    let mut asked =
-        Asked { policy: None, budget: 100_000, workers: 4, regions: false, filters: Vec::new() };
+    let mut asked = Asked { policy: None, budget: 100_000, regions: false, filters: Vec::new() };
     let mut words = words.iter();
     if words.next().map(String::as_str) != Some("audit") {
         return Err(Ended::Usage);
@@ -68,7 +66,9 @@ fn asked_of(words: &[String]) -> Result<Asked, Ended> {
             "--regions" => asked.regions = true,
             "--policy" => asked.policy = words.next().cloned(),
             "--budget" => asked.budget = number(words.next(), 1_000_000)?,
-            "--workers" => asked.workers = number(words.next(), 64)?,
+            "--workers" => {
+                number(words.next(), 1)?;
+            }
             option if option.starts_with('-') => return Err(Ended::Usage),
             filter => asked.filters.push(filter.to_string()),
         }
@@ -96,8 +96,8 @@ fn audit(asked: &Asked, read: Read, out: &mut dyn Write) -> Result<u8, Ended> {
         files.push(read(path).ok_or(Fault(50))?);
     }
     let stack = Stack::of_files(&files)?;
-    let settled = explore(&stack, asked.budget, asked.workers);
-    let replies = sweep(&stack, &settled, &questions, asked.workers);
+    let settled = explore(&stack, asked.budget);
+    let replies = sweep(&stack, &settled, &questions);
     write_report(&stack, &settled, &questions, &replies, asked.regions, out)?;
     // The process ends at once, so nothing is given back.
     std::mem::forget(settled);

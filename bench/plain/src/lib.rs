@@ -2,7 +2,6 @@
 //! It is for measuring and for finding mistakes: no answer of `seccomp_audit` rests on it.
 
 mod arena;
-mod crew;
 mod excluded;
 mod explore;
 mod facts;

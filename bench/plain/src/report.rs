@@ -42,7 +42,7 @@ pub fn write_report(
         format!("seccomp_audit report 2\nfilters {filters} path {path} questions {count}\n");
     head += &format!(
         "regions {} open {} emptied {} splits {} commits {}\n",
-        settled.regions, settled.open, settled.emptied, settled.splits, settled.commits
+        settled.regions.len(), settled.open, settled.emptied, settled.splits, settled.commits
     );
     let mut counts = [0; 3];
     for (i, (question, reply)) in questions.iter().zip(replies).enumerate() {
@@ -64,7 +64,7 @@ pub fn write_report(
     }
     let mut text = head.into_bytes();
     if regions {
-        for (i, region) in settled.in_order().enumerate() {
+        for (i, region) in settled.regions.iter().enumerate() {
             text.extend(format!("region {} ", i + 1).into_bytes());
             region.name.print(&mut text);
             text.push(b' ');

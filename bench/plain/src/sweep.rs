@@ -1,11 +1,10 @@
 //! Questions, verdicts on regions, replies.
 
-use crate::explore::{threads, Settled};
+use crate::explore::Settled;
 use crate::facts::{tighten, Fact, Wide};
 use crate::nodes::{pass, Base, Overlay};
 use crate::piece::Region;
 use crate::program::{trace_begins, Input, Stack};
-use std::sync::atomic::{AtomicUsize, Ordering::Relaxed};
 
 /// A question: the ranges and masks of words, and the actions that it is about.
 #[derive(Clone, Debug, PartialEq, Eq)]
@@ -64,7 +63,7 @@ impl Asked {
     }
 }
 
-/// What a thread needs to give verdicts.
+/// What verdicts take.
 struct Judge<'a> {
     stack: &'a Stack,
     overlay: Overlay,
@@ -173,24 +172,9 @@ impl Judge<'_> {
     }
 }
 
-/// What a thread found: hits, each with its question and the place of its region, and questions in
-/// doubt.
-struct Found {
-    hits: Vec<(usize, usize, Input)>,
-    doubts: Vec<bool>,
-}
-
 /// Judges all regions by all questions.
-pub fn sweep(
-    stack: &Stack,
-    settled: &Settled,
-    questions: &[Question],
-    workers: usize,
-) -> Vec<Reply> {
+pub fn sweep(stack: &Stack, settled: &Settled, questions: &[Question]) -> Vec<Reply> {
     let asked: Vec<Asked> = questions.iter().map(Asked::of).collect();
-    let least: Vec<AtomicUsize> = questions.iter().map(|_| AtomicUsize::new(usize::MAX)).collect();
-    let slices = settled.slices();
-    let next = AtomicUsize::new(0);
     let by_word: Vec<ByWord> = (0..16)
         .filter(|&word| questions.iter().any(|q| q.ranges[word] != (0, u32::MAX)))
         .map(|word| ByWord::of(word, questions))
@@ -201,68 +185,38 @@ pub fn sweep(
             add(set, q);
         }
     }
-    let part = || {
-        let mut judge = Judge { stack, overlay: Overlay::default() };
-        let mut found = Found { hits: Vec::new(), doubts: vec![false; asked.len()] };
-        while let Some(&(place, regions)) = slices.get(next.fetch_add(1, Relaxed)) {
-            // Questions without a Hit at a lower place so far.
-            let mut live = [0u64; 4];
-            for q in (0..asked.len()).filter(|&q| least[q].load(Relaxed) > place) {
-                add(&mut live, q);
+    let mut judge = Judge { stack, overlay: Overlay::default() };
+    let mut hits: Vec<Option<Input>> = vec![None; asked.len()];
+    let mut doubts = vec![settled.open > 0; asked.len()];
+    for region in &settled.regions {
+        let mut open = by_kind[region.answer.kind()];
+        for index in &by_word {
+            if open == [0; 4] {
+                break;
             }
-            for (i, region) in regions.iter().enumerate() {
-                let mut open = by_kind[region.answer.kind()];
-                meet(&mut open, &live);
-                for index in &by_word {
-                    if open == [0; 4] {
-                        break;
-                    }
-                    index.narrow(region.fact(index.word), &mut open);
-                }
-                for part in 0..4 {
-                    let mut left = open[part];
-                    while left != 0 {
-                        let q = part * 64 + left.trailing_zeros() as usize;
-                        left &= left - 1;
-                        match judge.verdict(region, &asked[q]) {
-                            Verdict::Clear => {}
-                            Verdict::Doubt => found.doubts[q] = true,
-                            Verdict::Hit(input) => {
-                                found.hits.push((q, place + i, input));
-                                least[q].fetch_min(place + i, Relaxed);
-                                live[part] &= !(1 << (q % 64));
-                            }
-                        }
+            index.narrow(region.fact(index.word), &mut open);
+        }
+        for (part, &set) in open.iter().enumerate() {
+            let mut left = set;
+            while left != 0 {
+                let q = part * 64 + left.trailing_zeros() as usize;
+                left &= left - 1;
+                match judge.verdict(region, &asked[q]) {
+                    Verdict::Clear => {}
+                    Verdict::Doubt => doubts[q] = true,
+                    Verdict::Hit(input) => {
+                        hits[q] = Some(input);
+                        // It isn't asked again.
+                        by_kind.iter_mut().for_each(|set| set[part] &= !(1 << (q % 64)));
                     }
                 }
             }
         }
-        found
+    }
+    let reply = |(hit, is_doubtful)| match hit {
+        Some(input) => Reply::Allowed(input),
+        None if is_doubtful => Reply::Unsettled,
+        None => Reply::Never,
     };
-    let size = threads(workers).min(slices.len().max(1));
-    let alone = size == 1 || settled.regions * questions.len() < 400_000;
-    let all: Vec<Found> = if alone {
-        vec![part()]
-    } else {
-        std::thread::scope(|scope| {
-            let others: Vec<_> = (1..size).map(|_| scope.spawn(part)).collect();
-            let own = part();
-            let mut all: Vec<Found> =
-                others.into_iter().map(|thread| thread.join().expect("no panic")).collect();
-            all.push(own);
-            all
-        })
-    };
-    (0..questions.len())
-        .map(|q| {
-            let hits = all.iter().flat_map(|found| &found.hits).filter(|hit| hit.0 == q);
-            match hits.min_by_key(|hit| hit.1) {
-                Some(&(_, _, input)) => Reply::Allowed(input),
-                None if settled.open > 0 || all.iter().any(|found| found.doubts[q]) => {
-                    Reply::Unsettled
-                }
-                None => Reply::Never,
-            }
-        })
-        .collect()
+    hits.into_iter().zip(doubts).map(reply).collect()
 }

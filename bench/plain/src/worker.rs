@@ -20,15 +20,6 @@ pub struct Arenas {
     pub words: Arena<Fact>,
 }
 
-/// A row of regions that one worker found one after the other, and the tasks that it handed out
-/// meanwhile: they come behind it in name order, the last one handed out first.
-pub struct Task {
-    pub from: usize,
-    pub to: usize,
-    pub handed_out: Vec<usize>,
-    pub id: usize,
-}
-
 /// Which results of a test some input of the piece may have.
 pub enum Side {
     True,
@@ -51,8 +42,7 @@ pub struct Learnt {
     pub excluded: Excluded,
 }
 
-/// On cache lines of its own: each thread works on one.
-#[repr(align(128))]
+/// What an exploration works on, and what it found so far.
 pub struct Worker<'s> {
     pub stack: &'s Stack,
     pub now: Piece,
@@ -67,7 +57,6 @@ pub struct Worker<'s> {
     pub arenas: Arenas,
     pub waiting: Vec<Piece>,
     pub regions: Vec<Region>,
-    pub tasks: Vec<Task>,
     pub splits: usize,
     pub emptied: usize,
 }
@@ -87,7 +76,6 @@ impl<'s> Worker<'s> {
             arenas: Arenas::default(),
             waiting: Vec::new(),
             regions: Vec::new(),
-            tasks: Vec::new(),
             splits: 0,
             emptied: 0,
         }

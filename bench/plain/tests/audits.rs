@@ -112,17 +112,14 @@ fn chain(count: usize) -> String {
 
 #[test]
 fn calls_and_ranges() {
-    for workers in ["1", "2", "8", "64"] {
-        let words = ["--workers", workers];
-        let said = audit(&[NO_EXECVE], &[EXECVE], &words);
-        assert_eq!(said.status, 0);
-        assert_eq!(said.replies, ["never"]);
-        assert_eq!(said.counts, "3/0/0/2/5");
-        assert_eq!(said.regions, letters("F KILL_PROCESS 0, TF ALLOW 0, TT ERRNO 1"));
-        let said = audit(&[NO_EXECVE], &[X32], &words);
-        assert_eq!(said.status, 1);
-        assert_eq!(said.replies, [allowed("000000403e0000c0")]);
-    }
+    let said = audit(&[NO_EXECVE], &[EXECVE], &[]);
+    assert_eq!(said.status, 0);
+    assert_eq!(said.replies, ["never"]);
+    assert_eq!(said.counts, "3/0/0/2/5");
+    assert_eq!(said.regions, letters("F KILL_PROCESS 0, TF ALLOW 0, TT ERRNO 1"));
+    let said = audit(&[NO_EXECVE], &[X32], &[]);
+    assert_eq!(said.status, 1);
+    assert_eq!(said.replies, [allowed("000000403e0000c0")]);
     let said = audit(&[NO_EXECVE], &["arch = 0x40000003"], &[]);
     assert_eq!((said.status, said.replies[0].as_str()), (0, "never"));
 }
@@ -155,57 +152,42 @@ fn precedence() {
 
 #[test]
 fn returned_words() {
-    for workers in ["1", "2", "8"] {
-        let said = audit(&[DIVIDED], &["actions = [\"KILL_THREAD\"]"], &["--workers", workers]);
-        assert_eq!(said.counts, "10/0/0/9/19");
-        let mut names: Vec<String> =
-            (0..9).map(|i| format!("F{:028}{i:04b} KILL_THREAD {i}", 0)).collect();
-        for name in &mut names {
-            let (bits, rest) = name.split_at(33);
-            *name = bits.replace('0', "F").replace('1', "T") + rest;
-        }
-        names.push("T KILL_THREAD 0".to_string());
-        assert_eq!(said.regions, names);
-        let said = audit(&[TWO_BITS], &[ANY], &["--workers", workers]);
-        assert_eq!(said.counts, "4/0/0/3/7");
-        let answers: Vec<_> =
-            said.regions.iter().map(|r| r.split_once(' ').unwrap().1.to_string()).collect();
-        assert_eq!(answers, letters("ERRNO 0, ERRNO 1, ERRNO 2, ERRNO 3"));
+    let said = audit(&[DIVIDED], &["actions = [\"KILL_THREAD\"]"], &[]);
+    assert_eq!(said.counts, "10/0/0/9/19");
+    let mut names: Vec<String> =
+        (0..9).map(|i| format!("F{:028}{i:04b} KILL_THREAD {i}", 0)).collect();
+    for name in &mut names {
+        let (bits, rest) = name.split_at(33);
+        *name = bits.replace('0', "F").replace('1', "T") + rest;
     }
+    names.push("T KILL_THREAD 0".to_string());
+    assert_eq!(said.regions, names);
+    let said = audit(&[TWO_BITS], &[ANY], &[]);
+    assert_eq!(said.counts, "4/0/0/3/7");
+    let answers: Vec<_> =
+        said.regions.iter().map(|r| r.split_once(' ').unwrap().1.to_string()).collect();
+    assert_eq!(answers, letters("ERRNO 0, ERRNO 1, ERRNO 2, ERRNO 3"));
 }
 
 #[test]
 fn many_regions() {
-    for workers in ["1", "2", "4"] {
-        let words = ["--budget", "131071", "--workers", workers];
-        let said = audit(&[SIXTEEN_BITS], &[ANY], &words);
-        assert_eq!(said.counts, "65536/0/0/65535/131071");
-        assert_eq!(said.replies, ["never"]);
-    }
-    let said = audit(&[SIXTEEN_BITS], &[ANY], &["--budget", "1000", "--workers", "1"]);
+    let said = audit(&[SIXTEEN_BITS], &[ANY], &["--budget", "131071"]);
+    assert_eq!(said.counts, "65536/0/0/65535/131071");
+    assert_eq!(said.replies, ["never"]);
+    let said = audit(&[SIXTEEN_BITS], &[ANY], &["--budget", "1000"]);
     assert_eq!(said.counts, "496/9/0/504/1000");
     assert_eq!(said.replies, ["unsettled"]);
-    for workers in ["2", "8"] {
-        let said = audit(&[SIXTEEN_BITS], &[ANY], &["--budget", "1000", "--workers", workers]);
-        assert!(said.counts.ends_with("/1000"));
-        assert_eq!(said.replies, ["unsettled"]);
-        let said = audit(&[SIXTEEN_BITS], &[ANY], &["--budget", "100001", "--workers", workers]);
-        assert!(said.counts.ends_with("/100001"));
-        assert_eq!(said.replies, ["unsettled"]);
-    }
 }
 
 #[test]
 fn names_of_regions() {
-    for workers in ["1", "2", "8", "64"] {
-        let said = audit(&[BOUNDS], &[ANY], &["--workers", workers]);
-        assert_eq!(said.regions, letters("F ERRNO 1, TT ALLOW 0"));
-        assert_eq!(said.counts, "2/0/0/1/3");
-        let said = audit(&[NUMBERS], &[ANY], &["--workers", workers]);
-        assert_eq!(said.regions, letters("FFFT ALLOW 0, FFT ALLOW 0, FT ALLOW 0, T ALLOW 0"));
-        assert_eq!(said.counts, "4/0/0/3/7");
-        assert_eq!(said.replies, [allowed("02000000")]);
-    }
+    let said = audit(&[BOUNDS], &[ANY], &[]);
+    assert_eq!(said.regions, letters("F ERRNO 1, TT ALLOW 0"));
+    assert_eq!(said.counts, "2/0/0/1/3");
+    let said = audit(&[NUMBERS], &[ANY], &[]);
+    assert_eq!(said.regions, letters("FFFT ALLOW 0, FFT ALLOW 0, FT ALLOW 0, T ALLOW 0"));
+    assert_eq!(said.counts, "4/0/0/3/7");
+    assert_eq!(said.replies, [allowed("02000000")]);
     let said = audit(&[NO_EXECVE, NO_X32], &[X32], &[]);
     assert_eq!(said.path, "15");
     assert_eq!(
@@ -235,7 +217,7 @@ fn stacks_and_symbolic_words() {
     assert_eq!(said.regions, letters("F ALLOW 0, T KILL_THREAD 0"));
     assert_eq!(said.counts, "2/0/0/1/3");
     assert_eq!(said.replies, [allowed(&("0".repeat(32) + "01"))]);
-    let words = ["--budget", "1000", "--workers", "1"];
+    let words = ["--budget", "1000"];
     let said = audit(&["ld [0]; ret a"], &[ANY], &words);
     assert_eq!(said.counts, "488/25/0/512/1000");
     assert_eq!(said.replies, ["unsettled"]);
@@ -275,7 +257,7 @@ fn plain_stacks() {
     assert_eq!(audit(&[&chain(127)], &[ANY], &["--budget", "255"]).counts, "128/0/0/127/255");
     let said = audit(&[&chain(127)], &[ANY], &["--budget", "254"]);
     assert!(said.counts.contains("/1/0/") && said.counts.ends_with("/254"), "{}", said.counts);
-    let said = audit(&[NO_EXECVE], &[EXECVE, X32], &["--budget", "4", "--workers", "1"]);
+    let said = audit(&[NO_EXECVE], &[EXECVE, X32], &["--budget", "4"]);
     assert_eq!(said.counts, "2/1/0/2/4");
     assert_eq!(said.replies, ["unsettled".to_string(), allowed("000000403e0000c0")]);
 }
@@ -284,17 +266,15 @@ fn plain_stacks() {
 fn single_bit_tests() {
     let text = "ld [0]; jge 5 0 7; jgt 10 6 0; jset 1 5 0; jeq 6 3 0; jeq 8 2 0; jeq 10 1 0; \
                 ret 0x80000000; ret 0x7fff0000; ret 0x00050001";
-    for workers in ["1", "2", "8", "64"] {
-        let said = audit(&[text], &[ANY], &["--workers", workers]);
-        assert_eq!(
-            said.regions,
-            letters(
-                "F ERRNO 1, TFFFFT ALLOW 0, TFFFT ALLOW 0, TFFT ALLOW 0, TFT ERRNO 1, TT ERRNO 1"
-            )
-        );
-        assert_eq!(said.counts, "6/0/0/5/11");
-        assert_eq!(said.replies, [allowed("0a000000")]);
-    }
+    let said = audit(&[text], &[ANY], &[]);
+    assert_eq!(
+        said.regions,
+        letters(
+            "F ERRNO 1, TFFFFT ALLOW 0, TFFFT ALLOW 0, TFFT ALLOW 0, TFT ERRNO 1, TT ERRNO 1"
+        )
+    );
+    assert_eq!(said.counts, "6/0/0/5/11");
+    assert_eq!(said.replies, [allowed("0a000000")]);
     assert_eq!(audit(&[ANY_OF_TWO_BITS], &[ANY], &[]).replies, ["unsettled"]);
     assert_eq!(audit(&[ONE_BIT], &[ANY], &[]).replies, [allowed("00000040")]);
 }
