@@ -74,7 +74,7 @@ impl<'a> Reader<'a> {
 
     /// Passes the characters that belong together, and gives them.
     fn take(&mut self, is_part: impl Fn(char) -> bool) -> &'a str {
-        let end = self.text.find(|c| !is_part(c)).unwrap_or(self.text.len());
+        let end = self.text.find(|c: char| !is_part(c)).unwrap_or(self.text.len());
         let (part, rest) = self.text.split_at(end);
         self.text = rest;
         part
