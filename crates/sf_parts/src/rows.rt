@@ -56,8 +56,8 @@ struct Words {
     hidden: u64,
 }
 
-/// How many rows there may be.
-pub const ROWS: usize = 1000000;
+/// How many rows there may be. A row takes up to some 1.3 kB, so these take 85 MB. Real stacks have some hundred rows.
+pub const ROWS: usize = 65536;
 
 /// A condition, with a copy of the form.
 fn condition_of(alloc: Global, word: u16, form: &Form) -> Result<Condition, AllocError>

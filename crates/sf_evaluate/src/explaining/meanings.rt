@@ -20,7 +20,7 @@ pub(crate) fn meaning_of(fault: &Fault) -> &'static str {
         Fault::TooMany => "more than 64 filters",
         Fault::PathLength => "a path length above 32768",
         Fault::TooLarge { .. } => {
-            "the answers take more nodes of decision diagrams; or, where more nodes don't help, more than 1000000 rows, or more than 65536 tests of one word"
+            "the answers take more nodes of decision diagrams; or, where more nodes don't help, more than 65536 rows, or more than 65536 tests of one word"
         }
         Fault::Version => "no version, or neither 1 nor 2",
         Fault::TopKey | Fault::Key { .. } => {
