@@ -1,6 +1,6 @@
 -- The sets of files of names, joined one file after the other.
 use Rattle.std.proofs.lemmas.Grind.{flat_map-append}
-use Rattle.std.proofs.Common.{arith, ◌≡◌, ◌⊎◌, inl, inr, ℕ, ◌+◌, ◌≤◌, ◌∙◌, List, [], ◌∷◌, ◌++◌, append-nil, ap, length, Option, Some, None, Bor, slice_get, refl, sym, subst}
+use Rattle.std.proofs.Common.{◌≡◌, ◌⊎◌, inl, inr, ℕ, ◌+◌, ◌≤◌, ◌∙◌, List, [], ◌∷◌, ◌++◌, append-nil, ap, length, Option, Some, None, Bor, slice_get, refl, sym, subst}
 use Rattle.sf_names.specs.Names.{NamesData}
 use Rattle.sf_names.specs.declared.fault.Fault.{Fault as NamesFault}
 use Rattle.sf_names.specs.declared.fault.Fault.TheVariants as names_faults
@@ -9,7 +9,7 @@ use Rattle.sf_names.specs.JoinedLaws.{joined_append, unfit_append}
 use Rattle.sf_policy.specs.declared.fault.Fault.{Fault}
 use Rattle.sf_policy.specs.declared.fault.Fault.TheVariants as faults
 use Rattle.sf_policy.specs.Faults.{of_names}
-use Rattle.sf_evaluate.specs.Names.{AreNamesRead, CannotBeJoined, IsNamesFile, RefusesNamesFile, RefusesNaming, all_sets}
+use Rattle.sf_evaluate.specs.Names.{AreNamesRead, IsNamesFile, RefusesNamesFile, RefusesNaming, all_sets}
 use Rattle.sf_evaluate.proofs.NamingLemmas.{ReadSoFar, all_read, one_read}
 use Rattle.sf_evaluate.proofs.Pairing.{first_paired}
 

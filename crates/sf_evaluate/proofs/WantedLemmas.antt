@@ -1,7 +1,6 @@
--- The names in a text, and what is read of options.
-use Rattle.std.proofs.Common.{◌≡◌, ℕ, Bool, true, false, not, ◌&&◌, ◌||◌, List, [], ◌∷◌, Option, Some, None, refl, sym, ap, ◌∙◌, true≢false}
-use Rattle.std.specs.Prelude.{is_some, length, ◌==◌, option_map}
-use Rattle.std.specs.Borrow.{Bor}
+-- The names in a text.
+use Rattle.std.proofs.Common.{◌≡◌, false, [], ◌∷◌, refl, true≢false}
+use Rattle.std.specs.Prelude.{length, ◌==◌}
 use Rattle.clap.specs.Words.{Text}
 use Rattle.sf_calls.specs.Numbers.{comma_parts}
 use Rattle.sf_evaluate.specs.Wanted.{names_in_text}

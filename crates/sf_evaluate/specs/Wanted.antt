@@ -1,5 +1,5 @@
 -- The calls that `list` and `compare` are asked to tell one by one, which rows of a comparison, and the digest of rows.
-use Rattle.std.specs.Prelude.{Bool, true, false, ◌&&◌, ◌||◌, ◌==◌, not, List, [], codes, count_by, is_some, Option, Some, None, option_map}
+use Rattle.std.specs.Prelude.{Bool, true, ◌&&◌, ◌||◌, ◌==◌, not, List, [], codes, count_by, is_some, Option, option_map}
 use Rattle.std.specs.List.{list_all, list_any}
 use Rattle.std.specs.Option.{option_map_or}
 use Rattle.std.specs.Str.{bytes_eq}
