@@ -1,9 +1,8 @@
 -- Rows come to an end only where there would be too many of them, or a word is tested too often.
-use Rattle.std.proofs.Common.{◌≡◌, ◌≢◌, ℕ, zero, suc, ◌+◌, ◌*◌, ◌/◌, ◌%◌, ◌-◌, ◌<◌, ◌≤◌, ◌==◌, Bool, true, false, List, [], ◌∷◌, ◌++◌, length, map, take, get_or, refl, sym, ap, ap₂, subst, ◌∙◌, inl, inr, arith}
-use Rattle.std.specs.Prelude.{◌⊎◌, All, if◌then◌else◌}
+use Rattle.std.proofs.Common.{◌≡◌, ◌≢◌, ℕ, suc, ◌+◌, ◌*◌, ◌/◌, ◌-◌, ◌<◌, ◌≤◌, ◌==◌, false, List, [], ◌∷◌, ◌++◌, length, map, take, get_or, refl, sym, ap, ap₂, subst, ◌∙◌, inl, inr, arith}
+use Rattle.std.specs.Prelude.{◌⊎◌}
 use Rattle.std.specs.List.{flat_map}
-use Rattle.std.specs.Int.{bit_at}
-use Rattle.std.proofs.lemmas.Bool.{cond-false, cond_both, ne_eqb}
+use Rattle.std.proofs.lemmas.Bool.{cond-false, ne_eqb}
 use Rattle.std.proofs.lemmas.List.{length-map, length-append, get_or-map}
 use Rattle.std.proofs.lemmas.List.Folds.{length-flat_map-take}
 use Rattle.sf_diagram.specs.Trees.{Tree, Leaf, Fork, IsOrderedFrom}
@@ -11,6 +10,7 @@ use Rattle.sf_diagram.specs.Stores.{tree_at}
 use Rattle.sf_parts.specs.Words.{behind, test_count}
 use Rattle.sf_parts.specs.Parts.{PartData, parts_in}
 use Rattle.sf_parts.specs.Rows.{ConditionData, RowData, rows_under, IsCrowded}
+use Rattle.sf_parts.specs.RowLaws.{crowded_behind}
 use Rattle.sf_parts.specs.Stored.{StoredPart, part_seen}
 use Rattle.sf_parts.proofs.HolderLemmas.{LeadsTo, HasNumber, AreParts}
 use Rattle.sf_parts.proofs.WayLemmas.{parts_in-right}
@@ -44,18 +44,6 @@ outside-over most limit others apart hidden left n word next v t p q cs e follow
     (subst (IsOrderedFrom (32 * suc word)) (sym is) ordered) in
     subst (λ (rows : List RowData). IsOver most limit others rows t)
     (sym (rows-outside apart hidden left n word next v t p q cs e following is other)) (h later)
-
--- what is crowded behind a word is crowded
-crowded-behind : (limit word : ℕ) (t : Tree) (n : ℕ) → IsCrowded limit (behind word t n) → IsCrowded limit t
-crowded-behind limit word (Leaf c) n h = h
-crowded-behind limit word (Fork v p q) n h =
-    cond_both (v / 32 == word) (if bit_at n (31 - v % 32) == 1 then behind word q n else behind word p n) (Fork v p q)
-    (λ (u : Tree). IsCrowded limit u → IsCrowded limit (Fork v p q))
-    (λ _. cond_both (bit_at n (31 - v % 32) == 1) (behind word q n) (behind word p n)
-    (λ (u : Tree). IsCrowded limit u → IsCrowded limit (Fork v p q))
-    (λ _ g. inr (inr (crowded-behind limit word q n g)))
-    (λ _ g. inr (inl (crowded-behind limit word p n g))))
-    (λ _ g. g) h
 
 pub crowded-here : (limit word v : ℕ) (t p q : Tree) → t ≡ Fork v p q → v / 32 ≡ word → limit < test_count word t
     → IsCrowded limit t
@@ -107,5 +95,5 @@ step-over most limit others apart hidden left n word next v i ts t l r cs pushed
           let third = ap (λ (q : PartData). length (rows_behind apart hidden n word cs q)) one in
           let total = ap length whole in
           inl (omega arith))
-      | inr crowded ↦ inr (crowded-behind limit word t some.0 (subst (IsCrowded limit) leads crowded))
+      | inr crowded ↦ inr (crowded_behind limit word t some.0 (subst (IsCrowded limit) leads crowded))
     ]

@@ -2,4 +2,5 @@ pub mod Words
 pub mod Runs
 pub mod Parts
 pub mod Rows
+pub mod RowLaws
 pub mod Stored

@@ -2,6 +2,7 @@
 #![tactic(auto)]
 
 mod bits;
+mod fault;
 mod form;
 mod laws;
 mod parts;
@@ -9,6 +10,7 @@ mod rows;
 mod runs;
 mod word;
 
+pub use fault::Fault;
 pub use form::{Form, Span};
 pub use laws::{
     each_input_is_in_one_row, each_number_has_one_part, each_row_has_an_input, parts_lead_on,

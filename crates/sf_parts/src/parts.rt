@@ -8,10 +8,11 @@ ghost use Rattle.sf_parts.specs.Parts.{behinds_after, joined_parts, part_in, par
 ghost use Rattle.sf_parts.specs.Stored.{part_seen, run_seen};
 
 use crate::bits::{mask_of, with_bit};
+use crate::fault::Fault;
 use crate::form::{Form, Span};
 use crate::runs::{Run, runs_of};
 use crate::word::{TESTS, fork_in, tested_bits};
-use sf_diagram::{Fault, Id, Store};
+use sf_diagram::{Id, Store};
 use std::alloc::{AllocError, Global};
 use std::marker::Model;
 

@@ -5,10 +5,11 @@ ghost use Rattle.sf_diagram.specs.Trees.{IsOrderedFrom};
 ghost use Rattle.sf_diagram.specs.Stores.{tree_at, IsLawfulStore};
 ghost use Rattle.sf_parts.specs.Rows.{rows_under, IsCrowded};
 
+use crate::fault::Fault;
 use crate::form::Form;
 use crate::parts::parts_of;
 use crate::word::TESTS;
-use sf_diagram::{Fault, Id, Node, Store};
+use sf_diagram::{Id, Node, Store};
 use std::alloc::{AllocError, Global};
 use std::marker::Model;
 

@@ -6,8 +6,9 @@ ghost use Rattle.sf_parts.specs.Runs.{mask_in, runs_before, runs_in, with_run};
 ghost use Rattle.sf_parts.specs.Stored.{run_seen, runs_seen};
 
 use crate::bits::{has_bit, low_bits, weight};
+use crate::fault::Fault;
 use crate::word::sides_in;
-use sf_diagram::{Fault, Id, Store};
+use sf_diagram::{Id, Store};
 use std::alloc::Global;
 
 /// Numbers in a row, behind which the same comes.

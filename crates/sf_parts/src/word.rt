@@ -6,7 +6,8 @@ ghost use Rattle.sf_diagram.specs.Stores.{tree_at, IsLawfulStore};
 ghost use Rattle.sf_parts.specs.Words.{is_in, tested, test_count, lower_at, higher_at};
 
 use crate::bits::weight;
-use sf_diagram::{Fault, Id, Node, Store};
+use crate::fault::Fault;
+use sf_diagram::{Id, Node, Store};
 
 /// How often a word may be tested, counted along each way.
 pub const TESTS: u32 = 65536;
