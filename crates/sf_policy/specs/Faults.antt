@@ -35,6 +35,7 @@ fault_number faults.NoFilter = 25
 fault_number faults.TooMany = 26
 fault_number faults.PathLength = 27
 fault_number (faults.TooLarge nodes) = 32
+fault_number faults.TooManyRows = 32
 fault_number faults.Version = 40
 fault_number faults.TopKey = 41
 fault_number (faults.Key question) = 41

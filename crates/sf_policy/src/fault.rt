@@ -52,6 +52,10 @@ pub enum Fault {
     /// without a number, since nothing that was given is wrong.
     #[error("too large: more than {nodes} nodes; --nodes takes more")]
     TooLarge { nodes: u32 },
+    /// There would be more than 65,536 rows, or more tests of one word on all ways through it. The text is a sentence
+    /// without a number, as that of `TooLarge`; more nodes don't help.
+    #[error("too large: more than 65536 rows, or more than 65536 tests of one word")]
+    TooManyRows,
     /// The policy's version is missing, or is neither 1 nor 2.
     #[error("40 Version")]
     Version,
@@ -114,7 +118,7 @@ pub enum Fault {
 }
 
 impl Fault {
-    /// The number of the fault. It is at the head of the text of all but `TooLarge`.
+    /// The number of the fault. It is at the head of the text of all but `TooLarge` and `TooManyRows`.
     pub fn number(&self) -> u16
         ensures { result ≡ fault_number self.now }
     {
@@ -130,7 +134,7 @@ impl Fault {
             Fault::NoFilter => 25,
             Fault::TooMany => 26,
             Fault::PathLength => 27,
-            Fault::TooLarge { .. } => 32,
+            Fault::TooLarge { .. } | Fault::TooManyRows => 32,
             Fault::Version => 40,
             Fault::TopKey | Fault::Key { .. } | Fault::NamesKey => 41,
             Fault::Range { .. } | Fault::NamesRange => 42,
