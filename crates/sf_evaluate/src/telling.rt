@@ -18,11 +18,11 @@ use std::io::Write;
 /// most 20 digits each.
 const LINE: usize = 96;
 
-/// The number of `TooLarge`.
+/// The number of `TooLarge` and of `TooManyRows`.
 const TOO_LARGE: u16 = 32;
 
-/// The exit status of a fault. It is 2 for `TooLarge`: nothing is wrong, but more nodes are needed than are allowed. It
-/// is 3 where the filters, a policy, a profile, a file of names, the file of `--accept`, the input, or the name of a
+/// The exit status of a fault. It is 2 for `TooLarge` and `TooManyRows`: nothing is wrong, but more nodes or rows are
+/// needed than are allowed. It is 3 where the filters, a policy, a profile, a file of names, the file of `--accept`, the input, or the name of a
 /// call or of a set of calls is refused. It is 5 where reading, writing or memory fails: these faults have the numbers
 /// from 50.
 fn status_of(fault: &Fault) -> u8
@@ -38,8 +38,8 @@ fn status_of(fault: &Fault) -> u8
     }
 }
 
-/// The line of a fault: `error`, its number, its name, and its place where it has one. That of `TooLarge` is its text
-/// alone, a sentence.
+/// The line of a fault: `error`, its number, its name, and its place where it has one. That of `TooLarge` and
+/// `TooManyRows` is the text alone, a sentence.
 fn line_of(fault: &Fault) -> InlineText<LINE> {
     if fault.number() == TOO_LARGE {
         InlineText::of(format_args!("{fault}\n"))

@@ -19,8 +19,9 @@ pub(crate) fn meaning_of(fault: &Fault) -> &'static str {
         Fault::NoFilter => "no filter",
         Fault::TooMany => "more than 64 filters",
         Fault::PathLength => "a path length above 32768",
-        Fault::TooLarge { .. } => {
-            "the answers take more nodes of decision diagrams; or, where more nodes don't help, more than 65536 rows, or more than 65536 tests of one word"
+        Fault::TooLarge { .. } => "the answers take more nodes of decision diagrams",
+        Fault::TooManyRows => {
+            "more rows than are listed, or more tests of a word than are followed; more nodes don't help, fewer filters or calls may"
         }
         Fault::Version => "no version, or neither 1 nor 2",
         Fault::TopKey | Fault::Key { .. } => {
