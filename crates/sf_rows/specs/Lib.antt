@@ -1,3 +1,4 @@
+pub mod Faults
 pub mod Trees
 pub mod TreeLaws
 pub mod Rows

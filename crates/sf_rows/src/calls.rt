@@ -13,9 +13,9 @@ ghost use Rattle.sf_rows.specs.Shown.{call_row, call_rows, is_wanted, rows_if_wa
 
 use crate::subject::{Subject, hidden_number};
 use crate::words::{ARCH, NR};
-use sf_diagram::{Fault, Id, Node, Store};
+use sf_diagram::{Id, Node, Store};
 use sf_names::{Call, Names};
-use sf_parts::{Row, rows_of};
+use sf_parts::{Fault, Row, rows_of};
 use std::alloc::{AllocError, Global};
 use std::marker::Model;
 
@@ -210,8 +210,8 @@ fn push_set<'a>(
 }
 
 /// The rows of the calls whose names are in `wanted`, or of all calls where `wanted` is empty: set after set, and in a
-/// set in the order of its calls. The caller's condition: the diagram is there. `Spent` where
-/// there would be more rows than are allowed, `Memory` where an allocation is refused.
+/// set in the order of its calls. The caller's condition: the diagram is there. `Spent` where there would be more rows
+/// than are allowed, or a word is tested more often; `Memory` where an allocation is refused.
 pub(crate) fn call_rows<'a>(
     alloc: Global,
     source: &Source<'_>,

@@ -12,9 +12,10 @@ ghost use Rattle.sf_rows.specs.Rows.{rows_of, hidden_number};
 ghost use Rattle.sf_rows.specs.Shown.{AreOthers};
 
 use crate::calls::has_bit;
+use crate::fault::Fault;
 use crate::subject::{Subject, hidden_number};
 use crate::words::{ARCH, NR};
-use sf_diagram::{Fault, Id, Store, choose};
+use sf_diagram::{Id, Store, choose};
 use sf_names::{Call, Names};
 use sf_parts::{Row, rows_of};
 use std::alloc::{AllocError, Global};
@@ -48,7 +49,7 @@ fn one_of(
     word: u16,
     bits: u32,
     numbers: &[u32],
-) -> Result<Id, Fault>
+) -> Result<Id, sf_diagram::Fault>
     requires word { word < 34 }
     requires bits { bits ≤ 32 }
     ensures values { IfOk result (λ id. IsDiagramOf store.new.trees id (λ b.
@@ -86,7 +87,7 @@ fn numbers_of(alloc: Global, calls: &[Call]) -> Result<Vec<u32>, AllocError>
 
 /// The diagram that is 1 on the inputs of the calls of a set, and else 0. `Spent` and `Memory` as the store has them;
 /// nodes may have been added then.
-fn calls_of(alloc: Global, store: &mut Store, names: &Names) -> Result<Id, Fault>
+fn calls_of(alloc: Global, store: &mut Store, names: &Names) -> Result<Id, sf_diagram::Fault>
     ensures values { IfOk result (λ id. IsDiagramOf store.new.trees id (λ b.
         if (names.now.arch == word_number 18 b)
         && list_any (is_call_number (word_number 19 b)) names.now.calls then 1 else 0)) }
@@ -102,7 +103,7 @@ fn calls_of(alloc: Global, store: &mut Store, names: &Names) -> Result<Id, Fault
 
 /// The diagram that is 1 on the inputs of named calls, and else 0. `Spent` and `Memory` as the store has them; nodes
 /// may have been added then.
-fn named_calls(alloc: Global, store: &mut Store, sets: &[Names]) -> Result<Id, Fault>
+fn named_calls(alloc: Global, store: &mut Store, sets: &[Names]) -> Result<Id, sf_diagram::Fault>
     ensures values { IfOk result (λ id. IsDiagramOf store.new.trees id (λ b.
         if is_named_call sets.now (word_number 18 b) (word_number 19 b) then 1 else 0)) }
     ensures keeps { KeepsStore store.old store.new }
@@ -124,7 +125,7 @@ fn without_named(
     sets: &[Names],
     number: u64,
     id: Id,
-) -> Result<Id, Fault>
+) -> Result<Id, sf_diagram::Fault>
     requires { id < length store.old.trees }
     ensures values { IfOk result (λ rest. IsDiagramOf store.new.trees rest
         (unnamed_number sets.now number (tree_at store.old.trees id))) }
@@ -137,14 +138,14 @@ fn without_named(
     Ok(rest)
 }
 
-/// All rows of a diagram. The caller's condition: it is there. `Spent` where there would be more
-/// rows than are allowed, `Memory` where an allocation is refused.
+/// All rows of a diagram. The caller's condition: it is there. `Spent` where there would be more rows than are allowed,
+/// or a word is tested more often; `Memory` where an allocation is refused.
 pub(crate) fn all_rows(
     alloc: Global,
     store: &Store,
     subject: Subject,
     id: Id,
-) -> Result<Vec<Row>, Fault>
+) -> Result<Vec<Row>, sf_parts::Fault>
     requires { id < length store.now.trees }
     ensures { IfOk result (λ v. v.items ≡ rows_of subject (tree_at store.now.trees id)) }
 {
@@ -156,8 +157,8 @@ pub(crate) fn all_rows(
 
 /// The rows that are shown beside those of calls. Where `wanted` is empty, these are the rows of the inputs of calls
 /// without a name. Where it has the names of calls, there are none. The caller's condition: the diagram is there.
-/// `Spent` where the diagrams would have more nodes than are allowed, or where there would be more rows; `Memory` where
-/// an allocation is refused. Nodes may have been added then.
+/// `Nodes` where the diagrams would have more nodes than are allowed; `Rows` where there would be more rows than are
+/// allowed, or a word is tested more often; `Memory` where an allocation is refused. Nodes may have been added then.
 pub(crate) fn other_rows(
     alloc: Global,
     store: &mut Store,

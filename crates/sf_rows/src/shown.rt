@@ -5,9 +5,10 @@ ghost use Rattle.sf_diagram.specs.Stores.{KeepsStore, tree_at};
 ghost use Rattle.sf_rows.specs.Shown.{IsShown, call_rows, shown_count};
 
 use crate::calls::{CallRow, Source, call_rows};
+use crate::fault::Fault;
 use crate::others::{all_rows, other_rows};
 use crate::subject::Subject;
-use sf_diagram::{Fault, Id, Store};
+use sf_diagram::{Id, Store};
 use sf_names::Names;
 use sf_parts::Row;
 use std::alloc::Global;
@@ -68,7 +69,7 @@ fn rows_by_call<'a>(
     id: Id,
     sets: &'a [Names],
     wanted: &[&str],
-) -> Result<Vec<CallRow<'a>>, Fault>
+) -> Result<Vec<CallRow<'a>>, sf_parts::Fault>
     requires { id < length store.now.trees }
     ensures { IfOk result (λ v. v.items ≡ call_rows (map (λ t. t.now) wanted.now) subject
         (tree_at store.now.trees id) sets.now) }
@@ -81,9 +82,9 @@ fn rows_by_call<'a>(
 /// the calls of `sets` with these names; a name that no set has adds nothing. Where `calls` is an empty list, they are
 /// those of all calls of `sets`, and beside them the rows of the inputs of calls without a name.
 ///
-/// The caller's condition: the diagram is there. `Spent` where the diagrams would have more nodes
-/// than are allowed, or where there would be more rows; `Memory` where an allocation is refused. Nodes may have been
-/// added then.
+/// The caller's condition: the diagram is there. `Nodes` where the diagrams would have more nodes than are allowed;
+/// `Rows` where there would be more rows than are allowed, or a word is tested more often; `Memory` where an allocation
+/// is refused. Nodes may have been added then.
 pub fn show<'a>(
     alloc: Global,
     store: &mut Store,
