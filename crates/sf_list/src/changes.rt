@@ -35,8 +35,8 @@ impl<'a> Model for Changes<'a> {
     ghost view = { λ x. record { only = x.only; shown = x.shown } };
 }
 
-/// The rows that are shown of what changes. `Spent` where the diagrams would have more than `nodes` nodes, or where
-/// there would be too many rows; `Memory` where an allocation is refused.
+/// The rows that are shown of what changes. `Nodes` where the diagrams would have more than `nodes` nodes; `Rows` where
+/// there would be too many rows, or a word is tested too often; `Memory` where an allocation is refused.
 fn shown_of<'a>(
     alloc: Global,
     nodes: u32,
@@ -44,7 +44,7 @@ fn shown_of<'a>(
     only: Option<Relation>,
     sets: &'a [Names],
     calls: &Option<Vec<&str>>,
-) -> Result<Changes<'a>, sf_diagram::Fault>
+) -> Result<Changes<'a>, sf_rows::Fault>
     ensures changes { IfOk result (AreChanges stacks.entry.0.now stacks.entry.1.now sets.now
         (option_map (λ v. map (λ t. t.now) v.items) calls.now)) }
     ensures only { IfOk result (λ x. x.only ≡ only) }
@@ -61,8 +61,8 @@ fn shown_of<'a>(
 
 /// Lists what changes between the two stacks of a comparison. Where `only` is given, only the inputs count whose
 /// answers have this relation. `sets` and `calls` say how rows are shown, as for `list`. `TooLarge` where the diagrams
-/// of the answers would have more than `nodes` nodes, or where there would be too many rows; `Memory` where an
-/// allocation is refused.
+/// of the answers would have more than `nodes` nodes; `TooManyRows` where there would be too many rows, or a word is
+/// tested too often; `Memory` where an allocation is refused.
 pub fn list_changes<'a>(
     alloc: Global,
     nodes: u32,
@@ -74,7 +74,8 @@ pub fn list_changes<'a>(
     ensures listed { IfOk result (AreChanges comparison.now.old comparison.now.new sets.now
         (option_map (λ v. map (λ t. t.now) v.items) calls.now)) }
     ensures only { IfOk result (λ x. x.only ≡ only) }
-    ensures refused { IfErr result (λ e. (e ≡ Fault.Memory) ⊎ (e ≡ Fault.TooLarge nodes)) }
+    ensures refused { IfErr result (λ e. (e ≡ Fault.Memory) ⊎ ((e ≡ Fault.TooLarge nodes)
+        ⊎ (e ≡ Fault.TooManyRows))) }
 {
     let stacks = (
         comparison.old_stack().programs(),
@@ -82,7 +83,7 @@ pub fn list_changes<'a>(
     );
     match shown_of(alloc, nodes, stacks, only, sets, calls) {
         Ok(changes) => Ok(changes),
-        Err(fault) => Err(Fault::of_diagrams(fault, nodes)),
+        Err(fault) => Err(fault.told(nodes)),
     }
 }
 

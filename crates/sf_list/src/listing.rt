@@ -44,15 +44,15 @@ impl<'a> Listing<'a> {
     }
 }
 
-/// The listing of a stack. `Spent` where the diagrams would have more than `nodes` nodes, or where there would be too
-/// many rows; `Memory` where an allocation is refused.
+/// The listing of a stack. `Nodes` where the diagrams would have more than `nodes` nodes; `Rows` where there would be
+/// too many rows, or a word is tested too often; `Memory` where an allocation is refused.
 fn listing_of<'a>(
     alloc: Global,
     nodes: u32,
     stack: Stack,
     sets: &'a [Names],
     calls: &Option<Vec<&str>>,
-) -> Result<Listing<'a>, sf_diagram::Fault>
+) -> Result<Listing<'a>, sf_rows::Fault>
     ensures { IfOk result (λ l. (files : List (List ℕ)) → SpellStack files stack
         → IsListing files sets.now
         (option_map (λ v. map (λ t. t.now) v.items) calls.now) l) }
@@ -71,7 +71,8 @@ fn listing_of<'a>(
 /// the rows of the inputs of calls without a name.
 ///
 /// Refusals, tried in this order: what `stack_of` refuses; then `TooLarge`, where the diagrams of the answers would
-/// have more than `nodes` nodes, or where there would be too many rows. `Memory` can come anywhere.
+/// have more than `nodes` nodes, or `TooManyRows`, where there would be too many rows, or a word is tested too often.
+/// `Memory` can come anywhere.
 pub fn list<'a>(
     alloc: Global,
     nodes: u32,
@@ -82,11 +83,11 @@ pub fn list<'a>(
     ensures listed { IfOk result (IsListing (map (λ f. f.items) files.now) sets.now
         (option_map (λ v. map (λ t. t.now) v.items) calls.now)) }
     ensures refused { IfErr result (λ e. (e ≡ Fault.Memory) ⊎ ((e ≡ Fault.TooLarge nodes)
-        ⊎ IsFirstRefusal (map (λ f. f.items) files.now) e)) }
+        ⊎ ((e ≡ Fault.TooManyRows) ⊎ IsFirstRefusal (map (λ f. f.items) files.now) e))) }
 {
     let stack = stack_of(alloc, files)?;
     match listing_of(alloc, nodes, stack, sets, calls) {
         Ok(listing) => Ok(listing),
-        Err(fault) => Err(Fault::of_diagrams(fault, nodes)),
+        Err(fault) => Err(fault.told(nodes)),
     }
 }
