@@ -40,7 +40,9 @@ ANSWER = r"[A-Z_]+(?::0x\w+)? \d+"
 ROW = re.compile(rf"arch ((?:in |!= |not in )?{NUMBERS}) nr ({NUMBERS}) ({ANSWER}(?: -> {ANSWER})?)(?: if (.+))?")
 CALL = re.compile(rf"(\w+) (\w+) ({ANSWER})(?: if (.+))?")
 CONDITION = re.compile(rf"(\w+)(?: & 0x(\w+))? (=|!=|in|not in) ({NUMBERS})")
-TOO_LARGE = re.compile(r"too large: more than \d+ nodes; --nodes takes more\n")
+TOO_LARGE = re.compile(
+    r"too large: more than (?:\d+ nodes; --nodes takes more|65536 rows, or more than 65536 tests of one word)\n"
+)
 ACTIONS = (0x7FFF0000, 0x7FFF0000, 0x80000000, 0x00050001, 0x00050026, 0x7FF00007, 0x00000000)
 
 

@@ -6,7 +6,7 @@ use Rattle.clap.specs.declared.error.Error.{Error}
 use Rattle.clap.specs.declared.error.kind.ErrorKind.TheVariants.{OutOfMemory}
 use Rattle.sf_command_line.specs.CommandLine.{IsKnown, errors_at, subcommand_at}
 use Rattle.sf_command_line.specs.SubcommandLaws.{known_subcommand}
-use Rattle.sf_policy.specs.declared.fault.Fault.TheVariants.{TooLarge, Write}
+use Rattle.sf_policy.specs.declared.fault.Fault.TheVariants.{TooLarge, TooManyRows, Write}
 use Rattle.sf_profile.specs.Faults.{fault_number as profile_number}
 use Rattle.sf_profile.specs.declared.fault.Fault.{Fault as ProfileFault}
 use Rattle.sf_profile.specs.declared.fault.Fault.TheVariants as profile_faults
@@ -75,24 +75,40 @@ profile_status : (refusal : ProfileFault) → fault_status (profile_number refus
 profile_status profile_faults.Memory small = omega (arith, small)
 profile_status refusal small = omega (arith, small)
 
--- diagrams that are too large are the only fault with a status up to 2
-only_too_large : (e : Fault) → fault_status (fault_number e) ≤ 2 → (nodes : ℕ) × (e ≡ Other (TooLarge nodes))
+-- too many nodes or rows are the only faults with a status up to 2
+only_too_large : (e : Fault) → fault_status (fault_number e) ≤ 2
+    → ((nodes : ℕ) × (e ≡ Other (TooLarge nodes))) ⊎ (e ≡ Other TooManyRows)
 only_too_large (Profile refusal) small = absurd (profile_status refusal small)
-only_too_large (Other (TooLarge nodes)) small = (nodes, refl)
+only_too_large (Other (TooLarge nodes)) small = inl (nodes, refl)
+only_too_large (Other TooManyRows) small = inr refl
 only_too_large (Other fault) small = absurd (omega (arith, small))
 
--- diagrams that are too large aren't written
+-- nothing is written of too many nodes
 not_written : {Same : Type 0} (e : Fault) (nodes : ℕ) → e ≡ Other (TooLarge nodes) → (e ≡ Other Write) ⊎ Same → Same
 not_written e nodes large (inl write) = cc
 not_written e nodes large (inr same) = same
 
--- where the status of a fault is at most 2, diagrams are too large, and nothing was written
+-- nor of too many rows
+no_row_written : {Same : Type 0} (e : Fault) → e ≡ Other TooManyRows → (e ≡ Other Write) ⊎ Same → Same
+no_row_written e rows (inl write) = cc
+no_row_written e rows (inr same) = same
+
+-- where the status of a fault is at most 2, nodes or rows are too many, and nothing was written
 pub too_large : (holds : Text → Option Text) (words : List Text) (e : Fault) (status : ℕ) (Same : Type 0)
     → RefusesAsAsked holds words e → status ≡ fault_status (fault_number e) → (e ≡ Other Write) ⊎ Same → status ≤ 2
     → (status ≡ 2) × Same × IsTooLarge holds words
 too_large holds words e status Same why is quiet small =
-    let (nodes, large) = only_too_large e (subst (λ (s : ℕ). s ≤ 2) is small) in (
+    by (only_too_large e (subst (λ (s : ℕ). s ≤ 2) is small))
+  where
+    by : ((nodes : ℕ) × (e ≡ Other (TooLarge nodes))) ⊎ (e ≡ Other TooManyRows)
+        → (status ≡ 2) × Same × IsTooLarge holds words
+    by (inl (nodes, large)) = (
       is ∙ ap (λ (f : Fault). fault_status (fault_number f)) large,
       not_written e nodes large quiet,
-      (nodes, subst (λ (f : Fault). RefusesAsAsked holds words f) large why),
+      inl (nodes, subst (λ (f : Fault). RefusesAsAsked holds words f) large why),
+    )
+    by (inr rows) = (
+      is ∙ ap (λ (f : Fault). fault_status (fault_number f)) rows,
+      no_row_written e rows quiet,
+      inr (subst (λ (f : Fault). RefusesAsAsked holds words f) rows why),
     )

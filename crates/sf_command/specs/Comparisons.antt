@@ -12,7 +12,7 @@ use Rattle.sf_compare.specs.Documents.{comparison_document}
 use Rattle.sf_compare.specs.Faults.{IsRefusalOfBoth}
 use Rattle.sf_list.specs.Changes.{AreChanges, ChangedData, changed_document, changed_text}
 use Rattle.sf_evaluate.specs.Files.{AreRead, HasUnknown}
-use Rattle.sf_command.specs.Diagrams.{FailsAnyhow}
+use Rattle.sf_command.specs.Diagrams.{FailsByRows}
 use Rattle.sf_command.specs.Status.{finding_status}
 
 -- a comparison: its text, or one JSON document
@@ -54,10 +54,10 @@ module _ (holds : List ℕ → Option (List ℕ)) (old_paths new_paths : List (B
     pub status_is : status ≡ finding_status (finding_of found.findings asked)
 
   -- Why a comparison is refused: a file whose bytes aren't known can't be read; the files of a stack make no lawful
-  -- one; or it fails anyhow.
+  -- one; or there would be too many rows, or it fails anyhow.
   abbrev pub RefusesComparison : ℕ → Fault → Type 0
   RefusesComparison nodes fault =
       ((fault ≡ Read) × (HasUnknown holds old_paths ⊎ HasUnknown holds new_paths))
       ⊎ ((olds news : List (List ℕ)) × AreRead holds old_paths olds × AreRead holds new_paths news
       × IsRefusalOfBoth olds news fault)
-      ⊎ FailsAnyhow nodes fault
+      ⊎ FailsByRows nodes fault

@@ -5,7 +5,7 @@ use Rattle.std.specs.Io.KnownBytes.{Appends}
 use Rattle.clap.specs.Words.{IsAmong, Row, Text}
 use Rattle.clap.specs.declared.error.kind.ErrorKind.{ErrorKind}
 use Rattle.clap.specs.declared.error.kind.ErrorKind.TheVariants.{DisplayHelp, DisplayVersion}
-use Rattle.sf_policy.specs.declared.fault.Fault.TheVariants.{Memory, TooLarge, Write}
+use Rattle.sf_policy.specs.declared.fault.Fault.TheVariants.{Memory, TooLarge, TooManyRows, Write}
 use Rattle.sf_command_line.specs.CommandLine.{errors_at, subcommand_at}
 use Rattle.sf_evaluate.specs.Faults.{IsOther}
 use Rattle.sf_evaluate.specs.declared.fault.Fault.{Fault}
@@ -79,6 +79,8 @@ RefusesAsAsked holds words fault =
     (fault ≡ Other Memory) ⊎ (fault ≡ Other Write)
     ⊎ ((errors_at words ≡ []) × RefusesAs holds (subcommand_at words) fault)
 
--- what the words ask for takes decision diagrams with more nodes than they allow
+-- what the words ask for takes decision diagrams with more nodes than they allow, or with too many rows
 abbrev pub IsTooLarge : (Text → Option Text) → List Text → Type 0
-IsTooLarge holds words = (nodes : ℕ) × RefusesAsAsked holds words (Other (TooLarge nodes))
+IsTooLarge holds words =
+    ((nodes : ℕ) × RefusesAsAsked holds words (Other (TooLarge nodes)))
+    ⊎ RefusesAsAsked holds words (Other TooManyRows)

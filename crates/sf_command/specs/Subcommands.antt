@@ -12,7 +12,7 @@ use Rattle.sf_relations.specs.declared.relation.Relation.TheVariants.{Looser, Ti
 use Rattle.sf_command_line.specs.Options.{ArePaths, IsOptionNumber, IsSwitch}
 use Rattle.sf_command.specs.Audits.{AskedData, AuditsFiles, RefusesAudit}
 use Rattle.sf_command.specs.Comparisons.{ComparesFiles, RefusesComparison, WantedData}
-use Rattle.sf_command.specs.Diagrams.{RefusesStack}
+use Rattle.sf_command.specs.Diagrams.{RefusesList, RefusesStack}
 use Rattle.sf_command.specs.Listings.{ListsFiles}
 use Rattle.sf_command.specs.Needs.{TellsNeeds}
 use Rattle.sf_command.specs.declared.listing.ListingForm.{ListingForm}
@@ -232,7 +232,7 @@ RefusesOnStack holds named fault = ByName
     (λ rows. OnCalls holds rows fault (OnPaths (codes "old") rows (λ old. OnPaths (codes "new") rows
     (λ new. OnNodes rows (λ nodes. RefusesComparison holds old new nodes fault)))))
     (λ rows. OnCalls holds rows fault (OnPaths (codes "filters") rows
-    (λ paths. OnNodes rows (λ nodes. RefusesStack holds paths nodes fault))))
+    (λ paths. OnNodes rows (λ nodes. RefusesList holds paths nodes fault))))
     (λ rows. OnPaths (codes "filters") rows (λ paths. OnNodes rows (λ nodes. RefusesStack holds paths nodes fault)))
     (λ rows. ⊥)
     named

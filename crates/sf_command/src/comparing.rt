@@ -2,7 +2,7 @@
 
 ghost use Rattle.std.specs.Prelude.{◌≡◌, ◌≤◌, ◌⊎◌, map, option_map, IfOk, IfErr, OnOk};
 ghost use Rattle.std.specs.Io.KnownBytes.{Appends};
-ghost use Rattle.sf_policy.specs.declared.fault.Fault.TheVariants.{Memory as MemoryFault, Read as ReadFault, TooLarge as TooLargeFault, Write as WriteFault};
+ghost use Rattle.sf_policy.specs.declared.fault.Fault.TheVariants.{Memory as MemoryFault, Read as ReadFault, TooLarge as TooLargeFault, TooManyRows, Write as WriteFault};
 ghost use Rattle.sf_command.specs.Comparisons.{ComparesFiles, RefusesComparison, WritesCompared, changed_output, comparison_output};
 ghost use Rattle.sf_evaluate.specs.Files.{AreKeptFiles, HasUnknown};
 
@@ -118,8 +118,8 @@ fn write_rows<O: Write>(
 
 /// Writes what is found of two stacks. If `task.terms.rows`, the rows of what changes are written too. `Write` where
 /// writing fails (a beginning may be written then). `TooLarge` where the diagrams of the rows would have more nodes
-/// than are allowed, or where there would be too many rows; `Memory` where the text can't be built; nothing is written
-/// then.
+/// than are allowed; `TooManyRows` where there would be too many rows, or a word is tested too often; `Memory` where
+/// the text can't be built; nothing is written then.
 fn write_compared<O: Write>(
     alloc: Global,
     comparison: &Comparison,
@@ -133,7 +133,7 @@ fn write_compared<O: Write>(
         })
         comparison.now (O.contents out.old) (O.contents out.new)) }
     ensures refused { IfErr result (λ e. (e ≡ WriteFault)
-        ⊎ (((e ≡ MemoryFault) ⊎ (e ≡ TooLargeFault task.now.terms.nodes))
+        ⊎ (((e ≡ MemoryFault) ⊎ ((e ≡ TooLargeFault task.now.terms.nodes) ⊎ (e ≡ TooManyRows)))
         × (out.new ≡ out.old))) }
 {
     let (sets, calls, json) = (task.sets, task.calls, task.terms.json);
@@ -151,7 +151,8 @@ fn write_compared<O: Write>(
 ///
 /// Refusals, tried in this order: `Read` where a file can't be read or is too long; what `compare` of `sf_compare`
 /// refuses, for the old files and then for the new ones, and `TooLarge` where the diagrams would have more nodes than
-/// `task.terms.nodes`; `Write` where standard output can't be written (a beginning of the text may be written then).
+/// `task.terms.nodes`; `TooManyRows` where the rows that the task asks for would be too many, or a word is tested too
+/// often for them; `Write` where standard output can't be written (a beginning of the text may be written then).
 /// `Memory` can come anywhere. After any error but `Write` nothing is written.
 pub fn compare<F: Files, O: Write>(
     alloc: Global,

@@ -2,10 +2,10 @@
 
 ghost use Rattle.std.specs.Prelude.{◌≡◌, ◌⊎◌, IfErr, OnOk, map, option_map};
 ghost use Rattle.std.specs.Io.KnownBytes.{Appends};
-ghost use Rattle.sf_policy.specs.declared.fault.Fault.TheVariants.{Memory as MemoryFault, Write as WriteFault};
+ghost use Rattle.sf_policy.specs.declared.fault.Fault.TheVariants.{Memory as MemoryFault, TooManyRows, Write as WriteFault};
 ghost use Rattle.sf_policy.specs.Filters.{IsFirstRefusal};
 ghost use Rattle.sf_list.specs.Listings.{IsListing, Listed};
-ghost use Rattle.sf_command.specs.Diagrams.{FailsAnyhow, RefusesStack};
+ghost use Rattle.sf_command.specs.Diagrams.{FailsAnyhow, RefusesList};
 ghost use Rattle.sf_command.specs.Listings.{ListsFiles, is_digest, listing_output};
 
 use crate::warnings::warnings_of_listing;
@@ -96,8 +96,8 @@ fn list_stack<O: Write>(
         (option_map (λ v. map (λ t. t.now) v.items) calls.now) found
         × Appends (O.contents out.old) (O.contents out.new)
         (listing_output task.now.form task.now.sets.now found)) }
-    ensures refused { IfErr result (λ e. IsFirstRefusal (map (λ f. f.items) filters.now) e
-        ⊎ FailsAnyhow task.now.nodes e) }
+    ensures refused { IfErr result (λ e. (e ≡ TooManyRows)
+        ⊎ (IsFirstRefusal (map (λ f. f.items) filters.now) e ⊎ FailsAnyhow task.now.nodes e)) }
     ensures quiet { IfErr result (λ e. (e ≡ WriteFault) ⊎ (out.new ≡ out.old)) }
 {
     let listing = sf_list::list(alloc, task.nodes, filters, task.sets, calls)?;
@@ -110,9 +110,9 @@ fn list_stack<O: Write>(
 /// warnings.
 ///
 /// Refusals, tried in this order: `Read` where a file can't be read or is too long; what `stack_of` refuses; `TooLarge`
-/// where the diagrams would have more nodes than `task.nodes`, or where there would be too many rows; `Write` where
-/// standard output can't be written (a beginning of the text may be written then). `Memory` can come anywhere. After
-/// any error but `Write` nothing is written.
+/// where the diagrams would have more nodes than `task.nodes`, or `TooManyRows` where there would be too many rows, or
+/// a word is tested too often; `Write` where standard output can't be written (a beginning of the text may be written
+/// then). `Memory` can come anywhere. After any error but `Write` nothing is written.
 pub fn list<F: Files, O: Write>(
     alloc: Global,
     task: &ListingTask<'_, '_, '_>,
@@ -123,7 +123,7 @@ pub fn list<F: Files, O: Write>(
     ensures written { OnOk result (ListsFiles (F.holds files.old) task.now.paths.now
         task.now.sets.now (option_map (λ v. map (λ t. t.now) v.items) task.now.calls.now)
         task.now.form (O.contents out.old) (O.contents out.new)) }
-    ensures refused { IfErr result (RefusesStack (F.holds files.old) task.now.paths.now
+    ensures refused { IfErr result (RefusesList (F.holds files.old) task.now.paths.now
         task.now.nodes) }
     ensures quiet { IfErr result (λ e. (e ≡ WriteFault) ⊎ (out.new ≡ out.old)) }
 {

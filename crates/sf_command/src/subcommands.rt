@@ -4,7 +4,7 @@ ghost use Rattle.clap.specs.Words.{first_of, found_of, one_of, rows_of};
 ghost use Rattle.sf_policy.specs.declared.fault.Fault.TheVariants.{Write as WriteFault};
 ghost use Rattle.sf_command.specs.Audits.{AskedData, RefusesAudit};
 ghost use Rattle.sf_command.specs.Comparisons.{RefusesComparison};
-ghost use Rattle.sf_command.specs.Diagrams.{RefusesStack};
+ghost use Rattle.sf_command.specs.Diagrams.{RefusesList, RefusesStack};
 ghost use Rattle.sf_evaluate.specs.Names.{RefusesNaming};
 ghost use Rattle.sf_evaluate.specs.Outputs.{RefusesCheck};
 ghost use Rattle.sf_command.specs.Subcommands.{AreNamed, Audits, Checks, Compares, Evaluates, RunsAs, IsAskedFor, IsAskedForm, IsAskedRelation, Lists, Needs, OnCalls, OnNames, OnNodes, OnPaths, RefusesEval, RefusesOnStack, relation_of_rows, relation_named};
@@ -299,7 +299,7 @@ fn run_list<F: Files, O: Write>(
         (rows_of (found_of found.now)) e
         (OnPaths (codes "filters") (rows_of (found_of found.now))
         (λ paths. OnNodes (rows_of (found_of found.now))
-        (λ nodes. RefusesStack (F.holds files.old) paths nodes e)))) }
+        (λ nodes. RefusesList (F.holds files.old) paths nodes e)))) }
 {
     let names = names_of(alloc, found, files, notes)?;
     let calls = known_calls(alloc, found, &names, notes)?;

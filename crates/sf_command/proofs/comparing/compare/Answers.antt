@@ -1,6 +1,6 @@
 use Rattle.std.proofs.Common.{inr, map}
-use Rattle.sf_command.proofs.DiagramLemmas.{comparison_why, unread_comparison}
-use Rattle.sf_command.proofs.RefusalLemmas.{without_second, without_third}
+use Rattle.sf_command.proofs.DiagramLemmas.{comparison_why, unread_comparison, unwritten_rows}
+use Rattle.sf_command.proofs.RefusalLemmas.{without_second}
 use Rattle.sf_evaluate.specs.FilesLaws.{handed_on}
 use Rattle.sf_evaluate.specs.KeptLaws.{kept_stack}
 use Rattle.sf_command.proofs.comparing.compare.Goals as goal
@@ -34,7 +34,8 @@ returns-in_err-old-clause-refused g c =
 pub returns-in_err-write_compared-clause-refused : goal.returns-in_err-write_compared-clause-refused
 returns-in_err-write_compared-clause-refused g c =
     handed_on _ c.from_residual-in_err-write_compared.result c.in_err-write_compared.field-0.0
-    c.from_residual-in_err-write_compared.ensures.1 (inr (inr (without_third c.in_err-write_compared.ensures.refused)))
+    c.from_residual-in_err-write_compared.ensures.1
+    (inr (inr (unwritten_rows _ _ _ c.in_err-write_compared.ensures.refused)))
 
 pub returns-in_err-write_compared-clause-quiet : goal.returns-in_err-write_compared-clause-quiet
 returns-in_err-write_compared-clause-quiet g c =

@@ -1,7 +1,7 @@
-use Rattle.std.proofs.Common.{◌∙◌, false, sym, true}
+use Rattle.std.proofs.Common.{◌∙◌, false, inr, sym, true}
 use Rattle.std.proofs.lemmas.Result.{IfErr-weaker, on_ok_weaker}
 use Rattle.sf_evaluate.specs.FilesLaws.{handed_on}
-use Rattle.sf_command.proofs.DiagramLemmas.{lists, stack_why, unread_stack}
+use Rattle.sf_command.proofs.DiagramLemmas.{list_why, lists, unread_stack}
 use Rattle.sf_command.proofs.listing.list.Goals as goal
 
 pub returns-then-is_digest-clause-written : goal.returns-then-is_digest-clause-written
@@ -11,7 +11,7 @@ returns-then-is_digest-clause-written g c = on_ok_weaker c.list_stack.result
 
 pub returns-then-is_digest-clause-refused : goal.returns-then-is_digest-clause-refused
 returns-then-is_digest-clause-refused g c = IfErr-weaker c.list_stack.result _ _
-    (λ e why. stack_why _ _ _ _ e c.in_ok-filters.ensures.read (rw c.deref.ensures.value at why))
+    (λ e why. list_why _ _ _ _ e c.in_ok-filters.ensures.read (rw c.deref.ensures.value at why))
     c.list_stack.ensures.refused
 
 pub returns-clause-written : goal.returns-clause-written
@@ -21,10 +21,10 @@ returns-clause-written g c = on_ok_weaker c.list_stack-2.result
 
 pub returns-clause-refused : goal.returns-clause-refused
 returns-clause-refused g c = IfErr-weaker c.list_stack-2.result _ _
-    (λ e why. stack_why _ _ _ _ e c.in_ok-filters.ensures.read (rw c.deref-2.ensures.value at why))
+    (λ e why. list_why _ _ _ _ e c.in_ok-filters.ensures.read (rw c.deref-2.ensures.value at why))
     c.list_stack-2.ensures.refused
 
 pub returns-in_err-filters-clause-refused : goal.returns-in_err-filters-clause-refused
 returns-in_err-filters-clause-refused g c =
     handed_on _ c.from_residual.result c.in_err-filters.field-0.0 c.from_residual.ensures.1
-    (unread_stack _ _ _ _ c.in_err-filters.ensures.refused)
+    (inr (unread_stack _ _ _ _ c.in_err-filters.ensures.refused))
