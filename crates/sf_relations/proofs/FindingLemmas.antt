@@ -18,7 +18,7 @@ use Rattle.sf_relations.specs.Relations.{AreRelated}
 use Rattle.sf_relations.specs.Numbers.{operation_of, IsExampleAt}
 use Rattle.sf_relations.specs.KeepLaws.{value_kept}
 use Rattle.sf_relations.specs.Changes.{IsChange, IsUnchanged, IsLeastChange}
-use Rattle.sf_relations.proofs.NumberLemmas.{related-not-0, not-0-related}
+use Rattle.sf_relations.specs.NumberLaws.{related-not-0, not-0-related}
 use Rattle.sf_relations.proofs.OrderLemmas.{HaveVariables, AreInputs, AreEarlierVariables, earlier-variables}
 
 -- an example is the same by the store that was

@@ -1,4 +1,3 @@
-pub mod NumberLemmas
 pub mod OrderLemmas
 pub mod FindingLemmas
 pub mod JoinLemmas

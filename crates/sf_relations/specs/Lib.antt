@@ -1,5 +1,6 @@
 pub mod Relations
 pub mod Numbers
+pub mod NumberLaws
 pub mod Order
 pub mod Changes
 pub mod Comparing

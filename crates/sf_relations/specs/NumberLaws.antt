@@ -28,7 +28,7 @@ same-action : (m n : ℕ) → action_of m ≡ action_of n → m ≡ n
 same-action m n e = sym (number-action_of m) ∙ ap action_number e ∙ number-action_of n
 
 -- two numbers of one answer are one, where each fits
-one-number : (m n : ℕ) → m < 2 ^ 32 → n < 2 ^ 32 → answer_with m ≡ answer_with n → m ≡ n
+pub one-number : (m n : ℕ) → m < 2 ^ 32 → n < 2 ^ 32 → answer_with m ≡ answer_with n → m ≡ n
 one-number m n lm ln e =
     let action : action_bits m ≡ action_bits n
     = same-action (action_bits m) (action_bits n) (ap (λ (a : Answer). a.action) e) in
@@ -85,3 +85,14 @@ not-0-related Pretended m n lm ln h = elim (cases_eq m n) [
     | inr other ↦ absurd (h (rw (ne_eqb m n ne, ne_eqb n 0x00050000 other) refl))
   ]
 ]
+
+-- answers that are related differ
+pub related-differ : (r : Relation) (a b : Answer) → AreRelated r a b → a ≢ b
+related-differ Looser a b h = λ e.
+    let same : reach_of a.action ≡ reach_of b.action = ap (λ (x : Answer). reach_of x.action) e in
+    absurd (omega (arith, same, h))
+related-differ Tighter a b h = λ e.
+    let same : reach_of a.action ≡ reach_of b.action = ap (λ (x : Answer). reach_of x.action) e in
+    absurd (omega (arith, same, h))
+related-differ Different a b h = h
+related-differ Pretended a b h = h.0
