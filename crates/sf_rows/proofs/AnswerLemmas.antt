@@ -1,40 +1,22 @@
 -- Answers by their numbers.
-use Rattle.std.proofs.Common.{◌≡◌, ℕ, ◌+◌, ◌*◌, ◌/◌, ◌%◌, ◌^◌, ◌<◌, ◌==◌, List, sym, ap, ap₂, subst, ◌∙◌, arith}
-use Rattle.std.proofs.lemmas.Bool.{cond-true, eq-eqb}
-use Rattle.std.proofs.lemmas.Nat.{and_mask, mod-pow-add}
-use Rattle.std.proofs.lemmas.Nat.Bits.{and_high}
+use Rattle.std.proofs.Common.{◌≡◌, ◌≢◌, ℕ, ◌+◌, ◌*◌, ◌%◌, ◌^◌, ◌<◌, ◌==◌, List, Some, None, refl, sym, ap, subst, ◌∙◌, inl, inr}
+use Rattle.std.specs.Prelude.{Option}
+use Rattle.std.proofs.lemmas.Bool.{cases_eq, cond-false, cond-true, eq-eqb, ne_eqb}
 use Rattle.sf_insn.specs.declared.input.Input.{Input}
 use Rattle.sf_insn.specs.Inputs.{IsInput}
 use Rattle.sf_check.specs.declared.insn.Insn.{Insn}
 use Rattle.sf_run.specs.declared.action.Answer.{Answer}
-use Rattle.sf_run.specs.Answers.{Answers, action_bits, data_bits, action_number, action_of}
-use Rattle.sf_run.specs.AnswerLaws.{number-action_of, one}
+use Rattle.sf_run.specs.Answers.{Answers}
+use Rattle.sf_run.specs.AnswerLaws.{one}
 use Rattle.sf_run.specs.Machine.{returns_of}
 use Rattle.sf_diagram.specs.Trees.{Tree, Bits, value, IsOrderedTree, IsReducedTree}
-use Rattle.sf_diagram.specs.Operations.{pair_of}
+use Rattle.sf_diagram.specs.Operations.{merged_of, pair_of}
 use Rattle.sf_behaviour.specs.Answering.{answer_with}
 use Rattle.sf_behaviour.specs.InputBits.{input_bits, input_by}
-use Rattle.sf_rows.specs.Trees.{IsAnswersTree, IsTreeOf}
-
-action-part : (n : ℕ) → action_bits n ≡ (n / 2 ^ 16 % 2 ^ 16) * 2 ^ 16
-action-part n = and_high n 16 16
-
-data-part : (n : ℕ) → data_bits n ≡ n % 2 ^ 16
-data-part n = and_mask n 16
-
-parts : (n : ℕ) → n % 2 ^ 32 ≡ action_bits n + data_bits n
-parts n = mod-pow-add n 16 16 ∙ ap₂ (λ (a b : ℕ). a + b) (sym (action-part n)) (sym (data-part n))
-
-same-action : (m n : ℕ) → action_of m ≡ action_of n → m ≡ n
-same-action m n e = sym (number-action_of m) ∙ ap action_number e ∙ number-action_of n
-
--- two numbers of one answer are one, where each fits
-pub one-number : (m n : ℕ) → m < 2 ^ 32 → n < 2 ^ 32 → answer_with m ≡ answer_with n → m ≡ n
-one-number m n lm ln e =
-    let action : action_bits m ≡ action_bits n
-    = same-action (action_bits m) (action_bits n) (ap (λ (a : Answer). a.action) e) in
-    let info : data_bits m ≡ data_bits n = ap (λ (a : Answer). a.info) e in
-    omega (arith, parts m, parts n, action, info)
+use Rattle.sf_relations.specs.declared.relation.Relation.{Relation}
+use Rattle.sf_relations.specs.Numbers.{operation_of}
+use Rattle.sf_relations.specs.NumberLaws.{not-0-related, one-number, related-differ, related-not-0}
+use Rattle.sf_rows.specs.Trees.{AreAskedFor, IsAnswersTree, IsTreeOf, change_number}
 
 -- each input has variables
 abbrev pub HaveVariables : Type 0
@@ -72,6 +54,27 @@ pub one-tree-of : (f : Bits → ℕ) (s t : Tree) → AreOneTree → IsTreeOf f 
 one-tree-of f s t trees is also =
     trees s t is.ordered is.reduced also.ordered also.reduced (λ bits. is.values bits ∙ sym (also.values bits))
 
--- nothing changes where two numbers are the same
-pub pair-same : (a b : ℕ) → a ≡ b → pair_of a b ≡ 0
-pair-same a b e = cond-true (a == b) 0 (a % 2 ^ 32 * 2 ^ 32 + b % 2 ^ 32) (eq-eqb a b e)
+-- ---- what changes
+
+-- the number of an input whose answers are asked for is that of both
+pub asked-number : (only : Option Relation) (m n : ℕ) → m < 2 ^ 32 → n < 2 ^ 32
+    → AreAskedFor only (answer_with m) (answer_with n) → (m ≢ n) × (change_number only m n ≡ pair_of m n)
+asked-number None m n lm ln h = (λ e. h (ap answer_with e), refl)
+asked-number (Some r) m n lm ln h = (
+  λ e. related-differ r (answer_with m) (answer_with n) h (ap answer_with e),
+  cond-false (merged_of (operation_of r) m n == 0) 0 (pair_of m n)
+      (ne_eqb (merged_of (operation_of r) m n) 0 (related-not-0 r m n lm ln h)),
+)
+
+-- and of another input it is 0
+pub unasked-number : (only : Option Relation) (m n : ℕ) → m < 2 ^ 32 → n < 2 ^ 32
+    → (AreAskedFor only (answer_with m) (answer_with n) → ⊥) → change_number only m n ≡ 0
+unasked-number None m n lm ln h = elim (cases_eq m n) [
+  | inl e ↦ cond-true (m == n) 0 (m % 2 ^ 32 * 2 ^ 32 + n % 2 ^ 32) (eq-eqb m n e)
+  | inr other ↦ absurd (h (λ e. other (one-number m n lm ln e)))
+]
+unasked-number (Some r) m n lm ln h = elim (cases_eq (merged_of (operation_of r) m n) 0) [
+  | inl e ↦ cond-true (merged_of (operation_of r) m n == 0) 0 (pair_of m n)
+      (eq-eqb (merged_of (operation_of r) m n) 0 e)
+  | inr other ↦ absurd (h (not-0-related r m n lm ln other))
+]

@@ -17,8 +17,9 @@ use Rattle.sf_behaviour.specs.InputBits.{input_by, input_first, input_number, nu
 use Rattle.sf_parts.specs.Words.{EndsBefore, low_number, word_number}
 use Rattle.sf_names.specs.Names.{NamesData}
 use Rattle.sf_relations.specs.declared.relation.Relation.{Relation}
+use Rattle.sf_relations.specs.NumberLaws.{one-number}
 use Rattle.sf_rows.specs.Trees.{IsAnswersTree, IsInputTree, IsTreeOf, change_number, is_named_call, unnamed_number}
-use Rattle.sf_rows.proofs.AnswerLemmas.{AreOneTree, one-number}
+use Rattle.sf_rows.proofs.AnswerLemmas.{AreOneTree}
 
 -- two inputs have the same variables of words
 abbrev pub Agree : Bits → Bits → Type 0

@@ -1,7 +1,8 @@
 -- The trees of which rows are: of the answers of a stack, and of what changes from one stack to another.
-use Rattle.std.specs.Prelude.{◌≡◌, ℕ, ◌<◌, ◌^◌, ◌==◌, ◌&&◌, Bool, List, Option, Some, None, if◌then◌else◌}
+use Rattle.std.specs.Prelude.{◌≡◌, ◌≢◌, ℕ, ◌<◌, ◌^◌, ◌==◌, ◌&&◌, Bool, List, Option, Some, None, if◌then◌else◌}
 use Rattle.std.specs.List.{list_any}
 use Rattle.sf_check.specs.declared.insn.Insn.{Insn}
+use Rattle.sf_run.specs.declared.action.Answer.{Answer}
 use Rattle.sf_run.specs.Machine.{returns_of}
 use Rattle.sf_run.specs.Answers.{IsAnswer}
 use Rattle.sf_diagram.specs.Trees.{Tree, Bits, value, IsOrderedTree, IsReducedTree, IsOrderedFrom}
@@ -11,6 +12,7 @@ use Rattle.sf_behaviour.specs.Answering.{answer_with}
 use Rattle.sf_parts.specs.Words.{EndsBefore, word_number}
 use Rattle.sf_names.specs.Names.{CallData, NamesData}
 use Rattle.sf_relations.specs.Numbers.{operation_of}
+use Rattle.sf_relations.specs.Relations.{AreRelated}
 use Rattle.sf_relations.specs.declared.relation.Relation.{Relation}
 
 -- each variable of a tree is one of an input's words, which are the words 18 to 33
@@ -37,6 +39,11 @@ abbrev pub change_number : Option Relation → (before after : ℕ) → ℕ
 change_number None before after = pair_of before after
 change_number (Some relation) before after =
     if merged_of (operation_of relation) before after == 0 then 0 else pair_of before after
+
+-- The answers to an input are asked for: they differ, or where a relation is asked for have it.
+abbrev pub AreAskedFor : Option Relation → (before after : Answer) → Type 0
+AreAskedFor None before after = before ≢ after
+AreAskedFor (Some relation) before after = AreRelated relation before after
 
 -- a call has this number
 abbrev pub is_call_number : ℕ → CallData → Bool

@@ -1,6 +1,6 @@
 //! Laws of rows, each the contract of a function that does nothing.
 
-ghost use Rattle.std.specs.Prelude.{◌≡◌, ◌≢◌, ◌↔◌, ◌==◌, ℕ, List, Contains, Option, None, count_by, if◌then◌else◌, true};
+ghost use Rattle.std.specs.Prelude.{◌≡◌, ◌≢◌, ◌↔◌, ◌==◌, ℕ, List, Contains, Option, count_by, if◌then◌else◌, true};
 ghost use Rattle.sf_insn.specs.declared.input.Input.{Input};
 ghost use Rattle.sf_insn.specs.Inputs.{IsInput};
 ghost use Rattle.sf_check.specs.declared.insn.Insn.{Insn};
@@ -14,7 +14,7 @@ ghost use Rattle.sf_names.specs.Names.{CallData, NamesData};
 ghost use Rattle.sf_relations.specs.declared.relation.Relation.{Relation};
 ghost use Rattle.sf_rows.specs.declared.subject.Subject.{Subject};
 ghost use Rattle.sf_rows.specs.declared.subject.Subject.TheVariants as subject;
-ghost use Rattle.sf_rows.specs.Trees.{IsAnswersTree, IsInputTree, IsTreeOf, change_number, is_named_call, unnamed_number};
+ghost use Rattle.sf_rows.specs.Trees.{AreAskedFor, IsAnswersTree, IsInputTree, IsTreeOf, change_number, is_named_call, unnamed_number};
 ghost use Rattle.sf_rows.specs.Rows.{IsOfCall, after_of, before_of, lies_in, rows_of, rows_of_call, hidden_number, tree_word};
 ghost use Rattle.sf_rows.specs.Shown.{IsShown, ShownData};
 
@@ -69,18 +69,18 @@ pub fn trees_have_the_answers()
     equal_values_make_equal_trees();
 }
 
-/// The tree of what changes between two stacks has 0 on each input that both answer alike. On each other input it has
-/// the number that gives both answers back.
+/// The tree of what changes between two stacks has on each input whose answers are asked for the number that gives both
+/// back, and on each other input the number that no row shows.
 pub fn trees_have_the_changes()
-    ensures same { (old new : List (List Insn)) (s t u : Tree) (d : Input) (a : Answer)
-        → IsAnswersTree old s → IsAnswersTree new t
-        → IsTreeOf (λ bits. change_number None (value s bits) (value t bits)) u → IsInput d
-        → Answers old d a → Answers new d a → value u (input_bits d)
-        ≡ hidden_number subject.Change }
-    ensures changed { (old new : List (List Insn)) (s t u : Tree) (d : Input) (a b : Answer)
-        → IsAnswersTree old s → IsAnswersTree new t
-        → IsTreeOf (λ bits. change_number None (value s bits) (value t bits)) u → IsInput d
-        → Answers old d a → Answers new d b → a ≢ b
+    ensures unasked { (only : Option Relation) (old new : List (List Insn)) (s t u : Tree)
+        (d : Input) (a b : Answer) → IsAnswersTree old s → IsAnswersTree new t
+        → IsTreeOf (λ bits. change_number only (value s bits) (value t bits)) u → IsInput d
+        → Answers old d a → Answers new d b → (AreAskedFor only a b → ⊥)
+        → value u (input_bits d) ≡ hidden_number subject.Change }
+    ensures asked { (only : Option Relation) (old new : List (List Insn)) (s t u : Tree)
+        (d : Input) (a b : Answer) → IsAnswersTree old s → IsAnswersTree new t
+        → IsTreeOf (λ bits. change_number only (value s bits) (value t bits)) u → IsInput d
+        → Answers old d a → Answers new d b → AreAskedFor only a b
         → (value u (input_bits d) ≢ hidden_number subject.Change)
         × (before_of (value u (input_bits d)) ≡ a) × (after_of (value u (input_bits d)) ≡ b) }
     ensures input { (only : Option Relation) (s t u : Tree) → IsInputTree s → IsInputTree t

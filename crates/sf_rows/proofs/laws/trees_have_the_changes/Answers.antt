@@ -1,32 +1,40 @@
-use Rattle.std.proofs.Common.{◌≡◌, ◌≢◌, ◌∙◌, ap, sym}
+use Rattle.std.proofs.Common.{◌≡◌, ◌∙◌, ap, subst, sym}
+use Rattle.sf_run.specs.declared.action.Answer.{Answer}
 use Rattle.sf_diagram.specs.Trees.{value}
+use Rattle.sf_diagram.specs.Operations.{pair_of}
 use Rattle.sf_behaviour.specs.InputBits.{input_bits}
 use Rattle.sf_behaviour.specs.Answering.{answer_with}
 use Rattle.sf_rows.specs.Rows.{after_of, before_of}
-use Rattle.sf_rows.proofs.AnswerLemmas.{has-answer, one-number, pair-same}
+use Rattle.sf_rows.specs.Trees.{AreAskedFor}
+use Rattle.sf_rows.proofs.AnswerLemmas.{asked-number, has-answer, unasked-number}
 use Rattle.sf_rows.proofs.RangeLemmas.{change-input}
 use Rattle.sf_rows.proofs.laws.trees_have_the_changes.Goals as goal
 
-pub returns-clause-same : goal.returns-clause-same
-returns-clause-same c = λ old new s t u d a is also tree input before after.
-    let bits = input_bits d in
-    let have = c.each_input_has_variables.ensures.variables in
-    let one : value s bits ≡ value t bits =
-    one-number (value s bits) (value t bits) (is.small bits) (also.small bits)
-    (has-answer old s d a have is input before ∙ sym (has-answer new t d a have also input after)) in
-    tree.values bits ∙ pair-same (value s bits) (value t bits) one
-
-pub returns-clause-changed : goal.returns-clause-changed
-returns-clause-changed c = λ old new s t u d a b is also tree input before after differ.
+pub returns-clause-unasked : goal.returns-clause-unasked
+returns-clause-unasked c = λ only old new s t u d a b is also tree input before after unasked.
     let bits = input_bits d in
     let have = c.each_input_has_variables.ensures.variables in
     let was = has-answer old s d a have is input before in
     let now = has-answer new t d b have also input after in
-    let other : value s bits ≢ value t bits = λ e. differ (sym was ∙ ap answer_with e ∙ now) in
-    let both = c.pairs_give_both_back.ensures (value s bits) (value t bits) (is.small bits) (also.small bits) other in (
-      λ e. both.0 (sym (tree.values bits) ∙ e),
-      ap before_of (tree.values bits) ∙ ap answer_with both.1 ∙ was,
-      ap after_of (tree.values bits) ∙ ap answer_with both.2 ∙ now,
+    tree.values bits
+    ∙ unasked-number only (value s bits) (value t bits) (is.small bits) (also.small bits)
+    (λ asked. unasked (subst (λ (y : Answer). AreAskedFor only a y) now
+    (subst (λ (x : Answer). AreAskedFor only x (answer_with (value t bits))) was asked)))
+
+pub returns-clause-asked : goal.returns-clause-asked
+returns-clause-asked c = λ only old new s t u d a b is also tree input before after asked.
+    let bits = input_bits d in
+    let have = c.each_input_has_variables.ensures.variables in
+    let was = has-answer old s d a have is input before in
+    let now = has-answer new t d b have also input after in
+    let found = asked-number only (value s bits) (value t bits) (is.small bits) (also.small bits)
+    (subst (λ (x : Answer). AreAskedFor only x (answer_with (value t bits))) (sym was)
+    (subst (λ (y : Answer). AreAskedFor only a y) (sym now) asked)) in
+    let number : value u bits ≡ pair_of (value s bits) (value t bits) = tree.values bits ∙ found.1 in
+    let both = c.pairs_give_both_back.ensures (value s bits) (value t bits) (is.small bits) (also.small bits) found.0 in (
+      λ e. both.0 (sym number ∙ e),
+      ap before_of number ∙ ap answer_with both.1 ∙ was,
+      ap after_of number ∙ ap answer_with both.2 ∙ now,
     )
 
 pub returns-clause-input : goal.returns-clause-input
