@@ -1,13 +1,11 @@
--- Inputs whose tree has the number that no row shows, or another; all changes; listings that show the same.
-use Rattle.std.proofs.Common.{◌≡◌, ◌≢◌, ◌∙◌, ℕ, ◌==◌, List, ◌++◌, ap, ap₂, subst, sym}
-use Rattle.std.specs.Prelude.{if◌then◌else◌, Option, None}
+-- Inputs whose tree has the number that no row shows, or another; listings that show the same.
+use Rattle.std.proofs.Common.{◌≡◌, ◌≢◌, ◌∙◌, ℕ, ◌==◌, List, ◌++◌, ap, ap₂, sym}
+use Rattle.std.specs.Prelude.{if◌then◌else◌, None}
 use Rattle.std.proofs.lemmas.Bool.{cond-false, cond-true, eq-eqb, ne_eqb}
-use Rattle.sf_diagram.specs.Trees.{Bits, Tree, value}
+use Rattle.sf_diagram.specs.Trees.{Tree}
 use Rattle.sf_policy.specs.Texts.{filters_line}
 use Rattle.sf_names.specs.Names.{NamesData}
 use Rattle.sf_rows.specs.declared.subject.Subject.TheVariants as subject
-use Rattle.sf_relations.specs.declared.relation.Relation.{Relation}
-use Rattle.sf_rows.specs.Trees.{IsTreeOf, change_number}
 use Rattle.sf_rows.specs.Rows.{rows_of}
 use Rattle.sf_rows.specs.Shown.{ShownData}
 use Rattle.sf_rows.specs.Lines.{lines_of_rows}
@@ -18,13 +16,6 @@ one-where-shown v hidden other = cond-false (v == hidden) 0 1 (ne_eqb v hidden o
 
 pub none-where-hidden : (v hidden : ℕ) → v ≡ hidden → ◌≡◌ {A = ℕ} (if v == hidden then 0 else 1) 0
 none-where-hidden v hidden same = cond-true (v == hidden) 0 1 (eq-eqb v hidden same)
-
--- where no relation is asked for, the tree is that of all changes
-pub all-changed : (only : Option Relation) (s t u : Tree)
-    → IsTreeOf (λ bits. change_number only (value s bits) (value t bits)) u → only ≡ None
-    → IsTreeOf (λ bits. change_number None (value s bits) (value t bits)) u
-all-changed only s t u is none =
-    subst (λ (o : Option Relation). IsTreeOf (λ (bits : Bits). change_number o (value s bits) (value t bits)) u) none is
 
 -- the text of listings, by the line with the size of the stack
 text_with : List NamesData → ShownData → List ℕ → List ℕ

@@ -1,6 +1,6 @@
 //! Laws of listings and of changes, each the contract of a function that does nothing.
 
-ghost use Rattle.std.specs.Prelude.{◌≡◌, ◌≢◌, ℕ, List, [], Option, Some, None, Contains, count_by, if◌then◌else◌, true};
+ghost use Rattle.std.specs.Prelude.{◌≡◌, ℕ, List, [], Option, Some, None, Contains, count_by, if◌then◌else◌, true};
 ghost use Rattle.sf_insn.specs.declared.input.Input.{Input};
 ghost use Rattle.sf_insn.specs.Inputs.{IsInput};
 ghost use Rattle.sf_check.specs.declared.insn.Insn.{Insn};
@@ -10,7 +10,7 @@ ghost use Rattle.sf_behaviour.specs.Answering.{answer_with};
 ghost use Rattle.sf_parts.specs.Rows.{RowData};
 ghost use Rattle.sf_names.specs.Names.{CallData, NamesData};
 ghost use Rattle.sf_rows.specs.declared.subject.Subject.TheVariants as subject;
-ghost use Rattle.sf_rows.specs.Trees.{is_named_call};
+ghost use Rattle.sf_rows.specs.Trees.{AreAskedFor, is_named_call};
 ghost use Rattle.sf_rows.specs.Rows.{IsOfCall, after_of, before_of, lies_in, rows_of_call, tree_word};
 ghost use Rattle.sf_policy.specs.Texts.{filters_line};
 ghost use Rattle.sf_list.specs.Listings.{IsListing, Listed, digest_line, listing_text};
@@ -72,20 +72,20 @@ pub fn each_other_input_is_listed()
     trees_have_the_answers();
 }
 
-/// Where all that changes is shown, each row by itself, an input that the two stacks answer differently lies in exactly
-/// one row, and this has both answers; an input that they answer alike lies in none.
+/// Where what changes is shown, each row by itself, an input whose two answers are asked for lies in exactly one row, and
+/// this has both; any other input lies in none. Without a relation answers are asked for that differ.
 pub fn each_change_is_listed()
     ensures none { (old new : List (List Insn)) (sets : List NamesData) (x : ChangedData)
-        (d : Input) (a : Answer) → AreChanges old new sets None x
-        → x.only ≡ None → IsInput d
-        → Answers old d a → Answers new d a → count_by (lies_in d) x.shown.rows ≡ 0 }
+        (d : Input) (a b : Answer) → AreChanges old new sets None x → IsInput d
+        → Answers old d a → Answers new d b → (AreAskedFor x.only a b → ⊥)
+        → count_by (lies_in d) x.shown.rows ≡ 0 }
     ensures one { (old new : List (List Insn)) (sets : List NamesData) (x : ChangedData)
-        (d : Input) (a b : Answer) → AreChanges old new sets None x → x.only ≡ None
-        → IsInput d → Answers old d a → Answers new d b → a ≢ b
+        (d : Input) (a b : Answer) → AreChanges old new sets None x → IsInput d
+        → Answers old d a → Answers new d b → AreAskedFor x.only a b
         → count_by (lies_in d) x.shown.rows ≡ 1 }
     ensures answers { (old new : List (List Insn)) (sets : List NamesData) (x : ChangedData)
-        (d : Input) (a b : Answer) (r : RowData) → AreChanges old new sets None x
-        → x.only ≡ None → IsInput d → Answers old d a → Answers new d b → a ≢ b
+        (d : Input) (a b : Answer) (r : RowData) → AreChanges old new sets None x → IsInput d
+        → Answers old d a → Answers new d b → AreAskedFor x.only a b
         → Contains x.shown.rows r → lies_in d r ≡ true
         → (before_of r.number ≡ a) × (after_of r.number ≡ b) }
 {
