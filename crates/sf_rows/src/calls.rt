@@ -15,7 +15,7 @@ use crate::subject::{Subject, hidden_number};
 use crate::words::{ARCH, NR};
 use sf_diagram::{Id, Node, Store};
 use sf_names::{Call, Names};
-use sf_parts::{Fault, Row, rows_of};
+use sf_parts::{Fault, ROWS, Row, rows_of};
 use std::alloc::{AllocError, Global};
 use std::marker::Model;
 
@@ -167,7 +167,9 @@ fn is_wanted(wanted: &[&str], call: &Call) -> bool
     wanted.is_empty() || is_among(wanted, call.name())
 }
 
-/// Adds the rows of a call of a set, if it is asked for. The caller's condition: the diagram is there.
+/// Adds the rows of a call of a set, if it is asked for. The caller's condition: the diagram is there. `Spent` where
+/// there would be more rows than are allowed beside those of other calls, or a word is tested more often; `Memory` where
+/// an allocation is refused.
 fn push_if_wanted<'a>(
     alloc: Global,
     into: &mut Vec<CallRow<'a>>,
@@ -183,6 +185,9 @@ fn push_if_wanted<'a>(
 {
     if is_wanted(wanted, call) {
         let rows = rows_of_call(alloc, source, names.arch(), call.number())?;
+        if rows.len() > ROWS.saturating_sub(into.len()) {
+            return Err(Fault::Spent);
+        }
         push_rows(into, names, call, rows)?;
     }
     Ok(())
@@ -211,7 +216,7 @@ fn push_set<'a>(
 
 /// The rows of the calls whose names are in `wanted`, or of all calls where `wanted` is empty: set after set, and in a
 /// set in the order of its calls. The caller's condition: the diagram is there. `Spent` where there would be more rows
-/// than are allowed, or a word is tested more often; `Memory` where an allocation is refused.
+/// than are allowed, all calls together, or a word is tested more often; `Memory` where an allocation is refused.
 pub(crate) fn call_rows<'a>(
     alloc: Global,
     source: &Source<'_>,
