@@ -1,15 +1,14 @@
 -- The parts of a word: each number is in one, which tells what comes behind it.
-use Rattle.std.proofs.Common.{◌≡◌, ◌≢◌, ℕ, zero, suc, ◌+◌, ◌<◌, ◌≤◌, ◌==◌, Bool, true, false, List, [], ◌∷◌, ◌++◌, length, map, zero-add, length-append, refl, sym, ap, ap₂, subst, ◌∙◌, inl, inr, arith}
-use Rattle.std.specs.Prelude.{◌⊎◌, ◌-◌, ◌&&◌, ◌||◌, not, All, bit_and, nat_le, if◌then◌else◌}
+use Rattle.std.proofs.Common.{◌≡◌, ℕ, suc, ◌+◌, ◌<◌, ◌≤◌, Bool, true, false, List, [], ◌∷◌, ◌++◌, length, zero-add, refl, sym, ap, ap₂, ◌∙◌, inl, inr, arith}
+use Rattle.std.specs.Prelude.{◌-◌, ◌||◌, not, All, bit_and, nat_le, if◌then◌else◌}
 use Rattle.std.specs.List.{list_any}
-use Rattle.std.proofs.lemmas.Bool.{cases_Bool, cases_lt, cond-true, cond-false, cond_both, le-leb, lt-leb, leb-true, and_left, and_right, and_from, or_from, or_left, or_right}
+use Rattle.std.proofs.lemmas.Bool.{cases_lt, cond_both, le-leb, lt-leb, and_left, and_right, and_from, or_from, or_left, or_right}
 use Rattle.std.proofs.lemmas.List.Elements.{All-nil, All-cons, All-head, All-tail}
 use Rattle.std.proofs.lemmas.List.Folds.{list_any-append}
-use Rattle.sf_diagram.specs.Trees.{Tree, Leaf}
+use Rattle.sf_diagram.specs.Trees.{Tree}
 use Rattle.sf_parts.specs.Words.{behind, is_same_tree}
 use Rattle.sf_parts.specs.Runs.{RunData}
 use Rattle.sf_parts.specs.Parts.{is_in_span, form_has, spans_of, part_in, longest_of, rest_in, behinds_after}
-use Rattle.sf_parts.specs.declared.form.Span.{Span}
 use Rattle.sf_parts.proofs.WordLemmas.{is_same_tree-true, is_same_tree-self}
 use Rattle.sf_parts.proofs.RunLemmas.{AreRuns}
 

@@ -1,9 +1,9 @@
 -- The rows of a tree: each input is in one, which has its number, unless this is hidden; and each row has an input.
 use Rattle.std.proofs.Common.{◌≡◌, ◌≢◌, ℕ, zero, suc, ◌+◌, ◌*◌, ◌/◌, ◌%◌, ◌-◌, ◌^◌, ◌<◌, ◌≤◌, ◌==◌, Bool, true, false, List, [], ◌∷◌, ◌++◌, length, map, take, get_or, refl, sym, ap, ap₂, subst, ◌∙◌, inl, inr, arith, add-zero, zero-add, lit≤}
-use Rattle.std.specs.Prelude.{◌⊎◌, ◌&&◌, All, count_by, not, if◌then◌else◌}
+use Rattle.std.specs.Prelude.{◌&&◌, All, count_by, not, if◌then◌else◌}
 use Rattle.std.specs.List.{flat_map, list_all}
 use Rattle.std.specs.Int.{bit_at}
-use Rattle.std.proofs.lemmas.Bool.{cases_Bool, cases_eq, cond-true, cond-false, cond_both, eqb-true, eqb-false, eq-eqb, ne_eqb, and_left, and_right, and_from}
+use Rattle.std.proofs.lemmas.Bool.{cases_Bool, cond-true, cond-false, cond_both, eqb-false, eq-eqb, ne_eqb, and_left, and_right, and_from}
 use Rattle.std.proofs.lemmas.Nat.Bits.{bit_at-lt}
 use Rattle.std.proofs.lemmas.List.{length-map, get_or-map, take_all, take_more, take-append-le, flat_map_more}
 use Rattle.std.proofs.lemmas.List.Sums.{sum_by-cons}
@@ -15,7 +15,7 @@ use Rattle.sf_parts.specs.Words.{behind, low_number, word_number, EndsBefore}
 use Rattle.sf_parts.specs.Parts.{PartData, form_has, parts_in}
 use Rattle.sf_parts.specs.Rows.{ConditionData, RowData, meets, is_in_row, rows_under}
 use Rattle.sf_parts.specs.Stored.{StoredPart, part_seen}
-use Rattle.sf_parts.proofs.WordLemmas.{low-more, ordered-weaker, value-behind}
+use Rattle.sf_parts.proofs.WordLemmas.{low-more, value-behind}
 use Rattle.sf_parts.proofs.HolderLemmas.{LeadsTo, HasNumber, holders, AreParts}
 use Rattle.sf_parts.proofs.WayLemmas.{parts_in-right}
 

@@ -1,9 +1,9 @@
 -- The runs of a word: each number is in the one that tells what comes behind it.
-use Rattle.std.proofs.Common.{◌≡◌, ◌≢◌, ℕ, zero, suc, ◌+◌, ◌-◌, ◌*◌, ◌/◌, ◌%◌, ◌^◌, ◌<◌, ◌≤◌, ◌==◌, Bool, true, false, List, [], ◌∷◌, ◌++◌, length, map, reverse, get_or, Result, Ok, Err, Option, Some, None, refl, sym, ap, ap₂, subst, ◌∙◌, inl, inr, arith, lit<, lit≤}
-use Rattle.std.specs.Prelude.{◌⊎◌, All, IfErr, MatchOption, bit_and, bit_or, nat_le, if◌then◌else◌}
+use Rattle.std.proofs.Common.{◌≡◌, ◌≢◌, ℕ, zero, suc, ◌+◌, ◌-◌, ◌*◌, ◌/◌, ◌%◌, ◌^◌, ◌<◌, ◌≤◌, ◌==◌, true, false, List, [], ◌∷◌, ◌++◌, length, map, reverse, Result, Ok, Err, Option, Some, None, refl, sym, ap, ap₂, subst, ◌∙◌, inl, inr, arith, lit<, lit≤}
+use Rattle.std.specs.Prelude.{All, IfErr, MatchOption, bit_and, bit_or, nat_le, if◌then◌else◌}
 use Rattle.std.specs.Int.{bit_at, trailing_zeros, w32}
 use Rattle.std.specs.Int.RustNames.{count_ones}
-use Rattle.std.proofs.lemmas.Bool.{cases_Bool, cases_lt, cond-true, cond-false, cond_both, eqb-true, eqb-false, ne_eqb}
+use Rattle.std.proofs.lemmas.Bool.{cases_lt, cond-true, cond-false, cond_both, eqb-true, eqb-false, ne_eqb}
 use Rattle.std.proofs.lemmas.List.{reverse-append, length-reverse, length-map, get_or-reverse}
 use Rattle.std.proofs.lemmas.Nat.{pow_pos, pow_below, mod_below, and_le_r, and_mod, or_lt}
 use Rattle.std.proofs.lemmas.Nat.Bits.{bit_at-lt, bit_at_and, bit_at_ones, bit_at_above}

@@ -1,9 +1,9 @@
 -- The ways through a word: each number is on one, which tells what comes behind it. So it is with all parts of a word.
-use Rattle.std.proofs.Common.{◌≡◌, ◌≢◌, ℕ, zero, suc, ◌+◌, ◌-◌, ◌*◌, ◌/◌, ◌%◌, ◌^◌, ◌<◌, ◌≤◌, ◌==◌, Bool, true, false, List, [], ◌∷◌, ◌++◌, length, map, refl, sym, ap, ap₂, subst, ◌∙◌, inl, inr, arith, add-zero, zero-add, lit<}
-use Rattle.std.specs.Prelude.{◌⊎◌, ◌&&◌, All, bit_and, bit_or, nat_le, if◌then◌else◌}
+use Rattle.std.proofs.Common.{◌≡◌, ◌≢◌, ℕ, suc, ◌+◌, ◌-◌, ◌*◌, ◌/◌, ◌%◌, ◌^◌, ◌<◌, ◌≤◌, ◌==◌, Bool, false, List, [], ◌∷◌, ◌++◌, length, map, refl, sym, ap, subst, ◌∙◌, inl, inr, arith, add-zero, zero-add, lit<}
+use Rattle.std.specs.Prelude.{◌⊎◌, All, bit_and, bit_or, nat_le, if◌then◌else◌}
 use Rattle.std.specs.Int.{bit_at}
 use Rattle.std.specs.Int.Bits.{and_zero_r}
-use Rattle.std.proofs.lemmas.Bool.{cases_eq, cases_order, cond-true, cond-false, cond_both, eqb-true, eqb-false, eq-eqb, ne_eqb, le-leb, lt-leb, and_left, and_right, and_from}
+use Rattle.std.proofs.lemmas.Bool.{cases_eq, cases_order, cond-true, cond-false, cond_both, eqb-true, eq-eqb, ne_eqb, le-leb, lt-leb, and_left, and_right, and_from}
 use Rattle.std.proofs.lemmas.Nat.{pow_below, and_le_r, or_lt, or_disjoint}
 use Rattle.std.proofs.lemmas.Nat.Bits.{bit_at-lt, bit_at_and, bit_at_or, bit_at-zero, bit_at-pow_same, bit_at-pow_other, and_pow, same_from_bits}
 use Rattle.std.proofs.lemmas.List.Elements.{All-nil, All-cons, All-append}

@@ -1,5 +1,5 @@
 -- The numbers of a word in runs: numbers in a row, behind which the same comes.
-use Rattle.std.specs.Prelude.{ℕ, zero, suc, ◌+◌, ◌*◌, ◌%◌, ◌^◌, ◌==◌, List, [], ◌∷◌, nat_le, if◌then◌else◌}
+use Rattle.std.specs.Prelude.{ℕ, zero, suc, ◌+◌, ◌%◌, ◌^◌, ◌==◌, List, [], ◌∷◌, nat_le, if◌then◌else◌}
 use Rattle.std.specs.Int.{bit_at, trailing_zeros, w32}
 use Rattle.std.specs.Int.RustNames.{count_ones}
 use Rattle.sf_diagram.specs.Trees.{Tree}

@@ -1,4 +1,4 @@
-use Rattle.std.proofs.Common.{map, false, ap, ◌∙◌}
+use Rattle.std.proofs.Common.{map}
 use Rattle.sf_parts.specs.Stored.{run_seen}
 use Rattle.sf_parts.proofs.StoredLemmas.{joined-by}
 use Rattle.sf_parts.proofs.parts.joined_parts.Goals as goal

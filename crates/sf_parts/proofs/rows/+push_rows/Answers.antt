@@ -1,11 +1,11 @@
-use Rattle.std.proofs.Common.{◌≡◌, ◌≢◌, ℕ, suc, ◌+◌, ◌-◌, ◌++◌, ◌∷◌, [], ◌==◌, List, length, get_or, map, take, refl, inr, sym, ap, ap₂, subst, ◌∙◌, arith}
+use Rattle.std.proofs.Common.{◌≡◌, suc, ◌+◌, ◌-◌, ◌++◌, ◌∷◌, [], ◌==◌, List, length, get_or, map, refl, inr, sym, ap, ap₂, subst, ◌∙◌, arith}
 use Rattle.std.proofs.lemmas.Result.{on_ok_weaker, err_from_is_err_and}
 use Rattle.std.proofs.lemmas.List.{append-nil}
 use Rattle.sf_diagram.specs.Stores.{tree_at}
 use Rattle.sf_parts.specs.Parts.{parts_in}
 use Rattle.sf_parts.specs.Rows.{ConditionData, RowData}
 use Rattle.sf_parts.specs.Stored.{StoredPart, part_seen}
-use Rattle.sf_parts.proofs.RowLemmas.{rows_behind, rows-leaf, rows-none, rows-outside, rows-all, rows-step, conditions-back}
+use Rattle.sf_parts.proofs.RowLemmas.{rows-leaf, rows-none, rows-outside, rows-all, rows-step, conditions-back}
 use Rattle.sf_parts.specs.declared.rows.TheConstants.{ROWS}
 use Rattle.sf_parts.specs.declared.word.TheConstants.{TESTS}
 use Rattle.sf_parts.proofs.RunLemmas.{err-more}

@@ -1,9 +1,8 @@
-use Rattle.std.proofs.Common.{◌≡◌, ℕ, suc, ◌+◌, ◌-◌, ◌^◌, ◌<◌, ◌≤◌, ◌==◌, true, false, List, length, sym, ap, subst, ◌∙◌, arith}
-use Rattle.std.specs.Int.{bit_at}
+use Rattle.std.proofs.Common.{◌≡◌, ℕ, suc, ◌+◌, ◌-◌, ◌^◌, ◌≤◌, true, false, List, length, sym, ap, subst, ◌∙◌, arith}
 use Rattle.std.proofs.lemmas.Result.{on_ok_weaker, err_from_is_err_and}
 use Rattle.std.proofs.lemmas.Nat.{pow_pos}
 use Rattle.sf_diagram.specs.Stores.{tree_at}
-use Rattle.sf_parts.specs.Runs.{RunData, runs_before, with_run}
+use Rattle.sf_parts.specs.Runs.{RunData, with_run}
 use Rattle.sf_parts.specs.Stored.{runs_seen}
 use Rattle.sf_parts.proofs.RunLemmas.{runs-none, runs-outside, runs-skip, runs-more, runs-made, runs-higher, err-more, power}
 use Rattle.sf_parts.proofs.runs.+push_runs.Goals as goal

@@ -1,4 +1,3 @@
-use Rattle.std.proofs.Common.{◌≡◌, ◌+◌, ◌≤◌, length, arith}
 use Rattle.sf_diagram.specs.Stores.{tree_at}
 use Rattle.sf_parts.proofs.RunLemmas.{option-more, few-listed, runs-over}
 use Rattle.sf_parts.proofs.runs.runs_of.Goals as goal
