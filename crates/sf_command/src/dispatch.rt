@@ -128,8 +128,8 @@ fn run_words<R: Threads + Wait + Sync, F: Files, M: Meter, O: Write, E: Write>(
 /// - 1: the control of an audit holds, but an allowed question has a name that isn't accepted; or the relation that is
 ///   asked for is found; or some filter is spare.
 /// - 2: the control of an audit doesn't hold; or nothing gives status 1, and some question is unsettled. Or `list`,
-///   `compare` or `needed` would take more nodes of decision diagrams than are allowed, or there would be too many rows:
-///   standard output is left as it was then, and one line on standard error says so.
+///   `compare` or `needed` would take more nodes of decision diagrams than are allowed, or too many rows: standard
+///   output is left as it was then, and one line on standard error says so.
 /// - 3: the filters, a policy, a profile, a file of names, the file of `--accept`, a name behind `--calls`, `--call` or
 ///   `--arch`, or the input is refused. Standard output is left as it was.
 /// - 4: the command line is refused. No file was read, standard output is left as it was, and standard error has the

@@ -22,9 +22,9 @@ const LINE: usize = 96;
 const TOO_LARGE: u16 = 32;
 
 /// The exit status of a fault. It is 2 for `TooLarge` and `TooManyRows`: nothing is wrong, but more nodes or rows are
-/// needed than are allowed. It is 3 where the filters, a policy, a profile, a file of names, the file of `--accept`, the input, or the name of a
-/// call or of a set of calls is refused. It is 5 where reading, writing or memory fails: these faults have the numbers
-/// from 50.
+/// needed than are allowed. It is 3 where the filters, a policy, a profile, a file of names, the file of `--accept`,
+/// the input, or the name of a call or of a set of calls is refused. It is 5 where reading, writing or memory fails:
+/// these faults have the numbers from 50.
 fn status_of(fault: &Fault) -> u8
     ensures { result ≡ fault_status (fault_number fault.now) }
 {

@@ -72,8 +72,8 @@ pub fn each_other_input_is_listed()
     trees_have_the_answers();
 }
 
-/// Where what changes is shown, each row by itself, an input whose two answers are asked for lies in exactly one row, and
-/// this has both; any other input lies in none. Without a relation answers are asked for that differ.
+/// Where what changes is shown, each row by itself, an input whose two answers are asked for lies in exactly one row,
+/// and this has both; any other input lies in none. Without a relation answers are asked for that differ.
 pub fn each_change_is_listed()
     ensures none { (old new : List (List Insn)) (sets : List NamesData) (x : ChangedData)
         (d : Input) (a b : Answer) → AreChanges old new sets None x → IsInput d

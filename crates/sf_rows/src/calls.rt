@@ -168,7 +168,7 @@ fn is_wanted(wanted: &[&str], call: &Call) -> bool
 }
 
 /// Adds the rows of a call of a set, if it is asked for. The caller's condition: the diagram is there. `Spent` where
-/// there would be more rows than are allowed beside those of other calls, or a word is tested more often; `Memory` where
+/// there would be more rows than are allowed, with those of other calls, or a word is tested more often; `Memory` where
 /// an allocation is refused.
 fn push_if_wanted<'a>(
     alloc: Global,

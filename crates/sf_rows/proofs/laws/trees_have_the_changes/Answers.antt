@@ -31,7 +31,8 @@ returns-clause-asked c = λ only old new s t u d a b is also tree input before a
     (subst (λ (x : Answer). AreAskedFor only x (answer_with (value t bits))) (sym was)
     (subst (λ (y : Answer). AreAskedFor only a y) (sym now) asked)) in
     let number : value u bits ≡ pair_of (value s bits) (value t bits) = tree.values bits ∙ found.1 in
-    let both = c.pairs_give_both_back.ensures (value s bits) (value t bits) (is.small bits) (also.small bits) found.0 in (
+    let both = c.pairs_give_both_back.ensures (value s bits) (value t bits) (is.small bits) (also.small bits)
+    found.0 in (
       λ e. both.0 (sym number ∙ e),
       ap before_of number ∙ ap answer_with both.1 ∙ was,
       ap after_of number ∙ ap answer_with both.2 ∙ now,
