@@ -2,4 +2,3 @@ pub mod MeetingLemmas
 pub mod Steps
 pub mod WalkLemmas
 pub mod WordLemmas
-pub mod ReplayLemmas

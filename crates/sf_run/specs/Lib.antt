@@ -14,6 +14,3 @@ pub mod TraceLaws
 pub mod CompletionLaws
 pub mod Examples
 pub mod AnswerLaws
-pub mod Replays
-pub mod ReplayLaws
-pub mod ReplayedRouteLaws

@@ -1,16 +1,15 @@
 //! Laws of the definitions, each the contract of a function that does nothing.
 
-ghost use Rattle.std.specs.Prelude.{◌≡◌, ◌↔◌, ◌+◌, ◌*◌, ◌^◌, ◌<◌, ◌≤◌, ℕ, Bool, List, [], ◌++◌, length, reverse, Some, IsSome, All, Contains};
+ghost use Rattle.std.specs.Prelude.{◌≡◌, ◌↔◌, ◌+◌, ◌*◌, ◌≤◌, ℕ, Bool, List, ◌++◌, length, IsSome, Contains};
 ghost use Rattle.sf_insn.specs.declared.input.Input.{Input};
 ghost use Rattle.sf_insn.specs.Inputs.{IsInput};
 ghost use Rattle.sf_check.specs.declared.insn.Insn.{Insn};
 ghost use Rattle.sf_check.specs.Programs.{IsLawfulProgram};
 ghost use Rattle.sf_check.specs.Stacks.{IsLawfulStack};
 ghost use Rattle.sf_run.specs.declared.action.Answer.{Answer};
-ghost use Rattle.sf_run.specs.Machine.{outcome_of, returns_of, trace_of};
+ghost use Rattle.sf_run.specs.Machine.{outcome_of, trace_of};
 ghost use Rattle.sf_run.specs.Answers.{IsAnswer};
 ghost use Rattle.sf_run.specs.Routes.{IsRoute, IsWholeRoute};
-ghost use Rattle.sf_run.specs.Replays.{returns_along};
 ghost use Rattle.sf_run.specs.Feasible.{AreFeasibleTraces, all_inputs, feasible_traces};
 
 /// The machine is never stuck in a lawful program, and comes to a return.
@@ -36,16 +35,6 @@ pub fn traces_are_whole_routes()
 pub fn no_whole_route_begins_another()
     ensures { (programs : List (List Insn)) (a b more : List Bool) →
         IsWholeRoute programs a → IsWholeRoute programs b → a ++ more ≡ b → a ≡ b }
-{}
-
-/// In a lawful stack, a replay along the trace of an input gives the values that the programs return on it, newest
-/// first, and no truth value is left. The condition: each of these values is below 2^32. The code's values always are,
-/// but those of the definitions may be any numbers.
-pub fn traces_replay_the_returns()
-    ensures { (programs : List (List Insn)) (d : Input) → IsLawfulStack programs
-        → All (λ v. v < 2 ^ 32) (returns_of programs d)
-        → returns_along (reverse programs) (trace_of programs d)
-        ≡ Some (returns_of programs d, []) }
 {}
 
 /// A route of a lawful stack has at most 32768 + 32 * 64 truth values, and so has each trace.
