@@ -1,11 +1,4 @@
-use Rattle.std.proofs.Common.{◌≡◌, ◌≢◌, ℕ, suc, ◌+◌, ◌<◌, ◌≤◌, List, [], ◌∷◌, ◌++◌, length, get_or, set, arith}
-use Rattle.std.proofs.lemmas.List.{get_or_append_left, get_or_push, length-map, map-append, length_push, get_or-set_same, get_or-set_other, length-set}
-use Rattle.std.proofs.Math.Nat.{eq-or-lt_of_le}
-use Rattle.std.proofs.lemmas.Bool.{cases_order}
-use Rattle.sf_diagram.specs.Nodes.{stored_node}
-use Rattle.sf_diagram.specs.Index.{bucket_of, nodes_of, IsInBuckets}
-use Rattle.sf_diagram.specs.declared.index.Interned.{Interned}
-use Rattle.sf_diagram.specs.declared.index.Node.{Node}
+use Rattle.sf_diagram.proofs.Common.{◌≡◌, ◌≢◌, ℕ, suc, ◌+◌, ◌<◌, ◌≤◌, List, [], ◌∷◌, ◌++◌, length, get_or, set, arith, get_or_append_left, get_or_push, length-map, map-append, length_push, get_or-set_same, get_or-set_other, length-set, eq-or-lt_of_le, cases_order, stored_node, bucket_of, nodes_of, IsInBuckets, Interned, Node}
 
 pub length-nodes : (es : List Interned) → length (nodes_of es) ≡ length es
 length-nodes es = length-map es (λ e. e.node)

@@ -1,11 +1,5 @@
 -- The first input to which a tree gives another number than 0.
-use Rattle.std.proofs.Common.{◌≡◌, ◌≢◌, ℕ, suc, ◌<◌, ◌≤◌, ◌==◌, Bool, true, false, List, [], ◌∷◌, ◌++◌, refl, sym, ap, subst, ◌∙◌, inl, inr, arith}
-use Rattle.std.specs.Prelude.{◌||◌, if◌then◌else◌}
-use Rattle.std.proofs.Math.Path.{fun_ext}
-use Rattle.std.proofs.lemmas.Bool.{cases_order, cases_eq, eq-eqb, ne_eqb, or_right}
-use Rattle.std.proofs.lemmas.List.Folds.{list_any-append}
-use Rattle.sf_diagram.specs.Trees.{Tree, Leaf, Fork, Bits, bits_with, IsOrderedFrom}
-use Rattle.sf_diagram.specs.LeastInputs.{IsLeastNonzero}
+use Rattle.sf_diagram.proofs.Common.{◌≡◌, ◌≢◌, ℕ, suc, ◌<◌, ◌≤◌, ◌==◌, Bool, true, false, List, [], ◌∷◌, ◌++◌, refl, sym, ap, subst, ◌∙◌, inl, inr, arith, ◌||◌, if◌then◌else◌, fun_ext, cases_order, cases_eq, eq-eqb, ne_eqb, or_right, list_any-append, Tree, Leaf, Fork, Bits, bits_with, IsOrderedFrom, IsLeastNonzero}
 use Rattle.sf_diagram.proofs.TreeLemmas.{with_bit, with_bit-same, with_bit-other, value-above, value-higher}
 
 -- one more variable is true

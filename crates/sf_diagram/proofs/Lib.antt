@@ -1,3 +1,4 @@
+pub mod Common
 pub mod TreeLemmas
 pub mod NodeLemmas
 pub mod TaskLemmas

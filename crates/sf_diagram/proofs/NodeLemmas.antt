@@ -1,15 +1,5 @@
 -- Stores stay right as they grow.
-use Rattle.std.proofs.Common.{◌≡◌, ◌≢◌, ◌⊎◌, ℕ, ◌+◌, ◌<◌, ◌≤◌, List, [], ◌∷◌, ◌++◌, length, get_or, refl, sym, ap, ◌∙◌, inl, inr, arith}
-use Rattle.std.proofs.lemmas.Bool.{cases_lt}
-use Rattle.std.proofs.lemmas.List.{get_or_append_left, get_or_push, length_push}
-use Rattle.std.proofs.lemmas.List.Elements.{All-push, All-from_get_or}
-use Rattle.sf_diagram.specs.Trees.{Tree, Leaf, Fork, IsOrderedTree, IsReducedTree}
-use Rattle.sf_diagram.specs.Stores.{tree_at, AreCanonical, Stands, IsLawfulStore, KeepsTrees}
-use Rattle.sf_diagram.specs.Nodes.{stored_node, OperandsBelow, tree_of, trees_after, trees_of, IsStore}
-use Rattle.sf_diagram.specs.Remembered.{IsSound}
-use Rattle.sf_diagram.specs.declared.index.Node.{Node}
-use Rattle.sf_diagram.specs.declared.index.Node.TheVariants.{Number, Choice}
-use Rattle.sf_diagram.specs.declared.task.Remembered.{Remembered}
+use Rattle.sf_diagram.proofs.Common.{◌≡◌, ◌≢◌, ◌⊎◌, ℕ, ◌+◌, ◌<◌, ◌≤◌, Option, List, [], ◌∷◌, ◌++◌, length, get_or, refl, sym, ap, ◌∙◌, inl, inr, arith, cases_lt, get_or_append_left, get_or_push, length_push, All-push, All-from_get_or, Tree, Leaf, Fork, IsOrderedTree, IsReducedTree, tree_at, AreCanonical, Stands, IsLawfulStore, KeepsTrees, stored_node, OperandsBelow, tree_of, trees_after, trees_of, IsStore, IsSound, Node, Number, Choice, Task}
 use Rattle.sf_diagram.proofs.TaskLemmas.{remembered-keeps}
 
 trees_after-append : (older : List Tree) (ms ns : List Node)
@@ -89,7 +79,7 @@ tree-absent ns n h o new i l e =
     (sym (h.trees i (omega arith)) ∙ e))
 
 -- a sound store and one more node that is none of its nodes
-pub sound-push : (ns : List Node) (n : Node) (most : ℕ) (cache : List Remembered) → IsSound ns most cache
+pub sound-push : (ns : List Node) (n : Node) (most : ℕ) (cache : List (Option (Task × ℕ))) → IsSound ns most cache
     → OperandsBelow (length (trees_of ns)) n → IsOrderedTree (tree_of (trees_of ns) n)
     → IsReducedTree (tree_of (trees_of ns) n) → ((i : ℕ) → i < length ns → stored_node ns i ≢ n) → length ns < most
     → IsSound (ns ++ n ∷ []) most cache
@@ -120,7 +110,7 @@ sound-push ns n most cache h o ordered reduced new room =
     }
 
 -- the nodes make a lawful store
-pub lawful-store : (ns : List Node) (most : ℕ) (cache : List Remembered) → IsSound ns most cache
+pub lawful-store : (ns : List Node) (most : ℕ) (cache : List (Option (Task × ℕ))) → IsSound ns most cache
     → IsLawfulStore (record { trees = trees_of ns; most = most })
 lawful-store ns most cache h = record {
   canonical = h.store.canonical;

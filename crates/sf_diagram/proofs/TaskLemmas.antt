@@ -1,16 +1,6 @@
 -- Trees that are made of others, and what is wanted of them.
-use Rattle.std.proofs.Common.{◌≡◌, ℕ, suc, ◌<◌, ◌≤◌, Bool, true, false, List, length, refl, sym, ◌∙◌, inl, inr, arith}
-use Rattle.std.specs.Prelude.{if◌then◌else◌, All}
-use Rattle.std.proofs.lemmas.List.Elements.{All-weaker}
-use Rattle.sf_diagram.specs.Trees.{Tree, Bits, value, IsOrderedFrom, IsJoined}
-use Rattle.sf_diagram.specs.Stores.{StoreData, tree_at, IsLawfulStore, KeepsTrees}
-use Rattle.sf_diagram.specs.Tasks.{IsParted, AreBelow, wanted, HasValues, AreFrom, AreDivided}
-use Rattle.sf_diagram.specs.Remembered.{IsRemembered}
-use Rattle.sf_diagram.specs.declared.task.Task.{Task}
-use Rattle.sf_diagram.specs.declared.task.Task.TheVariants.{Choose, Merge}
-use Rattle.sf_diagram.specs.declared.task.Remembered.{Remembered}
-use Rattle.sf_diagram.specs.declared.task.Remembered.TheVariants.{Nothing, Made}
-use Rattle.sf_diagram.proofs.TreeLemmas.{value-from, ordered-from}
+use Rattle.sf_diagram.proofs.Common.{◌≡◌, ℕ, suc, ◌<◌, ◌≤◌, Option, Some, None, Bool, true, false, List, length, refl, sym, ◌∙◌, inl, inr, arith, if◌then◌else◌, All, All-weaker, Tree, Bits, value, IsOrderedFrom, IsJoined, StoreData, tree_at, IsLawfulStore, KeepsTrees, IsParted, AreBelow, wanted, HasValues, AreFrom, AreDivided, IsRemembered, Task, Choose, Merge, value_from}
+use Rattle.sf_diagram.proofs.TreeLemmas.{ordered-from}
 
 -- ---- a task in a store that grows
 
@@ -23,16 +13,16 @@ pub wanted-keeps : (a b : List Tree) (task : Task) → KeepsTrees a b → AreBel
 wanted-keeps a b (Choose test taken other) k l = rw (k.same test l.0, k.same taken l.1, k.same other l.2) refl
 wanted-keeps a b (Merge operation first second) k l = rw (k.same first l.0, k.same second l.1) refl
 
-pub remembered-keeps : (a b : List Tree) (es : List Remembered) → KeepsTrees a b → All (IsRemembered a) es
+pub remembered-keeps : (a b : List Tree) (es : List (Option (Task × ℕ))) → KeepsTrees a b → All (IsRemembered a) es
     → All (IsRemembered b) es
 remembered-keeps a b es k h = All-weaker (IsRemembered a) (IsRemembered b) one es h
   where
-    one : (e : Remembered) → IsRemembered a e → IsRemembered b e
-    one Nothing h = tt
-    one (Made task id) h = (
-      below-more (length a) (length b) task h.0 k.longer,
+    one : (e : Option (Task × ℕ)) → IsRemembered a e → IsRemembered b e
+    one None h = tt
+    one (Some p) h = (
+      below-more (length a) (length b) p.0 h.0 k.longer,
       omega (arith, h.1, k.longer),
-      rw (wanted-keeps a b task k h.0, k.same id h.1) h.2,
+      rw (wanted-keeps a b p.0 k h.0, k.same p.1 h.1) h.2,
     )
 
 -- a tree of a store is ordered from the first variable on that matters to its values
@@ -47,7 +37,7 @@ made-ordered s id n f lawful l is from =
 rule-from : (g : ℕ → ℕ → ℕ → ℕ) (n : ℕ) (a b c : Tree) → IsOrderedFrom n a → IsOrderedFrom n b → IsOrderedFrom n c
     → AreFrom n (λ x. g (value a x) (value b x) (value c x))
 rule-from g n a b c oa ob oc x y same =
-    rw (value-from a n oa x y same, value-from b n ob x y same, value-from c n oc x y same) refl
+    rw (value_from a n oa x y same, value_from b n ob x y same, value_from c n oc x y same) refl
 
 pub rule-divided : (g : ℕ → ℕ → ℕ → ℕ) (v : ℕ) (a a0 a1 b b0 b1 c c0 c1 : Tree) → IsParted v a a0 a1
     → IsParted v b b0 b1 → IsParted v c c0 c1 → AreDivided v (λ x. g (value a x) (value b x) (value c x))

@@ -1,9 +1,5 @@
 -- Ordered reduced trees with one value on each input are equal.
-use Rattle.std.proofs.Common.{◌≡◌, ◌≢◌, ℕ, suc, ◌<◌, ◌==◌, Bool, true, false, refl, sym, ap, ◌∙◌, inl, inr, arith}
-use Rattle.std.specs.Prelude.{if◌then◌else◌}
-use Rattle.std.proofs.lemmas.Bool.{cases_lt, cases_order}
-use Rattle.sf_diagram.specs.Trees.{Tree, Leaf, Fork, Bits, value, IsOrderedFrom, IsOrderedTree, IsReducedTree}
-use Rattle.sf_diagram.specs.Tasks.{AreFrom}
+use Rattle.sf_diagram.proofs.Common.{◌≡◌, ◌≢◌, ℕ, suc, ◌<◌, ◌==◌, Bool, true, false, refl, sym, ap, ◌∙◌, inl, inr, arith, if◌then◌else◌, cases_lt, cases_order, Tree, Leaf, Fork, Bits, value, IsOrderedFrom, IsOrderedTree, IsReducedTree, AreFrom, value_from}
 
 -- an input with one variable set to b
 abbrev pub with_bit : Bits → ℕ → Bool → Bits
@@ -15,21 +11,11 @@ with_bit-same bits v b = grind arith
 pub with_bit-other : (bits : Bits) (v : ℕ) (b : Bool) (w : ℕ) → w ≢ v → with_bit bits v b w ≡ bits w
 with_bit-other bits v b w h = grind arith
 
--- no variable below n matters to a tree that is ordered from n on
-pub value-from : (t : Tree) (n : ℕ) → IsOrderedFrom n t → AreFrom n (value t)
-value-from (Leaf c) n o x y same = refl
-value-from (Fork v p q) n o x y same =
-    rw (
-      same v o.0,
-      value-from p (suc v) o.1 x y (λ w l. same w (omega (arith, o.0, l))),
-      value-from q (suc v) o.2 x y (λ w l. same w (omega (arith, o.0, l))),
-    ) refl
-
 -- a variable above a tree does not matter to it
 pub value-above : (t : Tree) (n v : ℕ) (b : Bool) (bits : Bits) → IsOrderedFrom n t → v < n
     → value t (with_bit bits v b) ≡ value t bits
 value-above t n v b bits o l =
-    value-from t n o (with_bit bits v b) bits (λ w le. with_bit-other bits v b w (omega arith))
+    value_from t n o (with_bit bits v b) bits (λ w le. with_bit-other bits v b w (omega arith))
 
 pub value-lower : (v : ℕ) (p q : Tree) (bits : Bits) → IsOrderedFrom (suc v) p
     → value (Fork v p q) (with_bit bits v false) ≡ value p bits

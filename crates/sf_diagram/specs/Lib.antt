@@ -11,3 +11,4 @@ pub mod Index
 pub mod Remembered
 pub mod Numbers
 pub mod KeepLaws
+pub mod TreeLaws

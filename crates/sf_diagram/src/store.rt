@@ -8,7 +8,7 @@ ghost use Rattle.sf_diagram.specs.Tasks.{AreBelow, wanted, HasValues};
 
 use crate::fault::Fault;
 use crate::index::{Id, Indexed, Node};
-use crate::task::{Remembered, Task, is_same_task, place};
+use crate::task::{Task, is_same_task, place};
 use std::alloc::Global;
 use std::marker::Model;
 
@@ -20,8 +20,8 @@ const BUCKETS: usize = 1023;
 pub struct Store {
     // The nodes. The operands of each are older.
     nodes: Indexed,
-    // Results of tasks. A new one takes the place of an older one.
-    cache: Vec<Remembered>,
+    // Tasks with the nodes of their trees. A new one takes the place of an older one.
+    cache: Vec<Option<(Task, Id)>>,
     // How many nodes are allowed.
     most: u32,
 }
@@ -164,14 +164,14 @@ impl Store {
             return None;
         }
         match self.cache[place(task, self.cache.len())] {
-            Remembered::Made(known, id) => {
+            Some((known, id)) => {
                 if is_same_task(known, task) {
                     Some(id)
                 } else {
                     None
                 }
             }
-            _ => None,
+            None => None,
         }
     }
 
@@ -186,7 +186,7 @@ impl Store {
         }
         let alloc = *self.cache.allocator();
         let places = self.nodes.len().saturating_mul(2).saturating_add(1023);
-        self.cache = vec![in alloc; Remembered::Nothing; places]?;
+        self.cache = vec![in alloc; None; places]?;
         Ok(())
     }
 
@@ -204,7 +204,7 @@ impl Store {
             return Ok(());
         }
         let at = place(task, self.cache.len());
-        self.cache[at] = Remembered::Made(task, id);
+        self.cache[at] = Some((task, id));
         Ok(())
     }
 }

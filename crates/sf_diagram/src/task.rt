@@ -1,4 +1,4 @@
-//! What is to be made of trees, what there is to do for it, and what was made.
+//! What is to be made of trees, and what there is to do for it.
 
 ghost use Rattle.std.specs.Prelude.{◌≡◌, ◌<◌, true};
 
@@ -23,15 +23,6 @@ pub(crate) enum Step {
     Constant(u64),
     /// Its tree has this variable, and on its sides the trees of these tasks.
     Divided(u16, Task, Task),
-}
-
-/// A place for a result.
-#[derive(Clone, Copy, Debug, PartialEq, Eq)]
-pub(crate) enum Remembered {
-    /// No result.
-    Nothing,
-    /// The node of the task's tree.
-    Made(Task, Id),
 }
 
 /// Whether two tasks are the same one.

@@ -1,7 +1,4 @@
-use Rattle.std.proofs.lemmas.Grind.{common_steps}
-use Rattle.std.proofs.Common.{◌≡◌, ◌<◌, ◌+◌, length, get_or, arith, refl}
-use Rattle.sf_diagram.specs.Index.{bucket_of}
-use Rattle.sf_diagram.specs.declared.index.Interned.{Interned}
+use Rattle.sf_diagram.proofs.Common.{common_steps, ◌≡◌, ◌<◌, ◌+◌, length, get_or, arith, refl, bucket_of, Interned}
 use Rattle.sf_diagram.proofs.IndexLemmas.{IsInBuckets-push}
 use Rattle.sf_diagram.proofs.index.push.Goals as goal
 

@@ -1,4 +1,4 @@
-use Rattle.sf_diagram.specs.Stores.{tree_at}
+use Rattle.sf_diagram.proofs.Common.{tree_at}
 use Rattle.sf_diagram.proofs.TreeLemmas.{one-tree}
 use Rattle.sf_diagram.proofs.laws.equal_values_make_equal_ids.Goals as goal
 

@@ -1,5 +1,4 @@
-use Rattle.std.proofs.Common.{arith}
-use Rattle.std.proofs.lemmas.Bool.{ne_eqb}
+use Rattle.sf_diagram.proofs.Common.{arith, ne_eqb}
 use Rattle.sf_diagram.proofs.laws.pairs_give_both_back.Goals as goal
 
 pub returns : goal.returns

@@ -1,9 +1,4 @@
-use Rattle.std.proofs.Common.{ℕ, suc, true, false, Err, sym, ap, length, arith}
-use Rattle.std.proofs.lemmas.Result.{err_from_is_err_and}
-use Rattle.sf_diagram.specs.Trees.{Tree, Leaf, IsJoined}
-use Rattle.sf_diagram.specs.Stores.{tree_at, KeepsTrees}
-use Rattle.sf_diagram.specs.KeepLaws.{keeps_more}
-use Rattle.sf_diagram.specs.Tasks.{wanted, HasValues}
+use Rattle.sf_diagram.proofs.Common.{ℕ, suc, true, false, Err, sym, ap, length, arith, err_from_is_err_and, Tree, Leaf, IsJoined, tree_at, KeepsTrees, keeps_more, wanted, HasValues}
 use Rattle.sf_diagram.proofs.TaskLemmas.{below-more, wanted-keeps, made-ordered, joined-values}
 use Rattle.sf_diagram.proofs.SpentLemmas.{side-spent, tree-spent, fork-spent}
 use Rattle.sf_diagram.proofs.making.+make.Goals as goal

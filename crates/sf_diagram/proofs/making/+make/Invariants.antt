@@ -1,4 +1,4 @@
-use Rattle.sf_diagram.specs.Tasks.{weight}
+use Rattle.sf_diagram.proofs.Common.{weight}
 use Rattle.sf_diagram.proofs.making.+make.Given as goal
 
 abbrev pub decreases-make : goal.decreases-make

@@ -1,8 +1,4 @@
-use Rattle.std.proofs.Common.{◌≡◌, ◌+◌, ◌<◌, ap, inl, inr, arith}
-use Rattle.std.proofs.lemmas.Bool.{cases_eq}
-use Rattle.sf_diagram.specs.Stores.{tree_at}
-use Rattle.sf_diagram.specs.Choices.{chosen_of}
-use Rattle.sf_diagram.specs.Tasks.{top_variable}
+use Rattle.sf_diagram.proofs.Common.{◌≡◌, ◌+◌, ◌<◌, ap, inl, inr, arith, cases_eq, tree_at, chosen_of, top_variable}
 use Rattle.sf_diagram.proofs.TaskLemmas.{rule-divided}
 use Rattle.sf_diagram.proofs.making.choice_step.Goals as goal
 

@@ -1,4 +1,4 @@
-use Rattle.std.proofs.lemmas.Result.{err_from_is_err_and}
+use Rattle.sf_diagram.proofs.Common.{err_from_is_err_and}
 use Rattle.sf_diagram.proofs.making.choose.Goals as goal
 
 pub returns-clause-chosen : goal.returns-clause-chosen

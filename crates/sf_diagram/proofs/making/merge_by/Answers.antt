@@ -1,8 +1,4 @@
-use Rattle.std.proofs.Common.{◌+◌, ◌<◌, inl, inr, arith}
-use Rattle.std.proofs.lemmas.Bool.{cases_lt}
-use Rattle.sf_diagram.specs.Stores.{tree_at}
-use Rattle.sf_diagram.specs.Operations.{merged_of}
-use Rattle.sf_diagram.specs.Tasks.{top_variable}
+use Rattle.sf_diagram.proofs.Common.{◌+◌, ◌<◌, inl, inr, arith, cases_lt, tree_at, merged_of, top_variable}
 use Rattle.sf_diagram.proofs.TaskLemmas.{rule-divided}
 use Rattle.sf_diagram.proofs.making.merge_by.Goals as goal
 

@@ -1,4 +1,4 @@
-use Rattle.std.proofs.Common.{refl}
+use Rattle.sf_diagram.proofs.Common.{refl}
 use Rattle.sf_diagram.proofs.reading.least_input.Goals as goal
 
 pub returns-then-is_zero-clause-least : goal.returns-then-is_zero-clause-least

@@ -1,4 +1,4 @@
-use Rattle.std.proofs.Common.{length, ap, arith}
+use Rattle.sf_diagram.proofs.Common.{length, ap, arith}
 use Rattle.sf_diagram.proofs.store.Store.count.Goals as goal
 
 pub returns-clause-count : goal.returns-clause-count

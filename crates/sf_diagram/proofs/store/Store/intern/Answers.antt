@@ -1,9 +1,4 @@
-use Rattle.std.proofs.Common.{◌++◌, ◌∷◌, [], length, refl, sym, ap, ◌∙◌, arith}
-use Rattle.std.proofs.lemmas.List.{length_push, get_or_push}
-use Rattle.std.proofs.lemmas.Result.{err_from_is_err_and}
-use Rattle.sf_diagram.specs.Trees.{Leaf, IsOrderedTree, IsReducedTree}
-use Rattle.sf_diagram.specs.Nodes.{OperandsBelow, tree_of, trees_of}
-use Rattle.sf_diagram.specs.Remembered.{IsSound}
+use Rattle.sf_diagram.proofs.Common.{◌++◌, ◌∷◌, [], length, refl, sym, ap, ◌∙◌, arith, length_push, get_or_push, err_from_is_err_and, Leaf, IsOrderedTree, IsReducedTree, OperandsBelow, tree_of, trees_of, IsSound}
 use Rattle.sf_diagram.proofs.NodeLemmas.{trees_of-push, keeps_push, tree-absent, sound-push, lawful-store}
 use Rattle.sf_diagram.proofs.store.Store.intern.Goals as goal
 use Rattle.sf_diagram.proofs.store.Store.intern.Goals.{In_ok-add}

@@ -1,6 +1,4 @@
-use Rattle.std.proofs.Common.{Err, ap, ◌∙◌, inl, inr}
-use Rattle.std.proofs.lemmas.Result.{err_from_is_err_and}
-use Rattle.sf_diagram.specs.Trees.{Leaf}
+use Rattle.sf_diagram.proofs.Common.{Err, ap, ◌∙◌, inl, inr, err_from_is_err_and, Leaf}
 use Rattle.sf_diagram.proofs.SpentLemmas.{no-room-above}
 use Rattle.sf_diagram.proofs.store.Store.literal.Goals as goal
 

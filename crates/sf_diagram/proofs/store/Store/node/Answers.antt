@@ -1,5 +1,4 @@
-use Rattle.std.proofs.Common.{◌<◌, length, sym, ap, ◌∙◌, arith}
-use Rattle.sf_diagram.specs.Nodes.{tree_of, trees_of}
+use Rattle.sf_diagram.proofs.Common.{◌<◌, length, sym, ap, ◌∙◌, arith, tree_of, trees_of}
 use Rattle.sf_diagram.proofs.NodeLemmas.{lawful-store}
 use Rattle.sf_diagram.proofs.store.Store.node.Goals as goal
 
