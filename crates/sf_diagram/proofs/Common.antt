@@ -17,9 +17,9 @@ pub use Rattle.sf_diagram.specs.Nodes.{IsStore, OperandsBelow, stored_node, tree
 pub use Rattle.sf_diagram.specs.Operations.{merged_of}
 pub use Rattle.sf_diagram.specs.Remembered.{IsRemembered, IsSound}
 pub use Rattle.sf_diagram.specs.Stores.{AreCanonical, HasNoRoom, IsLawfulStore, IsSpentFor, KeepsTrees, Stands, StoreData, tree_at}
-pub use Rattle.sf_diagram.specs.Tasks.{AreBelow, AreDivided, AreFrom, HasValues, IsParted, top_variable, wanted, weight}
+pub use Rattle.sf_diagram.specs.Tasks.{AreBelow, AreDivided, AreFrom, IsParted, top_variable, wanted, weight}
 pub use Rattle.sf_diagram.specs.TreeLaws.{value_from}
-pub use Rattle.sf_diagram.specs.Trees.{Bits, Fork, IsJoined, IsOrderedFrom, IsOrderedTree, IsReducedTree, Leaf, Tree, bits_with, value}
+pub use Rattle.sf_diagram.specs.Trees.{Bits, Fork, HasValues, IsJoined, IsOrderedFrom, IsOrderedTree, IsReducedTree, Leaf, Tree, bits_with, value}
 pub use Rattle.sf_diagram.specs.declared.index.Interned.{Interned}
 pub use Rattle.sf_diagram.specs.declared.index.Node.{Node}
 pub use Rattle.sf_diagram.specs.declared.index.Node.TheVariants.{Choice, Number}

@@ -52,7 +52,7 @@ pub tree-spent : (s : StoreData) (t : Tree) (f : Bits → ℕ) → IsLawfulStore
 tree-spent s t f lawful o r is room = record {
   full = room.full;
   absent = λ id l same. room.absent id l (one-tree (tree_at s.trees id) t (lawful.canonical.ordered id l)
-      (lawful.canonical.reduced id l) o r (λ bits. same bits ∙ sym (is.each bits)));
+      (lawful.canonical.reduced id l) o r (λ bits. same bits ∙ sym (is.values bits)));
 }
 
 -- where there is no room for the fork of the sides, there is none for the whole

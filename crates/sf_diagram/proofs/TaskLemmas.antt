@@ -29,7 +29,7 @@ remembered-keeps a b es k h = All-weaker (IsRemembered a) (IsRemembered b) one e
 pub made-ordered : (s : StoreData) (id n : ℕ) (f : Bits → ℕ) → IsLawfulStore s → id < length s.trees
     → HasValues (tree_at s.trees id) f → AreFrom n f → IsOrderedFrom n (tree_at s.trees id)
 made-ordered s id n f lawful l is from =
-    ordered-from (tree_at s.trees id) n f (lawful.canonical.ordered id l) (lawful.canonical.reduced id l) is.each from
+    ordered-from (tree_at s.trees id) n f (lawful.canonical.ordered id l) (lawful.canonical.reduced id l) is.values from
 
 -- ---- by a variable
 
@@ -59,7 +59,7 @@ rule-divided g v a a0 a1 b b0 b1 c c0 c1 pa pb pc = record {
 pub joined-values : (v : ℕ) (f lower higher : Bits → ℕ) (l h t : Tree) → AreDivided v f lower higher
     → HasValues l lower → HasValues h higher → IsJoined v l h t → HasValues t f
 joined-values v f lower higher l h t d low high j = record {
-  each = λ x. joined x ∙ rw (low.each x, high.each x) (sym (d.values x));
+  values = λ x. joined x ∙ rw (low.values x, high.values x) (sym (d.values x));
 }
   where
     same-if : (b : Bool) (n : ℕ) → n ≡ (if b then n else n)

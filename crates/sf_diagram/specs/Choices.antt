@@ -1,6 +1,6 @@
 -- A tree that chooses between two others by a third.
-use Rattle.std.specs.Prelude.{◌≡◌, ℕ, zero, suc}
-use Rattle.sf_diagram.specs.Trees.{Tree, Bits, value}
+use Rattle.std.specs.Prelude.{ℕ, zero, suc}
+use Rattle.sf_diagram.specs.Trees.{Tree, Bits, value, HasValues}
 
 -- the second number where the first is not 0, else the third
 abbrev pub chosen_of : ℕ → ℕ → ℕ → ℕ
@@ -12,5 +12,5 @@ abbrev pub chosen_value : Tree → Tree → Tree → Bits → ℕ
 chosen_value test taken other bits = chosen_of (value test bits) (value taken bits) (value other bits)
 
 -- on each input the last tree has the value of `taken` where `test` is not 0, and that of `other` where `test` is 0
-pub record IsChosen (test taken other t : Tree) : Type 0 where
-  pub values : (bits : Bits) → value t bits ≡ chosen_value test taken other bits
+abbrev pub IsChosen : Tree → Tree → Tree → Tree → Type 0
+IsChosen test taken other t = HasValues t (chosen_value test taken other)

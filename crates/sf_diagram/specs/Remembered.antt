@@ -1,9 +1,9 @@
 -- Results that a store remembers.
 use Rattle.std.specs.Prelude.{ℕ, ◌<◌, ◌≤◌, List, length, All, Option, Some, None}
-use Rattle.sf_diagram.specs.Trees.{Tree}
+use Rattle.sf_diagram.specs.Trees.{Tree, HasValues}
 use Rattle.sf_diagram.specs.Stores.{tree_at}
 use Rattle.sf_diagram.specs.Nodes.{trees_of, IsStore}
-use Rattle.sf_diagram.specs.Tasks.{AreBelow, wanted, HasValues}
+use Rattle.sf_diagram.specs.Tasks.{AreBelow, wanted}
 use Rattle.sf_diagram.specs.declared.index.Node.{Node}
 use Rattle.sf_diagram.specs.declared.task.Task.{Task}
 

@@ -1,6 +1,6 @@
 -- What is to be made of trees: a choice between two by a third, or what an operation makes of two.
 use Rattle.std.specs.Prelude.{◌≡◌, ℕ, suc, ◌+◌, ◌<◌, ◌≤◌, List, length, if◌then◌else◌}
-use Rattle.sf_diagram.specs.Trees.{Tree, Leaf, Fork, Bits, value, IsOrderedFrom}
+use Rattle.sf_diagram.specs.Trees.{Tree, Leaf, Fork, Bits, value, HasValues, IsOrderedFrom}
 use Rattle.sf_diagram.specs.Stores.{tree_at}
 use Rattle.sf_diagram.specs.Choices.{chosen_value}
 use Rattle.sf_diagram.specs.Merges.{merged_value}
@@ -35,10 +35,6 @@ weight (Merge operation first second) = first + second
 abbrev pub wanted : List Tree → Task → Bits → ℕ
 wanted ts (Choose test taken other) = chosen_value (tree_at ts test) (tree_at ts taken) (tree_at ts other)
 wanted ts (Merge operation first second) = merged_value operation (tree_at ts first) (tree_at ts second)
-
--- the tree has these numbers on inputs
-pub record HasValues (t : Tree) (f : Bits → ℕ) : Type 0 where
-  pub each : (bits : Bits) → value t bits ≡ f bits
 
 -- inputs that agree from variable n on have one number
 abbrev pub AreFrom : ℕ → (Bits → ℕ) → Type 0

@@ -20,6 +20,10 @@ abbrev pub value : Tree → Bits → ℕ
 value (Leaf number) bits = number
 value (Fork variable lower higher) bits = if bits variable then value higher bits else value lower bits
 
+-- the tree has these numbers on inputs
+pub record HasValues (t : Tree) (f : Bits → ℕ) : Type 0 where
+  pub values : (bits : Bits) → value t bits ≡ f bits
+
 -- no variable is less than n, and each is greater than those above it
 abbrev pub IsOrderedFrom : ℕ → Tree → Type 0
 IsOrderedFrom n (Leaf number) = Unit {0}

@@ -1,10 +1,11 @@
 //! Trees that are made of others: a choice between two by a third, and what an operation makes of two.
 
 ghost use Rattle.std.specs.Prelude.{◌≡◌, ◌<◌, ◌≤◌, min, length, IfOk, IfErr};
+ghost use Rattle.sf_diagram.specs.Trees.{HasValues};
 ghost use Rattle.sf_diagram.specs.Stores.{tree_at, KeepsStore, IsLawfulStore, IsSpentFor};
 ghost use Rattle.sf_diagram.specs.Choices.{chosen_value, IsChosen};
 ghost use Rattle.sf_diagram.specs.Merges.{merged_value, IsMerged};
-ghost use Rattle.sf_diagram.specs.Tasks.{top_variable, IsParted, AreBelow, wanted, HasValues, IsStepFor};
+ghost use Rattle.sf_diagram.specs.Tasks.{top_variable, IsParted, AreBelow, wanted, IsStepFor};
 
 use crate::fault::Fault;
 use crate::index::{Id, Node};
@@ -177,8 +178,7 @@ pub fn choose(store: &mut Store, test: Id, taken: Id, other: Id) -> Result<Id, F
         (chosen_value (tree_at store.old.trees test) (tree_at store.old.trees taken)
         (tree_at store.old.trees other))) }
 {
-    let id = make(store, Task::Choose(test, taken, other))?;
-    Ok(id)
+    make(store, Task::Choose(test, taken, other))
 }
 
 /// The tree whose value on each input is what the operation makes of the values of two trees. The caller's condition:
@@ -196,6 +196,5 @@ pub fn merge(store: &mut Store, operation: Operation, first: Id, second: Id) -> 
         (merged_value operation (tree_at store.old.trees first)
         (tree_at store.old.trees second))) }
 {
-    let id = make(store, Task::Merge(operation, first, second))?;
-    Ok(id)
+    make(store, Task::Merge(operation, first, second))
 }

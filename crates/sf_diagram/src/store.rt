@@ -1,10 +1,10 @@
 //! A store of decision trees, in which equal trees are one node.
 
 ghost use Rattle.std.specs.Prelude.{◌≡◌, ◌≢◌, ◌↔◌, suc, ◌<◌, ◌≤◌, length, OnErr, IfOk, IfErr, IfSome};
-ghost use Rattle.sf_diagram.specs.Trees.{Leaf, Fork, IsJoined, IsOrderedTree, IsOrderedFrom, IsReducedTree};
+ghost use Rattle.sf_diagram.specs.Trees.{Leaf, Fork, HasValues, IsJoined, IsOrderedTree, IsOrderedFrom, IsReducedTree};
 ghost use Rattle.sf_diagram.specs.Stores.{empty_store, tree_at, KeepsStore, IsLawfulStore, HasNoRoom};
 ghost use Rattle.sf_diagram.specs.Nodes.{OperandsBelow, tree_of};
-ghost use Rattle.sf_diagram.specs.Tasks.{AreBelow, wanted, HasValues};
+ghost use Rattle.sf_diagram.specs.Tasks.{AreBelow, wanted};
 
 use crate::fault::Fault;
 use crate::index::{Id, Indexed, Node};

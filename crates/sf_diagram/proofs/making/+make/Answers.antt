@@ -78,7 +78,7 @@ returns-in_err-leaf-in-Constant-clause-spent t c =
     rw (p.1, p.2, c.in_err-leaf-in-Constant.ensures.err) (λ e.
     tree-spent c.args.store.now (Leaf c.in-Constant.number) (wanted c.args.store.now.trees c.args.task)
     c.in-Constant.ensures.lawful tt tt
-    (record { each = λ x. sym (c.in-Constant.ensures.step x) })
+    (record { values = λ x. sym (c.in-Constant.ensures.step x) })
     (c.in_err-leaf-in-Constant.ensures.spent.0 (ap Err e)))
 
 pub returns-in_err-low-clause-spent : goal.returns-in_err-low-clause-spent
