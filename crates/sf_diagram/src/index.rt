@@ -32,7 +32,7 @@ pub(crate) struct Interned {
 }
 
 /// The hash of a node, which is the number of its bucket: equal nodes have the same one. The factors only spread the
-/// nodes over the buckets. The caller's condition: there are buckets.
+/// nodes over the buckets.
 fn hash(node: Node, buckets: usize) -> usize
     requires { 0 < buckets }
     ensures value { result ≡ bucket_of buckets node }
@@ -56,8 +56,7 @@ fn is_same(a: Node, b: Node) -> bool
 }
 
 /// The place of the newest node that is equal to `node`; `None` where no node is. Only the nodes in the bucket of
-/// `node` are compared with it, the newest first. The caller's condition: `heads` and the links are right for the
-/// nodes, as `Indexed` keeps them.
+/// `node` are compared with it, the newest first.
 fn place_of(interned: &[Interned], heads: &[u32], node: Node) -> Option<usize>
     requires indexed { IsInBuckets interned.now heads.now }
     ensures found { IfSome result (λ i. (i < length (nodes_of interned.now))
@@ -77,9 +76,7 @@ fn place_of(interned: &[Interned], heads: &[u32], node: Node) -> Option<usize>
     None
 }
 
-/// Adds a node at the end, and makes it the newest of its bucket. `AllocError` where an allocation is refused; nothing
-/// changes then. The caller's conditions: `heads` and the links are right for the nodes so far, as `Indexed` keeps
-/// them, and there are fewer than 2^32 - 1 nodes.
+/// Adds a node at the end, and makes it the newest of its bucket.
 fn push(interned: &mut Vec<Interned>, heads: &mut [u32], node: Node) -> Result<(), AllocError>
     requires indexed { IsInBuckets interned.old.items heads.old }
     requires room { length interned.old.items + 1 < 2 ^ 32 }
@@ -118,8 +115,7 @@ impl Model for Indexed {
 }
 
 impl Indexed {
-    /// No nodes, and so many buckets. `AllocError` where an allocation is refused. The caller's condition: that is not
-    /// none.
+    /// No nodes, and so many buckets.
     pub(crate) fn new(alloc: Global, buckets: usize) -> Result<Indexed, AllocError>
         requires { 0 < buckets }
         ensures { IfOk result (λ n. n ≡ []) }
@@ -137,7 +133,7 @@ impl Indexed {
         self.interned.len()
     }
 
-    /// The node at place `i`. The caller's condition: there is one.
+    /// The node at place `i`.
     pub(crate) fn node(&self, i: usize) -> Node
         requires { i < length self.now }
         ensures { result ≡ stored_node self.now i }
@@ -155,8 +151,7 @@ impl Indexed {
         place_of(self.interned.as_slice(), self.heads.as_slice(), node)
     }
 
-    /// Adds a node at the end; the buckets stay. `AllocError` where an allocation is refused; nothing changes then. The
-    /// caller's condition: there are fewer than 2^32 - 1 nodes.
+    /// Adds a node at the end; the buckets stay.
     fn push(&mut self, node: Node) -> Result<(), AllocError>
         requires { length self.old + 1 < 2 ^ 32 }
         ensures ok { OnOk result (self.new ≡ self.old ++ node ∷ []) }
@@ -166,8 +161,7 @@ impl Indexed {
         Ok(())
     }
 
-    /// The same nodes in twice as many buckets and one more. `AllocError` where an allocation is refused. The caller's
-    /// condition: there are fewer than 2^32 nodes and buckets.
+    /// The same nodes in twice as many buckets and one more.
     fn with_more_buckets(&self) -> Result<Indexed, AllocError>
         requires { length self.now < 2 ^ 32 }
         ensures { IfOk result (λ n. n ≡ self.now) }
@@ -180,8 +174,7 @@ impl Indexed {
         Ok(bigger)
     }
 
-    /// Adds a node at the end, even if an equal one is there. `AllocError` where an allocation is refused; nothing
-    /// changes then. The caller's condition: there are fewer than 2^32 - 1 nodes.
+    /// Adds a node at the end, even if an equal one is there.
     pub(crate) fn add(&mut self, node: Node) -> Result<(), AllocError>
         requires { length self.old + 1 < 2 ^ 32 }
         ensures ok { OnOk result (self.new ≡ self.old ++ node ∷ []) }

@@ -1,4 +1,6 @@
-//! Ordered reduced decision diagrams over bits, with numbers at their leaves.
+//! Ordered reduced decision diagrams over bits, with numbers at their leaves. A call fails with `Spent` where it would
+//! take one more node than are allowed, and with `Memory` or `AllocError` where an allocation is refused; a call that
+//! makes a tree may have added nodes then.
 #![tactic(auto)]
 
 mod fault;

@@ -13,7 +13,7 @@ use crate::operation::Operation;
 use crate::store::Store;
 use crate::task::{Step, Task};
 
-/// The lesser of a variable and that of a node. The caller's condition: there is such a node.
+/// The lesser of a variable and that of a node.
 fn lesser(store: &Store, variable: u16, id: Id) -> u16
     requires { id < length store.now.trees }
     ensures { result ≡ min variable (top_variable (tree_at store.now.trees id)) }
@@ -24,8 +24,7 @@ fn lesser(store: &Store, variable: u16, id: Id) -> u16
     }
 }
 
-/// Where a node leads if a variable is false, and if it is true. The caller's conditions: the node is there, and its
-/// variable is not less.
+/// Where a node leads if a variable is false, and if it is true.
 fn split(store: &Store, id: Id, variable: u16) -> (Id, Id)
     requires within { id < length store.now.trees }
     requires above { variable ≤ top_variable (tree_at store.now.trees id) }
@@ -42,8 +41,7 @@ fn split(store: &Store, id: Id, variable: u16) -> (Id, Id)
     }
 }
 
-/// What there is to do for a choice. The caller's condition: the three nodes are there. For the prover: the store is
-/// lawful.
+/// What there is to do for a choice. For the prover: the store is lawful.
 fn choice_step(store: &Store, test: Id, taken: Id, other: Id) -> Step
     requires { AreBelow (length store.now.trees) (Task.Choose test taken other) }
     ensures step { IsStepFor store.now.trees (Task.Choose test taken other) result }
@@ -72,8 +70,7 @@ fn choice_step(store: &Store, test: Id, taken: Id, other: Id) -> Step
     )
 }
 
-/// What there is to do for a merge of two nodes that are not both leaves. The caller's conditions: the two are there,
-/// and the variable is the lesser one of theirs.
+/// What there is to do for a merge of two nodes that are not both leaves.
 fn merge_by(store: &Store, operation: Operation, first: Id, second: Id, variable: u16) -> Step
     requires below { AreBelow (length store.now.trees) (Task.Merge operation first second) }
     requires least { variable ≡ min (top_variable (tree_at store.now.trees first))
@@ -95,8 +92,7 @@ fn merge_by(store: &Store, operation: Operation, first: Id, second: Id, variable
     )
 }
 
-/// What there is to do for a merge. The caller's condition: the two nodes are there. For the prover: the store is
-/// lawful.
+/// What there is to do for a merge. For the prover: the store is lawful.
 fn merge_step(store: &Store, operation: Operation, first: Id, second: Id) -> Step
     requires { AreBelow (length store.now.trees) (Task.Merge operation first second) }
     ensures step { IsStepFor store.now.trees (Task.Merge operation first second) result }
@@ -119,7 +115,7 @@ fn merge_step(store: &Store, operation: Operation, first: Id, second: Id) -> Ste
     }
 }
 
-/// What there is to do for a task. The caller's condition: its nodes are there. For the prover: the store is lawful.
+/// What there is to do for a task. For the prover: the store is lawful.
 fn step_of(store: &Store, task: Task) -> Step
     requires { AreBelow (length store.now.trees) task }
     ensures step { IsStepFor store.now.trees task result }
@@ -131,8 +127,7 @@ fn step_of(store: &Store, task: Task) -> Step
     }
 }
 
-/// The tree of a task. The caller's condition: its nodes are there. `Spent` where a node of the tree would be one more
-/// than are allowed, `Memory` where an allocation is refused; nodes may have been added then.
+/// The tree of a task.
 fn make(store: &mut Store, task: Task) -> Result<Id, Fault>
     requires { AreBelow (length store.old.trees) task }
     ensures within { IfOk result (λ id. id < length store.new.trees) }
@@ -161,9 +156,7 @@ fn make(store: &mut Store, task: Task) -> Result<Id, Fault>
     Ok(joined)
 }
 
-/// The tree that has the value of `taken` where `test` is not 0, and the value of `other` where `test` is 0. The
-/// caller's condition: the three are there. `Spent` where a node of the tree would be one more than are allowed,
-/// `Memory` where an allocation is refused; nodes may have been added then.
+/// The tree that has the value of `taken` where `test` is not 0, and the value of `other` where `test` is 0.
 pub fn choose(store: &mut Store, test: Id, taken: Id, other: Id) -> Result<Id, Fault>
     requires test { test < length store.old.trees }
     requires taken { taken < length store.old.trees }
@@ -181,9 +174,7 @@ pub fn choose(store: &mut Store, test: Id, taken: Id, other: Id) -> Result<Id, F
     make(store, Task::Choose(test, taken, other))
 }
 
-/// The tree whose value on each input is what the operation makes of the values of two trees. The caller's condition:
-/// the two are there. `Spent` where a node of the tree would be one more than are allowed, `Memory` where an allocation
-/// is refused; nodes may have been added then.
+/// The tree whose value on each input is what the operation makes of the values of two trees.
 pub fn merge(store: &mut Store, operation: Operation, first: Id, second: Id) -> Result<Id, Fault>
     requires first { first < length store.old.trees }
     requires second { second < length store.old.trees }

@@ -17,8 +17,7 @@ fn is_true(variables: &[u16], variable: u16) -> bool
     variables.iter().any(|v| *v == variable)
 }
 
-/// The number to which an input leads from a node. Of the input are given the variables that are true. The caller's
-/// condition: there is such a node.
+/// The number to which an input leads from a node. Of the input are given the variables that are true.
 pub fn value_of(store: &Store, id: Id, variables: &[u16]) -> u64
     requires { id < length store.now.trees }
     ensures { result ≡ value (tree_at store.now.trees id) (bits_with variables.now) }
@@ -35,7 +34,7 @@ pub fn value_of(store: &Store, id: Id, variables: &[u16]) -> u64
     }
 }
 
-/// Whether the tree is the leaf 0. The caller's condition: there is such a node.
+/// Whether the tree is the leaf 0.
 fn is_zero(store: &Store, id: Id) -> bool
     requires { id < length store.now.trees }
     ensures zero { result ≡ true → tree_at store.now.trees id ≡ Leaf 0 }
@@ -47,8 +46,7 @@ fn is_zero(store: &Store, id: Id) -> bool
     }
 }
 
-/// The variables that are true in the first input to which a tree gives another number than 0, the greatest first. The
-/// caller's conditions: there is such a node, and its tree is not the leaf 0. `Memory` where an allocation is refused.
+/// The variables that are true in the first input to which a tree gives another number than 0, the greatest first.
 fn least_of(alloc: Global, store: &Store, id: Id) -> Result<Vec<u16>, Fault>
     requires within { id < length store.now.trees }
     requires some { tree_at store.now.trees id ≢ Leaf 0 }
@@ -73,7 +71,7 @@ fn least_of(alloc: Global, store: &Store, id: Id) -> Result<Vec<u16>, Fault>
 
 /// The variables that are true in the first input to which a tree gives another number than 0, the greatest first;
 /// `None` where it gives 0 to each input. Inputs are ordered by the least variable at which they differ: first comes
-/// the one where it is false. The caller's condition: there is such a node. `Memory` where an allocation is refused.
+/// the one where it is false.
 pub fn least_input(alloc: Global, store: &Store, id: Id) -> Result<Option<Vec<u16>>, Fault>
     requires { id < length store.now.trees }
     ensures least { IfOk result (λ found. MatchOption found

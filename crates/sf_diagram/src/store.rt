@@ -41,7 +41,7 @@ impl Model for Store {
 }
 
 impl Store {
-    /// A store without trees, which takes at most `most` nodes. `Memory` where an allocation is refused.
+    /// A store without trees, which takes at most `most` nodes.
     pub fn new(alloc: Global, most: u32) -> Result<Store, Fault>
         ensures store { IfOk result (λ s. s ≡ empty_store most) }
         ensures memory { IfErr result (λ e. e ≡ Fault.Memory) }
@@ -61,7 +61,7 @@ impl Store {
         self.nodes.len()
     }
 
-    /// The node at a place. The caller's condition: there is one.
+    /// The node at a place.
     pub fn node(&self, id: Id) -> Node
         requires { id < length self.now.trees }
         ensures tree { tree_at self.now.trees id ≡ tree_of self.now.trees result }
@@ -71,9 +71,7 @@ impl Store {
         self.nodes.node(id as usize)
     }
 
-    /// The node: one that is there already, or a new one. The caller's conditions: its operands are there, and its tree
-    /// is ordered and reduced. `Spent` where it would be one more than are allowed, `Memory` where an allocation is
-    /// refused; nothing changes then.
+    /// The node: one that is there already, or a new one.
     fn intern(&mut self, node: Node) -> Result<Id, Fault>
         requires operands { OperandsBelow (length self.old.trees) node }
         requires ordered { IsOrderedTree (tree_of self.old.trees node) }
@@ -98,8 +96,7 @@ impl Store {
         Ok(at as Id)
     }
 
-    /// The leaf with this number: one that is there already, or a new one. `Spent` where it would be one more node than
-    /// are allowed, `Memory` where an allocation is refused; nothing changes then.
+    /// The leaf with this number: one that is there already, or a new one.
     pub fn leaf(&mut self, number: u64) -> Result<Id, Fault>
         ensures within { IfOk result (λ id. id < length self.new.trees) }
         ensures tree { IfOk result (λ id. tree_at self.new.trees id ≡ Leaf number) }
@@ -112,9 +109,7 @@ impl Store {
     }
 
     /// The tree that leads to `lower` where the variable is false, and to `higher` where it is true: a fork, or, where
-    /// the two are the same, this one. The caller's conditions: the two are there, and their variables are greater.
-    /// `Spent` where the fork would be one more node than are allowed, `Memory` where an allocation is refused; nothing
-    /// changes then.
+    /// the two are the same, this one.
     pub fn fork(&mut self, variable: u16, lower: Id, higher: Id) -> Result<Id, Fault>
         requires lower { lower < length self.old.trees }
         requires higher { higher < length self.old.trees }
@@ -137,8 +132,7 @@ impl Store {
         self.intern(Node::Choice(variable, lower, higher))
     }
 
-    /// The tree that is 1 where the variable is true, else 0. `Spent` where a node would be one more than are allowed,
-    /// `Memory` where an allocation is refused; leaves may have been added then.
+    /// The tree that is 1 where the variable is true, else 0.
     pub fn literal(&mut self, variable: u16) -> Result<Id, Fault>
         ensures within { IfOk result (λ id. id < length self.new.trees) }
         ensures tree { IfOk result (λ id.
@@ -175,8 +169,7 @@ impl Store {
         }
     }
 
-    /// Makes room for as many results as there are nodes, and forgets all results if there was less. `Memory` where an
-    /// allocation is refused.
+    /// Makes room for as many results as there are nodes, and forgets all results if there was less.
     fn make_room(&mut self) -> Result<(), Fault>
         ensures same { self.new ≡ self.old }
         ensures memory { IfErr result (λ e. e ≡ Fault.Memory) }
@@ -190,8 +183,7 @@ impl Store {
         Ok(())
     }
 
-    /// Remembers the node of a task's tree. `Memory` where an allocation is refused. The caller's conditions: all nodes
-    /// are there, and this is the tree of the task.
+    /// Remembers the node of a task's tree.
     pub(crate) fn remember(&mut self, task: Task, id: Id) -> Result<(), Fault>
         requires below { AreBelow (length self.old.trees) task }
         requires within { id < length self.old.trees }

@@ -32,7 +32,7 @@ pub(crate) fn is_same_task(a: Task, b: Task) -> bool
     a == b
 }
 
-/// A number below `places`, which only spreads tasks over the places. The caller's condition: there are places.
+/// A number below `places`, which only spreads tasks over the places.
 pub(crate) fn place(task: Task, places: usize) -> usize
     requires { 0 < places }
     ensures { result < places }
