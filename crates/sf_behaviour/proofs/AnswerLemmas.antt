@@ -1,5 +1,5 @@
 -- Diagrams of numbers, and their fold to an answer.
-use Rattle.sf_behaviour.proofs.Common.{◌≡◌, ℕ, ◌+◌, ◌*◌, ◌/◌, ◌%◌, ◌<◌, ◌≤◌, ◌^◌, Bool, true, false, List, [], ◌∷◌, ◌++◌, length, map, refl, sym, ap, ap₂, subst, ◌∙◌, arith, slice_index, if◌then◌else◌, Input, Insn, return_of, Tree, Leaf, Bits, value, tree_at, KeepsTrees, input_by, word_value, IsDiagramOf, IsWord}
+use Rattle.sf_behaviour.proofs.Common.{◌≡◌, ℕ, ◌+◌, ◌*◌, ◌/◌, ◌%◌, ◌<◌, ◌≤◌, ◌^◌, Bool, true, false, List, [], ◌∷◌, ◌++◌, length, map, refl, sym, ap, ap₂, subst, ◌∙◌, arith, bit_at, if◌then◌else◌, Input, Insn, return_of, Tree, Leaf, Bits, value, tree_at, KeepsTrees, input_by, IsDiagramOf}
 use Rattle.std.specs.Prelude.{nat_lt}
 use Rattle.std.proofs.lemmas.Nat.{and_mask, shr_le, shr-shr}
 use Rattle.std.proofs.lemmas.Nat.Bits.{and_high_mask}
@@ -15,36 +15,19 @@ use Rattle.sf_diagram.specs.declared.operation.Operation.TheVariants.{Fold}
 use Rattle.sf_behaviour.specs.Answering.{answer_with, HasAnswers, IsBehaviour}
 use Rattle.sf_behaviour.proofs.InputLemmas.{input-is}
 use Rattle.sf_behaviour.proofs.ReplacingLemmas.{less-if}
-use Rattle.sf_behaviour.proofs.WordLemmas.{bit-now, word-small}
 
 -- ---- a number, from its highest bit on
-
--- no bits
-pub number-begun : {ts : List Tree} (us : List Tree) {ids : List ℕ} (id : ℕ) (bits : Bits) → IsWord ts ids
-    → tree_at us id ≡ Leaf 0 → value (tree_at us id) bits ≡ word_value ts ids bits / 2 ^ 32
-number-begun {ts} us {ids} id bits w leaf =
-    let none : 0 ≡ word_value ts ids bits / 2 ^ 32 = omega (arith, word-small bits w) in
-    ap (λ (t : Tree). value t bits) leaf ∙ none
 
 next-bit : (q r x s v : ℕ) → q / 2 ≡ r → x ≡ q % 2 → q < 2 ^ 32 → s ≡ r → v ≡ (2 * s + x) % 2 ^ 64 → v ≡ q
 next-bit q r x s v half bit small before one = omega arith
 
 -- one bit more; m is n + 1
-pub number-more : (m n : ℕ) {ts us : List Tree} (vs : List Tree) {ids : List ℕ} (so_far new : ℕ) (bits : Bits)
-    → m ≡ n + 1
-    → n < 32 → KeepsTrees ts us → IsWord ts ids
-    → value (tree_at vs new) bits
-    ≡ (2 * value (tree_at us so_far) bits + value (tree_at us (slice_index ids n)) bits) % 2 ^ 64
-    → value (tree_at us so_far) bits ≡ word_value ts ids bits / 2 ^ m
-    → value (tree_at vs new) bits ≡ word_value ts ids bits / 2 ^ n
-number-more m n {ts} {us} vs {ids} so_far new bits e l k w one before =
-    let number : ℕ = word_value ts ids bits in
+pub number-more : (m n number : ℕ) {x s v : ℕ} → m ≡ n + 1 → number < 2 ^ 32 → x ≡ bit_at number n
+    → v ≡ (2 * s + x) % 2 ^ 64 → s ≡ number / 2 ^ m → v ≡ number / 2 ^ n
+number-more m n number {x} {s} {v} e less bit one before =
     let most : number / 2 ^ n ≤ number = shr_le number n in
-    let less : number < 2 ^ 32 = word-small bits w in
-    let small : number / 2 ^ n < 2 ^ 32 = omega (arith, most, less) in
-    next-bit (number / 2 ^ n) (number / 2 ^ m) (value (tree_at us (slice_index ids n)) bits)
-    (value (tree_at us so_far) bits) (value (tree_at vs new) bits)
-    (shr-shr number n 1 ∙ ap (λ (j : ℕ). number / 2 ^ j) (sym e)) (bit-now n bits k w l) small before one
+    next-bit (number / 2 ^ n) (number / 2 ^ m) x s v (shr-shr number n 1 ∙ ap (λ (j : ℕ). number / 2 ^ j) (sym e)) bit
+    (omega arith) before one
 
 -- all bits
 pub number-made : (n number : ℕ) → n ≡ 0 → number / 2 ^ n ≡ number
@@ -74,7 +57,7 @@ pub fold-begun : (ts : List Tree) (id : ℕ) → id < length ts → tree_at ts i
     → HasAnswers (λ bits. returns_on [] bits) ts id
 fold-begun ts id l leaf = record {
   within = l;
-  small = λ bits. subst (λ (t : Tree). value t bits < 2 ^ 32) (sym leaf) (omega arith);
+  small = λ bits. rw leaf (omega arith);
   answers = λ bits. subst (λ (t : Tree). IsAnswer [] (answer_with (value t bits))) (sym leaf) answer_none;
 }
 
@@ -82,13 +65,11 @@ fold-begun ts id l leaf = record {
 pub fold-more : (ps : List (List Insn)) (p : List Insn) (ts us vs : List Tree) (so_far id new : ℕ)
     → HasAnswers (returns_on ps) ts so_far → KeepsTrees ts us → IsDiagramOf us id (λ bits. return_of p (input_by bits))
     → ((bits : Bits) → value (tree_at us id) bits < 2 ^ 32) → new < length vs
-    → IsMerged Fold (tree_at us so_far) (tree_at us id) (tree_at vs new)
-    → HasAnswers (returns_on (ps ++ p ∷ [])) vs new
+    → IsMerged Fold (tree_at us so_far) (tree_at us id) (tree_at vs new) → HasAnswers (returns_on (ps ++ p ∷ [])) vs new
 fold-more ps p ts us vs so_far id new before k h small within merged = record {
   within = within;
-  small = λ bits. subst (λ (n : ℕ). n < 2 ^ 32) (sym (is bits))
-      (less-if (nat_lt (rank (action_bits (older bits))) (rank (action_bits (newer bits)))) (older bits) (newer bits)
-      (subst (λ (n : ℕ). n < 2 ^ 32) (h.values bits) (small bits)) (before.small bits));
+  small = λ bits. rw (is bits) (less-if (nat_lt (rank (action_bits (older bits))) (rank (action_bits (newer bits))))
+      (older bits) (newer bits) (rw (h.values bits) at (small bits)) (before.small bits));
   answers = λ bits.
       subst (λ (ns : List ℕ). IsAnswer ns (answer_with (value (tree_at vs new) bits)))
       (sym (map_push (λ (q : List Insn). return_of q (input_by bits)) ps p))

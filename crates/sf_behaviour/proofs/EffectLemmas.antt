@@ -1,30 +1,16 @@
--- The words of sources, and of what is returned before a set register or a test.
-use Rattle.sf_behaviour.proofs.Common.{◌≡◌, ℕ, suc, ◌+◌, ◌<◌, ◌^◌, ◌==◌, Bool, true, false, List, [], ◌∷◌, length, Option, Some, None, refl, sym, ap, ap₂, subst, ◌∙◌, arith, ◌&&◌, slice_get, if◌then◌else◌, Input, Equal, apply, passes, Operand, State, Tree, Leaf, Bits, value, tree_at, KeepsTrees, A, X, next_with, register_number, Known, held_in, IsKnowledge, divides, operand_in, source_in, set_progress, effect_progress, IsDiagramOf, IsTruthOf, IsWordOf, Sets, Source}
+-- A diagram that is chosen by a test, and what operations, loads and stores do to a state.
+use Rattle.sf_behaviour.proofs.Common.{◌≡◌, ℕ, suc, ◌+◌, ◌<◌, ◌==◌, Bool, true, false, List, [], ◌∷◌, length, Option, Some, None, refl, ap, ◌∙◌, arith, slice_get, if◌then◌else◌, Input, Insn, apply, Operand, State, Tree, Bits, value, tree_at, KeepsTrees, A, next_with, register_number, set_progress, effect_progress, IsEffectOf, IsDiagramOf, IsTruthOf, Sets, Source}
 use Rattle.std.specs.Prelude.{unwrap_or}
 use Rattle.std.proofs.lemmas.Option.{unwrap_or-slice_get}
 use Rattle.sf_insn.specs.declared.ops.BinOp.{BinOp}
 use Rattle.sf_insn.specs.declared.ops.BinOp.TheVariants.{Div}
-use Rattle.sf_check.specs.declared.insn.Operand.TheVariants.{Constant as Fixed, X as OfX}
-use Rattle.sf_run.specs.Machine.{goes, returns, load_progress, operation_progress, store_progress}
+use Rattle.sf_check.specs.declared.insn.Operand.TheVariants.{X as OfX}
+use Rattle.sf_check.specs.Insns.{successors}
+use Rattle.sf_run.specs.Machine.{goes, returns, insn_progress, load_progress, operation_progress, store_progress}
 use Rattle.sf_diagram.specs.Choices.{IsChosen}
-use Rattle.sf_behaviour.specs.Effects.{unmet}
+use Rattle.sf_behaviour.specs.Effects.{IsEffect, unmet}
 use Rattle.sf_behaviour.specs.declared.effects.Source.TheVariants.{Result}
-use Rattle.sf_behaviour.proofs.WordLemmas.{word-of-same, word-small}
-use Rattle.sf_behaviour.proofs.KnowledgeLemmas.{in-kept, operand-kept}
-use Rattle.sf_behaviour.proofs.ReplacingLemmas.{choice-by}
-
--- the word of an operand, made after that of a register
-pub second-word : (other : Operand) (ts us vs : List Tree) (k : Known) (ids : List ℕ) → KeepsTrees ts us
-    → IsKnowledge ts k → IsWordOf vs ids (λ bits. operand_in us k bits other)
-    → IsWordOf vs ids (λ bits. operand_in ts k bits other)
-second-word other ts us vs k ids keeps knows =
-    word-of-same (λ bits. operand_in us k bits other) (λ bits. operand_in ts k bits other)
-    (λ bits. operand-kept bits other keeps knows)
-
--- the number of a source is that of a word
-pub source-small : (source : Source) (ts us : List Tree) (k : Known) (by : List ℕ)
-    → IsWordOf us by (λ bits. source_in ts k bits source) → (bits : Bits) → source_in ts k bits source < 2 ^ 32
-source-small source ts us k by h bits = subst (λ (m : ℕ). m < 2 ^ 32) (h.values bits) (word-small bits h.word)
+use Rattle.sf_behaviour.proofs.ReplacingLemmas.{choice-if}
 
 -- one of two diagrams by a test
 pub chosen-diagram : (ts us vs : List Tree) (f : Bits → Bool) (passed one_way other_way id : ℕ) → KeepsTrees ts us
@@ -33,40 +19,15 @@ pub chosen-diagram : (ts us vs : List Tree) (f : Bits → Bool) (passed one_way 
     → IsDiagramOf vs id (λ bits. if f bits then value (tree_at ts one_way) bits else value (tree_at ts other_way) bits)
 chosen-diagram ts us vs f passed one_way other_way id k l m truth within h = record {
   within = within;
-  values = λ bits. h.values bits
-      ∙ choice-by (f bits) (value (tree_at us passed) bits) (value (tree_at us one_way) bits)
-      (value (tree_at us other_way) bits) (value (tree_at ts one_way) bits) (value (tree_at ts other_way) bits)
-      (truth.values bits) (ap (λ (t : Tree). value t bits) (k.same one_way l))
-      (ap (λ (t : Tree). value t bits) (k.same other_way m));
+  values = λ bits. h.values bits ∙ rw (truth.values bits, k.same one_way l, k.same other_way m)
+      (choice-if (f bits) (value (tree_at ts one_way) bits) (value (tree_at ts other_way) bits));
 }
 
--- what is returned where a source may divide by X
-pub guard-value : (source : Source) (ts us vs : List Tree) (k : Known) (zero_id id new : ℕ) → divides source ≡ true
-    → KeepsTrees ts us → IsKnowledge ts k → id < length ts → tree_at us zero_id ≡ Leaf 0
-    → IsDiagramOf vs new (λ bits. if passes Equal (held_in us k bits X) (operand_in us k bits (Fixed 0))
-    then value (tree_at us zero_id) bits else value (tree_at us id) bits)
-    → IsDiagramOf vs new (λ bits. if divides source && (held_in ts k bits X == 0) then 0
-    else value (tree_at ts id) bits)
-guard-value source ts us vs k zero_id id new e keeps knows l leaf h = record {
-  within = h.within;
-  values = λ bits.
-      let x : ℕ = held_in ts k bits X in
-      h.values bits
-      ∙ ap (λ (m : ℕ). if m == 0 then value (tree_at us zero_id) bits else value (tree_at us id) bits)
-      (in-kept bits X keeps knows)
-      ∙ ap₂ (λ (t u : Tree). if x == 0 then value t bits else value u bits) leaf (keeps.same id l)
-      ∙ sym (ap (λ (b : Bool). if b && (x == 0) then 0 else value (tree_at ts id) bits) e);
-}
-
-pub guard-none : (source : Source) (ts : List Tree) (k : Known) (id : ℕ) → divides source ≡ false → id < length ts
-    → IsDiagramOf ts id (λ bits. if divides source && (held_in ts k bits X == 0) then 0 else value (tree_at ts id) bits)
-guard-none source ts k id e l = record {
-  within = l;
-  values = λ bits.
-      sym (ap (λ (b : Bool). if b && (held_in ts k bits X == 0) then 0 else value (tree_at ts id) bits) e);
-}
-
--- ---- steps
+-- the effect of an instruction that sets a register and goes on to the next place
+pub effect-by : {i : Insn} {r : ℕ} {source : Source}
+    → ((d : Input) (s : State) → unmet (insn_progress d s i) ≡ effect_progress d s (Sets r source))
+    → ((at : ℕ) → successors at i ≡ (at + 1) ∷ []) → IsEffect (Sets r source) → IsEffectOf i (Sets r source)
+effect-by does leads there = record { does = does; leads = leads; there = there }
 
 -- what an operation does to a state
 pub alu-does : (op : BinOp) (other : Operand) (d : Input) (s : State)

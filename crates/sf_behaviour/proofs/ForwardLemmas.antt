@@ -1,16 +1,14 @@
 -- How what is known of places comes about, from the first place on.
-use Rattle.sf_behaviour.proofs.Common.{◌≡◌, ℕ, ◌+◌, ◌<◌, List, [], ◌∷◌, ◌++◌, length, replicate, Option, Some, None, refl, sym, ap, subst, ◌∙◌, inl, inr, arith, Contains, slice_get, slice_index, slice_set, cases_eq, same_Some, Insn, IsLawfulProgram, Tree, Bits, IsOrderedFrom, tree_at, KeepsTrees, with_register, Known, known_word, IsInputWord, IsKnowledge, IsLess, places_after, source_in, IsMet, AreSteps, word_value, IsWord, IsWordOf, Word, Step, Source}
+use Rattle.sf_behaviour.proofs.Common.{◌≡◌, ℕ, ◌+◌, ◌<◌, List, [], ◌∷◌, ◌++◌, length, replicate, Option, Some, None, sym, ap, subst, ◌∙◌, inl, inr, arith, Contains, slice_get, slice_index, cases_eq, same_Some, Insn, IsLawfulProgram, Tree, IsOrderedFrom, tree_at, KeepsTrees, with_register, Known, known_word, IsInputWord, IsKnowledge, IsLess, places_after, IsMet, AreSteps, word_value, IsWord, IsWordOf, Word, Step}
 use Rattle.std.proofs.Common.{◌⊎◌, get_or}
 use Rattle.std.proofs.lemmas.List.{get_or-replicate, length-replicate}
 use Rattle.std.proofs.lemmas.Nat.Bits.{same_from_bits_below}
 use Rattle.std.proofs.lemmas.Option.{slice_get-get_or}
 use Rattle.sf_check.specs.Insns.{IsInRange}
-use Rattle.sf_behaviour.specs.Steps.{IsSetTo}
 use Rattle.sf_behaviour.specs.Telling.{IsStep}
-use Rattle.sf_behaviour.proofs.WordLemmas.{bit-of-word, number-kept, word-of-same, word-small}
+use Rattle.sf_behaviour.proofs.WordLemmas.{bit-of-word, word-small}
 use Rattle.sf_behaviour.proofs.VariableLemmas.{past-registers, value-agrees, with-other}
 use Rattle.sf_behaviour.proofs.RegisterLemmas.{some-within}
-use Rattle.sf_behaviour.proofs.KnowledgeLemmas.{source-kept}
 use Rattle.sf_behaviour.proofs.StepsLemmas.{at-push, leads-later, steps-kept}
 
 -- ---- words that depend on the input alone
@@ -25,21 +23,6 @@ input-word ts ids w ordered = record {
       (λ i l. bit-of-word (with_register r n bits) i w l
       ∙ value-agrees (tree_at ts (slice_index ids i)) 576 (with_register r n bits) bits (ordered i l)
       (λ v le. with-other r n v bits (past-registers r v there le)) ∙ sym (bit-of-word bits i w l));
-}
-
--- what is known behind a step that sets a register
-pub set-to : (ts us : List Tree) (k : Known) (r : ℕ) (source : Source) (word : Option Word) → KeepsTrees ts us
-    → IsKnowledge ts k
-    → ((w : Word) → word ≡ Some w → IsInputWord us w.bits × IsWordOf us w.bits (λ bits. source_in ts k bits source))
-    → IsSetTo us k r source (slice_set k r word)
-set-to ts us k r source word keeps knows fixed = record {
-  word = word;
-  is = refl;
-  fixed = λ w e. (
-    (fixed w e).0,
-    word-of-same (λ bits. source_in ts k bits source) (λ bits. source_in us k bits source)
-        (λ bits. sym (source-kept bits source keeps knows)) (fixed w e).1,
-  );
 }
 
 -- ---- what steps that lead to a place have in common
@@ -64,35 +47,26 @@ met-more steps i place old new step at before here stays q s l e to = elim (case
 
 -- ---- the first place
 
--- where all registers have one word
-the-word : (word w : Word) (k : Known) (r : ℕ) → k ≡ replicate 18 (Some word) → known_word k r ≡ Some w → word ≡ w
-the-word word w k r is e =
-    let at : known_word (replicate 18 (Some word)) r ≡ Some w
-    = subst (λ (l : Known). known_word l r ≡ Some w) is e in
-    let there : r < 18
-    = omega (arith, some-within (replicate 18 (Some word)) r w at, length-replicate 18 (Some word)) in
-    same_Some word w (sym (get_or-replicate 18 r (Some word) None there) ∙ at)
+-- all registers are known to have one word, which is 0
+abbrev pub AreZero : List Tree → Known → Type 0
+AreZero ts k = (word : Word) × (k ≡ replicate 18 (Some word)) × IsWordOf ts word.bits (λ bits. 0)
 
-pub zero-values : (ts : List Tree) (word : Word) (k : Known) (r : ℕ) (w : Word) (bits : Bits)
-    → k ≡ replicate 18 (Some word) → IsWordOf ts word.bits (λ bits. 0) → known_word k r ≡ Some w
-    → word_value ts w.bits bits ≡ 0
-zero-values ts word k r w bits is zero-is e =
-    subst (λ (v : Word). word_value ts v.bits bits ≡ 0) (the-word word w k r is e) (zero-is.values bits)
+zero-word : (ts : List Tree) (k : Known) (r : ℕ) (w : Word) → AreZero ts k → known_word k r ≡ Some w
+    → IsWordOf ts w.bits (λ bits. 0)
+zero-word ts k r w z e =
+    let all : List (Option Word) = replicate 18 (Some z.0) in
+    let known : known_word all r ≡ Some w = subst (λ (l : Known). known_word l r ≡ Some w) z.1 e in
+    let there : r < 18 = omega (arith, some-within all r w known, length-replicate 18 (Some z.0)) in
+    subst (λ (v : Word). IsWordOf ts v.bits (λ bits. 0))
+    (same_Some z.0 w (sym (get_or-replicate 18 r (Some z.0) None there) ∙ known)) z.2
 
-pub zero-knowledge : (ts : List Tree) (word : Word) (k : Known) → k ≡ replicate 18 (Some word)
-    → IsWordOf ts word.bits (λ bits. 0) → IsKnowledge ts k
-zero-knowledge ts word k is zero-is = record {
-  count = ap (λ (l : Known). length l) is ∙ length-replicate 18 (Some word);
-  each = λ r w e. subst (λ (v : Word). IsInputWord ts v.bits) (the-word word w k r is e) (record {
-    word = zero-is.word;
-    same = λ q n bits there. zero-is.values (with_register q n bits) ∙ sym (zero-is.values bits);
-  });
+pub zero-knowledge : (ts : List Tree) (k : Known) → AreZero ts k → IsKnowledge ts k
+zero-knowledge ts k z = record {
+  count = ap (λ (l : Known). length l) z.1 ∙ length-replicate 18 (Some z.0);
+  each = λ r w e.
+      let zero = zero-word ts k r w z e in
+      record { word = zero.word; same = λ q n bits there. zero.values (with_register q n bits) ∙ sym (zero.values bits) };
 }
-
-pub zero-kept : {ts us : List Tree} {k : Known} → KeepsTrees ts us → IsKnowledge ts k
-    → ((r : ℕ) (w : Word) (bits : Bits) → known_word k r ≡ Some w → word_value ts w.bits bits ≡ 0)
-    → (r : ℕ) (w : Word) (bits : Bits) → known_word k r ≡ Some w → word_value us w.bits bits ≡ 0
-zero-kept keeps knows zero-is r w bits e = number-kept bits keeps (knows.each r w e).word ∙ zero-is r w bits e
 
 -- ---- one step more
 
@@ -108,9 +82,8 @@ pub steps-more : (ts us : List Tree) (steps : List Step) (i : ℕ) (step : Step)
     → ((p : ℕ) (s : Step) → slice_get steps p ≡ Some s → Contains (places_after p s.effect) i
     → IsLess step.known s.after)
     → (length steps ≡ 0 → step.known ≡ start)
-    → ((r : ℕ) (w : Word) (bits : Bits) → known_word start r ≡ Some w → word_value us w.bits bits ≡ 0)
-    → AreSteps us (steps ++ step ∷ [])
-steps-more ts us steps i step start keeps are count made less first nothing = record {
+    → AreZero us start → AreSteps us (steps ++ step ∷ [])
+steps-more ts us steps i step start keeps are count made less first zero = record {
   each = λ p s e. elim (at-push steps step s p e) [
     | inl old ↦ kept.each p s old.1
     | inr new ↦ subst (λ (t : Step). IsStep us t) new.1 made
@@ -118,8 +91,8 @@ steps-more ts us steps i step start keeps are count made less first nothing = re
   less = λ p q s t at there to. by p q s t to (at-push steps step s p at) (at-push steps step t q there);
   start = λ s r w bits at e. elim (at-push steps step s 0 at) [
     | inl old ↦ kept.start s r w bits old.1 e
-    | inr new ↦ nothing r w bits (subst (λ (k : Known). known_word k r ≡ Some w) (first (sym new.0))
-        (subst (λ (t : Step). known_word t.known r ≡ Some w) (sym new.1) e))
+    | inr new ↦ (zero-word us start r w zero (subst (λ (k : Known). known_word k r ≡ Some w) (first (sym new.0))
+        (subst (λ (t : Step). known_word t.known r ≡ Some w) (sym new.1) e))).values bits
   ];
 }
   where

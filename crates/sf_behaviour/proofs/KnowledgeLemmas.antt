@@ -1,29 +1,14 @@
 -- What registers are known to have, from place to place.
-use Rattle.sf_behaviour.proofs.Common.{◌≡◌, ℕ, zero, suc, ◌<◌, ◌^◌, List, length, length-set, replicate, Option, Some, None, refl, sym, ap, ap₂, subst, ◌∙◌, inl, inr, arith, slice_index, slice_set, same_Some, get_or-set_same, get_or-set_other, cases_eq, apply, negation_of, Operand, Tree, Bits, KeepsTrees, State, start, input_by, A, X, IsRegister, register_by, with_register, start_bits, register_number, next_with, Known, known_word, held_in, IsInputWord, IsKnowledge, IsLess, source_number, operand_in, source_in, word_value, IsWord, IsWordOf, Word, Source}
+use Rattle.sf_behaviour.proofs.Common.{◌≡◌, ℕ, ◌<◌, ◌^◌, List, length, length-set, replicate, Option, Some, None, refl, sym, ap, ap₂, ◌∙◌, inl, inr, arith, slice_index, slice_set, same_Some, get_or-set_same, get_or-set_other, cases_eq, apply, negation_of, Operand, Tree, Bits, KeepsTrees, State, start, input_by, A, X, IsRegister, with_register, start_bits, next_with, Known, known_word, held_in, IsInputWord, IsKnowledge, IsLess, source_number, operand_in, source_in, word_value, IsWord, Word, Source}
 use Rattle.std.specs.Prelude.{MatchOption}
 use Rattle.std.proofs.lemmas.List.{ext_get_or}
 use Rattle.sf_check.specs.declared.insn.Operand.TheVariants.{Constant as Fixed, X as OfX}
 use Rattle.sf_run.specs.Machine.{operand_of}
 use Rattle.sf_behaviour.specs.Knowledge.{Fits}
 use Rattle.sf_behaviour.specs.declared.effects.Source.TheVariants.{Constant, Word as InputWord, Held, Negation, Result}
-use Rattle.sf_behaviour.proofs.WordLemmas.{word-kept, word-small, number-kept}
+use Rattle.sf_behaviour.proofs.WordLemmas.{set-each, word-kept, word-small, number-kept}
 use Rattle.sf_behaviour.proofs.VariableLemmas.{with-register-own, with-register-other, start-register}
-use Rattle.sf_behaviour.proofs.RegisterLemmas.{number-after, number-elsewhere, start-number, start-there}
-
--- ---- known words
-
-pub in-known : (ts : List Tree) (k : Known) (bits : Bits) (r : ℕ) (w : Word) → known_word k r ≡ Some w
-    → held_in ts k bits r ≡ word_value ts w.bits bits
-in-known ts k bits r w e = rw e refl
-
-pub in-own : (ts : List Tree) (k : Known) (bits : Bits) (r : ℕ) → known_word k r ≡ None
-    → held_in ts k bits r ≡ register_by r bits
-in-own ts k bits r e = rw e refl
-
--- the number depends on the known word alone
-in-same : (ts : List Tree) (k l : Known) (bits : Bits) (r : ℕ) → known_word k r ≡ known_word l r
-    → held_in ts k bits r ≡ held_in ts l bits r
-in-same ts k l bits r e = rw e refl
+use Rattle.sf_behaviour.proofs.RegisterLemmas.{none-there, number-after, number-elsewhere, start-number, start-there}
 
 -- a register has the word that was set
 pub set-own : (k : Known) (r : ℕ) (word : Option Word) → IsRegister r → length k ≡ 18
@@ -35,62 +20,39 @@ pub set-other : (k : Known) (r q : ℕ) (word : Option Word) → (q ≡ r → �
     → known_word (slice_set k r word) q ≡ known_word k q
 set-other k r q word ne = get_or-set_other k r q word None ne
 
--- what holds of the word that was set, and of the others, holds of each
-pub each-set : (P : ℕ → Option Word → Type 0) (k : Known) (r q : ℕ) (word : Option Word) → IsRegister r
-    → length k ≡ 18 → P r word → ((q ≡ r → ⊥) → P q (known_word k q)) → P q (known_word (slice_set k r word) q)
-each-set P k r q word there count own other = elim (cases_eq q r) [
-  | inl e ↦ subst (λ (p : ℕ). P p (known_word (slice_set k r word) p)) (sym e)
-      (subst (λ (o : Option Word). P r o) (sym (set-own k r word there count)) own)
-  | inr ne ↦ subst (λ (o : Option Word). P q o) (sym (set-other k r q word ne)) (other ne)
-]
-
 -- the variables of one register do not change the number of another one
 in-with : (ts : List Tree) (k : Known) (r q n : ℕ) (bits : Bits) → IsKnowledge ts k → IsRegister r → (q ≡ r → ⊥)
     → held_in ts k (with_register r n bits) q ≡ held_in ts k bits q
 in-with ts k r q n bits knows there ne = by (known_word k q) refl
   where
     by : (o : Option Word) → known_word k q ≡ o → held_in ts k (with_register r n bits) q ≡ held_in ts k bits q
-    by (Some w) e =
-        in-known ts k (with_register r n bits) q w e ∙ (knows.each q w e).same r n bits there
-        ∙ sym (in-known ts k bits q w e)
-    by None e =
-        in-own ts k (with_register r n bits) q e ∙ with-register-other r q n bits ne ∙ sym (in-own ts k bits q e)
+    by (Some w) e = rw e ((knows.each q w e).same r n bits there)
+    by None e = rw e (with-register-other r q n bits ne)
 
 -- ---- from one place to the next
 
 -- where a register is set, its variables have the number then; and so has its word, if it is known
-pub fits-set : (ts : List Tree) (k : Known) (bits : Bits) (s : State) (r n : ℕ) (word : Option Word)
-    → IsKnowledge ts k → IsRegister r → n < 2 ^ 32
-    → ((w : Word) → word ≡ Some w → word_value ts w.bits (with_register r n bits) ≡ n) → Fits ts k bits s
-    → Fits ts (slice_set k r word) (with_register r n bits) (next_with s r n)
+pub fits-set : (ts : List Tree) (k : Known) (bits : Bits) (s : State) (r n : ℕ) (word : Option Word) → IsKnowledge ts k
+    → IsRegister r → n < 2 ^ 32 → ((w : Word) → word ≡ Some w → word_value ts w.bits (with_register r n bits) ≡ n)
+    → Fits ts k bits s → Fits ts (slice_set k r word) (with_register r n bits) (next_with s r n)
 fits-set ts k bits s r n word knows there small is fits q m e = elim (cases_eq q r) [
-  | inl same ↦ subst (λ (p : ℕ). register_number (next_with s r n) p ≡ Some m
-      → m ≡ held_in ts (slice_set k r word) (with_register r n bits) p) (sym same)
-      (λ e'. number-after s r n m e' ∙ sym (by word refl)) e
-  | inr ne ↦
-      fits q m (sym (number-elsewhere s r q n ne) ∙ e) ∙ sym (in-with ts k r q n bits knows there ne)
-      ∙ in-same ts k (slice_set k r word) (with_register r n bits) q (sym (set-other k r q word ne))
+  | inl same ↦ rw same (number-after s r n m (rw same at e) ∙ sym (by word refl))
+  | inr ne ↦ rw (set-other k r q word ne)
+      (fits q m (sym (number-elsewhere s r q n ne) ∙ e) ∙ sym (in-with ts k r q n bits knows there ne))
 ]
   where
     by : (o : Option Word) → word ≡ o → held_in ts (slice_set k r word) (with_register r n bits) r ≡ n
-    by (Some w) e =
-        in-known ts (slice_set k r word) (with_register r n bits) r w (set-own k r word there knows.count ∙ e) ∙ is w e
-    by None e =
-        in-own ts (slice_set k r word) (with_register r n bits) r (set-own k r word there knows.count ∙ e)
-        ∙ with-register-own r n bits small
+    by (Some w) e = rw (set-own k r word there knows.count ∙ e) (is w e)
+    by None e = rw (set-own k r word there knows.count ∙ e) (with-register-own r n bits small)
 
 -- where one register more is known, its variables may have its number too
 pub fits-less : (ts : List Tree) (k : Known) (bits : Bits) (s : State) (r : ℕ) (w : Word) → IsKnowledge ts k
     → IsRegister r → known_word k r ≡ None → IsWord ts w.bits → Fits ts (slice_set k r (Some w)) bits s
     → Fits ts k (with_register r (word_value ts w.bits bits) bits) s
 fits-less ts k bits s r w knows there unknown word fits q m e = elim (cases_eq q r) [
-  | inl same ↦ subst (λ (p : ℕ). register_number s p ≡ Some m
-      → m ≡ held_in ts k (with_register r (word_value ts w.bits bits) bits) p) (sym same) (λ e'. fits r m e'
-      ∙ in-known ts (slice_set k r (Some w)) bits r w (set-own k r (Some w) there knows.count)
-      ∙ sym (with-register-own r (word_value ts w.bits bits) bits (word-small bits word))
-      ∙ sym (in-own ts k (with_register r (word_value ts w.bits bits) bits) r unknown)) e
-  | inr ne ↦
-      fits q m e ∙ in-same ts (slice_set k r (Some w)) k bits q (set-other k r q (Some w) ne)
+  | inl same ↦ rw (same, unknown) ((rw (set-own k r (Some w) there knows.count) at (fits r m (rw same at e)))
+      ∙ sym (with-register-own r (word_value ts w.bits bits) bits (word-small bits word)))
+  | inr ne ↦ (rw (set-other k r q (Some w) ne) at (fits q m e))
       ∙ sym (in-with ts k r q (word_value ts w.bits bits) bits knows there ne)
 ]
 
@@ -114,10 +76,8 @@ pub in-kept : {ts us : List Tree} {k : Known} (bits : Bits) (r : ℕ) → KeepsT
 in-kept {ts} {us} {k} bits r keeps h = by (known_word k r) refl
   where
     by : (o : Option Word) → known_word k r ≡ o → held_in us k bits r ≡ held_in ts k bits r
-    by (Some w) e =
-        in-known us k bits r w e ∙ number-kept bits keeps (h.each r w e).word
-        ∙ sym (in-known ts k bits r w e)
-    by None e = in-own us k bits r e ∙ sym (in-own ts k bits r e)
+    by (Some w) e = rw e (number-kept bits keeps (h.each r w e).word)
+    by None e = rw e refl
 
 pub fits-kept : {ts us : List Tree} {k : Known} (bits : Bits) (s : State) → KeepsTrees ts us → IsKnowledge ts k
     → Fits us k bits s → Fits ts k bits s
@@ -166,55 +126,33 @@ pub start-fits : (ts : List Tree) (k : Known) (bits : Bits)
 start-fits ts k bits nought r n e = start-number r n e ∙ by (known_word k r) refl
   where
     by : (o : Option Word) → known_word k r ≡ o → 0 ≡ held_in ts k (start_bits bits) r
-    by (Some w) f = sym (nought r w f) ∙ sym (in-known ts k (start_bits bits) r w f)
-    by None f = sym (start-register r bits (start-there r n e)) ∙ sym (in-own ts k (start_bits bits) r f)
-
--- ---- words of registers
-
-pub held-known : {ts : List Tree} {k : Known} (r : ℕ) {w : Word} → IsKnowledge ts k → known_word k r ≡ Some w
-    → IsWordOf ts w.bits (λ bits. held_in ts k bits r)
-held-known {ts} {k} r {w} knows e = record {
-  word = (knows.each r w e).word;
-  values = λ bits. sym (in-known ts k bits r w e);
-}
-
-pub held-own : (ts us : List Tree) (k : Known) (r : ℕ) (ids : List ℕ) → known_word k r ≡ None
-    → IsWordOf us ids (λ bits. register_by r bits) → IsWordOf us ids (λ bits. held_in ts k bits r)
-held-own ts us k r ids e h = record {
-  word = h.word;
-  values = λ bits. h.values bits ∙ sym (in-own ts k bits r e);
-}
+    by (Some w) f = rw f (sym (nought r w f))
+    by None f = rw f (sym (start-register r bits (start-there r n e)))
 
 -- ---- what is known more, and less
 
-pub knowledge-less : (ts : List Tree) (k l : Known) → IsLess k l → length k ≡ 18 → IsKnowledge ts l
-    → IsKnowledge ts k
+pub knowledge-less : (ts : List Tree) (k l : Known) → IsLess k l → length k ≡ 18 → IsKnowledge ts l → IsKnowledge ts k
 knowledge-less ts k l less count h = record { count = count; each = λ r w e. h.each r w (less r w e) }
 
 pub set-knowledge : (ts : List Tree) (k : Known) (r : ℕ) (word : Option Word) → IsRegister r → IsKnowledge ts k
     → ((w : Word) → word ≡ Some w → IsInputWord ts w.bits) → IsKnowledge ts (slice_set k r word)
 set-knowledge ts k r word there knows new = record {
   count = length-set k r word ∙ knows.count;
-  each = λ q. each-set (λ (p : ℕ) (o : Option Word). (w : Word) → o ≡ Some w → IsInputWord ts w.bits) k r q word there
-      knows.count new (λ ne. knows.each q);
+  each = λ q. set-each (λ (p : ℕ) (o : Option Word). (w : Word) → o ≡ Some w → IsInputWord ts w.bits) None k r word q
+      (omega (arith, there, knows.count)) new (λ ne. knows.each q);
 }
 
 pub set-less : (k l : Known) (r : ℕ) (word : Option Word) → IsRegister r → length k ≡ 18 → IsLess k l
     → ((w : Word) → word ≡ Some w → known_word l r ≡ Some w) → IsLess (slice_set k r word) l
 set-less k l r word there count less new q =
-    each-set (λ (p : ℕ) (o : Option Word). (w : Word) → o ≡ Some w → known_word l p ≡ Some w) k r q word there count new
-    (λ ne. less q)
+    set-each (λ (p : ℕ) (o : Option Word). (w : Word) → o ≡ Some w → known_word l p ≡ Some w) None k r word q
+    (omega (arith, there, count)) new (λ ne. less q)
 
 abbrev no_word : Option Word
 no_word = None
 
-nothing : (n r : ℕ) (w : Word) → known_word (replicate n no_word) r ≡ Some w → ⊥
-nothing zero r w e = cc
-nothing (suc n) zero w e = cc
-nothing (suc n) (suc r) w e = nothing n r w e
-
 pub nothing-less : (k : Known) → IsLess (replicate 18 no_word) k
-nothing-less k r w e = absurd (nothing 18 r w e)
+nothing-less k r w e = absurd (none-there no_word 18 r w refl e)
 
 pub same-known : (k l : Known) → length k ≡ 18 → length l ≡ 18
     → ((r : ℕ) → IsRegister r → known_word k r ≡ known_word l r) → k ≡ l

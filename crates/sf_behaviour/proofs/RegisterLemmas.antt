@@ -12,6 +12,13 @@ module _ {B : Type 0} where
     | inr g ↦ let clash : None ≡ Some x = sym (get_or_past xs r None g) ∙ e in absurd cc
   ]
 
+  -- nothing stands in a list of nothing
+  pub none-there : (none : Option B) (n k : ℕ) (x : B) → none ≡ None → slice_index_or (replicate n none) k None ≡ Some x
+      → ⊥
+  none-there none zero k x is e = cc
+  none-there none (suc n) zero x is e = cc
+  none-there none (suc n) (suc k) x is e = none-there none n k x is e
+
 registers-set : (s : State) (r n : ℕ) → registers_of (next_with s r n) ≡ slice_set (registers_of s) r (Some n)
 registers-set s zero n = refl
 registers-set s (suc zero) n = refl
@@ -31,23 +38,17 @@ number-after s r n m e =
     same_Some m n (sym at ∙ get_or-set_same (registers_of s) r (Some n) None within)
 
 -- a register that is not set keeps its number
-pub number-elsewhere : (s : State) (r q n : ℕ) → (q ≡ r → ⊥)
-    → register_number (next_with s r n) q ≡ register_number s q
+pub number-elsewhere : (s : State) (r q n : ℕ) → (q ≡ r → ⊥) → register_number (next_with s r n) q ≡ register_number s q
 number-elsewhere s r q n ne = number-at s r q n ∙ get_or-set_other (registers_of s) r q (Some n) None ne
 
 abbrev no_word : Option ℕ
 no_word = None
 
-unset : (n k m : ℕ) → slice_index_or (replicate n no_word) k None ≡ Some m → ⊥
-unset zero k m e = cc
-unset (suc n) zero m e = cc
-unset (suc n) (suc k) m e = unset n k m e
-
 -- at the start all registers that have a number are 0
 pub start-number : (r n : ℕ) → register_number start r ≡ Some n → n ≡ 0
 start-number zero n e = sym (same_Some 0 n e)
 start-number (suc zero) n e = sym (same_Some 0 n e)
-start-number (suc (suc k)) n e = absurd (unset 16 k n e)
+start-number (suc (suc k)) n e = absurd (none-there no_word 16 k n refl e)
 
 pub start-there : (r n : ℕ) → register_number start r ≡ Some n → IsRegister r
 start-there r n e = some-within (registers_of start) r n e

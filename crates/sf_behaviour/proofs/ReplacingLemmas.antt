@@ -1,5 +1,5 @@
 -- Diagrams in which a word stands in the place of a register.
-use Rattle.sf_behaviour.proofs.Common.{◌≡◌, ℕ, ◌<◌, ◌≤◌, ◌==◌, ◌^◌, Bool, true, false, Some, None, List, length, refl, sym, ap, subst, ◌∙◌, inl, inr, arith, slice_index, if◌then◌else◌, bit_at, cases_eq, Tree, Leaf, Fork, Bits, value, tree_at, KeepsTrees, chosen_of, IsTruthOf, IsWordOf, with_register, start_bits, IsReplaced}
+use Rattle.sf_behaviour.proofs.Common.{◌≡◌, ℕ, ◌<◌, ◌≤◌, ◌^◌, Bool, true, false, Some, None, List, length, refl, sym, ap, subst, ◌∙◌, inl, inr, arith, slice_index, if◌then◌else◌, bit_at, bit_at-lt, cases_eq, Tree, Leaf, Fork, Bits, value, tree_at, KeepsTrees, chosen_of, IsTruthOf, IsWordOf, with_register, start_bits, IsReplaced}
 use Rattle.std.specs.BTreeMap.{BTreeMap, get, is_at, Updates, IsEmpty}
 use Rattle.std.specs.Map.{lookup}
 use Rattle.std.specs.Ordering.{nat_cmp}
@@ -8,7 +8,7 @@ use Rattle.sf_diagram.specs.Trees.{IsOrderedTree}
 use Rattle.sf_diagram.specs.Choices.{IsChosen}
 use Rattle.sf_behaviour.specs.Registers.{register_bit}
 use Rattle.sf_behaviour.specs.Replacing.{AreReplaced}
-use Rattle.sf_behaviour.proofs.WordLemmas.{keeps-both, bit-of-word}
+use Rattle.sf_behaviour.proofs.WordLemmas.{bit-of, truth-of-same}
 use Rattle.sf_behaviour.proofs.StepLemmas.{bit-if}
 use Rattle.sf_behaviour.proofs.LoopLemmas.{literal-truth}
 use Rattle.sf_behaviour.proofs.VariableLemmas.{ordered-from, value-agrees, with-own, with-other, start-low, start-high}
@@ -19,27 +19,16 @@ use Rattle.sf_behaviour.proofs.VariableLemmas.{ordered-from, value-agrees, with-
 pub bit-given : (r : ℕ) (f : Bits → ℕ) (ts : List Tree) (by : List ℕ) (v i : ℕ) → IsWordOf ts by f
     → register_bit r v ≡ Some i → i < 32
     → IsTruthOf ts (slice_index by i) (λ bits. if with_register r (f bits) bits v then 1 else 0)
-bit-given r f ts by v i h e few = record {
-  truth = h.word.each i few;
-  values = λ bits.
-      let bit : ℕ = value (tree_at ts (slice_index by i)) bits in
-      let is : bit_at (f bits) i ≡ bit
-      = ap (λ (n : ℕ). bit_at n i) (sym (h.values bits)) ∙ bit-of-word bits i h.word few in
-      sym (ap (λ (b : Bool). if b then 1 else 0) (with-own r (f bits) i v bits e)
-      ∙ ap (λ (m : ℕ). if m == 1 then 1 else 0) is ∙ bit-if bit ((h.word.each i few).small bits));
-}
+bit-given r f ts by v i h e few = truth-of-same (bit-of i h few) (λ bits.
+    sym (ap (λ (b : Bool). if b then 1 else 0) (with-own r (f bits) i v bits e)
+    ∙ bit-if (bit_at (f bits) i) (bit_at-lt (f bits) i)))
 
 -- a variable that is none of the register's
 pub bit-other : (r : ℕ) (f : Bits → ℕ) (us : List Tree) (id v : ℕ) → id < length us
     → tree_at us id ≡ Fork v (Leaf 0) (Leaf 1) → register_bit r v ≡ None
     → IsTruthOf us id (λ bits. if with_register r (f bits) bits v then 1 else 0)
-bit-other r f us id v l e none =
-    let h = literal-truth us id v l e in
-    record {
-      truth = h.truth;
-      values = λ bits. h.values bits
-          ∙ ap (λ (b : Bool). if b then 1 else 0) (sym (with-other r (f bits) v bits none));
-    }
+bit-other r f us id v l e none = truth-of-same (literal-truth us id v l e)
+    (λ bits. ap (λ (b : Bool). if b then 1 else 0) (sym (with-other r (f bits) v bits none)))
 
 -- ---- one diagram
 
@@ -59,17 +48,7 @@ pub replaced-value : {r : ℕ} {ts us : List Tree} {f : Bits → ℕ} {id new : 
 replaced-value {r} {f} {id} bits k within h =
     h.values bits ∙ ap (λ (t : Tree). value t (with_register r (f bits) bits)) (k.same id within)
 
--- a leaf has no register
-pub replaced-leaf : (r : ℕ) (ts : List Tree) (f : Bits → ℕ) (id c : ℕ) → id < length ts
-    → tree_at ts id ≡ Leaf c → IsReplaced r ts f id id
-replaced-leaf r ts f id c l e = record {
-  id_within = l;
-  within = l;
-  values = λ bits. ap (λ (t : Tree). value t bits) e
-      ∙ sym (ap (λ (t : Tree). value t (with_register r (f bits) bits)) e);
-}
-
--- nor has a fork whose variable is greater than each of the register's
+-- a fork whose variable is greater than each of the register's has no register
 pub replaced-past : (r : ℕ) (ts : List Tree) (f : Bits → ℕ) (id v : ℕ) (l h : Tree) → id < length ts
     → tree_at ts id ≡ Fork v l h → IsOrderedTree (tree_at ts id)
     → ((w : ℕ) → v ≤ w → register_bit r w ≡ None) → IsReplaced r ts f id id
@@ -78,55 +57,35 @@ replaced-past r ts f id v l h within e ordered none =
       id_within = within;
       within = within;
       values = λ bits. value-agrees (tree_at ts id) v bits (with_register r (f bits) bits)
-          (ordered-from v (tree_at ts id) v l h e ordered (omega arith))
-          (λ w le. sym (with-other r (f bits) w bits (none w le)));
+          (ordered-from v e ordered (omega arith)) (λ w le. sym (with-other r (f bits) w bits (none w le)));
     }
 
-pub choice-by : (b : Bool) (t x y p q : ℕ) → t ≡ (if b then 1 else 0) → x ≡ p → y ≡ q
-    → chosen_of t x y ≡ (if b then p else q)
-choice-by true t x y p q et ex ey = ap (λ (n : ℕ). chosen_of n x y) et ∙ ex
-choice-by false t x y p q et ex ey = ap (λ (n : ℕ). chosen_of n x y) et ∙ ey
+pub choice-if : (b : Bool) (p q : ℕ) → chosen_of (if b then 1 else 0) p q ≡ (if b then p else q)
+choice-if true p q = refl
+choice-if false p q = refl
 
 pub less-if : (b : Bool) (m n : ℕ) → m < 2 ^ 32 → n < 2 ^ 32 → (if b then m else n) < 2 ^ 32
 less-if true m n l k = l
 less-if false m n l k = k
 
--- The two sides of a fork are replaced in a store that grows: s0 at the beginning, s1 and s2 once each side is there,
--- s3 with what stands in the place of the variable.
-pub record AreSides (r : ℕ) (f : Bits → ℕ) (s0 s1 s2 s3 : List Tree) (v id lower higher low high bit : ℕ)
-    : Type 0 where
-  pub keeps_first : KeepsTrees s0 s1
-  pub keeps_second : KeepsTrees s1 s2
-  pub keeps_third : KeepsTrees s2 s3
-  pub within : id < length s0
-  pub lower_within : lower < length s0
-  pub higher_within : higher < length s0
-  pub fork : tree_at s0 id ≡ Fork v (tree_at s0 lower) (tree_at s0 higher)
-  pub low_is : IsReplaced r s1 f lower low
-  pub high_is : IsReplaced r s2 f higher high
-  pub bit_is : IsTruthOf s3 bit (λ bits. if with_register r (f bits) bits v then 1 else 0)
-
--- what is chosen of them by it is the fork, replaced
-pub replaced-made : {r : ℕ} {f : Bits → ℕ} {s0 s1 s2 s3 s4 : List Tree} {v id lower higher low high bit : ℕ} (new : ℕ)
-    → AreSides r f s0 s1 s2 s3 v id lower higher low high bit → KeepsTrees s3 s4 → new < length s4
+-- What is chosen of the two sides of a fork, replaced, is the fork, replaced: s0 has the fork, s3 the sides, and what
+-- stands in the place of the variable.
+pub replaced-made : {r : ℕ} {f : Bits → ℕ} {s0 s3 s4 : List Tree} {v id lower higher low high bit : ℕ} (new : ℕ)
+    → KeepsTrees s0 s3 → KeepsTrees s3 s4 → id < length s0 → lower < length s0 → higher < length s0
+    → tree_at s0 id ≡ Fork v (tree_at s0 lower) (tree_at s0 higher)
+    → IsReplaced r s3 f lower low → IsReplaced r s3 f higher high
+    → IsTruthOf s3 bit (λ bits. if with_register r (f bits) bits v then 1 else 0) → new < length s4
     → IsChosen (tree_at s3 bit) (tree_at s3 high) (tree_at s3 low) (tree_at s4 new) → IsReplaced r s4 f id new
-replaced-made {r} {f} {s0} {s1} {s3} {s4} {v} {id} {lower} {higher} {low} {high} {bit} new m k within chosen =
-    let k13 : KeepsTrees s1 s3 = keeps-both m.keeps_second m.keeps_third in
-    let k03 : KeepsTrees s0 s3 = keeps-both m.keeps_first k13 in
-    let k04 : KeepsTrees s0 s4 = keeps-both k03 k in
-    let low3 : IsReplaced r s3 f lower low = replaced-kept k13 m.low_is in
-    let high3 : IsReplaced r s3 f higher high = replaced-kept m.keeps_third m.high_is in
+replaced-made {r} {f} {s0} {v} {id} {lower} {higher} new k m inside ll lh fork low_is high_is bit_is within chosen =
     record {
-      id_within = omega (arith, m.within, k04.longer);
+      id_within = omega (arith, inside, k.longer, m.longer);
       within = within;
       values = λ bits.
           let there : Bits = with_register r (f bits) bits in
           chosen.values bits
-          ∙ choice-by (there v) (value (tree_at s3 bit) bits) (value (tree_at s3 high) bits)
-          (value (tree_at s3 low) bits) (value (tree_at s0 higher) there) (value (tree_at s0 lower) there)
-          (m.bit_is.values bits) (replaced-value bits k03 m.higher_within high3)
-          (replaced-value bits k03 m.lower_within low3)
-          ∙ sym (ap (λ (t : Tree). value t there) (k04.same id m.within ∙ m.fork));
+          ∙ rw (bit_is.values bits, replaced-value bits k lh high_is, replaced-value bits k ll low_is)
+          (choice-if (there v) (value (tree_at s0 higher) there) (value (tree_at s0 lower) there))
+          ∙ sym (ap (λ (t : Tree). value t there) (m.same id (omega (arith, inside, k.longer)) ∙ k.same id inside ∙ fork));
     }
 
 -- ---- all that were made
@@ -163,9 +122,6 @@ all-put {r} {ts} {f} n {id} {new} put h one = record {
 
 -- ---- registers that are 0
 
-pub start-leaf : (t : Tree) (n : ℕ) (bits : Bits) → t ≡ Leaf n → value t bits ≡ value t (start_bits bits)
-start-leaf t n bits e = ap (λ (u : Tree). value u bits) e ∙ sym (ap (λ (u : Tree). value u (start_bits bits)) e)
-
 pub start-lower : (v : ℕ) (l h : Tree) (bits : Bits) → v < 576
     → value (Fork v l h) (start_bits bits) ≡ value l (start_bits bits)
 start-lower v l h bits less = rw (start-low bits v less) refl
@@ -173,5 +129,4 @@ start-lower v l h bits less = rw (start-low bits v less) refl
 pub start-stays : (t : Tree) (v : ℕ) (l h : Tree) (bits : Bits) → t ≡ Fork v l h → IsOrderedTree t → 576 ≤ v
     → value t bits ≡ value t (start_bits bits)
 start-stays t v l h bits e ordered more =
-    value-agrees t 576 bits (start_bits bits) (ordered-from 576 t v l h e ordered more)
-    (λ w le. sym (start-high bits w le))
+    value-agrees t 576 bits (start_bits bits) (ordered-from 576 e ordered more) (λ w le. sym (start-high bits w le))

@@ -1,5 +1,5 @@
 -- What operations and tests make of two numbers with one more bit each.
-use Rattle.sf_behaviour.proofs.Common.{◌≡◌, ℕ, zero, suc, ◌+◌, ◌-◌, ◌*◌, ◌%◌, ◌<◌, ◌≤◌, ◌^◌, ◌==◌, Bool, true, false, refl, sym, ap, ◌∙◌, arith, if◌then◌else◌, bit_at, eq-eqb, lt-ltb, le-ltb, leb-true, ne_eqb, pow_pos, pow-add, passes, Test, Equal}
+use Rattle.sf_behaviour.proofs.Common.{◌≡◌, ℕ, zero, suc, ◌+◌, ◌*◌, ◌%◌, ◌<◌, ◌≤◌, ◌^◌, ◌==◌, Bool, true, false, refl, sym, ap, ◌∙◌, arith, if◌then◌else◌, bit_at, eq-eqb, lt-ltb, le-ltb, leb-true, ne_eqb, pow_pos, pow-add, passes, Test, Equal}
 use Rattle.std.proofs.Common.{not}
 use Rattle.std.specs.Prelude.{bit_and, bit_or, nat_lt, nat_le}
 use Rattle.std.specs.Int.Bits.{and_block}
@@ -21,15 +21,6 @@ pub more-small : (n v w : ℕ) → v < 2 → w < 2 ^ n → v * 2 ^ n + w < 2 ^ (
 more-small n zero w lv lw = omega (arith, lw, pow-add 2 n 1)
 more-small n (suc zero) w lv lw = omega (arith, lw, pow-add 2 n 1)
 more-small n (suc (suc v)) w lv lw = absurd (omega arith)
-
--- a difference of 32 bits
-pub less-all : (a b c d : ℕ) → a < 2 ^ 32 → b < 2 ^ 32 → d < 2 ^ 32 → d + b ≡ a + c * 2 ^ 32
-    → d ≡ (a + (2 ^ 32 - b)) % 2 ^ 32
-less-all a b c d la lb ld e = omega arith
-
--- less minus b is plus b
-pub sum-of : (a b : ℕ) → b < 2 ^ 32 → (a + (2 ^ 32 - (2 ^ 32 - b) % 2 ^ 32)) % 2 ^ 32 ≡ (a + b) % 2 ^ 32
-sum-of a b l = omega arith
 
 -- ---- a number by its bits
 
@@ -65,44 +56,6 @@ same-most : (a b c d : ℕ) → (a ≤ b → c ≤ d) → (c ≤ d → a ≤ b) 
 same-most a b c d to from = same_from_decides {P = a ≤ b} (nat_le a b) (nat_le c d) (leb-true a b, le-leb a b)
     (λ t. from (leb-true c d t), λ e. le-leb c d (to e))
 
-equal-more : (p a b x y : ℕ) → a < p → b < p → x < 2 → y < 2
-    → tested_bits Equal x y (truth_of Equal a b) ≡ truth_of Equal (x * p + a) (y * p + b)
-equal-more p a b zero zero la lb lx ly =
-    ap number_of (same-equal a b (0 * p + a) (0 * p + b) (λ e. omega arith) (λ e. omega arith))
-equal-more p a b zero (suc zero) la lb lx ly =
-    ap number_of (sym (ne_eqb (0 * p + a) (1 * p + b) (λ e. absurd (omega arith))))
-equal-more p a b (suc zero) zero la lb lx ly =
-    ap number_of (sym (ne_eqb (1 * p + a) (0 * p + b) (λ e. absurd (omega arith))))
-equal-more p a b (suc zero) (suc zero) la lb lx ly =
-    ap number_of (same-equal a b (1 * p + a) (1 * p + b) (λ e. omega arith) (λ e. omega arith))
-equal-more p a b zero (suc (suc y)) la lb lx ly = absurd (omega arith)
-equal-more p a b (suc zero) (suc (suc y)) la lb lx ly = absurd (omega arith)
-equal-more p a b (suc (suc x)) y la lb lx ly = absurd (omega arith)
-
-greater-more : (p a b x y : ℕ) → a < p → b < p → x < 2 → y < 2
-    → tested_bits Greater x y (truth_of Greater a b) ≡ truth_of Greater (x * p + a) (y * p + b)
-greater-more p a b zero zero la lb lx ly =
-    ap number_of (same-less b a (0 * p + b) (0 * p + a) (λ e. omega arith) (λ e. omega arith))
-greater-more p a b zero (suc zero) la lb lx ly = ap number_of (sym (le-ltb (1 * p + b) (0 * p + a) (omega arith)))
-greater-more p a b (suc zero) zero la lb lx ly = ap number_of (sym (lt-ltb (0 * p + b) (1 * p + a) (omega arith)))
-greater-more p a b (suc zero) (suc zero) la lb lx ly =
-    ap number_of (same-less b a (1 * p + b) (1 * p + a) (λ e. omega arith) (λ e. omega arith))
-greater-more p a b zero (suc (suc y)) la lb lx ly = absurd (omega arith)
-greater-more p a b (suc zero) (suc (suc y)) la lb lx ly = absurd (omega arith)
-greater-more p a b (suc (suc x)) y la lb lx ly = absurd (omega arith)
-
-least-more : (p a b x y : ℕ) → a < p → b < p → x < 2 → y < 2 → tested_bits GreaterOrEqual x y
-    (truth_of GreaterOrEqual a b) ≡ truth_of GreaterOrEqual (x * p + a) (y * p + b)
-least-more p a b zero zero la lb lx ly =
-    ap number_of (same-most b a (0 * p + b) (0 * p + a) (λ e. omega arith) (λ e. omega arith))
-least-more p a b zero (suc zero) la lb lx ly = ap number_of (sym (lt-leb (1 * p + b) (0 * p + a) (omega arith)))
-least-more p a b (suc zero) zero la lb lx ly = ap number_of (sym (le-leb (0 * p + b) (1 * p + a) (omega arith)))
-least-more p a b (suc zero) (suc zero) la lb lx ly =
-    ap number_of (same-most b a (1 * p + b) (1 * p + a) (λ e. omega arith) (λ e. omega arith))
-least-more p a b zero (suc (suc y)) la lb lx ly = absurd (omega arith)
-least-more p a b (suc zero) (suc (suc y)) la lb lx ly = absurd (omega arith)
-least-more p a b (suc (suc x)) y la lb lx ly = absurd (omega arith)
-
 or-clear : (b : Bool) → bit_or (if not b then 1 else 0) 0 ≡ (if not b then 1 else 0)
 or-clear true = refl
 or-clear false = refl
@@ -129,7 +82,31 @@ any-more n a b x y la lb lx ly =
 
 pub test-more : (test : Test) (n a b x y : ℕ) → a < 2 ^ n → b < 2 ^ n → x < 2 → y < 2
     → tested_bits test x y (truth_of test a b) ≡ truth_of test (x * 2 ^ n + a) (y * 2 ^ n + b)
-test-more Equal n a b x y la lb lx ly = equal-more (2 ^ n) a b x y la lb lx ly
-test-more Greater n a b x y la lb lx ly = greater-more (2 ^ n) a b x y la lb lx ly
-test-more GreaterOrEqual n a b x y la lb lx ly = least-more (2 ^ n) a b x y la lb lx ly
 test-more AnyBit n a b x y la lb lx ly = any-more n a b x y la lb lx ly
+test-more test n a b zero (suc (suc y)) la lb lx ly = absurd (omega arith)
+test-more test n a b (suc zero) (suc (suc y)) la lb lx ly = absurd (omega arith)
+test-more test n a b (suc (suc x)) y la lb lx ly = absurd (omega arith)
+test-more Equal n a b zero zero la lb lx ly =
+    ap number_of (same-equal a b (0 * 2 ^ n + a) (0 * 2 ^ n + b) (λ e. omega arith) (λ e. omega arith))
+test-more Equal n a b zero (suc zero) la lb lx ly =
+    ap number_of (sym (ne_eqb (0 * 2 ^ n + a) (1 * 2 ^ n + b) (λ e. absurd (omega arith))))
+test-more Equal n a b (suc zero) zero la lb lx ly =
+    ap number_of (sym (ne_eqb (1 * 2 ^ n + a) (0 * 2 ^ n + b) (λ e. absurd (omega arith))))
+test-more Equal n a b (suc zero) (suc zero) la lb lx ly =
+    ap number_of (same-equal a b (1 * 2 ^ n + a) (1 * 2 ^ n + b) (λ e. omega arith) (λ e. omega arith))
+test-more Greater n a b zero zero la lb lx ly =
+    ap number_of (same-less b a (0 * 2 ^ n + b) (0 * 2 ^ n + a) (λ e. omega arith) (λ e. omega arith))
+test-more Greater n a b zero (suc zero) la lb lx ly =
+    ap number_of (sym (le-ltb (1 * 2 ^ n + b) (0 * 2 ^ n + a) (omega arith)))
+test-more Greater n a b (suc zero) zero la lb lx ly =
+    ap number_of (sym (lt-ltb (0 * 2 ^ n + b) (1 * 2 ^ n + a) (omega arith)))
+test-more Greater n a b (suc zero) (suc zero) la lb lx ly =
+    ap number_of (same-less b a (1 * 2 ^ n + b) (1 * 2 ^ n + a) (λ e. omega arith) (λ e. omega arith))
+test-more GreaterOrEqual n a b zero zero la lb lx ly =
+    ap number_of (same-most b a (0 * 2 ^ n + b) (0 * 2 ^ n + a) (λ e. omega arith) (λ e. omega arith))
+test-more GreaterOrEqual n a b zero (suc zero) la lb lx ly =
+    ap number_of (sym (lt-leb (1 * 2 ^ n + b) (0 * 2 ^ n + a) (omega arith)))
+test-more GreaterOrEqual n a b (suc zero) zero la lb lx ly =
+    ap number_of (sym (le-leb (0 * 2 ^ n + b) (1 * 2 ^ n + a) (omega arith)))
+test-more GreaterOrEqual n a b (suc zero) (suc zero) la lb lx ly =
+    ap number_of (same-most b a (1 * 2 ^ n + b) (1 * 2 ^ n + a) (λ e. omega arith) (λ e. omega arith))

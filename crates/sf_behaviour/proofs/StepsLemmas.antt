@@ -1,5 +1,5 @@
 -- Steps, and the diagrams of the last places.
-use Rattle.sf_behaviour.proofs.Common.{◌≡◌, ℕ, zero, suc, ◌+◌, ◌<◌, ◌≤◌, List, [], ◌∷◌, ◌++◌, length, Option, Some, None, refl, sym, ap, ap₂, subst, ◌∙◌, inl, inr, arith, Contains, slice_get, slice_index, slice_set, cases_lt, length-map, length-set, same_Some, Insn, IsLawfulProgram, Tree, value, tree_at, KeepsTrees, insns_of, AreSteps, Tells, TellFrom, return_of, input_by, IsDiagramOf, places_after, source_in, IsEffectOf, Known, IsKnowledge, start_bits, Step, Effect, Sets, Tests}
+use Rattle.sf_behaviour.proofs.Common.{◌≡◌, ℕ, zero, suc, ◌+◌, ◌<◌, ◌≤◌, List, [], ◌∷◌, ◌++◌, length, Option, Some, None, refl, sym, ap, ap₂, subst, ◌∙◌, inl, inr, arith, Contains, slice_get, slice_index, slice_set, cases_lt, length-map, length-set, same_Some, Insn, IsLawfulProgram, Tree, value, tree_at, KeepsTrees, insns_of, AreSteps, Tells, TellFrom, return_of, input_by, IsDiagramOf, places_after, IsEffectOf, Known, IsKnowledge, start_bits, Step, Effect, Sets, Tests}
 use Rattle.std.proofs.Common.{◌⊎◌, length-append, get_or, take}
 use Rattle.std.proofs.lemmas.List.{get_or_push, get_or_append_left, map-append, take_more}
 use Rattle.std.proofs.lemmas.Option.{slice_get-get_or, slice_get_within, get_or_from_slice_get}
@@ -67,16 +67,17 @@ pub after-same : {ts : List Tree} {step : Step} {e : Effect} → IsStep ts step 
     → IsAfter ts step.known e step.after
 after-same {ts} {step} h is = subst (λ (f : Effect). IsAfter ts step.known f step.after) is h.after
 
+pub effect-is : {ts : List Tree} {step : Step} {e : Effect} → IsStep ts step → step.effect ≡ e → IsEffectOf step.insn e
+effect-is {step} h is = subst (λ (f : Effect). IsEffectOf step.insn f) is h.effect
+
 pub after-knowledge : {ts : List Tree} {step : Step} → IsStep ts step → IsKnowledge ts step.after
 after-knowledge {ts} {step} h = by step.effect refl
   where
     by : (e : Effect) → step.effect ≡ e → IsKnowledge ts step.after
     by (Sets r source) is =
         let set = after-same h is in
-        let there = (subst (λ (f : Effect). IsEffectOf step.insn f) is h.effect).there.0 in
-        subst (λ (k : Known). IsKnowledge ts k) (sym set.is)
-        (set-knowledge ts step.known r set.word there h.known (λ w e. (set.fixed w e).0))
-    by e is = subst (λ (k : Known). IsKnowledge ts k) (sym (after-same h is)) h.known
+        rw set.is (set-knowledge ts step.known r set.word (effect-is h is).there.0 h.known (λ w e. (set.fixed w e).0))
+    by e is = rw (after-same h is) h.known
 
 after-kept : (ts us : List Tree) (k l : Known) (e : Effect) → KeepsTrees ts us → IsKnowledge ts k → IsAfter ts k e l
     → IsAfter us k e l
@@ -85,8 +86,7 @@ after-kept ts us k l (Sets r source) keeps knows h = record {
   is = h.is;
   fixed = λ w e. (
     input-word-kept keeps (h.fixed w e).0,
-    word-of-same (λ bits. source_in ts k bits source) (λ bits. source_in us k bits source)
-        (λ bits. sym (source-kept bits source keeps knows)) (word-of-kept keeps (h.fixed w e).1),
+    word-of-same (word-of-kept keeps (h.fixed w e).1) (λ bits. sym (source-kept bits source keeps knows)),
   );
 }
 after-kept ts us k l e keeps knows h = h
@@ -124,7 +124,7 @@ pub from-more : (ts us : List Tree) (steps : List Step) (ids : List ℕ) (first 
 from-more ts us steps ids first place id now e keeps are h here new = record {
   count = length-set ids place id ∙ h.count;
   each = λ q step low there. set-each
-      (λ (p x : ℕ). (s : Step) → slice_get steps p ≡ Some s → Tells (insns_of steps) p us s.known x) ids place id q
+      (λ (p x : ℕ). (s : Step) → slice_get steps p ≡ Some s → Tells (insns_of steps) p us s.known x) 0 ids place id q
       (omega (arith, h.count, slice_get_within steps place now here))
       (λ s at. subst (λ (t : Step). Tells (insns_of steps) place us t.known id) (same_Some now s (sym here ∙ at)) new)
       (λ ne s at. (from-kept keeps are h).each q s (omega arith) at) step there;
@@ -147,8 +147,7 @@ steps-some steps program code some =
 
 -- the diagram of the first place
 pub first-tells : {ts : List Tree} (steps : List Step) {ids : List ℕ} (first : ℕ) {id : ℕ} → first ≡ 0
-    → 0 < length steps
-    → TellFrom ts steps ids first → id ≡ slice_index ids 0
+    → 0 < length steps → TellFrom ts steps ids first → id ≡ slice_index ids 0
     → (s : Step) × (slice_get steps 0 ≡ Some s) × Tells (insns_of steps) 0 ts s.known id
 first-tells [] first e some h is = absurd (omega arith)
 first-tells {ts} (s ∷ steps) first e some h is = (
@@ -159,9 +158,8 @@ first-tells {ts} (s ∷ steps) first e some h is = (
 
 -- with all registers 0 it has the number that the program returns
 pub program-diagram : (program : List Insn) (ts : List Tree) (steps : List Step) (ids : List ℕ) (first id new : ℕ)
-    → first ≡ 0 → insns_of steps ≡ program → IsLawfulProgram program → AreSteps ts steps
-    → TellFrom ts steps ids first → id ≡ slice_index ids 0
-    → IsDiagramOf ts new (λ bits. value (tree_at ts id) (start_bits bits))
+    → first ≡ 0 → insns_of steps ≡ program → IsLawfulProgram program → AreSteps ts steps → TellFrom ts steps ids first
+    → id ≡ slice_index ids 0 → IsDiagramOf ts new (λ bits. value (tree_at ts id) (start_bits bits))
     → IsDiagramOf ts new (λ bits. return_of program (input_by bits))
 program-diagram program ts steps ids first id new e code lawful are h is at_start =
     let t = first-tells steps first e (steps-some steps program code lawful.some) h is in

@@ -1,5 +1,5 @@
 -- What a diagram tells of the runs from a place, by what the diagrams of the places behind tell.
-use Rattle.sf_behaviour.proofs.Common.{◌≡◌, ℕ, zero, suc, ◌+◌, ◌<◌, ◌==◌, ◌^◌, Bool, true, false, List, [], ◌++◌, length, Option, Some, None, refl, sym, ap, ap₂, subst, ◌∙◌, arith, ◌&&◌, slice_set, if◌then◌else◌, same_Some, Input, Test, passes, Insn, Operand, IsLawfulProgram, Tree, Bits, value, tree_at, KeepsTrees, State, start, return_of, input_by, A, X, IsRegister, start_bits, next_with, with_register, Known, known_word, held_in, IsInputWord, IsKnowledge, IsLess, divides, source_number, operand_in, source_in, set_progress, effect_progress, IsEffectOf, Tells, IsReplaced, word_value, IsDiagramOf, IsWord, Effect, Tests, Source, Word}
+use Rattle.sf_behaviour.proofs.Common.{◌≡◌, ℕ, zero, suc, ◌+◌, ◌<◌, ◌==◌, ◌^◌, Bool, true, false, List, [], length, Option, Some, None, refl, sym, ap, ap₂, subst, ◌∙◌, arith, ◌&&◌, slice_set, if◌then◌else◌, same_Some, Input, Test, passes, Insn, Operand, IsLawfulProgram, Tree, Bits, value, tree_at, KeepsTrees, State, start, return_of, input_by, A, X, IsRegister, start_bits, next_with, with_register, Known, known_word, held_in, IsInputWord, IsKnowledge, IsLess, divides, source_number, operand_in, source_in, set_progress, effect_progress, IsEffectOf, Tells, IsReplaced, word_value, IsDiagramOf, Effect, Tests, Source, Word}
 use Rattle.std.specs.Prelude.{IsSome}
 use Rattle.sf_check.specs.Programs.{IsAt}
 use Rattle.sf_run.specs.Machine.{Progress, goes, returns, stuck, operand_of, insn_progress, Outcome, outcome_from, run_for}
@@ -14,32 +14,29 @@ use Rattle.sf_behaviour.proofs.KnowledgeLemmas.{fits-set, fits-less, fits-kept, 
 
 -- ---- runs
 
--- a run that goes on comes to the same value
-goes-on : (n : ℕ) (code : List Insn) (d : Input) (o : List Bool × ℕ) (met : List Bool) (next : State)
-    → outcome_from (run_for n code d) (goes met next) ≡ Some o
-    → (p : List Bool × ℕ) × (run_for n code d next ≡ Some p) × (p.1 ≡ o.1)
-goes-on n code d o met next e =
-    let rest = option_map_some (put met) (run_for n code d next) o e in
-    (rest.0, rest.1, ap (λ (q : List Bool × ℕ). q.1) rest.2)
+-- the run that goes on from a step comes to this value
+abbrev pub Ends : List Insn → Input → Progress → ℕ → Type 0
+Ends code d (goes met s) v = (m : ℕ) × (o : List Bool × ℕ) × (run_for m code d s ≡ Some o) × (o.1 ≡ v)
+Ends code d (returns met n) v = n ≡ v
+Ends code d stuck v = ⊥
 
--- so does one that goes on from a step whose truth values are left out
-unmet-same : (n : ℕ) (code : List Insn) (d : Input) (p : Progress) (o : List Bool × ℕ)
-    → outcome_from (run_for n code d) p ≡ Some o
-    → (q : List Bool × ℕ) × (outcome_from (run_for n code d) (unmet p) ≡ Some q) × (q.1 ≡ o.1)
-unmet-same n code d (goes met s) o e =
-    let rest = goes-on n code d o met s e in
-    (([] ++ rest.0.0, rest.0.1), rw rest.1 refl, rest.2)
-unmet-same n code d (returns met m) o e =
-    (([], m), refl, ap (λ (q : List Bool × ℕ). q.1) (same_Some (met, m) o e))
-unmet-same n code d stuck o e = absurd cc
+ends-of : (n : ℕ) (code : List Insn) (d : Input) (p : Progress) (o : List Bool × ℕ)
+    → outcome_from (run_for n code d) p ≡ Some o → Ends code d (unmet p) o.1
+ends-of n code d (goes met s) o e =
+    let rest = option_map_some (put met) (run_for n code d s) o e in
+    (n, rest.0, rest.1, ap (λ (q : List Bool × ℕ). q.1) rest.2)
+ends-of n code d (returns met m) o e = ap (λ (q : List Bool × ℕ). q.1) (same_Some (met, m) o e)
+ends-of n code d stuck o e = absurd cc
 
 -- the first step of a run that comes to an end
-first-step : (n : ℕ) (code : List Insn) (d : Input) (s : State) (i : Insn) (o : List Bool × ℕ) → IsAt code s.place i
-    → run_for n code d s ≡ Some o
-    → (m : ℕ) × (outcome_from (run_for m code d) (insn_progress d s i) ≡ Some o)
+first-step : (n : ℕ) {code : List Insn} (d : Input) (s : State) {i : Insn} {effect : Effect} {o : List Bool × ℕ}
+    → IsAt code s.place i → IsEffectOf i effect → run_for n code d s ≡ Some o
+    → Ends code d (effect_progress d s effect) o.1
 unfolding run_for
-first-step zero code d s i o at e = absurd cc
-first-step (suc n) code d s i o at e = (n, rw (step_is code d s i at) at e)
+first-step zero d s there is e = absurd cc
+first-step (suc n) {code} d s {i} {o = o} there is e =
+    subst (λ (p : Progress). Ends code d p o.1) (is.does d s)
+    (ends-of n code d (insn_progress d s i) o (rw (step_is code d s i there) at e))
 
 -- ---- diagrams of places
 
@@ -48,24 +45,17 @@ pub record Follows (code : List Insn) (place : ℕ) (does : Input → State → 
     (id : ℕ) : Type 0 where
   pub within : id < length ts
   pub small : (bits : Bits) → value (tree_at ts id) bits < 2 ^ 32
-  pub values : (bits : Bits) (s : State) (m : ℕ) (o : List Bool × ℕ) → s.place ≡ place → Fits ts k bits s
-      → outcome_from (run_for m code (input_by bits)) (does (input_by bits) s) ≡ Some o
-      → value (tree_at ts id) bits ≡ o.1
+  pub values : (bits : Bits) (s : State) (v : ℕ) → s.place ≡ place → Fits ts k bits s
+      → Ends code (input_by bits) (does (input_by bits) s) v → value (tree_at ts id) bits ≡ v
 
 pub tells-step : {code : List Insn} {place : ℕ} {i : Insn} {effect : Effect} {ts : List Tree} {k : Known} {id : ℕ}
     → IsAt code place i → IsEffectOf i effect → Follows code place (λ d s. effect_progress d s effect) ts k id
     → Tells code place ts k id
-tells-step {code} {i} at is f = record {
+tells-step {code} {i} there is f = record {
   within = f.within;
   small = f.small;
-  values = λ bits s n o here fits run.
-      let there : IsAt code s.place i = subst (λ (p : ℕ). IsAt code p i) (sym here) at in
-      let step = first-step n code (input_by bits) s i o there run in
-      let rest = unmet-same step.0 code (input_by bits) (insn_progress (input_by bits) s i) o step.1 in
-      f.values bits s step.0 rest.0 here fits
-      (subst (λ (p : Progress). outcome_from (run_for step.0 code (input_by bits)) p ≡ Some rest.0)
-      (is.does (input_by bits) s) rest.1)
-      ∙ rest.2;
+  values = λ bits s n o here fits run. f.values bits s o.1 here fits
+      (first-step n (input_by bits) s (subst (λ (p : ℕ). IsAt code p i) (sym here) there) is run);
 }
 
 -- a store that has grown
@@ -73,7 +63,7 @@ pub tells-kept : {code : List Insn} {place : ℕ} {ts us : List Tree} {k : Known
     → IsKnowledge ts k → Tells code place ts k id → Tells code place us k id
 tells-kept {id} keeps knows t = record {
   within = omega (arith, keeps.longer, t.within);
-  small = λ bits. subst (λ (u : Tree). value u bits < 2 ^ 32) (sym (keeps.same id t.within)) (t.small bits);
+  small = λ bits. rw (keeps.same id t.within) (t.small bits);
   values = λ bits s n o here fits e. ap (λ (u : Tree). value u bits) (keeps.same id t.within)
       ∙ t.values bits s n o here (fits-kept bits s keeps knows fits) e;
 }
@@ -91,8 +81,8 @@ pub follows-set : (code : List Insn) (place r : ℕ) (source : Source) {ts us : 
     → Follows code place (λ d s. set_progress s r (source_number d s source)) us k id
 follows-set code place r source {ts} {us} {k} {l} {next} {id} there knows keeps set behind small h = record {
   within = h.within;
-  small = λ bits. subst (λ (n : ℕ). n < 2 ^ 32) (sym (is bits)) (behind.small (with_register r (number bits) bits));
-  values = λ bits s m o here fits e. is bits ∙ by bits s m o here (fits-kept bits s keeps knows fits)
+  small = λ bits. rw (is bits) (behind.small (with_register r (number bits) bits));
+  values = λ bits s v here fits e. is bits ∙ by bits s v here (fits-kept bits s keeps knows fits)
       (source_number (input_by bits) s source) refl e;
 }
   where
@@ -107,24 +97,20 @@ follows-set code place r source {ts} {us} {k} {l} {next} {id} there knows keeps 
         → word_value ts w.bits (with_register r n bits) ≡ n
     known bits n e w at = (set.fixed w at).0.same r n bits there ∙ (set.fixed w at).1.values bits ∙ sym e
 
-    by : (bits : Bits) (s : State) (m : ℕ) (o : List Bool × ℕ) → s.place ≡ place → Fits ts k bits s → (from : Option ℕ)
-        → source_number (input_by bits) s source ≡ from
-        → outcome_from (run_for m code (input_by bits)) (set_progress s r from) ≡ Some o
-        → value (tree_at ts next) (with_register r (number bits) bits) ≡ o.1
-    by bits s m o here fits None from e = absurd cc
-    by bits s m o here fits (Some n) from e =
+    by : (bits : Bits) (s : State) (v : ℕ) → s.place ≡ place → Fits ts k bits s → (from : Option ℕ)
+        → source_number (input_by bits) s source ≡ from → Ends code (input_by bits) (set_progress s r from) v
+        → value (tree_at ts next) (with_register r (number bits) bits) ≡ v
+    by bits s v here fits None from e = absurd e
+    by bits s v here fits (Some n) from e =
         let is : n ≡ number bits = source-in ts k bits s source n fits from in
-        let low : n < 2 ^ 32 = subst (λ (x : ℕ). x < 2 ^ 32) (sym is) (small bits) in
-        let rest = goes-on m code (input_by bits) o [] (next_with s r n) e in
-        let same : run_for m code (input_by (with_register r n bits)) (next_with s r n) ≡ Some rest.0
-        = subst (λ (d : Input). run_for m code d (next_with s r n) ≡ Some rest.0)
-        (sym (with-register-input r n bits there)) rest.1 in
+        let low : n < 2 ^ 32 = rw is (small bits) in
+        let same : run_for e.0 code (input_by (with_register r n bits)) (next_with s r n) ≡ Some e.1
+        = rw (with-register-input r n bits there) e.2 in
         let after : Fits ts l (with_register r n bits) (next_with s r n)
         = subst (λ (j : Known). Fits ts j (with_register r n bits) (next_with s r n)) (sym set.is)
         (fits-set ts k bits s r n set.word knows there low (known bits n is) fits) in
         ap (λ (x : ℕ). value (tree_at ts next) (with_register r x bits)) (sym is)
-        ∙ behind.values (with_register r n bits) (next_with s r n) m rest.0 (placed s r n place here) after same
-        ∙ rest.2
+        ∙ behind.values (with_register r n bits) (next_with s r n) e.0 e.1 (placed s r n place here) after same ∙ e.3
 
 -- where 0 is returned if the source divides by 0
 pub follows-guard : (code : List Insn) (place : ℕ) (source : Source) (does : Input → State → Progress)
@@ -134,33 +120,30 @@ pub follows-guard : (code : List Insn) (place : ℕ) (source : Source) (does : I
     → Follows code place (λ d s. if divides source && (s.x == 0) then returns [] 0 else does d s) us k new
 follows-guard code place source does {ts} {k} {id} keeps knows f h = record {
   within = h.within;
-  small = λ bits. subst (λ (n : ℕ). n < 2 ^ 32) (sym (h.values bits))
-      (less-if (divides source && (held_in ts k bits X == 0)) 0 (value (tree_at ts id) bits) (omega arith)
-      (f.small bits));
-  values = λ bits s m o here fits' e.
+  small = λ bits. rw (h.values bits) (less-if (divides source && (held_in ts k bits X == 0)) 0
+      (value (tree_at ts id) bits) (omega arith) (f.small bits));
+  values = λ bits s v here fits' e.
       let fits : Fits ts k bits s = fits-kept bits s keeps knows fits' in
       h.values bits
       ∙ ap (λ (x : ℕ). if divides source && (x == 0) then 0 else value (tree_at ts id) bits) (sym (fits X s.x refl))
-      ∙ by bits s m o here fits (divides source && (s.x == 0)) e;
+      ∙ by bits s v here fits (divides source && (s.x == 0)) e;
 }
   where
-    by : (bits : Bits) (s : State) (m : ℕ) (o : List Bool × ℕ) → s.place ≡ place → Fits ts k bits s → (b : Bool)
-        → outcome_from (run_for m code (input_by bits)) (if b then returns [] 0 else does (input_by bits) s) ≡ Some o
-        → (if b then 0 else value (tree_at ts id) bits) ≡ o.1
-    by bits s m o here fits true e = ap (λ (q : List Bool × ℕ). q.1) (same_Some ([], 0) o e)
-    by bits s m o here fits false e = f.values bits s m o here fits e
+    by : (bits : Bits) (s : State) (v : ℕ) → s.place ≡ place → Fits ts k bits s → (b : Bool)
+        → Ends code (input_by bits) (if b then returns [] 0 else does (input_by bits) s) v
+        → (if b then 0 else value (tree_at ts id) bits) ≡ v
+    by bits s v here fits true e = e
+    by bits s v here fits false e = f.values bits s v here fits e
 
 -- where instructions are skipped
 pub follows-skip : {code : List Insn} (place n : ℕ) {ts : List Tree} {k : Known} {id : ℕ}
     → Tells code (place + 1 + n) ts k id
     → Follows code place (λ d s. goes [] (record s { place = s.place + 1 + n })) ts k id
-follows-skip {code} place n behind = record {
+follows-skip place n behind = record {
   within = behind.within;
   small = behind.small;
-  values = λ bits s m o here fits e.
-      let rest = goes-on m code (input_by bits) o [] (record s { place = s.place + 1 + n }) e in
-      behind.values bits (record s { place = s.place + 1 + n }) m rest.0 (ap (λ (p : ℕ). p + 1 + n) here)
-      fits rest.1 ∙ rest.2;
+  values = λ bits s v here fits e. behind.values bits (record s { place = s.place + 1 + n }) e.0 e.1
+      (ap (λ (p : ℕ). p + 1 + n) here) fits e.2 ∙ e.3;
 }
 
 -- where A is tested
@@ -172,23 +155,21 @@ pub follows-test : (code : List Insn) (place : ℕ) (test : Test) (other : Opera
     → Follows code place (λ d s. effect_progress d s (Tests test other t f)) us k id
 follows-test code place test other t f {ts} {k} {one_way} {other_way} keeps knows taken skipped h = record {
   within = h.within;
-  small = λ bits. subst (λ (n : ℕ). n < 2 ^ 32) (sym (h.values bits))
-      (less-if (passes test (held_in ts k bits A) (operand_in ts k bits other)) (value (tree_at ts one_way) bits)
-      (value (tree_at ts other_way) bits) (taken.small bits) (skipped.small bits));
-  values = λ bits s m o here fits' e.
+  small = λ bits. rw (h.values bits) (less-if (passes test (held_in ts k bits A) (operand_in ts k bits other))
+      (value (tree_at ts one_way) bits) (value (tree_at ts other_way) bits) (taken.small bits) (skipped.small bits));
+  values = λ bits s v here fits' e.
       let fits : Fits ts k bits s = fits-kept bits s keeps knows fits' in
       h.values bits
       ∙ ap₂ (λ (a b : ℕ). if passes test a b then value (tree_at ts one_way) bits
       else value (tree_at ts other_way) bits) (sym (a-in ts k bits s fits)) (sym (operand-in ts k bits s other fits))
-      ∙ by bits s m o here fits (passes test s.a (operand_of s other)) e;
+      ∙ by bits s v here fits (passes test s.a (operand_of s other)) e;
 }
   where
-    by : (bits : Bits) (s : State) (m : ℕ) (o : List Bool × ℕ) → s.place ≡ place → Fits ts k bits s → (b : Bool)
-        → outcome_from (run_for m code (input_by bits))
-        (goes [] (record s { place = s.place + 1 + (if b then t else f) })) ≡ Some o
-        → (if b then value (tree_at ts one_way) bits else value (tree_at ts other_way) bits) ≡ o.1
-    by bits s m o here fits true e = (follows-skip place t taken).values bits s m o here fits e
-    by bits s m o here fits false e = (follows-skip place f skipped).values bits s m o here fits e
+    by : (bits : Bits) (s : State) (v : ℕ) → s.place ≡ place → Fits ts k bits s → (b : Bool)
+        → Ends code (input_by bits) (goes [] (record s { place = s.place + 1 + (if b then t else f) })) v
+        → (if b then value (tree_at ts one_way) bits else value (tree_at ts other_way) bits) ≡ v
+    by bits s v here fits true e = (follows-skip place t taken).values bits s v here fits e
+    by bits s v here fits false e = (follows-skip place f skipped).values bits s v here fits e
 
 -- where a number is returned
 pub follows-return : (code : List Insn) (place : ℕ) (source : Source) {ts us : List Tree} {k : Known} {id : ℕ}
@@ -198,35 +179,29 @@ pub follows-return : (code : List Insn) (place : ℕ) (source : Source) {ts us :
 follows-return code place source {ts} {k} keeps knows h small = record {
   within = h.within;
   small = small;
-  values = λ bits s m o here fits e. h.values bits ∙ by bits s m o (fits-kept bits s keeps knows fits)
+  values = λ bits s v here fits e. h.values bits ∙ by bits s v (fits-kept bits s keeps knows fits)
       (source_number (input_by bits) s source) refl e;
 }
   where
-    by : (bits : Bits) (s : State) (m : ℕ) (o : List Bool × ℕ) → Fits ts k bits s → (from : Option ℕ)
-        → source_number (input_by bits) s source ≡ from
-        → outcome_from (run_for m code (input_by bits)) (return_progress from) ≡ Some o
-        → source_in ts k bits source ≡ o.1
-    by bits s m o fits None from e = absurd cc
-    by bits s m o fits (Some n) from e =
-        sym (source-in ts k bits s source n fits from) ∙ ap (λ (q : List Bool × ℕ). q.1) (same_Some ([], n) o e)
+    by : (bits : Bits) (s : State) (v : ℕ) → Fits ts k bits s → (from : Option ℕ)
+        → source_number (input_by bits) s source ≡ from → Ends code (input_by bits) (return_progress from) v
+        → source_in ts k bits source ≡ v
+    by bits s v fits None from e = absurd e
+    by bits s v fits (Some n) from e = sym (source-in ts k bits s source n fits from) ∙ e
 
 -- ---- what is known at a place
 
--- a diagram for a place where one register more is known
-pub tells-learnt : (code : List Insn) (place : ℕ) (ts us : List Tree) (k : Known) (r : ℕ) (w : Word)
-    (id new : ℕ) → KeepsTrees ts us → IsKnowledge ts k → IsKnowledge ts (slice_set k r (Some w)) → IsRegister r
-    → known_word k r ≡ None → IsWord ts w.bits
-    → IsReplaced r us (word_value ts w.bits) id new
-    → Tells code place ts k id → Tells code place us (slice_set k r (Some w)) new
-tells-learnt code place ts us k r w id new keeps knows more there unknown word h t = record {
+-- where one register more is known, by what is known in the end
+pub tells-more-known : (ts us : List Tree) (k l : Known) (r : ℕ) (w : Word) (id new : ℕ)
+    → KeepsTrees ts us → IsKnowledge ts l → IsLess k l → length k ≡ 18 → IsRegister r → known_word l r ≡ Some w
+    → known_word k r ≡ None → IsReplaced r us (word_value ts w.bits) id new
+    → (code : List Insn) (place : ℕ) → Tells code place ts k id → Tells code place us (slice_set k r (Some w)) new
+tells-more-known ts us k l r w id new keeps knows less count there has unknown h code place t = record {
   within = h.within;
-  small = λ bits. subst (λ (n : ℕ). n < 2 ^ 32) (sym (is bits)) (t.small (with_register r (number bits) bits));
-  values = λ bits s n o here fits e.
-      let old : Fits ts (slice_set k r (Some w)) bits s
-      = fits-kept bits s keeps more fits in
-      is bits ∙ t.values (with_register r (number bits) bits) s n o here
-      (fits-less ts k bits s r w knows there unknown word old)
-      (subst (λ (d : Input). run_for n code d s ≡ Some o) (sym (with-register-input r (number bits) bits there)) e);
+  small = λ bits. rw (is bits) (t.small (with_register r (number bits) bits));
+  values = λ bits s n o here fits e. is bits ∙ t.values (with_register r (number bits) bits) s n o here
+      (fits-less ts k bits s r w before there unknown word.word (fits-kept bits s keeps more fits))
+      (rw (with-register-input r (number bits) bits there) e);
 }
   where
     number : Bits → ℕ
@@ -234,6 +209,16 @@ tells-learnt code place ts us k r w id new keeps knows more there unknown word h
 
     is : (bits : Bits) → value (tree_at us new) bits ≡ value (tree_at ts id) (with_register r (number bits) bits)
     is bits = replaced-value bits keeps t.within h
+
+    word : IsInputWord ts w.bits
+    word = knows.each r w has
+
+    before : IsKnowledge ts k
+    before = knowledge-less ts k l less count knows
+
+    more : IsKnowledge ts (slice_set k r (Some w))
+    more = set-knowledge ts k r (Some w) there before
+        (λ v e. subst (λ (u : Word). IsInputWord ts u.bits) (same_Some w v e) word)
 
 -- ---- whole programs
 
@@ -258,15 +243,3 @@ tells-program {code} {ts} {k} lawful t zero-words h = record {
       ∙ value_is (length code) code d end.0 lawful end.1
       ∙ ap (λ (e : Input). return_of code e) (start-input bits);
 }
-
--- where one register more is known, by what is known in the end
-pub tells-more-known : (ts us : List Tree) (k l : Known) (r : ℕ) (w : Word) (id new : ℕ)
-    → KeepsTrees ts us → IsKnowledge ts l → IsLess k l → length k ≡ 18 → IsRegister r → known_word l r ≡ Some w
-    → known_word k r ≡ None
-    → IsReplaced r us (word_value ts w.bits) id new
-    → (code : List Insn) (place : ℕ) → Tells code place ts k id → Tells code place us (slice_set k r (Some w)) new
-tells-more-known ts us k l r w id new keeps knows less count there has unknown h code place t =
-    let before = knowledge-less ts k l less count knows in
-    tells-learnt code place ts us k r w id new keeps before
-    (set-knowledge ts k r (Some w) there before (λ v e. subst (λ (u : Word). IsInputWord ts u.bits) (same_Some w v e)
-    (knows.each r w has))) there unknown (knows.each r w has).word h t

@@ -1,12 +1,13 @@
 -- The bits of registers and of the input as variables.
-use Rattle.sf_behaviour.proofs.Common.{◌≡◌, ℕ, zero, suc, ◌+◌, ◌-◌, ◌*◌, ◌/◌, ◌%◌, ◌<◌, ◌≤◌, ◌==◌, ◌^◌, Bool, true, false, List, [], ◌∷◌, length, Some, None, refl, sym, ap, ap₂, subst, ◌∙◌, inl, inr, arith, map, slice_index, if◌then◌else◌, bit_at, pow-suc, cases_eq, eq-eqb, ne_eqb, lt-ltb, le-ltb, bit_at-lt, bit_at_cat_low, Input, Tree, Leaf, Fork, Bits, value, IsOrderedFrom, tree_at, input_by, IsRegister, register_by, with_register, start_bits, IsTruthOf, IsWordOf}
+use Rattle.sf_behaviour.proofs.Common.{◌≡◌, ℕ, zero, suc, ◌+◌, ◌-◌, ◌*◌, ◌/◌, ◌%◌, ◌<◌, ◌≤◌, ◌==◌, ◌^◌, Bool, true, false, List, [], ◌∷◌, length, Some, None, refl, sym, ap, ap₂, subst, ◌∙◌, inl, inr, arith, map, slice_index, if◌then◌else◌, bit_at, pow-suc, cases_eq, eq-eqb, ne_eqb, lt-ltb, le-ltb, bit_at-lt, bit_at_cat_low, Input, Tree, Leaf, Fork, Bits, value, IsOrderedFrom, tree_at, input_by, IsRegister, register_by, with_register, start_bits, IsTruthOf}
 use Rattle.std.specs.List.{range_with_len}
 use Rattle.std.proofs.lemmas.List.FromFn.{get_or-map-range_with_len}
+use Rattle.std.proofs.lemmas.Nat.Bits.{bit_at-zero}
 use Rattle.sf_diagram.specs.Trees.{IsOrderedTree}
 use Rattle.sf_behaviour.specs.InputBits.{number_by, input_first, input_number}
 use Rattle.sf_behaviour.specs.Registers.{register_first, register_bit}
 use Rattle.sf_behaviour.proofs.StepLemmas.{low-more, bit-if}
-use Rattle.sf_behaviour.proofs.WordLemmas.{top-bit, word-of-same}
+use Rattle.sf_behaviour.proofs.WordLemmas.{top-bit}
 use Rattle.sf_behaviour.proofs.LoopLemmas.{if-small, literal-truth}
 
 -- ---- numbers by variables
@@ -82,12 +83,6 @@ input-word bits w l =
     let same : 0 + w ≡ w = omega arith in
     get_or-map-range_with_len (input_number bits) 0 16 w w 0 l same
 
-pub input-made : (w : ℕ) (us : List Tree) (ids : List ℕ) (first : ℕ) → w < 16 → first ≡ input_first w
-    → IsWordOf us ids (number_by first 1 32) → IsWordOf us ids (λ bits. slice_index (input_by bits).words w)
-input-made w us ids first l e =
-    word-of-same (number_by first 1 32) (λ bits. slice_index (input_by bits).words w)
-    (λ bits. ap (λ (n : ℕ). number_by n 1 32 bits) e ∙ sym (input-word bits w l))
-
 map-same : (f g : ℕ → ℕ) (xs : List ℕ) → ((x : ℕ) → f x ≡ g x) → map f xs ≡ map g xs
 map-same f g [] same = refl
 map-same f g (x ∷ xs) same = ap₂ (λ (y : ℕ) (ys : List ℕ). y ∷ ys) (same x) (map-same f g xs same)
@@ -114,11 +109,11 @@ value-agrees (Fork v p q) n a b o h =
       value-agrees q (suc v) a b o.2 (λ w l. h w (omega (arith, o.0, l))),
     ) refl
 
-pub ordered-from : (n : ℕ) (t : Tree) (v : ℕ) (l h : Tree) → t ≡ Fork v l h → IsOrderedTree t → n ≤ v
+pub ordered-from : (n : ℕ) {t : Tree} {v : ℕ} {l h : Tree} → t ≡ Fork v l h → IsOrderedTree t → n ≤ v
     → IsOrderedFrom n t
-ordered-from n t v l h e ordered more =
-    let o : IsOrderedTree (Fork v l h) = subst (λ (u : Tree). IsOrderedTree u) e ordered in
-    subst (λ (u : Tree). IsOrderedFrom n u) (sym e) (more, o.1, o.2)
+ordered-from n {v} {l} {h} e ordered more =
+    let o : IsOrderedTree (Fork v l h) = rw e at ordered in
+    rw e (more, o.1, o.2)
 
 -- ---- variables of registers
 
@@ -189,15 +184,6 @@ with-register-input r n bits there =
 
 -- ---- the start
 
-number_by-none : (first distance n : ℕ) (bits : Bits)
-    → ((i : ℕ) → i < n → bits (first + distance * (31 - i)) ≡ false) → number_by first distance n bits ≡ 0
-unfolding number_by
-number_by-none first distance zero bits none = refl
-number_by-none first distance (suc n) bits none =
-    let nothing : 0 * 2 ^ n + 0 ≡ 0 = omega arith in
-    ap₂ (λ (x : Bool) (y : ℕ). (if x then 1 else 0) * 2 ^ n + y) (none n (omega arith))
-    (number_by-none first distance n bits (λ i l. none i (omega arith))) ∙ nothing
-
 pub start-low : (bits : Bits) (v : ℕ) → v < 576 → start_bits bits v ≡ false
 start-low bits v l = rw (lt-ltb v 576 l) refl
 
@@ -206,8 +192,8 @@ start-high bits v l = rw (le-ltb v 576 l) refl
 
 -- at the start all registers are 0 by their variables
 pub start-register : (r : ℕ) (bits : Bits) → IsRegister r → register_by r (start_bits bits) ≡ 0
-start-register r bits there = number_by-none (register_first r) 2 32 (start_bits bits)
-    (λ i l. start-low bits (register_first r + 2 * (31 - i)) (omega arith))
+start-register r bits there = number_by-is (register_first r) 2 32 0 (start_bits bits)
+    (λ i l. rw (bit_at-zero i) (start-low bits (register_first r + 2 * (31 - i)) (omega arith)))
 
 pub start-input : (bits : Bits) → input_by (start_bits bits) ≡ input_by bits
 start-input bits = input_by-same (start_bits bits) bits (λ v l. start-high bits v l)

@@ -1,6 +1,6 @@
 -- Words by their bits, in stores that grow.
-use Rattle.sf_behaviour.proofs.Common.{◌≡◌, ℕ, zero, suc, ◌+◌, ◌-◌, ◌*◌, ◌/◌, ◌%◌, ◌<◌, ◌^◌, List, [], ◌∷◌, length, refl, sym, ap, ap₂, subst, ◌∙◌, inl, inr, arith, slice_index, slice_set, bit_at, pow-suc, cases_eq, length-set, get_or-set_same, get_or-set_other, bit_at_cat_low, Tree, Bits, value, tree_at, KeepsTrees, word_value, IsTruth, IsTruthOf, IsWord, IsWordOf}
-use Rattle.std.proofs.Common.{◌≢◌}
+use Rattle.sf_behaviour.proofs.Common.{◌≡◌, ℕ, zero, suc, ◌+◌, ◌-◌, ◌*◌, ◌/◌, ◌%◌, ◌<◌, ◌^◌, List, [], ◌∷◌, length, refl, sym, ap, ap₂, subst, ◌∙◌, inl, inr, arith, slice_index, slice_set, bit_at, pow-suc, cases_eq, length-set, get_or-set_same, get_or-set_other, bit_at_cat_low, Tree, Bits, value, tree_at, KeepsTrees, chosen_of, word_value, IsTruth, IsTruthOf, IsWord, IsWordOf}
+use Rattle.std.proofs.Common.{◌≢◌, get_or}
 use Rattle.std.proofs.lemmas.Nat.Bits.{bit_at_lowest, bit_at-suc, bit_at-zero, bit_at_cat_high, same_from_bits_below}
 
 -- ---- stores that grow
@@ -27,6 +27,10 @@ truth-of-kept k h = record {
   truth = truth-kept k h.truth;
   values = λ bits. value-kept bits k h.truth ∙ h.values bits;
 }
+
+pub truth-of-same : {ts : List Tree} {id : ℕ} {f g : Bits → ℕ} → IsTruthOf ts id f → ((bits : Bits) → f bits ≡ g bits)
+    → IsTruthOf ts id g
+truth-of-same h same = record { truth = h.truth; values = λ bits. h.values bits ∙ same bits }
 
 -- ---- lists of bits
 
@@ -103,35 +107,64 @@ pub word-of-back : {ts us : List Tree} {ids : List ℕ} {f : Bits → ℕ} → K
     → IsWordOf us ids f → IsWordOf ts ids f
 word-of-back k w h = record { word = w; values = λ bits. sym (number-kept bits k w) ∙ h.values bits }
 
-pub word-of-same : {ts : List Tree} {ids : List ℕ} (f g : Bits → ℕ) → ((bits : Bits) → f bits ≡ g bits)
-    → IsWordOf ts ids f → IsWordOf ts ids g
-word-of-same f g same w = record { word = w.word; values = λ bits. w.values bits ∙ same bits }
+pub word-of-same : {ts : List Tree} {ids : List ℕ} {f g : Bits → ℕ} → IsWordOf ts ids f
+    → ((bits : Bits) → f bits ≡ g bits) → IsWordOf ts ids g
+word-of-same w same = record { word = w.word; values = λ bits. w.values bits ∙ same bits }
 
--- a bit of the word 0
+-- a word has its own numbers, also in a store that has grown
+pub own-number : {ts : List Tree} {ids : List ℕ} → IsWord ts ids → IsWordOf ts ids (word_value ts ids)
+own-number w = record { word = w; values = λ bits. refl }
+
+pub number-now : {ts us : List Tree} {ids : List ℕ} → KeepsTrees ts us → IsWord ts ids
+    → IsWordOf us ids (word_value ts ids)
+number-now k w = word-of-kept k (own-number w)
+
+pub number-small : {ts : List Tree} {ids : List ℕ} {f : Bits → ℕ} (bits : Bits) → IsWordOf ts ids f → f bits < 2 ^ 32
+number-small bits w = rw (← w.values bits) (word-small bits w.word)
+
+-- what is made of two words is made of their numbers
+pub word-by : {ts us : List Tree} {a b w : List ℕ} {f g : Bits → ℕ} (op : Bits → ℕ → ℕ → ℕ) → IsWordOf ts a f
+    → IsWordOf ts b g → IsWordOf us w (λ bits. op bits (word_value ts a bits) (word_value ts b bits))
+    → IsWordOf us w (λ bits. op bits (f bits) (g bits))
+word-by op a b w = word-of-same w (λ bits. ap₂ (op bits) (a.values bits) (b.values bits))
+
+-- a diagram of a word is a bit of its numbers
+pub bit-of : {ts : List Tree} {ids : List ℕ} {f : Bits → ℕ} (i : ℕ) → IsWordOf ts ids f → i < 32
+    → IsTruthOf ts (slice_index ids i) (λ bits. bit_at (f bits) i)
+bit-of i w l = record {
+  truth = w.word.each i l;
+  values = λ bits. sym (bit-of-word bits i w.word l) ∙ ap (λ (n : ℕ). bit_at n i) (w.values bits);
+}
+
 pub none-bit : {ts : List Tree} {none : List ℕ} (i : ℕ) → IsWordOf ts none (λ bits. 0) → i < 32
     → IsTruthOf ts (slice_index none i) (λ bits. 0)
-none-bit i h l = record {
-  truth = h.word.each i l;
-  values = λ bits. sym (bit-of-word bits i h.word l) ∙ ap (λ (n : ℕ). bit_at n i) (h.values bits)
-      ∙ bit_at-zero i;
-}
+none-bit i h l = truth-of-same (bit-of i h l) (λ bits. bit_at-zero i)
+
+-- one of two words, by a bit of a third one
+pub bit-chosen : (n : ℕ) {ts us vs : List Tree} {b x y w : List ℕ} {f g : Bits → ℕ} → KeepsTrees ts us → IsWord ts b
+    → n < 32 → IsWordOf us x f → IsWordOf us y g
+    → IsWordOf vs w (λ bits. chosen_of (value (tree_at us (slice_index b n)) bits) (word_value us x bits)
+    (word_value us y bits))
+    → IsWordOf vs w (λ bits. chosen_of (bit_at (word_value ts b bits) n) (f bits) (g bits))
+bit-chosen n {us} {b} {f} {g} k wb l x y w =
+    word-of-same (word-by (λ bits. chosen_of (value (tree_at us (slice_index b n)) bits)) x y w)
+    (λ bits. ap (λ (t : ℕ). chosen_of t (f bits) (g bits)) (bit-now n bits k wb l))
 
 -- ---- words whose bits are made one by one
 
 -- what holds of each element of a list holds after one was set
-pub set-each : (P : ℕ → ℕ → Type 0) (ids : List ℕ) (n id i : ℕ) → n < length ids → P n id
-    → (i ≢ n → P i (slice_index ids i)) → P i (slice_index (slice_set ids n id) i)
-set-each P ids n id i l here there = elim (cases_eq i n) [
-  | inl e ↦ subst (λ (j : ℕ). P j (slice_index (slice_set ids n id) j)) (sym e)
-      (subst (λ (x : ℕ). P n x) (sym (get_or-set_same ids n id 0 l)) here)
-  | inr ne ↦ subst (λ (x : ℕ). P i x) (sym (get_or-set_other ids n i id 0 ne)) (there ne)
+pub set-each : {B : Type 0} (P : ℕ → B → Type 0) (d : B) (xs : List B) (n : ℕ) (x : B) (i : ℕ) → n < length xs → P n x
+    → (i ≢ n → P i (get_or xs i d)) → P i (get_or (slice_set xs n x) i d)
+set-each P d xs n x i l here there = elim (cases_eq i n) [
+  | inl e ↦ rw (e, get_or-set_same xs n x d l) here
+  | inr ne ↦ rw (get_or-set_other xs n i x d ne) (there ne)
 ]
 
 pub word-set : {ts us : List Tree} {ids : List ℕ} (n : ℕ) {id : ℕ} → KeepsTrees ts us → n < 32 → IsWord ts ids
     → IsTruth us id → IsWord us (slice_set ids n id)
 word-set {us} {ids} n {id} k l w t = record {
   count = length-set ids n id ∙ w.count;
-  each = λ i li. set-each (λ (j x : ℕ). IsTruth us x) ids n id i (omega (arith, w.count)) t
+  each = λ i li. set-each (λ (j x : ℕ). IsTruth us x) 0 ids n id i (omega (arith, w.count)) t
       (λ ne. truth-kept k (w.each i li));
 }
 
@@ -145,7 +178,7 @@ pub begun-more : (n : ℕ) {ts us : List Tree} {ids : List ℕ} {id : ℕ} {f : 
     → IsBegun n ts ids f → IsTruthOf us id (λ bits. bit_at (f bits) n) → IsBegun (n + 1) us (slice_set ids n id) f
 begun-more n {us} {ids} {id} {f} k l b t = record {
   count = length-set ids n id ∙ b.count;
-  each = λ i li. set-each (λ (j x : ℕ). IsTruthOf us x (λ bits. bit_at (f bits) j)) ids n id i
+  each = λ i li. set-each (λ (j x : ℕ). IsTruthOf us x (λ bits. bit_at (f bits) j)) 0 ids n id i
       (omega (arith, b.count)) t (λ ne. truth-of-kept k (b.each i (omega arith)));
 }
 
@@ -163,11 +196,8 @@ pub begun-above : (n : ℕ) {ts us : List Tree} {ids : List ℕ} {id : ℕ} {f :
 begun-above n {us} {id} {f} k l b small t =
     begun-more n k l (record {
       count = b.count;
-      each = λ i li. record {
-        truth = (b.each i li).truth;
-        values = λ bits. (b.each i li).values bits
-            ∙ sym (bit_at_cat_low (value (tree_at us id) bits) n (f bits) i li);
-      };
+      each = λ i li. truth-of-same (b.each i li)
+          (λ bits. sym (bit_at_cat_low (value (tree_at us id) bits) n (f bits) i li));
     }) (record {
       truth = t;
       values = λ bits. sym (top-bit (value (tree_at us id) bits) n (f bits) (t.small bits) (small bits));

@@ -1,6 +1,6 @@
 //! Quotients of words.
 
-ghost use Rattle.std.specs.Prelude.{◌≡◌, ◌<◌, ◌*◌, ◌^◌, IfOk, IfErr};
+ghost use Rattle.std.specs.Prelude.{◌≡◌, ◌<◌, ◌*◌, ◌^◌, ℕ, IfOk, IfErr};
 ghost use Rattle.sf_insn.specs.Words.{apply};
 ghost use Rattle.sf_insn.specs.declared.ops.BinOp.TheVariants.{Div};
 ghost use Rattle.sf_diagram.specs.Trees.{Bits, value};
@@ -31,11 +31,9 @@ fn divide_bit(
     requires zero { IsTruthOf store.old.trees zero (λ bits. 0) }
     ensures bit { IfOk result (λ p. IsTruth store.new.trees p.0) }
     ensures left { IfOk result (λ p. IsWord store.new.trees p.1.bits) }
-    ensures digit { IfOk result (λ p. (bits : Bits)
-        → word_value store.old.trees rest.now.bits bits
-        < 2 * (word_value store.old.trees b.now.bits bits * 2 ^ bit)
-        → IsDigit (word_value store.old.trees rest.now.bits bits)
-        (word_value store.old.trees b.now.bits bits * 2 ^ bit)
+    ensures digit { IfOk result (λ p. (f : Bits → ℕ) → IsWordOf store.old.trees b.now.bits f
+        → (bits : Bits) → word_value store.old.trees rest.now.bits bits < 2 * (f bits * 2 ^ bit)
+        → IsDigit (word_value store.old.trees rest.now.bits bits) (f bits * 2 ^ bit)
         (value (tree_at store.new.trees p.0) bits) (word_value store.new.trees p.1.bits bits)) }
     ensures keeps { KeepsStore store.old store.new }
     ensures spent { IfErr result (λ e. e ≡ Fault.Spent → IsFull store.new) }

@@ -1,8 +1,8 @@
 //! Shifts of words.
 
-ghost use Rattle.std.specs.Prelude.{◌≡◌, ◌<◌, ◌≤◌, List, IfOk, IfErr};
+ghost use Rattle.std.specs.Prelude.{◌≡◌, ◌<◌, ◌≤◌, ℕ, List, IfOk, IfErr};
 ghost use Rattle.sf_insn.specs.Words.{apply};
-ghost use Rattle.sf_diagram.specs.Trees.{Tree};
+ghost use Rattle.sf_diagram.specs.Trees.{Tree, Bits};
 ghost use Rattle.sf_diagram.specs.Stores.{KeepsStore, IsFull};
 ghost use Rattle.sf_behaviour.specs.Words.{word_value, IsTruthOf, IsWord, IsWordOf};
 ghost use Rattle.sf_behaviour.specs.Shifting.{moved, shift_of, shifted_by};
@@ -43,9 +43,9 @@ fn moved_bit(direction: Direction, word: &Word, by: usize, zero: Id, bit: usize)
 /// moved by no more bits than it has.
 pub(crate) fn move_bits(direction: Direction, word: &Word, by: usize, zero: Id) -> Word
     requires { by ≤ 32 }
-    ensures { (ts : List Tree) → IsWord ts word.now.bits → IsTruthOf ts zero (λ bits. 0)
-        → IsWordOf ts result.bits
-        (λ bits. shifted_by direction (word_value ts word.now.bits bits) by) }
+    ensures { (ts : List Tree) (f : Bits → ℕ) → IsWordOf ts word.now.bits f
+        → IsTruthOf ts zero (λ bits. 0)
+        → IsWordOf ts result.bits (λ bits. shifted_by direction (f bits) by) }
 {
     let mut bits = word.bits;
     for i in 0..32 {

@@ -1,6 +1,11 @@
-use Rattle.sf_behaviour.proofs.LoopLemmas.{negated}
+use Rattle.sf_behaviour.proofs.Common.{arith, apply}
+use Rattle.sf_insn.specs.declared.ops.BinOp.TheVariants.{Sub}
+use Rattle.sf_behaviour.proofs.WordLemmas.{number-now, word-by, word-of-same}
 use Rattle.sf_behaviour.proofs.differences.negation.Goals as goal
 
+-- 0 less a word is minus the word
 pub returns-clause-word : goal.returns-clause-word
 returns-clause-word c =
-    negated c.in_ok-zero.ensures.keeps.trees c.requires c.in_ok-zero.ensures.word c.in_ok-word.ensures.word
+    let zero = c.in_ok-zero.ensures in
+    word-of-same (word-by (λ bits. apply Sub) zero.word (number-now zero.keeps.trees c.requires) c.in_ok-word.ensures.word)
+    (λ bits. omega arith)

@@ -1,7 +1,11 @@
-use Rattle.sf_behaviour.proofs.LoopLemmas.{summed}
+use Rattle.sf_behaviour.proofs.Common.{arith, apply}
+use Rattle.sf_insn.specs.declared.ops.BinOp.TheVariants.{Sub}
+use Rattle.sf_behaviour.proofs.WordLemmas.{number-now, word-by, word-of-same, word-small}
 use Rattle.sf_behaviour.proofs.differences.sum.Goals as goal
 
+-- less minus b is plus b
 pub returns-clause-word : goal.returns-clause-word
 returns-clause-word c =
-    summed c.in_ok-minus.ensures.keeps.trees c.requires.a
-    c.requires.b c.in_ok-minus.ensures.word c.in_ok-word.ensures.word
+    let a = number-now c.in_ok-minus.ensures.keeps.trees c.requires.a in
+    word-of-same (word-by (λ bits. apply Sub) a c.in_ok-minus.ensures.word c.in_ok-word.ensures.word)
+    (λ bits. omega (arith, word-small bits c.requires.b))

@@ -1,6 +1,5 @@
-use Rattle.sf_behaviour.proofs.WordLemmas.{word-of-kept}
-use Rattle.sf_behaviour.proofs.KnowledgeLemmas.{knowledge-kept}
-use Rattle.sf_behaviour.proofs.EffectLemmas.{second-word}
+use Rattle.sf_behaviour.proofs.WordLemmas.{word-of-kept, word-of-same}
+use Rattle.sf_behaviour.proofs.KnowledgeLemmas.{knowledge-kept, operand-kept}
 use Rattle.sf_behaviour.proofs.effects.held_words.Goals as goal
 
 pub operand_word-requires : goal.operand_word-requires
@@ -10,6 +9,5 @@ pub returns-clause-first : goal.returns-clause-first
 returns-clause-first c = word-of-kept c.in_ok-b.ensures.keeps.trees c.in_ok-a.ensures.word
 
 pub returns-clause-second : goal.returns-clause-second
-returns-clause-second c =
-    second-word c.args.other c.args.store.now.trees c.held_word.new.store.trees c.operand_word.new.store.trees
-    c.args.known.now c.in_ok-b.b.bits c.in_ok-a.ensures.keeps.trees c.requires.known c.in_ok-b.ensures.word
+returns-clause-second c = word-of-same c.in_ok-b.ensures.word
+    (λ bits. operand-kept bits c.args.other c.in_ok-a.ensures.keeps.trees c.requires.known)

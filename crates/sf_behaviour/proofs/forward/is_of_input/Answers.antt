@@ -1,4 +1,4 @@
-use Rattle.sf_behaviour.proofs.Common.{leb-true, tree_at}
+use Rattle.sf_behaviour.proofs.Common.{leb-true}
 use Rattle.sf_behaviour.proofs.VariableLemmas.{ordered-from}
 use Rattle.sf_behaviour.proofs.forward.is_of_input.Goals as goal
 
@@ -6,8 +6,5 @@ pub returns-in-Number : goal.returns-in-Number
 returns-in-Number c = λ e. rw c.in-Number.ensures.tree tt
 
 pub returns-in-Choice : goal.returns-in-Choice
-returns-in-Choice c = λ e.
-    let ts = c.args.store.now.trees in
-    ordered-from 576 (tree_at ts c.args.id) c.in-Choice.variable (tree_at ts c.in-Choice.field-1)
-    (tree_at ts c.in-Choice.field-2) c.in-Choice.ensures.tree
+returns-in-Choice c = λ e. ordered-from 576 c.in-Choice.ensures.tree
     (c.in-Choice.ensures.lawful.canonical.ordered c.args.id c.requires) (leb-true 576 c.in-Choice.variable e)

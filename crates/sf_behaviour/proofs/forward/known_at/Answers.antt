@@ -1,4 +1,4 @@
-use Rattle.sf_behaviour.proofs.Common.{◌≡◌, ◌<◌, length, Some, None, refl, sym, subst, ◌∙◌, arith, Option, Known, IsMet}
+use Rattle.sf_behaviour.proofs.Common.{refl, arith}
 use Rattle.std.proofs.lemmas.Bool.{both_ways}
 use Rattle.std.proofs.lemmas.Option.{slice_get_within}
 use Rattle.sf_behaviour.proofs.StepsLemmas.{after-knowledge, element-at}
@@ -39,23 +39,20 @@ loop-p-preserved c =
     }
 
 pub returns-in-Some-clause-less : goal.returns-in-Some-clause-less
-returns-in-Some-clause-less c = λ p s at to.
-    let within : p < length c.args.steps.now.items = slice_get_within c.args.steps.now.items p s at in
-    subst (λ (o : Option Known). IsMet o s.after) c.in-Some.is
-    (c.loop-p.invariant.met p s (omega (arith, within)) at to)
+returns-in-Some-clause-less c = λ p s there to.
+    let within = slice_get_within c.args.steps.now.items p s there in
+    rw c.in-Some.is at (c.loop-p.invariant.met p s (omega (arith, within)) there to)
 
 pub returns-in-Some-clause-right : goal.returns-in-Some-clause-right
 returns-in-Some-clause-right c = λ ts are start. c.loop-p.invariant.right ts c.in-Some.known are c.in-Some.is
 
 pub returns-in-Some-clause-first : goal.returns-in-Some-clause-first
-returns-in-Some-clause-first c = λ none.
-    let clash : None ≡ Some c.in-Some.known = sym (c.loop-p.invariant.first none) ∙ c.in-Some.is in absurd cc
+returns-in-Some-clause-first c = λ none. absurd (cc (c.loop-p.invariant.first none))
 
 pub returns-in-None-clause-less : goal.returns-in-None-clause-less
-returns-in-None-clause-less c = λ p s at to.
-    let within : p < length c.args.steps.now.items = slice_get_within c.args.steps.now.items p s at in
-    absurd (subst (λ (o : Option Known). IsMet o s.after) c.in-None.is
-    (c.loop-p.invariant.met p s (omega (arith, within)) at to))
+returns-in-None-clause-less c = λ p s there to.
+    let within = slice_get_within c.args.steps.now.items p s there in
+    absurd (rw c.in-None.is at (c.loop-p.invariant.met p s (omega (arith, within)) there to))
 
 pub returns-in-None-clause-right : goal.returns-in-None-clause-right
 returns-in-None-clause-right c = λ ts are start. start

@@ -1,4 +1,4 @@
-use Rattle.sf_behaviour.proofs.Common.{subst, Option, same_Some, Known, IsKnowledge, IsLess, IsMet}
+use Rattle.sf_behaviour.proofs.Common.{subst, same_Some, Known, IsKnowledge, IsLess}
 use Rattle.sf_behaviour.proofs.KnowledgeLemmas.{knowledge-less}
 use Rattle.sf_behaviour.proofs.forward.met.Goals as goal
 
@@ -7,7 +7,7 @@ returns-in-Some-clause-leads c = c.meet.ensures.second
 
 pub returns-in-Some-clause-stays : goal.returns-in-Some-clause-stays
 returns-in-Some-clause-stays c = λ k h.
-    let less : IsLess c.in-Some.before k = subst (λ (o : Option Known). IsMet o k) c.in-Some.is h in
+    let less : IsLess c.in-Some.before k = rw c.in-Some.is at h in
     λ r w e. less r w (c.meet.ensures.first r w e)
 
 pub returns-in-Some-clause-right : goal.returns-in-Some-clause-right
@@ -19,7 +19,7 @@ pub returns-in-None-clause-leads : goal.returns-in-None-clause-leads
 returns-in-None-clause-leads c = λ r w e. e
 
 pub returns-in-None-clause-stays : goal.returns-in-None-clause-stays
-returns-in-None-clause-stays c = λ k h. absurd (subst (λ (o : Option Known). IsMet o k) c.in-None.is h)
+returns-in-None-clause-stays c = λ k h. absurd (rw c.in-None.is at h)
 
 pub returns-in-None-clause-right : goal.returns-in-None-clause-right
 returns-in-None-clause-right c = λ ts k after old e.

@@ -7,16 +7,10 @@ pub step_at-step-requires : goal.step_at-step-requires
 step_at-step-requires c = next-inside c.requires
 
 pub id_at-requires : goal.id_at-requires
-id_at-requires c =
-    omega (
-      arith,
-      c.requires.is.behind.count,
-      next-inside c.requires,
-    )
+id_at-requires c = omega (arith, c.requires.is.behind.count, next-inside c.requires)
 
 pub learn-requires-clause-knowledge : goal.learn-requires-clause-knowledge
-learn-requires-clause-knowledge c = after-knowledge
-    (this-step c.requires.is)
+learn-requires-clause-knowledge c = after-knowledge (this-step c.requires.is)
 
 pub learn-requires-clause-less : goal.learn-requires-clause-less
 learn-requires-clause-less c = c.requires.is.are.less c.requires.place c.args.place c.args.from.now

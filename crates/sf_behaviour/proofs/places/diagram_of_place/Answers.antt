@@ -1,26 +1,23 @@
-use Rattle.sf_behaviour.proofs.Common.{◌+◌, [], ◌∷◌, refl, arith, keeps_more, insns_of}
+use Rattle.sf_behaviour.proofs.Common.{◌+◌, [], ◌∷◌, refl, arith, keeps_more, insns_of, set_progress, source_number}
 use Rattle.sf_check.specs.ContainsLaws.{contains_here, contains_there}
 use Rattle.sf_behaviour.proofs.EffectLemmas.{chosen-diagram}
 use Rattle.sf_behaviour.proofs.KnowledgeLemmas.{knowledge-kept}
-use Rattle.sf_behaviour.proofs.PlaceLemmas.{place-kept, place-step, same-tells, set-follows, set-there, this-step}
-use Rattle.sf_behaviour.proofs.StepsLemmas.{after-knowledge, after-same, step-kept}
-use Rattle.sf_behaviour.proofs.TellLemmas.{follows-return, follows-skip, follows-test, tells-kept}
+use Rattle.sf_behaviour.proofs.PlaceLemmas.{next-of, place-kept, place-step, same-tells, this-step}
+use Rattle.sf_behaviour.proofs.StepsLemmas.{after-knowledge, after-same, effect-is, step-kept}
+use Rattle.sf_behaviour.proofs.TellLemmas.{follows-guard, follows-return, follows-set, follows-skip, follows-test, tells-kept}
 use Rattle.sf_behaviour.proofs.places.diagram_of_place.Goals as goal
 
 -- ---- a register is set
 
 pub diagram_behind-requires : goal.diagram_behind-requires
-diagram_behind-requires c = record {
-  place = c.args.place;
-  is = c.requires;
-  leads = rw c.in-Sets.is (contains_here (c.args.place + 1) [] (c.args.place + 1) refl);
-}
+diagram_behind-requires c =
+    next-of c.requires (rw c.in-Sets.is (contains_here (c.args.place + 1) [] (c.args.place + 1) refl))
 
 pub set_diagram-requires-clause-register : goal.set_diagram-requires-clause-register
-set_diagram-requires-clause-register c = (set-there c.requires c.in-Sets.is).0
+set_diagram-requires-clause-register c = (effect-is (this-step c.requires) c.in-Sets.is).there.0
 
 pub set_diagram-requires-clause-source : goal.set_diagram-requires-clause-source
-set_diagram-requires-clause-source c = (set-there c.requires c.in-Sets.is).1
+set_diagram-requires-clause-source c = (effect-is (this-step c.requires) c.in-Sets.is).there.1
 
 pub set_diagram-requires-clause-known : goal.set_diagram-requires-clause-known
 set_diagram-requires-clause-known c =
@@ -34,20 +31,24 @@ guarded_diagram-requires-clause-known c =
 pub returns-in_ok-guarded-in-Sets-clause-tells : goal.returns-in_ok-guarded-in-Sets-clause-tells
 returns-in_ok-guarded-in-Sets-clause-tells c =
     let kept = place-kept c.in_ok-next-in-Sets.ensures.keeps.trees c.requires in
-    place-step kept c.in-Sets.is (set-follows c.in_ok-set-in-Sets.ensures.keeps.trees
-    c.in_ok-guarded-in-Sets.ensures.keeps.trees kept c.in-Sets.is c.in_ok-next-in-Sets.ensures.tells
-    c.in_ok-set-in-Sets.ensures.small c.in_ok-set-in-Sets.ensures.replaced c.in_ok-guarded-in-Sets.ensures.values)
+    let is_step = this-step kept in
+    let set = c.in_ok-set-in-Sets.ensures in
+    let guarded = c.in_ok-guarded-in-Sets.ensures in
+    let code = insns_of c.args.steps.now.items in
+    let r = c.in-Sets.register in
+    let source = c.in-Sets.source in
+    place-step kept c.in-Sets.is (follows-guard code c.args.place source
+    (λ d s. set_progress s r (source_number d s source)) guarded.keeps.trees
+    (knowledge-kept set.keeps.trees is_step.known) (follows-set code c.args.place r source
+    (effect-is is_step c.in-Sets.is).there.0 is_step.known set.keeps.trees (after-same is_step c.in-Sets.is)
+    c.in_ok-next-in-Sets.ensures.tells set.small set.replaced) guarded.values)
 
 -- ---- instructions are skipped
 
 pub diagram_behind-requires-in-Skips : goal.diagram_behind-requires-in-Skips
 diagram_behind-requires-in-Skips c =
     let next = c.args.place + 1 + c.in-Skips.k in
-    record {
-      place = c.args.place;
-      is = c.requires;
-      leads = rw c.in-Skips.is (contains_here next [] next refl);
-    }
+    next-of c.requires (rw c.in-Skips.is (contains_here next [] next refl))
 
 pub returns-in_ok-skipped-in-Skips-clause-tells : goal.returns-in_ok-skipped-in-Skips-clause-tells
 returns-in_ok-skipped-in-Skips-clause-tells c =
@@ -60,21 +61,14 @@ pub diagram_behind-requires-in-Tests : goal.diagram_behind-requires-in-Tests
 diagram_behind-requires-in-Tests c =
     let hit = c.args.place + 1 + c.in-Tests.on_true in
     let miss = c.args.place + 1 + c.in-Tests.on_false in
-    record {
-      place = c.args.place;
-      is = c.requires;
-      leads = rw c.in-Tests.is (contains_here hit (miss ∷ []) hit refl);
-    }
+    next-of c.requires (rw c.in-Tests.is (contains_here hit (miss ∷ []) hit refl))
 
 pub diagram_behind-requires-in-Tests-2 : goal.diagram_behind-requires-in-Tests-2
 diagram_behind-requires-in-Tests-2 c =
     let hit = c.args.place + 1 + c.in-Tests.on_true in
     let miss = c.args.place + 1 + c.in-Tests.on_false in
-    record {
-      place = c.args.place;
-      is = place-kept c.in_ok-taken-in-Tests.ensures.keeps.trees c.requires;
-      leads = rw c.in-Tests.is (contains_there hit (miss ∷ []) miss (contains_here miss [] miss refl));
-    }
+    next-of (place-kept c.in_ok-taken-in-Tests.ensures.keeps.trees c.requires)
+    (rw c.in-Tests.is (contains_there hit (miss ∷ []) miss (contains_here miss [] miss refl)))
 
 pub test_diagram-requires-clause-known : goal.test_diagram-requires-clause-known
 test_diagram-requires-clause-known c =

@@ -1,5 +1,6 @@
-use Rattle.sf_behaviour.proofs.Common.{◌≡◌, ◌∙◌, ℕ, refl, subst, length-set, arith, Option, keeps_more, Known, known_word, Tells, Word}
-use Rattle.sf_behaviour.proofs.KnowledgeLemmas.{each-set, knowledge-kept, same-known, set-less}
+use Rattle.sf_behaviour.proofs.Common.{◌≡◌, ◌∙◌, ℕ, refl, subst, length-set, arith, None, Option, keeps_more, Known, known_word, Tells, Word}
+use Rattle.sf_behaviour.proofs.WordLemmas.{set-each}
+use Rattle.sf_behaviour.proofs.KnowledgeLemmas.{knowledge-kept, same-known, set-less}
 use Rattle.sf_behaviour.proofs.places.learn.Goals as goal
 
 pub learn_register-requires-clause-knowledge : goal.learn_register-requires-clause-knowledge
@@ -13,12 +14,12 @@ loop-register-preserved c =
     let r = c.loop-register.register in
     let word = known_word more r in
     record {
-      keeps = keeps_more c.args.store.now c.loop-register.store c.learn_register.new.store h.keeps e.keeps;
+      keeps = keeps_more _ _ _ h.keeps e.keeps;
       within = e.within;
       count = rw e.known (length-set c.loop-register.so_far r word ∙ h.count);
       less = rw e.known (set-less c.loop-register.so_far more r word (omega arith) h.count h.less (λ w at. at));
-      same = λ q l. rw e.known (each-set (λ (p : ℕ) (o : Option Word). o ≡ known_word more p) c.loop-register.so_far
-          r q word (omega arith) h.count refl (λ ne. h.same q (omega arith)));
+      same = λ q l. rw e.known (set-each (λ (p : ℕ) (o : Option Word). o ≡ known_word more p) None
+          c.loop-register.so_far r word q (omega (arith, h.count)) refl (λ ne. h.same q (omega arith)));
       tells = λ code place t. e.tells code place (h.tells code place t);
     }
 

@@ -1,5 +1,5 @@
 use Rattle.sf_behaviour.proofs.Common.{source_in}
-use Rattle.sf_behaviour.proofs.EffectLemmas.{source-small}
+use Rattle.sf_behaviour.proofs.WordLemmas.{number-small}
 use Rattle.sf_behaviour.proofs.places.set_diagram.Goals as goal
 
 pub returns-clause-replaced : goal.returns-clause-replaced
@@ -7,6 +7,4 @@ returns-clause-replaced c = c.in_ok-id.ensures.replaced
     (λ bits. source_in c.args.store.now.trees c.args.known.now bits c.args.source) c.in_ok-by.ensures.word
 
 pub returns-clause-small : goal.returns-clause-small
-returns-clause-small c =
-    source-small c.args.source c.args.store.now.trees c.source_word.new.store.trees c.args.known.now c.in_ok-by.by.bits
-    c.in_ok-by.ensures.word
+returns-clause-small c = λ bits. number-small bits c.in_ok-by.ensures.word

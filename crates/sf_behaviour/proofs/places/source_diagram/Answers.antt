@@ -1,16 +1,15 @@
-use Rattle.sf_behaviour.proofs.Common.{ℕ, ◌<◌, ◌^◌, ◌∙◌, ap, sym, subst, arith, Tree, value}
+use Rattle.sf_behaviour.proofs.Common.{◌∙◌, refl, arith}
 use Rattle.sf_behaviour.proofs.WordLemmas.{word-small}
 use Rattle.sf_behaviour.proofs.places.source_diagram.Goals as goal
 
 pub returns-in_ok-leaf-in-Constant-clause-values : goal.returns-in_ok-leaf-in-Constant-clause-values
 returns-in_ok-leaf-in-Constant-clause-values c = rw c.in-Constant.is (record {
   within = c.in_ok-leaf-in-Constant.ensures.within;
-  values = λ bits. ap (λ (t : Tree). value t bits) c.in_ok-leaf-in-Constant.ensures.tree;
+  values = λ bits. rw c.in_ok-leaf-in-Constant.ensures.tree refl;
 })
 
 pub returns-in_ok-leaf-in-Constant-clause-small : goal.returns-in_ok-leaf-in-Constant-clause-small
-returns-in_ok-leaf-in-Constant-clause-small c = λ bits.
-    subst (λ (t : Tree). value t bits < 2 ^ 32) (sym c.in_ok-leaf-in-Constant.ensures.tree) (omega arith)
+returns-in_ok-leaf-in-Constant-clause-small c = λ bits. rw c.in_ok-leaf-in-Constant.ensures.tree (omega arith)
 
 pub returns-in_ok-id-in_default-clause-values : goal.returns-in_ok-id-in_default-clause-values
 returns-in_ok-id-in_default-clause-values c = record {
@@ -20,5 +19,4 @@ returns-in_ok-id-in_default-clause-values c = record {
 
 pub returns-in_ok-id-in_default-clause-small : goal.returns-in_ok-id-in_default-clause-small
 returns-in_ok-id-in_default-clause-small c = λ bits.
-    subst (λ (n : ℕ). n < 2 ^ 32) (sym (c.in_ok-id-in_default.ensures.number.values bits)) (word-small bits
-    c.in_ok-word-in_default.ensures.word.word)
+    rw (c.in_ok-id-in_default.ensures.number.values bits) (word-small bits c.in_ok-word-in_default.ensures.word.word)

@@ -1,10 +1,8 @@
-use Rattle.sf_behaviour.proofs.Common.{ℕ, ap, register_by}
+use Rattle.sf_behaviour.proofs.Common.{ℕ, ap}
 use Rattle.sf_behaviour.specs.InputBits.{number_by}
 use Rattle.sf_behaviour.proofs.WordLemmas.{word-of-same}
 use Rattle.sf_behaviour.proofs.registers.register_word.Goals as goal
 
 pub returns-clause-word : goal.returns-clause-word
 returns-clause-word c =
-    word-of-same (number_by c.highest_bit.result 2 32)
-    (register_by c.args.register) (λ bits. ap (λ (n : ℕ). number_by n 2 32 bits) c.highest_bit.ensures.is)
-    c.in_ok-word.ensures.word
+    word-of-same c.in_ok-word.ensures.word (λ bits. ap (λ (n : ℕ). number_by n 2 32 bits) c.highest_bit.ensures.is)

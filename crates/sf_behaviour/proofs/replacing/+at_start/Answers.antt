@@ -1,12 +1,11 @@
-use Rattle.sf_behaviour.proofs.Common.{◌∙◌, sym, ap, arith, Tree, value, tree_at, start_bits}
-use Rattle.sf_behaviour.proofs.ReplacingLemmas.{start-leaf, start-lower, start-stays}
+use Rattle.sf_behaviour.proofs.Common.{◌∙◌, refl, sym, ap, arith, Tree, value, tree_at, start_bits}
+use Rattle.sf_behaviour.proofs.ReplacingLemmas.{start-lower, start-stays}
 use Rattle.sf_behaviour.proofs.replacing.+at_start.Goals as goal
 
 pub returns-in-Number : goal.returns-in-Number
 returns-in-Number t c = record {
   within = c.requires;
-  values = λ bits.
-      start-leaf (tree_at c.args.store.now.trees c.args.id) c.in-Number.field-0 bits c.in-Number.ensures.tree;
+  values = λ bits. rw c.in-Number.ensures.tree refl;
 }
 
 pub returns-then-variable-ge-REGISTER_BITS : goal.returns-then-variable-ge-REGISTER_BITS

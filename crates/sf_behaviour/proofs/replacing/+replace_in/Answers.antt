@@ -1,13 +1,15 @@
-use Rattle.sf_behaviour.proofs.Common.{◌<◌, ℕ, refl, sym, word_value, arith, Bits, tree_at, IsWordOf}
+use Rattle.sf_behaviour.proofs.Common.{◌<◌, ℕ, refl, sym, word_value, arith, Bits, tree_at, IsReplaced, IsWordOf}
 use Rattle.sf_behaviour.proofs.WordLemmas.{keeps-both, word-kept, word-of-back, word-of-kept}
-use Rattle.sf_behaviour.proofs.ReplacingLemmas.{AreSides, replaced-leaf, replaced-past, replaced-made, all-kept, all-put}
+use Rattle.sf_behaviour.proofs.ReplacingLemmas.{replaced-kept, replaced-past, replaced-made, all-kept, all-put}
 use Rattle.sf_behaviour.proofs.replacing.+replace_in.Goals as goal
-use Rattle.sf_behaviour.proofs.replacing.+replace_in.Goals.{In_ok-bit}
+use Rattle.sf_behaviour.proofs.replacing.+replace_in.Goals.{In_ok-new}
 
 pub returns-in-Number-clause-replaced : goal.returns-in-Number-clause-replaced
-returns-in-Number-clause-replaced t c = λ f h.
-    replaced-leaf c.args.register c.args.store.now.trees f c.args.id c.in-Number.field-0 c.requires.within
-    c.in-Number.ensures.tree
+returns-in-Number-clause-replaced t c = λ f h. record {
+  id_within = c.requires.within;
+  within = c.requires.within;
+  values = λ bits. rw c.in-Number.ensures.tree refl;
+}
 
 pub returns-in-Number-clause-made : goal.returns-in-Number-clause-made
 returns-in-Number-clause-made t c = λ f h. c.requires.made f h
@@ -53,38 +55,26 @@ replace_in-requires-2 t c =
       ),
     )
 
-sides : (t : ℕ) (c : In_ok-bit t) (f : Bits → ℕ) → IsWordOf c.args.store.now.trees c.args.by.now.bits f
-    → AreSides c.args.register f c.args.store.now.trees c.replace_in.new.store.trees
-    c.replace_in-2.new.store.trees c.bit_for.new.store.trees c.in-Choice.variable c.args.id
-    c.in-Choice.lower c.in-Choice.higher c.in_ok-new_lower.new_lower c.in_ok-new_higher.new_higher c.in_ok-bit.bit
-sides t c f h =
-    let k01 = c.in_ok-new_lower.ensures.keeps.trees in
-    let k12 = c.in_ok-new_higher.ensures.keeps.trees in
-    let h1 = word-of-kept k01 h in
-    record {
-      keeps_first = k01;
-      keeps_second = k12;
-      keeps_third = c.in_ok-bit.ensures.keeps.trees;
-      within = c.requires.within;
-      lower_within = omega (arith, c.in-Choice.ensures.older, c.requires.within);
-      higher_within = omega (arith, c.in-Choice.ensures.older, c.requires.within);
-      fork = c.in-Choice.ensures.tree;
-      low_is = c.in_ok-new_lower.ensures.replaced f h;
-      high_is = c.in_ok-new_higher.ensures.replaced f h1;
-      bit_is = c.in_ok-bit.ensures.truth f (word-of-kept k12 h1);
-    }
+replaced : (t : ℕ) (c : In_ok-new t) (f : Bits → ℕ) → IsWordOf c.args.store.now.trees c.args.by.now.bits f
+    → IsReplaced c.args.register c.choose.new.store.trees f c.args.id c.in_ok-new.new
+replaced t c f h =
+    let k1 = c.in_ok-new_lower.ensures.keeps.trees in
+    let k2 = c.in_ok-new_higher.ensures.keeps.trees in
+    let k3 = c.in_ok-bit.ensures.keeps.trees in
+    let h1 = word-of-kept k1 h in
+    replaced-made c.in_ok-new.new (keeps-both k1 (keeps-both k2 k3)) c.in_ok-new.ensures.keeps.trees c.requires.within
+    (omega (arith, c.in-Choice.ensures.older, c.requires.within))
+    (omega (arith, c.in-Choice.ensures.older, c.requires.within)) c.in-Choice.ensures.tree
+    (replaced-kept (keeps-both k2 k3) (c.in_ok-new_lower.ensures.replaced f h))
+    (replaced-kept k3 (c.in_ok-new_higher.ensures.replaced f h1)) (c.in_ok-bit.ensures.truth f (word-of-kept k2 h1))
+    c.in_ok-new.ensures.within c.in_ok-new.ensures.chosen
 
 pub returns-clause-replaced : goal.returns-clause-replaced
-returns-clause-replaced t c = λ f h.
-    replaced-made
-    c.in_ok-new.new (sides t (goal.at.returns-clause-replaced t c).In_ok-bit f h) c.in_ok-new.ensures.keeps.trees
-    c.in_ok-new.ensures.within c.in_ok-new.ensures.chosen
+returns-clause-replaced t c = replaced t (goal.at.returns-clause-replaced t c).In_ok-new
 
 pub returns-clause-made : goal.returns-clause-made
 returns-clause-made t c = λ f h.
-    let h1 = word-of-kept c.in_ok-new_lower.ensures.keeps.trees h in
     all-put c.insert.new.self c.in_ok-insert.ensures.updates
     (all-kept (keeps-both c.in_ok-bit.ensures.keeps.trees c.in_ok-new.ensures.keeps.trees)
-    (c.in_ok-new_higher.ensures.made f h1))
-    (replaced-made c.in_ok-new.new (sides t (goal.at.returns-clause-made t c).In_ok-bit f h)
-    c.in_ok-new.ensures.keeps.trees c.in_ok-new.ensures.within c.in_ok-new.ensures.chosen)
+    (c.in_ok-new_higher.ensures.made f (word-of-kept c.in_ok-new_lower.ensures.keeps.trees h)))
+    (replaced t (goal.at.returns-clause-made t c).In_ok-new f h)

@@ -1,4 +1,4 @@
-use Rattle.sf_behaviour.proofs.Common.{◌≡◌, ◌%◌, ◌^◌, Bits, KeepsStore, word_value, IsTruthOf, IsWord}
+use Rattle.sf_behaviour.proofs.Common.{◌≡◌, ◌%◌, ◌^◌, KeepsStore, word_value, IsTruthOf, IsWordOf}
 use Rattle.sf_behaviour.specs.Shifting.{shifted_by}
 use Rattle.sf_behaviour.proofs.shifting.shift.Given as goal
 
@@ -7,8 +7,6 @@ invariant-loop-i l = record {
   keeps : KeepsStore l.fn.store l.store;
   none : IsTruthOf l.store.trees l.zero (λ bits. 0);
   places : l.places ≡ 2 ^ l.i;
-  word : IsWord l.store.trees l.so_far.bits;
-  values : (bits : Bits) → word_value l.store.trees l.so_far.bits bits
-      ≡ shifted_by l.direction (word_value l.fn.store.trees l.word.bits bits)
-      (word_value l.fn.store.trees l.by.bits bits % 2 ^ l.i);
+  word : IsWordOf l.store.trees l.so_far.bits (λ bits. shifted_by l.direction
+      (word_value l.fn.store.trees l.word.bits bits) (word_value l.fn.store.trees l.by.bits bits % 2 ^ l.i));
 }

@@ -1,12 +1,10 @@
-use Rattle.sf_behaviour.proofs.Common.{◌≡◌, ◌%◌, ◌^◌, Bits, value, tree_at, KeepsStore, word_value, IsTruth}
+use Rattle.sf_behaviour.proofs.Common.{◌%◌, ◌^◌, KeepsStore, word_value, IsTruthOf}
 use Rattle.sf_behaviour.proofs.StepLemmas.{truth_of}
 use Rattle.sf_behaviour.proofs.testing.test_words.Given as goal
 
 abbrev pub invariant-loop-i : goal.invariant-loop-i
 invariant-loop-i l = record {
   keeps : KeepsStore l.fn.store l.store;
-  passed : IsTruth l.store.trees l.passed;
-  so_far : (bits : Bits) → value (tree_at l.store.trees l.passed) bits
-      ≡ truth_of l.test (word_value l.fn.store.trees l.a.bits bits % 2 ^ l.i)
-      (word_value l.fn.store.trees l.b.bits bits % 2 ^ l.i);
+  passed : IsTruthOf l.store.trees l.passed (λ bits. truth_of l.test (word_value l.fn.store.trees l.a.bits bits % 2 ^ l.i)
+      (word_value l.fn.store.trees l.b.bits bits % 2 ^ l.i));
 }

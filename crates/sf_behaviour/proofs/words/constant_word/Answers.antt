@@ -1,18 +1,16 @@
-use Rattle.sf_behaviour.proofs.Common.{arith, keeps_more}
+use Rattle.sf_behaviour.proofs.Common.{arith, keeps_more, bit_at, bit_at-lt}
 use Rattle.sf_behaviour.proofs.WordLemmas.{begun-more, word-made}
-use Rattle.sf_behaviour.proofs.LoopLemmas.{bit-leaf}
+use Rattle.sf_behaviour.proofs.LoopLemmas.{leaf-truth}
 use Rattle.sf_behaviour.proofs.words.constant_word.Goals as goal
 
 pub loop-i-preserved : goal.loop-i-preserved
 loop-i-preserved c =
-    let before = c.loop-i.store in
-    let after = c.leaf.new.self in
-    let kept = c.in_ok-bit.ensures.keeps in
+    let bit = c.in_ok-bit.ensures in
+    let number = c.args.number in
     record {
-      keeps = keeps_more c.args.store.now before after c.loop-i.invariant.keeps kept;
-      begun = begun-more c.loop-i.i kept.trees (omega arith) c.loop-i.invariant.begun
-          (bit-leaf c.loop-i.i c.args.number after.trees c.in_ok-bit.bit c.in_ok-bit.ensures.within
-          c.in_ok-bit.ensures.tree);
+      keeps = keeps_more _ _ _ c.loop-i.invariant.keeps bit.keeps;
+      begun = begun-more c.loop-i.i bit.keeps.trees (omega arith) c.loop-i.invariant.begun
+          (leaf-truth (bit_at number c.loop-i.i) bit.within bit.tree (bit_at-lt number c.loop-i.i));
     }
 
 pub returns-clause-word : goal.returns-clause-word

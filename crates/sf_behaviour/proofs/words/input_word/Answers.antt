@@ -1,7 +1,9 @@
-use Rattle.sf_behaviour.proofs.VariableLemmas.{input-made}
+use Rattle.sf_behaviour.proofs.Common.{◌∙◌, ℕ, ap, sym}
+use Rattle.sf_behaviour.specs.InputBits.{number_by}
+use Rattle.sf_behaviour.proofs.WordLemmas.{word-of-same}
+use Rattle.sf_behaviour.proofs.VariableLemmas.{input-word}
 use Rattle.sf_behaviour.proofs.words.input_word.Goals as goal
 
 pub returns-clause-word : goal.returns-clause-word
-returns-clause-word c =
-    input-made c.args.word c.variable_word.new.store.trees c.in_ok-word.word.bits c.first_variable.result c.requires
-    c.first_variable.ensures.is c.in_ok-word.ensures.word
+returns-clause-word c = word-of-same c.in_ok-word.ensures.word (λ bits.
+    ap (λ (n : ℕ). number_by n 1 32 bits) c.first_variable.ensures.is ∙ sym (input-word bits c.args.word c.requires))
