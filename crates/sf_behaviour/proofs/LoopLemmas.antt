@@ -98,9 +98,9 @@ tested-begun test a b =
 pub tested-all : (test : Test) (n a b : ℕ) → n ≡ 32 → a < 2 ^ 32 → b < 2 ^ 32
     → truth_of test (a % 2 ^ n) (b % 2 ^ n) ≡ truth_of test a b
 tested-all test n a b e la lb =
-    let all_a : a % 2 ^ 32 ≡ a = omega arith in
-    let all_b : b % 2 ^ 32 ≡ b = omega arith in
-    rw e (ap₂ (truth_of test) all_a all_b)
+    let all_a : a % 2 ^ n ≡ a = rw e (omega arith) in
+    let all_b : b % 2 ^ n ≡ b = rw e (omega arith) in
+    ap₂ (truth_of test) all_a all_b
 
 -- ---- single bits
 

@@ -82,10 +82,12 @@ replaced-made {r} {f} {s0} {v} {id} {lower} {higher} new k m inside ll lh fork l
       within = within;
       values = λ bits.
           let there : Bits = with_register r (f bits) bits in
-          chosen.values bits
-          ∙ rw (bit_is.values bits, replaced-value bits k lh high_is, replaced-value bits k ll low_is)
-          (choice-if (there v) (value (tree_at s0 higher) there) (value (tree_at s0 lower) there))
-          ∙ sym (ap (λ (t : Tree). value t there) (m.same id (omega (arith, inside, k.longer)) ∙ k.same id inside ∙ fork));
+          chosen.values bits ∙ rw (
+            bit_is.values bits,
+            replaced-value bits k lh high_is,
+            replaced-value bits k ll low_is,
+            m.same id (omega (arith, inside, k.longer)) ∙ k.same id inside ∙ fork,
+          ) (choice-if (there v) (value (tree_at s0 higher) there) (value (tree_at s0 lower) there));
     }
 
 -- ---- all that were made

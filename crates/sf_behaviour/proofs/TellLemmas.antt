@@ -29,12 +29,12 @@ ends-of n code d (returns met m) o e = ap (λ (q : List Bool × ℕ). q.1) (same
 ends-of n code d stuck o e = absurd cc
 
 -- the first step of a run that comes to an end
-first-step : (n : ℕ) {code : List Insn} (d : Input) (s : State) {i : Insn} {effect : Effect} {o : List Bool × ℕ}
+first-step : (n : ℕ) (code : List Insn) (d : Input) (s : State) {i : Insn} {effect : Effect} {o : List Bool × ℕ}
     → IsAt code s.place i → IsEffectOf i effect → run_for n code d s ≡ Some o
     → Ends code d (effect_progress d s effect) o.1
 unfolding run_for
-first-step zero d s there is e = absurd cc
-first-step (suc n) {code} d s {i} {o = o} there is e =
+first-step zero code d s there is e = absurd cc
+first-step (suc n) code d s {i} {o = o} there is e =
     subst (λ (p : Progress). Ends code d p o.1) (is.does d s)
     (ends-of n code d (insn_progress d s i) o (rw (step_is code d s i there) at e))
 
@@ -55,7 +55,7 @@ tells-step {code} {i} there is f = record {
   within = f.within;
   small = f.small;
   values = λ bits s n o here fits run. f.values bits s o.1 here fits
-      (first-step n (input_by bits) s (subst (λ (p : ℕ). IsAt code p i) (sym here) there) is run);
+      (first-step n code (input_by bits) s (subst (λ (p : ℕ). IsAt code p i) (sym here) there) is run);
 }
 
 -- a store that has grown

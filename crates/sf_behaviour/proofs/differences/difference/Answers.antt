@@ -6,7 +6,8 @@ use Rattle.sf_behaviour.proofs.differences.difference.Goals as goal
 
 pub loop-i-init : goal.loop-i-init
 loop-i-init c =
-    let zero = leaf-truth 0 c.in_ok-borrowed.ensures.within c.in_ok-borrowed.ensures.tree (omega arith) in
+    let zero = leaf-truth 0 {ts = c.leaf.new.self.trees} c.in_ok-borrowed.ensures.within
+    c.in_ok-borrowed.ensures.tree (omega arith) in
     record {
       keeps = c.in_ok-borrowed.ensures.keeps;
       borrowed = zero.truth;

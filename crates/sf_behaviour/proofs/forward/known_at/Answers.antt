@@ -47,7 +47,7 @@ pub returns-in-Some-clause-right : goal.returns-in-Some-clause-right
 returns-in-Some-clause-right c = λ ts are start. c.loop-p.invariant.right ts c.in-Some.known are c.in-Some.is
 
 pub returns-in-Some-clause-first : goal.returns-in-Some-clause-first
-returns-in-Some-clause-first c = λ none. absurd (cc (c.loop-p.invariant.first none))
+returns-in-Some-clause-first c = λ none. absurd (cc (c.loop-p.invariant.first none, c.in-Some.is))
 
 pub returns-in-None-clause-less : goal.returns-in-None-clause-less
 returns-in-None-clause-less c = λ p s there to.
