@@ -1,18 +1,5 @@
 -- Diagrams of numbers, and their fold to an answer.
-use Rattle.sf_behaviour.proofs.Common.{◌≡◌, ℕ, ◌+◌, ◌*◌, ◌/◌, ◌%◌, ◌<◌, ◌≤◌, ◌^◌, Bool, true, false, List, [], ◌∷◌, ◌++◌, length, map, refl, sym, ap, ap₂, subst, ◌∙◌, arith, bit_at, if◌then◌else◌, Input, Insn, return_of, Tree, Leaf, Bits, value, tree_at, KeepsTrees, input_by, IsDiagramOf}
-use Rattle.std.specs.Prelude.{nat_lt}
-use Rattle.std.proofs.lemmas.Nat.{and_mask, shr_le, shr-shr}
-use Rattle.std.proofs.lemmas.Nat.Bits.{and_high_mask}
-use Rattle.std.proofs.lemmas.List.{map_push}
-use Rattle.sf_insn.specs.Inputs.{IsInput}
-use Rattle.sf_run.specs.Answers.{action_bits, data_bits, action_number, rank, Answers, IsAnswer, folded_answer}
-use Rattle.sf_run.specs.AnswerLaws.{number-action_of, answer_more, answer_none, one}
-use Rattle.sf_run.specs.Machine.{returns_of}
-use Rattle.sf_run.specs.declared.action.Answer.{Answer}
-use Rattle.sf_diagram.specs.Merges.{IsMerged}
-use Rattle.sf_diagram.specs.Operations.{folded_of}
-use Rattle.sf_diagram.specs.declared.operation.Operation.TheVariants.{Fold}
-use Rattle.sf_behaviour.specs.Answering.{answer_with, HasAnswers, IsBehaviour}
+use Rattle.sf_behaviour.proofs.Common.{◌≡◌, ℕ, ◌+◌, ◌*◌, ◌/◌, ◌%◌, ◌<◌, ◌≤◌, ◌^◌, Bool, true, false, List, [], ◌∷◌, ◌++◌, length, map, refl, sym, ap, ap₂, subst, ◌∙◌, arith, bit_at, if◌then◌else◌, Input, Insn, return_of, Tree, Leaf, Bits, value, tree_at, KeepsTrees, input_by, IsDiagramOf, nat_lt, and_mask, shr_le, shr-shr, and_high_mask, map_push, IsInput, action_bits, data_bits, action_number, rank, Answers, IsAnswer, folded_answer, number-action_of, answer_more, answer_none, one, returns_of, Answer, IsMerged, folded_of, Fold, answer_with, HasAnswers, IsBehaviour}
 use Rattle.sf_behaviour.proofs.InputLemmas.{input-is}
 use Rattle.sf_behaviour.proofs.ReplacingLemmas.{less-if}
 

@@ -1,15 +1,6 @@
 -- A diagram that is chosen by a test, and what operations, loads and stores do to a state.
-use Rattle.sf_behaviour.proofs.Common.{◌≡◌, ℕ, suc, ◌+◌, ◌<◌, ◌==◌, Bool, true, false, List, [], ◌∷◌, length, Option, Some, None, refl, ap, ◌∙◌, arith, slice_get, if◌then◌else◌, Input, Insn, apply, Operand, State, Tree, Bits, value, tree_at, KeepsTrees, A, next_with, register_number, set_progress, effect_progress, IsEffectOf, IsDiagramOf, IsTruthOf, Sets, Source}
-use Rattle.std.specs.Prelude.{unwrap_or}
-use Rattle.std.proofs.lemmas.Option.{unwrap_or-slice_get}
-use Rattle.sf_insn.specs.declared.ops.BinOp.{BinOp}
-use Rattle.sf_insn.specs.declared.ops.BinOp.TheVariants.{Div}
+use Rattle.sf_behaviour.proofs.Common.{◌≡◌, ℕ, suc, ◌+◌, ◌<◌, ◌==◌, Bool, true, false, List, [], ◌∷◌, length, Option, Some, None, refl, ap, ◌∙◌, arith, slice_get, if◌then◌else◌, Input, Insn, apply, Operand, State, Tree, Bits, value, tree_at, KeepsTrees, A, next_with, register_number, set_progress, effect_progress, IsEffectOf, IsDiagramOf, IsTruthOf, Sets, Source, unwrap_or, unwrap_or-slice_get, BinOp, Div, successors, goes, returns, insn_progress, load_progress, operation_progress, store_progress, IsChosen, IsEffect, unmet, Result}
 use Rattle.sf_check.specs.declared.insn.Operand.TheVariants.{X as OfX}
-use Rattle.sf_check.specs.Insns.{successors}
-use Rattle.sf_run.specs.Machine.{goes, returns, insn_progress, load_progress, operation_progress, store_progress}
-use Rattle.sf_diagram.specs.Choices.{IsChosen}
-use Rattle.sf_behaviour.specs.Effects.{IsEffect, unmet}
-use Rattle.sf_behaviour.specs.declared.effects.Source.TheVariants.{Result}
 use Rattle.sf_behaviour.proofs.ReplacingLemmas.{choice-if}
 
 -- one of two diagrams by a test

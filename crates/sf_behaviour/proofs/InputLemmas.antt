@@ -1,12 +1,5 @@
 -- Each input is that of some variables.
-use Rattle.sf_behaviour.proofs.Common.{◌≡◌, ℕ, ◌+◌, ◌-◌, ◌*◌, ◌/◌, ◌%◌, ◌<◌, ◌^◌, ◌==◌, List, true, length, refl, sym, ap, ap₂, subst, ◌∙◌, inl, inr, arith, slice_index, bit_at, cases_lt, length-map, Bits, Input, input_by}
-use Rattle.std.specs.List.{range_with_len}
-use Rattle.std.proofs.lemmas.Bool.{agree_below_at, eqb-true}
-use Rattle.std.proofs.lemmas.Grind.{same_number_lists}
-use Rattle.std.proofs.lemmas.List.{get_or_past}
-use Rattle.std.proofs.lemmas.List.FromFn.{length-range_with_len}
-use Rattle.sf_insn.specs.Inputs.{IsInput}
-use Rattle.sf_behaviour.specs.InputBits.{places_of_words, words_in_order, input_first, input_number, input_bits}
+use Rattle.sf_behaviour.proofs.Common.{◌≡◌, ℕ, ◌+◌, ◌-◌, ◌*◌, ◌/◌, ◌%◌, ◌<◌, ◌^◌, ◌==◌, List, true, length, refl, sym, ap, ap₂, subst, ◌∙◌, inl, inr, arith, slice_index, bit_at, cases_lt, length-map, Bits, Input, input_by, range_with_len, agree_below_at, eqb-true, same_number_lists, get_or_past, length-range_with_len, IsInput, places_of_words, words_in_order, input_first, input_number, input_bits}
 use Rattle.sf_behaviour.proofs.VariableLemmas.{number_by-is, number_by-small, input-word, with_words}
 
 word-at-place : (w : ℕ) → w < 16 → slice_index words_in_order (slice_index places_of_words w) ≡ w

@@ -1,11 +1,7 @@
 -- What registers are known to have, from place to place.
-use Rattle.sf_behaviour.proofs.Common.{◌≡◌, ℕ, ◌<◌, ◌^◌, List, length, length-set, replicate, Option, Some, None, refl, sym, ap, ap₂, ◌∙◌, inl, inr, arith, slice_index, slice_set, same_Some, get_or-set_same, get_or-set_other, cases_eq, apply, negation_of, Operand, Tree, Bits, KeepsTrees, State, start, input_by, A, X, IsRegister, with_register, start_bits, next_with, Known, known_word, held_in, IsInputWord, IsKnowledge, IsLess, source_number, operand_in, source_in, word_value, IsWord, Word, Source}
-use Rattle.std.specs.Prelude.{MatchOption}
-use Rattle.std.proofs.lemmas.List.{ext_get_or}
+use Rattle.sf_behaviour.proofs.Common.{◌≡◌, ℕ, ◌<◌, ◌^◌, List, length, length-set, replicate, Option, Some, None, refl, sym, ap, ap₂, ◌∙◌, inl, inr, arith, slice_index, slice_set, same_Some, get_or-set_same, get_or-set_other, cases_eq, apply, negation_of, Operand, Tree, Bits, KeepsTrees, State, start, input_by, A, X, IsRegister, with_register, start_bits, next_with, Known, known_word, held_in, IsInputWord, IsKnowledge, IsLess, source_number, operand_in, source_in, word_value, IsWord, Word, Source, MatchOption, ext_get_or, operand_of, Fits, Held, Negation, Result}
 use Rattle.sf_check.specs.declared.insn.Operand.TheVariants.{Constant as Fixed, X as OfX}
-use Rattle.sf_run.specs.Machine.{operand_of}
-use Rattle.sf_behaviour.specs.Knowledge.{Fits}
-use Rattle.sf_behaviour.specs.declared.effects.Source.TheVariants.{Constant, Word as InputWord, Held, Negation, Result}
+use Rattle.sf_behaviour.specs.declared.effects.Source.TheVariants.{Constant, Word as InputWord}
 use Rattle.sf_behaviour.proofs.WordLemmas.{set-each, word-kept, word-small, number-kept}
 use Rattle.sf_behaviour.proofs.VariableLemmas.{with-register-own, with-register-other, start-register}
 use Rattle.sf_behaviour.proofs.RegisterLemmas.{none-there, number-after, number-elsewhere, start-number, start-there}

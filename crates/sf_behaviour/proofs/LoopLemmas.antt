@@ -1,10 +1,6 @@
 -- What the loops over the bits of words keep, from one bit to the next. Trees ts are those at first, us those so far,
 -- and vs those with one more bit.
-use Rattle.sf_behaviour.proofs.Common.{◌≡◌, ℕ, zero, suc, ◌+◌, ◌-◌, ◌*◌, ◌/◌, ◌%◌, ◌<◌, ◌^◌, List, length, Bool, true, false, refl, sym, ap, ap₂, ◌∙◌, arith, slice_index, if◌then◌else◌, bit_at, pow_pos, bit_at-lt, Test, Tree, Leaf, Fork, Bits, value, tree_at, KeepsTrees, chosen_of, word_value, IsTruthOf, IsWord}
-use Rattle.std.proofs.lemmas.Nat.{and_le_l, or_lt, xor_lt, and_shr, or_shr, xor_shr, and_mod, or_mod, xor_mod, mod_below}
-use Rattle.sf_behaviour.specs.Combining.{combined, tested_bits, IsBitwise}
-use Rattle.sf_behaviour.specs.declared.combining.Bitwise.{Bitwise}
-use Rattle.sf_behaviour.specs.declared.combining.Bitwise.TheVariants.{And, Or, Xor, Choose}
+use Rattle.sf_behaviour.proofs.Common.{◌≡◌, ℕ, zero, suc, ◌+◌, ◌-◌, ◌*◌, ◌/◌, ◌%◌, ◌<◌, ◌^◌, List, length, Bool, true, false, refl, sym, ap, ap₂, ◌∙◌, arith, slice_index, if◌then◌else◌, bit_at, pow_pos, bit_at-lt, Test, Tree, Leaf, Fork, Bits, value, tree_at, KeepsTrees, chosen_of, word_value, IsTruthOf, IsWord, and_le_l, or_lt, xor_lt, and_shr, or_shr, xor_shr, and_mod, or_mod, xor_mod, mod_below, combined, tested_bits, IsBitwise, Bitwise, And, Or, Xor, Choose}
 use Rattle.sf_behaviour.proofs.WordLemmas.{bit-now, truth-kept, truth-of-same, value-kept}
 use Rattle.sf_behaviour.proofs.StepLemmas.{less-more, low-more, truth_of, test-more}
 

@@ -1,8 +1,5 @@
 -- Places, their steps, and the places to which they lead.
-use Rattle.sf_behaviour.proofs.Common.{◌≡◌, ℕ, ◌<◌, List, length, Some, sym, subst, arith, Contains, slice_get, slice_index, length-map, Insn, Tree, KeepsTrees, Known, effect_progress, insns_of, places_after, Tells, Step, Effect}
-use Rattle.sf_check.specs.Insns.{successors}
-use Rattle.sf_check.specs.ProgramLaws.{below_in, successors_inside}
-use Rattle.sf_behaviour.specs.Telling.{IsNext, IsPlace, IsStep}
+use Rattle.sf_behaviour.proofs.Common.{◌≡◌, ℕ, ◌<◌, List, length, Some, sym, subst, arith, Contains, slice_get, slice_index, length-map, Insn, Tree, KeepsTrees, Known, effect_progress, insns_of, places_after, Tells, Step, Effect, successors, below_in, successors_inside, IsNext, IsPlace, IsStep}
 use Rattle.sf_behaviour.proofs.StepsLemmas.{effect-is, from-kept, leads-later, step-at, steps-kept}
 use Rattle.sf_behaviour.proofs.TellLemmas.{Follows, tells-step}
 

@@ -1,7 +1,5 @@
 -- Products, bit by bit.
-use Rattle.sf_behaviour.proofs.Common.{◌≡◌, ℕ, zero, suc, ◌+◌, ◌*◌, ◌%◌, ◌<◌, ◌^◌, sym, ap, ◌∙◌, arith, bit_at, bit_at-lt, apply, chosen_of}
-use Rattle.std.proofs.Math.Nat.{add-mod, mod-mod}
-use Rattle.sf_insn.specs.declared.ops.BinOp.TheVariants.{Mul}
+use Rattle.sf_behaviour.proofs.Common.{◌≡◌, ℕ, zero, suc, ◌+◌, ◌*◌, ◌%◌, ◌<◌, ◌^◌, sym, ap, ◌∙◌, arith, bit_at, bit_at-lt, apply, chosen_of, add-mod, mod-mod, Mul}
 use Rattle.sf_behaviour.proofs.StepLemmas.{low-more}
 
 -- one more bit of the second number

@@ -1,10 +1,5 @@
 -- Quotients, bit by bit from the highest.
-use Rattle.sf_behaviour.proofs.Common.{◌≡◌, ℕ, zero, suc, ◌+◌, ◌-◌, ◌*◌, ◌/◌, ◌%◌, ◌<◌, ◌≤◌, ◌==◌, ◌^◌, Bool, true, false, List, [], ◌∷◌, length, refl, sym, ap, ◌∙◌, inl, inr, arith, slice_index, slice_set, if◌then◌else◌, pow-suc, leb-true, cases_eq, eq-eqb, ne_eqb, get_or-set_other, pow-add, Tree, Bits, value, tree_at, KeepsTrees, chosen_of, word_value, IsWord}
-use Rattle.std.specs.Prelude.{nat_le}
-use Rattle.std.proofs.Math.Nat.{le-div_iff_mul-le, div-lt_iff_lt-mul}
-use Rattle.std.proofs.lemmas.Bool.{leb-false}
-use Rattle.std.proofs.lemmas.Nat.{div-mul-add}
-use Rattle.sf_behaviour.specs.Dividing.{IsDigit}
+use Rattle.sf_behaviour.proofs.Common.{◌≡◌, ℕ, zero, suc, ◌+◌, ◌-◌, ◌*◌, ◌/◌, ◌%◌, ◌<◌, ◌≤◌, ◌==◌, ◌^◌, Bool, true, false, List, [], ◌∷◌, length, refl, sym, ap, ◌∙◌, inl, inr, arith, slice_index, slice_set, if◌then◌else◌, pow-suc, leb-true, cases_eq, eq-eqb, ne_eqb, get_or-set_other, pow-add, Tree, Bits, value, tree_at, KeepsTrees, chosen_of, word_value, IsWord, nat_le, le-div_iff_mul-le, div-lt_iff_lt-mul, leb-false, div-mul-add, IsDigit}
 use Rattle.sf_behaviour.proofs.WordLemmas.{value-kept, number-kept}
 
 -- ---- one bit

@@ -1,8 +1,5 @@
 -- The registers of a state.
-use Rattle.sf_behaviour.proofs.Common.{◌≡◌, ℕ, zero, suc, ◌<◌, List, length, length-set, replicate, Option, Some, None, refl, sym, ap, ◌∙◌, inl, inr, arith, slice_set, cases_lt, get_or-set_same, get_or-set_other, same_Some, State, start, IsRegister, register_number, next_with}
-use Rattle.std.specs.Prelude.{slice_index_or}
-use Rattle.std.proofs.lemmas.List.{get_or_past}
-use Rattle.sf_behaviour.specs.Registers.{registers_of}
+use Rattle.sf_behaviour.proofs.Common.{◌≡◌, ℕ, zero, suc, ◌<◌, List, length, length-set, replicate, Option, Some, None, refl, sym, ap, ◌∙◌, inl, inr, arith, slice_set, cases_lt, get_or-set_same, get_or-set_other, same_Some, State, start, IsRegister, register_number, next_with, slice_index_or, get_or_past, registers_of}
 
 module _ {B : Type 0} where
   -- what stands in a list stands within it

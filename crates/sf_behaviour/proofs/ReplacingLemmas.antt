@@ -1,13 +1,5 @@
 -- Diagrams in which a word stands in the place of a register.
-use Rattle.sf_behaviour.proofs.Common.{◌≡◌, ℕ, ◌<◌, ◌≤◌, ◌^◌, Bool, true, false, Some, None, List, length, refl, sym, ap, subst, ◌∙◌, inl, inr, arith, slice_index, if◌then◌else◌, bit_at, bit_at-lt, cases_eq, Tree, Leaf, Fork, Bits, value, tree_at, KeepsTrees, chosen_of, IsTruthOf, IsWordOf, with_register, start_bits, IsReplaced}
-use Rattle.std.specs.BTreeMap.{BTreeMap, get, is_at, Updates, IsEmpty}
-use Rattle.std.specs.Map.{lookup}
-use Rattle.std.specs.Ordering.{nat_cmp}
-use Rattle.std.proofs.lemmas.Bool.Decides.{nat_tests}
-use Rattle.sf_diagram.specs.Trees.{IsOrderedTree}
-use Rattle.sf_diagram.specs.Choices.{IsChosen}
-use Rattle.sf_behaviour.specs.Registers.{register_bit}
-use Rattle.sf_behaviour.specs.Replacing.{AreReplaced}
+use Rattle.sf_behaviour.proofs.Common.{◌≡◌, ℕ, ◌<◌, ◌≤◌, ◌^◌, Bool, true, false, Some, None, List, length, refl, sym, ap, subst, ◌∙◌, inl, inr, arith, slice_index, if◌then◌else◌, bit_at, bit_at-lt, cases_eq, Tree, Leaf, Fork, Bits, value, tree_at, KeepsTrees, chosen_of, IsTruthOf, IsWordOf, with_register, start_bits, IsReplaced, BTreeMap, get, is_at, Updates, IsEmpty, lookup, nat_cmp, nat_tests, IsOrderedTree, IsChosen, register_bit, AreReplaced}
 use Rattle.sf_behaviour.proofs.WordLemmas.{bit-of, truth-of-same}
 use Rattle.sf_behaviour.proofs.StepLemmas.{bit-if}
 use Rattle.sf_behaviour.proofs.LoopLemmas.{literal-truth}

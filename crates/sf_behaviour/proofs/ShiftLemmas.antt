@@ -1,11 +1,5 @@
 -- Words whose bits are moved.
-use Rattle.sf_behaviour.proofs.Common.{◌≡◌, ℕ, zero, suc, ◌+◌, ◌-◌, ◌*◌, ◌/◌, ◌%◌, ◌<◌, ◌≤◌, ◌^◌, List, length, refl, sym, ap, ◌∙◌, inl, inr, arith, slice_index, bit_at, cases_lt, lt-ltb, le-ltb, pow_pos, pow-add, bit_at-lt, bit_at_cat_low, apply, Tree, Bits, chosen_of, IsTruthOf, IsWordOf, moved}
-use Rattle.std.proofs.Math.Nat.{pow-le-pow_right}
-use Rattle.std.proofs.lemmas.Nat.{div-add-mod', mul-mod_first, shr-shr, shr_le}
-use Rattle.std.proofs.lemmas.Nat.Bits.{bit_at-zero, bit_at_above, bit_at_cat_high}
-use Rattle.sf_behaviour.specs.Shifting.{shift_of, shifted_by}
-use Rattle.sf_behaviour.specs.declared.shifting.Direction.{Direction}
-use Rattle.sf_behaviour.specs.declared.shifting.Direction.TheVariants.{Left, Right}
+use Rattle.sf_behaviour.proofs.Common.{◌≡◌, ℕ, zero, suc, ◌+◌, ◌-◌, ◌*◌, ◌/◌, ◌%◌, ◌<◌, ◌≤◌, ◌^◌, List, length, refl, sym, ap, ◌∙◌, inl, inr, arith, slice_index, bit_at, cases_lt, lt-ltb, le-ltb, pow_pos, pow-add, bit_at-lt, bit_at_cat_low, apply, Tree, Bits, chosen_of, IsTruthOf, IsWordOf, moved, pow-le-pow_right, div-add-mod', mul-mod_first, shr-shr, shr_le, bit_at-zero, bit_at_above, bit_at_cat_high, shift_of, shifted_by, Direction, Left, Right}
 use Rattle.sf_behaviour.proofs.WordLemmas.{bit-of, number-small, truth-of-same, word-made}
 use Rattle.sf_behaviour.proofs.StepLemmas.{low-more}
 

@@ -1,13 +1,5 @@
 -- What operations and tests make of two numbers with one more bit each.
-use Rattle.sf_behaviour.proofs.Common.{◌≡◌, ℕ, zero, suc, ◌+◌, ◌*◌, ◌%◌, ◌<◌, ◌≤◌, ◌^◌, ◌==◌, Bool, true, false, refl, sym, ap, ◌∙◌, arith, if◌then◌else◌, bit_at, eq-eqb, lt-ltb, le-ltb, leb-true, ne_eqb, pow_pos, pow-add, passes, Test, Equal}
-use Rattle.std.proofs.Common.{not}
-use Rattle.std.specs.Prelude.{bit_and, bit_or, nat_lt, nat_le}
-use Rattle.std.specs.Int.Bits.{and_block}
-use Rattle.std.proofs.lemmas.Bool.{eqb-true, ltb-true, le-leb, lt-leb}
-use Rattle.std.proofs.lemmas.Bool.Decides.{same_from_decides}
-use Rattle.std.proofs.lemmas.Nat.{and_le_l, mod-pow-add}
-use Rattle.sf_insn.specs.declared.ops.Test.TheVariants.{Greater, GreaterOrEqual, AnyBit}
-use Rattle.sf_behaviour.specs.Combining.{tested_bits}
+use Rattle.sf_behaviour.proofs.Common.{◌≡◌, ℕ, zero, suc, ◌+◌, ◌*◌, ◌%◌, ◌<◌, ◌≤◌, ◌^◌, ◌==◌, Bool, true, false, refl, sym, ap, ◌∙◌, arith, if◌then◌else◌, bit_at, eq-eqb, lt-ltb, le-ltb, leb-true, ne_eqb, pow_pos, pow-add, passes, Test, Equal, not, bit_and, bit_or, nat_lt, nat_le, and_block, eqb-true, ltb-true, le-leb, lt-leb, same_from_decides, and_le_l, mod-pow-add, Greater, GreaterOrEqual, AnyBit, tested_bits}
 
 -- a difference of n bits, with one more bit
 pub less-more : (n a b c d x y z e : ℕ) → d + b ≡ a + c * 2 ^ n → z + y + c ≡ x + 2 * e

@@ -1,13 +1,5 @@
 -- Steps, and the diagrams of the last places.
-use Rattle.sf_behaviour.proofs.Common.{◌≡◌, ℕ, zero, suc, ◌+◌, ◌<◌, ◌≤◌, List, [], ◌∷◌, ◌++◌, length, Option, Some, None, refl, sym, ap, ap₂, subst, ◌∙◌, inl, inr, arith, Contains, slice_get, slice_index, slice_set, cases_lt, length-map, length-set, same_Some, Insn, IsLawfulProgram, Tree, value, tree_at, KeepsTrees, insns_of, AreSteps, Tells, TellFrom, return_of, input_by, IsDiagramOf, places_after, IsEffectOf, Known, IsKnowledge, start_bits, Step, Effect, Sets, Tests}
-use Rattle.std.proofs.Common.{◌⊎◌, length-append, get_or, take}
-use Rattle.std.proofs.lemmas.List.{get_or_push, get_or_append_left, map-append, take_more}
-use Rattle.std.proofs.lemmas.Option.{slice_get-get_or, slice_get_within, get_or_from_slice_get}
-use Rattle.sf_check.specs.ContainsLaws.{contains_cons, contains_nil}
-use Rattle.sf_check.specs.Programs.{IsAt}
-use Rattle.sf_behaviour.specs.Telling.{IsStep}
-use Rattle.sf_behaviour.specs.Steps.{IsAfter}
-use Rattle.sf_behaviour.specs.declared.effects.Effect.TheVariants.{Skips, Returns}
+use Rattle.sf_behaviour.proofs.Common.{◌≡◌, ℕ, zero, suc, ◌+◌, ◌<◌, ◌≤◌, List, [], ◌∷◌, ◌++◌, length, Option, Some, None, refl, sym, ap, ap₂, subst, ◌∙◌, inl, inr, arith, Contains, slice_get, slice_index, slice_set, cases_lt, length-map, length-set, same_Some, Insn, IsLawfulProgram, Tree, value, tree_at, KeepsTrees, insns_of, AreSteps, Tells, TellFrom, return_of, input_by, IsDiagramOf, places_after, IsEffectOf, Known, IsKnowledge, start_bits, Step, Effect, Sets, Tests, ◌⊎◌, length-append, get_or, take, get_or_push, get_or_append_left, map-append, take_more, slice_get-get_or, slice_get_within, get_or_from_slice_get, contains_cons, contains_nil, IsAt, IsStep, IsAfter, Skips, Returns}
 use Rattle.sf_behaviour.proofs.WordLemmas.{number-kept, set-each, word-of-kept, word-of-same}
 use Rattle.sf_behaviour.proofs.KnowledgeLemmas.{input-word-kept, knowledge-kept, set-knowledge, source-kept}
 use Rattle.sf_behaviour.proofs.TellLemmas.{tells-kept, tells-program}

@@ -1,11 +1,6 @@
 -- The bits of registers and of the input as variables.
-use Rattle.sf_behaviour.proofs.Common.{◌≡◌, ℕ, zero, suc, ◌+◌, ◌-◌, ◌*◌, ◌/◌, ◌%◌, ◌<◌, ◌≤◌, ◌==◌, ◌^◌, Bool, true, false, List, [], ◌∷◌, length, Some, None, refl, sym, ap, ap₂, subst, ◌∙◌, inl, inr, arith, map, slice_index, if◌then◌else◌, bit_at, pow-suc, cases_eq, eq-eqb, ne_eqb, lt-ltb, le-ltb, bit_at-lt, bit_at_cat_low, Input, Tree, Leaf, Fork, Bits, value, IsOrderedFrom, tree_at, input_by, IsRegister, register_by, with_register, start_bits, IsTruthOf}
-use Rattle.std.specs.List.{range_with_len}
-use Rattle.std.proofs.lemmas.List.FromFn.{get_or-map-range_with_len}
-use Rattle.std.proofs.lemmas.Nat.Bits.{bit_at-zero}
-use Rattle.sf_diagram.specs.Trees.{IsOrderedTree}
-use Rattle.sf_behaviour.specs.InputBits.{number_by, input_first, input_number}
-use Rattle.sf_behaviour.specs.Registers.{register_first, register_bit}
+use Rattle.sf_behaviour.proofs.Common.{◌≡◌, ℕ, zero, suc, ◌+◌, ◌-◌, ◌*◌, ◌/◌, ◌%◌, ◌<◌, ◌≤◌, ◌==◌, ◌^◌, Bool, true, false, List, [], ◌∷◌, length, Some, None, refl, sym, ap, ap₂, subst, ◌∙◌, inl, inr, arith, map, slice_index, if◌then◌else◌, bit_at, pow-suc, cases_eq, eq-eqb, ne_eqb, lt-ltb, le-ltb, bit_at-lt, bit_at_cat_low, Input, Tree, Leaf, Fork, Bits, value, IsOrderedFrom, tree_at, input_by, IsRegister, register_by, with_register, start_bits, IsTruthOf, range_with_len, get_or-map-range_with_len, bit_at-zero, IsOrderedTree, input_first, input_number, register_first, register_bit}
+use Rattle.sf_behaviour.specs.InputBits.{number_by}
 use Rattle.sf_behaviour.proofs.StepLemmas.{low-more, bit-if}
 use Rattle.sf_behaviour.proofs.WordLemmas.{top-bit}
 use Rattle.sf_behaviour.proofs.LoopLemmas.{if-small, literal-truth}

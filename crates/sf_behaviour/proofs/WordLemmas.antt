@@ -1,7 +1,5 @@
 -- Words by their bits, in stores that grow.
-use Rattle.sf_behaviour.proofs.Common.{◌≡◌, ℕ, zero, suc, ◌+◌, ◌-◌, ◌*◌, ◌/◌, ◌%◌, ◌<◌, ◌^◌, List, [], ◌∷◌, length, refl, sym, ap, ap₂, subst, ◌∙◌, inl, inr, arith, slice_index, slice_set, bit_at, pow-suc, cases_eq, length-set, get_or-set_same, get_or-set_other, bit_at_cat_low, Tree, Bits, value, tree_at, KeepsTrees, chosen_of, word_value, IsTruth, IsTruthOf, IsWord, IsWordOf}
-use Rattle.std.proofs.Common.{◌≢◌, get_or}
-use Rattle.std.proofs.lemmas.Nat.Bits.{bit_at_lowest, bit_at-suc, bit_at-zero, bit_at_cat_high, same_from_bits_below}
+use Rattle.sf_behaviour.proofs.Common.{◌≡◌, ℕ, zero, suc, ◌+◌, ◌-◌, ◌*◌, ◌/◌, ◌%◌, ◌<◌, ◌^◌, List, [], ◌∷◌, length, refl, sym, ap, ap₂, subst, ◌∙◌, inl, inr, arith, slice_index, slice_set, bit_at, pow-suc, cases_eq, length-set, get_or-set_same, get_or-set_other, bit_at_cat_low, Tree, Bits, value, tree_at, KeepsTrees, chosen_of, word_value, IsTruth, IsTruthOf, IsWord, IsWordOf, ◌≢◌, get_or, bit_at_lowest, bit_at-suc, bit_at-zero, bit_at_cat_high, same_from_bits_below}
 
 -- ---- stores that grow
 

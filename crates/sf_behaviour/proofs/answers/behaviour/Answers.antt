@@ -1,5 +1,4 @@
-use Rattle.sf_behaviour.proofs.Common.{[], ◌∷◌, ◌++◌, arith, keeps_more}
-use Rattle.std.proofs.lemmas.Grind.{common_steps}
+use Rattle.sf_behaviour.proofs.Common.{[], ◌∷◌, ◌++◌, arith, keeps_more, common_steps}
 use Rattle.sf_behaviour.proofs.AnswerLemmas.{fold-begun, fold-more}
 use Rattle.sf_behaviour.proofs.answers.behaviour.Goals as goal
 

@@ -1,5 +1,4 @@
-use Rattle.sf_behaviour.proofs.Common.{◌≡◌, List, map, Insn, KeepsStore}
-use Rattle.sf_behaviour.specs.Answering.{HasAnswers}
+use Rattle.sf_behaviour.proofs.Common.{◌≡◌, List, map, Insn, KeepsStore, HasAnswers}
 use Rattle.sf_behaviour.proofs.AnswerLemmas.{returns_on}
 use Rattle.sf_behaviour.proofs.answers.behaviour.Given as goal
 

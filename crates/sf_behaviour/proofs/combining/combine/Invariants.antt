@@ -1,5 +1,4 @@
-use Rattle.sf_behaviour.proofs.Common.{KeepsStore, word_value}
-use Rattle.sf_behaviour.specs.Combining.{combined}
+use Rattle.sf_behaviour.proofs.Common.{KeepsStore, word_value, combined}
 use Rattle.sf_behaviour.proofs.WordLemmas.{IsBegun}
 use Rattle.sf_behaviour.proofs.combining.combine.Given as goal
 

@@ -1,5 +1,4 @@
-use Rattle.sf_behaviour.proofs.Common.{arith, apply}
-use Rattle.sf_insn.specs.declared.ops.BinOp.TheVariants.{Sub}
+use Rattle.sf_behaviour.proofs.Common.{arith, apply, Sub}
 use Rattle.sf_behaviour.proofs.WordLemmas.{number-now, word-by, word-of-same}
 use Rattle.sf_behaviour.proofs.differences.negation.Goals as goal
 

@@ -1,5 +1,4 @@
-use Rattle.sf_behaviour.proofs.Common.{arith, apply}
-use Rattle.sf_insn.specs.declared.ops.BinOp.TheVariants.{Sub}
+use Rattle.sf_behaviour.proofs.Common.{arith, apply, Sub}
 use Rattle.sf_behaviour.proofs.WordLemmas.{number-now, word-by, word-of-same, word-small}
 use Rattle.sf_behaviour.proofs.differences.sum.Goals as goal
 

@@ -1,6 +1,4 @@
-use Rattle.sf_behaviour.proofs.Common.{◌∙◌, Some, replicate, refl, arith, rules, keeps_more, Step}
-use Rattle.std.proofs.Common.{length-append}
-use Rattle.std.proofs.lemmas.List.{get_or_default, take_all}
+use Rattle.sf_behaviour.proofs.Common.{◌∙◌, Some, replicate, refl, arith, rules, keeps_more, Step, length-append, get_or_default, take_all}
 use Rattle.sf_behaviour.proofs.WordLemmas.{word-of-kept}
 use Rattle.sf_behaviour.proofs.StepsLemmas.{code-more}
 use Rattle.sf_behaviour.proofs.ForwardLemmas.{AreZero, range-at, steps-more, steps-none, zero-knowledge}

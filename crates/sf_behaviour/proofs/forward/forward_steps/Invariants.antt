@@ -1,5 +1,4 @@
-use Rattle.sf_behaviour.proofs.Common.{◌≡◌, length, KeepsStore, insns_of, AreSteps}
-use Rattle.std.proofs.Common.{take}
+use Rattle.sf_behaviour.proofs.Common.{◌≡◌, length, KeepsStore, insns_of, AreSteps, take}
 use Rattle.sf_behaviour.proofs.ForwardLemmas.{AreZero}
 use Rattle.sf_behaviour.proofs.forward.forward_steps.Given as goal
 

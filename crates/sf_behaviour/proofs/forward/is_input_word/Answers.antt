@@ -1,5 +1,4 @@
-use Rattle.sf_behaviour.proofs.Common.{arith}
-use Rattle.std.proofs.Common.{below_more}
+use Rattle.sf_behaviour.proofs.Common.{arith, below_more}
 use Rattle.sf_behaviour.proofs.ForwardLemmas.{input-word}
 use Rattle.sf_behaviour.proofs.forward.is_input_word.Goals as goal
 

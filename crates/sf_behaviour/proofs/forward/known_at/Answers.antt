@@ -1,6 +1,4 @@
-use Rattle.sf_behaviour.proofs.Common.{refl, arith}
-use Rattle.std.proofs.lemmas.Bool.{both_ways}
-use Rattle.std.proofs.lemmas.Option.{slice_get_within}
+use Rattle.sf_behaviour.proofs.Common.{refl, arith, both_ways, slice_get_within}
 use Rattle.sf_behaviour.proofs.StepsLemmas.{after-knowledge, element-at}
 use Rattle.sf_behaviour.proofs.ForwardLemmas.{met-more}
 use Rattle.sf_behaviour.proofs.forward.known_at.Goals as goal

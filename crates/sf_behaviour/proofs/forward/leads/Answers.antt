@@ -1,5 +1,4 @@
-use Rattle.sf_behaviour.proofs.Common.{◌+◌, inl, inr, eq-eqb}
-use Rattle.sf_check.specs.ContainsLaws.{contains_nil}
+use Rattle.sf_behaviour.proofs.Common.{◌+◌, inl, inr, eq-eqb, contains_nil}
 use Rattle.sf_behaviour.proofs.StepsLemmas.{one-place, two-places}
 use Rattle.sf_behaviour.proofs.forward.leads.Goals as goal
 

@@ -1,5 +1,4 @@
-use Rattle.sf_behaviour.proofs.Common.{◌+◌, [], ◌∷◌, refl, arith, keeps_more, insns_of, set_progress, source_number}
-use Rattle.sf_check.specs.ContainsLaws.{contains_here, contains_there}
+use Rattle.sf_behaviour.proofs.Common.{◌+◌, [], ◌∷◌, refl, arith, keeps_more, insns_of, set_progress, source_number, contains_here, contains_there}
 use Rattle.sf_behaviour.proofs.EffectLemmas.{chosen-diagram}
 use Rattle.sf_behaviour.proofs.KnowledgeLemmas.{knowledge-kept}
 use Rattle.sf_behaviour.proofs.PlaceLemmas.{next-of, place-kept, place-step, same-tells, this-step}

@@ -1,5 +1,4 @@
-use Rattle.sf_behaviour.proofs.Common.{None, refl, sym, ap, ◌∙◌, Option, slice_set, word_value, Word}
-use Rattle.std.proofs.lemmas.List.{set-get_or}
+use Rattle.sf_behaviour.proofs.Common.{None, refl, sym, ap, ◌∙◌, Option, slice_set, word_value, Word, set-get_or}
 use Rattle.sf_behaviour.proofs.TellLemmas.{tells-more-known}
 use Rattle.sf_behaviour.proofs.places.learn_register.Goals as goal
 

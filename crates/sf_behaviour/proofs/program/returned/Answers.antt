@@ -1,5 +1,4 @@
-use Rattle.sf_behaviour.proofs.Common.{List, ap, rules, slice_set, ◌≡◌, ◌<◌, ◌^◌, ◌-◌, ◌+◌, ◌∙◌, ℕ, length, sym, subst, arith, IsLawfulProgram, keeps_more, start_bits, TellFrom}
-use Rattle.std.proofs.lemmas.List.{length-replicate}
+use Rattle.sf_behaviour.proofs.Common.{List, ap, rules, slice_set, ◌≡◌, ◌<◌, ◌^◌, ◌-◌, ◌+◌, ◌∙◌, ℕ, length, sym, subst, arith, IsLawfulProgram, keeps_more, start_bits, TellFrom, length-replicate}
 use Rattle.sf_behaviour.proofs.StepsLemmas.{first-tells, from-more, from-none, program-diagram, steps-kept, steps-some}
 use Rattle.sf_behaviour.proofs.program.returned.Goals as goal
 

@@ -1,6 +1,4 @@
-use Rattle.sf_behaviour.proofs.Common.{ℕ, ◌+◌, ◌-◌, ◌*◌, ◌%◌, ◌^◌, sym, ap, ap₂, ◌∙◌, if◌then◌else◌, pow_pos, apply, Bits, value, tree_at, chosen_of, word_value}
-use Rattle.std.specs.Prelude.{nat_le}
-use Rattle.sf_insn.specs.declared.ops.BinOp.TheVariants.{Sub}
+use Rattle.sf_behaviour.proofs.Common.{ℕ, ◌+◌, ◌-◌, ◌*◌, ◌%◌, ◌^◌, sym, ap, ap₂, ◌∙◌, if◌then◌else◌, pow_pos, apply, Bits, value, tree_at, chosen_of, word_value, nat_le, Sub}
 use Rattle.sf_behaviour.proofs.WordLemmas.{keeps-both, own-number, truth-kept, value-kept, word-by, word-kept, word-of-kept, word-small}
 use Rattle.sf_behaviour.proofs.QuotientLemmas.{digit-of}
 use Rattle.sf_behaviour.proofs.quotients.divide_bit.Goals as goal

@@ -1,5 +1,4 @@
-use Rattle.sf_behaviour.proofs.Common.{◌≡◌, ◌%◌, ◌^◌, KeepsStore, word_value, IsTruthOf, IsWordOf}
-use Rattle.sf_behaviour.specs.Shifting.{shifted_by}
+use Rattle.sf_behaviour.proofs.Common.{◌≡◌, ◌%◌, ◌^◌, KeepsStore, word_value, IsTruthOf, IsWordOf, shifted_by}
 use Rattle.sf_behaviour.proofs.shifting.shift.Given as goal
 
 abbrev pub invariant-loop-i : goal.invariant-loop-i
