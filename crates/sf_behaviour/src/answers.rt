@@ -12,8 +12,7 @@ use std::alloc::Global;
 /// SECCOMP_RET_ALLOW: the answer of no filters.
 const ALLOW: u64 = 0x7fff0000;
 
-/// The answers of a stack, given by its programs, the oldest one first. `Spent` and `Memory` as the store has them;
-/// nodes may have been added then.
+/// The answers of a stack, given by its programs, the oldest one first.
 pub fn behaviour(alloc: Global, store: &mut Store, programs: &[Program]) -> Result<Id, Fault>
     ensures answers { IfOk result (IsBehaviour programs.now store.new.trees) }
     ensures keeps { KeepsStore store.old store.new }

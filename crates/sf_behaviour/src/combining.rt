@@ -23,7 +23,7 @@ pub(crate) enum Bitwise {
     Choose(Id),
 }
 
-/// What an operation makes of two bits. The caller's condition: the diagrams are 0 or 1 on each input.
+/// What an operation makes of two bits.
 pub(crate) fn combine_bits(store: &mut Store, operation: Bitwise, a: Id, b: Id) -> Result<Id, Fault>
     requires operation { IsBitwise store.old.trees operation }
     requires a { IsTruth store.old.trees a }
@@ -43,8 +43,7 @@ pub(crate) fn combine_bits(store: &mut Store, operation: Bitwise, a: Id, b: Id) 
     }
 }
 
-/// What an operation makes of two words. The caller's conditions: they are words of the store, and the diagram by which
-/// it chooses is 0 or 1 on each input.
+/// What an operation makes of two words.
 pub(crate) fn combine(
     store: &mut Store,
     operation: Bitwise,

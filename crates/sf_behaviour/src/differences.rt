@@ -31,7 +31,7 @@ fn difference_bit(store: &mut Store, a: Id, b: Id, borrowed: Id) -> Result<(Id, 
     Ok((bit, borrows))
 }
 
-/// The first word less the second, modulo 2^32. The caller's condition: they are words of the store.
+/// The first word less the second, modulo 2^32.
 pub(crate) fn difference(store: &mut Store, a: &Word, b: &Word) -> Result<Word, Fault>
     requires a { IsWord store.old.trees a.now.bits }
     requires b { IsWord store.old.trees b.now.bits }
@@ -51,7 +51,7 @@ pub(crate) fn difference(store: &mut Store, a: &Word, b: &Word) -> Result<Word, 
     Ok(Word { bits })
 }
 
-/// Minus a word, modulo 2^32. The caller's condition: it is a word of the store.
+/// Minus a word, modulo 2^32.
 pub(crate) fn negation(store: &mut Store, a: &Word) -> Result<Word, Fault>
     requires { IsWord store.old.trees a.now.bits }
     ensures word { IfOk result (λ w. IsWordOf store.new.trees w.bits
@@ -64,8 +64,7 @@ pub(crate) fn negation(store: &mut Store, a: &Word) -> Result<Word, Fault>
     Ok(word)
 }
 
-/// The sum of two words, modulo 2^32: the first less minus the second. The caller's condition: they are words of the
-/// store.
+/// The sum of two words, modulo 2^32: the first less minus the second.
 pub(crate) fn sum(store: &mut Store, a: &Word, b: &Word) -> Result<Word, Fault>
     requires a { IsWord store.old.trees a.now.bits }
     requires b { IsWord store.old.trees b.now.bits }

@@ -49,7 +49,7 @@ pub(crate) enum Effect {
     Returns(Source),
 }
 
-/// What an instruction does. The caller's condition: its fields are in range.
+/// What an instruction does.
 pub(crate) fn effect_of(insn: &Insn) -> Effect
     requires { IsInRange insn.now }
     ensures { IsEffectOf insn.now result }
@@ -77,7 +77,7 @@ pub(crate) fn effect_of(insn: &Insn) -> Effect
     }
 }
 
-/// What an operation makes of two words. The caller's condition: they are words of the store.
+/// What an operation makes of two words.
 fn operate(store: &mut Store, op: BinOp, a: &Word, b: &Word) -> Result<Word, Fault>
     requires a { IsWord store.old.trees a.now.bits }
     requires b { IsWord store.old.trees b.now.bits }
@@ -100,8 +100,7 @@ fn operate(store: &mut Store, op: BinOp, a: &Word, b: &Word) -> Result<Word, Fau
     }
 }
 
-/// The word of a register: the one that it is known to have, or else its own. The caller's conditions: there is such a
-/// register, and what is known is right.
+/// The word of a register: the one that it is known to have, or else its own.
 pub(crate) fn held_word(store: &mut Store, known: &Known, register: Register) -> Result<Word, Fault>
     requires register { IsRegister register }
     requires known { IsKnowledge store.old.trees known.now }
@@ -119,7 +118,7 @@ pub(crate) fn held_word(store: &mut Store, known: &Known, register: Register) ->
     }
 }
 
-/// The word of an operand. The caller's condition: what is known is right.
+/// The word of an operand.
 fn operand_word(store: &mut Store, known: &Known, other: Operand) -> Result<Word, Fault>
     requires { IsKnowledge store.old.trees known.now }
     ensures word { IfOk result (λ w. IsWordOf store.new.trees w.bits
@@ -133,8 +132,7 @@ fn operand_word(store: &mut Store, known: &Known, other: Operand) -> Result<Word
     }
 }
 
-/// The words of a register and of an operand. The caller's conditions: there is such a register, and what is known is
-/// right.
+/// The words of a register and of an operand.
 pub(crate) fn held_words(
     store: &mut Store,
     known: &Known,
@@ -155,7 +153,7 @@ pub(crate) fn held_words(
     Ok((a, b))
 }
 
-/// The word of a source. The caller's conditions: the source is there, and what is known is right.
+/// The word of a source.
 pub(crate) fn source_word(store: &mut Store, known: &Known, source: Source) -> Result<Word, Fault>
     requires source { IsSource source }
     requires known { IsKnowledge store.old.trees known.now }

@@ -22,7 +22,7 @@ use sf_check::Insn;
 use sf_diagram::{Fault, Id, Node, Store};
 use std::alloc::Global;
 
-/// Whether a diagram tests no register. The caller's condition: it is there.
+/// Whether a diagram tests no register.
 fn is_of_input(store: &Store, id: Id) -> bool
     requires { id < length store.now.trees }
     ensures { result ≡ true → IsOrderedFrom 576 (tree_at store.now.trees id) }
@@ -33,7 +33,7 @@ fn is_of_input(store: &Store, id: Id) -> bool
     }
 }
 
-/// Whether a word depends on the input alone. The caller's condition: it is a word of the store.
+/// Whether a word depends on the input alone.
 fn is_input_word(store: &Store, word: &Word) -> bool
     requires { IsWord store.now.trees word.now.bits }
     ensures { result ≡ true → IsInputWord store.now.trees word.now.bits }
@@ -46,8 +46,7 @@ fn is_input_word(store: &Store, word: &Word) -> bool
     true
 }
 
-/// The word of a source, if it depends on the input alone. The caller's conditions: the source is there, and what is
-/// known is right.
+/// The word of a source, if it depends on the input alone.
 fn fixed_word(store: &mut Store, known: &Known, source: Source) -> Result<Option<Word>, Fault>
     requires source { IsSource source }
     requires known { IsKnowledge store.old.trees known.now }
@@ -66,8 +65,7 @@ fn fixed_word(store: &mut Store, known: &Known, source: Source) -> Result<Option
     }
 }
 
-/// What is known behind an effect. The caller's conditions: what is known before is right, and the effect's register
-/// and source are there.
+/// What is known behind an effect.
 fn known_after(store: &mut Store, known: &Known, effect: Effect) -> Result<Known, Fault>
     requires known { IsKnowledge store.old.trees known.now }
     requires there { IsEffect effect }
@@ -88,8 +86,7 @@ fn known_after(store: &mut Store, known: &Known, effect: Effect) -> Result<Known
     }
 }
 
-/// The step of an instruction, where these words are known. The caller's conditions: its fields are in range, and what
-/// is known is right.
+/// The step of an instruction, where these words are known.
 fn step_of(store: &mut Store, insn: Insn, known: Known) -> Result<Step, Fault>
     requires range { IsInRange insn }
     requires known { IsKnowledge store.old.trees known }
@@ -109,8 +106,7 @@ fn step_of(store: &mut Store, insn: Insn, known: Known) -> Result<Step, Fault>
     })
 }
 
-/// Whether an instruction with this effect leads from one place to another. The caller's condition: the first is below
-/// 4096.
+/// Whether an instruction with this effect leads from one place to another.
 fn leads(effect: Effect, from: usize, to: usize) -> bool
     requires { from < 4096 }
     ensures { Contains (places_after from effect) to → result ≡ true }
@@ -139,8 +135,7 @@ fn met(known: Option<Known>, step: &Step) -> Option<Known>
     }
 }
 
-/// What is known at a place: what is known behind all earlier steps that lead to it; or `start`, where none does. The
-/// caller's condition: there are no more than 4096 steps.
+/// What is known at a place: what is known behind all earlier steps that lead to it; or `start`, where none does.
 fn known_at(steps: &Vec<Step>, place: usize, start: &Known) -> Known
     requires { length steps.now.items ≤ 4096 }
     ensures less { (p : ℕ) (s : AStep) → slice_get steps.now.items p ≡ Some s
@@ -164,8 +159,7 @@ fn known_at(steps: &Vec<Step>, place: usize, start: &Known) -> Known
     }
 }
 
-/// What is known of each place of a program. At its beginning all registers are 0. The caller's condition: the program
-/// is lawful.
+/// What is known of each place of a program. At its beginning all registers are 0.
 pub(crate) fn forward_steps(
     alloc: Global,
     store: &mut Store,

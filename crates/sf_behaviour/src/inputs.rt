@@ -16,8 +16,7 @@ pub(crate) const REGISTER_BITS: u16 = 18 * 32;
 /// instruction pointer, of two halves the upper one first.
 const PLACES: [u16; 16] = [1, 0, 15, 14, 3, 2, 5, 4, 7, 6, 9, 8, 11, 10, 13, 12];
 
-/// The variable of the highest bit of a word of the input; the others follow it. The caller's condition: there is such
-/// a word.
+/// The variable of the highest bit of a word of the input; the others follow it.
 pub fn first_variable(word: usize) -> u16
     requires { word < 16 }
     ensures is { result ≡ input_first word }

@@ -12,7 +12,7 @@ use crate::words::Word;
 /// alone.
 pub(crate) type Known = [Option<Word>; 18];
 
-/// The word that a register is known to have. The caller's condition: there is such a register.
+/// The word that a register is known to have.
 pub(crate) fn word_of(known: &Known, register: Register) -> Option<Word>
     requires { IsRegister register }
     ensures { result ≡ known_word known.now register }

@@ -24,8 +24,7 @@ use sf_diagram::{Fault, Id, Store, choose};
 use sf_insn::Test;
 use std::alloc::Global;
 
-/// The word that `more` knows of a register of which `known` knows none. The caller's conditions: there is such a
-/// register, and `more` knows no less.
+/// The word that `more` knows of a register of which `known` knows none.
 fn missing(known: &Known, more: &Known, register: Register) -> Option<Word>
     requires register { IsRegister register }
     requires less { IsLess known.now more.now }
@@ -40,8 +39,7 @@ fn missing(known: &Known, more: &Known, register: Register) -> Option<Word>
 }
 
 /// A diagram that tells what runs return where `known` is known, made one where as much as `more` knows is known of a
-/// register. The caller's conditions: the register is there, what `more` knows is right, it knows no less, and the
-/// diagram is there.
+/// register.
 fn learn_register(
     alloc: Global,
     store: &mut Store,
@@ -74,8 +72,7 @@ fn learn_register(
     }
 }
 
-/// A diagram that tells what runs return where `known` is known, made one where `more` is known. The caller's
-/// conditions: what `more` knows is right, it knows no less, and the diagram is there.
+/// A diagram that tells what runs return where `known` is known, made one where `more` is known.
 fn learn(alloc: Global, store: &mut Store, known: &Known, more: &Known, id: Id) -> Result<Id, Fault>
     requires knowledge { IsKnowledge store.old.trees more.now }
     requires less { IsLess known.now more.now }
@@ -95,8 +92,7 @@ fn learn(alloc: Global, store: &mut Store, known: &Known, more: &Known, id: Id) 
     Ok(learnt)
 }
 
-/// What is returned where a register is set before to the word of a source. The caller's conditions: the register, the
-/// source and `next` are there, and what is known is right.
+/// What is returned where a register is set before to the word of a source.
 fn set_diagram(
     alloc: Global,
     store: &mut Store,
@@ -121,8 +117,7 @@ fn set_diagram(
     Ok(id)
 }
 
-/// Whether a test of a register passes: 1 or 0. The caller's conditions: there is such a register, and what is known is
-/// right.
+/// Whether a test of a register passes: 1 or 0.
 fn test_diagram(
     store: &mut Store,
     known: &Known,
@@ -143,8 +138,7 @@ fn test_diagram(
     Ok(passed)
 }
 
-/// What is returned where a source's number is taken before: 0 where it divides by X and X is 0. The caller's
-/// conditions: what is known is right, and the diagram is there.
+/// What is returned where a source's number is taken before: 0 where it divides by X and X is 0.
 fn guarded_diagram(store: &mut Store, known: &Known, source: Source, id: Id) -> Result<Id, Fault>
     requires known { IsKnowledge store.old.trees known.now }
     requires within { id < length store.old.trees }
@@ -164,7 +158,7 @@ fn guarded_diagram(store: &mut Store, known: &Known, source: Source, id: Id) -> 
     Ok(guarded)
 }
 
-/// The numbers of a source. The caller's conditions: the source is there, and what is known is right.
+/// The numbers of a source.
 fn source_diagram(store: &mut Store, known: &Known, source: Source) -> Result<Id, Fault>
     requires source { IsSource source }
     requires known { IsKnowledge store.old.trees known.now }
@@ -188,8 +182,7 @@ fn source_diagram(store: &mut Store, known: &Known, source: Source) -> Result<Id
     }
 }
 
-/// The diagram of a place, made one where this is known that is known behind a step. The caller's condition: the step
-/// leads to the place, and `ids` has its diagram.
+/// The diagram of a place, made one where this is known that is known behind a step.
 fn diagram_behind(
     alloc: Global,
     store: &mut Store,
@@ -209,8 +202,7 @@ fn diagram_behind(
     Ok(id)
 }
 
-/// The diagram that tells what runs return that go on from a place, by its step. The caller's condition: `ids` has the
-/// diagrams of the places behind.
+/// The diagram that tells what runs return that go on from a place, by its step.
 pub(crate) fn diagram_of_place(
     alloc: Global,
     store: &mut Store,

@@ -12,8 +12,7 @@ use crate::shifting::{Direction, move_bits};
 use crate::words::{Word, constant_word};
 use sf_diagram::{Fault, Store};
 
-/// The product of two words, modulo 2^32: the sum of the first word, moved to each bit of the second that is 1. The
-/// caller's condition: they are words of the store.
+/// The product of two words, modulo 2^32: the sum of the first word, moved to each bit of the second that is 1.
 pub(crate) fn product(store: &mut Store, a: &Word, b: &Word) -> Result<Word, Fault>
     requires a { IsWord store.old.trees a.now.bits }
     requires b { IsWord store.old.trees b.now.bits }

@@ -16,8 +16,7 @@ use crate::words::{Word, constant_word};
 use sf_diagram::{Fault, Id, Store};
 use sf_insn::Test;
 
-/// Whether `b`, moved to a bit, fits into the rest of the lower bits; and what is left. The caller's conditions: they
-/// are words of the store, they have such a bit, and `zero` is the diagram of 0.
+/// Whether `b`, moved to a bit, fits into the rest of the lower bits; and what is left.
 fn divide_bit(
     store: &mut Store,
     rest: &Word,
@@ -46,8 +45,7 @@ fn divide_bit(
     Ok((fits, left))
 }
 
-/// The quotient of two words, rounded down; 0 where the second is 0. The caller's condition: they are words of the
-/// store.
+/// The quotient of two words, rounded down; 0 where the second is 0.
 pub(crate) fn quotient(store: &mut Store, a: &Word, b: &Word) -> Result<Word, Fault>
     requires a { IsWord store.old.trees a.now.bits }
     requires b { IsWord store.old.trees b.now.bits }

@@ -20,8 +20,7 @@ pub(crate) const X: Register = 1;
 /// The first scratch word; the others follow it.
 pub(crate) const SCRATCH: Register = 2;
 
-/// The variable of the register's highest bit. Two registers have 64 variables together, in turns. The caller's
-/// condition: there is such a register.
+/// The variable of the register's highest bit. Two registers have 64 variables together, in turns.
 pub(crate) fn highest_bit(register: Register) -> u16
     requires { IsRegister register }
     ensures is { result ≡ register_first register }
@@ -30,7 +29,7 @@ pub(crate) fn highest_bit(register: Register) -> u16
     64 * (register as u16 / 2) + register as u16 % 2
 }
 
-/// The word that a register has, whatever it is. The caller's condition: there is such a register.
+/// The word that a register has, whatever it is.
 pub(crate) fn register_word(store: &mut Store, register: Register) -> Result<Word, Fault>
     requires { IsRegister register }
     ensures word { IfOk result

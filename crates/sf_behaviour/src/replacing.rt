@@ -27,8 +27,7 @@ fn bit_of(register: Register, variable: u16) -> Option<u8>
     }
 }
 
-/// A variable that is greater than each of the register's, as all greater ones are. The caller's condition: there is
-/// such a register.
+/// A variable that is greater than each of the register's, as all greater ones are.
 fn first_past(register: Register) -> u16
     requires { IsRegister register }
     ensures { (w : ℕ) → result ≤ w → register_bit register w ≡ None }
@@ -36,8 +35,7 @@ fn first_past(register: Register) -> u16
     highest_bit(register) + 64
 }
 
-/// The diagram that is 1 where a variable is true once the word stands in the place of the register, else 0. The
-/// caller's condition: it is a word of the store.
+/// The diagram that is 1 where a variable is true once the word stands in the place of the register, else 0.
 fn bit_for(store: &mut Store, register: Register, by: &Word, variable: u16) -> Result<Id, Fault>
     requires { IsWord store.old.trees by.now.bits }
     ensures within { IfOk result (λ id. id < length store.new.trees) }
@@ -58,8 +56,7 @@ fn bit_for(store: &mut Store, register: Register, by: &Word, variable: u16) -> R
 }
 
 /// The diagram in which the word stands in the place of the register. What is made for a node is put into `made`, and
-/// isn't made again. The caller's conditions: the node and the register are there, it is a word of the store, and
-/// `made` is right.
+/// isn't made again.
 fn replace_in(
     store: &mut Store,
     made: &mut BTreeMap<Id, Id>,
@@ -100,8 +97,7 @@ fn replace_in(
     Ok(new)
 }
 
-/// The diagram in which the word stands in the place of the register. The caller's conditions: the node and the
-/// register are there, and it is a word of the store.
+/// The diagram in which the word stands in the place of the register.
 pub(crate) fn replace(
     alloc: Global,
     store: &mut Store,
@@ -124,7 +120,7 @@ pub(crate) fn replace(
     Ok(new)
 }
 
-/// The diagram in which all registers are 0. The caller's condition: the node is there.
+/// The diagram in which all registers are 0.
 pub(crate) fn at_start(store: &Store, id: Id) -> Id
     requires { id < length store.now.trees }
     ensures { IsDiagramOf store.now.trees result

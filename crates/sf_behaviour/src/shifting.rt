@@ -20,8 +20,7 @@ pub(crate) enum Direction {
     Right,
 }
 
-/// The diagram that is moved to a bit, or `zero` where none is. The caller's condition: the word has such a bit, and is
-/// moved by no more bits than it has.
+/// The diagram that is moved to a bit, or `zero` where none is.
 fn moved_bit(direction: Direction, word: &Word, by: usize, zero: Id, bit: usize) -> Id
     requires bit { bit < 32 }
     requires by { by ≤ 32 }
@@ -39,8 +38,7 @@ fn moved_bit(direction: Direction, word: &Word, by: usize, zero: Id, bit: usize)
     }
 }
 
-/// The word with its bits moved, and `zero`, the diagram of 0, where no bit is moved to. The caller's condition: it is
-/// moved by no more bits than it has.
+/// The word with its bits moved, and `zero`, the diagram of 0, where no bit is moved to.
 pub(crate) fn move_bits(direction: Direction, word: &Word, by: usize, zero: Id) -> Word
     requires { by ≤ 32 }
     ensures { (ts : List Tree) (f : Bits → ℕ) → IsWordOf ts word.now.bits f
@@ -54,7 +52,7 @@ pub(crate) fn move_bits(direction: Direction, word: &Word, by: usize, zero: Id) 
     Word { bits }
 }
 
-/// The first word, shifted by the second modulo 32. The caller's condition: they are words of the store.
+/// The first word, shifted by the second modulo 32.
 pub(crate) fn shift(
     store: &mut Store,
     direction: Direction,

@@ -20,7 +20,7 @@ pub(crate) struct Step {
     pub after: Known,
 }
 
-/// The step of a place. The caller's condition: there is such a place.
+/// The step of a place.
 pub(crate) fn step_at(steps: &Vec<Step>, place: usize) -> Step
     requires { place < length steps.now.items }
     ensures { slice_get steps.now.items place ≡ Some result }
@@ -28,7 +28,7 @@ pub(crate) fn step_at(steps: &Vec<Step>, place: usize) -> Step
     steps[place]
 }
 
-/// The diagram of a place. The caller's condition: there is such a place.
+/// The diagram of a place.
 pub(crate) fn id_at(ids: &Vec<Id>, place: usize) -> Id
     requires { place < length ids.now.items }
     ensures { result ≡ slice_index ids.now.items place }

@@ -41,8 +41,7 @@ fn test_bits(store: &mut Store, test: Test, a: Id, b: Id, lower: Id) -> Result<I
     }
 }
 
-/// Whether a test of the first word against the second passes: 1 or 0. The caller's condition: they are words of the
-/// store.
+/// Whether a test of the first word against the second passes: 1 or 0.
 pub(crate) fn test_words(store: &mut Store, test: Test, a: &Word, b: &Word) -> Result<Id, Fault>
     requires a { IsWord store.old.trees a.now.bits }
     requires b { IsWord store.old.trees b.now.bits }

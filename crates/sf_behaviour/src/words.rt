@@ -30,8 +30,7 @@ pub(crate) fn constant_word(store: &mut Store, number: u32) -> Result<Word, Faul
     Ok(Word { bits })
 }
 
-/// The variable of a bit of a word whose variables are at equal distances, the first that of the highest bit. The
-/// caller's conditions: the first is below 16,384, they are at most 2 apart, and there is such a bit.
+/// The variable of a bit of a word whose variables are at equal distances, the first that of the highest bit.
 fn variable_of(first: u16, distance: u16, bit: u16) -> u16
     requires first { first < 16384 }
     requires distance { distance ≤ 2 }
@@ -42,8 +41,7 @@ fn variable_of(first: u16, distance: u16, bit: u16) -> u16
     first + behind
 }
 
-/// The word whose bits are these variables: 32 at equal distances, of which the first is the highest bit. The caller's
-/// conditions: the first is below 16,384, and they are at most 2 apart.
+/// The word whose bits are these variables: 32 at equal distances, of which the first is the highest bit.
 pub(crate) fn variable_word(store: &mut Store, first: u16, distance: u16) -> Result<Word, Fault>
     requires first { first < 16384 }
     requires distance { distance ≤ 2 }
@@ -60,8 +58,7 @@ pub(crate) fn variable_word(store: &mut Store, first: u16, distance: u16) -> Res
     Ok(Word { bits })
 }
 
-/// A word of the input, by its number: `Input` of `sf_insn` says which is which. The caller's condition: there is such
-/// a word.
+/// A word of the input, by its number: `Input` of `sf_insn` says which is which.
 pub(crate) fn input_word(store: &mut Store, word: usize) -> Result<Word, Fault>
     requires { word < 16 }
     ensures word { IfOk result (λ w. IsWordOf store.new.trees w.bits
@@ -73,7 +70,7 @@ pub(crate) fn input_word(store: &mut Store, word: usize) -> Result<Word, Fault>
     Ok(word)
 }
 
-/// One diagram with the numbers of a word at its leaves. The caller's condition: it is a word of the store.
+/// One diagram with the numbers of a word at its leaves.
 pub(crate) fn number_diagram(store: &mut Store, word: &Word) -> Result<Id, Fault>
     requires { IsWord store.old.trees word.now.bits }
     ensures number { IfOk result
