@@ -43,16 +43,13 @@ pub use Rattle.sf_diagram.specs.Stores.{KeepsStore, KeepsTrees, tree_at}
 pub use Rattle.sf_diagram.specs.Trees.{Bits, Fork, IsOrderedFrom, IsOrderedTree, Leaf, Tree, value}
 pub use Rattle.sf_diagram.specs.declared.operation.Operation.TheVariants.{Fold}
 pub use Rattle.sf_behaviour.specs.Answering.{HasAnswers, IsBehaviour, answer_with}
-pub use Rattle.sf_behaviour.specs.Combining.{IsBitwise, combined, tested_bits}
-pub use Rattle.sf_behaviour.specs.Dividing.{IsDigit}
+pub use Rattle.sf_behaviour.specs.Combining.{IsBitwise, IsDigit, combined, moved, shift_of, shifted_by, tested_bits}
 pub use Rattle.sf_behaviour.specs.Effects.{IsEffect, IsEffectOf, divides, effect_progress, operand_in, places_after, return_progress, set_progress, source_in, source_number, unmet}
 pub use Rattle.sf_behaviour.specs.InputBits.{input_bits, input_by, input_first, input_number, places_of_words, words_in_order}
 pub use Rattle.sf_behaviour.specs.Knowledge.{Fits, IsInputWord, IsKnowledge, IsLess, Known, held_in, known_word}
 pub use Rattle.sf_behaviour.specs.Registers.{A, IsRegister, X, next_with, register_bit, register_by, register_first, register_number, registers_of, start_bits, with_register}
 pub use Rattle.sf_behaviour.specs.Replacing.{AreReplaced, IsReplaced}
-pub use Rattle.sf_behaviour.specs.Shifting.{moved, shift_of, shifted_by}
-pub use Rattle.sf_behaviour.specs.Steps.{IsAfter, IsMet, IsSetTo}
-pub use Rattle.sf_behaviour.specs.Telling.{AreSteps, IsNext, IsPlace, IsStep, TellFrom, Tells, insns_of}
+pub use Rattle.sf_behaviour.specs.Telling.{AreSteps, IsAfter, IsMet, IsNext, IsPlace, IsSetTo, IsStep, TellFrom, Tells, insns_of}
 pub use Rattle.sf_behaviour.specs.Words.{IsDiagramOf, IsTruth, IsTruthOf, IsWord, IsWordOf, word_value}
 pub use Rattle.sf_behaviour.specs.declared.combining.Bitwise.{Bitwise}
 pub use Rattle.sf_behaviour.specs.declared.combining.Bitwise.TheVariants.{And, Choose, Or, Xor}

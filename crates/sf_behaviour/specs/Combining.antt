@@ -1,13 +1,17 @@
--- Operations and tests of two words, bit by bit.
-use Rattle.std.specs.Prelude.{ℕ, bit_and, bit_or, bit_xor, List}
+-- Operations and tests of words, bit by bit.
+use Rattle.std.specs.Prelude.{ℕ, bit_and, bit_or, bit_xor, List, ◌≡◌, ◌+◌, ◌*◌, ◌<◌, ◌-◌, ◌/◌, ◌%◌, ◌^◌, nat_lt, slice_index, if◌then◌else◌}
 use Rattle.sf_insn.specs.declared.ops.Test.{Test}
 use Rattle.sf_insn.specs.declared.ops.Test.TheVariants.{Equal, Greater, GreaterOrEqual, AnyBit}
+use Rattle.sf_insn.specs.declared.ops.BinOp.{BinOp}
+use Rattle.sf_insn.specs.declared.ops.BinOp.TheVariants.{Lsh, Rsh}
 use Rattle.sf_diagram.specs.Trees.{Tree, Bits, value}
 use Rattle.sf_diagram.specs.Stores.{tree_at}
 use Rattle.sf_diagram.specs.Choices.{chosen_of}
 use Rattle.sf_behaviour.specs.Words.{IsTruth}
 use Rattle.sf_behaviour.specs.declared.combining.Bitwise.{Bitwise}
 use Rattle.sf_behaviour.specs.declared.combining.Bitwise.TheVariants.{And, Or, Xor, Choose}
+use Rattle.sf_behaviour.specs.declared.shifting.Direction.{Direction}
+use Rattle.sf_behaviour.specs.declared.shifting.Direction.TheVariants.{Left, Right}
 
 -- what an operation makes of two words, or of two bits, on an input
 abbrev pub combined : List Tree → Bits → Bitwise → ℕ → ℕ → ℕ
@@ -27,3 +31,23 @@ tested_bits Equal a b lower = chosen_of (bit_xor a b) 0 lower
 tested_bits Greater a b lower = chosen_of (bit_xor a b) a lower
 tested_bits GreaterOrEqual a b lower = chosen_of (bit_xor a b) a lower
 tested_bits AnyBit a b lower = bit_or lower (bit_and a b)
+
+-- one bit of a quotient, and what is left of a rest, by the divisor that is moved to the bit
+pub record IsDigit (rest divisor digit left : ℕ) : Type 0 where
+  pub parts : rest ≡ divisor * digit + left
+  pub less : left < divisor
+
+-- the operation on words that a shift is
+abbrev pub shift_of : Direction → BinOp
+shift_of Left = Lsh
+shift_of Right = Rsh
+
+-- a word that is shifted by so many places
+abbrev pub shifted_by : Direction → ℕ → ℕ → ℕ
+shifted_by Left a places = (a * 2 ^ places) % 2 ^ 32
+shifted_by Right a places = a / 2 ^ places
+
+-- what is moved to a bit of 32, the lowest first, by so many places; the last number stands where no bit is moved to
+abbrev pub moved : Direction → List ℕ → ℕ → ℕ → ℕ → ℕ
+moved Left ids by filler i = if nat_lt i by then filler else slice_index ids (i - by)
+moved Right ids by filler i = if nat_lt (by + i) 32 then slice_index ids (by + i) else filler

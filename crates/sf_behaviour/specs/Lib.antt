@@ -1,12 +1,9 @@
 pub mod InputBits
 pub mod Words
 pub mod Combining
-pub mod Shifting
 pub mod Registers
 pub mod Knowledge
 pub mod Effects
 pub mod Telling
-pub mod Steps
 pub mod Replacing
 pub mod Answering
-pub mod Dividing

@@ -1,17 +1,36 @@
--- Diagrams that tell what runs return, and the tables from which they are made.
-use Rattle.std.specs.Prelude.{◌≡◌, ℕ, ◌+◌, ◌<◌, ◌≤◌, ◌^◌, Bool, List, length, map, Contains, Some, slice_get, slice_index}
+-- How places come to be known, and diagrams that tell what runs return from them.
+use Rattle.std.specs.Prelude.{◌≡◌, ℕ, List, Option, Some, None, slice_set, ◌+◌, ◌<◌, ◌≤◌, ◌^◌, Bool, length, map, Contains, slice_get, slice_index}
 use Rattle.sf_check.specs.declared.insn.Insn.{Insn}
 use Rattle.sf_check.specs.Programs.{IsLawfulProgram}
+use Rattle.sf_run.specs.Machine.{State, run_for}
 use Rattle.sf_diagram.specs.Trees.{Tree, Bits, value}
 use Rattle.sf_diagram.specs.Stores.{tree_at}
-use Rattle.sf_run.specs.Machine.{State, run_for}
+use Rattle.sf_behaviour.specs.Knowledge.{Known, IsInputWord, IsLess, known_word, Fits, IsKnowledge}
+use Rattle.sf_behaviour.specs.Effects.{source_in, places_after, IsEffectOf}
+use Rattle.sf_behaviour.specs.Words.{IsWordOf, word_value}
 use Rattle.sf_behaviour.specs.InputBits.{input_by}
-use Rattle.sf_behaviour.specs.Words.{word_value}
-use Rattle.sf_behaviour.specs.Knowledge.{Known, known_word, Fits, IsKnowledge, IsLess}
-use Rattle.sf_behaviour.specs.Effects.{places_after, IsEffectOf}
-use Rattle.sf_behaviour.specs.Steps.{IsAfter}
 use Rattle.sf_behaviour.specs.declared.words.Word.{Word}
+use Rattle.sf_behaviour.specs.declared.effects.Effect.{Effect}
+use Rattle.sf_behaviour.specs.declared.effects.Effect.TheVariants.{Sets}
+use Rattle.sf_behaviour.specs.declared.effects.Source.{Source}
 use Rattle.sf_behaviour.specs.declared.steps.Step.{Step}
+
+-- as much is known as before, but of one register the word of a source, if that word depends on the input alone
+pub record IsSetTo (ts : List Tree) (k : Known) (r : ℕ) (source : Source) (after : Known) : Type 0 where
+  pub word : Option Word
+  pub is : after ≡ slice_set k r word
+  pub fixed : (w : Word) → word ≡ Some w → IsInputWord ts w.bits
+      × IsWordOf ts w.bits (λ bits. source_in ts k bits source)
+
+-- what is known behind an effect
+abbrev pub IsAfter : List Tree → Known → Effect → Known → Type 0
+IsAfter ts k (Sets r source) after = IsSetTo ts k r source after
+IsAfter ts k _ after = after ≡ k
+
+-- something is known so far, and no more than this
+abbrev pub IsMet : Option Known → Known → Type 0
+IsMet (Some l) k = IsLess l k
+IsMet None k = ⊥
 
 -- A diagram whose value, on each input, is what a run returns that goes on from this place, where the known registers
 -- have their words. The others may have any number. Its values are words.

@@ -6,7 +6,7 @@ ghost use Rattle.sf_insn.specs.declared.ops.BinOp.TheVariants.{Div};
 ghost use Rattle.sf_diagram.specs.Trees.{Bits, value};
 ghost use Rattle.sf_diagram.specs.Stores.{tree_at, KeepsStore, IsFull};
 ghost use Rattle.sf_behaviour.specs.Words.{word_value, IsTruth, IsTruthOf, IsWord, IsWordOf};
-ghost use Rattle.sf_behaviour.specs.Dividing.{IsDigit};
+ghost use Rattle.sf_behaviour.specs.Combining.{IsDigit};
 
 use crate::combining::{Bitwise, combine};
 use crate::differences::difference;

@@ -5,7 +5,7 @@ ghost use Rattle.sf_insn.specs.Words.{apply};
 ghost use Rattle.sf_diagram.specs.Trees.{Tree, Bits};
 ghost use Rattle.sf_diagram.specs.Stores.{KeepsStore, IsFull};
 ghost use Rattle.sf_behaviour.specs.Words.{word_value, IsTruthOf, IsWord, IsWordOf};
-ghost use Rattle.sf_behaviour.specs.Shifting.{moved, shift_of, shifted_by};
+ghost use Rattle.sf_behaviour.specs.Combining.{moved, shift_of, shifted_by};
 
 use crate::combining::{Bitwise, combine};
 use crate::words::Word;
