@@ -36,10 +36,11 @@ pub use Rattle.sf_run.specs.Reachable.{put}
 pub use Rattle.sf_run.specs.RunLaws.{ends_from, option_map_some, safe_start, step_is, value_is}
 pub use Rattle.sf_run.specs.declared.action.Answer.{Answer}
 pub use Rattle.sf_diagram.specs.Choices.{IsChosen, chosen_of}
-pub use Rattle.sf_diagram.specs.KeepLaws.{keeps_more}
+pub use Rattle.sf_diagram.specs.KeepLaws.{keeps_both, keeps_more}
 pub use Rattle.sf_diagram.specs.Merges.{IsMerged}
 pub use Rattle.sf_diagram.specs.Operations.{folded_of}
 pub use Rattle.sf_diagram.specs.Stores.{KeepsStore, KeepsTrees, tree_at}
+pub use Rattle.sf_diagram.specs.TreeLaws.{value_from}
 pub use Rattle.sf_diagram.specs.Trees.{Bits, Fork, IsOrderedFrom, IsOrderedTree, Leaf, Tree, value}
 pub use Rattle.sf_diagram.specs.declared.operation.Operation.TheVariants.{Fold}
 pub use Rattle.sf_behaviour.specs.Answering.{HasAnswers, IsBehaviour, answer_with}

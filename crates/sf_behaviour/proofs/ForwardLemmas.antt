@@ -1,7 +1,7 @@
 -- How what is known of places comes about, from the first place on.
-use Rattle.sf_behaviour.proofs.Common.{◌≡◌, ℕ, ◌+◌, ◌<◌, List, [], ◌∷◌, ◌++◌, length, replicate, Option, Some, None, sym, ap, subst, ◌∙◌, inl, inr, arith, Contains, slice_get, slice_index, cases_eq, same_Some, Insn, IsLawfulProgram, Tree, IsOrderedFrom, tree_at, KeepsTrees, with_register, Known, known_word, IsInputWord, IsKnowledge, IsLess, places_after, IsMet, AreSteps, word_value, IsWord, IsWordOf, Word, Step, ◌⊎◌, get_or, get_or-replicate, length-replicate, same_from_bits_below, slice_get-get_or, IsInRange, IsStep}
+use Rattle.sf_behaviour.proofs.Common.{◌≡◌, ℕ, ◌+◌, ◌<◌, List, [], ◌∷◌, ◌++◌, length, replicate, Option, Some, None, sym, ap, subst, ◌∙◌, inl, inr, arith, Contains, slice_get, slice_index, cases_eq, same_Some, Insn, IsLawfulProgram, Tree, IsOrderedFrom, tree_at, KeepsTrees, with_register, Known, known_word, IsInputWord, IsKnowledge, IsLess, places_after, IsMet, AreSteps, word_value, IsWord, IsWordOf, Word, Step, ◌⊎◌, get_or, get_or-replicate, length-replicate, same_from_bits_below, slice_get-get_or, IsInRange, IsStep, value_from}
 use Rattle.sf_behaviour.proofs.WordLemmas.{bit-of-word, word-small}
-use Rattle.sf_behaviour.proofs.VariableLemmas.{past-registers, value-agrees, with-other}
+use Rattle.sf_behaviour.proofs.VariableLemmas.{past-registers, with-other}
 use Rattle.sf_behaviour.proofs.RegisterLemmas.{some-within}
 use Rattle.sf_behaviour.proofs.StepsLemmas.{at-push, leads-later, steps-kept}
 
@@ -15,7 +15,7 @@ input-word ts ids w ordered = record {
   same = λ r n bits there. same_from_bits_below 32 (word_value ts ids (with_register r n bits))
       (word_value ts ids bits) (word-small (with_register r n bits) w) (word-small bits w)
       (λ i l. bit-of-word (with_register r n bits) i w l
-      ∙ value-agrees (tree_at ts (slice_index ids i)) 576 (with_register r n bits) bits (ordered i l)
+      ∙ value_from (tree_at ts (slice_index ids i)) 576 (ordered i l) (with_register r n bits) bits
       (λ v le. with-other r n v bits (past-registers r v there le)) ∙ sym (bit-of-word bits i w l));
 }
 

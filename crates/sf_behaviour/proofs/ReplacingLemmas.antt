@@ -1,9 +1,9 @@
 -- Diagrams in which a word stands in the place of a register.
-use Rattle.sf_behaviour.proofs.Common.{◌≡◌, ℕ, ◌<◌, ◌≤◌, ◌^◌, Bool, true, false, Some, None, List, length, refl, sym, ap, subst, ◌∙◌, inl, inr, arith, slice_index, if◌then◌else◌, bit_at, bit_at-lt, cases_eq, Tree, Leaf, Fork, Bits, value, tree_at, KeepsTrees, chosen_of, IsTruthOf, IsWordOf, with_register, start_bits, IsReplaced, BTreeMap, get, is_at, Updates, IsEmpty, lookup, nat_cmp, nat_tests, IsOrderedTree, IsChosen, register_bit, AreReplaced}
+use Rattle.sf_behaviour.proofs.Common.{◌≡◌, ℕ, ◌<◌, ◌≤◌, ◌^◌, Bool, true, false, Some, None, List, length, refl, sym, ap, subst, ◌∙◌, inl, inr, arith, slice_index, if◌then◌else◌, bit_at, bit_at-lt, cases_eq, Tree, Leaf, Fork, Bits, value, tree_at, KeepsTrees, chosen_of, IsTruthOf, IsWordOf, with_register, start_bits, IsReplaced, BTreeMap, get, is_at, Updates, IsEmpty, lookup, nat_cmp, nat_tests, IsOrderedTree, IsChosen, register_bit, AreReplaced, value_from}
 use Rattle.sf_behaviour.proofs.WordLemmas.{bit-of, truth-of-same}
 use Rattle.sf_behaviour.proofs.StepLemmas.{bit-if}
 use Rattle.sf_behaviour.proofs.LoopLemmas.{literal-truth}
-use Rattle.sf_behaviour.proofs.VariableLemmas.{ordered-from, value-agrees, with-own, with-other, start-low, start-high}
+use Rattle.sf_behaviour.proofs.VariableLemmas.{ordered-from, with-own, with-other, start-low, start-high}
 
 -- ---- what stands in the place of a variable
 
@@ -48,8 +48,8 @@ replaced-past r ts f id v l h within e ordered none =
     record {
       id_within = within;
       within = within;
-      values = λ bits. value-agrees (tree_at ts id) v bits (with_register r (f bits) bits)
-          (ordered-from v e ordered (omega arith)) (λ w le. sym (with-other r (f bits) w bits (none w le)));
+      values = λ bits. value_from (tree_at ts id) v (ordered-from v e ordered (omega arith)) bits
+          (with_register r (f bits) bits) (λ w le. sym (with-other r (f bits) w bits (none w le)));
     }
 
 pub choice-if : (b : Bool) (p q : ℕ) → chosen_of (if b then 1 else 0) p q ≡ (if b then p else q)
@@ -123,4 +123,4 @@ start-lower v l h bits less = rw (start-low bits v less) refl
 pub start-stays : (t : Tree) (v : ℕ) (l h : Tree) (bits : Bits) → t ≡ Fork v l h → IsOrderedTree t → 576 ≤ v
     → value t bits ≡ value t (start_bits bits)
 start-stays t v l h bits e ordered more =
-    value-agrees t 576 bits (start_bits bits) (ordered-from 576 e ordered more) (λ w le. sym (start-high bits w le))
+    value_from t 576 (ordered-from 576 e ordered more) bits (start_bits bits) (λ w le. sym (start-high bits w le))

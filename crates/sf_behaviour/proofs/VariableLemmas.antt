@@ -1,5 +1,5 @@
 -- The bits of registers and of the input as variables.
-use Rattle.sf_behaviour.proofs.Common.{◌≡◌, ℕ, zero, suc, ◌+◌, ◌-◌, ◌*◌, ◌/◌, ◌%◌, ◌<◌, ◌≤◌, ◌==◌, ◌^◌, Bool, true, false, List, [], ◌∷◌, length, Some, None, refl, sym, ap, ap₂, subst, ◌∙◌, inl, inr, arith, map, slice_index, if◌then◌else◌, bit_at, pow-suc, cases_eq, eq-eqb, ne_eqb, lt-ltb, le-ltb, bit_at-lt, bit_at_cat_low, Input, Tree, Leaf, Fork, Bits, value, IsOrderedFrom, tree_at, input_by, IsRegister, register_by, with_register, start_bits, IsTruthOf, range_with_len, get_or-map-range_with_len, bit_at-zero, IsOrderedTree, input_first, input_number, register_first, register_bit}
+use Rattle.sf_behaviour.proofs.Common.{◌≡◌, ℕ, zero, suc, ◌+◌, ◌-◌, ◌*◌, ◌/◌, ◌%◌, ◌<◌, ◌≤◌, ◌==◌, ◌^◌, Bool, true, false, List, [], ◌∷◌, length, Some, None, refl, sym, ap, ap₂, subst, ◌∙◌, inl, inr, arith, map, slice_index, if◌then◌else◌, bit_at, pow-suc, cases_eq, eq-eqb, ne_eqb, lt-ltb, le-ltb, bit_at-lt, bit_at_cat_low, Input, Tree, Leaf, Fork, Bits, IsOrderedFrom, tree_at, input_by, IsRegister, register_by, with_register, start_bits, IsTruthOf, range_with_len, get_or-map-range_with_len, bit_at-zero, IsOrderedTree, input_first, input_number, register_first, register_bit}
 use Rattle.sf_behaviour.specs.InputBits.{number_by}
 use Rattle.sf_behaviour.proofs.StepLemmas.{low-more, bit-if}
 use Rattle.sf_behaviour.proofs.WordLemmas.{top-bit}
@@ -93,17 +93,7 @@ input_by-same a b same =
 
 -- ---- ordered trees
 
--- inputs that agree from n on have one value in a tree that is ordered from n on
-pub value-agrees : (t : Tree) (n : ℕ) (a b : Bits) → IsOrderedFrom n t → ((w : ℕ) → n ≤ w → a w ≡ b w)
-    → value t a ≡ value t b
-value-agrees (Leaf c) n a b o h = refl
-value-agrees (Fork v p q) n a b o h =
-    rw (
-      h v o.0,
-      value-agrees p (suc v) a b o.1 (λ w l. h w (omega (arith, o.0, l))),
-      value-agrees q (suc v) a b o.2 (λ w l. h w (omega (arith, o.0, l))),
-    ) refl
-
+-- a tree whose first fork is from variable n on
 pub ordered-from : (n : ℕ) {t : Tree} {v : ℕ} {l h : Tree} → t ≡ Fork v l h → IsOrderedTree t → n ≤ v
     → IsOrderedFrom n t
 ordered-from n {v} {l} {h} e ordered more =

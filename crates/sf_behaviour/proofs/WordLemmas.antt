@@ -3,12 +3,6 @@ use Rattle.sf_behaviour.proofs.Common.{◌≡◌, ℕ, zero, suc, ◌+◌, ◌-�
 
 -- ---- stores that grow
 
-pub keeps-both : {a b c : List Tree} → KeepsTrees a b → KeepsTrees b c → KeepsTrees a c
-keeps-both h k = record {
-  longer = omega (arith, h.longer, k.longer);
-  same = λ i l. k.same i (omega (arith, h.longer)) ∙ h.same i l;
-}
-
 pub truth-kept : {ts us : List Tree} {id : ℕ} → KeepsTrees ts us → IsTruth ts id → IsTruth us id
 truth-kept {id} k t = record {
   within = omega (arith, k.longer, t.within);

@@ -1,5 +1,5 @@
-use Rattle.sf_behaviour.proofs.Common.{ℕ, ◌+◌, ◌-◌, ◌*◌, ◌%◌, ◌^◌, sym, ap, ap₂, ◌∙◌, if◌then◌else◌, pow_pos, apply, Bits, value, tree_at, chosen_of, word_value, nat_le, Sub}
-use Rattle.sf_behaviour.proofs.WordLemmas.{keeps-both, own-number, truth-kept, value-kept, word-by, word-kept, word-of-kept, word-small}
+use Rattle.sf_behaviour.proofs.Common.{ℕ, ◌+◌, ◌-◌, ◌*◌, ◌%◌, ◌^◌, sym, ap, ap₂, ◌∙◌, if◌then◌else◌, pow_pos, apply, Bits, value, tree_at, chosen_of, word_value, nat_le, Sub, keeps_both}
+use Rattle.sf_behaviour.proofs.WordLemmas.{own-number, truth-kept, value-kept, word-by, word-kept, word-of-kept, word-small}
 use Rattle.sf_behaviour.proofs.QuotientLemmas.{digit-of}
 use Rattle.sf_behaviour.proofs.quotients.divide_bit.Goals as goal
 
@@ -19,10 +19,10 @@ combine-requires-clause-operation c = truth-kept c.in_ok-reduced.ensures.keeps.t
 
 pub combine-requires-clause-b : goal.combine-requires-clause-b
 combine-requires-clause-b c =
-    word-kept (keeps-both c.in_ok-fits.ensures.keeps.trees c.in_ok-reduced.ensures.keeps.trees) c.requires.rest
+    word-kept (keeps_both c.in_ok-fits.ensures.keeps.trees c.in_ok-reduced.ensures.keeps.trees) c.requires.rest
 
 pub returns-clause-bit : goal.returns-clause-bit
-returns-clause-bit c = truth-kept (keeps-both c.in_ok-reduced.ensures.keeps.trees c.in_ok-left.ensures.keeps.trees)
+returns-clause-bit c = truth-kept (keeps_both c.in_ok-reduced.ensures.keeps.trees c.in_ok-left.ensures.keeps.trees)
     c.in_ok-fits.ensures.truth.truth
 
 pub returns-clause-digit : goal.returns-clause-digit
@@ -40,11 +40,11 @@ returns-clause-digit c = λ f b_is bits less.
     let reduced = word-by (λ (x : Bits). apply Sub) (word-of-kept k1 rest) (word-of-kept k1 moved)
     c.in_ok-reduced.ensures.word in
     let left = word-by (λ (x : Bits). chosen_of (value (tree_at s2 c.in_ok-fits.fits) x)) reduced
-    (word-of-kept (keeps-both k1 k2) rest) c.in_ok-left.ensures.word in
+    (word-of-kept (keeps_both k1 k2) rest) c.in_ok-left.ensures.word in
     let r = word_value s0 c.args.rest.now.bits bits in
     digit-of r (f bits) (2 ^ c.args.bit) (value (tree_at s3 c.in_ok-fits.fits) bits)
     (word_value s3 c.in_ok-left.left.bits bits) (pow_pos c.args.bit) (word-small bits c.requires.rest) less
-    (value-kept bits (keeps-both k2 k3) fits.truth ∙ fits.values bits
+    (value-kept bits (keeps_both k2 k3) fits.truth ∙ fits.values bits
     ∙ ap₂ (λ (m n : ℕ). if nat_le m n then 1 else 0) (b_is.values bits) (high.values bits))
     (left.values bits ∙ ap (λ (t : ℕ). chosen_of t ((r + (2 ^ 32 - (f bits * 2 ^ c.args.bit) % 2 ^ 32)) % 2 ^ 32) r)
     (sym (value-kept bits k3 (truth-kept k2 fits.truth))))

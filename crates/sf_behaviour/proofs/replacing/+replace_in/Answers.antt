@@ -1,5 +1,5 @@
-use Rattle.sf_behaviour.proofs.Common.{◌<◌, ℕ, refl, sym, word_value, arith, Bits, tree_at, IsReplaced, IsWordOf}
-use Rattle.sf_behaviour.proofs.WordLemmas.{keeps-both, word-kept, word-of-back, word-of-kept}
+use Rattle.sf_behaviour.proofs.Common.{◌<◌, ℕ, refl, sym, word_value, arith, Bits, tree_at, IsReplaced, IsWordOf, keeps_both}
+use Rattle.sf_behaviour.proofs.WordLemmas.{word-kept, word-of-back, word-of-kept}
 use Rattle.sf_behaviour.proofs.ReplacingLemmas.{replaced-kept, replaced-past, replaced-made, all-kept, all-put}
 use Rattle.sf_behaviour.proofs.replacing.+replace_in.Goals as goal
 use Rattle.sf_behaviour.proofs.replacing.+replace_in.Goals.{In_ok-new}
@@ -62,10 +62,10 @@ replaced t c f h =
     let k2 = c.in_ok-new_higher.ensures.keeps.trees in
     let k3 = c.in_ok-bit.ensures.keeps.trees in
     let h1 = word-of-kept k1 h in
-    replaced-made c.in_ok-new.new (keeps-both k1 (keeps-both k2 k3)) c.in_ok-new.ensures.keeps.trees c.requires.within
+    replaced-made c.in_ok-new.new (keeps_both k1 (keeps_both k2 k3)) c.in_ok-new.ensures.keeps.trees c.requires.within
     (omega (arith, c.in-Choice.ensures.older, c.requires.within))
     (omega (arith, c.in-Choice.ensures.older, c.requires.within)) c.in-Choice.ensures.tree
-    (replaced-kept (keeps-both k2 k3) (c.in_ok-new_lower.ensures.replaced f h))
+    (replaced-kept (keeps_both k2 k3) (c.in_ok-new_lower.ensures.replaced f h))
     (replaced-kept k3 (c.in_ok-new_higher.ensures.replaced f h1)) (c.in_ok-bit.ensures.truth f (word-of-kept k2 h1))
     c.in_ok-new.ensures.within c.in_ok-new.ensures.chosen
 
@@ -75,6 +75,6 @@ returns-clause-replaced t c = replaced t (goal.at.returns-clause-replaced t c).I
 pub returns-clause-made : goal.returns-clause-made
 returns-clause-made t c = λ f h.
     all-put c.insert.new.self c.in_ok-insert.ensures.updates
-    (all-kept (keeps-both c.in_ok-bit.ensures.keeps.trees c.in_ok-new.ensures.keeps.trees)
+    (all-kept (keeps_both c.in_ok-bit.ensures.keeps.trees c.in_ok-new.ensures.keeps.trees)
     (c.in_ok-new_higher.ensures.made f (word-of-kept c.in_ok-new_lower.ensures.keeps.trees h)))
     (replaced t (goal.at.returns-clause-made t c).In_ok-new f h)
