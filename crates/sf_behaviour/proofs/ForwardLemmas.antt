@@ -58,8 +58,8 @@ pub zero-knowledge : (ts : List Tree) (k : Known) → AreZero ts k → IsKnowled
 zero-knowledge ts k z = record {
   count = ap (λ (l : Known). length l) z.1 ∙ length-replicate 18 (Some z.0);
   each = λ r w e.
-      let zero = zero-word ts k r w z e in
-      record { word = zero.word; same = λ q n bits there. zero.values (with_register q n bits) ∙ sym (zero.values bits) };
+      let h = zero-word ts k r w z e in
+      record { word = h.word; same = λ q n bits there. h.values (with_register q n bits) ∙ sym (h.values bits) };
 }
 
 -- ---- one step more

@@ -24,8 +24,8 @@ right-bit a by i = ap (λ (n : ℕ). n % 2) (shr-shr a by i)
 
 -- ---- the moved bits
 
-moved-truth : (d : Direction) {ts : List Tree} {ids : List ℕ} {f : Bits → ℕ} (by : ℕ) {z : ℕ} (i : ℕ) → IsWordOf ts ids f
-    → IsTruthOf ts z (λ bits. 0) → i < 32
+moved-truth : (d : Direction) {ts : List Tree} {ids : List ℕ} {f : Bits → ℕ} (by : ℕ) {z : ℕ} (i : ℕ)
+    → IsWordOf ts ids f → IsTruthOf ts z (λ bits. 0) → i < 32
     → IsTruthOf ts (moved d ids by z i) (λ bits. bit_at (shifted_by d (f bits) by) i)
 moved-truth Left {f} by i w h l = elim (cases_lt i by) [
   | inl less ↦ rw (lt-ltb i by less) (truth-of-same h (λ bits. sym (left-low (f bits) by i less l)))

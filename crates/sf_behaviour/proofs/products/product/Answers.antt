@@ -40,8 +40,8 @@ loop-i-preserved c =
     record {
       keeps = keeps_more _ _ _ h.keeps kept;
       none = word-of-kept kept.trees h.none;
-      total = word-of-same (word-by (λ bits. apply Add) (word-of-kept row.keeps.trees h.total) chosen new.word)
-          (λ bits. product-step c.loop-i.i (word_value ts c.args.a.now.bits bits) (word_value ts c.args.b.now.bits bits));
+      total = word-of-same (word-by (λ bits. apply Add) (word-of-kept row.keeps.trees h.total) chosen new.word) (λ bits.
+          product-step c.loop-i.i (word_value ts c.args.a.now.bits bits) (word_value ts c.args.b.now.bits bits));
     }
 
 pub returns-clause-word : goal.returns-clause-word
