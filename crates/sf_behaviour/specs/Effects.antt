@@ -46,15 +46,10 @@ source_in ts k bits Negation = negation_of (held_in ts k bits A)
 source_in ts k bits (Result op other) =
     apply op (held_in ts k bits A) (operand_in ts k bits other)
 
--- an operation that divides by X: where that is 0, the program returns 0
-abbrev pub divides_by_x : BinOp → Operand → Bool
-divides_by_x Div OfX = true
-divides_by_x op other = false
-
--- the source is made by such an operation
+-- the source is made by an operation that divides by X: where that is 0, the program returns 0
 abbrev pub divides : Source → Bool
-divides (Result op other) = divides_by_x op other
-divides _ = false
+divides (Result Div OfX) = true
+divides source = false
 
 -- on to the next place with a register set, or stuck where the source has no number
 abbrev pub set_progress : State → ℕ → Option ℕ → Progress

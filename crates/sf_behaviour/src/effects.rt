@@ -6,7 +6,7 @@ ghost use Rattle.sf_check.specs.Insns.{IsInRange};
 ghost use Rattle.sf_diagram.specs.Stores.{KeepsStore, IsFull};
 ghost use Rattle.sf_behaviour.specs.Registers.{IsRegister};
 ghost use Rattle.sf_behaviour.specs.Knowledge.{held_in, IsKnowledge};
-ghost use Rattle.sf_behaviour.specs.Effects.{divides, divides_by_x, operand_in, source_in, IsEffectOf, IsSource};
+ghost use Rattle.sf_behaviour.specs.Effects.{divides, operand_in, source_in, IsEffectOf, IsSource};
 ghost use Rattle.sf_behaviour.specs.Words.{word_value, IsWord, IsWordOf};
 
 use crate::combining::{Bitwise, combine};
@@ -179,26 +179,12 @@ pub(crate) fn source_word(store: &mut Store, known: &Known, source: Source) -> R
     }
 }
 
-/// Whether an operation divides by X.
-fn is_quotient_by_x(op: BinOp, other: Operand) -> bool
-    ensures { result ≡ divides_by_x op other }
-{
-    match op {
-        BinOp::Div => match other {
-            Operand::X => true,
-            Operand::Constant(_) => false,
-        },
-        BinOp::Add | BinOp::Sub | BinOp::Mul | BinOp::Or | BinOp::And => false,
-        BinOp::Lsh | BinOp::Rsh | BinOp::Xor => false,
-    }
-}
-
-/// Whether a source is made by such an operation.
+/// Whether a source is made by an operation that divides by X.
 pub(crate) fn is_quotient(source: Source) -> bool
     ensures { result ≡ divides source }
 {
     match source {
-        Source::Constant(_) | Source::Word(_) | Source::Held(_) | Source::Negation => false,
-        Source::Result(op, other) => is_quotient_by_x(op, other),
+        Source::Result(BinOp::Div, Operand::X) => true,
+        _ => false,
     }
 }
