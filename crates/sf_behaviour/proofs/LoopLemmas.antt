@@ -1,8 +1,8 @@
 -- What the loops over the bits of words keep, from one bit to the next. Trees ts are those at first, us those so far,
 -- and vs those with one more bit.
-use Rattle.sf_behaviour.proofs.Common.{◌≡◌, ℕ, zero, suc, ◌+◌, ◌-◌, ◌*◌, ◌/◌, ◌%◌, ◌<◌, ◌^◌, List, length, Bool, true, false, refl, sym, ap, ap₂, ◌∙◌, arith, slice_index, if◌then◌else◌, bit_at, pow_pos, bit_at-lt, Test, Tree, Leaf, Fork, Bits, value, tree_at, KeepsTrees, chosen_of, word_value, IsTruthOf, IsWord, and_le_l, or_lt, xor_lt, and_shr, or_shr, xor_shr, and_mod, or_mod, xor_mod, mod_below, combined, tested_bits, IsBitwise, Bitwise, And, Or, Xor, Choose}
+use Rattle.sf_behaviour.proofs.Common.{◌≡◌, ℕ, zero, suc, ◌+◌, ◌-◌, ◌*◌, ◌/◌, ◌%◌, ◌<◌, ◌^◌, List, length, Bool, true, false, refl, sym, ap, ap₂, ◌∙◌, arith, slice_index, if◌then◌else◌, bit_at, pow_pos, pow-add, bit_at-lt, Test, Tree, Leaf, Fork, Bits, value, tree_at, KeepsTrees, chosen_of, word_value, IsTruthOf, IsWord, and_le_l, or_lt, xor_lt, and_shr, or_shr, xor_shr, and_mod, or_mod, xor_mod, mod_below, combined, tested_bits, IsBitwise, Bitwise, And, Or, Xor, Choose}
 use Rattle.sf_behaviour.proofs.WordLemmas.{bit-now, truth-kept, truth-of-same, value-kept}
-use Rattle.sf_behaviour.proofs.StepLemmas.{less-more, low-more, truth_of, test-more}
+use Rattle.sf_behaviour.proofs.StepLemmas.{low-more, truth_of, test-more}
 
 -- ---- operations that treat each bit by itself
 
@@ -53,11 +53,11 @@ combined-truth o n {ts} {us} {a} {b} k h wa wb l t = truth-of-same t (λ bits.
 pub less-step : (n a b c d z e : ℕ) {x y : ℕ} → x ≡ bit_at a n → y ≡ bit_at b n → z + y + c ≡ x + 2 * e
     → d + b % 2 ^ n ≡ a % 2 ^ n + c * 2 ^ n → z * 2 ^ n + d + b % 2 ^ (n + 1) ≡ a % 2 ^ (n + 1) + e * 2 ^ (n + 1)
 less-step n a b c d z e {x} {y} ex ey high low =
-    let bits : z + bit_at b n + c ≡ bit_at a n + 2 * e
-    = ap (λ (m : ℕ). z + m + c) (sym ey) ∙ high ∙ ap (λ (m : ℕ). m + 2 * e) ex in
-    ap (λ (v : ℕ). z * 2 ^ n + d + v) (sym (low-more b n))
-    ∙ less-more n (a % 2 ^ n) (b % 2 ^ n) c d (bit_at a n) (bit_at b n) z e low bits
-    ∙ ap (λ (v : ℕ). v + e * 2 ^ (n + 1)) (low-more a n)
+    let scaled : (z + y + c) * 2 ^ n ≡ (x + 2 * e) * 2 ^ n = ap (λ (m : ℕ). m * 2 ^ n) high in
+    let last : e * 2 ^ (n + 1) ≡ e * (2 ^ n * 2) = ap (λ (m : ℕ). e * m) (pow-add 2 n 1) in
+    let more_a : x * 2 ^ n + a % 2 ^ n ≡ a % 2 ^ (n + 1) = ap (λ (m : ℕ). m * 2 ^ n + a % 2 ^ n) ex ∙ low-more a n in
+    let more_b : y * 2 ^ n + b % 2 ^ n ≡ b % 2 ^ (n + 1) = ap (λ (m : ℕ). m * 2 ^ n + b % 2 ^ n) ey ∙ low-more b n in
+    omega (arith, low, scaled, last, more_a, more_b)
 
 -- a difference of all bits
 pub less-all : (n a b c d : ℕ) → n ≡ 32 → a < 2 ^ 32 → b < 2 ^ 32 → d < 2 ^ n

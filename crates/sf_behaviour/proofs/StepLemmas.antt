@@ -1,14 +1,6 @@
 -- What operations and tests make of two numbers with one more bit each.
 use Rattle.sf_behaviour.proofs.Common.{◌≡◌, ℕ, zero, suc, ◌+◌, ◌*◌, ◌%◌, ◌<◌, ◌≤◌, ◌^◌, ◌==◌, Bool, true, false, refl, sym, ap, ◌∙◌, arith, if◌then◌else◌, bit_at, eq-eqb, lt-ltb, le-ltb, leb-true, ne_eqb, pow_pos, pow-add, passes, Test, Equal, not, bit_and, bit_or, nat_lt, nat_le, and_block, eqb-true, ltb-true, le-leb, lt-leb, same_from_decides, and_le_l, mod-pow-add, Greater, GreaterOrEqual, AnyBit, tested_bits}
 
--- a difference of n bits, with one more bit
-pub less-more : (n a b c d x y z e : ℕ) → d + b ≡ a + c * 2 ^ n → z + y + c ≡ x + 2 * e
-    → (z * 2 ^ n + d) + (y * 2 ^ n + b) ≡ (x * 2 ^ n + a) + e * 2 ^ (n + 1)
-less-more n a b c d x y z e low high =
-    let scaled : (z + y + c) * 2 ^ n ≡ (x + 2 * e) * 2 ^ n = ap (λ (m : ℕ). m * 2 ^ n) high in
-    let last : e * 2 ^ (n + 1) ≡ e * (2 ^ n * 2) = ap (λ (m : ℕ). e * m) (pow-add 2 n 1) in
-    omega (arith, low, scaled, last)
-
 pub more-small : (n v w : ℕ) → v < 2 → w < 2 ^ n → v * 2 ^ n + w < 2 ^ (n + 1)
 more-small n zero w lv lw = omega (arith, lw, pow-add 2 n 1)
 more-small n (suc zero) w lv lw = omega (arith, lw, pow-add 2 n 1)

@@ -7,12 +7,6 @@ use Rattle.sf_behaviour.proofs.LoopLemmas.{if-small, literal-truth}
 
 -- ---- numbers by variables
 
-pub few-variables : (d b : ℕ) → d ≤ 2 → b ≤ 31 → d * b ≤ 62
-few-variables zero b ld lb = omega arith
-few-variables (suc zero) b ld lb = omega arith
-few-variables (suc (suc zero)) b ld lb = omega arith
-few-variables (suc (suc (suc d))) b ld lb = absurd (omega arith)
-
 -- variables that agree make one number
 pub number_by-same : (first distance n : ℕ) (a b : Bits)
     → ((i : ℕ) → i < n → a (first + distance * (31 - i)) ≡ b (first + distance * (31 - i)))
