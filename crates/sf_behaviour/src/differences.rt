@@ -60,8 +60,7 @@ pub(crate) fn negation(store: &mut Store, a: &Word) -> Result<Word, Fault>
     ensures spent { IfErr result (λ e. e ≡ Fault.Spent → IsFull store.new) }
 {
     let zero = constant_word(store, 0)?;
-    let word = difference(store, &zero, a)?;
-    Ok(word)
+    Ok(difference(store, &zero, a)?)
 }
 
 /// The sum of two words, modulo 2^32: the first less minus the second.
@@ -75,6 +74,5 @@ pub(crate) fn sum(store: &mut Store, a: &Word, b: &Word) -> Result<Word, Fault>
     ensures spent { IfErr result (λ e. e ≡ Fault.Spent → IsFull store.new) }
 {
     let minus = negation(store, b)?;
-    let word = difference(store, a, &minus)?;
-    Ok(word)
+    Ok(difference(store, a, &minus)?)
 }

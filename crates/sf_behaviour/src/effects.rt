@@ -168,13 +168,11 @@ pub(crate) fn source_word(store: &mut Store, known: &Known, source: Source) -> R
         Source::Held(register) => held_word(store, known, register),
         Source::Negation => {
             let held = held_word(store, known, A)?;
-            let minus = negation(store, &held)?;
-            Ok(minus)
+            Ok(negation(store, &held)?)
         }
         Source::Result(op, other) => {
             let (a, b) = held_words(store, known, A, other)?;
-            let made = operate(store, op, &a, &b)?;
-            Ok(made)
+            Ok(operate(store, op, &a, &b)?)
         }
     }
 }

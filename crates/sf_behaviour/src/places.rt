@@ -113,8 +113,7 @@ fn set_diagram(
     ensures spent { IfErr result (λ e. e ≡ Fault.Spent → IsFull store.new) }
 {
     let by = source_word(store, known, source)?;
-    let id = replace(alloc, store, register, &by, next)?;
-    Ok(id)
+    Ok(replace(alloc, store, register, &by, next)?)
 }
 
 /// Whether a test of a register passes: 1 or 0.
@@ -134,8 +133,7 @@ fn test_diagram(
     ensures spent { IfErr result (λ e. e ≡ Fault.Spent → IsFull store.new) }
 {
     let (a, b) = held_words(store, known, register, operand)?;
-    let passed = test_words(store, test, &a, &b)?;
-    Ok(passed)
+    Ok(test_words(store, test, &a, &b)?)
 }
 
 /// What is returned where a source's number is taken before: 0 where it divides by X and X is 0.
@@ -171,8 +169,7 @@ fn source_diagram(store: &mut Store, known: &Known, source: Source) -> Result<Id
 {
     match source {
         Source::Constant(number) => {
-            let leaf = store.leaf(number as u64)?;
-            Ok(leaf)
+            Ok(store.leaf(number as u64)?)
         }
         _ => {
             let word = source_word(store, known, source)?;
@@ -198,8 +195,7 @@ fn diagram_behind(
     ensures spent { IfErr result (λ e. e ≡ Fault.Spent → IsFull store.new) }
 {
     let step = step_at(steps, place);
-    let id = learn(alloc, store, &step.known, &from.after, id_at(ids, place))?;
-    Ok(id)
+    Ok(learn(alloc, store, &step.known, &from.after, id_at(ids, place))?)
 }
 
 /// The diagram that tells what runs return that go on from a place, by its step.
@@ -221,13 +217,11 @@ pub(crate) fn diagram_of_place(
         Effect::Sets(register, source) => {
             let next = diagram_behind(alloc, store, steps, ids, step, place + 1)?;
             let set = set_diagram(alloc, store, &step.known, register, source, next)?;
-            let guarded = guarded_diagram(store, &step.known, source, set)?;
-            Ok(guarded)
+            Ok(guarded_diagram(store, &step.known, source, set)?)
         }
         Effect::Skips(k) => {
             let target = place + 1 + k as usize;
-            let skipped = diagram_behind(alloc, store, steps, ids, step, target)?;
-            Ok(skipped)
+            Ok(diagram_behind(alloc, store, steps, ids, step, target)?)
         }
         Effect::Tests(test, operand, on_true, on_false) => {
             let on_yes = place + 1 + on_true as usize;
@@ -239,8 +233,7 @@ pub(crate) fn diagram_of_place(
             Ok(tested)
         }
         Effect::Returns(source) => {
-            let returned = source_diagram(store, &step.known, source)?;
-            Ok(returned)
+            Ok(source_diagram(store, &step.known, source)?)
         }
     }
 }

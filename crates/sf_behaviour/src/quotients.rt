@@ -64,6 +64,5 @@ pub(crate) fn quotient(store: &mut Store, a: &Word, b: &Word) -> Result<Word, Fa
         rest = left;
     }
     let by_zero = test_words(store, Test::Equal, b, &none)?;
-    let word = combine(store, Bitwise::Choose(by_zero), &none, &Word { bits })?;
-    Ok(word)
+    Ok(combine(store, Bitwise::Choose(by_zero), &none, &Word { bits })?)
 }

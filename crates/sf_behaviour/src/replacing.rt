@@ -116,8 +116,7 @@ pub(crate) fn replace(
     ensures spent { IfErr result (λ e. e ≡ Fault.Spent → IsFull store.new) }
 {
     let mut made = BTreeMap::new(alloc);
-    let new = replace_in(store, &mut made, register, by, id)?;
-    Ok(new)
+    replace_in(store, &mut made, register, by, id)
 }
 
 /// The diagram in which all registers are 0.

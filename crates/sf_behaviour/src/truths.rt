@@ -17,8 +17,7 @@ pub(crate) fn differ(store: &mut Store, a: Id, b: Id) -> Result<Id, Fault>
     ensures keeps { KeepsStore store.old store.new }
     ensures spent { IfErr result (λ e. e ≡ Fault.Spent → IsFull store.new) }
 {
-    let id = merge(store, Operation::Different, a, b)?;
-    Ok(id)
+    Ok(merge(store, Operation::Different, a, b)?)
 }
 
 /// The second of them where the first is 1, else the third.
@@ -32,6 +31,5 @@ pub(crate) fn pick(store: &mut Store, test: Id, taken: Id, other: Id) -> Result<
     ensures keeps { KeepsStore store.old store.new }
     ensures spent { IfErr result (λ e. e ≡ Fault.Spent → IsFull store.new) }
 {
-    let id = choose(store, test, taken, other)?;
-    Ok(id)
+    Ok(choose(store, test, taken, other)?)
 }

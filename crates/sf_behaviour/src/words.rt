@@ -66,8 +66,7 @@ pub(crate) fn input_word(store: &mut Store, word: usize) -> Result<Word, Fault>
     ensures keeps { KeepsStore store.old store.new }
     ensures spent { IfErr result (λ e. e ≡ Fault.Spent → IsFull store.new) }
 {
-    let word = variable_word(store, first_variable(word), 1)?;
-    Ok(word)
+    Ok(variable_word(store, first_variable(word), 1)?)
 }
 
 /// One diagram with the numbers of a word at its leaves.

@@ -7,4 +7,4 @@ pub returns-clause-word : goal.returns-clause-word
 returns-clause-word c =
     let zero = c.in_ok-zero.ensures in
     let number = number-now zero.keeps.trees c.requires in
-    word-of-same (word-by (λ bits. apply Sub) zero.word number c.in_ok-word.ensures.word) (λ bits. omega arith)
+    word-of-same (word-by (λ bits. apply Sub) zero.word number c.in_ok-difference.ensures.word) (λ bits. omega arith)

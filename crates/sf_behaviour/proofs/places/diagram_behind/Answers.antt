@@ -24,5 +24,5 @@ pub learn-requires-clause-within : goal.learn-requires-clause-within
 learn-requires-clause-within c = (next-tells c.requires c.step_at-step.ensures c.id_at.ensures).within
 
 pub returns-clause-tells : goal.returns-clause-tells
-returns-clause-tells c = c.in_ok-id.ensures.tells (insns_of c.args.steps.now.items) c.args.place
+returns-clause-tells c = c.in_ok-learn.ensures.tells (insns_of c.args.steps.now.items) c.args.place
     (next-tells c.requires c.step_at-step.ensures c.id_at.ensures)

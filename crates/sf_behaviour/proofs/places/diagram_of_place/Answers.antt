@@ -27,12 +27,12 @@ guarded_diagram-requires-clause-known c =
     knowledge-kept (keeps_more _ _ _ c.in_ok-next-in-Sets.ensures.keeps c.in_ok-set-in-Sets.ensures.keeps).trees
     (this-step c.requires).known
 
-pub returns-in_ok-guarded-in-Sets-clause-tells : goal.returns-in_ok-guarded-in-Sets-clause-tells
-returns-in_ok-guarded-in-Sets-clause-tells c =
+pub returns-in_ok-guarded_diagram-in-Sets-clause-tells : goal.returns-in_ok-guarded_diagram-in-Sets-clause-tells
+returns-in_ok-guarded_diagram-in-Sets-clause-tells c =
     let kept = place-kept c.in_ok-next-in-Sets.ensures.keeps.trees c.requires in
     let is_step = this-step kept in
     let set = c.in_ok-set-in-Sets.ensures in
-    let guarded = c.in_ok-guarded-in-Sets.ensures in
+    let guarded = c.in_ok-guarded_diagram-in-Sets.ensures in
     let code = insns_of c.args.steps.now.items in
     let r = c.in-Sets.register in
     let source = c.in-Sets.source in
@@ -49,10 +49,10 @@ diagram_behind-requires-in-Skips c =
     let next = c.args.place + 1 + c.in-Skips.k in
     next-of c.requires (rw c.in-Skips.is (contains_here next [] next refl))
 
-pub returns-in_ok-skipped-in-Skips-clause-tells : goal.returns-in_ok-skipped-in-Skips-clause-tells
-returns-in_ok-skipped-in-Skips-clause-tells c =
+pub returns-in_ok-diagram_behind-in-Skips-clause-tells : goal.returns-in_ok-diagram_behind-in-Skips-clause-tells
+returns-in_ok-diagram_behind-in-Skips-clause-tells c =
     place-step c.requires c.in-Skips.is (follows-skip c.args.place c.in-Skips.k
-    (same-tells (after-same (this-step c.requires) c.in-Skips.is) c.in_ok-skipped-in-Skips.ensures.tells))
+    (same-tells (after-same (this-step c.requires) c.in-Skips.is) c.in_ok-diagram_behind-in-Skips.ensures.tells))
 
 -- ---- A is tested
 
@@ -108,9 +108,9 @@ returns-in_ok-tested-in-Tests-clause-tells c =
 
 -- ---- a number is returned
 
-pub returns-in_ok-returned-in-Returns-clause-tells : goal.returns-in_ok-returned-in-Returns-clause-tells
-returns-in_ok-returned-in-Returns-clause-tells c =
-    let e = c.in_ok-returned-in-Returns.ensures in
+pub returns-in_ok-source_diagram-in-Returns-clause-tells : goal.returns-in_ok-source_diagram-in-Returns-clause-tells
+returns-in_ok-source_diagram-in-Returns-clause-tells c =
+    let e = c.in_ok-source_diagram-in-Returns.ensures in
     place-step c.requires c.in-Returns.is
     (follows-return (insns_of c.args.steps.now.items) c.args.place c.in-Returns.source e.keeps.trees
     (this-step c.requires).known e.values e.small)

@@ -58,7 +58,7 @@ returns-clause-word c =
     let zero = c.in_ok-by_zero.ensures in
     let is_zero = value (tree_at c.test_words.new.store.trees c.in_ok-by_zero.by_zero) in
     let word = word-by (λ (x : Bits). chosen_of (is_zero x)) (word-of-kept zero.keeps.trees h.none)
-    (number-now zero.keeps.trees h.made) c.in_ok-word.ensures.word in
+    (number-now zero.keeps.trees h.made) c.in_ok-combine.ensures.word in
     word-of-same word (λ bits. quotient-made (32 - c.loop-i.i) (word_value ts c.args.a.now.bits bits)
     (word_value ts c.args.b.now.bits bits) (word_value us c.loop-i.bits bits) (word_value us c.loop-i.rest.bits bits)
     (is_zero bits) (omega arith) (zero.truth.values bits ∙ ap₂ (λ (m n : ℕ). if m == n then 1 else 0)

@@ -5,5 +5,5 @@ use Rattle.sf_behaviour.proofs.VariableLemmas.{input-word}
 use Rattle.sf_behaviour.proofs.words.input_word.Goals as goal
 
 pub returns-clause-word : goal.returns-clause-word
-returns-clause-word c = word-of-same c.in_ok-word.ensures.word (λ bits.
+returns-clause-word c = word-of-same c.in_ok-variable_word.ensures.word (λ bits.
     ap (λ (n : ℕ). number_by n 1 32 bits) c.first_variable.ensures.is ∙ sym (input-word bits c.args.word c.requires))
