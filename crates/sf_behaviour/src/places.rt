@@ -168,9 +168,7 @@ fn source_diagram(store: &mut Store, known: &Known, source: Source) -> Result<Id
     ensures spent { IfErr result (λ e. e ≡ Fault.Spent → IsFull store.new) }
 {
     match source {
-        Source::Constant(number) => {
-            Ok(store.leaf(number as u64)?)
-        }
+        Source::Constant(number) => Ok(store.leaf(number as u64)?),
         _ => {
             let word = source_word(store, known, source)?;
             let id = number_diagram(store, &word)?;
@@ -232,8 +230,6 @@ pub(crate) fn diagram_of_place(
             let tested = choose(store, passed, taken, other)?;
             Ok(tested)
         }
-        Effect::Returns(source) => {
-            Ok(source_diagram(store, &step.known, source)?)
-        }
+        Effect::Returns(source) => Ok(source_diagram(store, &step.known, source)?),
     }
 }
