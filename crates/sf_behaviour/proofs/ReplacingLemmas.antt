@@ -1,8 +1,7 @@
 -- Diagrams in which a word stands in the place of a register.
 use Rattle.sf_behaviour.proofs.Common.{◌≡◌, ℕ, ◌<◌, ◌≤◌, ◌^◌, Bool, true, false, Some, None, List, length, refl, sym, ap, subst, ◌∙◌, inl, inr, arith, slice_index, if◌then◌else◌, bit_at, bit_at-lt, cases_eq, Tree, Leaf, Fork, Bits, value, tree_at, KeepsTrees, chosen_of, IsTruthOf, IsWordOf, with_register, start_bits, IsReplaced, BTreeMap, get, is_at, Updates, IsEmpty, lookup, nat_cmp, nat_tests, IsOrderedTree, IsChosen, register_bit, AreReplaced, value_from}
 use Rattle.sf_behaviour.proofs.WordLemmas.{bit-of, truth-of-same}
-use Rattle.sf_behaviour.proofs.StepLemmas.{bit-if}
-use Rattle.sf_behaviour.proofs.LoopLemmas.{literal-truth}
+use Rattle.sf_behaviour.proofs.BitLemmas.{bit-if, literal-truth}
 use Rattle.sf_behaviour.proofs.VariableLemmas.{ordered-from, with-own, with-other, start-low, start-high}
 
 -- ---- what stands in the place of a variable

@@ -1,8 +1,8 @@
--- Steps, and the diagrams of the last places.
-use Rattle.sf_behaviour.proofs.Common.{◌≡◌, ℕ, zero, suc, ◌+◌, ◌<◌, ◌≤◌, List, [], ◌∷◌, ◌++◌, length, Option, Some, None, refl, sym, ap, ap₂, subst, ◌∙◌, inl, inr, arith, Contains, slice_get, slice_index, slice_set, cases_lt, length-map, length-set, same_Some, Insn, IsLawfulProgram, Tree, value, tree_at, KeepsTrees, insns_of, AreSteps, Tells, TellFrom, return_of, input_by, IsDiagramOf, places_after, IsEffectOf, Known, IsKnowledge, start_bits, Step, Effect, Sets, Tests, ◌⊎◌, length-append, get_or, take, get_or_push, get_or_append_left, map-append, take_more, slice_get-get_or, slice_get_within, get_or_from_slice_get, contains_cons, contains_nil, IsAt, IsStep, IsAfter, Skips, Returns}
+-- Steps, the places to which they lead, and the diagrams of the last places.
+use Rattle.sf_behaviour.proofs.Common.{◌≡◌, ℕ, zero, suc, ◌+◌, ◌<◌, ◌≤◌, List, [], ◌∷◌, ◌++◌, length, Option, Some, None, refl, sym, ap, ap₂, subst, ◌∙◌, inl, inr, arith, Contains, slice_get, slice_index, slice_set, cases_lt, length-map, length-set, same_Some, Insn, IsLawfulProgram, Tree, value, tree_at, KeepsTrees, insns_of, AreSteps, Tells, TellFrom, return_of, input_by, IsDiagramOf, places_after, IsEffectOf, Known, IsKnowledge, start_bits, Step, Effect, Sets, Tests, ◌⊎◌, length-append, get_or, take, get_or_push, get_or_append_left, map-append, take_more, slice_get-get_or, slice_get_within, get_or_from_slice_get, contains_cons, contains_nil, IsAt, IsStep, IsAfter, Skips, Returns, effect_progress, successors, below_in, successors_inside, IsNext, IsPlace}
 use Rattle.sf_behaviour.proofs.WordLemmas.{number-kept, set-each, word-of-kept, word-of-same}
 use Rattle.sf_behaviour.proofs.KnowledgeLemmas.{input-word-kept, knowledge-kept, set-knowledge, source-kept}
-use Rattle.sf_behaviour.proofs.TellLemmas.{tells-kept, tells-program}
+use Rattle.sf_behaviour.proofs.TellLemmas.{tells-kept, tells-program, Follows, tells-step}
 
 module _ {B : Type 0} where
   -- what an index gives
@@ -165,3 +165,53 @@ pub code-more : (steps : List Step) (new : Step) (insns : List Insn) (i : ℕ) (
 code-more steps new insns i d code l is =
     map-append (λ (s : Step). s.insn) steps (new ∷ [])
     ∙ ap₂ (λ (xs : List Insn) (x : Insn). xs ++ x ∷ []) code is ∙ sym (take_more insns i d l)
+
+pub this-step : {ts : List Tree} {steps : List Step} {ids : List ℕ} {place : ℕ} {step : Step}
+    → IsPlace ts steps ids place step → IsStep ts step
+this-step {place} {step} h = h.are.each place step h.at
+
+pub place-kept : {ts us : List Tree} {steps : List Step} {ids : List ℕ} {place : ℕ} {step : Step} → KeepsTrees ts us
+    → IsPlace ts steps ids place step → IsPlace us steps ids place step
+place-kept keeps h = record {
+  lawful = h.lawful;
+  are = steps-kept keeps h.are;
+  inside = h.inside;
+  at = h.at;
+  behind = from-kept keeps h.are h.behind;
+}
+
+pub place-step : {ts us : List Tree} {steps : List Step} {ids : List ℕ} {place : ℕ} {step : Step} {e : Effect} {id : ℕ}
+    → IsPlace ts steps ids place step → step.effect ≡ e
+    → Follows (insns_of steps) place (λ d s. effect_progress d s e) us step.known id
+    → Tells (insns_of steps) place us step.known id
+place-step {steps} {place} {step} h is =
+    tells-step (step-at steps place step h.at) (effect-is (this-step h) is)
+
+-- a place to which the step of a place leads
+pub next-of : {ts : List Tree} {steps : List Step} {ids : List ℕ} {place next : ℕ} {step : Step}
+    → IsPlace ts steps ids place step → Contains (places_after place step.effect) next → IsNext ts steps ids step next
+next-of {place} h to = record { place = place; is = h; leads = to }
+
+-- it is there
+pub next-inside : {ts : List Tree} {steps : List Step} {ids : List ℕ} {step : Step} {next : ℕ}
+    → IsNext ts steps ids step next → next < length steps
+next-inside {steps} {step} {next} h =
+    let at = step-at steps h.place step h.is.at in
+    let inside : next < length (insns_of steps)
+    = below_in (length (insns_of steps)) (successors h.place step.insn) next
+    (successors_inside (insns_of steps) h.place step.insn at (h.is.lawful.inside h.place step.insn at) h.is.lawful.ends)
+    (subst (λ (ps : List ℕ). Contains ps next) (sym ((h.is.are.each h.place step h.is.at).effect.leads h.place))
+    h.leads) in
+    subst (λ (n : ℕ). next < n) (length-map steps (λ (s : Step). s.insn)) inside
+
+-- the diagram of such a place
+pub next-tells : {ts : List Tree} {steps : List Step} {ids : List ℕ} {step there : Step} {next id : ℕ}
+    → IsNext ts steps ids step next → slice_get steps next ≡ Some there → id ≡ slice_index ids next
+    → Tells (insns_of steps) next ts there.known id
+next-tells {ts} {steps} {step} {there} {next} h at is =
+    subst (λ (x : ℕ). Tells (insns_of steps) next ts there.known x) (sym is)
+    (h.is.behind.each next there (omega (arith, leads-later h.place next step.effect h.leads)) at)
+
+pub same-tells : {code : List Insn} {place : ℕ} {ts : List Tree} {k l : Known} {id : ℕ} → l ≡ k
+    → Tells code place ts l id → Tells code place ts k id
+same-tells {code} {place} {ts} {id} same = subst (λ (m : Known). Tells code place ts m id) same

@@ -1,9 +1,8 @@
 -- The bits of registers and of the input as variables.
 use Rattle.sf_behaviour.proofs.Common.{◌≡◌, ℕ, zero, suc, ◌+◌, ◌-◌, ◌*◌, ◌/◌, ◌%◌, ◌<◌, ◌≤◌, ◌==◌, ◌^◌, Bool, true, false, List, [], ◌∷◌, length, Some, None, refl, sym, ap, ap₂, subst, ◌∙◌, inl, inr, arith, map, slice_index, if◌then◌else◌, bit_at, pow-suc, cases_eq, eq-eqb, ne_eqb, lt-ltb, le-ltb, bit_at-lt, bit_at_cat_low, Input, Tree, Leaf, Fork, Bits, IsOrderedFrom, tree_at, input_by, IsRegister, register_by, with_register, start_bits, IsTruthOf, range_with_len, get_or-map-range_with_len, bit_at-zero, IsOrderedTree, input_first, input_number, register_first, register_bit}
 use Rattle.sf_behaviour.specs.InputBits.{number_by}
-use Rattle.sf_behaviour.proofs.StepLemmas.{low-more, bit-if}
+use Rattle.sf_behaviour.proofs.BitLemmas.{low-more, bit-if, if-small, literal-truth}
 use Rattle.sf_behaviour.proofs.WordLemmas.{top-bit}
-use Rattle.sf_behaviour.proofs.LoopLemmas.{if-small, literal-truth}
 
 -- ---- numbers by variables
 

@@ -1,6 +1,6 @@
 use Rattle.sf_behaviour.proofs.Common.{arith, keeps_more, word_value}
 use Rattle.sf_behaviour.proofs.WordLemmas.{begun-more, word-made, word-small}
-use Rattle.sf_behaviour.proofs.LoopLemmas.{bitwise-kept, combined-small, combined-truth}
+use Rattle.sf_behaviour.proofs.BitLemmas.{bitwise-kept, combined-small, combined-truth}
 use Rattle.sf_behaviour.proofs.combining.combine.Goals as goal
 
 pub combine_bits-requires-clause-operation : goal.combine_bits-requires-clause-operation

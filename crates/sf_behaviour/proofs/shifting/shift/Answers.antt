@@ -1,6 +1,6 @@
 use Rattle.sf_behaviour.proofs.Common.{◌≡◌, arith, keeps_more, word_value}
 use Rattle.sf_behaviour.proofs.WordLemmas.{bit-chosen, number-now, truth-kept, truth-of-kept, word-of-same, word-small}
-use Rattle.sf_behaviour.proofs.LoopLemmas.{leaf-truth}
+use Rattle.sf_behaviour.proofs.BitLemmas.{leaf-truth}
 use Rattle.sf_behaviour.proofs.ShiftLemmas.{few-places, more-places, shift-begun, shift-step, shift-made}
 use Rattle.sf_behaviour.proofs.shifting.shift.Goals as goal
 

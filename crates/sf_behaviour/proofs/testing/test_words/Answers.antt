@@ -1,7 +1,6 @@
 use Rattle.sf_behaviour.proofs.Common.{◌≡◌, arith, rules, keeps_more, word_value, IsTruthOf}
 use Rattle.sf_behaviour.proofs.WordLemmas.{truth-of-same, word-small}
-use Rattle.sf_behaviour.proofs.StepLemmas.{truth_of}
-use Rattle.sf_behaviour.proofs.LoopLemmas.{tested-all, tested-begun, tested-step}
+use Rattle.sf_behaviour.proofs.BitLemmas.{truth_of, tested-all, tested-begun, tested-step}
 use Rattle.sf_behaviour.proofs.testing.test_words.Goals as goal
 
 pub loop-i-init : goal.loop-i-init

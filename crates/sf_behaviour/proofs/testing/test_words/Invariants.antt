@@ -1,5 +1,5 @@
 use Rattle.sf_behaviour.proofs.Common.{◌%◌, ◌^◌, KeepsStore, word_value, IsTruthOf}
-use Rattle.sf_behaviour.proofs.StepLemmas.{truth_of}
+use Rattle.sf_behaviour.proofs.BitLemmas.{truth_of}
 use Rattle.sf_behaviour.proofs.testing.test_words.Given as goal
 
 abbrev pub invariant-loop-i : goal.invariant-loop-i
