@@ -1,8 +1,7 @@
 -- How what is known of places comes about, from the first place on.
 use Rattle.sf_behaviour.proofs.Common.{◌≡◌, ℕ, ◌+◌, ◌<◌, List, [], ◌∷◌, ◌++◌, length, replicate, Option, Some, None, sym, ap, subst, ◌∙◌, inl, inr, arith, Contains, slice_get, slice_index, cases_eq, same_Some, Insn, IsLawfulProgram, Tree, IsOrderedFrom, tree_at, KeepsTrees, with_register, Known, known_word, IsInputWord, IsKnowledge, IsLess, places_after, IsMet, AreSteps, word_value, IsWord, IsWordOf, Word, Step, ◌⊎◌, get_or, get_or-replicate, length-replicate, same_from_bits_below, slice_get-get_or, IsInRange, IsStep, value_from}
 use Rattle.sf_behaviour.proofs.WordLemmas.{bit-of-word, word-small}
-use Rattle.sf_behaviour.proofs.VariableLemmas.{past-registers, with-other}
-use Rattle.sf_behaviour.proofs.RegisterLemmas.{some-within}
+use Rattle.sf_behaviour.proofs.VariableLemmas.{past-registers, with-other, some-within}
 use Rattle.sf_behaviour.proofs.StepsLemmas.{at-push, leads-later, steps-kept}
 
 -- ---- words that depend on the input alone

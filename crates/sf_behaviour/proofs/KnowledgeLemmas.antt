@@ -3,8 +3,7 @@ use Rattle.sf_behaviour.proofs.Common.{◌≡◌, ℕ, ◌<◌, ◌^◌, List, l
 use Rattle.sf_check.specs.declared.insn.Operand.TheVariants.{Constant as Fixed, X as OfX}
 use Rattle.sf_behaviour.specs.declared.effects.Source.TheVariants.{Constant, Word as InputWord}
 use Rattle.sf_behaviour.proofs.WordLemmas.{set-each, word-kept, word-small, number-kept}
-use Rattle.sf_behaviour.proofs.VariableLemmas.{with-register-own, with-register-other, start-register}
-use Rattle.sf_behaviour.proofs.RegisterLemmas.{none-there, number-after, number-elsewhere, start-number, start-there}
+use Rattle.sf_behaviour.proofs.VariableLemmas.{with-register-own, with-register-other, start-register, none-there, number-after, number-elsewhere, start-number, start-there}
 
 -- a register has the word that was set
 pub set-own : (k : Known) (r : ℕ) (word : Option Word) → IsRegister r → length k ≡ 18

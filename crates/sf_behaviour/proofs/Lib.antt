@@ -3,10 +3,8 @@ pub mod BitLemmas
 pub mod Common
 pub mod EffectLemmas
 pub mod ForwardLemmas
-pub mod InputLemmas
 pub mod KnowledgeLemmas
 pub mod QuotientLemmas
-pub mod RegisterLemmas
 pub mod ReplacingLemmas
 pub mod ShiftLemmas
 pub mod StepsLemmas

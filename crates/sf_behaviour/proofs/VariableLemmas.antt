@@ -1,8 +1,57 @@
--- The bits of registers and of the input as variables.
-use Rattle.sf_behaviour.proofs.Common.{◌≡◌, ℕ, zero, suc, ◌+◌, ◌-◌, ◌*◌, ◌/◌, ◌%◌, ◌<◌, ◌≤◌, ◌==◌, ◌^◌, Bool, true, false, List, [], ◌∷◌, length, Some, None, refl, sym, ap, ap₂, subst, ◌∙◌, inl, inr, arith, map, slice_index, if◌then◌else◌, bit_at, pow-suc, cases_eq, eq-eqb, ne_eqb, lt-ltb, le-ltb, bit_at-lt, bit_at_cat_low, Input, Tree, Leaf, Fork, Bits, IsOrderedFrom, tree_at, input_by, IsRegister, register_by, with_register, start_bits, IsTruthOf, range_with_len, get_or-map-range_with_len, bit_at-zero, IsOrderedTree, input_first, input_number, register_first, register_bit}
+-- The registers of a state, and their bits and those of the input as variables.
+use Rattle.sf_behaviour.proofs.Common.{◌≡◌, ℕ, zero, suc, ◌<◌, List, length, length-set, replicate, Option, Some, None, refl, sym, ap, ◌∙◌, inl, inr, arith, slice_set, cases_lt, get_or-set_same, get_or-set_other, same_Some, State, start, IsRegister, register_number, next_with, slice_index_or, get_or_past, registers_of, ◌+◌, ◌-◌, ◌*◌, ◌/◌, ◌%◌, ◌≤◌, ◌==◌, ◌^◌, Bool, true, false, [], ◌∷◌, ap₂, subst, map, slice_index, if◌then◌else◌, bit_at, pow-suc, cases_eq, eq-eqb, ne_eqb, lt-ltb, le-ltb, bit_at-lt, bit_at_cat_low, Input, Tree, Leaf, Fork, Bits, IsOrderedFrom, tree_at, input_by, register_by, with_register, start_bits, IsTruthOf, range_with_len, get_or-map-range_with_len, bit_at-zero, IsOrderedTree, input_first, input_number, register_first, register_bit, length-map, agree_below_at, eqb-true, same_number_lists, length-range_with_len, IsInput, places_of_words, words_in_order, input_bits}
 use Rattle.sf_behaviour.specs.InputBits.{number_by}
 use Rattle.sf_behaviour.proofs.BitLemmas.{low-more, bit-if, if-small, literal-truth}
 use Rattle.sf_behaviour.proofs.WordLemmas.{top-bit}
+
+module _ {B : Type 0} where
+  -- what stands in a list stands within it
+  pub some-within : (xs : List (Option B)) (r : ℕ) (x : B) → slice_index_or xs r None ≡ Some x → r < length xs
+  some-within xs r x e = elim (cases_lt r (length xs)) [
+    | inl l ↦ l
+    | inr g ↦ let clash : None ≡ Some x = sym (get_or_past xs r None g) ∙ e in absurd cc
+  ]
+
+  -- nothing stands in a list of nothing
+  pub none-there : (none : Option B) (n k : ℕ) (x : B) → none ≡ None → slice_index_or (replicate n none) k None ≡ Some x
+      → ⊥
+  none-there none zero k x is e = cc
+  none-there none (suc n) zero x is e = cc
+  none-there none (suc n) (suc k) x is e = none-there none n k x is e
+
+registers-set : (s : State) (r n : ℕ) → registers_of (next_with s r n) ≡ slice_set (registers_of s) r (Some n)
+registers-set s zero n = refl
+registers-set s (suc zero) n = refl
+registers-set s (suc (suc k)) n = refl
+
+number-at : (s : State) (r q n : ℕ)
+    → register_number (next_with s r n) q ≡ slice_index_or (slice_set (registers_of s) r (Some n)) q None
+number-at s r q n = ap (λ (xs : List (Option ℕ)). slice_index_or xs q None) (registers-set s r n)
+
+-- what a register has after it was set
+pub number-after : (s : State) (r n m : ℕ) → register_number (next_with s r n) r ≡ Some m → m ≡ n
+number-after s r n m e =
+    let at : slice_index_or (slice_set (registers_of s) r (Some n)) r None ≡ Some m = sym (number-at s r r n) ∙ e in
+    let inside : r < length (slice_set (registers_of s) r (Some n))
+    = some-within (slice_set (registers_of s) r (Some n)) r m at in
+    let within : r < length (registers_of s) = omega (arith, inside, length-set (registers_of s) r (Some n)) in
+    same_Some m n (sym at ∙ get_or-set_same (registers_of s) r (Some n) None within)
+
+-- a register that is not set keeps its number
+pub number-elsewhere : (s : State) (r q n : ℕ) → (q ≡ r → ⊥) → register_number (next_with s r n) q ≡ register_number s q
+number-elsewhere s r q n ne = number-at s r q n ∙ get_or-set_other (registers_of s) r q (Some n) None ne
+
+abbrev no_word : Option ℕ
+no_word = None
+
+-- at the start all registers that have a number are 0
+pub start-number : (r n : ℕ) → register_number start r ≡ Some n → n ≡ 0
+start-number zero n e = sym (same_Some 0 n e)
+start-number (suc zero) n e = sym (same_Some 0 n e)
+start-number (suc (suc k)) n e = absurd (none-there no_word 16 k n refl e)
+
+pub start-there : (r n : ℕ) → register_number start r ≡ Some n → IsRegister r
+start-there r n e = some-within (registers_of start) r n e
 
 -- ---- numbers by variables
 
@@ -175,3 +224,44 @@ start-register r bits there = number_by-is (register_first r) 2 32 0 (start_bits
 
 pub start-input : (bits : Bits) → input_by (start_bits bits) ≡ input_by bits
 start-input bits = input_by-same (start_bits bits) bits (λ v l. start-high bits v l)
+
+word-at-place : (w : ℕ) → w < 16 → slice_index words_in_order (slice_index places_of_words w) ≡ w
+word-at-place w l = eqb-true (slice_index words_in_order (slice_index places_of_words w)) w
+    (agree_below_at (λ n. slice_index words_in_order (slice_index places_of_words n) == n) (λ n. true) 16 w refl l)
+
+-- a variable of a word is that bit of the word
+input-bit : (d : Input) (w i : ℕ) → w < 16 → i < 32
+    → input_bits d (input_first w + 1 * (31 - i)) ≡ (bit_at (slice_index d.words w) i == 1)
+input-bit d w i lw li =
+    let place : (576 + 32 * slice_index places_of_words w + 1 * (31 - i) - 576) / 32 ≡ slice_index places_of_words w
+    = omega arith in
+    let bit : 31 - (576 + 32 * slice_index places_of_words w + 1 * (31 - i)) % 32 ≡ i = omega arith in
+    ap₂ (λ (m j : ℕ). bit_at (slice_index d.words (slice_index words_in_order m)) j == 1) place bit
+    ∙ ap (λ (m : ℕ). bit_at (slice_index d.words m) i == 1) (word-at-place w lw)
+
+number-of-word : (d : Input) (w : ℕ) → IsInput d → w < 16 → input_number (input_bits d) w ≡ slice_index d.words w
+number-of-word d w h l =
+    let small : slice_index d.words w % 2 ^ 32 ≡ slice_index d.words w = omega (arith, h.each w) in
+    number_by-is (input_first w) 1 32 (slice_index d.words w) (input_bits d) (λ i li. input-bit d w i l li) ∙ small
+
+-- some variables make an input
+pub input-is : (bits : Bits) → IsInput (input_by bits)
+input-is bits = record {
+  sixteen = long;
+  each = λ i. elim (cases_lt i 16) [
+    | inl l ↦ subst (λ (n : ℕ). n < 2 ^ 32) (sym (input-word bits i l)) (number_by-small (input_first i) 1 32 bits)
+    | inr g ↦ subst (λ (n : ℕ). n < 2 ^ 32)
+        (sym (get_or_past (input_by bits).words i 0 (omega (arith, g, long)))) (omega arith)
+  ];
+}
+  where
+    long : length (input_by bits).words ≡ 16
+    long = length-map (range_with_len 0 16) (input_number bits) ∙ length-range_with_len 0 16
+
+-- the variables of an input are those of no other one
+pub input-back : (d : Input) → IsInput d → input_by (input_bits d) ≡ d
+input-back d h =
+    let made : List ℕ = (input_by (input_bits d)).words in
+    let same : made ≡ d.words = same_number_lists made d.words ((input-is (input_bits d)).sixteen ∙ sym h.sixteen)
+    (λ k l. input-word (input_bits d) k (omega arith) ∙ number-of-word d k h (omega arith)) in
+    ap with_words same
