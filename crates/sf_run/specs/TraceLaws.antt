@@ -69,11 +69,6 @@ pub may_go : (d : Input) (s : State) (i : Insn) (met : List Bool) (t : State) �
     → MayMeet s.place i met (Some t.place)
 may_go d s i met t e = subst (λ (q : Progress). Allowed s.place i q) e (step_allowed d s i)
 
--- a step that returns meets truth values with which control may return
-pub may_return : (d : Input) (s : State) (i : Insn) (met : List Bool) (v : ℕ) → insn_progress d s i ≡ returns met v
-    → MayMeet s.place i met None
-may_return d s i met v e = subst (λ (q : Progress). Allowed s.place i q) e (step_allowed d s i)
-
 -- what a run that comes to an end meets is a way
 pub run_is_way : (n : ℕ) (code : List Insn) (d : Input) (s : State) (o : List Bool × ℕ) → run_for n code d s ≡ Some o
     → IsWay code s.place o.0
