@@ -1,7 +1,7 @@
 -- The names from elsewhere that the proofs of this crate cite, passed on from one place. Declares nothing.
 pub use Rattle.std.proofs.Common.{Bool, List, None, Option, Some, [], ap, ap₂, arith, below_more, false, get_or, inl, inr, length, length-append, length-set, map, mul-le-mul, not, refl, replicate, rules, subst, suc, sym, take, true, zero, ℕ, ◌%◌, ◌*◌, ◌++◌, ◌+◌, ◌-◌, ◌/◌, ◌<◌, ◌==◌, ◌^◌, ◌∙◌, ◌∷◌, ◌≡◌, ◌≢◌, ◌≤◌, ◌⊎◌}
 pub use Rattle.std.proofs.Math.Nat.{add-mod, div-lt_iff_lt-mul, le-div_iff_mul-le, mod-mod, pow-le-pow_right, pow-suc}
-pub use Rattle.std.proofs.lemmas.Bool.{agree_below_at, both_ways, cases_eq, cases_lt, eq-eqb, eqb-true, le-leb, le-ltb, leb-false, leb-true, lt-leb, lt-ltb, ltb-true, ne_eqb}
+pub use Rattle.std.proofs.lemmas.Bool.{agree_below_at, cases_eq, cases_lt, eq-eqb, eqb-true, le-leb, le-ltb, leb-false, leb-true, lt-leb, lt-ltb, ltb-true, ne_eqb}
 pub use Rattle.std.proofs.lemmas.Bool.Decides.{nat_tests, same_from_decides}
 pub use Rattle.std.proofs.lemmas.Grind.{common_steps, same_number_lists}
 pub use Rattle.std.proofs.lemmas.List.{ext_get_or, get_or-replicate, get_or-set_other, get_or-set_same, get_or_append_left, get_or_default, get_or_past, get_or_push, length-map, length-replicate, map-append, map_push, set-get_or, take_all, take_more}
@@ -50,7 +50,7 @@ pub use Rattle.sf_behaviour.specs.InputBits.{input_bits, input_by, input_first, 
 pub use Rattle.sf_behaviour.specs.Knowledge.{Fits, IsInputWord, IsKnowledge, IsLess, Known, held_in, known_word}
 pub use Rattle.sf_behaviour.specs.Registers.{A, IsRegister, X, next_with, register_bit, register_by, register_first, register_number, registers_of, start_bits, with_register}
 pub use Rattle.sf_behaviour.specs.Replacing.{AreReplaced, IsReplaced}
-pub use Rattle.sf_behaviour.specs.Telling.{AreSteps, IsAfter, IsMet, IsNext, IsPlace, IsSetTo, IsStep, TellFrom, Tells, insns_of}
+pub use Rattle.sf_behaviour.specs.Telling.{AreKnown, AreSteps, IsAfter, IsCarried, IsMet, IsNext, IsPlace, IsSetTo, IsStep, TellFrom, Tells, insns_of, known_of}
 pub use Rattle.sf_behaviour.specs.Words.{IsDiagramOf, IsTruth, IsTruthOf, IsWord, IsWordOf, word_value}
 pub use Rattle.sf_behaviour.specs.declared.combining.Bitwise.{Bitwise}
 pub use Rattle.sf_behaviour.specs.declared.combining.Bitwise.TheVariants.{And, Choose, Or, Xor}

@@ -1,5 +1,5 @@
 -- How what is known of places comes about, from the first place on.
-use Rattle.sf_behaviour.proofs.Common.{◌≡◌, ℕ, ◌+◌, ◌<◌, List, [], ◌∷◌, ◌++◌, length, replicate, Option, Some, None, sym, ap, subst, ◌∙◌, inl, inr, arith, Contains, slice_get, slice_index, cases_eq, same_Some, Insn, IsLawfulProgram, Tree, IsOrderedFrom, tree_at, KeepsTrees, with_register, Known, known_word, IsInputWord, IsKnowledge, IsLess, places_after, IsMet, AreSteps, word_value, IsWord, IsWordOf, Word, Step, ◌⊎◌, get_or, get_or-replicate, length-replicate, same_from_bits_below, slice_get-get_or, IsInRange, IsStep, value_from}
+use Rattle.sf_behaviour.proofs.Common.{◌≡◌, ℕ, ◌<◌, List, [], ◌∷◌, ◌++◌, length, replicate, Option, Some, None, refl, sym, ap, subst, ◌∙◌, inl, inr, arith, Contains, slice_get, slice_index, same_Some, Insn, IsLawfulProgram, Tree, IsOrderedFrom, tree_at, KeepsTrees, with_register, Known, known_word, IsInputWord, IsKnowledge, IsLess, places_after, IsMet, AreSteps, IsCarried, known_of, word_value, IsWord, IsWordOf, Word, Step, ◌⊎◌, get_or, get_or-replicate, length-replicate, same_from_bits_below, slice_get-get_or, IsInRange, IsStep, value_from, contains_cons, contains_here, unwrap_or}
 use Rattle.sf_behaviour.proofs.WordLemmas.{bit-of-word, word-small}
 use Rattle.sf_behaviour.proofs.VariableLemmas.{past-registers, with-other, some-within}
 use Rattle.sf_behaviour.proofs.StepsLemmas.{at-push, leads-later, steps-kept}
@@ -18,25 +18,43 @@ input-word ts ids w ordered = record {
       (λ v le. with-other r n v bits (past-registers r v there le)) ∙ sym (bit-of-word bits i w l));
 }
 
--- ---- what steps that lead to a place have in common
+-- ---- what is known behind steps is carried to the places to which they lead
 
--- what is known at a place, with one more step that may lead there
-pub met-more : (steps : List Step) (i place : ℕ) (old new : Option Known) (step : Step)
-    → slice_get steps i ≡ Some step
-    → ((q : ℕ) (s : Step) → q < i → slice_get steps q ≡ Some s → Contains (places_after q s.effect) place
-    → IsMet old s.after)
-    → (Contains (places_after i step.effect) place → IsMet new (step.after))
-    → ((k : Known) → IsMet old k → IsMet new k)
-    → (q : ℕ) (s : Step) → q < i + 1 → slice_get steps q ≡ Some s → Contains (places_after q s.effect) place
-    → IsMet new s.after
-met-more steps i place old new step at before here stays q s l e to = elim (cases_eq q i) [
-  | inl same ↦
-      let is : step ≡ s = same_Some step s (sym at ∙ subst (λ (p : ℕ). slice_get steps p ≡ Some s) same e) in
-      subst (λ (t : Step). IsMet new t.after) is
-      (here (subst (λ (t : Step). Contains (places_after i t.effect) place) (sym is)
-      (subst (λ (p : ℕ). Contains (places_after p s.effect) place) same to)))
-  | inr ne ↦ stays s.after (before q s (omega arith) e to)
+-- what was carried to one place, and then to others
+pub carried-more : (old mid new : List (Option Known)) (after : Known) (place : ℕ) (places : List ℕ)
+    → IsCarried old mid after (place ∷ []) → IsCarried mid new after places → IsCarried old new after (place ∷ places)
+carried-more old mid new after place places first rest = record {
+  count = rest.count ∙ first.count;
+  leads = λ q inside to. elim (contains_cons place places q to) [
+    | inl e ↦ rest.stays q after (first.leads q inside (contains_here place [] q e))
+    | inr more ↦ rest.leads q (omega (arith, first.count)) more
+  ];
+  stays = λ q k h. rest.stays q k (first.stays q k h);
+  right = λ ts knows old. rest.right ts knows (first.right ts knows old);
+}
+
+-- no more is known of a place than behind each of the steps that lead to it
+abbrev pub AreMet : List Step → List (Option Known) → Type 0
+AreMet steps known = (p q : ℕ) (s : Step) → slice_get steps p ≡ Some s → q < length known
+    → Contains (places_after p s.effect) q → IsMet (known_of known q) s.after
+
+-- one step more
+pub met-more : (steps : List Step) (step : Step) (i : ℕ) (old new : List (Option Known)) → length steps ≡ i
+    → AreMet steps old → IsCarried old new step.after (places_after i step.effect) → AreMet (steps ++ step ∷ []) new
+met-more steps step i old new count met carried p q s at inside to = elim (at-push steps step s p at) [
+  | inl before ↦ carried.stays q s.after (met p q s before.1 (omega (arith, carried.count)) to)
+  | inr now ↦ rw (← now.1) (carried.leads q (omega (arith, carried.count)) (rw (now.0 ∙ count, ← now.1) at to))
 ]
+
+-- where something is known it is taken, and else the start
+pub met-less : (o : Option Known) (start k : Known) → IsMet o k → IsLess (unwrap_or o start) k
+met-less (Some l) start k h = h
+met-less None start k h = absurd h
+
+pub met-knowledge : (ts : List Tree) (o : Option Known) (start : Known) → ((k : Known) → o ≡ Some k → IsKnowledge ts k)
+    → IsKnowledge ts start → IsKnowledge ts (unwrap_or o start)
+met-knowledge ts (Some l) start h zero = h l refl
+met-knowledge ts None start h zero = zero
 
 -- ---- the first place
 

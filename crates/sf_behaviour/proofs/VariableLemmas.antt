@@ -13,11 +13,11 @@ module _ {B : Type 0} where
   ]
 
   -- nothing stands in a list of nothing
-  pub none-there : (none : Option B) (n k : ℕ) (x : B) → none ≡ None → slice_index_or (replicate n none) k None ≡ Some x
+  pub none-there : (empty : Option B) (n k : ℕ) (x : B) → empty ≡ None → slice_index_or (replicate n empty) k None ≡ Some x
       → ⊥
-  none-there none zero k x is e = cc
-  none-there none (suc n) zero x is e = cc
-  none-there none (suc n) (suc k) x is e = none-there none n k x is e
+  none-there empty zero k x is e = cc
+  none-there empty (suc n) zero x is e = cc
+  none-there empty (suc n) (suc k) x is e = none-there empty n k x is e
 
 registers-set : (s : State) (r n : ℕ) → registers_of (next_with s r n) ≡ slice_set (registers_of s) r (Some n)
 registers-set s zero n = refl

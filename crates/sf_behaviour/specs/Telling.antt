@@ -1,5 +1,5 @@
 -- How places come to be known, and diagrams that tell what runs return from them.
-use Rattle.std.specs.Prelude.{◌≡◌, ℕ, List, Option, Some, None, slice_set, ◌+◌, ◌<◌, ◌≤◌, ◌^◌, Bool, length, map, Contains, slice_get, slice_index}
+use Rattle.std.specs.Prelude.{◌≡◌, ℕ, List, Option, Some, None, slice_set, ◌+◌, ◌<◌, ◌≤◌, ◌^◌, Bool, length, map, Contains, slice_get, slice_index, slice_index_or}
 use Rattle.sf_check.specs.declared.insn.Insn.{Insn}
 use Rattle.sf_check.specs.Programs.{IsLawfulProgram}
 use Rattle.sf_run.specs.Machine.{State, run_for}
@@ -31,6 +31,21 @@ IsAfter ts k _ after = after ≡ k
 abbrev pub IsMet : Option Known → Known → Type 0
 IsMet (Some l) k = IsLess l k
 IsMet None k = ⊥
+
+-- what is known so far of a place, if something is
+abbrev pub known_of : List (Option Known) → ℕ → Option Known
+known_of known place = slice_index_or known place None
+
+-- what is known of places is right
+abbrev pub AreKnown : List Tree → List (Option Known) → Type 0
+AreKnown ts known = (place : ℕ) (k : Known) → known_of known place ≡ Some k → IsKnowledge ts k
+
+-- no more is known of places than before, and of some of them no more than this
+pub record IsCarried (old new : List (Option Known)) (after : Known) (places : List ℕ) : Type 0 where
+  pub count : length new ≡ length old
+  pub leads : (place : ℕ) → place < length old → Contains places place → IsMet (known_of new place) after
+  pub stays : (place : ℕ) (k : Known) → IsMet (known_of old place) k → IsMet (known_of new place) k
+  pub right : (ts : List Tree) → IsKnowledge ts after → AreKnown ts old → AreKnown ts new
 
 -- A diagram whose value, on each input, is what a run returns that goes on from this place, where the known registers
 -- have their words. The others may have any number. Its values are words.

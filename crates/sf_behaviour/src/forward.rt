@@ -1,16 +1,15 @@
 //! How places come to be known, from the first on.
 
-ghost use Rattle.std.specs.Prelude.{◌≡◌, ◌<◌, ◌≤◌, true, ℕ, List, Some, length, slice_get, Contains, IfOk, IfErr};
+ghost use Rattle.std.specs.Prelude.{◌≡◌, ◌<◌, true, ℕ, List, [], ◌∷◌, Some, length, IfOk, IfErr};
 ghost use Rattle.sf_check.specs.Insns.{IsInRange};
 ghost use Rattle.sf_check.specs.Programs.{IsLawfulProgram};
 ghost use Rattle.sf_diagram.specs.Trees.{Tree, IsOrderedFrom};
 ghost use Rattle.sf_diagram.specs.Stores.{tree_at, KeepsStore, IsFull};
-ghost use Rattle.sf_behaviour.specs.Knowledge.{Known as AKnown, IsInputWord, IsKnowledge, IsLess};
+ghost use Rattle.sf_behaviour.specs.Knowledge.{Known as AKnown, IsInputWord, IsKnowledge};
 ghost use Rattle.sf_behaviour.specs.Effects.{places_after, source_in, IsEffect, IsSource};
-ghost use Rattle.sf_behaviour.specs.Telling.{insns_of, AreSteps, IsAfter, IsMet, IsStep};
+ghost use Rattle.sf_behaviour.specs.Telling.{insns_of, AreSteps, IsAfter, IsCarried, IsMet, IsStep};
 ghost use Rattle.sf_behaviour.specs.Words.{IsWord, IsWordOf};
 ghost use Rattle.sf_behaviour.specs.declared.words.Word.{Word as AWord};
-ghost use Rattle.sf_behaviour.specs.declared.steps.Step.{Step as AStep};
 
 use crate::effects::{Effect, Source, effect_of, source_word};
 use crate::inputs::REGISTER_BITS;
@@ -105,60 +104,48 @@ fn step_of(store: &mut Store, insn: Insn, known: Known) -> Result<Step, Fault>
     })
 }
 
-/// Whether an instruction with this effect leads from one place to another.
-fn leads(effect: Effect, from: usize, to: usize) -> bool
-    requires { from < 4096 }
-    ensures { Contains (places_after from effect) to → result ≡ true }
-{
-    match effect {
-        Effect::Sets(_, _) => from + 1 == to,
-        Effect::Skips(k) => from + 1 + k as usize == to,
-        Effect::Tests(_, _, on_true, on_false) => {
-            from + 1 + on_true as usize == to || from + 1 + on_false as usize == to
-        }
-        Effect::Returns(_) => false,
-    }
-}
-
 /// What is known so far, if something is, and behind a step.
-fn met(known: Option<Known>, step: &Step) -> Option<Known>
-    ensures leads { IsMet result step.now.after }
+fn met(known: Option<Known>, after: &Known) -> Option<Known>
+    ensures leads { IsMet result after.now }
     ensures stays { (k : AKnown) → IsMet known k → IsMet result k }
-    ensures right { (ts : List Tree) (k : AKnown) → IsKnowledge ts step.now.after
+    ensures right { (ts : List Tree) (k : AKnown) → IsKnowledge ts after.now
         → ((l : AKnown) → known ≡ Some l → IsKnowledge ts l) → result ≡ Some k
         → IsKnowledge ts k }
 {
     match known {
-        Some(before) => Some(meet(&before, &step.after)),
-        None => Some(step.after),
+        Some(before) => Some(meet(&before, after)),
+        None => Some(*after),
     }
 }
 
-/// What is known at a place: what is known behind all earlier steps that lead to it; or `start`, where none does.
-fn known_at(steps: &Vec<Step>, place: usize, start: &Known) -> Known
-    requires { length steps.now.items ≤ 4096 }
-    ensures less { (p : ℕ) (s : AStep) → slice_get steps.now.items p ≡ Some s
-        → Contains (places_after p s.effect) place → IsLess result s.after }
-    ensures right { (ts : List Tree) → AreSteps ts steps.now.items → IsKnowledge ts start.now
-        → IsKnowledge ts result }
-    ensures first { length steps.now.items ≡ 0 → result ≡ start.now }
+/// Carries what is known behind a step to a place, if there is such a place.
+fn carry_to(known: &mut Vec<Option<Known>>, place: usize, after: &Known)
+    ensures { IsCarried known.old.items known.new.items after.now (place ∷ []) }
 {
-    let mut known: Option<Known> = None;
-    for p in 0..steps.len() {
-        let step = &steps[p];
-        // Most steps lead elsewhere, and what is known is large.
-        if !leads(step.effect, p, place) {
-            continue;
-        }
-        known = met(known, step);
-    }
-    match known {
-        Some(known) => known,
-        None => *start,
+    if place < known.len() {
+        known[place] = met(known[place], after);
     }
 }
 
-/// What is known of each place of a program. At its beginning all registers are 0.
+/// Carries what is known behind the step of a place to the places to which it leads.
+fn carry(known: &mut Vec<Option<Known>>, place: usize, step: &Step)
+    requires { place < 4096 }
+    ensures { IsCarried known.old.items known.new.items step.now.after
+        (places_after place step.now.effect) }
+{
+    match step.effect {
+        Effect::Sets(_, _) => carry_to(known, place + 1, &step.after),
+        Effect::Skips(k) => carry_to(known, place + 1 + k as usize, &step.after),
+        Effect::Tests(_, _, on_true, on_false) => {
+            carry_to(known, place + 1 + on_true as usize, &step.after);
+            carry_to(known, place + 1 + on_false as usize, &step.after);
+        }
+        Effect::Returns(_) => {}
+    }
+}
+
+/// What is known of each place of a program: what is known behind all steps that lead to it. At its beginning all
+/// registers are 0; the same is said of places to which no step leads.
 pub(crate) fn forward_steps(
     alloc: Global,
     store: &mut Store,
@@ -172,10 +159,13 @@ pub(crate) fn forward_steps(
 {
     let zero = constant_word(store, 0)?;
     let start: Known = [Some(zero); 18];
+    // For each place what is known so far behind the steps that lead to it, if one does.
+    let mut known: Vec<Option<Known>> = vec![in alloc; None; insns.len()]?;
     let mut steps: Vec<Step> = Vec::new(alloc);
     for i in 0..insns.len() {
-        let known = known_at(&steps, i, &start);
-        let step = step_of(store, insns[i], known)?;
+        let here = known[i].unwrap_or(start);
+        let step = step_of(store, insns[i], here)?;
+        carry(&mut known, i, &step);
         steps.push(step)?;
     }
     Ok(steps)

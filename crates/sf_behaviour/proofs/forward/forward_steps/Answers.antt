@@ -1,48 +1,70 @@
-use Rattle.sf_behaviour.proofs.Common.{◌∙◌, Some, replicate, refl, arith, rules, keeps_more, Step, length-append, get_or_default, take_all}
+use Rattle.sf_behaviour.proofs.Common.{◌≡◌, ◌∙◌, ◌<◌, ap, length, unwrap_or, Option, Some, None, replicate, refl, sym, arith, rules, keeps_more, Step, Known, known_of, length-append, length-replicate, get_or-replicate, get_or_default, take_all}
 use Rattle.sf_behaviour.proofs.WordLemmas.{word-of-kept}
-use Rattle.sf_behaviour.proofs.StepsLemmas.{code-more}
-use Rattle.sf_behaviour.proofs.ForwardLemmas.{AreZero, range-at, steps-more, steps-none, zero-knowledge}
+use Rattle.sf_behaviour.proofs.VariableLemmas.{none-there}
+use Rattle.sf_behaviour.proofs.KnowledgeLemmas.{knowledge-kept}
+use Rattle.sf_behaviour.proofs.StepsLemmas.{after-knowledge, code-more}
+use Rattle.sf_behaviour.proofs.ForwardLemmas.{AreZero, met-knowledge, met-less, met-more, range-at, steps-more, steps-none, zero-knowledge}
 use Rattle.sf_behaviour.proofs.forward.forward_steps.Goals as goal
 
 pub loop-i-init : goal.loop-i-init
-loop-i-init c = record {
-  keeps = c.in_ok-zero.ensures.keeps;
-  zero = (c.in_ok-zero.zero, refl, c.in_ok-zero.ensures.word);
-  count = search rules;
-  code = rw c.new-steps.ensures.items refl;
-  steps = rw c.new-steps.ensures.items (steps-none c.constant_word.new.store.trees);
-}
-
-pub known_at-known-requires : goal.known_at-known-requires
-known_at-known-requires c = omega (arith, c.loop-i.invariant.count, c.requires.short)
+loop-i-init c =
+    let none : Option Known = None in
+    let places = length c.args.insns.now in
+    let made : c.in_ok-known.known.items ≡ replicate places none
+    = c.in_ok-known.ensures.items_if_clones_equal (search rules) in
+    record {
+      keeps = c.in_ok-zero.ensures.keeps;
+      zero = (c.in_ok-zero.zero, refl, c.in_ok-zero.ensures.word);
+      count = search rules;
+      code = rw c.new-steps.ensures.items refl;
+      steps = rw c.new-steps.ensures.items (steps-none c.constant_word.new.store.trees);
+      places = rw made (length-replicate places none);
+      met = rw c.new-steps.ensures.items (λ p q s at inside to. absurd cc);
+      known = rw made (λ q k e. absurd (none-there none places q k refl e));
+      first = rw made (λ e. get_or-replicate places 0 none None c.requires.some);
+    }
 
 pub step_of-requires-clause-range : goal.step_of-requires-clause-range
 step_of-requires-clause-range c = range-at c.args.insns.now c.loop-i.i _ c.requires (omega arith)
 
 pub step_of-requires-clause-known : goal.step_of-requires-clause-known
 step_of-requires-clause-known c =
+    let h = c.loop-i.invariant in
     let ts = c.loop-i.store.trees in
-    c.known_at-known.ensures.right ts c.loop-i.invariant.steps
-    (zero-knowledge ts (replicate 18 (Some c.in_ok-zero.zero)) c.loop-i.invariant.zero)
+    let start = replicate 18 (Some c.in_ok-zero.zero) in
+    let now : c.index.result.now ≡ known_of c.loop-i.known.items c.loop-i.i
+    = c.index.ensures ∙ get_or_default c.loop-i.known.items c.loop-i.i _ None (omega (arith, h.places)) in
+    rw (c.unwrap_or-here.ensures, now) (met-knowledge ts (known_of c.loop-i.known.items c.loop-i.i) start
+    (h.known c.loop-i.i) (zero-knowledge ts start h.zero))
 
 pub loop-i-preserved : goal.loop-i-preserved
 loop-i-preserved c =
     let h = c.loop-i.invariant in
     let e = c.in_ok-step.ensures in
-    let known = c.known_at-known.ensures in
     let us = c.step_of.new.store.trees in
+    let i = c.loop-i.i in
+    let steps = c.loop-i.steps.items in
+    let step = c.in_ok-step.step in
+    let known = c.loop-i.known.items in
+    let carried = c.carry.ensures in
     let start = replicate 18 (Some c.in_ok-zero.zero) in
     let zero : AreZero us start = (h.zero.0, h.zero.1, word-of-kept e.keeps.trees h.zero.2) in
+    let inside : i < length known = omega (arith, h.places) in
+    let here : step.known ≡ unwrap_or (known_of known i) start = e.known ∙ c.unwrap_or-here.ensures
+    ∙ ap (λ (o : Option Known). unwrap_or o start) (c.index.ensures ∙ get_or_default known i _ None inside) in
     record {
       keeps = keeps_more _ _ _ h.keeps e.keeps;
       zero = zero;
       count = rw c.in_ok-push.ensures.items (omega (arith, h.count, length-append {A = Step}));
-      code = rw c.in_ok-push.ensures.items (code-more c.loop-i.steps.items c.in_ok-step.step c.args.insns.now c.loop-i.i
-          c.in_ok-step.step.insn h.code (omega arith)
-          (e.insn ∙ get_or_default c.args.insns.now c.loop-i.i _ c.in_ok-step.step.insn (omega arith)));
-      steps = rw c.in_ok-push.ensures.items (steps-more c.loop-i.store.trees us c.loop-i.steps.items c.loop-i.i
-          c.in_ok-step.step start e.keeps.trees h.steps h.count e.step
-          (λ p s at to. rw e.known (known.less p s at to)) (λ none. e.known ∙ known.first none) zero);
+      code = rw c.in_ok-push.ensures.items (code-more steps step c.args.insns.now i step.insn h.code (omega arith)
+          (e.insn ∙ get_or_default c.args.insns.now i _ step.insn (omega arith)));
+      steps = rw c.in_ok-push.ensures.items (steps-more c.loop-i.store.trees us steps i step start e.keeps.trees h.steps
+          h.count e.step (λ p s at to. rw here (met-less (known_of known i) start s.after (h.met p i s at inside to)))
+          (λ none. here ∙ ap (λ (o : Option Known). unwrap_or o start) (h.first (sym h.count ∙ none))) zero);
+      places = carried.count ∙ h.places;
+      met = rw c.in_ok-push.ensures.items (met-more steps step i known _ h.count h.met carried);
+      known = carried.right us (after-knowledge e.step) (λ q k is. knowledge-kept e.keeps.trees (h.known q k is));
+      first = λ none. absurd (omega arith);
     }
 
 pub returns-clause-steps : goal.returns-clause-steps

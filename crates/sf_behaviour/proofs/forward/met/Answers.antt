@@ -13,7 +13,7 @@ returns-in-Some-clause-stays c = λ k h.
 pub returns-in-Some-clause-right : goal.returns-in-Some-clause-right
 returns-in-Some-clause-right c = λ ts k after old e.
     subst (λ (l : Known). IsKnowledge ts l) (same_Some c.meet.result k e)
-    (knowledge-less ts c.meet.result c.args.step.now.after c.meet.ensures.second c.meet.ensures.count after)
+    (knowledge-less ts c.meet.result c.args.after.now c.meet.ensures.second c.meet.ensures.count after)
 
 pub returns-in-None-clause-leads : goal.returns-in-None-clause-leads
 returns-in-None-clause-leads c = λ r w e. e
@@ -23,4 +23,4 @@ returns-in-None-clause-stays c = λ k h. absurd (rw c.in-None.is at h)
 
 pub returns-in-None-clause-right : goal.returns-in-None-clause-right
 returns-in-None-clause-right c = λ ts k after old e.
-    subst (λ (l : Known). IsKnowledge ts l) (same_Some c.args.step.now.after k e) after
+    subst (λ (l : Known). IsKnowledge ts l) (same_Some c.args.after.now k e) after
