@@ -10,9 +10,13 @@ from looking.edits import TIERS
 # The folders of edits that `tools/try_edits` tries: those of the first in each gate, those of the second in turn.
 _, ALWAYS, IN_TURN = TIERS
 
-# How many seconds of one processor a gate gives to the edits in turn, and how many times as long as a crate's proof its
-# edits take.
-SECONDS, TIMES = 25 * 60, 1.5
+# So many edits of a crate are tried one after the other. More of them are parts, which are tried side by side: else the
+# crate with the most edits takes longer than all others together. A gate tries one part of a crate.
+MOST = 12
+
+# How many edits in turn a gate tries at most, how many seconds of one processor it gives them, and how many times as long
+# as a crate's proof a part of its edits takes.
+MOST_IN_TURN, SECONDS, TIMES = 60, 25 * 60, 1.5
 
 
 def edits_in(crate, folder):
@@ -20,15 +24,16 @@ def edits_in(crate, folder):
 
 
 def in_turn():
-    """The crates whose edits in turn a gate tries: the first ones by a hash of the tree, so that one commit always tries
-    the same, as many as that time is enough for."""
+    """The edits in turn that a gate tries, by their crates. A hash of the tree orders crates and edits, so that one commit
+    always tries the same."""
     tree = subprocess.run(["git", "rev-parse", "HEAD:crates"], cwd=ROOT, check=True, capture_output=True).stdout
-    left, chosen, known = SECONDS, [], known_costs()
-    for crate in sorted(known, key=lambda name: hashlib.sha256(tree + name.encode()).digest()):
-        needed = TIMES * known[crate].seconds
-        if edits_in(crate, IN_TURN) and needed <= left:
-            left -= needed
-            chosen.append(crate)
+    by_tree = lambda name: hashlib.sha256(tree + str(name).encode()).digest()
+    room, left, chosen, known = MOST_IN_TURN, SECONDS, {}, known_costs()
+    for crate in sorted(known, key=by_tree):
+        most = min(room, max(0, MOST - len(edits_in(crate, ALWAYS))))
+        some, needed = sorted(edits_in(crate, IN_TURN), key=lambda path: by_tree(path.name))[:most], TIMES * known[crate].seconds
+        if some and needed <= left:
+            room, left, chosen[crate] = room - len(some), left - needed, sorted(some)
     return chosen
 
 
