@@ -3,8 +3,8 @@
     tools/look layout
 
 A line has at most 120 columns, except for `use` lines, texts in code, tables and what documents show; a source file has
-at most 500 lines. A folder below `proofs/` is named after a function or a module, and other files there and in `specs/`
-stand in their `Lib.antt`. Laws hold no definition, and no crate imports from the `proofs/` of another. Names of edits
+at most 500 lines. A folder below `proofs/` is that of a module, of a function in it, or of a method of a type in it, and
+other files there and in `specs/` stand in their `Lib.antt`. Laws hold no definition, and no crate imports from the `proofs/` of another. Names of edits
 differ in the three tiers, and each gate tries at most 70 edits. A crate has no other folders. Files are counted.
 """
 import re
@@ -12,7 +12,7 @@ import subprocess
 from collections import Counter
 
 from looking.edits import TIERS
-from looking.rattle import has_public_definition, modules_in, proofs_imported
+from looking.rattle import functions_of, has_public_definition, modules_in, proofs_imported, types_of
 from looking.tree import CRATES, ROOT, crates, shown, sources
 
 COLUMNS, LINES, MOST_EDITS = 120, 500, 70
@@ -28,14 +28,26 @@ def of_text(path, text):
     yield f"has more than {LINES} lines" if path.suffix == ".rt" and text.count("\n") > LINES else ""
 
 
-def of_proofs(crate, names, path, text):
+def rooms_of(crate):
+    """The folders that `proofs/` may have: those of modules, functions and methods, whichever module has the `impl`."""
+    texts = {path.relative_to(crate / "src").with_suffix("").parts: path.read_text() for path in sources(crate)}
+    names = {module: [one.name.split("::") for one in functions_of(text)] for module, text in texts.items()}
+    for module, text in texts.items():
+        types = types_of(text)
+        yield from (module[:depth] for depth in range(1, len(module) + 1))
+        yield from ((*module, name[-1]) for name in names[module])
+        yield from ((*module, *name) for some in names.values() for name in some if name[0] in types)
+
+
+def of_proofs(crate, rooms, path, text):
     """What is wrong with where a file of definitions or proofs stands."""
     yield from (f"imports from the proofs of {one}" for one in proofs_imported(text) - {crate.name} if (CRATES / one).is_dir())
     yield "laws that hold a definition" if path.stem.endswith("Laws") and has_public_definition(text) else ""
     folder = path.parent
     if folder.parent != crate:
         # A `+` stands before a call of the function in itself.
-        yield "" if folder.name.lstrip("+") in names else "the crate has no such function or module"
+        room = (*folder.relative_to(crate).parts[1:-1], folder.name.lstrip("+"))
+        yield "" if room in rooms else "the crate has no such module, function or method"
     elif path.name != "Lib.antt":
         yield "" if path.stem in modules_in((folder / "Lib.antt").read_text()) else "isn't in Lib.antt"
 
@@ -58,8 +70,8 @@ def look(_):
     found = [(path, fault) for path in pages for fault in of_text(path, path.read_text())]
     for crate in crates():
         code, proofs = sources(crate), [*crate.glob("specs/**/*.antt"), *crate.glob("proofs/**/*.antt")]
-        names = {name for path in code for name in [path.stem, *re.findall(r"\bfn (\w+)", path.read_text())]}
+        rooms = {*rooms_of(crate)}
         found += [(path, fault) for path in code + proofs for fault in of_text(path, path.read_text())]
-        found += [(path, fault) for path in proofs for fault in of_proofs(crate, names, path, path.read_text())]
+        found += [(path, fault) for path in proofs for fault in of_proofs(crate, rooms, path, path.read_text())]
     faults = [f"{shown(path)}: {fault}" for path, fault in found if fault] + [*of_crates()]
     return faults, sum(not fault for _, fault in found)
