@@ -5,7 +5,8 @@
 Command lines over examples/, policies/ and a filter made here are run with and without `--json`. Each document has to be
 one line without blanks, its keys in order, and has to fit its schema in docs/schema/. The question of an audit has to
 begin on the line that its document names. Both runs have to end with the same status and the same words on standard
-error. Debian's python3-jsonschema reads the schemas too, where it is there.
+error; what is too large gets no document. The documents of crates/command_run/stdout have to fit too. Debian's
+python3-jsonschema reads the schemas as well, where it is there.
 
 Each difference gets a line. The last line is `N passed, M failed`; the status is 1 where M isn't 0 or N is.
 """
@@ -65,6 +66,22 @@ def run(program, words):
     return ran.returncode, ran.stdout, ran.stderr
 
 
+def misfits(name, document):
+    """Where a document doesn't fit the schema of this name."""
+    schema = SCHEMAS[name]
+    yield from faults(schema, document, schema)
+    if jsonschema:
+        yield from (error.message[:200] for error in jsonschema.Draft202012Validator(schema).iter_errors(document))
+
+
+def written():
+    """The documents that `command_run` has to write, each with its line and the name of its schema."""
+    for number, line in enumerate((ROOT / "crates/command_run/stdout").read_text().split("\n"), 1):
+        if line.startswith("{"):
+            document = json.loads(line)
+            yield f"line {number}", document["seccomp_audit"] + "-rows" * ({"old", "rows"} <= document.keys()), document
+
+
 def misplaced(document):
     """The questions of an audit that don't begin on the line which the document names."""
     for question in document.get("questions", ()):
@@ -81,28 +98,27 @@ def wrong(program, name, words):
     if (status, said) != (other, told):
         yield f"ends with {other} and {told!r:.80}, and not {status} and {said!r:.80}"
     if not text:
-        yield from [f"there is a document, and no text: {line!r:.80}"] if line else []
+        yield from [] if told.startswith("too large: ") and not line else [f"there is no text: {told!r:.80}"]
         return
     document = json.loads(line)
     if json.dumps(document, ensure_ascii=False, separators=(",", ":"), sort_keys=True) + "\n" != line:
         yield "isn't one line, or has blanks, or keys out of order"
-    schema = SCHEMAS[name]
-    yield from faults(schema, document, schema)
-    if jsonschema:
-        yield from (error.message[:200] for error in jsonschema.Draft202012Validator(schema).iter_errors(document))
+    yield from misfits(name, document)
     yield from misplaced(document)
 
 
 def main():
     program = str(pathlib.Path(sys.argv[1]).resolve() if sys.argv[1:] else BUILT)
-    passed = failed = 0
     with tempfile.TemporaryDirectory() as room, ThreadPoolExecutor(len(os.sched_getaffinity(0))) as pool:
         changed = pathlib.Path(room) / "changed.bpf"
         # 59 is execve on x86-64: the changed filter asks for its neighbour.
         changed.write_bytes((ROOT / P1[0]).read_bytes().replace(struct.pack("<I", 59), struct.pack("<I", 57)))
         lines = list(command_lines(str(changed)))
-        for (_, words), found in zip(lines, pool.map(lambda line: list(wrong(program, *line)), lines)):
-            passed, failed = passed + (not found), failed + bool(found)
-            print("".join(f"{' '.join(words)}: {one}\n" for one in found), end="")
+        results = [(" ".join(words), found) for (_, words), found in zip(lines, pool.map(lambda line: list(wrong(program, *line)), lines))]
+    results += [(f"crates/command_run/stdout, {place}", list(misfits(name, document))) for place, name, document in written()]
+    for what, found in results:
+        print("".join(f"{what}: {one}\n" for one in found), end="")
+    failed = sum(bool(found) for _, found in results)
+    passed = len(results) - failed
     print(f"{passed} passed, {failed} failed")
     return 1 if failed or not passed else 0
