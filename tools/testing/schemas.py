@@ -43,7 +43,7 @@ OF_ONE = {
     "list": ([], NAMED, CALLS, ["--calls", *NAMED], ["--nodes", "3"]),
     "audit": [["--policy", "policies/x86_64.toml", *more]
               for more in ([], ["--regions"], ["--why"], ["--why", *NAMED], ["--budget", "2", "--workers", "1"],
-                           ["--policy", "policies/aarch64.toml"], ["--control", "policies/control-x86_64.toml"])],
+                           ["--policy", "policies/terminal-injection.toml"], ["--control", "policies/control-x86_64.toml"])],
     "needed": ([], ["--nodes", "1"]),
 }
 OF_TWO = {
