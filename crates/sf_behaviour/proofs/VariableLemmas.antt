@@ -13,7 +13,8 @@ module _ {B : Type 0} where
   ]
 
   -- nothing stands in a list of nothing
-  pub none-there : (empty : Option B) (n k : ℕ) (x : B) → empty ≡ None → slice_index_or (replicate n empty) k None ≡ Some x
+  pub none-there : (empty : Option B) (n k : ℕ) (x : B) → empty ≡ None
+      → slice_index_or (replicate n empty) k None ≡ Some x
       → ⊥
   none-there empty zero k x is e = cc
   none-there empty (suc n) zero x is e = cc

@@ -14,7 +14,8 @@ returns-then-place-len c =
       count = length-set old place now;
       leads = λ q l to. subst (λ (p : ℕ). IsMet (known_of (slice_set old place now) p) c.args.after.now)
           (one-place place q to) (rw (get_or-set_same old place now None inside) c.met.ensures.leads);
-      stays = λ q k h. set-each (λ (p : ℕ) (o : Option Known). IsMet (known_of old p) k → IsMet o k) None old place now q
+      stays = λ q k h. set-each
+          (λ (p : ℕ) (o : Option Known). IsMet (known_of old p) k → IsMet o k) None old place now q
           inside (λ m. c.met.ensures.stays k (rw was m)) (λ ne same. same) h;
       right = λ ts knows are q. set-each
           (λ (p : ℕ) (o : Option Known). (k : Known) → o ≡ Some k → IsKnowledge ts k) None old place now q inside
