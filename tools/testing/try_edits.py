@@ -1,4 +1,4 @@
-"""Tries how tools/try_edits reads what the prover says of edits, and which edits it tries together.
+"""Tries how tools/try_edits reads what the prover says of edits, which edits it tries together, and how many in a gate.
 
     tools/test try_edits
 
@@ -8,6 +8,7 @@ where M isn't 0, the status is 1.
 import pathlib
 import tempfile
 
+from trying.chosen import ALWAYS, MOST, MOST_IN_TURN, edits_in, in_turn
 from trying.edits import BadEdit, Functions, changed, edit_of, rounds_of
 from trying.prover import judged
 
@@ -92,6 +93,9 @@ def results(crate):
     yield "two edits of one file", changed("src/outer.rt", text, both) == changed("src/outer.rt", text, both[::-1]) == exchanged
     rounds = [sorted(edit.path.stem for edit in one) for one in rounds_of(list(edits.values()), functions)]
     yield f"the rounds {rounds}", rounds == ROUNDS
+    chosen = in_turn()
+    yield f"the edits in turn: {chosen}", chosen == in_turn() and 0 < sum(map(len, chosen.values())) <= MOST_IN_TURN
+    yield "those of each crate", all(len(edits_in(one, ALWAYS) + some) <= MOST for one, some in chosen.items())
     of_inner = edits["adds_two"]
     for what, lines, is_refused, waits in SAID:
         one = judged(lines, edits["takes_two"], [edits["takes_two"], of_inner])
