@@ -116,7 +116,7 @@ def ran(program, room, value, **how):
 
 
 def endless_cases(program, room):
-    """Whether the tool ends where libseccomp doesn't: a copy of it that waits for a second only."""
+    """Whether the tool ends where libseccomp doesn't: a copy of it that waits for three seconds only."""
     compiler = shutil.which(os.environ.get("CC") or "cc")
     if not compiler:
         return
@@ -125,7 +125,7 @@ def endless_cases(program, room):
     yield "it waits for 10 s", "\nSECONDS = 10\n" in text, ""
     short = os.path.join(room, "short")
     with open(short, "w") as file:
-        file.write(text.replace("\nSECONDS = 10\n", "\nSECONDS = 1\n"))
+        file.write(text.replace("\nSECONDS = 10\n", "\nSECONDS = 3\n"))
     os.chmod(short, 0o755)
     shutil.copy(os.path.join(ROOT, "helpers/showing.py"), room)
     source = os.path.join(room, "endless.c")
@@ -136,9 +136,9 @@ def endless_cases(program, room):
     for what, value, said in (
         ("ends", PROFILE, ""),
         ("does not end at a rule", PROFILE | {"syscalls": [RULE, RULE | {"names": ["read", "ever"]}]},
-         "libseccomp did not end within 1 s at the rule of ever in syscalls[1]\n"),
+         "libseccomp did not end within 3 s at the rule of ever in syscalls[1]\n"),
         ("does not end afterwards", PROFILE | {"defaultAction": "SCMP_ACT_LOG"},
-         "libseccomp did not end within 1 s when all rules were there, and it wrote the filter\n"),
+         "libseccomp did not end within 3 s when all rules were there, and it wrote the filter\n"),
     ):
         got = ran(short, room, value, env=environment)
         yield f"libseccomp {what}", got.returncode == bool(said) and got.stderr.decode() == said and not got.stdout, got
