@@ -1,4 +1,4 @@
-//! Laws of the definitions, each the contract of a function that does nothing.
+//! Laws of the definitions: contracts of functions that do nothing.
 
 ghost use Rattle.std.specs.Prelude.{◌≡◌, List};
 ghost use Rattle.sf_insn.specs.declared.input.Input.{Input};
@@ -6,7 +6,7 @@ ghost use Rattle.sf_insn.specs.declared.raw.RawInsn.{RawInsn};
 ghost use Rattle.sf_insn.specs.Inputs.{IsInput, input_bytes};
 ghost use Rattle.sf_insn.specs.Spelling.{spelling, AreInsns};
 
-/// Bytes spell at most one list of instructions. So `decode` and `encode` undo each other, where both give a result.
+/// Bytes spell at most one list of instructions. So `decode` and `encode` undo each other.
 pub fn one_spelling()
     ensures { (a b : List RawInsn) → AreInsns a → AreInsns b
         → spelling a ≡ spelling b → a ≡ b }
