@@ -1,5 +1,5 @@
-//! Chains of tests that compare A with one number after the other. In a long chain, the test that asks for a given
-//! number is looked up in tables: going through the tests before it would take longer.
+//! Chains of tests that compare A with one number after the other. In a long chain, the test for a number is looked up
+//! in tables.
 
 ghost use Rattle.std.specs.Prelude.{◌≡◌, ◌≢◌, ◌+◌, ◌-◌, ◌<◌, ◌≤◌, ℕ, length, slice_index, IfOk, IfErr, IfSome, IfNone};
 ghost use Rattle.std.specs.List.Sorted.{IsNonDecreasing, IsPartitionPoint};
@@ -10,20 +10,18 @@ use crate::fault::Fault;
 use crate::insn::Insn;
 use std::alloc::{AllocError, Global};
 
-/// Where the last place of a chain is at most this many instructions further on, the tests up to it are gone through
-/// one by one: that costs less than a look-up.
+/// Where a chain ends at most this many instructions further on, going through it costs less than a look-up.
 const SHORT: usize = 8;
 
-/// The tests of a program that ask whether A equals a number, and the chains that they make. A chain is a list of
-/// places: at each of them but the last one stands such a test, which leads to the next place of the chain where A is
-/// another number. Each place of the program is in exactly one chain. A place to which several tests lead when they
-/// fail is in the chain of the first of these tests.
+/// The tests of a program whether A equals a number, and the chains that they make. At each place of a chain but the
+/// last stands a test, which leads to the next place where A is another number. Each place of the program is in one
+/// chain: that of the first test that leads to it when it fails.
 #[derive(Debug, Drop)]
 pub(crate) struct EqualTests {
-    // The tests, each as one number (`key_of`), ascending. So the tests of one chain that ask for one number stand
-    // together, in order of their places.
+    // The tests as numbers (`key_of`), ascending. So the tests of a chain for one number stand together, by their
+    // places.
     pub(crate) keys: Vec<u64>,
-    // The chain of each place. A chain is named by its first place.
+    // The chain of each place, named by its first place.
     pub(crate) chains: Vec<u16>,
     // How many tests of its chain stand before each place.
     pub(crate) steps: Vec<u16>,
@@ -34,14 +32,12 @@ pub(crate) struct EqualTests {
 /// Tests that are skipped, since each of them fails and leads to the next one.
 #[derive(Clone, Copy, Debug, PartialEq, Eq)]
 pub struct Skipped {
-    /// How many there are.
     pub count: usize,
-    /// The place to which the last of them leads; where there is none, the place that was asked about.
+    /// Where the last of them leads; where there is none, the place that was asked about.
     pub behind: usize,
 }
 
-/// A test as one number, its key. Keys are ordered by the chain, then by the number that the test asks for, then by its
-/// place. The factors leave room for these: a place is below 4096 (the caller's condition), and a number below 2^32.
+/// A test as one number. Keys are ordered by the chain, then by the number that is asked for, then by the place.
 fn key_of(chain: u16, number: u32, place: usize) -> u64
     requires { place < 4096 }
     ensures { result ≡ test_key chain number place }
@@ -49,9 +45,7 @@ fn key_of(chain: u16, number: u32, place: usize) -> u64
     4096 * (0x1_0000_0000 * chain as u64 + number as u64) + place as u64
 }
 
-/// The place to which the instruction at `place` leads where A is `number`, if it is a test whether A equals another
-/// number: such a test fails then. `None` where it is no test whether A equals a constant, or where it asks for
-/// `number`. The caller's condition: `place` is a place of the program, which has at most 4096 instructions.
+/// Where the instruction leads when A is `number`, if it is a test for another number, which then fails.
 fn next_where_it_fails(insns: &[Insn], place: usize, number: u32) -> Option<usize>
     requires inside { place < length insns.now }
     requires short { length insns.now ≤ 4096 }
@@ -70,9 +64,7 @@ fn next_where_it_fails(insns: &[Insn], place: usize, number: u32) -> Option<usiz
     }
 }
 
-/// The places from 0 to `size` - 1, in order. As a table of chains, or of their last places, this makes each place a
-/// chain of its own. The caller's condition: `size` is at most 4096, so that a place fits a `u16`. `AllocError` where
-/// an allocation is refused.
+/// The places from 0 on. As a table of chains, or of their last places, this makes each place a chain of its own.
 fn own_places(alloc: Global, size: usize) -> Result<Vec<u16>, AllocError>
     requires { size ≤ 4096 }
     ensures { IfOk result (λ places. AreOwn places.items size) }
@@ -84,12 +76,7 @@ fn own_places(alloc: Global, size: usize) -> Result<Vec<u16>, AllocError>
     Ok(places)
 }
 
-/// Puts `next` into the chain of `place`, as its new last place, one step behind `place`. Where an earlier test has put
-/// `next` into a chain already, nothing changes. `chains`, `steps` and `lasts` are tables as `EqualTests` has them.
-///
-/// The caller's condition: there are at most 4096 instructions, at `place` stands a test whether A equals a number, and
-/// `next` is where it leads when it fails, a place of the program. Of all such tests exactly those before `place` were
-/// joined so far.
+/// Puts `next`, where the test at `place` leads when it fails, into the chain of `place`, unless it is in one already.
 fn join(
     insns: &[Insn],
     chains: &mut [u16],
@@ -106,7 +93,7 @@ fn join(
 {
     // For the prover: only clauses speak of them.
     let _insns = insns;
-    // No test has put `next` into a chain: it is still the first place of its own one.
+    // It is still the first place of its own chain.
     if chains[next] as usize == next {
         let chain = chains[place];
         chains[next] = chain;
@@ -115,9 +102,7 @@ fn join(
     }
 }
 
-/// Makes the chains: joins the tests that ask whether A equals a number, one by one, in order of their places. The
-/// caller's conditions: there are at most 4096 instructions; each such test leads to one of them when it fails; and in
-/// the tables `chains`, `steps` and `lasts` each place is still a chain of its own.
+/// Makes the chains: joins the tests one by one, in order of their places.
 fn join_all(insns: &[Insn], chains: &mut [u16], steps: &mut [u16], lasts: &mut [u16])
     requires short { length insns.now ≤ 4096 }
     requires inside { LeadInside insns.now }
@@ -138,8 +123,7 @@ fn join_all(insns: &[Insn], chains: &mut [u16], steps: &mut [u16], lasts: &mut [
     }
 }
 
-/// The keys (`key_of`) of all tests that ask whether A equals a number, ascending. The caller's condition: there are at
-/// most 4096 instructions, and `chains` has a chain for each place. `AllocError` where an allocation is refused.
+/// The keys of all tests, ascending.
 fn keys_of(alloc: Global, insns: &[Insn], chains: &[u16]) -> Result<Vec<u64>, AllocError>
     requires short { length insns.now ≤ 4096 }
     requires each { length chains.now ≡ length insns.now }
@@ -155,7 +139,6 @@ fn keys_of(alloc: Global, insns: &[Insn], chains: &[u16]) -> Result<Vec<u64>, Al
     Ok(keys)
 }
 
-/// How many of the keys are less than `key`. The caller's condition: the keys ascend.
 fn count_below(keys: &[u64], key: u64) -> usize
     requires { IsNonDecreasing keys.now }
     ensures { IsPartitionPoint (λ k. k < key) (λ k. key ≤ k) keys.now result }
@@ -163,13 +146,8 @@ fn count_below(keys: &[u64], key: u64) -> usize
     keys.partition_point(|k| *k < key)
 }
 
-/// In the chain of `place`, from `place` on, the first place whose test asks for `number`; `last` where no test before
-/// `last` asks for it. The place is found by its key, without going through the tests before it. The contract says
-/// less: the result is a place of this chain, not before `place`, and no test of the chain from `place` on and before
-/// the result asks for `number`.
-///
-/// The caller's condition: `insns` are a program of at most 4096 instructions, `keys` and `chains` are its tables, and
-/// `last` is the last place of the chain of `place`.
+/// In the chain of `place`, from there on, the first place whose test asks for `number`; `last` where none before
+/// `last` does. The contract says less: no test from `place` on and before the result asks for `number`.
 fn find_test_or_last(
     insns: &[Insn],
     keys: &[u64],
@@ -191,7 +169,7 @@ fn find_test_or_last(
     let chain = chains[place];
     let from = key_of(chain, number, place);
     let found = count_below(keys, from);
-    // All keys are less than `from`: no test of the chain from `place` on asks for `number`.
+    // No test of the chain from `place` on asks for `number`.
     if found >= keys.len() {
         return last;
     }
@@ -205,8 +183,7 @@ fn find_test_or_last(
 }
 
 impl EqualTests {
-    /// Makes the tables of a program. The caller's condition: there are at most 4096 instructions, and each test leads
-    /// to one of them. `Memory` where an allocation is refused.
+    /// The tables of a program.
     pub(crate) fn of(alloc: Global, insns: &[Insn]) -> Result<EqualTests, Fault>
         requires short { length insns.now ≤ 4096 }
         requires inside { LeadInside insns.now }
@@ -227,8 +204,7 @@ impl EqualTests {
         })
     }
 
-    /// How many tests of a chain lead from its place `from` to its place `to`. The caller's condition: both are places
-    /// of the program, in the same chain, and `to` doesn't stand before `from`.
+    /// How many tests of a chain lead from its place `from` to its place `to`.
     fn steps_between(&self, from: usize, to: usize) -> usize
         requires from { from < length self.now.steps.items }
         requires to { to < length self.now.steps.items }
@@ -240,11 +216,8 @@ impl EqualTests {
         (self.steps[to] - self.steps[from]) as usize
     }
 
-    /// Skips the tests of the chain of `place`, from `place` on, that stand before the first one that asks for
-    /// `number`; where none asks for it, those before the last place of the chain. A look-up finds where this ends
-    /// (`find_test_or_last`). Where the last place of the chain is at most `SHORT` instructions behind `place`, no test
-    /// is skipped: the caller then looks at each one. The caller's condition: the tables are those of `insns`, and
-    /// `place` is a place of this program.
+    /// Skips the tests of the chain from `place` on, up to the first that asks for `number` or the last place. Where
+    /// the chain ends within `SHORT` instructions, none is skipped: the caller then looks at each.
     fn skip_in_chain(&self, insns: &[Insn], place: usize, number: u32) -> Skipped
         requires tables { AreEqualTests insns.now self.now.keys.items self.now.chains.items
             self.now.steps.items self.now.lasts.items }
@@ -267,10 +240,8 @@ impl EqualTests {
         }
     }
 
-    /// Skips tests one after the other, from `place` on: each asks whether A equals a number other than `number`, and
-    /// stands where the one before it leads when it fails. They may be in several chains. This ends at the first place
-    /// where no such test stands. The caller's condition: the tables are those of `insns`, and `place` is a place of
-    /// this program.
+    /// Skips tests one after the other, from `place` on, that ask for other numbers than `number`. They may be in
+    /// several chains. This ends where no such test stands.
     pub(crate) fn skip_others(&self, insns: &[Insn], place: usize, number: u32) -> Skipped
         requires tables { AreEqualTests insns.now self.now.keys.items self.now.chains.items
             self.now.steps.items self.now.lasts.items }
@@ -281,8 +252,6 @@ impl EqualTests {
             mut count,
             mut behind,
         } = self.skip_in_chain(insns, place, number);
-        // A test for another number still stands there: it is skipped by itself, and then those that `skip_in_chain`
-        // skips where it leads.
         while let Some(next) = next_where_it_fails(insns, behind, number) {
             let more = self.skip_in_chain(insns, next, number);
             count += 1 + more.count;

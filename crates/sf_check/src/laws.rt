@@ -24,15 +24,14 @@ pub fn one_program_of_a_file()
     one_spelling();
 }
 
-/// Instructions with a first fault spell no lawful program. So, where no memory is refused, `check` accepts exactly the
-/// instructions that spell a lawful program.
+/// Instructions with a first fault spell no lawful program. So `check` accepts exactly the instructions that spell one,
+/// unless memory runs out.
 pub fn a_fault_spells_no_lawful_program()
     ensures { (raws : List RawInsn) (e : Fault) (code : List Insn) →
         IsFirstFault raws e → Spells raws code → IsLawfulProgram code → ⊥ }
 {}
 
-/// Instructions have at most one first fault. So, if they have one, `check` refuses them for it, or because memory is
-/// refused.
+/// Instructions have at most one first fault. So `check` refuses them for this one, or because memory runs out.
 pub fn one_first_fault()
     ensures { (raws : List RawInsn) (e f : Fault) → IsFirstFault raws e
         → IsFirstFault raws f → e ≡ f }
