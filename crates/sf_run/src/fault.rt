@@ -1,5 +1,3 @@
-//! Why a run was not recorded.
-
 ghost use Rattle.std.specs.Prelude.{◌≡◌};
 ghost use Rattle.sf_run.specs.declared.fault.Fault.TheVariants.{Memory};
 ghost use Rattle.sf_run.specs.Numbers.{fault_number};
@@ -7,10 +5,9 @@ ghost use Rattle.sf_run.specs.Numbers.{fault_number};
 use std::alloc::{AllocError, AllocFailed};
 use thiserror::Error;
 
-/// Why a run was not recorded. There is only one reason.
+/// Why a run was not recorded.
 #[derive(Clone, Copy, Debug, PartialEq, Eq, Error)]
 pub enum Fault {
-    /// An allocation was refused.
     #[error("out of memory")]
     Memory,
 }
@@ -29,7 +26,6 @@ impl Fault {
 impl From<AllocError> for Fault {
     ghost from_gives = { λ _ e. e ≡ Memory };
 
-    /// A refused allocation is the fault `Memory`.
     fn from(_e: AllocError) -> Fault {
         Fault::Memory
     }
@@ -38,7 +34,6 @@ impl From<AllocError> for Fault {
 impl<T: Drop> From<AllocFailed<T>> for Fault {
     ghost from_gives = { λ _ e. e ≡ Memory };
 
-    /// A refused allocation is the fault `Memory`. The value that should have been stored is dropped.
     fn from(_e: AllocFailed<T>) -> Fault {
         Fault::Memory
     }

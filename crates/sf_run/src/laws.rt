@@ -24,8 +24,7 @@ pub fn one_answer()
         → IsAnswer values b → a ≡ b }
 {}
 
-/// Each trace of a lawful stack is a whole route: it leads through each program to a return, if only control is looked
-/// at.
+/// Each trace of a lawful stack is a whole route: it leads through each program to a return.
 pub fn traces_are_whole_routes()
     ensures { (programs : List (List Insn)) (d : Input) →
         IsLawfulStack programs → IsWholeRoute programs (trace_of programs d) }
@@ -48,9 +47,8 @@ pub fn all_inputs_are_listed()
     ensures { (d : Input) → Contains all_inputs d ↔ IsInput d }
 {}
 
-/// `feasible_traces` is a list of the feasible traces of a stack: it has each trace that some input has, once, and
-/// nothing else. They are in lexicographic order, with false before true. So each stack, lawful or not, has such a
-/// list.
+/// `feasible_traces` has each trace that some input has, once, and nothing else, in lexicographic order, false first.
+/// So each stack, lawful or not, has such a list.
 pub fn each_stack_has_its_feasible_traces()
     ensures { (programs : List (List Insn)) → AreFeasibleTraces programs
         (feasible_traces programs) }

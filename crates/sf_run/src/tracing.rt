@@ -1,5 +1,3 @@
-//! The truth values that a stack meets on one input.
-
 ghost use Rattle.std.specs.Prelude.{◌≡◌, ◌++◌, IfOk, OnOk};
 ghost use Rattle.sf_run.specs.Machine.{bits, met_by, trace_of};
 ghost use Rattle.sf_run.specs.Code.{met_at, state_of};
@@ -11,8 +9,7 @@ use sf_check::{Insn, Program, Stack};
 use sf_insn::Input;
 use std::alloc::Global;
 
-/// Adds the 32 bits of a word to `met`, the highest first. `Memory` where an allocation is refused; some of them may
-/// have been added by then.
+/// Adds the 32 bits of a word to `met`, the highest first.
 fn push_bits(met: &mut Vec<bool>, word: u32) -> Result<(), Fault>
     ensures pushed { OnOk result (met.new.items ≡ met.old.items ++ bits 32 word) }
 {
@@ -22,9 +19,8 @@ fn push_bits(met: &mut Vec<bool>, word: u32) -> Result<(), Fault>
     Ok(())
 }
 
-/// Adds to `met` the truth values that the instruction meets where the machine is in this state: the result of a test,
-/// whether X is 0 at a division by X, the 32 bits of A at a return of A, and none at any other instruction. `Memory`
-/// where an allocation is refused; some of them may have been added by then.
+/// Adds what the instruction meets: the result of a test, whether X is 0 at a division by X, or the 32 bits of A at a
+/// return of A.
 fn push_met(met: &mut Vec<bool>, machine: &Machine, insn: &Insn) -> Result<(), Fault>
     ensures pushed { OnOk result (met.new.items ≡ met.old.items
         ++ met_at (state_of 0 machine.now) insn.now) }
@@ -38,8 +34,6 @@ fn push_met(met: &mut Vec<bool>, machine: &Machine, insn: &Insn) -> Result<(), F
     Ok(())
 }
 
-/// Adds to `met` the truth values that the program meets on the input, in order. `Memory` where an allocation is
-/// refused; some of them may have been added by then.
 fn push_program(met: &mut Vec<bool>, program: &Program, input: &Input) -> Result<(), Fault>
     ensures pushed { OnOk result (met.new.items ≡ met.old.items ++ met_by program.now input.now) }
 {
@@ -56,12 +50,8 @@ fn push_program(met: &mut Vec<bool>, program: &Program, input: &Input) -> Result
     }
 }
 
-/// The truth values that the stack meets on the input, in order, the newest program first. A conditional test gives its
-/// result. A division by X gives whether X is 0. A return of A gives the 32 bits of A, the highest first. `Memory`
-/// where an allocation is refused.
-///
-/// There are at most 32768 + 32 * 64 of them: the programs of a stack have at most 32768 instructions together, a run
-/// comes to each of them at most once, and each of at most 64 programs returns once.
+/// The truth values that the stack meets on the input, in order, the newest program first: the result of each
+/// conditional test, whether X is 0 at each division by X, and the 32 bits of A at each return of A, the highest first.
 pub fn trace(alloc: Global, stack: &Stack, input: &Input) -> Result<Vec<bool>, Fault>
     ensures met { IfOk result (λ v. v.items ≡ trace_of stack.now input.now) }
 {

@@ -17,37 +17,31 @@ use std::alloc::Global;
 pub enum Met {
     /// A conditional test: what it asks, A, the second word, and its result.
     Tested(Test, u32, u32, bool),
-    /// A division by X, with the value of X. The truth value that is met says whether X is 0.
+    /// A division by X, with the value of X.
     Divided(u32),
-    /// A return of A, with the value of A. Its 32 bits are the truth values that are met.
+    /// A return of A, with the value of A.
     Returned(u32),
 }
 
 /// What the instruction at a place meets.
 #[derive(Clone, Copy, Debug)]
 pub struct Meeting {
-    /// The place of the instruction, from 0.
     pub place: usize,
-    /// The word of the input, 0 to 15, that A is known to hold there: the last instruction that set A loaded this word.
-    /// `None` where A was set in another way, even to the value of a word, or wasn't set at all.
+    /// The word of the input, 0 to 15, that A is known to hold: the last instruction that set A loaded it.
     pub word: Option<u8>,
-    /// What it meets.
     pub met: Met,
 }
 
 /// A run of a program on an input.
 #[derive(Debug, Drop)]
 pub struct Course {
-    /// What was met, in order.
     pub met: Vec<Meeting>,
-    /// The place of the instruction at which the program returned: a return, or a division by an X of 0.
+    /// Where the program returned: a return, or a division by an X of 0.
     pub place: usize,
-    /// The value that the program returned.
     pub value: u32,
 }
 
-/// What the instruction meets where the machine is in this state, before the instruction runs. `None` where it meets
-/// nothing: it is no test, no division by X and no return of A.
+/// What the instruction meets, before it runs; `None` where it meets nothing.
 pub(crate) fn what_is_met(machine: &Machine, insn: &Insn) -> Option<Met>
     ensures { (place : ℕ) (word : Option ℕ) → MatchOption result
         (meeting_at (state_of place machine.now) word insn.now ≡ [])
@@ -79,9 +73,7 @@ pub(crate) fn what_is_met(machine: &Machine, insn: &Insn) -> Option<Met>
     }
 }
 
-/// The word of the input, 0 to 15, that A is known to hold after an instruction. `word` is the one that A was known to
-/// hold before it. A load of a word of the input into A gives this word. Any other instruction that sets A gives
-/// `None`, even if A keeps its value. The others leave `word` as it is.
+/// The word of the input that A is known to hold after an instruction. `word` is the one that it held before.
 fn word_after(word: Option<u8>, insn: &Insn) -> Option<u8>
     ensures { result ≡ word_after word insn.now }
 {
@@ -106,9 +98,7 @@ fn word_after(word: Option<u8>, insn: &Insn) -> Option<u8>
     }
 }
 
-/// Adds to `met` what the instruction at `place` meets, if it meets anything. `machine` is the machine before the
-/// instruction runs. `word` is the word of the input that A is known to hold then, if any. `Memory` where an allocation
-/// is refused; nothing is added then.
+/// Adds what the instruction meets. `word` is the word of the input that A is known to hold then.
 fn push_meeting(
     met: &mut Vec<Meeting>,
     machine: &Machine,
@@ -130,17 +120,12 @@ fn push_meeting(
 }
 
 /// The run of the program on the input: what it meets, with the numbers that it compares, the place at which it
-/// returns, and the value. `Memory` where an allocation is refused.
+/// returns, and the value.
 pub fn walk(alloc: Global, program: &Program, input: &Input) -> Result<Course, Fault>
-    // It is the run of the definition.
     ensures course { IfOk result (λ w. walk_of program.now input.now
         ≡ Some (course w.met.items w.place w.value)) }
-
-    // It has the value that the program returns, and the truth values that the program meets.
     ensures run { IfOk result (λ w. (w.value ≡ return_of program.now input.now)
         × (flat_map truths w.met.items ≡ met_by program.now input.now)) }
-
-    // Where it says which word of the input A holds, A has the number of this word.
     ensures words { IfOk result (λ w. All (HoldsItsWord input.now) w.met.items) }
 {
     let code = program.insns();
