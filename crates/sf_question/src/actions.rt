@@ -1,5 +1,3 @@
-//! Sets of actions.
-
 ghost use Rattle.std.specs.Prelude.{◌≡◌};
 ghost use Rattle.sf_question.specs.Actions.{is_no_action, has_action};
 
@@ -8,23 +6,14 @@ use sf_run::Action;
 /// A set of the actions of seccomp(2): for each one with a name whether it is in the set, and for all others together.
 #[derive(Clone, Copy, Debug, PartialEq, Eq)]
 pub struct ActionSet {
-    /// `SECCOMP_RET_KILL_PROCESS`.
     pub kill_process: bool,
-    /// `SECCOMP_RET_KILL_THREAD`.
     pub kill_thread: bool,
-    /// `SECCOMP_RET_TRAP`.
     pub trap: bool,
-    /// `SECCOMP_RET_ERRNO`.
     pub errno: bool,
-    /// `SECCOMP_RET_USER_NOTIF`.
     pub user_notif: bool,
-    /// `SECCOMP_RET_TRACE`.
     pub trace: bool,
-    /// `SECCOMP_RET_LOG`.
     pub log: bool,
-    /// `SECCOMP_RET_ALLOW`.
     pub allow: bool,
-    /// Every action without a name.
     pub other: bool,
 }
 

@@ -1,5 +1,3 @@
-//! Questions.
-
 ghost use Rattle.std.specs.Prelude.{◌≡◌, ◌<◌, List, ℕ, true};
 ghost use Rattle.std.specs.List.{list_all};
 ghost use Rattle.sf_question.specs.QuestionData.{range_at, mask_at, no_masks};
@@ -12,8 +10,8 @@ use std::marker::Model;
 
 /// A question about a filter stack: is any input with these words answered with one of these actions?
 ///
-/// It has a name, and for each of the sixteen 32-bit words of `struct seccomp_data` (seccomp(2)) a range (low, high),
-/// both ends included, and a pair (mask, value): on the bits of the mask, the word has those of the value.
+/// For each of the sixteen 32-bit words of `struct seccomp_data` (seccomp(2)) it has a range, both ends included, and a
+/// pair (mask, value): on the bits of the mask, the word has those of the value.
 #[derive(Debug, Drop)]
 pub struct Question {
     name: String,
@@ -44,21 +42,18 @@ impl Model for Question {
     }) };
 }
 
-/// Whether each byte is from 0x21 to 0x7e.
 fn is_visible_text(bytes: &[u8]) -> bool
     ensures { result ≡ list_all is_printable bytes.now }
 {
     bytes.iter().all(|byte| 0x21 <= *byte && *byte <= 0x7e)
 }
 
-/// Whether no low end is above its high end.
 fn are_in_order(ranges: &[(u32, u32)]) -> bool
     ensures { result ≡ list_all is_in_order ranges.now }
 {
     ranges.iter().all(|range| range.0 <= range.1)
 }
 
-/// Whether no value has a bit outside its mask.
 fn are_inside_masks(masks: &[(u32, u32)]) -> bool
     ensures { result ≡ list_all is_inside_mask masks.now }
 {
@@ -73,10 +68,8 @@ impl Question {
         1 <= text.len() && text.len() <= 64 && is_visible_text(text.as_bytes())
     }
 
-    /// The question with this name, these ranges and no masks.
-    ///
-    /// Refusals, tried in this order: `Name` where the name isn't 1 to 64 bytes from 0x21 to 0x7e, `Range` where a
-    /// low end is above its high end, `Actions` where the set is empty, `Memory` where an allocation is refused.
+    /// The question with this name, these ranges and no masks. Refusals are tried in the order `Name`, `Range`,
+    /// `Actions`.
     pub fn of(
         alloc: Global,
         name: &str,
@@ -88,11 +81,8 @@ impl Question {
         Question::of_masked(alloc, name, ranges, [(0, 0); 16], actions)
     }
 
-    /// The question with this name, these ranges and these pairs (mask, value).
-    ///
-    /// Refusals, tried in this order: `Name` where the name isn't 1 to 64 bytes from 0x21 to 0x7e, `Range` where a
-    /// low end is above its high end, `Mask` where a value has a bit outside its mask, `Actions` where the set is
-    /// empty, `Memory` where an allocation is refused.
+    /// The question with this name, these ranges and these pairs (mask, value). Refusals are tried in the order `Name`,
+    /// `Range`, `Mask`, `Actions`.
     pub fn of_masked(
         alloc: Global,
         name: &str,
@@ -137,7 +127,7 @@ impl Question {
         self.ranges[word]
     }
 
-    /// The mask of a word, 0 to 15, and the value that the word has on the mask's bits, with no bit outside the mask.
+    /// The mask of a word, 0 to 15, and the value that the word has on the mask's bits.
     pub fn mask(&self, word: usize) -> (u32, u32)
         requires { word < 16 }
         ensures value { result ≡ mask_at self.now word }
