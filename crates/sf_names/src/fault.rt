@@ -1,5 +1,3 @@
-//! Why a file of names is refused.
-
 ghost use Rattle.std.specs.Prelude.{◌≡◌};
 ghost use Rattle.sf_names.specs.declared.fault.Fault.TheVariants.{Memory};
 
@@ -9,12 +7,10 @@ use thiserror::Error;
 /// Why a file of names is refused.
 #[derive(Clone, Copy, Debug, PartialEq, Eq, Error)]
 pub enum Fault {
-    /// The file is no TOML.
     #[error("no TOML")]
     Syntax,
-    /// A key is unknown or missing, a value is of another kind, or the name of a set or of a call isn't 1 to 64
-    /// letters, digits and `_`. Or a file adds to a set of another one, and the number of the architecture, the number
-    /// of a name or the name of a number isn't the one that is there.
+    /// A key is unknown or missing, a value is of another kind, or a name isn't 1 to 64 letters, digits and `_`; or a
+    /// file contradicts the set of another file that it adds to.
     #[error("an unknown key, a missing one, a value of another kind, a wrong name, or another number or name than before")]
     Key,
     /// A file has more than 64 sets, or a set more than 1,024 calls, where several files add to it too.
@@ -23,7 +19,6 @@ pub enum Fault {
     /// A number is outside 32 bits.
     #[error("a number outside 32 bits")]
     Range,
-    /// An allocation was refused.
     #[error("out of memory")]
     Memory,
 }
@@ -31,7 +26,6 @@ pub enum Fault {
 impl From<AllocError> for Fault {
     ghost from_gives = { λ _ e. e ≡ Memory };
 
-    /// A refused allocation is the fault `Memory`.
     fn from(_e: AllocError) -> Fault {
         Fault::Memory
     }
@@ -40,7 +34,6 @@ impl From<AllocError> for Fault {
 impl<T: Drop> From<AllocFailed<T>> for Fault {
     ghost from_gives = { λ _ e. e ≡ Memory };
 
-    /// A refused allocation is the fault `Memory`. The value that should have been stored is dropped.
     fn from(_e: AllocFailed<T>) -> Fault {
         Fault::Memory
     }

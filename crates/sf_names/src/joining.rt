@@ -10,71 +10,63 @@ use crate::fault::Fault;
 use crate::names::{Call, MOST_CALLS, Names};
 use crate::reading::put_by_number;
 
-/// Whether two calls have the same name and the same number.
 fn is_same(call: &Call, known: &Call) -> bool
     ensures { result ≡ is_same call.now known.now }
 {
     known.number == call.number && known.name.as_str() == call.name.as_str()
 }
 
-/// Whether two calls have the same name or the same number.
 fn is_alike(call: &Call, known: &Call) -> bool
     ensures { result ≡ is_alike call.now known.now }
 {
     known.number == call.number || known.name.as_str() == call.name.as_str()
 }
 
-/// Whether a call is one of these.
 fn is_there(calls: &[Call], call: &Call) -> bool
     ensures { result ≡ is_there calls.now call.now }
 {
     calls.iter().any(|known| is_same(call, known))
 }
 
-/// Whether one of these has the name or the number of a call.
 fn has_alike(calls: &[Call], call: &Call) -> bool
     ensures { result ≡ list_any (is_alike call.now) calls.now }
 {
     calls.iter().any(|known| is_alike(call, known))
 }
 
-/// Whether a call isn't one of these.
 fn is_new(calls: &[Call], call: &Call) -> bool
     ensures { result ≡ not (is_there calls.now call.now) }
 {
     !is_there(calls, call)
 }
 
-/// Whether a call may stand beside these: it is one of them, or none has its name or its number.
+/// Whether a call is one of these, or none has its name or its number.
 fn may_stand(calls: &[Call], call: &Call) -> bool
     ensures { result ≡ may_stand calls.now call.now }
 {
     is_there(calls, call) || !has_alike(calls, call)
 }
 
-/// Whether each call may stand beside those of `calls`.
 fn all_fit(calls: &[Call], more: &[Call]) -> bool
     ensures { result ≡ list_all (may_stand calls.now) more.now }
 {
     more.iter().all(|call| may_stand(calls, call))
 }
 
-/// Whether a set may get the calls of a further one of its name: both have the same number of an architecture, no name
-/// gets a second number, and no number a second name.
+/// Whether a set may get the calls of a further one: both have the same number of an architecture, no name gets a
+/// second number, and no number a second name.
 fn may_add(names: &Names, more: &Names) -> bool
     ensures { result ≡ may_add names.now more.now }
 {
     names.arch == more.arch && all_fit(names.calls.as_slice(), more.calls.as_slice())
 }
 
-/// Leaves only the calls that aren't among `calls`. They keep their order.
 fn keep_new(more: &mut Vec<Call>, calls: &[Call])
     ensures { more.new.items ≡ filter (λ c. not (is_there calls.now c)) more.old.items }
 {
     more.retain(|call| is_new(calls, call));
 }
 
-/// The calls of a further set that a set hasn't, in their order.
 fn new_calls(names: &Names, more: Names) -> Vec<Call>
     ensures { result.items ≡ new_calls names.now more }
 {
@@ -83,15 +75,13 @@ fn new_calls(names: &Names, more: Names) -> Vec<Call>
     calls
 }
 
-/// Whether a set would have more than 1,024 calls with further ones.
 fn are_too_many(calls: &[Call], more: &[Call]) -> bool
     ensures { result ≡ nat_lt 1024 (length calls.now + length more.now) }
 {
     calls.len().saturating_add(more.len()) > MOST_CALLS
 }
 
-/// Adds calls, and puts all in the order of their numbers; calls with the same number keep their order. `Memory` where
-/// an allocation is refused; nothing is promised of the calls then.
+/// Adds calls, and puts all in the order of their numbers.
 fn add_calls(calls: &mut Vec<Call>, more: Vec<Call>) -> Result<(), Fault>
     ensures added { OnOk result (AreByNumber (calls.old.items ++ more.items) calls.new.items) }
     ensures memory { IfErr result (λ e. e ≡ MemoryFault) }
@@ -102,9 +92,8 @@ fn add_calls(calls: &mut Vec<Call>, more: Vec<Call>) -> Result<(), Fault>
     Ok(())
 }
 
-/// Adds the calls of a further set to the set of its name. `Key` where their architectures have different numbers, or
-/// a name would have two numbers, or a number a name of each; then `Count` where there would be more than 1,024 calls.
-/// The set is as it was then. `Memory` where an allocation is refused; nothing is promised of the set then.
+/// Adds the calls of a further set of the same name. Refusals are tried in the order `Key`, `Count`, and leave the set
+/// as it was.
 fn join_set(names: &mut Names, more: Names) -> Result<(), Fault>
     ensures joined { OnOk result (GivesSet (Ok names.new) (joined_set names.old more)) }
     ensures refused { IfErr result (λ e. (e ≡ MemoryFault)
@@ -120,14 +109,12 @@ fn join_set(names: &mut Names, more: Names) -> Result<(), Fault>
     add_calls(&mut names.calls, calls)
 }
 
-/// The place of the first set with this name; `None` where there is no such set.
 fn place_of(sets: &[Names], set: &str) -> Option<usize>
     ensures { result ≡ position (has_set set.now) sets.now }
 {
     sets.iter().position(|names| names.set.as_str() == set)
 }
 
-/// Adds the calls of a further set to the set of its name, which stands at a place, as `join_set` does it.
 fn join_at(sets: &mut [Names], place: usize, more: Names) -> Result<(), Fault>
     requires { place < length sets.old }
     ensures joined { OnOk result ((known : NamesData) × (joined : NamesData)
@@ -140,9 +127,7 @@ fn join_at(sets: &mut [Names], place: usize, more: Names) -> Result<(), Fault>
     join_set(&mut sets[place], more)
 }
 
-/// Joins one set to those that are there: behind them, or, where one has its name, its calls to that one. Refuses it as
-/// `join_set` does, and the sets are as they were then. `Memory` where an allocation is refused; nothing is promised of
-/// the set of its name then.
+/// Joins one set to those that are there: behind them, or its calls to the one of its name.
 fn join_one(all: &mut Vec<Names>, more: Names) -> Result<(), Fault>
     ensures joined { OnOk result (IsSetJoined all.old.items more all.new.items) }
     ensures refused { IfErr result (λ e. (e ≡ MemoryFault)
@@ -154,14 +139,13 @@ fn join_one(all: &mut Vec<Names>, more: Names) -> Result<(), Fault>
     }
 }
 
-/// Joins the sets of a further file to those of the files before it, one after the other. A set whose name is new comes
-/// behind those that are there. One whose name is there adds its calls to that set, which has them in the order of
-/// their numbers then; a call that is there with the same name and the same number is there once.
+/// Joins the sets of a further file to those of the files before it. A set whose name is new comes behind them. The
+/// calls of any other one are added to the set of its name, in the order of their numbers; a call that is there already
+/// stays there once.
 ///
-/// Refusals: `Key` where a set has another number of its architecture than that of its name, a name another number, or
-/// a number another name (a number may have two names only where one file gives it both); `Count` where a set would
-/// have more than 1,024 calls. The sets before the one that is refused are joined then, and no further one. `Memory`
-/// where an allocation is refused; some of the sets may be joined then, and nothing is promised of one of them.
+/// `Key` where a set has another number of its architecture than that of its name, a name another number, or a number
+/// another name: a number may have two names only where one file gives it both. The sets before the one that is refused
+/// are joined.
 pub fn join_sets(all: &mut Vec<Names>, sets: Vec<Names>) -> Result<(), Fault>
     ensures joined { OnOk result (AreSetsJoined all.old.items sets.items all.new.items) }
     ensures refused { IfErr result (λ e. (e ≡ MemoryFault)

@@ -1,4 +1,6 @@
 //! The names of calls, from files: named sets of calls, each with the number of its architecture.
+//!
+//! Where memory runs out, functions fail, and what they were to add may be there in part.
 #![tactic(auto)]
 
 mod fault;

@@ -1,5 +1,3 @@
-//! Named sets of calls, and what is looked up in them.
-
 ghost use Rattle.std.specs.Prelude.{◌≡◌, find, option_map};
 ghost use Rattle.std.specs.List.{list_all};
 ghost use Rattle.sf_names.specs.Names.{has_name, has_set, is_call_name, is_name_byte, number_of_call};
@@ -12,9 +10,7 @@ pub(crate) const MOST_CALLS: usize = 1024;
 /// A call: its number and its name.
 #[derive(Debug, Drop)]
 pub struct Call {
-    /// The number, by which programs of the set's architecture call the kernel.
     pub(crate) number: u32,
-    /// The name: 1 to 64 letters, digits and `_`.
     pub(crate) name: String,
 }
 
@@ -28,7 +24,7 @@ impl Model for Call {
 }
 
 impl Call {
-    /// The number, which has 32 bits.
+    /// The number, by which programs of the set's architecture call the kernel.
     pub fn number(&self) -> u32
         ensures { result ≡ self.now.number }
     {
@@ -46,11 +42,8 @@ impl Call {
 /// A named set of calls of an architecture.
 #[derive(Debug, Drop)]
 pub struct Names {
-    /// The name of the set.
     pub(crate) set: String,
-    /// The number of the architecture, as in the word `arch` of an input.
     pub(crate) arch: u32,
-    /// The calls. `read_names` hands them out in the order of their numbers, and `join_sets` keeps that order.
     pub(crate) calls: Vec<Call>,
 }
 
@@ -82,14 +75,14 @@ impl Names {
         self.arch
     }
 
-    /// The calls. `read_names` has put them in the order of their numbers, and `join_sets` keeps that order.
+    /// The calls, in the order of their numbers.
     pub fn calls(&self) -> &[Call]
         ensures { result.now ≡ self.now.calls }
     {
         self.calls.as_slice()
     }
 
-    /// The number of the first call with this name; `None` where the set has no such call.
+    /// The number of the first call with this name.
     pub fn number_of(&self, name: &str) -> Option<u32>
         ensures { result ≡ number_of_call self.now name.now }
     {
@@ -97,7 +90,6 @@ impl Names {
     }
 }
 
-/// The first call with this name; `None` where there is no such call.
 fn call_named<'a>(calls: &'a [Call], name: &str) -> Option<&'a Call>
     ensures { option_map (λ c. c.now) result ≡ find (has_name name.now) calls.now }
 {
@@ -109,7 +101,7 @@ fn call_named<'a>(calls: &'a [Call], name: &str) -> Option<&'a Call>
     None
 }
 
-/// The first set with this name; `None` where there is no such set.
+/// The first set with this name.
 pub fn find_set<'a>(sets: &'a [Names], set: &str) -> Option<&'a Names>
     ensures { option_map (λ n. n.now) result ≡ find (has_set set.now) sets.now }
 {
@@ -121,7 +113,6 @@ pub fn find_set<'a>(sets: &'a [Names], set: &str) -> Option<&'a Names>
     None
 }
 
-/// Whether a byte is a letter, a digit or `_`.
 fn is_name_byte(byte: u8) -> bool
     ensures { result ≡ is_name_byte byte }
 {
@@ -131,14 +122,13 @@ fn is_name_byte(byte: u8) -> bool
     (digit || capital) || (small || byte == 0x5f)
 }
 
-/// Whether each byte is a letter, a digit or `_`.
 fn are_name_bytes(bytes: &[u8]) -> bool
     ensures { result ≡ list_all is_name_byte bytes.now }
 {
     bytes.iter().all(|byte| is_name_byte(*byte))
 }
 
-/// Whether a text can be the name of a call, or of a set: it is 1 to 64 letters, digits and `_`.
+/// Whether a text can be the name of a call or a set: 1 to 64 letters, digits and `_`.
 pub fn is_call_name(text: &str) -> bool
     ensures { result ≡ is_call_name text.now }
 {

@@ -10,10 +10,8 @@ use std::alloc::AllocError;
 /// The most names that are written in one row.
 const MOST_NAMES: usize = 8;
 
-/// Adds a name to a row's text, in which `count` names stand already. ` # ` is written before the first name, and a
-/// comma before each further one. Instead of the ninth name `,..` is written, and for any further one nothing. Returns
-/// how many names stand in the row then, where `..` counts as one: at most nine, if `count` was at most nine. An error
-/// where an allocation is refused; a part of what is added may stand in the text then.
+/// Adds a name to a row's text, in which `count` names stand already: behind ` # ` or a comma, `,..` instead of the
+/// ninth name, and nothing for any further one. Returns how many names stand in the row then, where `..` counts as one.
 fn push_name(text: &mut String, count: usize, name: &str) -> Result<usize, AllocError>
     ensures text { OnOk result (string_bytes text.new ≡ string_bytes text.old
         ++ next_name_words count name.now) }
@@ -32,10 +30,7 @@ fn push_name(text: &mut String, count: usize, name: &str) -> Result<usize, Alloc
     Ok(count + 1)
 }
 
-/// Adds the name of a call to a row's text, if the call's number is from `first` to `last`. It is added as `push_name`
-/// does it: instead of the ninth name `,..` is written, and for any further one nothing. `count` is how many names
-/// stand in the row already. Returns how many stand there then. In both counts `..` is one. An error where an
-/// allocation is refused; a part of what is added may stand in the text then.
+/// Adds the name of a call whose number is from `first` to `last`, as `push_name` does.
 fn push_call(
     text: &mut String,
     count: usize,
@@ -53,10 +48,6 @@ fn push_call(
     Ok(count)
 }
 
-/// Adds the names of the calls whose numbers are from `first` to `last` to a row's text, each as `push_name` does it:
-/// behind the eighth name only `,..` is written. `count` is how many names stand in the row already. Returns how many
-/// stand there then. In both counts `..` is one. An error where an allocation is refused; a part of what is added may
-/// stand in the text then.
 fn push_calls(
     text: &mut String,
     count: usize,
@@ -76,10 +67,6 @@ fn push_calls(
     Ok(told)
 }
 
-/// Adds the names of the calls of one set whose numbers are from `first` to `last` to a row's text, if it is a set of
-/// the architecture `arch`. Each is added as `push_name` does it: behind the eighth name only `,..` is written. `count`
-/// is how many names stand in the row already. Returns how many stand there then. In both counts `..` is one. An error
-/// where an allocation is refused; a part of what is added may stand in the text then.
 fn push_names_in(
     text: &mut String,
     count: usize,
@@ -100,12 +87,10 @@ fn push_names_in(
 }
 
 /// Adds to a row's text, set after set, the names of the calls of an architecture whose numbers are from `first` to
-/// `last`; nothing where there is no such name. The names of a row stand behind ` # `, with commas between them. Where
-/// a row has more than eight names, `,..` stands for those behind the eighth.
+/// `last`: behind ` # `, with commas between them, and `,..` for those behind the eighth.
 ///
 /// `count` is how many names stand in the row before, 0 in a new one. Returns how many stand in it then, where `..`
-/// counts as one: at most nine, if `count` was at most nine. An error where an allocation is refused; a part of what is
-/// added may stand in the text then.
+/// counts as one.
 pub fn push_names_between(
     text: &mut String,
     count: usize,
