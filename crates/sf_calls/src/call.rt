@@ -5,22 +5,20 @@ ghost use Rattle.sf_calls.specs.Calls.{arguments_in, call_input, count_shown, wh
 
 use sf_insn::Input;
 
-/// The low 32 bits of a number.
 fn low_half(number: u64) -> u32
     ensures { result ≡ number % 2 ^ 32 }
 {
     (number % 0x1_0000_0000) as u32
 }
 
-/// The high 32 bits of a number.
 fn high_half(number: u64) -> u32
     ensures { result ≡ number / 2 ^ 32 }
 {
     (number / 0x1_0000_0000) as u32
 }
 
-/// The input of a call, from its number, its architecture and its six arguments. The instruction pointer, which is the
-/// third and the fourth word, is 0. Each argument is two words, the low half first.
+/// The input of a call. Its instruction pointer, the third and the fourth word, is 0. Each argument is two words, the
+/// low half first.
 pub fn call_input(nr: u32, arch: u32, arguments: &[u64; 6]) -> Input
     ensures { result ≡ call_input nr arch arguments.now }
 {
@@ -47,15 +45,13 @@ pub fn call_input(nr: u32, arch: u32, arguments: &[u64; 6]) -> Input
     }
 }
 
-/// The number of 64 bits that has these two halves.
 fn whole_of(low: u32, high: u32) -> u64
     ensures { result ≡ whole_of low high }
 {
     u64::from(high) * 0x1_0000_0000 + u64::from(low)
 }
 
-/// The six arguments of an input, each put together from two words, the low half first. Words 4 and 5 are the first
-/// argument, and words 14 and 15 are the last one.
+/// The six arguments of an input, each put together from two words, the low half first.
 pub(crate) fn arguments_in(input: &Input) -> [u64; 6]
     ensures { result ≡ arguments_in input.now }
 {
@@ -69,7 +65,7 @@ pub(crate) fn arguments_in(input: &Input) -> [u64; 6]
     ]
 }
 
-/// How many of the arguments `push_shown` writes: all up to the last one that isn't 0, and none where all are 0.
+/// How many of the arguments `push_shown` writes: all up to the last one that isn't 0.
 pub(crate) fn count_shown(arguments: &[u64]) -> usize
     ensures count { result ≡ count_shown arguments.now }
     ensures few { result ≤ length arguments.now }

@@ -1,4 +1,6 @@
 //! A call in words: numbers as a person writes them, the input that a call is, and an input as a call.
+//!
+//! Where memory runs out, functions fail, and a part of what they were to add may stand in the text.
 #![tactic(auto)]
 
 mod call;

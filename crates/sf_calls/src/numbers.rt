@@ -1,4 +1,4 @@
-//! Numbers as a person writes them: decimal digits, or `0x` and hexadecimal digits. There is no sign and no blank.
+//! Numbers as a person writes them: decimal digits, or `0x` and hexadecimal digits, without a sign or a blank.
 
 ghost use Rattle.std.specs.Prelude.{◌≡◌, ◌≤◌, length, slice_get, true};
 ghost use Rattle.std.specs.Char.{is_digit};
@@ -10,14 +10,13 @@ ghost use Rattle.sf_calls.specs.Numbers.{are_arguments, are_digits, argument_at,
 /// Why a text isn't read as numbers.
 #[derive(Clone, Copy, Debug, PartialEq, Eq)]
 pub enum Misread {
-    /// The text hasn't the form that is wanted: that of one number, or of one to six numbers with commas between them.
+    /// The text hasn't the form that is wanted.
     Form,
     /// A number has more bits than are wanted.
     Width,
 }
 
-/// The radix of a number and its digits: 16 and what follows `0x`, or 10 and the whole text. Whether these are digits
-/// isn't looked at.
+/// The radix of a number and its digits, which aren't looked at.
 fn parted(text: &str) -> (u32, &str)
     ensures radix { result.0 ≡ radix_of text.now }
     ensures digits { result.1.now ≡ digits_of text.now }
@@ -28,7 +27,6 @@ fn parted(text: &str) -> (u32, &str)
     }
 }
 
-/// Whether a byte is a digit of the radix. The caller's condition: the radix is 2 to 36.
 fn is_digit(byte: u8, radix: u32) -> bool
     requires least { 2 ≤ radix }
     requires most { radix ≤ 36 }
@@ -37,7 +35,6 @@ fn is_digit(byte: u8, radix: u32) -> bool
     char::from(byte).is_digit(radix)
 }
 
-/// Whether each byte is a digit of the radix. The caller's condition: the radix is 2 to 36.
 fn are_each_digits(bytes: &[u8], radix: u32) -> bool
     requires least { 2 ≤ radix }
     requires most { radix ≤ 36 }
@@ -46,7 +43,6 @@ fn are_each_digits(bytes: &[u8], radix: u32) -> bool
     bytes.iter().all(|byte| is_digit(*byte, radix))
 }
 
-/// Whether a text is one digit of the radix or more, and nothing else. The caller's condition: the radix is 2 to 36.
 fn are_digits(digits: &str, radix: u32) -> bool
     requires least { 2 ≤ radix }
     requires most { radix ≤ 36 }
@@ -55,8 +51,7 @@ fn are_digits(digits: &str, radix: u32) -> bool
     !digits.is_empty() && are_each_digits(digits.as_bytes(), radix)
 }
 
-/// Whether a text is a number: at least one decimal digit, or `0x` and at least one hexadecimal digit, and nothing
-/// else. The number may be of any size.
+/// Whether a text is a number, of any size.
 pub fn is_number(text: &str) -> bool
     ensures { result ≡ is_number text.now }
 {
@@ -64,8 +59,7 @@ pub fn is_number(text: &str) -> bool
     are_digits(digits, radix)
 }
 
-/// The number that digits of the radix write. `Width` where it has more than 64 bits, which is the only way to fail.
-/// The caller's condition: the text has passed `are_digits` with this radix, which is 2 to 36.
+/// The number that digits of the radix write.
 fn number_from(digits: &str, radix: u32) -> Result<u64, Misread>
     requires least { 2 ≤ radix }
     requires most { radix ≤ 36 }
@@ -75,7 +69,6 @@ fn number_from(digits: &str, radix: u32) -> Result<u64, Misread>
     u64::from_str_radix(digits, radix).map_err(|_| Misread::Width)
 }
 
-/// The number that a text is. `Form` where it is none, `Width` where the number has more than 64 bits.
 fn read_number(text: &str) -> Result<u64, Misread>
     ensures { result ≡ read_number 64 text.now }
 {
@@ -86,7 +79,7 @@ fn read_number(text: &str) -> Result<u64, Misread>
     number_from(digits, radix)
 }
 
-/// The number of 32 bits that a text is. `Form` where it is no number, `Width` where the number has more bits.
+/// The number of 32 bits that a text is.
 pub fn read_word(text: &str) -> Result<u32, Misread>
     ensures { result ≡ read_number 32 text.now }
 {
@@ -94,36 +87,33 @@ pub fn read_word(text: &str) -> Result<u32, Misread>
     u32::try_from(number).map_err(|_| Misread::Width)
 }
 
-/// How many parts a text has between its commas. A text without a comma is one part, also where it is empty.
+/// How many parts a text has between its commas; a text without a comma is one part.
 fn count_parts(text: &str) -> usize
     ensures { result ≡ length (comma_parts text.now) }
 {
     text.split(',').count()
 }
 
-/// Whether each part of a text between its commas is a number.
 fn are_numbers(text: &str) -> bool
     ensures { result ≡ list_all is_number (comma_parts text.now) }
 {
     text.split(',').all(|part| is_number(part))
 }
 
-/// Whether a text is the arguments of a call: one to six numbers with commas between them. They may be of any size.
+/// Whether a text is the arguments of a call: one to six numbers of any size, with commas between them.
 pub fn are_arguments(text: &str) -> bool
     ensures { result ≡ are_arguments text.now }
 {
     count_parts(text) <= 6 && are_numbers(text)
 }
 
-/// The part of a text between its commas at a place, counted from 0; `None` where the text has too few parts.
 fn part_at(text: &str, place: usize) -> Option<&str>
     ensures { option_map (λ part. part.now) result ≡ slice_get (comma_parts text.now) place }
 {
     text.split(',').nth(place)
 }
 
-/// The argument at a place of a text, counted from 0; it is 0 where the text has too few parts. `Width` where it has
-/// more than 64 bits. The caller has seen by `are_arguments` that each part is a number; else `Form` could come too.
+/// The argument at a place of a text, counted from 0; it is 0 where the text has too few parts.
 fn argument_at(text: &str, place: usize) -> Result<u64, Misread>
     ensures { are_arguments text.now ≡ true
         → result ≡ in_bits 64 (argument_at text.now place) }
@@ -134,8 +124,7 @@ fn argument_at(text: &str, place: usize) -> Result<u64, Misread>
     }
 }
 
-/// The six arguments of a call that a text gives; those that it doesn't give are 0. `Form` where the text isn't one to
-/// six numbers with commas between them; then `Width` where one of the numbers has more than 64 bits.
+/// The six arguments of a call that a text gives; those that it doesn't give are 0. `Form` comes before `Width`.
 pub fn read_arguments(text: &str) -> Result<[u64; 6], Misread>
     ensures { result ≡ read_arguments text.now }
 {
