@@ -1,4 +1,5 @@
-//! The options and words that subcommands take.
+//! The options and words that subcommands take. Whether a word has the right form, and what goes together, is seen
+//! later.
 ghost use Rattle.std.specs.Prelude.{◌≡◌, codes, false};
 ghost use Rattle.clap.specs.Words.{rule_of};
 ghost use Rattle.sf_command_line.specs.CommandLine.{choice_rule, file_rule, files_rule, filters_rule, needed_repeated_rule, needed_rule, number_rule, option_rule, repeated_rule, switch_rule, word_rule};
@@ -6,8 +7,8 @@ ghost use Rattle.sf_command_line.specs.CommandLine.{choice_rule, file_rule, file
 use clap::{Arg, ArgAction, value_parser};
 use std::alloc::Global;
 
-/// An option with a value: `name` behind two dashes. The help calls the value `value`. It may be left out, and is
-/// refused where it is given twice, unless the caller changes this.
+/// An option, `name` behind two dashes, with a value, which the help calls `value`. It may be left out, and is refused
+/// where it is given twice.
 fn option<'a>(alloc: Global, name: &'a str, value: &'a str) -> Arg<'a>
     ensures rule { rule_of result ≡ option_rule name.entry.now }
     ensures own { result.global ≡ false }
@@ -34,8 +35,7 @@ pub(crate) fn policy<'a>(alloc: Global) -> Arg<'a>
         .help("A policy file, which asks questions; once for each file")
 }
 
-/// `--control`: the file of a policy each of whose questions must be allowed. It may be left out. That it is none of
-/// the files of `--policy` is seen later.
+/// `--control`: the file of a policy each of whose questions must be allowed.
 pub(crate) fn control<'a>(alloc: Global) -> Arg<'a>
     ensures rule { rule_of result ≡ option_rule (codes "control") }
     ensures own { result.global ≡ false }
@@ -45,7 +45,7 @@ pub(crate) fn control<'a>(alloc: Global) -> Arg<'a>
     )
 }
 
-/// `--accept`: the file with the names of the questions that may be allowed. It may be left out.
+/// `--accept`: the file with the names of the questions that may be allowed.
 pub(crate) fn accept<'a>(alloc: Global) -> Arg<'a>
     ensures rule { rule_of result ≡ option_rule (codes "accept") }
     ensures own { result.global ≡ false }
@@ -71,8 +71,7 @@ pub(crate) fn json<'a>(alloc: Global) -> Arg<'a>
     switch(alloc, "json").help("Write one JSON document in place of the text")
 }
 
-/// `--budget`: the most works that are committed in the exploration of an audit, 1 to 1,000,000; 100,000 where it isn't
-/// given.
+/// `--budget`: the most works that are committed in the exploration of an audit, 1 to 1,000,000.
 pub(crate) fn budget<'a>(alloc: Global) -> Arg<'a>
     ensures rule { rule_of result ≡ number_rule (codes "budget") 1000000 (codes "100000") }
     ensures own { result.global ≡ false }
@@ -84,7 +83,7 @@ pub(crate) fn budget<'a>(alloc: Global) -> Arg<'a>
         .help("The most pieces that are worked on, 1 to 1000000")
 }
 
-/// `--workers`: the number of workers, 1 to 64; 4 where it isn't given.
+/// `--workers`: the number of workers, 1 to 64.
 pub(crate) fn workers<'a>(alloc: Global) -> Arg<'a>
     ensures rule { rule_of result ≡ number_rule (codes "workers") 64 (codes "4") }
     ensures own { result.global ≡ false }
@@ -96,8 +95,7 @@ pub(crate) fn workers<'a>(alloc: Global) -> Arg<'a>
         .help("The number of workers, 1 to 64: 1 is as fast, and answers more under a budget")
 }
 
-/// `--nodes`: the most nodes that the decision diagrams of the answers may have, 1 to 16,000,000; 1,000,000 where it
-/// isn't given.
+/// `--nodes`: the most nodes that the decision diagrams of the answers may have, 1 to 16,000,000.
 pub(crate) fn nodes<'a>(alloc: Global) -> Arg<'a>
     ensures rule { rule_of result ≡ number_rule (codes "nodes") 16000000 (codes "1000000") }
     ensures own { result.global ≡ false }
@@ -109,8 +107,7 @@ pub(crate) fn nodes<'a>(alloc: Global) -> Arg<'a>
         .help("The most nodes that the decision diagrams may have, 1 to 16000000")
 }
 
-/// `--digest`: whether a digest of all rows is written in place of these. It goes without `--names`, `--calls` and
-/// `--json`, which is seen later.
+/// `--digest`: whether a digest of all rows is written in place of these.
 pub(crate) fn digest<'a>(alloc: Global) -> Arg<'a>
     ensures rule { rule_of result ≡ switch_rule (codes "digest") }
     ensures own { result.global ≡ false }
@@ -120,7 +117,6 @@ pub(crate) fn digest<'a>(alloc: Global) -> Arg<'a>
     )
 }
 
-/// `--regions`: whether a report lists the settled regions.
 pub(crate) fn regions<'a>(alloc: Global) -> Arg<'a>
     ensures rule { rule_of result ≡ switch_rule (codes "regions") }
     ensures own { result.global ≡ false }
@@ -128,8 +124,7 @@ pub(crate) fn regions<'a>(alloc: Global) -> Arg<'a>
     switch(alloc, "regions").help("List the settled regions too")
 }
 
-/// `--input`: the input that is evaluated, by its bytes. One of `--input`, `--call` and `--nr` must be given, and
-/// `--input` stands without the options of a call. This, and whether its text spells an input, is seen later.
+/// `--input`: the input that is evaluated, by its bytes. Which options go together is seen later.
 pub(crate) fn input<'a>(alloc: Global) -> Arg<'a>
     ensures rule { rule_of result ≡ option_rule (codes "input") }
     ensures own { result.global ≡ false }
@@ -139,8 +134,7 @@ pub(crate) fn input<'a>(alloc: Global) -> Arg<'a>
     )
 }
 
-/// `--call`: the call that is evaluated, by its name. It stands in place of `--input` and `--nr`, and needs `--arch`,
-/// `--args` and `--names`. This is seen later.
+/// `--call`: the call that is evaluated, by its name.
 pub(crate) fn call<'a>(alloc: Global) -> Arg<'a>
     ensures rule { rule_of result ≡ option_rule (codes "call") }
     ensures own { result.global ≡ false }
@@ -150,8 +144,7 @@ pub(crate) fn call<'a>(alloc: Global) -> Arg<'a>
     )
 }
 
-/// `--nr`: the call that is evaluated, by its number. It stands in place of `--input` and `--call`, and needs `--arch`
-/// and `--args`. This, and whether its word is a number, is seen later.
+/// `--nr`: the call that is evaluated, by its number.
 pub(crate) fn nr<'a>(alloc: Global) -> Arg<'a>
     ensures rule { rule_of result ≡ option_rule (codes "nr") }
     ensures own { result.global ≡ false }
@@ -160,8 +153,7 @@ pub(crate) fn nr<'a>(alloc: Global) -> Arg<'a>
 }
 
 /// `--arch`: the architecture of the call that is evaluated, as the name of a set of `--names`, or with `--nr` also as
-/// a number. Whether its word is one of these is seen later, and also that it is given where `--call` or `--nr` is,
-/// and not with `--input`.
+/// a number.
 pub(crate) fn arch<'a>(alloc: Global) -> Arg<'a>
     ensures rule { rule_of result ≡ option_rule (codes "arch") }
     ensures own { result.global ≡ false }
@@ -171,9 +163,7 @@ pub(crate) fn arch<'a>(alloc: Global) -> Arg<'a>
     )
 }
 
-/// `--args`: the arguments of the call that is evaluated, in one word: one to six numbers with commas between them.
-/// Whether it has this form is seen later, and also that it is given where `--call` or `--nr` is, and not with
-/// `--input`.
+/// `--args`: the arguments of the call that is evaluated: one to six numbers with commas between them.
 pub(crate) fn arguments<'a>(alloc: Global) -> Arg<'a>
     ensures rule { rule_of result ≡ option_rule (codes "args") }
     ensures own { result.global ≡ false }
@@ -183,7 +173,6 @@ pub(crate) fn arguments<'a>(alloc: Global) -> Arg<'a>
     )
 }
 
-/// `--trace`: whether an evaluation also shows the input, and what each filter meets and returns.
 pub(crate) fn trace<'a>(alloc: Global) -> Arg<'a>
     ensures rule { rule_of result ≡ switch_rule (codes "trace") }
     ensures own { result.global ≡ false }
@@ -191,8 +180,7 @@ pub(crate) fn trace<'a>(alloc: Global) -> Arg<'a>
     switch(alloc, "trace").help("Show what each filter meets and returns too")
 }
 
-/// `--trace-true`: whether an evaluation shows the same as with `--trace`, but for failed tests and divisions by an X
-/// that isn't 0. It doesn't need `--trace`.
+/// `--trace-true`: as `--trace`, but without failed tests and divisions by an X that isn't 0.
 pub(crate) fn trace_true<'a>(alloc: Global) -> Arg<'a>
     ensures rule { rule_of result ≡ switch_rule (codes "trace-true") }
     ensures own { result.global ≡ false }
@@ -200,7 +188,6 @@ pub(crate) fn trace_true<'a>(alloc: Global) -> Arg<'a>
     switch(alloc, "trace-true").help("The same without the comparisons that are false")
 }
 
-/// `--explain-errors`: whether a fault is explained under its line.
 pub(crate) fn explain<'a>(alloc: Global) -> Arg<'a>
     ensures rule { rule_of result ≡ switch_rule (codes "explain-errors") }
     ensures own { result.global ≡ false }
@@ -210,7 +197,6 @@ pub(crate) fn explain<'a>(alloc: Global) -> Arg<'a>
     )
 }
 
-/// `--quiet`: whether warnings are left out.
 pub(crate) fn quiet<'a>(alloc: Global) -> Arg<'a>
     ensures rule { rule_of result ≡ switch_rule (codes "quiet") }
     ensures own { result.global ≡ false }
@@ -218,7 +204,7 @@ pub(crate) fn quiet<'a>(alloc: Global) -> Arg<'a>
     switch(alloc, "quiet").help("Leave out the warnings on standard error")
 }
 
-/// The paths of the filter files, at least one. They stand without an option, in order of installation.
+/// The paths of the filter files, at least one, in order of installation.
 pub(crate) fn filters<'a>(alloc: Global) -> Arg<'a>
     ensures rule { rule_of result ≡ filters_rule }
     ensures own { result.global ≡ false }
@@ -231,8 +217,8 @@ pub(crate) fn filters<'a>(alloc: Global) -> Arg<'a>
         .help("Filter files, in order of installation")
 }
 
-/// `--old` or `--new`, as `name` says: the paths of the filter files of one of two stacks, at least one. It must be
-/// given, and may be given more than once. `help` is what the help says of it.
+/// `--old` or `--new`, as `name` says: the paths of the filter files of one of two stacks. `help` is what the help says
+/// of it.
 pub(crate) fn files<'a>(alloc: Global, name: &'a str, help: &'a str) -> Arg<'a>
     ensures rule { rule_of result ≡ files_rule name.entry.now }
     ensures own { result.global ≡ false }
@@ -253,8 +239,6 @@ pub(crate) fn same_switch<'a>(alloc: Global) -> Arg<'a>
     switch(alloc, "same").help("Let the exit status tell of different, not of looser")
 }
 
-/// `--rows`: whether a comparison lists rows in which the answers differ. `--only` and `--calls` of `compare` need it,
-/// which is seen later.
 pub(crate) fn rows<'a>(alloc: Global) -> Arg<'a>
     ensures rule { rule_of result ≡ switch_rule (codes "rows") }
     ensures own { result.global ≡ false }
@@ -262,8 +246,7 @@ pub(crate) fn rows<'a>(alloc: Global) -> Arg<'a>
     switch(alloc, "rows").help("List the rows whose answers differ too")
 }
 
-/// `--names`: the path of a file of names of calls; it may be given more than once. It may also be left out: that it is
-/// given where `--call` or `--calls` needs it is seen later.
+/// `--names`: the path of a file of names of calls; it may be given more than once.
 pub(crate) fn names<'a>(alloc: Global) -> Arg<'a>
     ensures rule { rule_of result ≡ repeated_rule (codes "names") }
     ensures own { result.global ≡ false }
@@ -273,9 +256,7 @@ pub(crate) fn names<'a>(alloc: Global) -> Arg<'a>
         .help("A file of names of calls, such as policies/names.toml; once for each file")
 }
 
-/// `--calls`: whether rows are shown call by call, and of which calls. Where no names follow it, its text is empty, and
-/// all calls of `--names` are meant. It needs `--names`, and in `compare` also `--rows`. This, and whether the names
-/// are right, is seen later.
+/// `--calls`: whether rows are shown call by call, and of which calls: all, where no names follow it.
 pub(crate) fn calls<'a>(alloc: Global) -> Arg<'a>
     ensures rule { rule_of result ≡ choice_rule (codes "calls") }
     ensures own { result.global ≡ false }
@@ -286,8 +267,7 @@ pub(crate) fn calls<'a>(alloc: Global) -> Arg<'a>
         .help("A line for each row of each call of --names, or of these calls only")
 }
 
-/// `--only`: the relation whose rows are listed; where it isn't given, all rows with a difference are. Whether its word
-/// is that of a relation is seen later, and also that `--rows`, which it needs, is given.
+/// `--only`: the relation whose rows are listed.
 pub(crate) fn only<'a>(alloc: Global) -> Arg<'a>
     ensures rule { rule_of result ≡ option_rule (codes "only") }
     ensures own { result.global ≡ false }
@@ -297,7 +277,6 @@ pub(crate) fn only<'a>(alloc: Global) -> Arg<'a>
     )
 }
 
-/// `--why`: whether an audit shows for each example why the stack answers it as it does.
 pub(crate) fn why<'a>(alloc: Global) -> Arg<'a>
     ensures rule { rule_of result ≡ switch_rule (codes "why") }
     ensures own { result.global ≡ false }
@@ -307,7 +286,6 @@ pub(crate) fn why<'a>(alloc: Global) -> Arg<'a>
     )
 }
 
-/// `--instructions`: whether a check lists the instructions of each filter.
 pub(crate) fn instructions<'a>(alloc: Global) -> Arg<'a>
     ensures rule { rule_of result ≡ switch_rule (codes "instructions") }
     ensures own { result.global ≡ false }
@@ -315,8 +293,7 @@ pub(crate) fn instructions<'a>(alloc: Global) -> Arg<'a>
     switch(alloc, "instructions").help("List the instructions of each filter too")
 }
 
-/// `--machine`: the machine for which a profile is read; it must be given. Whether its word is that of a machine is
-/// seen later.
+/// `--machine`: the machine for which a profile is read; it must be given.
 pub(crate) fn machine<'a>(alloc: Global) -> Arg<'a>
     ensures rule { rule_of result ≡ needed_rule (codes "machine") }
     ensures own { result.global ≡ false }
@@ -326,8 +303,7 @@ pub(crate) fn machine<'a>(alloc: Global) -> Arg<'a>
         .help("The machine: x86_64, i386, aarch64 or arm")
 }
 
-/// `--cap`: a capability that the container has; it may be left out, or given more than once. Whether its word is that
-/// of a capability is seen later.
+/// `--cap`: a capability that the container has; it may be given more than once.
 pub(crate) fn cap<'a>(alloc: Global) -> Arg<'a>
     ensures rule { rule_of result ≡ repeated_rule (codes "cap") }
     ensures own { result.global ≡ false }
@@ -337,8 +313,7 @@ pub(crate) fn cap<'a>(alloc: Global) -> Arg<'a>
     )
 }
 
-/// `--kernel`: the version of the kernel for which a profile is read. It may be left out: then no version is known.
-/// Whether its word is a version is seen later.
+/// `--kernel`: the version of the kernel for which a profile is read.
 pub(crate) fn kernel<'a>(alloc: Global) -> Arg<'a>
     ensures rule { rule_of result ≡ option_rule (codes "kernel") }
     ensures own { result.global ≡ false }
@@ -346,8 +321,7 @@ pub(crate) fn kernel<'a>(alloc: Global) -> Arg<'a>
     option(alloc, "kernel", "X.Y").help("The version of the kernel, such as 6.12")
 }
 
-/// `--conflicts`: which rule of a profile counts where several speak of one call; `strictest` where it isn't given.
-/// Whether its word is one of the three is seen later.
+/// `--conflicts`: which rule of a profile counts where several speak of one call.
 pub(crate) fn conflicts<'a>(alloc: Global) -> Arg<'a>
     ensures rule { rule_of result ≡ word_rule (codes "conflicts") (codes "strictest") }
     ensures own { result.global ≡ false }
@@ -357,9 +331,7 @@ pub(crate) fn conflicts<'a>(alloc: Global) -> Arg<'a>
         .help("Which rule counts where several speak of one call: strictest, mildest or first")
 }
 
-/// `--newer`: whether calls that are newer than all that the rules that apply name fail with ENOSYS. It changes nothing
-/// where the profile's default lets calls through or leaves them to a tracer. A call is newer where its number is above
-/// all of theirs.
+/// `--newer`: whether calls whose number is above all that the rules name fail with ENOSYS.
 pub(crate) fn newer<'a>(alloc: Global) -> Arg<'a>
     ensures rule { rule_of result ≡ switch_rule (codes "newer") }
     ensures own { result.global ≡ false }
@@ -369,7 +341,7 @@ pub(crate) fn newer<'a>(alloc: Global) -> Arg<'a>
     )
 }
 
-/// `--skip-unknown`: whether names of a profile that no set of calls has are passed over, where it would be refused.
+/// `--skip-unknown`: whether names of a profile that no set of calls has are passed over.
 pub(crate) fn skip_unknown<'a>(alloc: Global) -> Arg<'a>
     ensures rule { rule_of result ≡ switch_rule (codes "skip-unknown") }
     ensures own { result.global ≡ false }
@@ -377,7 +349,6 @@ pub(crate) fn skip_unknown<'a>(alloc: Global) -> Arg<'a>
     switch(alloc, "skip-unknown").help("Pass over names that no set of calls has")
 }
 
-/// `--notes`: whether notes on the profile are written, and no filter.
 pub(crate) fn notes<'a>(alloc: Global) -> Arg<'a>
     ensures rule { rule_of result ≡ switch_rule (codes "notes") }
     ensures own { result.global ≡ false }
@@ -385,7 +356,6 @@ pub(crate) fn notes<'a>(alloc: Global) -> Arg<'a>
     switch(alloc, "notes").help("Write what the profile has, and not its filter")
 }
 
-/// The path of the file of a profile; it must be given.
 pub(crate) fn profile_file<'a>(alloc: Global) -> Arg<'a>
     ensures rule { rule_of result ≡ file_rule (codes "profile") }
     ensures own { result.global ≡ false }

@@ -1,4 +1,6 @@
 //! The command line: its form, by `clap`, and what is read of the words that fit it.
+//!
+//! Functions that take an allocator fail where memory runs out.
 #![tactic(auto)]
 
 mod arguments;

@@ -5,26 +5,23 @@ ghost use Rattle.sf_command_line.specs.Options.{IsOptionNumber, IsSwitch, text_o
 
 use clap::ArgMatches;
 
-/// The text of the option or other argument with this name, given without `--`; the first one where there are several.
-/// Where it isn't given, this is its usual value, or the empty text if it has none. It is empty too where the
-/// subcommand has no such argument. The text of a switch is `true` or `false`.
+/// The text of an argument with this name, given without `--`; the first one where there are several. Where it isn't
+/// given, this is its usual value, or the empty text. The text of a switch is `true` or `false`.
 pub fn text_of<'a>(found: &ArgMatches<'a>, name: &str) -> &'a str
     ensures { result.now ≡ text_of name.now (rows_of (found_of found.now)) }
 {
     found.get_str(name).unwrap_or("")
 }
 
-/// The text of the option or other argument with this name, given without `--`; the first one where there are several.
-/// Where it isn't given, this is its usual value, or `None` if it has none. It is `None` too where the subcommand has
-/// no such argument. `--calls` without names behind it has the empty text.
+/// The text of an argument with this name, given without `--`; the first one where there are several. Where it isn't
+/// given, this is its usual value, if it has one. `--calls` without names behind it has the empty text.
 pub fn given_text<'a>(found: &ArgMatches<'a>, name: &str) -> Option<&'a str>
     ensures { option_map (λ t. t.now) result ≡ first_of name.now (rows_of (found_of found.now)) }
 {
     found.get_str(name)
 }
 
-/// The most works that an exploration may commit, by `--budget`; 100,000 where it isn't given. The form of the command
-/// line lets only 1 to 1,000,000 through.
+/// The most works that an exploration may commit, 1 to 1,000,000.
 pub fn budget_of(found: &ArgMatches<'_>) -> u32
     ensures { IsOptionNumber (one_of (codes "budget") (rows_of (found_of found.now)))
         1000000 100000 result }
@@ -32,16 +29,14 @@ pub fn budget_of(found: &ArgMatches<'_>) -> u32
     found.get_one::<u32>("budget").unwrap_or(100_000)
 }
 
-/// The number of workers, by `--workers`; 4 where it isn't given. The form of the command line lets only 1 to 64
-/// through, but that isn't proved of this result, so `workers_of` looks once more.
+/// The number of workers. That it is 1 to 64 isn't proved of this result, so `workers_of` looks once more.
 fn asked_workers(found: &ArgMatches<'_>) -> u8
     ensures { IsOptionNumber (one_of (codes "workers") (rows_of (found_of found.now))) 64 4 result }
 {
     found.get_one::<u8>("workers").unwrap_or(4)
 }
 
-/// The number of workers, by `--workers`, 1 to 64; 4 where it isn't given. Another number would become 4, but the form
-/// of the command line lets none through.
+/// The number of workers, 1 to 64.
 pub fn workers_of(found: &ArgMatches<'_>) -> u8
     ensures number { IsOptionNumber (one_of (codes "workers")
         (rows_of (found_of found.now))) 64 4 result }
@@ -51,96 +46,92 @@ pub fn workers_of(found: &ArgMatches<'_>) -> u8
     if 0 < asked && asked <= 64 { asked } else { 4 }
 }
 
-/// Whether the switch with this name is given; false too where the subcommand has no such switch. A switch is an option
-/// without a value; the name is given without `--`.
+/// Whether the switch with this name, given without `--`, is on.
 fn is_on(found: &ArgMatches<'_>, name: &str) -> bool
     ensures { IsSwitch (one_of name.now (rows_of (found_of found.now))) result }
 {
     found.get_flag(name)
 }
 
-/// Whether `--regions` is given: the report of an audit then lists the settled regions too.
+/// Whether the report of an audit also lists the settled regions.
 pub fn wants_regions(found: &ArgMatches<'_>) -> bool
     ensures { IsSwitch (one_of (codes "regions") (rows_of (found_of found.now))) result }
 {
     is_on(found, "regions")
 }
 
-/// Whether `--trace` is given: an evaluation then also shows the input, and what each filter meets and returns.
+/// Whether an evaluation also shows the input, and what each filter meets and returns.
 pub fn wants_trace(found: &ArgMatches<'_>) -> bool
     ensures { IsSwitch (one_of (codes "trace") (rows_of (found_of found.now))) result }
 {
     is_on(found, "trace")
 }
 
-/// Whether `--trace-true` is given: an evaluation then shows the same as with `--trace`, but for failed tests and
-/// divisions by an X that isn't 0.
+/// Whether a trace leaves out failed tests and divisions by an X that isn't 0.
 pub fn wants_brief_trace(found: &ArgMatches<'_>) -> bool
     ensures { IsSwitch (one_of (codes "trace-true") (rows_of (found_of found.now))) result }
 {
     is_on(found, "trace-true")
 }
 
-/// Whether `--same` is given: the exit status of a comparison then tells whether answers differ at all, and not whether
-/// the new stack is looser.
+/// Whether the exit status of a comparison tells whether answers differ at all, and not whether the new stack is
+/// looser.
 pub fn wants_same(found: &ArgMatches<'_>) -> bool
     ensures { IsSwitch (one_of (codes "same") (rows_of (found_of found.now))) result }
 {
     is_on(found, "same")
 }
 
-/// Whether `--rows` is given: a comparison then lists rows in which the answers differ.
+/// Whether a comparison lists rows in which the answers differ.
 pub fn wants_rows(found: &ArgMatches<'_>) -> bool
     ensures { IsSwitch (one_of (codes "rows") (rows_of (found_of found.now))) result }
 {
     is_on(found, "rows")
 }
 
-/// Whether `--explain-errors` is given: a fault is then explained under its line.
+/// Whether a fault is explained under its line.
 pub fn wants_explanation(found: &ArgMatches<'_>) -> bool
     ensures { IsSwitch (one_of (codes "explain-errors") (rows_of (found_of found.now))) result }
 {
     is_on(found, "explain-errors")
 }
 
-/// Whether `--instructions` is given: a check then lists the instructions of each filter too.
+/// Whether a check lists the instructions of each filter too.
 pub fn wants_instructions(found: &ArgMatches<'_>) -> bool
     ensures { IsSwitch (one_of (codes "instructions") (rows_of (found_of found.now))) result }
 {
     is_on(found, "instructions")
 }
 
-/// Whether `--newer` is given: calls newer than all that the rules that apply name, with numbers above all of theirs,
-/// then fail with ENOSYS, unless the profile's default lets calls through or leaves them to a tracer.
+/// Whether calls whose number is above all that the rules name fail with ENOSYS.
 pub fn wants_newer(found: &ArgMatches<'_>) -> bool
     ensures { IsSwitch (one_of (codes "newer") (rows_of (found_of found.now))) result }
 {
     is_on(found, "newer")
 }
 
-/// Whether `--skip-unknown` is given: names of the profile that no set of calls has are then passed over.
+/// Whether names of the profile that no set of calls has are passed over.
 pub fn skips_unknown(found: &ArgMatches<'_>) -> bool
     ensures { IsSwitch (one_of (codes "skip-unknown") (rows_of (found_of found.now))) result }
 {
     is_on(found, "skip-unknown")
 }
 
-/// Whether `--notes` is given: notes on the profile are then written, and no filter.
+/// Whether notes on the profile are written, and no filter.
 pub fn wants_notes(found: &ArgMatches<'_>) -> bool
     ensures { IsSwitch (one_of (codes "notes") (rows_of (found_of found.now))) result }
 {
     is_on(found, "notes")
 }
 
-/// Whether `--quiet` is given: warnings are then left out. False too where the subcommand has no `--quiet`.
+/// Whether warnings are left out.
 pub fn wants_quiet(found: &ArgMatches<'_>) -> bool
     ensures { IsSwitch (one_of (codes "quiet") (rows_of (found_of found.now))) result }
 {
     is_on(found, "quiet")
 }
 
-/// The most nodes that decision diagrams may have, by `--nodes`; 1,000,000 where it isn't given. The form of the
-/// command line lets only 1 to 16,000,000 through.
+/// The most nodes that decision diagrams may have, 1 to 16,000,000.
 pub fn nodes_of(found: &ArgMatches<'_>) -> u32
     ensures { IsOptionNumber (one_of (codes "nodes") (rows_of (found_of found.now)))
         16000000 1000000 result }
@@ -148,28 +139,28 @@ pub fn nodes_of(found: &ArgMatches<'_>) -> u32
     found.get_one::<u32>("nodes").unwrap_or(1_000_000)
 }
 
-/// Whether `--digest` is given: a digest of all rows of a list is then written in place of these.
+/// Whether a digest of all rows of a list is written in place of these.
 pub fn wants_digest(found: &ArgMatches<'_>) -> bool
     ensures { IsSwitch (one_of (codes "digest") (rows_of (found_of found.now))) result }
 {
     is_on(found, "digest")
 }
 
-/// Whether `--why` is given: an audit then shows for each example why the stack answers it as it does.
+/// Whether an audit shows for each example why the stack answers it as it does.
 pub fn wants_why(found: &ArgMatches<'_>) -> bool
     ensures { IsSwitch (one_of (codes "why") (rows_of (found_of found.now))) result }
 {
     is_on(found, "why")
 }
 
-/// Whether `--progress` is given: it is then shown how far an exploration is.
+/// Whether it is shown how far an exploration is.
 pub fn wants_progress(found: &ArgMatches<'_>) -> bool
     ensures { IsSwitch (one_of (codes "progress") (rows_of (found_of found.now))) result }
 {
     is_on(found, "progress")
 }
 
-/// Whether `--json` is given: one JSON document is then written in place of the text.
+/// Whether one JSON document is written in place of the text.
 pub fn wants_json(found: &ArgMatches<'_>) -> bool
     ensures { IsSwitch (one_of (codes "json") (rows_of (found_of found.now))) result }
 {

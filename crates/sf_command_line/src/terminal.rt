@@ -5,7 +5,6 @@ ghost use Rattle.sf_command_line.specs.Terminal.{is_hidden, numbered, shown, vis
 
 use std::alloc::{AllocError, Global};
 
-/// Whether a number is one of those from `low` to `high`.
 fn is_within(low: u32, high: u32, number: u32) -> bool
     ensures { result ≡ (nat_le low number && nat_le number high) }
 {
@@ -30,7 +29,7 @@ fn is_hidden(character: char) -> bool
         || is_within(0xE0000, 0xE007F, number)
 }
 
-/// Adds each byte as its number, such as `\x1b`. An error where an allocation is refused; some may be added then.
+/// Adds each byte as its number, such as `\x1b`.
 fn push_numbered(text: &mut String, bytes: &[u8]) -> Result<(), AllocError>
     ensures { OnOk result (string_bytes text.new
         ≡ string_bytes text.old ++ flat_map numbered bytes.now) }
@@ -42,8 +41,6 @@ fn push_numbered(text: &mut String, bytes: &[u8]) -> Result<(), AllocError>
     Ok(())
 }
 
-/// Adds a character, or the numbers of its bytes if it is hidden. An error where an allocation is refused; a part may
-/// be added then.
 fn push_shown(text: &mut String, character: char) -> Result<(), AllocError>
     ensures { OnOk result (string_bytes text.new ≡ string_bytes text.old ++ shown character) }
 {

@@ -12,10 +12,6 @@ use crate::arguments::{
 use clap::Command;
 use std::alloc::{AllocError, Global};
 
-/// The version of the program, as `--version` shows it.
-const VERSION: &str = "2.0.0";
-
-/// What stands at the end of the program's `--help`.
 const AFTER_HELP: &str = "Exit status:
   0  every question is never; compare: looser is never; needed: each filter is; list, check, eval, profile,
      help: done
@@ -44,7 +40,6 @@ The path - is standard input, for one file. `seccomp_audit help COMMAND` is `sec
 
 docs/GUIDE.md says how to get filters, how to ask questions and how to read the answers.";
 
-/// The subcommand `audit` and what it takes. An error where an allocation is refused.
 fn audit<'a>(alloc: Global) -> Result<Command<'a>, AllocError>
     ensures { IfOk result (λ c. app_of c ≡ audit_line) }
 {
@@ -65,7 +60,6 @@ fn audit<'a>(alloc: Global) -> Result<Command<'a>, AllocError>
         .arg(filters(alloc))
 }
 
-/// The subcommand `check` and what it takes. An error where an allocation is refused.
 fn check<'a>(alloc: Global) -> Result<Command<'a>, AllocError>
     ensures { IfOk result (λ c. app_of c ≡ check_line) }
 {
@@ -78,7 +72,6 @@ fn check<'a>(alloc: Global) -> Result<Command<'a>, AllocError>
         .arg(filters(alloc))
 }
 
-/// The subcommand `eval` and what it takes. An error where an allocation is refused.
 fn eval<'a>(alloc: Global) -> Result<Command<'a>, AllocError>
     ensures { IfOk result (λ c. app_of c ≡ eval_line) }
 {
@@ -97,7 +90,6 @@ fn eval<'a>(alloc: Global) -> Result<Command<'a>, AllocError>
         .arg(filters(alloc))
 }
 
-/// The subcommand `compare` and what it takes. An error where an allocation is refused.
 fn compare<'a>(alloc: Global) -> Result<Command<'a>, AllocError>
     ensures { IfOk result (λ c. app_of c ≡ compare_line) }
 {
@@ -120,7 +112,6 @@ fn compare<'a>(alloc: Global) -> Result<Command<'a>, AllocError>
         .arg(explain(alloc))
 }
 
-/// The subcommand `list` and what it takes. An error where an allocation is refused.
 fn list<'a>(alloc: Global) -> Result<Command<'a>, AllocError>
     ensures { IfOk result (λ c. app_of c ≡ list_line) }
 {
@@ -136,7 +127,6 @@ fn list<'a>(alloc: Global) -> Result<Command<'a>, AllocError>
         .arg(filters(alloc))
 }
 
-/// The subcommand `needed` and what it takes. An error where an allocation is refused.
 fn needed<'a>(alloc: Global) -> Result<Command<'a>, AllocError>
     ensures { IfOk result (λ c. app_of c ≡ needed_line) }
 {
@@ -149,7 +139,6 @@ fn needed<'a>(alloc: Global) -> Result<Command<'a>, AllocError>
         .arg(filters(alloc))
 }
 
-/// The subcommand `profile` and what it takes. An error where an allocation is refused.
 fn profile<'a>(alloc: Global) -> Result<Command<'a>, AllocError>
     ensures { IfOk result (λ c. app_of c ≡ profile_line) }
 {
@@ -168,9 +157,8 @@ fn profile<'a>(alloc: Global) -> Result<Command<'a>, AllocError>
         .arg(profile_file(alloc))
 }
 
-/// The program without its subcommands. The words that are matched by it begin behind the program's name, and must name
-/// a subcommand, unless they ask for `--help` or `--version`. It has no subcommand `help`: `meant_words` of
-/// `sf_command` makes `--help` of that word first. An error where an allocation is refused.
+/// The program without its subcommands, of which one must be named. It has no `help`: `meant_words` of `sf_command`
+/// makes `--help` of that word first. The text of the version is that of its caller.
 fn program<'a>(alloc: Global) -> Result<Command<'a>, AllocError>
     ensures { IfOk result (λ c. app_of c ≡ program_line) }
 {
@@ -182,13 +170,12 @@ fn program<'a>(alloc: Global) -> Result<Command<'a>, AllocError>
         named
             .no_binary_name(true)
             .subcommand_required(true)
-            .version(VERSION)
+            .version("")
             .disable_help_subcommand(true),
     )
 }
 
-/// The form of the command line: the program, its subcommands and what each takes. An error where an allocation is
-/// refused.
+/// The form of the command line: the program, its subcommands and what each takes.
 pub fn command_form<'a>(alloc: Global) -> Result<Command<'a>, AllocError>
     ensures { IfOk result (λ c. app_of c ≡ command_line) }
 {
