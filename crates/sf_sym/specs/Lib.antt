@@ -3,4 +3,3 @@ pub mod Index
 pub mod ValueLaws
 pub mod SizeLaws
 pub mod Operands
-pub mod MaskLaws

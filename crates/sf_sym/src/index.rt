@@ -1,4 +1,4 @@
-//! The nodes of a pool, with an index by which an equal node is found without going through all of them.
+//! The nodes of a pool, with an index by which an equal node is found fast.
 
 ghost use Rattle.std.specs.Prelude.{◌≡◌, ◌≢◌, ℕ, ◌<◌, ◌*◌, ◌/◌, ◌-◌, ◌^◌, List, [], ◌∷◌, ◌++◌, length, ◌↔◌, OnOk, OnErr, IfOk, IsTrue, false, MatchBool, MatchOption};
 ghost use Rattle.std.specs.Arc.{arc_value};
@@ -11,20 +11,18 @@ use std::alloc::{AllocError, Global};
 use std::marker::Model;
 use std::sync::Arc;
 
-/// How many buckets the index has. A hash is the number of a bucket.
 const BUCKETS: usize = 127;
 
 /// A node, and where to look next for a node of its hash.
 #[derive(Clone, Copy)]
 pub struct Interned {
-    /// The node.
     pub node: Node,
     /// One more than the place of the newest older node of the same hash, or 0 where there is none.
     pub link: u32,
 }
 
 impl Default for Interned {
-    /// The constant 0 without a link. `SharedList` asks for a default of its elements.
+    /// `SharedList` asks for a default of its elements.
     fn default() -> Self {
         Interned {
             node: Node::Const(0),
@@ -36,8 +34,7 @@ impl Default for Interned {
 /// The nodes of a pool with their links, oldest first.
 pub type InternedNodes = SharedList<Interned, 1>;
 
-/// The hash of a node, which is the number of its bucket: equal nodes have the same one. The numbers 31, 7 and 5 only
-/// spread the nodes over the buckets.
+/// The number of the node's bucket. The factors only spread the nodes over the buckets.
 fn hash(node: Node) -> usize
     ensures value { result ≡ hash_of node }
     ensures within { result < 127 }
@@ -50,7 +47,6 @@ fn hash(node: Node) -> usize
     }
 }
 
-/// Whether two nodes are equal.
 fn is_same(a: Node, b: Node) -> bool
     ensures same { IsTrue result → a ≡ b }
     ensures differ { result ≡ false → a ≢ b }
@@ -58,9 +54,7 @@ fn is_same(a: Node, b: Node) -> bool
     a == b
 }
 
-/// The place of the newest node that is equal to `node`; `None` where no node is. Only the nodes in the bucket of
-/// `node` are compared with it, the newest first. The caller's condition: `heads` and the links are right for the
-/// nodes, as `Indexed` keeps them.
+/// The place of the newest node that is equal to `node`. Only the nodes in its bucket are compared, the newest first.
 fn place_of(interned_nodes: &InternedNodes, heads: &[u32], node: Node) -> Option<usize>
     requires indexed { IsIndexed interned_nodes.now heads.now }
     ensures found { (i : ℕ) → result ≡ Some i → (i < length (nodes_of interned_nodes.now))
@@ -69,7 +63,6 @@ fn place_of(interned_nodes: &InternedNodes, heads: &[u32], node: Node) -> Option
         → node_at (nodes_of interned_nodes.now) i ≢ node }
 {
     let mut next = heads[hash(node)] as usize;
-    // `next` is one more than the place to look at, as heads and links are.
     while next > 0 {
         let interned = interned_nodes.get(next - 1);
         if is_same(interned.node, node) {
@@ -80,9 +73,7 @@ fn place_of(interned_nodes: &InternedNodes, heads: &[u32], node: Node) -> Option
     None
 }
 
-/// Adds a node at the end, and makes it the newest of its bucket. `AllocError` where an allocation is refused, where
-/// there are 2^31 + 16 nodes already, or where blocks of nodes have too many owners; nothing changes then. The caller's
-/// condition: `heads` and the links are right for the nodes so far, as `Indexed` keeps them.
+/// Adds a node at the end, and makes it the newest of its bucket.
 fn add(interned_nodes: &mut InternedNodes, heads: &mut [u32], node: Node) -> Result<(), AllocError>
     requires indexed { IsIndexed interned_nodes.old heads.old }
     ensures indexed { IsIndexed interned_nodes.new heads.new }
@@ -93,16 +84,13 @@ fn add(interned_nodes: &mut InternedNodes, heads: &mut [u32], node: Node) -> Res
     let hash = hash(node);
     let link = heads[hash];
     interned_nodes.push(Interned { node, link })?;
-    // This is one more than the place of the new node.
     heads[hash] = interned_nodes.len() as u32;
     Ok(())
 }
 
-/// Nodes, oldest first, and where the newest one of each bucket is. Pools share them until one of the pools gets
-/// another node.
+/// Nodes, oldest first, which pools share until one of them gets another node.
 #[derive(Drop)]
 pub struct Indexed {
-    // The nodes, each with its link.
     interned_nodes: InternedNodes,
     // For each bucket, one more than the place of its newest node, or 0 where it has none.
     heads: Vec<u32>,
@@ -122,7 +110,7 @@ impl Model for Indexed {
 }
 
 impl Indexed {
-    /// An `Indexed` without nodes. `AllocError` where an allocation is refused.
+    /// An `Indexed` without nodes.
     pub fn new(alloc: Global) -> Result<Indexed, AllocError>
         ensures { IfOk result (λ n. n ≡ []) }
     {
@@ -140,7 +128,7 @@ impl Indexed {
         self.interned_nodes.len()
     }
 
-    /// The node at place `i`. The caller's condition: there is one.
+    /// The node at place `i`.
     pub fn node(&self, i: usize) -> Node
         requires { i < length self.now }
         ensures { result ≡ node_at self.now i }
@@ -148,7 +136,7 @@ impl Indexed {
         self.interned_nodes.get(i).node
     }
 
-    /// The place of the newest node that is equal to `node`; `None` where no node is.
+    /// The place of the newest node that is equal to `node`.
     pub fn find(&self, node: Node) -> Option<usize>
         ensures found { (i : ℕ) → result ≡ Some i → (i < length self.now)
             × (node_at self.now i ≡ node) }
@@ -158,9 +146,7 @@ impl Indexed {
         place_of(&self.interned_nodes, self.heads.as_slice(), node)
     }
 
-    /// Adds a node at the end, even if an equal one is there, and gives its place. `AllocError` where an allocation is
-    /// refused, where there are 2^31 + 16 nodes already, or where blocks of nodes have too many owners; nothing is
-    /// added then.
+    /// Adds a node at the end, even if an equal one is there, and gives its place.
     pub fn add(&mut self, node: Node) -> Result<usize, AllocError>
         ensures place { IfOk result (λ at. at ≡ length self.old) }
         ensures ok { OnOk result (self.new ≡ self.old ++ node ∷ []) }
@@ -171,9 +157,7 @@ impl Indexed {
         Ok(at)
     }
 
-    /// A copy with one more node at the end, even if an equal one is there, and the place of this node. `AllocError`
-    /// where an allocation is refused, where there are 2^31 + 16 nodes already, or where blocks of nodes have too many
-    /// owners.
+    /// A copy with one more node, even if an equal one is there, and the place of this node.
     pub fn with(&self, node: Node) -> Result<(Arc<Indexed>, usize), AllocError>
         ensures { IfOk result (λ r. (arc_value r.0 ≡ self.now ++ node ∷ [])
             × (r.1 ≡ length self.now)) }
@@ -188,9 +172,7 @@ impl Indexed {
     }
 }
 
-/// Adds a node at the end, even if an equal one is there, and gives its place. Where other pools share the nodes,
-/// `nodes` becomes a copy with the new node, and theirs stay as they are. `AllocError` where an allocation is refused,
-/// where there are 2^31 + 16 nodes already, or where blocks of nodes have too many owners; nothing is added then.
+/// Adds a node as `add` does. Where other pools share the nodes, theirs stay as they are.
 pub fn add_to(nodes: &mut Arc<Indexed>, node: Node) -> Result<usize, AllocError>
     ensures place { IfOk result (λ at. at ≡ length (arc_value nodes.old)) }
     ensures ok { OnOk result (arc_value nodes.new ≡ arc_value nodes.old ++ node ∷ []) }

@@ -1,5 +1,3 @@
-//! Words of the input under masks.
-
 ghost use Rattle.std.specs.Prelude.{◌≡◌, ℕ, ◌<◌, length, slice_index, bit_and, IfSome, IfNone, Some, None};
 ghost use Rattle.sf_insn.specs.declared.input.Input.{Input};
 ghost use Rattle.sf_insn.specs.Inputs.{IsInput};
@@ -14,15 +12,11 @@ use sf_insn::BinOp;
 /// A word of the input under a mask. The whole word has the mask 0xffffffff.
 #[derive(Clone, Copy, Debug, PartialEq, Eq)]
 pub struct MaskedWord {
-    /// The word, 0 to 15.
     pub word: usize,
-    /// The bits of it that count.
     pub mask: u32,
 }
 
-/// A node as a word of the input under a mask, where it is a word of the input, or comes of one by ANDs with constants.
-/// The mask is the AND of these constants, 0xffffffff where there are none. On each input the node's value is the AND
-/// of the word and the mask. `None` for any other node. The caller's condition: the node is in the pool.
+/// A node as a word of the input under a mask: the word itself, or what ANDs with constants make of it.
 pub fn masked_word(pool: &Pool, id: NodeId) -> Option<MaskedWord>
     requires { id.0 < length pool.now }
     ensures inside { IfSome result (λ m. m.word < 16) }

@@ -1,5 +1,3 @@
-//! Operations on a node and a constant.
-
 ghost use Rattle.std.specs.Prelude.{◌≡◌, ◌<◌, length, IfSome};
 ghost use Rattle.sf_insn.specs.Inputs.{IsInput};
 ghost use Rattle.sf_insn.specs.Words.{apply};
@@ -10,10 +8,8 @@ ghost use Rattle.sf_sym.specs.Operands.{IsSwappable, constant_operand_of};
 use crate::pool::{Node, Pool, constant_of};
 use sf_insn::BinOp;
 
-/// The operation of the node at `at`, the place of its operand that is no constant, and the constant that is its other
-/// operand. `None` where the node is no operation on two nodes, or where both of these or neither are constants. The
-/// result doesn't say which operand comes first: for AND, OR and XOR that doesn't matter, and callers rely on it for no
-/// other operation. The caller's condition: `at` is a place of the pool.
+/// The operation of the node at `at`, the place of its operand that is no constant, and its other operand, a constant.
+/// Which operand comes first isn't told: callers rely on the result for AND, OR and XOR alone.
 pub fn constant_operand(pool: &Pool, at: usize) -> Option<(BinOp, usize, u32)>
     requires { at < length pool.now }
     ensures operand { result ≡ constant_operand_of pool.now (node_at pool.now at) }
