@@ -106,9 +106,8 @@ module _ (f : FactsView) (ns : List Node) (cond : Cond) (h : AreResting f.known 
       let left : Admits a x = narrower-admits a (known_at new cond.node.0) x
       (IsNarrower-trans a c.pair.node (known_at new cond.node.0) n.1 (left-known new ex c)) now.admitted in
       let own = (before cond.node.0 lv).admitted in
-      let exact : (n : Node) → node_at ns cond.node.0 ≡ n → IsWordOrConst n → ¬ Has (excluded_of ex n) x
-      → TestGives cond.test x w.low cond.sense = λ n e k kept. by_node n e k kept left own dw number.0 in
-      passes-met ns d cond (rw (value, ← number.0) (exact (node_at ns cond.node.0) refl plain.node now.kept))
+      passes-met ns d cond (rw (value, ← number.0)
+      (by_node (node_at ns cond.node.0) refl plain.node now.kept left own dw number.0))
     where
       by_node : (n : Node) → node_at ns cond.node.0 ≡ n → IsWordOrConst n
           → ¬ Has (excluded_of ex n) (value_of ns d cond.node.0)

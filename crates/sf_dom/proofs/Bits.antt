@@ -191,5 +191,3 @@ same_quotient a b k h =
 
 pub div_mono : (a b k : ℕ) → a ≤ b → a / 2 ^ k ≤ b / 2 ^ k
 div_mono a b k h = le-div (a / 2 ^ k) b (2 ^ k) (pow_pos k) (omega (arith, div-mul-le_self a (2 ^ k)))
-
--- no bit is known to be both 0 and 1

@@ -20,13 +20,10 @@ use Rattle.sf_dom.specs.SoundRules.{AreCarried, started, learnt, grown}
 use Rattle.sf_dom.proofs.ConstantOperands.{is-operand}
 use Rattle.sf_dom.proofs.ConditionSteps.{condition-lawful}
 use Rattle.sf_dom.proofs.Monotone.{forward-narrower}
-use Rattle.sf_dom.proofs.OneResult.{reduction-one, pair-one, same-sets}
+use Rattle.sf_dom.proofs.OneResult.{reduction-one, pair-one, same-sets, some-same}
 use Rattle.sf_dom.proofs.Passes.{reduction-as, operands-below, met-right, met-below, same-up_to}
 use Rattle.sf_dom.proofs.Propagations.{same-taken}
 use Rattle.sf_dom.proofs.Reductions.{IsNarrower-trans}
-
-some-same : {A : Type 0} {x y : A} → Some x ≡ Some y → x ≡ y
-some-same e = cc
 
 -- ---- a pool and a longer one
 

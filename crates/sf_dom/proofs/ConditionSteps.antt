@@ -1,31 +1,94 @@
 -- To take a condition into what is known is a lawful step, and so is to take in more of a node.
-use Rattle.std.proofs.Common.{◌≡◌, ℕ, ◌<◌, ◌^◌, List, length, set, arith, refl}
-use Rattle.std.proofs.lemmas.List.{get_or-set_same, set-get_or}
+use Rattle.std.proofs.Common.{◌≡◌, ℕ, ◌<◌, ◌^◌, List, length, set, arith, refl, sym, inl, inr, ◌≢◌}
+use Rattle.std.proofs.lemmas.List.{get_or-set_same, set-get_or, get_or-set_other, length-set}
 use Rattle.std.proofs.lemmas.Nat.{or_lt}
 use Rattle.std.specs.Prelude.{Option, Some, None, MatchOption, IfSome, Bool, true, false, MatchBool}
+use Rattle.std.proofs.lemmas.Bool.{cases_eq}
 use Rattle.sf_insn.specs.Inputs.{IsInput}
 use Rattle.sf_insn.specs.declared.input.Input.{Input}
 use Rattle.sf_sym.specs.Pool.{IsPool, IsCondBelow, value_of}
-use Rattle.sf_sym.specs.ValueLaws.{met-passes}
+use Rattle.sf_sym.specs.ValueLaws.{met-passes, word-place}
 use Rattle.sf_sym.specs.declared.pool.Cond.{Cond}
 use Rattle.sf_sym.specs.declared.pool.Node.{Node}
 use Rattle.sf_dom.specs.declared.known.Known.{Known}
 use Rattle.sf_dom.specs.declared.guards.Pair.{Pair}
 use Rattle.sf_dom.specs.Known.{Admits, IsNarrower, known_of}
 use Rattle.sf_dom.specs.Facts.{known_at, AgreesWith}
-use Rattle.sf_dom.specs.Propagation.{IsNarrowed, AllNarrower, Meets}
+use Rattle.sf_dom.specs.Propagation.{IsNarrowed, AllNarrower, Meets, AreClosedWords}
 use Rattle.sf_dom.specs.Backward.{IsPropagatedBack}
 use Rattle.sf_dom.specs.Rules.{met, IsClosedAt, IsReduction, ReductionGives, Then}
 use Rattle.sf_dom.specs.Passes.{PassGives, IsAtRest, AreClosed}
 use Rattle.sf_dom.specs.GoingBack.{WritingGives, GoingBackGives}
-use Rattle.sf_dom.specs.Learning.{assumed_of, PairGives, with_pair, ConditionGives, MoreGives}
+use Rattle.sf_dom.specs.Learning.{assumed_of, PairGives, with_pair, ConditionGives, MoreGives, Excludes, AreExcludedBy}
 use Rattle.sf_dom.proofs.BackLaws.{back-lawful, back-still}
-use Rattle.sf_dom.proofs.Lawful.{IsLawful, AnyInput, narrowed-set, narrowed-more, narrowed-trans, agrees-set, kept-at, met-admits, closed-zeros, reduction-holds, value-fits, writing-lawful, then-lawful}
+use Rattle.sf_dom.proofs.Lawful.{IsLawful, AnyInput, narrowed-left, narrowed-more, narrowed-trans, agrees-set, kept-at, met-admits, closed-zeros, reduction-holds, value-fits, writing-lawful, then-lawful}
 use Rattle.sf_dom.proofs.PassLaws.{pass-lawful, pass-rest}
-use Rattle.sf_dom.proofs.Passes.{met-left, met-right, rest-pass}
+use Rattle.sf_dom.proofs.Passes.{met-left, met-right, rest-pass, closed-kept, met-below}
 use Rattle.sf_dom.proofs.Reductions.{IsNarrower-trans}
 use Rattle.sf_dom.proofs.TestLaws.{test-admits, test-zeros}
 use Rattle.sf_dom.proofs.Then.{then-some, then-if}
+
+-- ---- what is left of the two nodes of a condition
+
+-- reduction gives the same where the same is narrower
+same-left : (o : Option Known) (ex : List ℕ) (i : ℕ) (a b : Known)
+    → ((s : Known) → IsNarrower a s → IsNarrower b s) → ((s : Known) → IsNarrower b s → IsNarrower a s)
+    → ReductionGives ex i a o → ReductionGives ex i b o
+same-left None ex i a b to from h = λ s is n. h s is (from s n)
+same-left (Some r) ex i a b to from h = record {
+  is = h.is;
+  narrower = to r h.narrower;
+  widest = λ s t n. h.widest s t (from s n);
+}
+
+-- What is told of the second node, met with what was known of it at first, leaves what its test does, met with what is
+-- known of it once the first is written.
+module _ (ks : List Known) (cond : Cond) (node told more : Known) (l : cond.node.0 < length ks)
+    (n : IsNarrower (known_at ks cond.node.0) node) (apart : cond.node.0 ≢ cond.other.0 → told ≡ more)
+    (one : cond.node.0 ≡ cond.other.0 → told ≡ met more node) where
+  told-to : (s : Known) → IsNarrower (met (known_at ks cond.other.0) told) s
+      → IsNarrower (met (known_at (set ks cond.node.0 node) cond.other.0) more) s
+  told-to s h =
+      let none : Known = known_of 0 0 0 0 in
+      let old : Known = known_at ks cond.other.0 in
+      let a : IsNarrower old s = IsNarrower-trans old (met old told) s (met-left old told) h in
+      let b : IsNarrower told s = IsNarrower-trans told (met old told) s (met-right old told) h in
+      elim (cases_eq cond.other.0 cond.node.0) [
+        | inl e ↦
+            let both : IsNarrower (met more node) s = rw (one (sym e)) at b in
+            rw (e, get_or-set_same ks cond.node.0 node none l)
+            (met-below node more s (IsNarrower-trans node (met more node) s (met-right more node) both)
+            (IsNarrower-trans more (met more node) s (met-left more node) both))
+        | inr ne ↦ rw (get_or-set_other ks cond.node.0 cond.other.0 node none ne)
+            (met-below old more s a (rw (apart (λ e. ne (sym e))) at b))
+      ]
+
+  told-from : (s : Known) → IsNarrower (met (known_at (set ks cond.node.0 node) cond.other.0) more) s
+      → IsNarrower (met (known_at ks cond.other.0) told) s
+  told-from s h =
+      let none : Known = known_of 0 0 0 0 in
+      let now : Known = known_at (set ks cond.node.0 node) cond.other.0 in
+      let a : IsNarrower now s = IsNarrower-trans now (met now more) s (met-left now more) h in
+      let b : IsNarrower more s = IsNarrower-trans more (met now more) s (met-right now more) h in
+      elim (cases_eq cond.other.0 cond.node.0) [
+        | inl e ↦
+            let c : IsNarrower node s = rw (e, get_or-set_same ks cond.node.0 node none l) at a in
+            met-below _ told s (rw e (IsNarrower-trans (known_at ks cond.node.0) node s n c))
+            (rw (one (sym e)) (met-below more node s b c))
+        | inr ne ↦ met-below _ told s
+            (rw (get_or-set_other ks cond.node.0 cond.other.0 node none ne) at a)
+            (rw (apart (λ e. ne (sym e))) b)
+      ]
+
+pub told-left : (o : Option Known) (ks : List Known) (ex : List ℕ) (cond : Cond) (node told more : Known)
+    → cond.node.0 < length ks → IsNarrower (known_at ks cond.node.0) node
+    → (cond.node.0 ≢ cond.other.0 → told ≡ more) → (cond.node.0 ≡ cond.other.0 → told ≡ met more node)
+    → ReductionGives ex cond.other.0 (met (known_at ks cond.other.0) told) o
+    → ReductionGives ex cond.other.0 (met (known_at (set ks cond.node.0 node) cond.other.0) more) o
+told-left o ks ex cond node told more l n apart one h =
+    same-left o ex cond.other.0 (met (known_at ks cond.other.0) told)
+    (met (known_at (set ks cond.node.0 node) cond.other.0) more) (told-to ks cond node told more l n apart one)
+    (told-from ks cond node told more l n apart one) h
 
 -- what is left of the two nodes of a condition
 pub record AreLeft (ks : List Known) (ex : List ℕ) (cond : Cond) (pair : Pair) : Type 0 where
@@ -42,24 +105,19 @@ pair-left ks ex cond =
     (λ other k r e. rw e (record { node = h; other = k })))
 
 -- once both are written, what is known is closed, and nothing is lost
-pub pair-narrowed : (ks : List Known) (ex : List ℕ) (ns : List Node) (cond : Cond) (pair : Pair)
-    → AreClosed ks ns → IsCondBelow (length ns) cond → AreLeft ks ex cond pair
-    → IsNarrowed ks (with_pair ks cond pair) ex ns
-pair-narrowed ks ex ns cond pair h below left =
-    let v : Known = known_at ks cond.node.0 in
-    let a = assumed_of ks cond in
-    let first = narrowed-set ks ex ns cond.node.0 pair.node h below.0 left.node.is
-    (IsNarrower-trans v (met v a.node) pair.node (met-left v a.node) left.node.narrower) in
-    let w : Known = known_at (set ks cond.node.0 pair.node) cond.other.0 in
-    narrowed-trans ks (set ks cond.node.0 pair.node) (with_pair ks cond pair) ex ns h first
-    (narrowed-set (set ks cond.node.0 pair.node) ex ns cond.other.0 pair.other first.closed below.1 left.other.is
-    (IsNarrower-trans w (met w a.other) pair.other (met-left w a.other) left.other.narrower))
-
-pair-narrowed-if : (ks : List Known) (ex : List ℕ) (ns : List Node) (cond : Cond) → AreClosed ks ns
+pub pair-narrowed : (ks : List Known) (ex : List ℕ) (ns : List Node) (cond : Cond) → AreClosed ks ns
     → IsCondBelow (length ns) cond → (pair : Pair) → PairGives ks ex cond (Some pair)
     → IsNarrowed ks (with_pair ks cond pair) ex ns
-pair-narrowed-if ks ex ns cond h below pair g =
-    pair-narrowed ks ex ns cond pair h below (pair-left ks ex cond (Some pair) g)
+pair-narrowed ks ex ns cond h below pair g =
+    let left = pair-left ks ex cond (Some pair) g in
+    let a = assumed_of ks cond in
+    let mid : List Known = set ks cond.node.0 pair.node in
+    let v : Known = known_at ks cond.node.0 in
+    let w : Known = known_at mid cond.other.0 in
+    let first = narrowed-left ks ex ns cond.node.0 (met v a.node) pair.node h below.0 (met-left v a.node) left.node in
+    narrowed-trans ks mid (with_pair ks cond pair) ex ns h first
+    (narrowed-left mid ex ns cond.other.0 (met w a.other) pair.other first.closed below.1 (met-left w a.other)
+    left.other)
 
 -- known bits that go back from both nodes lose nothing
 pub both-back : (ks one two : List Known) (ex : List ℕ) (ns : List Node) (cond : Cond) → IsPool ns
@@ -96,8 +154,7 @@ pair-sound ks ex ns cond p h below d i m a =
     (λ b. kept-at ks ex ns d cond.node.0 p lv a b) (met-admits v (assumed_of ks cond).node x hx t.0) g)
     (λ node g k.
     let ks' : List Known = set ks cond.node.0 node in
-    let h' = (narrowed-set ks ex ns cond.node.0 node h iv g.is
-    (IsNarrower-trans v first node (met-left v (assumed_of ks cond).node) g.narrower)).closed in
+    let h' = (narrowed-left ks ex ns cond.node.0 first node h iv (met-left v (assumed_of ks cond).node) g).closed in
     let count' = h'.count in
     let lw : cond.other.0 < length ks' = omega arith in
     let a' = agrees-set ks ex ns d cond.node.0 node lv a k in
@@ -131,7 +188,7 @@ condition-lawful ks ex ns cond p h below =
     let rest : Pair → Option (List Known) → Type 0
     = λ pair. Then (GoingBackGives (with_pair ks cond pair) ex ns cond.node.0) (λ one.
     Then (GoingBackGives one ex ns cond.other.0) (λ two s. PassGives two ex ns s)) in
-    let narrowed = pair-narrowed-if ks ex ns cond h below in
+    let narrowed = pair-narrowed ks ex ns cond h below in
     let lawful : (pair : Pair) → PairGives ks ex cond (Some pair) → IsLawful AnyInput (with_pair ks cond pair) ex ns
     (rest pair) = λ pair g. after-pair (with_pair ks cond pair) ex ns cond p (narrowed pair g).closed below in
     record {
@@ -164,7 +221,7 @@ pub condition-from : (ks : List Known) (ex : List ℕ) (ns : List Node) (cond : 
 condition-from ks ex ns cond p h below =
     then-if (PairGives ks ex cond) _ (λ new. ComesFrom ks new ex cond) (λ pair g r f.
     comes r pair g ((after-pair (with_pair ks cond pair) ex ns cond p
-    (pair-narrowed-if ks ex ns cond h below pair g).closed below).narrowed r f))
+    (pair-narrowed ks ex ns cond h below pair g).closed below).narrowed r f))
   where
     comes : (r : Option (List Known)) (pair : Pair) → PairGives ks ex cond (Some pair)
         → IfSome r (λ new. IsNarrowed (with_pair ks cond pair) new ex ns) → IfSome r (λ new. ComesFrom ks new ex cond)
@@ -245,7 +302,7 @@ more-known ks ex ns i more p h l =
     then-if (WritingGives ks ex i (met own more)) _ (λ new. IsNarrower more (known_at new i)) (λ next g r f.
     let written = then-if (ReductionGives ex i (met own more)) (λ left r. r ≡ Some (set ks i left))
     (λ next. IsNarrowed ks next ex ns × IsNarrower more (known_at next i)) (λ left k r e. rw e (
-      narrowed-set ks ex ns i left h l k.is (IsNarrower-trans own (met own more) left (met-left own more) k.narrower),
+      narrowed-left ks ex ns i (met own more) left h l (met-left own more) k,
       rw (get_or-set_same ks i left (known_of 0 0 0 0) here) (IsNarrower-trans more (met own more) left
           (met-right own more) k.narrower),
     )) (Some next) g in
@@ -257,3 +314,37 @@ more-known ks ex ns i more p h l =
     on (Some new) next w n =
         let all = w.0.closed.count in
         IsNarrower-trans more (known_at next i) (known_at new i) w.1 (n.narrower i (omega arith))
+
+-- ---- nothing more follows for any word once what a condition leaves of its two nodes is written
+
+-- nothing more follows for a word for which no number is excluded newly
+closed-still : (ks : List Known) (ex more : List ℕ) (ns : List Node) (cond : Cond) (w : ℕ) → w < 16
+    → AreExcludedBy ks ex more ns cond → ((m : ℕ) → ¬ Excludes ks ns cond w m) → IsClosedAt ex w (known_at ks w)
+    → IsClosedAt more w (known_at ks w)
+closed-still ks ex more ns cond w l both none k =
+    closed-kept ex more w (known_at ks w)
+    (λ b m e h z. elim (both.only w m z) [ inl old ↦ h old | inr new ↦ none m new ]) k
+
+-- Where a condition excludes a number for a word, this is one of its nodes, and is reduced with the new numbers.
+pub words-written : (ks : List Known) (ex more : List ℕ) (ns : List Node) (cond : Cond) (pair : Pair)
+    → IsPool ns → length ks ≡ length ns → IsCondBelow (length ns) cond → AreClosedWords ks ex
+    → AreExcludedBy ks ex more ns cond → AreLeft ks more cond pair → AreClosedWords (with_pair ks cond pair) more
+words-written ks ex more ns cond pair p count below closed both left w l =
+    let none : Known = known_of 0 0 0 0 in
+    let first : List Known = set ks cond.node.0 pair.node in
+    let v = below.0 in
+    let u = below.1 in
+    let here : cond.node.0 < length ks = omega arith in
+    let there : cond.other.0 < length first = omega (arith, length-set ks cond.node.0 pair.node) in
+    elim (cases_eq w cond.other.0) [
+      | inl e ↦ rw (e, get_or-set_same first cond.other.0 pair.other none there) left.other.is
+      | inr other ↦ rw (get_or-set_other first cond.other.0 w pair.other none other) (elim (cases_eq w cond.node.0) [
+        | inl e ↦ rw (e, get_or-set_same ks cond.node.0 pair.node none here) left.node.is
+        | inr node ↦ rw (get_or-set_other ks cond.node.0 w pair.node none node)
+            (closed-still ks ex more ns cond w l both
+            (λ m x. elim x.2 [
+              | inl y ↦ node (sym (word-place ns p cond.node.0 w v y.0))
+              | inr y ↦ other (sym (word-place ns p cond.other.0 w u y.0))
+            ]) (closed w l))
+      ])
+    ]

@@ -1,34 +1,63 @@
 -- What facts promise of the inputs that agree, where they take in an interval or known bits of a word.
-use Rattle.std.proofs.Common.{◌≡◌, ℕ, ◌<◌, ◌-◌, ◌^◌, List, arith}
+use Rattle.std.proofs.Common.{◌≡◌, ℕ, ◌<◌, ◌-◌, ◌^◌, List, arith, ◌≤◌, ◌+◌, min, sym, ap, ◌∙◌, inl, inr}
 use Rattle.std.proofs.lemmas.Nat.{and_le_l, and_le_r}
-use Rattle.std.proofs.lemmas.Nat.Bits.{bit_at-lt, bit_at-zero}
+use Rattle.std.proofs.lemmas.Nat.Bits.{bit_at-lt, bit_at_and, bit_at_not, bit_at_above, same_from_bits}
 use Rattle.std.specs.Prelude.{bit_and}
+use Rattle.std.proofs.lemmas.Bool.{cases_lt}
+use Rattle.std.specs.Int.{bit_at, w32}
 use Rattle.sf_sym.specs.declared.pool.Node.{Node}
-use Rattle.sf_dom.specs.Known.{Admits}
+use Rattle.sf_dom.specs.Known.{Admits, HasBits, known_of}
 use Rattle.sf_dom.specs.Facts.{FactsView, Covers, NoInput, HasIn, LiesIn, HasMasked, ConfinesWord}
 use Rattle.sf_dom.specs.Learning.{TakesInBy, CantTakeInBy}
 use Rattle.sf_dom.specs.Rules.{between, masked}
+use Rattle.sf_dom.proofs.RuleLaws.{between-admits}
 use Rattle.sf_dom.proofs.Assumed.{confines, cant-confine, confines-as, no-input-as}
-use Rattle.sf_dom.proofs.Masks.{masked-admits, admits-masked}
 
--- an interval admits what lies in it
-lies-admitted : (low high n : ℕ) → LiesIn low high n → Admits (between low high) n
-lies-admitted low high n h = record {
-  above = h.0;
-  below = h.1;
-  bits = record { zero = λ i. omega (arith, bit_at-zero i, bit_at-lt n i); one = λ i. omega (arith, bit_at-zero i) };
+-- a number that has, on the bits of a mask, those of a value
+pub masked-admits : (n mask value : ℕ) → n < 2 ^ 32 → mask < 2 ^ 32 → value < 2 ^ 32 → bit_and n mask ≡ value
+    → Admits (known_of 0 4294967295 (bit_and mask (4294967295 - value)) value) n
+masked-admits n mask value fn fm fv e = record {
+  above = omega arith;
+  below = omega arith;
+  bits = record {
+    zero = λ i. elim (cases_lt i 32) [
+      | inl l ↦ zero _ _ _ _ _ (bit_at_and mask (4294967295 - value) i) (bit_at_not w32 value i fv l) (is i)
+          (bit_at-lt n i) (bit_at-lt mask i)
+      | inr g ↦ omega (arith, bit_at_and mask (4294967295 - value) i, bit_at_above mask 32 i fm g, bit_at-lt n i)
+    ];
+    one = λ i. omega (arith, is i);
+  };
 }
+  where
+    is : (i : ℕ) → bit_at value i ≡ min (bit_at n i) (bit_at mask i)
+    is i = ap (λ m. bit_at m i) (sym e) ∙ bit_at_and n mask i
+
+    zero : (n m v k z : ℕ) → z ≡ min m k → k ≡ 1 - v → v ≡ min n m → n < 2 → m < 2 → z + n ≤ 1
+    zero n m v k z ez ek ev ln lm = omega arith
+
+pub admits-masked : (n mask value : ℕ) → mask < 2 ^ 32 → value < 2 ^ 32 → n < 2 ^ 32 → bit_and value mask ≡ value
+    → HasBits n (bit_and mask (4294967295 - value)) value → bit_and n mask ≡ value
+admits-masked n mask value fm fv fn inside h = same_from_bits (bit_and n mask) value (λ i. elim (cases_lt i 32) [
+  | inl l ↦ bit_at_and n mask i ∙ same _ _ _ _ _ (bit_at_and mask (4294967295 - value) i) (bit_at_not w32 value i fv l)
+      (h.zero i) (h.one i) (ap (λ m. bit_at m i) (sym inside) ∙ bit_at_and value mask i) (bit_at-lt n i)
+      (bit_at-lt mask i) (bit_at-lt value i)
+  | inr g ↦ bit_at_and n mask i ∙ omega (arith, bit_at_above mask 32 i fm g, bit_at_above value 32 i fv g)
+])
+  where
+    same : (n m v k z : ℕ) → z ≡ min m k → k ≡ 1 - v → z + n ≤ 1 → v ≤ n → v ≡ min v m → n < 2 → m < 2
+        → v < 2 → min n m ≡ v
+    same n m v k z ez ek hz ho ei ln lm lv = omega arith
 
 pub confines-range : (f new : FactsView) (ns : List Node) (w low high : ℕ) → Covers f ns → w < 16 → Covers new ns
     → TakesInBy f new ns w (between low high) → ConfinesWord f new ns w (LiesIn low high)
 confines-range f new ns w low high h l covers x =
-    confines-as f ns w (Admits (between low high)) (LiesIn low high) (λ n s k. lies-admitted low high n k) new
+    confines-as f ns w (Admits (between low high)) (LiesIn low high) (λ n s k. between-admits low high n k.0 k.1) new
     (λ n s k. (k.above, k.below)) (confines f ns w (between low high) h l (omega arith) new covers x)
 
 pub cant-confine-range : (f : FactsView) (ns : List Node) (w low high : ℕ) → Covers f ns → w < 16
     → CantTakeInBy f ns w (between low high) → NoInput f ns (HasIn w (LiesIn low high))
 cant-confine-range f ns w low high h l x =
-    no-input-as f ns w (Admits (between low high)) (LiesIn low high) (λ n s k. lies-admitted low high n k)
+    no-input-as f ns w (Admits (between low high)) (LiesIn low high) (λ n s k. between-admits low high n k.0 k.1)
     (cant-confine f ns w (between low high) h l (omega arith) x)
 
 -- a value under a mask

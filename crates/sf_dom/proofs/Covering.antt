@@ -33,11 +33,7 @@ unfolding forward_known
 number-forced Add x y k fx fy =
     let a : Known = known_of x x (4294967295 - x) x in
     let b : Known = known_of y y (4294967295 - y) y in
-    let sure : (x + y < 4294967296) ⊎ (4294967296 ≤ x + y) = elim (cases_lt (x + y) 4294967296) [
-      | inl l ↦ inl l
-      | inr l ↦ inr l
-    ] in
-    rw (← add-sure a b (omega arith) (omega arith) fx fy sure) (inl (omega arith))
+    rw (← add-sure a b (omega arith) (omega arith) fx fy (cases_lt (x + y) 4294967296)) (inl (omega arith))
 number-forced Sub x y k fx fy =
     let a : Known = known_of x x (4294967295 - x) x in
     let b : Known = known_of y y (4294967295 - y) y in

@@ -15,7 +15,7 @@ use Rattle.sf_dom.specs.Known.{Has, Admits, IsDecided}
 use Rattle.sf_dom.specs.Facts.{known_at, numbers_at, excluded_of, AgreesWith}
 use Rattle.sf_dom.specs.Learning.{Excludes, AreExcludedBy}
 use Rattle.sf_dom.specs.Propagation.{AddsNumber, AreExcluded, Meets}
-use Rattle.sf_dom.proofs.GuardLemmas.{gives-differs}
+use Rattle.sf_dom.proofs.TestLaws.{gives-differs}
 
 -- one more number in the set of a word
 pub added-at : (ex : List ℕ) (w xs number : ℕ) → w < length ex

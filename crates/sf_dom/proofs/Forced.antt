@@ -4,29 +4,37 @@ use Rattle.std.proofs.lemmas.Bool.{cases_eq}
 use Rattle.std.proofs.lemmas.Bool.Decides.{nat_tests}
 use Rattle.std.proofs.lemmas.List.{set-get_or}
 use Rattle.std.specs.Prelude.{Some, None, bit_or}
+use Rattle.std.proofs.lemmas.Nat.{or_lt}
 use Rattle.sf_insn.specs.declared.ops.Test.{Test}
 use Rattle.sf_insn.specs.declared.ops.Test.TheVariants.{Equal, Greater, GreaterOrEqual, AnyBit}
-use Rattle.sf_sym.specs.Pool.{IsPool, IsCondBelow, node_at}
+use Rattle.sf_sym.specs.Pool.{IsPool, IsCondBelow, node_at, value_of}
 use Rattle.sf_sym.specs.ValueLaws.{word-place}
 use Rattle.sf_sym.specs.declared.pool.Cond.{Cond}
 use Rattle.sf_sym.specs.declared.pool.Node.{Node}
 use Rattle.sf_sym.specs.declared.pool.Node.TheVariants.{Const, Word, Bin, Neg}
 use Rattle.sf_dom.specs.declared.known.Known.{Known}
 use Rattle.sf_dom.specs.Known.{IsNarrower, IsDecided, known_of}
-use Rattle.sf_dom.specs.Facts.{FactsView, known_at, numbers_at}
+use Rattle.sf_dom.specs.Facts.{FactsView, known_at, numbers_at, Agrees, Covers}
 use Rattle.sf_dom.specs.declared.guards.Pair.{Pair}
 use Rattle.sf_dom.specs.Learning.{Excludes, AreExcludedBy, assumed_of, PairGives, LearnsBy, CantLearn}
 use Rattle.sf_dom.specs.Passes.{IsAtRest}
-use Rattle.sf_dom.specs.Propagation.{AreExcluded}
-use Rattle.sf_dom.specs.Rules.{assumed, number_known, past, IsClosed, IsClosedAt}
+use Rattle.sf_dom.specs.Propagation.{AreExcluded, TestGives}
+use Rattle.sf_dom.specs.Rules.{assumed, number_known, past, IsClosed, IsClosedAt, met}
 use Rattle.sf_dom.specs.SoundRules.{IsForcedCondition}
 use Rattle.sf_dom.proofs.ClosedLemmas.{closed-number}
 use Rattle.sf_dom.proofs.ConditionSteps.{condition-nothing}
 use Rattle.sf_dom.proofs.AscendingLemmas.{one-more}
 use Rattle.sf_dom.proofs.Excluding.{added-at, excluded-word, both-excluded}
-use Rattle.sf_dom.proofs.Passes.{operands-below, still-reduction}
+use Rattle.sf_dom.proofs.Passes.{operands-below, closed-kept, still-reduction}
 use Rattle.sf_dom.proofs.Propagations.{word-below}
-use Rattle.sf_dom.proofs.TestLaws.{at-decided}
+use Rattle.sf_dom.proofs.TestLaws.{at-decided, test-admits, test-zeros}
+use Rattle.sf_insn.specs.Inputs.{IsInput}
+use Rattle.sf_insn.specs.Words.{passes}
+use Rattle.sf_insn.specs.declared.input.Input.{Input}
+use Rattle.sf_dom.specs.FactsLaws.{constant-admits}
+use Rattle.sf_dom.specs.Telling.{IsForcedBy}
+use Rattle.sf_dom.proofs.Covering.{covers-closed}
+use Rattle.sf_dom.proofs.Lawful.{closed-zeros, kept-at, met-admits, reduction-holds, value-fits}
 
 -- ---- the sets with the numbers that a condition excludes
 
@@ -145,25 +153,10 @@ module _ (f : FactsView) (ns : List Node) (c : Cond) (number : ℕ)
       let r = h.rest i l in
       let k : Known = known_at f.known i in
       record {
-        closed = record {
-          known = r.closed.known;
-          tight = λ b. record {
-            low = record {
-              admitted = (r.closed.tight b).low.admitted;
-              kept = λ z. elim (are.only i k.low z) [
-                | inl old ↦ (r.closed.tight b).low.kept old
-                | inr new ↦ end-stays i k.low b l (inl refl) new
-              ];
-            };
-            high = record {
-              admitted = (r.closed.tight b).high.admitted;
-              kept = λ z. elim (are.only i k.high z) [
-                | inl old ↦ (r.closed.tight b).high.kept old
-                | inr new ↦ end-stays i k.high b l (inr refl) new
-              ];
-            };
-          };
-        };
+        closed = closed-kept f.excluded lists i k (λ b m end kept z. elim (are.only i m z) [
+          | inl old ↦ kept old
+          | inr new ↦ end-stays i m b l end new
+        ]) r.closed;
         still = r.still;
       }
 
@@ -219,21 +212,42 @@ forced-cant f ns c number h =
         None,
         (
           None,
-          (λ s is n. none s (record {
-            known = is.known;
-            tight = λ b. record {
-              low = record {
-                admitted = (is.tight b).low.admitted;
-                kept = λ x. (is.tight b).low.kept (all.are.kept c.node.0 s.low x);
-              };
-              high = record {
-                admitted = (is.tight b).high.admitted;
-                kept = λ x. (is.tight b).high.kept (all.are.kept c.node.0 s.high x);
-              };
-            };
-          }) n),
+          (λ s is n. none s (closed-kept all.sets f.excluded c.node.0 s
+              (λ b m e kept x. kept (all.are.kept c.node.0 m x)) is) n),
           refl,
         ),
         refl,
       );
     }
+
+-- ---- a result that the rules force is the one that each input that agrees has
+
+-- it isn't the other one
+not-other : (b sense : Bool) → ¬ (b ≡ not sense) → b ≡ sense
+not-other true true h = refl
+not-other true false h = absurd (h refl)
+not-other false true h = absurd (h refl)
+not-other false false h = refl
+
+pub forced-holds : (f : FactsView) (ns : List Node) (i : ℕ) (test : Test) (number : ℕ) (sense : Bool) → Covers f ns
+    → i < length ns → number < 2 ^ 32 → IsForcedBy (IsClosedAt f.excluded i) (known_at f.known i) test number sense
+    → (d : Input) → IsInput d → Agrees f ns d → TestGives test (value_of ns d i) number sense
+unfolding Agrees
+forced-holds f ns i test number sense h l fits forced d input a =
+    let count = h.count in
+    let here : i < length f.known = omega arith in
+    let own : Known = known_at f.known i in
+    let n : Known = number_known number in
+    let x : ℕ = value_of ns d i in
+    let closed = covers-closed f ns h in
+    let is = closed.each i l in
+    let one = closed-number number fits in
+    let admitted = (a i here).admitted in
+    let zeros = test-zeros test (not sense) own n is one in
+    not-other (passes test x number) sense (λ e.
+    let said = test-admits test (not sense) own n x number is one admitted (constant-admits number fits) e in
+    reduction-holds None f.excluded i x (met own (assumed test (not sense) own n).node)
+    (value-fits f.known f.excluded ns d i closed l a)
+    (or_lt 32 own.zeros (assumed test (not sense) own n).node.zeros (closed-zeros own is) zeros.0)
+    (λ b. kept-at f.known f.excluded ns d i h.pool here a b)
+    (met-admits own (assumed test (not sense) own n).node x admitted said.0) forced.other)

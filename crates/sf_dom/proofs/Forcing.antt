@@ -21,7 +21,7 @@ use Rattle.sf_dom.proofs.Bits.{no-zeros}
 use Rattle.sf_dom.specs.FactsLaws.{closed-consistent, none-has}
 use Rattle.sf_dom.proofs.CommonBits.{common-bits, common-open, and-zero}
 use Rattle.sf_dom.proofs.Lawful.{closed-zeros}
-use Rattle.sf_dom.proofs.Passes.{one-number}
+use Rattle.sf_dom.proofs.Passes.{met-below, one-number}
 use Rattle.sf_dom.proofs.Propagations.{word-below}
 use Rattle.sf_dom.proofs.Reductions.{IsNarrower-refl}
 use Rattle.sf_dom.proofs.TestLaws.{some-cases, small-place, at-decided}
@@ -38,20 +38,10 @@ number-one : (n : ℕ) → IsForcedBy IsClosed (number_known n) Equal n true
 unfolding assumed
 number-one n = record {
   other = λ s is m. let a = m.low in let b = m.high in let o = is.ordered in grind (arith, nat_tests);
-  this = record {
-    low = omega arith;
-    high = omega arith;
-    zeros = λ i.
-        omega (arith, bit_at_or (4294967295 - n) (4294967295 - n) i);
-    ones = λ i. omega (arith, bit_at_or n n i);
-  };
-  that = record {
-    low = omega arith;
-    high = omega arith;
-    zeros = λ i.
-        omega (arith, bit_at_or (4294967295 - n) (4294967295 - n) i);
-    ones = λ i. omega (arith, bit_at_or n n i);
-  };
+  this = met-below (number_known n) (number_known n) (number_known n) (IsNarrower-refl (number_known n))
+      (IsNarrower-refl (number_known n));
+  that = met-below (number_known n) (number_known n) (number_known n) (IsNarrower-refl (number_known n))
+      (IsNarrower-refl (number_known n));
 }
 
 pub equal-one : (k : Known) (n : ℕ) → IsClosed k → k.low ≡ n → k.high ≡ n → IsForcedBy IsClosed k Equal n true

@@ -28,10 +28,6 @@ known-length slots os = length-map slots (slot_known os)
 pub places-length : (os : List Variable) → length (places_of os) ≡ length os
 places-length os = length-map os (λ o. o.place)
 
-pub place-at : (os : List Variable) (r : ℕ) → r < length os → slice_index (places_of os) r
-    ≡ (get_or os r (variable_of 0 (known_of 0 0 0 0))).place
-place-at os r l = get_or-map (λ o. o.place) os r (variable_of 0 (known_of 0 0 0 0)) 0 l
-
 -- a variable's place is no less than its rank
 pub rank-below : (slots : List Slot) (os : List Variable) (r : ℕ) → AreKept slots os → r < length os
     → r ≤ slice_index (places_of os) r
@@ -129,7 +125,7 @@ known-set slots os r i x k l e =
 
 -- a variable is at its place
 pub place-of : (os : List Variable) (r : ℕ) → r < length os → (variable_at os r).place ≡ slice_index (places_of os) r
-place-of os r l = sym (place-at os r l)
+place-of os r l = sym (get_or-map (λ (o : Variable). o.place) os r (variable_of 0 (known_of 0 0 0 0)) 0 l)
 
 -- what is written of a variable is known at its place
 pub known-set_known : (slots : List Slot) (os : List Variable) (r : ℕ) (x : Known) → AreKept slots os → r < length os

@@ -11,7 +11,7 @@ use Rattle.sf_dom.specs.declared.known.Known.{Known}
 use Rattle.sf_dom.specs.Known.{Has, Admits, IsNarrower, known_of}
 use Rattle.sf_dom.specs.Facts.{known_at, numbers_at, AgreesWith}
 use Rattle.sf_dom.specs.Propagation.{IsNarrowed}
-use Rattle.sf_dom.specs.Rules.{met, IsClosed, IsClosedAt, ReductionGives, Then}
+use Rattle.sf_dom.specs.Rules.{met, IsClosed, IsClosedAt, IsReduction, ReductionGives, Then}
 use Rattle.sf_dom.specs.Passes.{AreClosed}
 use Rattle.sf_dom.specs.GoingBack.{WritingGives}
 use Rattle.sf_dom.proofs.Bits.{join-bits}
@@ -73,6 +73,12 @@ narrowed-set ks ex ns i next h l closed narrower =
       kept = λ words w b. closed-set ks ex i next here closed w (words w b);
     }
 
+-- and so it is where more is known of it, and reduced
+pub narrowed-left : (ks : List Known) (ex : List ℕ) (ns : List Node) (i : ℕ) (old next : Known) → AreClosed ks ns
+    → i < length ns → IsNarrower (known_at ks i) old → IsReduction ex i old next → IsNarrowed ks (set ks i next) ex ns
+narrowed-left ks ex ns i old next h l n r =
+    narrowed-set ks ex ns i next h l r.is (IsNarrower-trans (known_at ks i) old next n r.narrower)
+
 -- an input agrees still where a node is written that admits its value
 pub agrees-set : (ks : List Known) (ex : List ℕ) (ns : List Node) (d : Input) (i : ℕ) (next : Known)
     → i < length ks → AgreesWith ks ex ns d → Admits next (value_of ns d i) → AgreesWith (set ks i next) ex ns d
@@ -132,8 +138,7 @@ writing-lawful has ks ex ns i known p h l narrower fz admits =
     record {
       narrowed = then-if (ReductionGives ex i known) (λ left r. r ≡ Some (set ks i left))
           (λ next. IsNarrowed ks next ex ns)
-          (λ left g r e. rw e (narrowed-set ks ex ns i left h l g.is
-          (IsNarrower-trans (known_at ks i) known left narrower g.narrower)));
+          (λ left g r e. rw e (narrowed-left ks ex ns i known left h l narrower g));
       sound = λ d v m a.
           then-some (ReductionGives ex i known) (λ left r. r ≡ Some (set ks i left))
           (λ left. Admits left (value_of ns d i))

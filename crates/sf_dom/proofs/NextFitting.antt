@@ -1,13 +1,67 @@
 -- The next number that has the known bits. A known bit that is made 1 passes a carry on, as an open bit that is 1 does.
-use Rattle.std.proofs.Common.{◌≡◌, ℕ, zero, suc, ◌<◌, ◌≤◌, ◌+◌, ◌-◌, ◌*◌, ◌/◌, ◌%◌, arith, ap, ◌∙◌, inl, inr}
+use Rattle.std.proofs.Common.{◌≡◌, ℕ, zero, suc, ◌<◌, ◌≤◌, ◌+◌, ◌-◌, ◌*◌, ◌/◌, ◌%◌, arith, ap, ◌∙◌, inl, inr, min, sym}
 use Rattle.std.proofs.lemmas.Bool.{cases_lt}
 use Rattle.std.proofs.lemmas.Nat.{and_le_l, and_le_r, and_shr, or_shr, and_mod, or_mod, and_or_self, or_disjoint}
 use Rattle.std.specs.Int.Bits.{or_add_and}
 use Rattle.std.specs.Prelude.{bit_and, bit_or}
+use Rattle.std.specs.Int.{bit_at}
+use Rattle.std.proofs.lemmas.Nat.Bits.{bit_at_and, bit_at_lowest, bit_at-suc, bit_at-lt, bit_at-zero}
 use Rattle.sf_dom.specs.Known.{HasBits}
 use Rattle.sf_dom.specs.Reduction.{AreApart}
 use Rattle.sf_dom.proofs.Bits.{no-zeros, or-same}
-use Rattle.sf_dom.proofs.Halves.{HasBits-lowest, HasBits-half, HasBits-double, AreApart-half, AreApart-lowest}
+
+-- the known bits of a number are those of its lowest bit and of its half
+pub HasBits-lowest : (n z o : ℕ) → HasBits n z o → (z % 2 + n % 2 ≤ 1) × (o % 2 ≤ n % 2)
+HasBits-lowest n z o h = (
+  rw (bit_at_lowest z, bit_at_lowest n) at (h.zero 0),
+  rw (bit_at_lowest o, bit_at_lowest n) at (h.one 0),
+)
+
+pub HasBits-half : (n z o : ℕ) → HasBits n z o → HasBits (n / 2) (z / 2) (o / 2)
+HasBits-half n z o h = record {
+  zero = λ i. rw (bit_at-suc z i, bit_at-suc n i) at (h.zero (suc i));
+  one = λ i. rw (bit_at-suc o i, bit_at-suc n i) at (h.one (suc i));
+}
+
+pub AreApart-half : (z o : ℕ) → AreApart z o → AreApart (z / 2) (o / 2)
+AreApart-half z o h = λ i. rw (bit_at-suc z i, bit_at-suc o i) at (h (suc i))
+
+pub AreApart-lowest : (z o : ℕ) → AreApart z o → z % 2 + o % 2 ≤ 1
+AreApart-lowest z o h = rw (bit_at_lowest z, bit_at_lowest o) at (h 0)
+
+pub HasBits-from_half : (n z o : ℕ) → z % 2 + n % 2 ≤ 1 → o % 2 ≤ n % 2
+    → HasBits (n / 2) (z / 2) (o / 2) → HasBits n z o
+HasBits-from_half n z o a b h = record { zero = zeros; one = ones }
+  where
+    zeros : (i : ℕ) → bit_at z i + bit_at n i ≤ 1
+    zeros zero = rw (bit_at_lowest z, bit_at_lowest n) a
+    zeros (suc i) = rw (bit_at-suc z i, bit_at-suc n i) (h.zero i)
+
+    ones : (i : ℕ) → bit_at o i ≤ bit_at n i
+    ones zero = rw (bit_at_lowest o, bit_at_lowest n) b
+    ones (suc i) = rw (bit_at-suc o i, bit_at-suc n i) (h.one i)
+
+-- a number made of its half and its lowest bit
+pub HasBits-double : (m b z o : ℕ) → b < 2 → z % 2 + b ≤ 1 → o % 2 ≤ b → HasBits m (z / 2) (o / 2)
+    → HasBits (2 * m + b) z o
+HasBits-double m b z o l x y h =
+    let half : (2 * m + b) / 2 ≡ m = omega arith in
+    let low : (2 * m + b) % 2 ≡ b = omega arith in
+    HasBits-from_half (2 * m + b) z o (rw low x) (rw low y) (rw half h)
+
+-- a number that has no bit of the one mask, and all of the other
+pub HasBits-fits : (n z o : ℕ) → bit_and n z ≡ 0 → bit_and n o ≡ o → HasBits n z o
+HasBits-fits n z o ez eo = record {
+  zero = λ i. none _ _ (sym (bit_at_and n z i) ∙ ap (λ m. bit_at m i) ez ∙ bit_at-zero i) (bit_at-lt n i)
+      (bit_at-lt z i);
+  one = λ i. all _ _ (sym (bit_at_and n o i) ∙ ap (λ m. bit_at m i) eo);
+}
+  where
+    none : (x y : ℕ) → min x y ≡ 0 → x < 2 → y < 2 → y + x ≤ 1
+    none x y h l m = omega arith
+
+    all : (x y : ℕ) → min x y ≡ y → y ≤ x
+    all x y h = omega arith
 
 -- a number without some bits, and with others
 abbrev fitted : ℕ → ℕ → ℕ → ℕ

@@ -137,8 +137,8 @@ facts-same f g k v e =
     facts ks vs ex = record { known = ks; variables = vs; excluded = ex }
 
 -- what both give is one
-some-same : (x y : List Known) → Some x ≡ Some y → x ≡ y
-some-same x y e = cc
+pub some-same : {A : Type 0} {x y : A} → Some x ≡ Some y → x ≡ y
+some-same e = cc
 
 none-some : (x : List Known) → None ≡ Some x → ⊥
 none-some x e = let clash : None ≡ Some x = e in absurd cc
@@ -148,7 +148,7 @@ pub learns-one : (f g h : FactsView) (ns : List Node) (cond : Cond) → IsPool n
     → LearnsBy f h ns cond → g ≡ h
 learns-one f g h ns cond p a b =
     let ex = exclusions-one f.known f.excluded g.excluded h.excluded ns cond a.excluded b.excluded in
-    facts-same g h (some-same g.known h.known
+    facts-same g h (some-same
     (condition-one f.known h.excluded ns cond p (Some g.known) (Some h.known) (rw ex at a.known) b.known))
     (a.variables ∙ sym b.variables) ex
 
@@ -174,7 +174,7 @@ grows-none f g ns p a b = taken-none f.known g.known f.excluded ns p a.known b
 pub confines-one : (f g h : FactsView) (ns : List Node) (w : ℕ) (more : Known) → IsPool ns → TakesInBy f g ns w more
     → TakesInBy f h ns w more → g ≡ h
 confines-one f g h ns w more p a b =
-    facts-same g h (some-same g.known h.known
+    facts-same g h (some-same
     (more-one f.known f.excluded ns w more p (Some g.known) (Some h.known) a.known b.known))
     (a.variables ∙ sym b.variables) (a.excluded ∙ sym b.excluded)
 

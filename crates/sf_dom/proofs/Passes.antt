@@ -1,5 +1,5 @@
 -- What stays as it is in a forward pass, and what a pass leaves.
-use Rattle.std.proofs.Common.{◌≡◌, ℕ, true, ◌+◌, ◌-◌, ◌<◌, ◌≤◌, List, length, arith, refl, sym, ap, ◌∙◌, inl, inr, zero, suc}
+use Rattle.std.proofs.Common.{◌≡◌, ℕ, true, ◌+◌, ◌-◌, ◌<◌, ◌≤◌, List, length, arith, refl, sym, ap, ◌∙◌, ◌⊎◌, inl, inr, zero, suc}
 use Rattle.std.specs.Prelude.{Option, Some, None, MatchOption}
 use Rattle.std.proofs.lemmas.Bool.{and_parts, cases_lt, eqb-true}
 use Rattle.std.proofs.lemmas.List.{ext_get_or}
@@ -9,14 +9,15 @@ use Rattle.sf_sym.specs.declared.pool.Node.{Node}
 use Rattle.sf_sym.specs.declared.pool.Node.TheVariants.{Const, Word, Bin, Neg}
 use Rattle.sf_sym.specs.ValueLaws.{OperandsBelow-at}
 use Rattle.sf_dom.specs.declared.known.Known.{Known}
-use Rattle.sf_dom.specs.Known.{IsNarrower, IsConsistent, IsDecided, is_decided, known_of}
-use Rattle.sf_dom.specs.Reading.{known_at}
-use Rattle.sf_dom.specs.Rules.{met, forward_node, IsClosed, IsClosedAt, HasNoReduction, IsWidest, HasNone}
+use Rattle.sf_dom.specs.Known.{Has, IsNarrower, IsConsistent, IsDecided, is_decided, known_of}
+use Rattle.sf_dom.specs.Reading.{known_at, numbers_at}
+use Rattle.sf_dom.specs.FactsLaws.{closed-consistent}
+use Rattle.sf_dom.specs.Rules.{met, forward_node, IsClosed, IsClosedAt, IsReduction, HasNoReduction, IsWidest, HasNone}
 use Rattle.sf_dom.specs.Passes.{IsPassedAt, IsPass, IsAtRest, are_all_decided, IsFixedAt, AreFixed}
 use Rattle.sf_dom.proofs.Reductions.{IsNarrower-trans, IsNarrower-refl}
 use Rattle.sf_dom.proofs.Bits.{bits-of-or, bits-of-or_right}
 use Rattle.sf_dom.proofs.ClosedLemmas.{closed-number}
-use Rattle.sf_dom.proofs.RuleLaws.{one-reduction}
+use Rattle.sf_dom.proofs.RuleLaws.{four-same, one-reduction}
 
 -- what is met loses nothing of either
 pub met-left : (a b : Known) → IsNarrower a (met a b)
@@ -51,17 +52,26 @@ still-reduction kind k f h n = record {
   widest = λ s t m. IsNarrower-trans k (met k f) s (met-left k f) m;
 }
 
+-- nothing more follows for a node still, where its ends are left as before
+pub closed-kept : (a b : List ℕ) (i : ℕ) (k : Known)
+    → (i < 16 → (m : ℕ) → (m ≡ k.low) ⊎ (m ≡ k.high) → ¬ Has (numbers_at a i) m → ¬ Has (numbers_at b i) m)
+    → IsClosedAt a i k → IsClosedAt b i k
+closed-kept a b i k f h = record {
+  known = h.known;
+  tight = λ l. record {
+    low = record { admitted = (h.tight l).low.admitted; kept = f l k.low (inl refl) (h.tight l).low.kept };
+    high = record { admitted = (h.tight l).high.admitted; kept = f l k.high (inr refl) (h.tight l).high.kept };
+  };
+}
+
 -- operands are older
 pub operands-below : (ns : List Node) (i : ℕ) → IsPool ns → i < length ns → OperandsBelow i (node_at ns i)
 operands-below ns i p l = let e : 0 + i ≡ i = omega arith in rw e at (OperandsBelow-at 0 ns i p.ordered l)
 
 -- what has one number with all its bits is that number
 pub one-number : (k : Known) → IsConsistent k → IsDecided k → k ≡ known_of k.low k.low (4294967295 - k.low) k.low
-one-number k h e = made k.low k.high k.zeros k.ones k.low k.low (4294967295 - k.low) k.low refl (sym e) (h.zeros e)
-    (h.ones e)
-  where
-    made : (l h z o m i y p : ℕ) → l ≡ m → h ≡ i → z ≡ y → o ≡ p → known_of l h z o ≡ known_of m i y p
-    made l h z o m i y p a b c d = cc
+one-number k h e =
+    four-same k.low k.high k.zeros k.ones k.low k.low (4294967295 - k.low) k.low refl (sym e) (h.zeros e) (h.ones e)
 
 -- no more becomes known of what has one number
 pub number-stays : (a b : Known) → IsConsistent a → IsConsistent b → IsNarrower a b → IsDecided a → b ≡ a
@@ -69,6 +79,12 @@ number-stays a b h k n e =
     let nl = n.low in let nh = n.high in let o = k.ordered in
     let same : b.low ≡ a.low = omega arith in
     one-number b k (omega arith) ∙ ap (λ m. known_of m m (4294967295 - m) m) same ∙ sym (one-number a h e)
+
+-- nor does reduction add to it
+pub reduced-stays : (ex : List ℕ) (i : ℕ) (k old left : Known) → IsClosed k → IsNarrower k old
+    → IsReduction ex i old left → IsDecided k → left ≡ k
+reduced-stays ex i k old left h n r d = number-stays k left (closed-consistent k h)
+    (closed-consistent left r.is.known) (IsNarrower-trans k old left n r.narrower) d
 
 pub decided-closed : (k : Known) → IsConsistent k → IsDecided k → IsClosed k
 decided-closed k h e = rw (one-number k h e) (closed-number k.low (omega (arith, h.fits, e)))

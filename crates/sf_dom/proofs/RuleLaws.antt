@@ -13,12 +13,13 @@ use Rattle.sf_insn.specs.Words.{apply, negation_of}
 use Rattle.sf_dom.specs.declared.known.Known.{Known}
 use Rattle.sf_dom.specs.Known.{Has, Admits, Leaves, IsNarrower, known_of}
 use Rattle.sf_dom.specs.Reading.{numbers_at}
-use Rattle.sf_dom.specs.FactsLaws.{bit_at-complement}
+use Rattle.sf_dom.specs.FactsLaws.{bit_at-complement, constant-admits}
 use Rattle.sf_dom.specs.Rules.{between, full, forward_known, forward_negated, moved_left, IsClosed, IsClosedAt, IsClosedWord, IsWidest, HasNone}
 use Rattle.sf_dom.proofs.Bits.{bits-le}
 use Rattle.sf_dom.proofs.ForwardLemmas.{mul_mono, div_between, quotient, or-admits, and-admits, xor-admits, shl-fits as shl-fits-admits, shl-top, shr-admits}
 use Rattle.sf_dom.proofs.RuleLemmas.{add-sure, add-full, sub-sure, sub-full, mul-fits, mul-full, div-some, div-none, negate-some, negate-zero, negate-full, shl-fits, shl-full, shr-all, left-decided, left-full, right-decided, right-full}
 use Rattle.sf_dom.proofs.ClosedLemmas.{closed-number}
+use Rattle.sf_dom.proofs.Reductions.{IsNarrower-refl}
 
 pub between-admits : (low high n : ℕ) → low ≤ n → n ≤ high → Admits (between low high) n
 between-admits low high n a b = record {
@@ -162,11 +163,7 @@ reduction-none old n f fz w h = w _ (closed-number n f) (number-narrows old n f 
 
 number-tight : (xs : ℕ) (n : ℕ) → n < 2 ^ 32 → ¬ Has xs n → IsClosedWord xs (known_of n n (4294967295 - n) n)
 number-tight xs n f kept =
-    let own : Admits (known_of n n (4294967295 - n) n) n = record {
-      above = omega arith;
-      below = omega arith;
-      bits = record { zero = λ i. bit_at-complement n i f; one = λ i. omega arith };
-    } in
+    let own : Admits (known_of n n (4294967295 - n) n) n = constant-admits n f in
     record {
       known = closed-number n f;
       tight = record { low = record { admitted = own; kept = kept }; high = record { admitted = own; kept = kept } };
@@ -191,6 +188,10 @@ pub word-none-sound : (xs : ℕ) (old : Known) (n : ℕ) → n < 2 ^ 32 → old.
     → HasNone (IsClosedWord xs) old → ¬ Leaves old xs n
 word-none-sound xs old n f fz w h = w _ (number-tight xs n f h.kept) (number-narrows old n f fz h.admitted)
 
+-- what is known of a word is its four numbers
+pub four-same : (l h z o m i y p : ℕ) → l ≡ m → h ≡ i → z ≡ y → o ≡ p → known_of l h z o ≡ known_of m i y p
+four-same l h z o m i y p a b c d = cc
+
 -- there is one reduction at most
 pub same-known : (a b : Known) → IsNarrower a b → IsNarrower b a → a ≡ b
 same-known a b h k =
@@ -198,17 +199,11 @@ same-known a b h k =
     let e1 : a.high ≡ b.high = omega (arith, h.high, k.high) in
     let e2 : a.zeros ≡ b.zeros = omega (arith, bits-le a.zeros b.zeros h.zeros, bits-le b.zeros a.zeros k.zeros) in
     let e3 : a.ones ≡ b.ones = omega (arith, bits-le a.ones b.ones h.ones, bits-le b.ones a.ones k.ones) in
-    made a.low a.high a.zeros a.ones b.low b.high b.zeros b.ones e0 e1 e2 e3
-  where
-    made : (l h z o m i y p : ℕ) → l ≡ m → h ≡ i → z ≡ y → o ≡ p → known_of l h z o ≡ known_of m i y p
-    made l h z o m i y p a b c d = cc
+    four-same a.low a.high a.zeros a.ones b.low b.high b.zeros b.ones e0 e1 e2 e3
 
 pub one-reduction : (kind : Known → Type 0) (old a b : Known) → IsWidest kind old a → IsWidest kind old b → a ≡ b
 one-reduction kind old a b h k = same-known a b (h.widest b k.is k.narrower) (k.widest a h.is h.narrower)
 
 -- the reduction of what is reduced is itself
 pub again : (kind : Known → Type 0) (k : Known) → kind k → IsWidest kind k k
-again kind k h = record { is = h; narrower = narrower-refl k; widest = λ s t n. n }
-  where
-    narrower-refl : (k : Known) → IsNarrower k k
-    narrower-refl k = grind (arith, common_steps)
+again kind k h = record { is = h; narrower = IsNarrower-refl k; widest = λ s t n. n }

@@ -8,6 +8,7 @@ use Rattle.std.proofs.Math.Pow.{pow-lt, pow_mono}
 use Rattle.std.specs.Int.Bits.{and_lt}
 use Rattle.std.specs.Int.{w32, trailing_zeros}
 use Rattle.std.specs.Prelude.{bit_and, bit_or, ◌==◌}
+use Rattle.std.proofs.lemmas.Grind.{common_steps}
 use Rattle.sf_insn.specs.Words.{IsOneBit}
 use Rattle.sf_insn.specs.declared.ops.Test.{Test}
 use Rattle.sf_insn.specs.declared.ops.Test.TheVariants.{Equal, Greater, GreaterOrEqual, AnyBit}
@@ -18,8 +19,19 @@ use Rattle.sf_dom.specs.Propagation.{TestGives}
 use Rattle.sf_dom.specs.Rules.{assumed, past, past_low, more_than, less_than, at_least, at_most, nothing, some_of, none_of, where_decided, IsClosed}
 use Rattle.sf_dom.specs.FactsLaws.{closed-consistent}
 use Rattle.sf_dom.proofs.CommonBits.{no-common, common-open, and-zero, common-bits, common-none, common-some, common-decided, open-one, lowest-place}
-use Rattle.sf_dom.proofs.GuardLemmas.{gives-not_greater, gives-at_least, gives-differs, differs-gives}
 use Rattle.sf_dom.proofs.Lawful.{met-admits, closed-zeros}
+
+pub gives-not_greater : (x y : ℕ) → TestGives Greater x y false → x ≤ y
+gives-not_greater x y h = grind (arith, common_steps, cases_lt)
+
+pub gives-at_least : (x y : ℕ) → TestGives GreaterOrEqual x y true → y ≤ x
+gives-at_least x y h = grind (arith, nat_tests)
+
+pub gives-differs : (x y : ℕ) → TestGives Equal x y false → x ≢ y
+gives-differs x y h e = grind (arith, nat_tests)
+
+pub differs-gives : (x y : ℕ) → x ≢ y → TestGives Equal x y false
+differs-gives x y h = grind (arith, nat_tests)
 
 gives-equal : (x y : ℕ) → TestGives Equal x y true → x ≡ y
 gives-equal x y h = grind (arith, nat_tests)
@@ -230,7 +242,7 @@ test-zeros AnyBit false v w h k = (
   closed-zeros w k,
 )
 
-equal-gives : (x y : ℕ) → x ≡ y → TestGives Equal x y true
+pub equal-gives : (x y : ℕ) → x ≡ y → TestGives Equal x y true
 equal-gives x y h = grind (arith, nat_tests)
 
 greater-gives : (x y : ℕ) → y < x → TestGives Greater x y true

@@ -33,10 +33,8 @@ fn with_bits(known: Known, zeros: u32, ones: u32) -> Known
     }
 }
 
-/// What is known of the operand x of a node `x op c`, where `c` is a constant, once the known bits of the node go back
-/// to x. `node` is what is known of the node, and `operand` is what was known of x before. The interval of x stays as
-/// it was. The result isn't reduced: a bit may be known to be both 0 and 1 in it. `None` where the operation is not
-/// AND, OR or XOR: no bits go back from others.
+/// What is known of the operand x of a node `x op c`, of which `operand` was known, once the known bits of the node go
+/// back to it. The result isn't reduced: a bit may be known to be both 0 and 1 in it.
 pub(crate) fn backward(op: BinOp, node: Known, c: u32, operand: Known) -> Option<Known>
     ensures { MatchOption result (¬ IsSwappable op)
         (λ g. IsSwappable op × (g ≡ gained op c node operand)) }
@@ -53,12 +51,8 @@ pub(crate) fn backward(op: BinOp, node: Known, c: u32, operand: Known) -> Option
     }
 }
 
-/// Takes the known bits of the node at `from` back to its operand beside a constant (`backward`), and reduces what is
-/// known of this operand (`reduce_at`). Then does the same from this operand, and so on. It stops at a node for which
-/// `constant_operand` gives `None`, or from whose operation no bits go back.
-///
-/// `false`: an operand is left no number, so no input agrees; some operands may be changed. The caller's condition:
-/// `nodes` are those of the pool, each reduced (`reduce_known`), and `from` is the place of a node.
+/// Takes the known bits of the node at `from` back to its operand beside a constant, reduces what is known of this
+/// operand, and goes on from there. `false`: an operand is left no number; some operands may be changed.
 fn propagate_back(nodes: &mut Nodes, excluded: &Excluded, pool: &Pool, from: usize) -> bool
     requires closed { AreClosed nodes.old.known pool.now }
     requires start { from < length pool.now }
@@ -83,11 +77,8 @@ fn propagate_back(nodes: &mut Nodes, excluded: &Excluded, pool: &Pool, from: usi
     true
 }
 
-/// What is known of two words once the test of the first against the second has the result `sense`. Before that, `v` is
-/// known of the first and `w` of the second. By `Equal` with the result false, more becomes known of a word only where
-/// the other word is decided. By `AnyBit` more becomes known only of the first word, and only where the second is
-/// decided. The result isn't reduced: where no number is left for a word, its ends may be crossed, or one of its bits
-/// may be known to be both 0 and 1.
+/// What is known of two words once the test of the first against the second has the result `sense`. The result isn't
+/// reduced.
 #[tactic(auto, using(std::proofs::lemmas::Bool::Decides::nat_tests), unfolding(crate::specs::Rules::assumed))]
 fn assume_test(v: Known, w: Known, test: Test, sense: bool) -> Pair
     ensures { result ≡ assumed test sense v w }
@@ -143,8 +134,7 @@ fn assume_test(v: Known, w: Known, test: Test, sense: bool) -> Pair
     }
 }
 
-/// What is known of the node at a place once `more` is known of it too, reduced (`reduce_at`). `None` where this shows
-/// that no number is left. The nodes themselves stay as they are. The caller's condition: there is a node at the place.
+/// What is known of the node at a place once `more` is known of it too, reduced.
 pub(crate) fn known_left(
     nodes: &Nodes,
     excluded: &Excluded,
@@ -157,8 +147,8 @@ pub(crate) fn known_left(
     reduce_at(nodes.get(at).meet(more), at, excluded)
 }
 
-/// What is known of a condition's second node. `told` is what the test says of this node, and `node` is what is left of
-/// the first node. Where both are the same node, the result has what `told` and `node` say; otherwise it is `told`.
+/// What is known of a condition's second node: what the test says of it, and where it is the first node too, also what
+/// is left of that one.
 fn told_of_other(cond: &Cond, told: Known, node: Known) -> Known
     ensures apart { cond.now.node.0 ≢ cond.now.other.0 → result ≡ told }
     ensures one { cond.now.node.0 ≡ cond.now.other.0 → result ≡ met told node }
@@ -170,10 +160,7 @@ fn told_of_other(cond: &Cond, told: Known, node: Known) -> Known
     }
 }
 
-/// What a condition leaves of its two nodes, each reduced (`reduce_at`); no other node is looked at. Where its two
-/// nodes are the same node, the second part of the result has all that is known of it. `None` where this shows that no
-/// number is left for one of the two. Nothing is changed, so `learn_cond` asks this before it copies the nodes. The
-/// caller's condition: both nodes are among `nodes`.
+/// What a condition leaves of its two nodes, each reduced. `learn_cond` asks this before it copies the nodes.
 pub(crate) fn pair_left(nodes: &Nodes, excluded: &Excluded, cond: &Cond) -> Option<Pair>
     requires { IsCondBelow (length nodes.now.known) cond.now }
     ensures { PairGives nodes.now.known excluded.now cond.now result }
@@ -187,15 +174,8 @@ pub(crate) fn pair_left(nodes: &Nodes, excluded: &Excluded, cond: &Cond) -> Opti
     Some(Pair { node, other })
 }
 
-/// Takes a condition into what is known. Writes `alone`, which is what the condition leaves of its two nodes. Then
-/// takes known bits back from the first node and from the second one (`propagate_back`), and does a forward pass
-/// (`propagate`). Where its two nodes are the same node, the second part of `alone` has all that is known of it, and is
-/// written last.
-///
-/// `false`: some node is left no number, and what is known may be changed in part. The caller's condition: `alone` is
-/// what `pair_left` gives for these nodes and this condition. `nodes` are those of the pool, and the condition's two
-/// nodes are in it. Each node is reduced by `reduce_known`, and with `alone` written each word is also reduced by its
-/// excluded numbers (`reduce_word`). No forward pass makes more known of a node that is no variable.
+/// Writes what the condition leaves of its two nodes, takes known bits back from both, and does a forward pass.
+/// `false`: some node is left no number, and what is known may be changed in part.
 pub(crate) fn assume_cond(
     nodes: &mut Nodes,
     excluded: &Excluded,
@@ -227,10 +207,7 @@ pub(crate) fn assume_cond(
     propagate(nodes, excluded, pool)
 }
 
-/// Excludes a number for a node that differs from another one: where the node is a word and the other one is decided,
-/// the word can't have the other's number. In all other cases nothing changes. `other` is what is known of the other
-/// node. `Memory` where an allocation is refused, or where something that is shared has too many owners; the excluded
-/// numbers then stay as they were. The caller's condition: a word of the input is 0 to 15.
+/// Excludes the number of a decided node for a word that differs from it.
 fn exclude(alloc: Global, excluded: &mut Excluded, node: Node, other: Known) -> Result<(), Fault>
     requires word { (i : ℕ) → node ≡ Node.Word i → i < 16 }
     ensures { IfOk result (λ _. AreExcluded excluded.old excluded.new node other) }
@@ -243,10 +220,7 @@ fn exclude(alloc: Global, excluded: &mut Excluded, node: Node, other: Known) -> 
     Ok(())
 }
 
-/// Takes in that the two nodes of a condition differ: where one is decided and the other is a word, the number of the
-/// decided one is excluded for the word. `Memory` where an allocation is refused, or where something that is shared has
-/// too many owners; one number may be excluded then. The caller's condition: the condition says that the two nodes
-/// differ, they are in the pool, and `nodes` are those of the pool.
+/// Takes in that the two nodes of a condition differ. After a fault one number may be excluded.
 pub(crate) fn exclude_each_other(
     alloc: Global,
     excluded: &mut Excluded,

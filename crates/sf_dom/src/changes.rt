@@ -16,10 +16,7 @@ use sf_insn::Test;
 use sf_sym::{Cond, Pool};
 use std::alloc::Global;
 
-/// A copy of the excluded numbers. Where the condition says that its two nodes differ, the numbers that it excludes are
-/// added to the copy (`exclude_each_other`); no other condition adds any. `Memory` where an allocation is refused, or
-/// where something that is shared has too many owners. The caller's condition: `nodes` are those of the pool, and the
-/// condition's nodes are in it.
+/// A copy of the excluded numbers, with those that the condition excludes: only one by which its nodes differ does.
 fn with_excluded_by(
     alloc: Global,
     excluded: &Excluded,
@@ -44,10 +41,8 @@ fn with_excluded_by(
     }
 }
 
-/// Copies of `nodes` and `excluded` that have taken in a condition; `None` where this shows that some node is left no
-/// number. The nodes are copied only where `pair_left` leaves both of the condition's nodes a number. `Memory` where an
-/// allocation is refused, or where something that is shared has too many owners. The caller's condition: `nodes` and
-/// `excluded` are those of one `Facts` of the pool, and the condition's nodes are in the pool.
+/// Copies of `nodes` and `excluded` that have taken in a condition; `None` where some node is left no number. The nodes
+/// are copied only where `pair_left` leaves both of the condition's nodes a number.
 pub(crate) fn learn_cond(
     alloc: Global,
     nodes: &Nodes,
@@ -81,10 +76,8 @@ pub(crate) fn learn_cond(
     Ok(Some((left, lists)))
 }
 
-/// A copy of `nodes` in which `more` is known of a word, 0 to 15, with what follows from it by a forward pass
-/// (`propagate`); `None` where this shows that some node is left no number. The nodes are copied only where the word is
-/// left a number. `Memory` where an allocation is refused, or where something that is shared has too many owners. The
-/// caller's condition: `nodes` and `excluded` are those of one `Facts` of the pool.
+/// A copy of `nodes` in which `more` is known of a word, and what follows from it; `None` where some node is left no
+/// number. The nodes are copied only where the word is left one.
 pub(crate) fn restrict(
     alloc: Global,
     nodes: &Nodes,

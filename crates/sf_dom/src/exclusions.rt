@@ -18,7 +18,6 @@ use std::sync::Arc;
 /// none, nothing is allocated.
 #[derive(Drop)]
 pub(crate) struct Exclusions {
-    /// The numbers, which copies share; `None` where there are none.
     numbers: Option<Arc<Numbers>>,
 }
 
@@ -35,7 +34,6 @@ impl Model for Exclusions {
 impl Default for Exclusions {
     ghost is_default = { λ e. e ≡ 0 };
 
-    /// No numbers.
     fn default() -> Self {
         Exclusions { numbers: None }
     }
@@ -61,8 +59,7 @@ fn are_both_among(numbers: &Numbers, others: &Exclusions) -> bool
     are_among(older, others) && are_among(newer, others)
 }
 
-/// The numbers of a list with one more, which may be among them already. `None` stands for a list without numbers.
-/// `Memory` where an allocation is refused, or where the older numbers have too many owners.
+/// The numbers of a list with one more.
 fn with_number(alloc: Global, numbers: &Option<Arc<Numbers>>, number: u32) -> Result<Numbers, Fault>
     ensures { IfOk result (λ v. (n : ℕ) → Has v n
         ↔ (Has (shared_numbers numbers.now) n ⊎ (n ≡ number))) }
@@ -74,7 +71,6 @@ fn with_number(alloc: Global, numbers: &Option<Arc<Numbers>>, number: u32) -> Re
 }
 
 impl Exclusions {
-    /// A lookup in these numbers.
     pub(crate) fn lookup(&self) -> Lookup<'_>
         ensures { result ≡ self.now }
     {
@@ -84,7 +80,6 @@ impl Exclusions {
         }
     }
 
-    /// Whether a number is there.
     pub(crate) fn has(&self, number: u32) -> bool
         ensures { IsTrue result ↔ Has self.now number }
     {
@@ -94,7 +89,6 @@ impl Exclusions {
         }
     }
 
-    /// A copy, which shares the numbers. Takes no memory; `Memory` where no more copies can share them.
     fn copy(&self) -> Result<Exclusions, Fault>
         ensures { IfOk result (λ e. e ≡ self.now) }
     {
@@ -106,8 +100,7 @@ impl Exclusions {
         }
     }
 
-    /// The numbers with one more; `None` where it is among them already. `Memory` where an allocation is refused, or
-    /// where the older numbers have too many owners.
+    /// The numbers with one more; `None` where it is among them already.
     fn with_number(&self, alloc: Global, number: u32) -> Result<Option<Exclusions>, Fault>
         ensures { IfOk result (λ o. MatchOption o
             (Has self.now number)
@@ -151,8 +144,7 @@ fn no_exclusions() -> Lists
     Lists::default()
 }
 
-/// Writes copies of the lists over `copies`, in place, since it takes long to move the array. `Memory` where no more
-/// copies can share a list; some of `copies` may be written then.
+/// Writes copies of the lists over `copies`, in place, since it takes long to move the array.
 fn copy_all(lists: &Lists, copies: &mut Lists) -> Result<(), Fault>
     requires { length copies.old ≡ 16 }
     ensures { IfOk result (λ _. copies.new ≡ lists.now) }
@@ -180,7 +172,6 @@ fn are_same_lists(lists: &Lists, others: &Lists) -> bool
 /// The numbers that each of the sixteen words does not have. Copies share all lists, until a word gets another number.
 #[derive(Drop)]
 pub(crate) struct Excluded {
-    /// The numbers of each word, which copies share.
     lists: Arc<Lists>,
 }
 
@@ -196,7 +187,6 @@ impl Model for Excluded {
 }
 
 impl Excluded {
-    /// The excluded numbers of all words, by these lists. `Memory` where an allocation is refused.
     fn of(alloc: Global, lists: Lists) -> Result<Excluded, Fault>
         ensures { IfOk result (λ e. e ≡ lists) }
     {
@@ -205,14 +195,14 @@ impl Excluded {
         })
     }
 
-    /// A list without numbers for each word. `Memory` where an allocation is refused.
+    /// A list without numbers for each word.
     pub(crate) fn none(alloc: Global) -> Result<Excluded, Fault>
         ensures { IfOk result (λ e. (length e ≡ 16) × ((w : ℕ) → numbers_at e w ≡ 0)) }
     {
         Excluded::of(alloc, no_exclusions())
     }
 
-    /// The lists, that of the first word first. For the prover: there are sixteen.
+    /// For the prover: there are sixteen lists.
     fn lists(&self) -> &Lists
         ensures value { result.now ≡ self.now }
         ensures words { length result.now ≡ 16 }
@@ -220,7 +210,6 @@ impl Excluded {
         &self.lists
     }
 
-    /// The numbers that a word, 0 to 15, does not have.
     pub(crate) fn of_word(&self, word: usize) -> &Exclusions
         requires { word < 16 }
         ensures { result.now ≡ numbers_at self.now word }
@@ -229,7 +218,7 @@ impl Excluded {
         &lists[word]
     }
 
-    /// A copy, which shares the lists. Takes no memory; `Memory` where no more copies can share them.
+    /// A copy, which shares the lists.
     pub(crate) fn copy(&self) -> Result<Excluded, Fault>
         ensures { IfOk result (λ e. e ≡ self.now) }
     {
@@ -238,8 +227,7 @@ impl Excluded {
         })
     }
 
-    /// Adds a number to those of a word, 0 to 15. Nothing changes where it is among them already. `Memory` where an
-    /// allocation is refused, or where numbers that are shared have too many owners; the lists then stay as they were.
+    /// Adds a number to those of a word.
     pub(crate) fn add(&mut self, alloc: Global, word: usize, number: u32) -> Result<(), Fault>
         requires { word < 16 }
         ensures ok { IfOk result (λ _. AddsNumber self.old self.new word number) }

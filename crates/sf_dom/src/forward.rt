@@ -7,9 +7,7 @@ ghost use Rattle.sf_dom.specs.Rules.{forward_known, forward_negated, moved_left,
 use crate::known::Known;
 use sf_insn::BinOp;
 
-/// What is known of a sum. Where the sum of the high ends doesn't wrap, no sum does; where the sum of the low ends
-/// wraps, every sum does. In both cases the sums lie from that of the low ends to that of the high ends, modulo 2^32.
-/// Otherwise nothing is known. No bit of a sum is known.
+/// What is known of a sum: something only where none wraps, or each does. No bit of it is known.
 fn add(a: Known, b: Known) -> Known
     ensures { a.low ≤ a.high → b.low ≤ b.high → result
         ≡ forward_known BinOp.Add a b }
@@ -23,9 +21,7 @@ fn add(a: Known, b: Known) -> Known
     }
 }
 
-/// What is known of a difference. Where `a.low - b.high` doesn't wrap, no difference does; where `a.high - b.low`
-/// wraps, every difference does. In both cases the differences lie from `a.low - b.high` to `a.high - b.low`, modulo
-/// 2^32. Otherwise nothing is known. No bit of a difference is known.
+/// What is known of a difference: something only where none wraps, or each does. No bit of it is known.
 fn sub(a: Known, b: Known) -> Known
     ensures { a.low ≤ a.high → b.low ≤ b.high → result
         ≡ forward_known BinOp.Sub a b }
@@ -37,8 +33,7 @@ fn sub(a: Known, b: Known) -> Known
     }
 }
 
-/// What is known of a product. Where the product of the high ends fits 32 bits, all products lie from that of the low
-/// ends to that of the high ends. Otherwise nothing is known.
+/// What is known of a product: something only where that of the high ends fits 32 bits.
 fn mul(a: Known, b: Known) -> Known
     ensures { a.low ≤ a.high → b.low ≤ b.high → result
         ≡ forward_known BinOp.Mul a b }
@@ -49,8 +44,7 @@ fn mul(a: Known, b: Known) -> Known
     }
 }
 
-/// What is known of a quotient, which is 0 where the divisor is 0. Where 0 isn't in the divisor's interval, all
-/// quotients lie from `a.low / b.high` to `a.high / b.low`. Otherwise they are at most `a.high`.
+/// What is known of a quotient, which is 0 where the divisor is 0.
 fn div(a: Known, b: Known) -> Known
     ensures { a.low ≤ a.high → b.low ≤ b.high → result
         ≡ forward_known BinOp.Div a b }
@@ -63,8 +57,6 @@ fn div(a: Known, b: Known) -> Known
     }
 }
 
-/// What is known of an OR. It is at least each operand's low end. A bit of it is 0 where it is 0 in both operands, and
-/// 1 where it is 1 in at least one of them.
 fn or(a: Known, b: Known) -> Known
     ensures { result ≡ forward_known BinOp.Or a b }
 {
@@ -76,8 +68,6 @@ fn or(a: Known, b: Known) -> Known
     }
 }
 
-/// What is known of an AND. It is at most each operand's high end. A bit of it is 0 where it is 0 in at least one
-/// operand, and 1 where it is 1 in both.
 fn and(a: Known, b: Known) -> Known
     ensures { result ≡ forward_known BinOp.And a b }
 {
@@ -89,7 +79,6 @@ fn and(a: Known, b: Known) -> Known
     }
 }
 
-/// What is known of an XOR. A bit of it is known where it is known in both operands. Nothing is known of its interval.
 fn xor(a: Known, b: Known) -> Known
     ensures { result ≡ forward_known BinOp.Xor a b }
 {
@@ -101,9 +90,8 @@ fn xor(a: Known, b: Known) -> Known
     }
 }
 
-/// What is known of a word that is shifted to the left by `s` bits. Its known bits are shifted, and the `s` low bits
-/// are 0. The ends are shifted too, if the high one loses no bit; else nothing is known of the interval. The caller's
-/// condition: `s` is below 32.
+/// What is known of a word that is shifted to the left by `s` bits. Its ends are shifted only where the high one loses
+/// no bit.
 fn shift_left_by(a: Known, s: u32) -> Known
     requires { s < 32 }
     ensures { a.low ≤ a.high → result ≡ moved_left a s }
@@ -127,8 +115,7 @@ fn shift_left_by(a: Known, s: u32) -> Known
     }
 }
 
-/// What is known of a word that is shifted to the right by `s` bits. Its known bits and both ends are shifted, and the
-/// `s` high bits are 0. The caller's condition: `s` is below 32.
+/// What is known of a word that is shifted to the right by `s` bits.
 fn shift_right_by(a: Known, s: u32) -> Known
     requires { s < 32 }
     ensures { result ≡ moved_right a s }
@@ -141,8 +128,7 @@ fn shift_right_by(a: Known, s: u32) -> Known
     }
 }
 
-/// What is known of a shift to the left, which goes by the second operand modulo 32. Where the second operand isn't
-/// decided, nothing is known.
+/// What is known of a shift to the left, which goes by the second operand modulo 32.
 fn shift_left(a: Known, b: Known) -> Known
     ensures { a.low ≤ a.high → result ≡ forward_known BinOp.Lsh a b }
 {
@@ -152,8 +138,7 @@ fn shift_left(a: Known, b: Known) -> Known
     }
 }
 
-/// What is known of a shift to the right, which goes by the second operand modulo 32. Where the second operand isn't
-/// decided, the result is at most the first one's high end.
+/// What is known of a shift to the right, which goes by the second operand modulo 32.
 fn shift_right(a: Known, b: Known) -> Known
     ensures { result ≡ forward_known BinOp.Rsh a b }
 {
@@ -163,9 +148,7 @@ fn shift_right(a: Known, b: Known) -> Known
     }
 }
 
-/// What is known of the result of an operation. `a` is what is known of its first operand, and `b` of its second.
-/// Nothing is promised of the result where the ends of an operand's interval are crossed (its `low` is above its
-/// `high`).
+/// What is known of the result of an operation, by what is known of its operands.
 pub(crate) fn forward(op: BinOp, a: Known, b: Known) -> Known
     ensures { a.low ≤ a.high → b.low ≤ b.high → result ≡ forward_known op a b }
 {
@@ -182,9 +165,7 @@ pub(crate) fn forward(op: BinOp, a: Known, b: Known) -> Known
     }
 }
 
-/// What is known of the negation of a word: 2^32 minus the word, or 0 where the word is 0. Where its interval is
-/// without 0, the negations lie from that of the high end to that of the low end. Where it has only 0, the negation is
-/// 0. Otherwise nothing is known.
+/// What is known of the negation of a word: 2^32 minus the word, or 0 where the word is 0.
 pub(crate) fn negate(a: Known) -> Known
     ensures { a.low ≤ a.high → result ≡ forward_negated a }
 {

@@ -1,4 +1,5 @@
-//! The guards: what is known of a word once it is compared with a number. `v` is what was known of the word before.
+//! The guards: what is known of a word, of which `v` was known, once it is compared with a number. Where no number is
+//! left, the ends of the result are crossed, or a bit is known to be both 0 and 1 in it.
 
 ghost use Rattle.std.specs.Prelude.{◌≡◌, ◌≢◌, ℕ, ◌+◌, ◌-◌, ◌*◌, ◌/◌, ◌%◌, ◌<◌, ◌≤◌, ◌^◌};
 ghost use Rattle.sf_dom.specs.Rules.{nothing, at_least, at_most, more_than, less_than, past, some_of, none_of};
@@ -8,21 +9,17 @@ use crate::known::Known;
 /// What is known of the two words of a test.
 #[derive(Clone, Copy, Debug, PartialEq, Eq)]
 pub(crate) struct Pair {
-    /// Of the first word.
     pub(crate) node: Known,
-    /// Of the second word.
     pub(crate) other: Known,
 }
 
-/// What is known where no number is left: the ends of the interval are crossed, 1 and 0.
+/// What is known where no number is left.
 fn nothing() -> Known
     ensures { result ≡ nothing }
 {
     Known::interval(1, 0)
 }
 
-/// What is known of a word, of which `v` was known, once it is at least `number`. Where `number` is above `v.high`, the
-/// ends of the result are crossed: no number is left.
 pub(crate) fn at_least(v: Known, number: u32) -> Known
     ensures { result ≡ at_least number v }
 {
@@ -32,8 +29,6 @@ pub(crate) fn at_least(v: Known, number: u32) -> Known
     }
 }
 
-/// What is known of a word, of which `v` was known, once it is at most `number`. Where `number` is below `v.low`, the
-/// ends of the result are crossed: no number is left.
 pub(crate) fn at_most(v: Known, number: u32) -> Known
     ensures { result ≡ at_most number v }
 {
@@ -43,9 +38,6 @@ pub(crate) fn at_most(v: Known, number: u32) -> Known
     }
 }
 
-/// What is known of a word, of which `v` was known, once it is more than `number`. Where `number` is `u32::MAX`, the
-/// result is `nothing`. Where it is another number that isn't below `v.high`, the ends of the result are crossed.
-/// Either way no number is left.
 #[tactic(auto, using(std::proofs::lemmas::Bool::Decides::nat_tests))]
 pub(crate) fn more_than(v: Known, number: u32) -> Known
     ensures { result ≡ more_than number v }
@@ -56,9 +48,6 @@ pub(crate) fn more_than(v: Known, number: u32) -> Known
     at_least(v, number + 1)
 }
 
-/// What is known of a word, of which `v` was known, once it is less than `number`. Where `number` is 0, the result is
-/// `nothing`. Where it is another number that isn't above `v.low`, the ends of the result are crossed. Either way no
-/// number is left.
 #[tactic(auto, using(std::proofs::lemmas::Bool::Decides::nat_tests))]
 pub(crate) fn less_than(v: Known, number: u32) -> Known
     ensures { result ≡ less_than number v }
@@ -69,9 +58,7 @@ pub(crate) fn less_than(v: Known, number: u32) -> Known
     at_most(v, number - 1)
 }
 
-/// What is known of a word, of which `v` was known, once it isn't `number`. An end of the interval that equals `number`
-/// moves past it. Where neither end does, nothing changes. Where both do, the ends of the result are crossed: no number
-/// is left.
+/// Once the word isn't `number`: an end of the interval that equals it moves past it.
 #[tactic(auto, using(std::proofs::lemmas::Bool::Decides::nat_tests))]
 pub(crate) fn other_than(v: Known, number: u32) -> Known
     ensures { result ≡ past number v }
@@ -86,8 +73,7 @@ pub(crate) fn other_than(v: Known, number: u32) -> Known
     at
 }
 
-/// What is known of a word, of which `v` was known, once all of these bits are 0 in it. Where one of them was known to
-/// be 1, it is known to be both in the result: no number is left.
+/// Once all of these bits are 0 in the word.
 pub(crate) fn no_common_bit(v: Known, bits: u32) -> Known
     ensures { result ≡ none_of bits v }
 {
@@ -97,9 +83,7 @@ pub(crate) fn no_common_bit(v: Known, bits: u32) -> Known
     }
 }
 
-/// What is known of a word, of which `v` was known, once at least one of these bits is 1 in it. Where `v` says that all
-/// of them are 0, or `bits` is 0, no number is left (`nothing`). Where `v` says that all but one are 0, this one is 1
-/// in the result. Otherwise nothing more is known.
+/// Once at least one of these bits is 1 in the word: where all but one are known to be 0, this one is 1.
 #[tactic(auto, using(std::proofs::lemmas::Bool::Decides::nat_tests))]
 pub(crate) fn common_bit(v: Known, bits: u32) -> Known
     ensures { result ≡ some_of bits v }

@@ -18,13 +18,11 @@ use std::sync::Arc;
 /// How many words an input has. They are the first nodes of each pool.
 pub(crate) const WORDS: usize = 16;
 
-/// What is known of the nodes of a pool, oldest first. Each node has a slot. The slot of a constant has its number. So
-/// has the slot of an operation if, when it was added, its operands had only one number each, and its own number was
-/// known in full. All other nodes are variables: only of them more can become known, and what is known of them stands
-/// in a list of its own. Forks share the slots until one of them gets another node; each has its own list of variables.
+/// What is known of the nodes of a pool, oldest first. The slot of a constant has its number; so has that of an
+/// operation whose operands were decided when it was added. All other nodes are variables: only of them more can become
+/// known. Forks share the slots until one of them gets another node; each has its own list of variables.
 #[derive(Drop)]
 pub(crate) struct Nodes {
-    /// Where to find what is known of each node.
     slots: Arc<Slots>,
     /// The variables, oldest first.
     variables: Vec<Variable>,
@@ -45,7 +43,6 @@ impl Model for Nodes {
 }
 
 impl Nodes {
-    /// No nodes. `Memory` where an allocation is refused.
     pub(crate) fn new(alloc: Global) -> Result<Nodes, Fault>
         ensures known { IfOk result (λ n. n.known ≡ []) }
         ensures variables { IfOk result (λ n. n.variables ≡ []) }
@@ -56,14 +53,12 @@ impl Nodes {
         })
     }
 
-    /// How many nodes there are.
     pub(crate) fn len(&self) -> usize
         ensures { result ≡ length self.now.known }
     {
         self.slots.len()
     }
 
-    /// What is known of the node at a place, the oldest at 0. The caller's condition: there is one.
     pub(crate) fn get(&self, i: usize) -> Known
         requires { i < length self.now.known }
         ensures { result ≡ known_at self.now.known i }
@@ -74,7 +69,6 @@ impl Nodes {
         }
     }
 
-    /// How many variables there are.
     pub(crate) fn variable_count(&self) -> usize
         ensures count { result ≡ length self.now.variables }
         ensures laid_out { IsLaidOut self.now }
@@ -82,8 +76,7 @@ impl Nodes {
         self.variables.len()
     }
 
-    /// The variable with this rank; the oldest one has the rank 0. Its `known` is what `get` gives for its `place`. The
-    /// caller's condition: the rank is below `variable_count`.
+    /// The variable with this rank; the oldest one has the rank 0.
     pub(crate) fn variable(&self, rank: usize) -> Variable
         requires { rank < length self.now.variables }
         ensures place { result.place ≡ slice_index self.now.variables rank }
@@ -93,8 +86,7 @@ impl Nodes {
         self.variables[rank]
     }
 
-    /// Writes what is known of the variable with this rank; the oldest one has the rank 0. The caller's condition: the
-    /// rank is below `variable_count`.
+    /// Writes what is known of the variable with this rank.
     pub(crate) fn set_variable(&mut self, rank: usize, known: Known)
         requires { rank < length self.old.variables }
         ensures known { self.new.known
@@ -105,8 +97,7 @@ impl Nodes {
         self.variables[rank].known = known;
     }
 
-    /// Writes what is known of the node at a place, the oldest at 0. The caller's condition: there is a node at this
-    /// place, and where its interval has only one number, `known` is what is known of it already.
+    /// Writes what is known of the node at a place.
     pub(crate) fn set(&mut self, i: usize, known: Known)
         requires within { i < length self.old.known }
         requires decided { IsDecided (known_at self.old.known i)
@@ -115,18 +106,14 @@ impl Nodes {
         ensures variables { self.new.variables ≡ self.old.variables }
     {
         match slot_of(&self.slots, i) {
-            // By the caller's condition the slot says it already.
+            // By the requirement `decided` the slot says it already.
             Slot::Number(_) => {}
             Slot::Variable(rank) => self.set_variable(rank as usize, known),
         }
     }
 
-    /// Adds the next node, at the end. `known` is what is known of it, and `fixed` says that no forward pass makes more
-    /// known of it. Then the node gets a slot with its number. Otherwise it becomes a variable.
-    ///
-    /// `Memory` where an allocation is refused, or where a slot can't be added for another reason (`add_slot`); what is
-    /// known then stays as it was. The caller's condition: a node that is fixed isn't one of the sixteen words of the
-    /// input, and `known` is one number with all its bits.
+    /// Adds the next node. `fixed` says that no forward pass makes more known of it: it gets a slot with its number.
+    /// Otherwise it becomes a variable.
     pub(crate) fn push(&mut self, known: Known, fixed: bool) -> Result<(), Fault>
         requires word { IsTrue fixed → 16 ≤ length self.old.known }
         requires number { IsTrue fixed → known ≡ known_of known.low known.low
@@ -157,8 +144,7 @@ impl Nodes {
         Ok(())
     }
 
-    /// A copy, which shares the slots and has its own list of variables. `Memory` where an allocation is refused, or
-    /// where the slots have too many owners.
+    /// A copy, which shares the slots and has its own list of variables.
     pub(crate) fn fork(&self, alloc: Global) -> Result<Nodes, Fault>
         ensures { IfOk result (λ n. n ≡ self.now) }
     {

@@ -36,17 +36,14 @@ impl Model for Numbers {
 }
 
 /// Looks up numbers one after the other, in two ascending lists. The numbers that are asked for often stand equally far
-/// apart in the older list. So each number is first looked for at one place: if the last two that were found stand
-/// `step` places apart, it is the place that is `step` places behind the last one.
+/// apart in the older list, so each is first looked for `step` places behind the last one that was found.
 #[derive(Drop)]
 pub(crate) struct Lookup<'a> {
-    /// The older numbers, ascending.
     older: &'a [u32],
-    /// The newer numbers, ascending.
     newer: &'a [u32],
-    /// The place in the older list of the last number that was found there; 0 before the first.
+    /// The place in the older list of the last number that was found there.
     place: usize,
-    /// How far this place is behind that of the number found before it. The difference wraps, so it may lead back.
+    /// How far this place is behind that of the number found before it; it wraps, since it may lead back.
     step: usize,
 }
 
@@ -81,8 +78,7 @@ fn items_of(list: &Option<ArcSlice<u32>>) -> &[u32]
     }
 }
 
-/// A place of a number in a list, any of them where it stands at several; `None` where it isn't there. The caller's
-/// condition: the list is ascending.
+/// A place of a number in a list.
 fn place_in(list: &[u32], number: u32) -> Option<usize>
     requires { AreAscending list.now }
     ensures { MatchOption result (¬ Contains list.now number) (λ at. (at < length list.now)
@@ -91,7 +87,7 @@ fn place_in(list: &[u32], number: u32) -> Option<usize>
     list.binary_search(&number).ok()
 }
 
-/// Whether a number stands in a list. The caller's condition: the list is ascending.
+/// Whether a number stands in a list.
 fn stands_in(list: &[u32], number: u32) -> bool
     requires { AreAscending list.now }
     ensures { IsTrue result ↔ Contains list.now number }
@@ -99,8 +95,7 @@ fn stands_in(list: &[u32], number: u32) -> bool
     place_in(list, number).is_some()
 }
 
-/// In which of two lists a number stands; the older one where it stands in both. The caller's condition: both lists are
-/// ascending. Not inlined, so that `Lookup::has` can be.
+/// In which of two lists a number stands. Not inlined, so that `Lookup::has` can be.
 #[inline(never)]
 fn find(older: &[u32], newer: &[u32], number: u32) -> Found
     requires older { AreAscending older.now }
@@ -119,9 +114,7 @@ fn find(older: &[u32], newer: &[u32], number: u32) -> Found
     }
 }
 
-/// A copy of a list with one more number, which gets the place `at`; the numbers from there on stand one place later
-/// than in the list. `Memory` where an allocation is refused. The caller's condition: `at` is at most the list's
-/// length.
+/// A copy of a list with one more number, at the place `at`.
 fn insert_number(alloc: Global, list: &[u32], at: usize, number: u32) -> Result<Vec<u32>, Fault>
     requires { at ≤ length list.now }
     ensures { IfOk result (λ v. v.items ≡ insert list.now at number) }
@@ -133,8 +126,7 @@ fn insert_number(alloc: Global, list: &[u32], at: usize, number: u32) -> Result<
     Ok(more)
 }
 
-/// A copy of a list with one more number, also ascending. Where the list has the number already, it is a mere copy.
-/// `Memory` where an allocation is refused. The caller's condition: the list is ascending.
+/// A copy of a list with one more number, unless it is there already.
 fn with_number(alloc: Global, list: &[u32], number: u32) -> Result<Vec<u32>, Fault>
     requires { AreAscending list.now }
     ensures rising { IfOk result (λ v. AreAscending v.items) }
@@ -147,8 +139,7 @@ fn with_number(alloc: Global, list: &[u32], number: u32) -> Result<Vec<u32>, Fau
     }
 }
 
-/// The numbers of two lists as one ascending list; a number that stands in both stands there twice. `Memory` where an
-/// allocation is refused.
+/// The numbers of two lists as one ascending list; a number that stands in both stands there twice.
 fn merge(alloc: Global, older: &[u32], newer: &[u32]) -> Result<ArcSlice<u32>, Fault>
     ensures rising { IfOk result (λ m. AreAscending (arc_slice_items m)) }
     ensures numbers { IfOk result (λ m. (n : ℕ) → Contains (arc_slice_items m) n
@@ -172,7 +163,6 @@ fn share(list: &Option<ArcSlice<u32>>) -> Result<Option<ArcSlice<u32>>, Fault>
 }
 
 impl<'a> Lookup<'a> {
-    /// A lookup in these lists. The caller's condition: both are ascending.
     pub(crate) fn new(older: &'a [u32], newer: &'a [u32]) -> Lookup<'a>
         requires older { AreAscending older.now }
         requires newer { AreAscending newer.now }
@@ -186,9 +176,7 @@ impl<'a> Lookup<'a> {
         }
     }
 
-    /// Whether a number stands in one of the two lists. Looks first at the place `place + step` of the older list, and
-    /// then in both lists. Where the number is found in the older list, its place is kept for the next call. The lists
-    /// stay as they are.
+    /// Whether a number stands in one of the two lists. Looks first at the place `place + step` of the older list.
     #[inline]
     pub(crate) fn has(&mut self, number: u32) -> bool
         ensures has { IsTrue result ↔ Has self.old number }
@@ -213,7 +201,6 @@ impl<'a> Lookup<'a> {
 }
 
 impl Numbers {
-    /// A list of one number. `Memory` where an allocation is refused.
     pub(crate) fn of(alloc: Global, number: u32) -> Result<Numbers, Fault>
         ensures { IfOk result (λ v. v ≡ set_of (number ∷ [])) }
     {
@@ -222,22 +209,19 @@ impl Numbers {
         Ok(Numbers { older: None, newer })
     }
 
-    /// Whether a number is one of them.
     pub(crate) fn has(&self, number: u32) -> bool
         ensures { IsTrue result ↔ Has self.now number }
     {
         stands_in(items_of(&self.older), number) || stands_in(self.newer.as_slice(), number)
     }
 
-    /// A lookup in these numbers.
     pub(crate) fn lookup(&self) -> Lookup<'_>
         ensures { result ≡ self.now }
     {
         Lookup::new(items_of(&self.older), self.newer.as_slice())
     }
 
-    /// These numbers and one more, which may be among them already. Once there are `MERGED` newer numbers, all numbers
-    /// become older ones. `Memory` where an allocation is refused, or where the older numbers have too many owners.
+    /// These numbers and one more. Once there are `MERGED` newer numbers, all numbers become older ones.
     pub(crate) fn with_number(&self, alloc: Global, number: u32) -> Result<Numbers, Fault>
         ensures { IfOk result (λ v. (n : ℕ) → Has v n
             ↔ (Has self.now n ⊎ (n ≡ number))) }
@@ -254,7 +238,6 @@ impl Numbers {
         })
     }
 
-    /// The older and the newer numbers. A number may stand in both lists.
     pub(crate) fn lists(&self) -> (&[u32], &[u32])
         ensures { set_of (result.0.now ++ result.1.now) ≡ self.now }
     {

@@ -15,8 +15,8 @@ use crate::known::{Known, reduce_known, reduce_word};
 use crate::nodes::{Nodes, WORDS};
 use sf_sym::{Node, NodeId, Pool};
 
-/// What is known of the node at a place, reduced; `None` where that shows that no number is left. The first sixteen
-/// nodes are the words of the input, for which numbers are excluded.
+/// What is known of the node at a place, reduced. The first sixteen nodes are the words, for which numbers are
+/// excluded.
 pub(crate) fn reduce_at(known: Known, place: usize, excluded: &Excluded) -> Option<Known>
     ensures { ReductionGives excluded.now place known result }
 {
@@ -27,9 +27,7 @@ pub(crate) fn reduce_at(known: Known, place: usize, excluded: &Excluded) -> Opti
     }
 }
 
-/// What follows for a node from what is known of its operands (`forward`, `negate`). For a constant its number follows,
-/// and for a word of the input nothing. Nothing is promised of the result where the ends of an operand's interval are
-/// crossed. The caller's condition: the operands are among `nodes`.
+/// What follows for a node from what is known of its operands.
 fn transfer(nodes: &Nodes, node: Node) -> Known
     requires { OperandsBelow (length nodes.now.known) node }
     ensures { AreConsistentOperands nodes.now.known node
@@ -43,7 +41,6 @@ fn transfer(nodes: &Nodes, node: Node) -> Known
     }
 }
 
-/// Whether the interval of a node has only one number. The caller's condition: the node is among `nodes`.
 fn is_decided(nodes: &Nodes, at: NodeId) -> bool
     requires { at.0 < length nodes.now.known }
     ensures { result ≡ is_decided (known_at nodes.now.known at.0) }
@@ -52,8 +49,8 @@ fn is_decided(nodes: &Nodes, at: NodeId) -> bool
     known.low == known.high
 }
 
-/// Whether a node is a constant, or an operation on operands whose intervals have only one number each: once it is
-/// taken in, no forward pass makes more known of it. The caller's condition: the operands are among `nodes`.
+/// Whether no forward pass makes more known of a node once it is taken in: a constant, or an operation on decided
+/// operands.
 fn is_fixed(nodes: &Nodes, node: Node) -> bool
     requires { OperandsBelow (length nodes.now.known) node }
     ensures { result ≡ are_all_decided nodes.now.known node }
@@ -67,10 +64,7 @@ fn is_fixed(nodes: &Nodes, node: Node) -> bool
 }
 
 /// Adds to what is known of each variable what follows from its operands, and reduces it, the oldest variable first.
-/// The first sixteen are the words, which have no operands: nothing follows for them, and they are passed over.
-/// `false`: no input agrees, and some nodes may be changed. The caller's condition: `nodes` are those of the pool, each
-/// reduced (`reduce_known`), the words also by their excluded numbers; and no forward pass makes more known of a node
-/// that is no variable.
+/// The words, which have no operands, are passed over. `false`: no input agrees, and some nodes may be changed.
 pub(crate) fn propagate(nodes: &mut Nodes, excluded: &Excluded, pool: &Pool) -> bool
     requires closed { AreClosed nodes.old.known pool.now }
     requires words { AreClosedWords nodes.old.known excluded.now }
@@ -95,10 +89,8 @@ pub(crate) fn propagate(nodes: &mut Nodes, excluded: &Excluded, pool: &Pool) -> 
     true
 }
 
-/// Takes in the new nodes of a pool, those behind the last one in `nodes`: adds for each what follows from its
-/// operands, reduced. What is known of the older nodes stays as it is. `false`: no input agrees. `Memory` where an
-/// allocation is refused, or where something that is shared has too many owners. In both cases some of the new nodes
-/// may have been taken in. The caller's condition: `nodes` are those of the pool, but for the new ones.
+/// Takes in the new nodes of a pool, those behind the last one in `nodes`. `false`: no input agrees. Then, and after a
+/// fault, some of the new nodes may have been taken in.
 pub(crate) fn append(nodes: &mut Nodes, excluded: &Excluded, pool: &Pool) -> Result<bool, Fault>
     requires covers { length nodes.old.known ≤ length pool.now }
     ensures fixed { IfOk result (λ b. MatchBool b

@@ -18,17 +18,15 @@ pub(crate) enum Slot {
 }
 
 impl Default for Slot {
-    /// A slot with the number 0. It only fills places of a list's memory that hold no slot yet.
+    /// It only fills places of a list's memory that hold no slot yet.
     fn default() -> Self {
         Slot::Number(0)
     }
 }
 
-/// The slots of the nodes, oldest first. A last block of one slot may lie in the list itself; a longer one takes an
-/// allocation.
+/// The slots of the nodes, oldest first. A last block of one slot may lie in the list itself.
 pub(crate) type Slots = SharedList<Slot, 1>;
 
-/// The slot at a place. The caller's condition: there is one.
 pub(crate) fn slot_of(slots: &Slots, i: usize) -> Slot
     requires { i < length slots.now }
     ensures { result ≡ slot_at slots.now i }
@@ -36,8 +34,7 @@ pub(crate) fn slot_of(slots: &Slots, i: usize) -> Slot
     slots.get(i)
 }
 
-/// A copy of the slots with one more at its end. `AllocError` where an allocation is refused, where there are 2^31 + 16
-/// slots already, or where the slots' blocks have too many owners.
+/// A copy of the slots with one more at its end.
 fn with_slot(alloc: Global, slots: &Slots, slot: Slot) -> Result<Arc<Slots>, AllocError>
     ensures { IfOk result (λ r. arc_value r ≡ slots.now ++ slot ∷ []) }
 {
@@ -46,9 +43,8 @@ fn with_slot(alloc: Global, slots: &Slots, slot: Slot) -> Result<Arc<Slots>, All
     Ok(Arc::new(alloc, copy)?)
 }
 
-/// Adds a slot at the end. Where forks share the slots, it is added to a copy, and the forks' slots stay as they are.
-/// `AllocError` where an allocation is refused, where there are 2^31 + 16 slots already, or where the slots' blocks
-/// have too many owners; nothing is added then.
+/// Adds a slot at the end. Where forks share the slots, it is added to a copy. Refused also where there are 2^31 + 16
+/// slots already.
 pub(crate) fn add_slot(alloc: Global, slots: &mut Arc<Slots>, slot: Slot) -> Result<(), AllocError>
     ensures ok { OnOk result (arc_value slots.new ≡ arc_value slots.old ++ slot ∷ []) }
     ensures err { OnErr result (arc_value slots.new ≡ arc_value slots.old) }

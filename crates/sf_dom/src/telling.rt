@@ -17,8 +17,6 @@ use crate::nodes::Nodes;
 use sf_insn::Test;
 use sf_sym::{Node, Pool, constant_operand};
 
-/// Whether a word equals a number, where the word's interval gives the result; `None` where the interval leaves the
-/// result open.
 fn tell_equal(known: Known, number: u32) -> Option<bool>
     ensures told { MatchOption result (IsOpen Test.Equal known number)
         (λ b. (x : ℕ) → Admits known x → TestGives Test.Equal x number b) }
@@ -34,8 +32,6 @@ fn tell_equal(known: Known, number: u32) -> Option<bool>
     None
 }
 
-/// Whether a word is greater than a number, where the word's interval gives the result; `None` where the interval
-/// leaves the result open.
 fn tell_greater(known: Known, number: u32) -> Option<bool>
     ensures told { MatchOption result (IsOpen Test.Greater known number)
         (λ b. (x : ℕ) → Admits known x → TestGives Test.Greater x number b) }
@@ -51,8 +47,6 @@ fn tell_greater(known: Known, number: u32) -> Option<bool>
     None
 }
 
-/// Whether a word is at least a number, where the word's interval gives the result; `None` where the interval leaves
-/// the result open.
 fn tell_at_least(known: Known, number: u32) -> Option<bool>
     ensures told { MatchOption result (IsOpen Test.GreaterOrEqual known number)
         (λ b. (x : ℕ) → Admits known x → TestGives Test.GreaterOrEqual x number b) }
@@ -68,8 +62,6 @@ fn tell_at_least(known: Known, number: u32) -> Option<bool>
     None
 }
 
-/// Whether a word has a common bit with a number, where the word's known bits give the result; `None` where they leave
-/// the result open.
 fn tell_common(known: Known, number: u32) -> Option<bool>
     ensures told { MatchOption result (IsOpen Test.AnyBit known number)
         (λ b. (x : ℕ) → Admits known x → TestGives Test.AnyBit x number b) }
@@ -87,11 +79,7 @@ fn tell_common(known: Known, number: u32) -> Option<bool>
 
 impl Known {
     /// Whether a word of which this is known passes a test against a number, where what is known gives the result: the
-    /// known bits alone for `AnyBit`, and the interval alone for the other tests. `None` where this leaves the result
-    /// open.
-    ///
-    /// Where `self` is reduced (`reduce_known`), as in `Facts` it always is, learning a result that is given here moves
-    /// no end and adds no bit, and the other result would leave no number.
+    /// known bits alone for `AnyBit`, and the interval alone for the other tests.
     pub fn tell(&self, test: Test, number: u32) -> Option<bool>
         ensures told { MatchOption result (IsOpen test self.now number)
             (λ b. (x : ℕ) → Admits self.now x → passes test x number ≡ b) }
@@ -107,8 +95,7 @@ impl Known {
     }
 }
 
-/// Whether a number is excluded for a node. Numbers are excluded only for words of the input. The caller's condition: a
-/// word of the input is 0 to 15.
+/// Whether a number is excluded for a node: numbers are excluded only for words of the input.
 fn is_excluded(excluded: &Excluded, node: Node, number: u32) -> bool
     requires word { (i : ℕ) → node ≡ Node.Word i → i < 16 }
     ensures { IsTrue result ↔ Has (excluded_of excluded.now node) number }
@@ -119,9 +106,7 @@ fn is_excluded(excluded: &Excluded, node: Node, number: u32) -> bool
     }
 }
 
-/// Whether all that the known bits of the node at `from` say of its operand beside a constant (`backward`) is known of
-/// the operand already, and so on from this operand. If so, and if each node is reduced (`reduce_at`), `propagate_back`
-/// changes nothing. The caller's condition: `nodes` are those of the pool, and `from` is the place of a node.
+/// Whether `propagate_back` from this node would change nothing.
 pub(crate) fn are_propagated_back(nodes: &Nodes, pool: &Pool, from: usize) -> bool
     requires count { length nodes.now.known ≡ length pool.now }
     requires start { from < length pool.now }
@@ -143,10 +128,7 @@ pub(crate) fn are_propagated_back(nodes: &Nodes, pool: &Pool, from: usize) -> bo
     true
 }
 
-/// The result that a test of the node at a place against a number has on every input that agrees, where what is known
-/// of the node itself gives this result. `Known::tell` is asked first. Where it leaves the result open, `Equal` has the
-/// result false if the number is excluded for the node. `None` in all other cases. The caller's condition: `nodes` are
-/// those of the pool, and there is a node at the place.
+/// The result of a test of the node at a place against a number, where what is known of the node itself gives it.
 fn tell_at(
     nodes: &Nodes,
     excluded: &Excluded,
@@ -176,12 +158,8 @@ fn tell_at(
     }
 }
 
-/// The result of a test of the node at a place against a number, where the test is told. Every input that agrees has
-/// this result. To learn the other result would leave the node no number. To learn this one would change no interval
-/// and no known bit; it could at most exclude the number for the node.
-///
-/// `None` where the test isn't told: `tell_at` leaves the result open, or known bits could still go back from the node
-/// (`are_propagated_back`). The caller's condition: `nodes` are those of the pool, and there is a node at the place.
+/// The result of a test of the node at a place against a number, where the test is told: `tell_at` gives it, and
+/// nothing goes back from the node. To learn it would at most exclude the number for the node.
 pub(crate) fn tell_node(
     nodes: &Nodes,
     excluded: &Excluded,

@@ -13,13 +13,10 @@ use std::sync::Arc;
 pub(crate) struct Variable {
     /// Its place in the pool.
     pub(crate) place: u32,
-    /// What is known of it.
     pub(crate) known: Known,
 }
 
-/// Adds a variable at the end of the variables, and the slot of its node at the end of the slots. `AllocError` where an
-/// allocation is refused, where there are 2^31 + 16 slots already, or where the slots' blocks have too many owners;
-/// both lists are then as they were.
+/// Adds a variable, and the slot of its node.
 pub(crate) fn add_variable(
     variables: &mut Vec<Variable>,
     variable: Variable,

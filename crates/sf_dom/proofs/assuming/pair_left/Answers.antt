@@ -5,7 +5,7 @@ use Rattle.sf_dom.specs.Rules.{met}
 use Rattle.sf_dom.specs.Learning.{assumed_of}
 use Rattle.sf_dom.proofs.Passes.{met-left}
 use Rattle.sf_dom.proofs.Reductions.{IsNarrower-trans}
-use Rattle.sf_dom.proofs.PairLeft.{told-left}
+use Rattle.sf_dom.proofs.ConditionSteps.{told-left}
 use Rattle.sf_dom.proofs.assuming.pair_left.Goals as goal
 
 pub returns : goal.returns

@@ -4,10 +4,8 @@ use Rattle.sf_insn.specs.declared.ops.BinOp.{BinOp}
 use Rattle.sf_dom.specs.Facts.{known_at}
 use Rattle.sf_dom.specs.GoingBack.{gained}
 use Rattle.sf_dom.proofs.BackLaws.{gained-narrower}
-use Rattle.sf_dom.specs.FactsLaws.{closed-consistent}
-use Rattle.sf_dom.proofs.Lawful.{narrowed-refl, narrowed-trans, narrowed-set}
-use Rattle.sf_dom.proofs.Passes.{number-stays}
-use Rattle.sf_dom.proofs.Reductions.{IsNarrower-trans}
+use Rattle.sf_dom.proofs.Lawful.{narrowed-refl, narrowed-trans, narrowed-left}
+use Rattle.sf_dom.proofs.Passes.{reduced-stays}
 use Rattle.sf_dom.proofs.assuming.propagate_back.Goals as goal
 
 other-op : (o p : BinOp × ℕ × ℕ) → Some o ≡ Some p → o.0 ≡ p.0
@@ -35,13 +33,12 @@ loop-op-preserved c =
     let here : o.x < length ns = omega (arith, o.ensures.smaller) in
     let next = c.in-Some-reduce_at.next in
     let left = rw gain.1 at c.in-Some-reduce_at.ensures in
-    let narrower = IsNarrower-trans (known_at ks o.x)
-    (gained o.op o.c (known_at ks c.loop-op.at) (known_at ks o.x)) next
-    (gained-narrower o.op o.c (known_at ks c.loop-op.at) (known_at ks o.x)) left.narrower in
+    let more = gained o.op o.c (known_at ks c.loop-op.at) (known_at ks o.x) in
     rw c.set.ensures.known (record {
       within = here;
       narrowed = narrowed-trans c.args.nodes.now.known ks (set ks o.x next) ex ns c.requires.closed inv.narrowed
-          (narrowed-set ks ex ns o.x next closed here left.is narrower);
+          (narrowed-left ks ex ns o.x more next closed here
+          (gained-narrower o.op o.c (known_at ks c.loop-op.at) (known_at ks o.x)) left);
       variables = c.set.ensures.variables ∙ inv.variables;
       on = λ r w. inv.on r (
         suc w.0,
@@ -57,22 +54,16 @@ loop-op-preserved c =
 pub set-requires-clause-decided : goal.set-requires-clause-decided
 set-requires-clause-decided c = λ d.
     let ks = c.loop-op.nodes.known in
-    let ns = c.args.pool.now in
-    let ex = c.args.excluded.now in
     let o = c.in-Some in
     let inv = c.loop-op.invariant in
     let within = inv.within in
-    let closed = inv.narrowed.closed in
-    let count = closed.count in
     let gain = rw (c.get.ensures, c.get-in-Some.ensures) at c.in-Some-backward.ensures in
-    let here : o.x < length ns = omega (arith, o.ensures.smaller) in
-    let next = c.in-Some-reduce_at.next in
+    let here : o.x < length c.args.pool.now = omega (arith, o.ensures.smaller) in
     let left = rw gain.1 at c.in-Some-reduce_at.ensures in
-    let narrower = IsNarrower-trans (known_at ks o.x)
-    (gained o.op o.c (known_at ks c.loop-op.at) (known_at ks o.x)) next
-    (gained-narrower o.op o.c (known_at ks c.loop-op.at) (known_at ks o.x)) left.narrower in
-    number-stays (known_at ks o.x) next (closed-consistent (known_at ks o.x) (closed.each o.x here))
-    (closed-consistent next left.is.known) narrower d
+    let at = known_at ks c.loop-op.at in
+    let own = known_at ks o.x in
+    reduced-stays c.args.excluded.now o.x own (gained o.op o.c at own) c.in-Some-reduce_at.next
+    (inv.narrowed.closed.each o.x here) (gained-narrower o.op o.c at own) left d
 
 pub returns-in-None-clause-back : goal.returns-in-None-clause-back
 returns-in-None-clause-back c =
@@ -87,18 +78,10 @@ returns-in-None-clause-back c =
 
 pub returns-in-None-reduce_at-clause-back : goal.returns-in-None-reduce_at-clause-back
 returns-in-None-reduce_at-clause-back c =
-    let ks = c.loop-op.nodes.known in
-    let ns = c.args.pool.now in
-    let ex = c.args.excluded.now in
     let o = c.in-Some in
-    let inv = c.loop-op.invariant in
-    let within = inv.within in
-    let closed = inv.narrowed.closed in
-    let count = closed.count in
     let gain = rw (c.get.ensures, c.get-in-Some.ensures) at c.in-Some-backward.ensures in
-    let here : o.x < length ns = omega (arith, o.ensures.smaller) in
     let none = rw gain.1 at c.in-None-reduce_at.ensures in
-    inv.on None (1, ((o.op, o.x, o.c), sym o.ensures.operand, gain.0, (None, (None, none, refl), refl)))
+    c.loop-op.invariant.on None (1, ((o.op, o.x, o.c), sym o.ensures.operand, gain.0, (None, (None, none, refl), refl)))
 
 pub returns-clause-back : goal.returns-clause-back
 returns-clause-back c = c.loop-op.invariant.on (Some c.loop-op.nodes.known) (

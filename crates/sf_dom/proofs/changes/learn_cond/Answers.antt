@@ -1,7 +1,6 @@
 use Rattle.std.proofs.Common.{arith, refl}
 use Rattle.std.specs.Prelude.{Some, None}
-use Rattle.sf_dom.proofs.ConditionSteps.{pair-left}
-use Rattle.sf_dom.proofs.WordsClosed.{words-written}
+use Rattle.sf_dom.proofs.ConditionSteps.{pair-left, words-written}
 use Rattle.sf_dom.proofs.changes.learn_cond.Goals as goal
 
 pub assume_cond-requires-clause-closed : goal.assume_cond-requires-clause-closed

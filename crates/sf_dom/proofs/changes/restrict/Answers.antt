@@ -3,85 +3,43 @@ use Rattle.std.specs.Prelude.{Some, None}
 use Rattle.sf_dom.specs.Facts.{known_at}
 use Rattle.sf_dom.specs.Passes.{AreClosed}
 use Rattle.sf_dom.specs.Rules.{met}
-use Rattle.sf_dom.specs.FactsLaws.{closed-consistent}
-use Rattle.sf_dom.proofs.Lawful.{narrowed-set}
-use Rattle.sf_dom.proofs.Passes.{met-left, number-stays}
-use Rattle.sf_dom.proofs.Reductions.{IsNarrower-trans}
+use Rattle.sf_dom.proofs.Lawful.{narrowed-left}
+use Rattle.sf_dom.proofs.Passes.{met-left, reduced-stays}
 use Rattle.sf_dom.proofs.Steps.{still-fixed}
 use Rattle.sf_dom.proofs.changes.restrict.Goals as goal
 
 pub set-requires-clause-decided : goal.set-requires-clause-decided
 set-requires-clause-decided c =
-    let ks = c.args.nodes.now.known in
+    let words = c.len-count.ensures.lawful.words in
     let ex = c.args.excluded.now in
-    let ns = c.args.pool.now in
-    let p = c.len-count.ensures.lawful in
-    let words = p.words in
-    let count = c.requires.count in
     let w = c.args.word in
-    let closed : AreClosed ks ns = record { count = count; each = λ i l. (c.requires.rest i l).closed.known } in
-    let there : w < length ns = omega (arith, c.requires.word) in
-    let own = known_at ks w in
-    let left = c.in-Some.left in
-    let rule = c.in-Some.ensures in
-    let narrower = IsNarrower-trans own (met own c.args.more) left (met-left own c.args.more) rule.narrower in
-    rw c.in_ok-next.ensures (λ d. number-stays own left (closed-consistent own (closed.each w there))
-    (closed-consistent left rule.is.known) narrower d)
+    let there : w < length c.args.pool.now = omega (arith, c.requires.word) in
+    let own = known_at c.args.nodes.now.known w in
+    rw c.in_ok-next.ensures (λ d. reduced-stays ex w own (met own c.args.more) c.in-Some.left
+    (c.requires.rest w there).closed.known (met-left own c.args.more) c.in-Some.ensures d)
 
-pub propagate-requires-clause-closed : goal.propagate-requires-clause-closed
-propagate-requires-clause-closed c =
+pub propagate-requires : goal.propagate-requires
+propagate-requires c =
     let ks = c.args.nodes.now.known in
     let ex = c.args.excluded.now in
     let ns = c.args.pool.now in
     let p = c.len-count.ensures.lawful in
     let words = p.words in
-    let count = c.requires.count in
     let w = c.args.word in
-    let closed : AreClosed ks ns = record { count = count; each = λ i l. (c.requires.rest i l).closed.known } in
+    let closed : AreClosed ks ns
+    = record { count = c.requires.count; each = λ i l. (c.requires.rest i l).closed.known } in
     let there : w < length ns = omega (arith, c.requires.word) in
     let own = known_at ks w in
     let left = c.in-Some.left in
-    let rule = c.in-Some.ensures in
-    let narrower = IsNarrower-trans own (met own c.args.more) left (met-left own c.args.more) rule.narrower in
-    rw (c.set.ensures.known, c.in_ok-next.ensures) (narrowed-set ks ex ns w left closed there rule.is narrower).closed
-
-pub propagate-requires-clause-words : goal.propagate-requires-clause-words
-propagate-requires-clause-words c =
-    let ks = c.args.nodes.now.known in
-    let ex = c.args.excluded.now in
-    let ns = c.args.pool.now in
-    let p = c.len-count.ensures.lawful in
-    let words = p.words in
-    let count = c.requires.count in
-    let w = c.args.word in
-    let closed : AreClosed ks ns = record { count = count; each = λ i l. (c.requires.rest i l).closed.known } in
-    let there : w < length ns = omega (arith, c.requires.word) in
-    let own = known_at ks w in
-    let left = c.in-Some.left in
-    let rule = c.in-Some.ensures in
-    let narrower = IsNarrower-trans own (met own c.args.more) left (met-left own c.args.more) rule.narrower in
-    rw (c.set.ensures.known, c.in_ok-next.ensures)
-    ((narrowed-set ks ex ns w left closed there rule.is narrower).kept
-    (λ i l. (c.requires.rest i (omega arith)).closed))
-
-pub propagate-requires-clause-fixed : goal.propagate-requires-clause-fixed
-propagate-requires-clause-fixed c =
-    let ks = c.args.nodes.now.known in
-    let ex = c.args.excluded.now in
-    let ns = c.args.pool.now in
-    let p = c.len-count.ensures.lawful in
-    let words = p.words in
-    let count = c.requires.count in
-    let w = c.args.word in
-    let closed : AreClosed ks ns = record { count = count; each = λ i l. (c.requires.rest i l).closed.known } in
-    let there : w < length ns = omega (arith, c.requires.word) in
-    let own = known_at ks w in
-    let left = c.in-Some.left in
-    let rule = c.in-Some.ensures in
-    let narrower = IsNarrower-trans own (met own c.args.more) left (met-left own c.args.more) rule.narrower in
-    rw (c.set.ensures.known, c.set.ensures.variables, c.in_ok-next.ensures)
-    (still-fixed c.args.nodes.now.variables ks (set ks w left) ex ns p closed
-    (narrowed-set ks ex ns w left closed there rule.is narrower) c.requires.fixed)
+    let n = narrowed-left ks ex ns w (met own c.args.more) left closed there (met-left own c.args.more)
+    c.in-Some.ensures in
+    record {
+      closed = rw (c.set.ensures.known, c.in_ok-next.ensures) n.closed;
+      words = rw (c.set.ensures.known, c.in_ok-next.ensures)
+          (n.kept (λ i l. (c.requires.rest i (omega arith)).closed));
+      fixed = rw (c.set.ensures.known, c.set.ensures.variables, c.in_ok-next.ensures)
+          (still-fixed c.args.nodes.now.variables ks (set ks w left) ex ns p closed n c.requires.fixed);
+    }
 
 pub returns-in_default-clause-rule : goal.returns-in_default-clause-rule
 returns-in_default-clause-rule c = (None, (None, c.in_default.ensures, refl), refl)

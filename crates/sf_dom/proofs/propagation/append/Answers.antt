@@ -88,27 +88,23 @@ returns-clause-rule c = λ consistent.
       each = λ k a l. inv.ruled consistent k a (omega arith);
     }
 
-pub push-requires-clause-word : goal.push-requires-clause-word
-push-requires-clause-word c = λ t.
+pub push-requires : goal.push-requires
+push-requires c =
     let inv = c.loop-i.invariant in
     let count = inv.count in
-    let both : c.if-fixed.push ≡ (c.is_fixed-fixed.result && is_decided c.in-Some.next) = elim c.if-fixed.branch [
-      | then-fixed w ↦ rw w.if-fixed.true w.push-is
-      | else-fixed w ↦ rw w.if-fixed.false (w.push-is ∙ w.if-fixed.false)
-    ] in
-    let told = sym (rw c.node_at-node.ensures.node at c.is_fixed-fixed.ensures)
-    ∙ (and_parts c.is_fixed-fixed.result (is_decided c.in-Some.next) (sym both ∙ t)).0 in
-    elim (cases_lt c.loop-i.i 16) [
-      | inl b ↦ (let clash = rw (c.node_at-node.ensures.lawful.word c.loop-i.i b) at told in absurd cc)
-      | inr g ↦ omega arith
-    ]
-
-pub push-requires-clause-number : goal.push-requires-clause-number
-push-requires-clause-number c = λ t.
     let next = c.in-Some.next in
-    let both : c.if-fixed.push ≡ (c.is_fixed-fixed.result && is_decided c.in-Some.next) = elim c.if-fixed.branch [
+    let both : c.if-fixed.push ≡ (c.is_fixed-fixed.result && is_decided next) = elim c.if-fixed.branch [
       | then-fixed w ↦ rw w.if-fixed.true w.push-is
       | else-fixed w ↦ rw w.if-fixed.false (w.push-is ∙ w.if-fixed.false)
     ] in
-    one-number next (closed-consistent next c.in-Some.ensures.is.known)
-    (eqb-true next.low next.high (and_parts c.is_fixed-fixed.result (is_decided next) (sym both ∙ t)).1)
+    record {
+      word = λ t.
+          let told = sym (rw c.node_at-node.ensures.node at c.is_fixed-fixed.ensures)
+          ∙ (and_parts c.is_fixed-fixed.result (is_decided next) (sym both ∙ t)).0 in
+          elim (cases_lt c.loop-i.i 16) [
+            | inl b ↦ (let clash = rw (c.node_at-node.ensures.lawful.word c.loop-i.i b) at told in absurd cc)
+            | inr g ↦ omega arith
+          ];
+      number = λ t. one-number next (closed-consistent next c.in-Some.ensures.is.known)
+          (eqb-true next.low next.high (and_parts c.is_fixed-fixed.result (is_decided next) (sym both ∙ t)).1);
+    }

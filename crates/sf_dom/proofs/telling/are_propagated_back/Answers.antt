@@ -1,7 +1,7 @@
 use Rattle.std.proofs.Common.{arith, refl, sym, ◌∙◌}
 use Rattle.std.proofs.lemmas.Bool.{false≢true}
 use Rattle.sf_dom.specs.Facts.{known_at}
-use Rattle.sf_dom.proofs.Backs.{back-step, goes_back-end, goes_back-other, back-hands, back-on, gained-same, gained-hands}
+use Rattle.sf_dom.proofs.BackLaws.{back-step, goes_back-end, goes_back-other, back-hands, back-on, gained-same, gained-hands}
 use Rattle.sf_dom.proofs.telling.are_propagated_back.Goals as goal
 
 pub returns-in-None : goal.returns-in-None

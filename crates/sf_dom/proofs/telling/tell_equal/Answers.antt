@@ -1,7 +1,21 @@
-use Rattle.std.proofs.Common.{arith, inl, inr}
-use Rattle.sf_dom.proofs.Tellings.{open-equal}
+use Rattle.std.proofs.Common.{◌≢◌, ℕ, ◌≤◌, arith, refl, inl, inr}
+use Rattle.std.proofs.lemmas.Bool.{cases_eq}
+use Rattle.sf_insn.specs.declared.ops.Test.TheVariants.{Equal}
+use Rattle.sf_dom.specs.declared.known.Known.{Known}
+use Rattle.sf_dom.specs.Telling.{IsOpen}
+use Rattle.sf_dom.proofs.TestLaws.{differs-gives, equal-gives}
 use Rattle.sf_dom.proofs.Forcing.{equal-apart, equal-one}
 use Rattle.sf_dom.proofs.telling.tell_equal.Goals as goal
+
+-- a number that passes, and one that fails
+open-equal : (k : Known) (n : ℕ) → k.low ≤ n → n ≤ k.high → k.low ≢ k.high → IsOpen Equal k n
+open-equal k n above below ne = (
+  (n, above, below, equal-gives n n refl),
+  elim (cases_eq k.low n) [
+    | inl e ↦ (k.high, omega arith, omega arith, differs-gives k.high n (λ f. ne (omega arith)))
+    | inr d ↦ (k.low, omega arith, omega arith, differs-gives k.low n d)
+  ],
+)
 
 pub returns-clause-told : goal.returns-clause-told
 returns-clause-told c =
