@@ -13,6 +13,7 @@ use Rattle.sf_sym.specs.declared.pool.Node.TheVariants.{Const}
 use Rattle.sf_sym.specs.declared.pool.NodeId.{NodeId}
 use Rattle.sf_sym.specs.Pool.{value_of}
 use Rattle.sf_piece.specs.declared.machine.SymbolicMachine.{SymbolicMachine}
+use Rattle.sf_piece.specs.Machines.{on}
 use Rattle.sf_piece.specs.Pieces.{PieceData}
 use Rattle.sf_piece.specs.SymbolicRun.{concrete_state, AreNodesBelow}
 use Rattle.sf_piece.specs.Works.{GoesTo, GoesBy, SetsA, SetsX, IsPushed, HasAtHand}
@@ -72,9 +73,6 @@ set_below n (o ∷ ws) zero v h l zero w e =
 set_below n (o ∷ ws) zero v h l (suc k) w e = h (suc k) w e
 set_below n (o ∷ ws) (suc j) v h l zero w e = h zero w e
 set_below n (o ∷ ws) (suc j) v h l (suc k) w e = set_below n ws j v (λ i x y. h (suc i) x y) l k w e
-
-abbrev on : SymbolicMachine → SymbolicMachine
-on m = record m { place = m.place + 1; taken = 0; value = 0 }
 
 pub load_goes : (p : PieceData) (k : ℕ) (w : NodeId) → AreNodesBelow (length p.pool) p.machine
     → slice_get p.machine.scratch k ≡ Some (Some w) → GoesTo p (LoadScratch k) (record (on p.machine) { a = w })

@@ -1,6 +1,6 @@
 -- The instruction at hand, the end, and the first piece.
 use Rattle.std.proofs.lemmas.Grind.{common_steps}
-use Rattle.std.proofs.Common.{◌≡◌, ℕ, zero, suc, ◌+◌, ◌-◌, ◌*◌, ◌<◌, ◌≤◌, ◌^◌, Bool, true, false, List, [], ◌∷◌, ◌++◌, length, drop, map, reverse, get_or, Option, Some, None, slice_get, refl, sym, ap, subst, ◌∙◌, inl, inr, arith, append-nil, length-drop}
+use Rattle.std.proofs.Common.{◌≡◌, ℕ, zero, suc, ◌+◌, ◌-◌, ◌*◌, ◌<◌, ◌≤◌, ◌^◌, Bool, true, false, List, [], ◌∷◌, ◌++◌, length, drop, map, reverse, get_or, Option, Some, None, slice_get, refl, sym, ap, subst, ◌∙◌, arith, append-nil, length-drop}
 use Rattle.std.specs.Prelude.{option_map, if◌then◌else◌}
 use Rattle.std.proofs.lemmas.List.{get_or-reverse, length-reverse}
 use Rattle.std.proofs.lemmas.Option.{same_Some, slice_get-get_or}
@@ -23,10 +23,10 @@ use Rattle.sf_sym.specs.Pool.{IsPool, value_of}
 use Rattle.sf_dom.specs.Facts.{FactsView, Covers, Agrees}
 use Rattle.sf_piece.specs.Machines.{first_machine}
 use Rattle.sf_piece.specs.Pieces.{PieceData, is_member, IsRightAnswer, IsRoot}
-use Rattle.sf_piece.specs.SymbolicRun.{concrete_state, number_from, IsPending, StandsAt, IsPiece, IsLawfulPiece}
+use Rattle.sf_piece.specs.SymbolicRun.{concrete_state, number_from, StandsAt, IsPiece, IsLawfulPiece}
 use Rattle.sf_piece.specs.Works.{HasAtHand}
 use Rattle.sf_piece.proofs.Moves.{runs_whole, route_whole, starts_in, none_taken}
-use Rattle.sf_piece.proofs.Kept.{some_input, none_set}
+use Rattle.sf_piece.proofs.Kept.{some_input, none_set, pre_short}
 
 drop_first : (n : ℕ) (xs : List (List Insn)) (x : List Insn) (ys : List (List Insn)) → drop n xs ≡ x ∷ ys
     → x ≡ get_or xs n []
@@ -107,12 +107,6 @@ at_hand p i h running at =
       taken = short.0;
       value = search (arith, number_small, pow_le);
     }
-  where
-    pre_short : (code : List Insn) (place taken : ℕ) (pre : List Bool) → IsPending code place taken pre → (taken ≤ 32)
-        × (length pre ≡ taken)
-    pre_short code place taken pre (inl q) = (omega (arith, q.0), ap length q.1 ∙ sym q.0)
-    pre_short code place taken pre (inr (inl q)) = (q.1, q.2)
-    pre_short code place taken pre (inr (inr q)) = (omega (arith, q.1), ap length q.2 ∙ sym q.1)
 
 -- the place is in the program
 pub place_inside : (p : PieceData) → IsPiece p → p.machine.program < length p.stack

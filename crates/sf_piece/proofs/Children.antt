@@ -29,7 +29,7 @@ use Rattle.sf_piece.specs.Works.{HasAtHand, Asks, NextIs, IsQuery, IsForeseen, A
 use Rattle.sf_piece.proofs.Moves.{made}
 use Rattle.sf_piece.proofs.Kept.{assembled, returned_nodes, some_input}
 use Rattle.sf_piece.proofs.Queries.{Turned, Meets, branch_turned, return_turned, zero_turned, nonzero_turned, entry_trace}
-use Rattle.sf_piece.proofs.Prefixes.{prefix_next, same-true, and-true}
+use Rattle.sf_piece.proofs.Prefixes.{prefix_next, same_right, same-true, and-true}
 
 -- ---- after any truth value
 
@@ -58,10 +58,6 @@ turned p (Alu op other) b cs fs m h s asks after meets = alu op other b s asks a
 turned p _ b cs fs m h s asks after meets = absurd after
 
 -- ---- members
-
-same_right : (x : Bool) → same x true ≡ x
-same_right true = refl
-same_right false = refl
 
 pub sense_is : (pool : List Node) (d : Input) (cond : Cond) (b : Bool) → cond.sense ≡ true
     → is_met pool d (with_sense cond b) ≡ same (is_met pool d cond) b
@@ -240,6 +236,5 @@ pub piece_named : (p : PieceData) → IsPiece p → IsTrulyNamed p
 piece_named p h = record { route = route_of p h.rest h.base h.pre h.stands; members = h.members }
 
 pub child_is : (p : PieceData) (cond : Cond) (b : Bool) (m : SymbolicMachine) (fs : FactsView)
-    → AreChildFacts p cond b fs
     → IsLawfulPiece (child_of p cond b m fs) → IsChild p cond b (child_of p cond b m fs)
-child_is p cond b m fs facts h = search (arith, child_members)
+child_is p cond b m fs h = search (arith, child_members)

@@ -57,32 +57,11 @@ carried_executed p r i asked (decided.Split f t) (Split g u) at asks h same = (
 carried_executed p r i asked Neither Empty at asks h done = (i, at, inr (inr (asked, asks, h)))
 carried_executed p r i asked _ _ at asks h none = absurd none
 
--- an operation on both words
-pub operation_executed : (p q r : PieceData) (op : BinOp) (other : Operand) (right : NodeId) (step : SmallStep)
-    → IsAtHand p (Alu op other) → divides_at op other p.machine.taken ≡ false → GetsOperand p other (Some (q, right))
-    → q.machine.a ≡ p.machine.a → IsMade (LoadsA q (Bin op q.machine.a right)) r step → IsExecuted p r step
-operation_executed p q r op other right On at goes gets same made =
-    let loads = subst (λ (w : NodeId). LoadsA q (Bin op w right) (Some r)) same made in
-    (1, (r, (Alu op other, at, inr (inl (goes, (Some (q, right), gets, loads)))), refl))
-operation_executed p q r op other right Empty at goes gets same made =
-    let loads = subst (λ (w : NodeId). LoadsA q (Bin op w right) None) same made in
-    (Alu op other, at, inl (goes, (Some (q, right), gets, loads)))
-operation_executed p q r op other right (Split f t) at goes gets same made = absurd made
-operation_executed p q r op other right Settled at goes gets same made = absurd made
-
--- the same of what may want for memory
 pub carried_ok : (p r : PieceData) (i : Insn) (asked : PieceData × Cond) (d : Decision) (o : Result SmallStep Fault)
     → IsAtHand p i → HasQuery p i (Some asked) → IsDecision asked i d → IfOk o (IsCarriedOut p i d r)
     → IfOk o (IsExecuted p r)
 carried_ok p r i asked d (Ok step) at asks h done = carried_executed p r i asked d step at asks h done
 carried_ok p r i asked d (Err e) at asks h done = tt
-
-pub operation_ok : (p q r : PieceData) (op : BinOp) (other : Operand) (right : NodeId) (o : Result SmallStep Fault)
-    → IsAtHand p (Alu op other) → divides_at op other p.machine.taken ≡ false → GetsOperand p other (Some (q, right))
-    → q.machine.a ≡ p.machine.a → IfOk o (IsMade (LoadsA q (Bin op q.machine.a right)) r) → IfOk o (IsExecuted p r)
-operation_ok p q r op other right (Ok step) at goes gets same made =
-    operation_executed p q r op other right step at goes gets same made
-operation_ok p q r op other right (Err e) at goes gets same made = tt
 
 -- ---- a test of A
 
@@ -201,6 +180,14 @@ pub made_ok : (p r : PieceData) (i : Insn) (makes : Option PieceData → Type 0)
     → IfOk o (IsExecuted p r)
 made_ok p r i makes (Ok step) at to h = made_executed p r i makes step at to h
 made_ok p r i makes (Err e) at to h = tt
+
+-- an operation on both words
+pub operation_ok : (p q r : PieceData) (op : BinOp) (other : Operand) (right : NodeId) (o : Result SmallStep Fault)
+    → IsAtHand p (Alu op other) → divides_at op other p.machine.taken ≡ false → GetsOperand p other (Some (q, right))
+    → q.machine.a ≡ p.machine.a → IfOk o (IsMade (LoadsA q (Bin op q.machine.a right)) r) → IfOk o (IsExecuted p r)
+operation_ok p q r op other right o at goes gets same made =
+    made_ok p r (Alu op other) (LoadsA q (Bin op q.machine.a right)) o at
+    (λ n h. (goes, (Some (q, right), gets, subst (λ (w : NodeId). LoadsA q (Bin op w right) n) same h))) made
 
 -- an instruction that moves words about, jumps or returns a constant
 pub moved_executed : (p r : PieceData) (i : Insn) (m : SymbolicMachine) → IsAtHand p i → MovesTo p.machine i m

@@ -19,7 +19,7 @@ use Rattle.sf_piece.specs.Execution.{query, GoesOn, GoesOnFor, code_at}
 use Rattle.sf_piece.specs.Works.{HasGoneOn, IsFailing, AreFailing, IsCodeAtHand, IsAPropagatedBack, behind_chain}
 use Rattle.sf_piece.proofs.AtHand.{at_hand}
 use Rattle.sf_piece.proofs.Children.{taken_on}
-use Rattle.sf_piece.proofs.FailingTests.{next_place, inside_behind, over_one_more}
+use Rattle.sf_piece.proofs.FailingTests.{next_place, over_none, inside_behind, over_one_more}
 use Rattle.sf_piece.proofs.Foretold.{gets_told, forced_test}
 
 -- a piece goes on over one test that fails
@@ -86,35 +86,40 @@ steps_one_more laws p code known n place f next back at is gone steps fails lead
     })) names (subst (λ (k : ℕ). GoesOnFor k p (taken_on q false (next_place q f))) count
     (goes_end n p q (taken_on q false (next_place q f)) steps once)))
 
+-- over n tests that fail a piece has gone on to this place, and by the rules too
+pub record IsOver (p : PieceData) (n place : ℕ) : Type 0 where
+  pub gone : HasGoneOn p (behind_chain p n place)
+  pub rule : ForcedIsLearnt → IsAPropagatedBack p → GoesOnFor n p (behind_chain p n place)
+
 -- a piece behind m tests of a chain goes on over the others
-steps_more : (laws : ForcedIsLearnt) (p : PieceData) (code : List Insn) (known : Known) (m n place behind : ℕ)
-    → IsAPropagatedBack p → IsCodeAtHand p code → known ≡ known_at p.facts.known p.machine.a.0
-    → HasGoneOn p (behind_chain p m place) → GoesOnFor m p (behind_chain p m place)
-    → AreFailing code known n place behind → GoesOnFor (m + n) p (behind_chain p (m + n) behind)
-steps_more laws p code known m zero place behind back at is gone steps failing =
+over_more : (p : PieceData) (code : List Insn) (known : Known) (m n place behind : ℕ) → IsCodeAtHand p code
+    → known ≡ known_at p.facts.known p.machine.a.0 → IsOver p m place → AreFailing code known n place behind
+    → IsOver p (m + n) behind
+over_more p code known m zero place behind at is over failing =
     let e : m ≡ m + 0 = omega arith in
-    subst (λ (k : ℕ). GoesOnFor k p (behind_chain p k behind)) e
-    (subst (λ (q : ℕ). GoesOnFor m p (behind_chain p m q)) (sym failing) steps)
-steps_more laws p code known m (suc n) place behind back at is gone steps failing =
+    subst (λ (k : ℕ). IsOver p k behind) e (subst (λ (q : ℕ). IsOver p m q) (sym failing) over)
+over_more p code known m (suc n) place behind at is over failing =
     let i = failing.0 in
     let skips = failing.1 in
     let read : get_or code place (LoadWord 0) ≡ i = get_or_from_slice_get code place i (LoadWord 0) failing.2 in
     let fails : IsFailing (get_or code place (LoadWord 0)) known skips =
     subst (λ (j : Insn). IsFailing j known skips) (sym read) failing.3 in
     let next : place + 1 + skips ≡ place + (1 + skips) = omega arith in
-    let once = over_one_more p code known m place skips (place + 1 + skips) at is gone fails next in
-    let more = steps_one_more laws p code known m place skips (place + 1
-    + skips) back at is gone steps fails next in
+    let once : IsOver p (m + 1) (place + 1 + skips) = record {
+      gone = over_one_more p code known m place skips (place + 1 + skips) at is over.gone fails next;
+      rule = λ laws back.
+          steps_one_more laws p code known m place skips (place + 1 + skips) back at is over.gone
+          (over.rule laws back) fails next;
+    } in
     let e : m + 1 + n ≡ m + suc n = omega arith in
-    subst (λ (k : ℕ). GoesOnFor k p (behind_chain p k behind)) e
-    (steps_more laws p code known (m + 1) n (place + 1 + skips) behind back at is once more failing.4)
+    subst (λ (k : ℕ). IsOver p k behind) e
+    (over_more p code known (m + 1) n (place + 1 + skips) behind at is once failing.4)
 
 -- a piece goes on over a whole chain from where it stands
-pub steps_failing : (laws : ForcedIsLearnt) (p : PieceData) (code : List Insn) (known : Known) (n behind : ℕ)
-    → IsAPropagatedBack p → IsCodeAtHand p code → known ≡ known_at p.facts.known p.machine.a.0
-    → HasGoneOn p (behind_chain p 0 p.machine.place) → AreFailing code known n p.machine.place behind
-    → GoesOnFor n p (behind_chain p n behind)
-steps_failing laws p code known n behind back at is gone failing =
+pub over_failing : (p : PieceData) (code : List Insn) (known : Known) (n behind : ℕ) → IsLawfulPiece p
+    → IsCodeAtHand p code → known ≡ known_at p.facts.known p.machine.a.0
+    → AreFailing code known n p.machine.place behind → IsOver p n behind
+over_failing p code known n behind h at is failing =
     let e : 0 + n ≡ n = omega arith in
-    subst (λ (k : ℕ). GoesOnFor k p (behind_chain p k behind)) e
-    (steps_more laws p code known 0 n p.machine.place behind back at is gone (steps_none p) failing)
+    let none : IsOver p 0 p.machine.place = record { gone = over_none p h; rule = λ laws back. steps_none p } in
+    subst (λ (k : ℕ). IsOver p k behind) e (over_more p code known 0 n p.machine.place behind at is none failing)

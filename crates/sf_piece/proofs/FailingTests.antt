@@ -3,7 +3,7 @@ use Rattle.std.proofs.Common.{◌≡◌, ◌≢◌, ◌==◌, ℕ, zero, suc, �
 use Rattle.std.proofs.lemmas.Grind.{common_steps}
 use Rattle.std.proofs.lemmas.List.{replicate_more}
 use Rattle.std.proofs.lemmas.Bool.Decides.{nat_tests}
-use Rattle.std.proofs.lemmas.Option.{slice_get-get_or, get_or_from_slice_get}
+use Rattle.std.proofs.lemmas.Option.{slice_get-get_or}
 use Rattle.sf_insn.specs.declared.ops.Test.TheVariants.{Equal}
 use Rattle.sf_check.specs.declared.insn.Insn.{Insn}
 use Rattle.sf_check.specs.declared.insn.Insn.TheVariants.{LoadWord}
@@ -130,31 +130,3 @@ pub few_failing : (code : List Insn) (known : Known) (n place behind : ℕ) → 
 few_failing code known zero place behind failing = omega (arith, failing)
 few_failing code known (suc n) place behind failing =
     omega (arith, few_failing code known n (place + 1 + failing.1) behind failing.4)
-
--- a piece behind m tests of a chain goes on over the others
-over_more : (p : PieceData) (code : List Insn) (known : Known) (m n place behind : ℕ) → IsCodeAtHand p code
-    → known ≡ known_at p.facts.known p.machine.a.0 → HasGoneOn p (behind_chain p m place)
-    → AreFailing code known n place behind → HasGoneOn p (behind_chain p (m + n) behind)
-over_more p code known m zero place behind at is gone failing =
-    let e : m ≡ m + 0 = omega arith in
-    subst (λ (k : ℕ). HasGoneOn p (behind_chain p k behind)) e
-    (subst (λ (q : ℕ). HasGoneOn p (behind_chain p m q)) (sym failing) gone)
-over_more p code known m (suc n) place behind at is gone failing =
-    let i = failing.0 in
-    let skips = failing.1 in
-    let read : get_or code place (LoadWord 0) ≡ i = get_or_from_slice_get code place i (LoadWord 0) failing.2 in
-    let fails : IsFailing (get_or code place (LoadWord 0)) known skips =
-    subst (λ (j : Insn). IsFailing j known skips) (sym read) failing.3 in
-    let once = over_one_more p code known m place skips (place + 1 + skips) at is gone fails (omega arith) in
-    let e : m + 1 + n ≡ m + suc n = omega arith in
-    subst (λ (k : ℕ). HasGoneOn p (behind_chain p k behind)) e
-    (over_more p code known (m + 1) n (place + 1 + skips) behind at is once failing.4)
-
--- a piece goes on over a whole chain from where it stands
-pub over_failing : (p : PieceData) (code : List Insn) (known : Known) (n behind : ℕ) → IsLawfulPiece p
-    → IsCodeAtHand p code → known ≡ known_at p.facts.known p.machine.a.0
-    → AreFailing code known n p.machine.place behind → HasGoneOn p (behind_chain p n behind)
-over_failing p code known n behind h at is failing =
-    let e : 0 + n ≡ n = omega arith in
-    subst (λ (k : ℕ). HasGoneOn p (behind_chain p k behind)) e
-    (over_more p code known 0 n p.machine.place behind at is (over_none p h) failing)

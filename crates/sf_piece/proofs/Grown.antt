@@ -1,6 +1,7 @@
 -- Pieces whose pools have grown.
 use Rattle.std.proofs.lemmas.Grind.{common_steps}
-use Rattle.std.proofs.Common.{◌≡◌, ℕ, ◌<◌, ◌≤◌, Bool, true, false, List, [], ◌∷◌, ◌++◌, length, refl, sym, subst, ◌∙◌, arith, length-append}
+use Rattle.std.proofs.Common.{◌≡◌, ℕ, ◌<◌, ◌≤◌, Bool, List, [], ◌∷◌, ◌++◌, length, refl, sym, subst, ◌∙◌, arith, length-append}
+use Rattle.std.proofs.lemmas.Bool.{false_from_ne_true}
 use Rattle.std.specs.List.{AllByRecursion}
 use Rattle.sf_insn.specs.declared.input.Input.{Input}
 use Rattle.sf_check.specs.declared.insn.Insn.{Insn}
@@ -101,9 +102,5 @@ pub pushed : (p : PieceData) (added : List Node) (fs : FactsView) (node : Node) 
     → ((c : ℕ) → node ≡ Const c → node_at (p.pool ++ added) id.0 ≡ Const c) → IsPushed p node (grown p added fs) id
 pushed p added fs node id h lawful within value constant = search (arith, has_grown)
 
-bool_false : (b : Bool) → (b ≡ true → ⊥) → b ≡ false
-bool_false true h = absurd (h refl)
-bool_false false h = refl
-
 pub none_member : (p : PieceData) → IsPiece p → NoneAgrees p.facts p.pool → HasNoMember p
-none_member p h none = grind (arith, common_steps, bool_false)
+none_member p h none = grind (arith, common_steps, false_from_ne_true)

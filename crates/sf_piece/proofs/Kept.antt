@@ -43,19 +43,31 @@ div_clash : (b : Bool) (u t : State) → (if b then returns (true ∷ []) 0 else
 div_clash true u t e = cc
 div_clash false u t e = cc
 
+-- as many truth values are in the name as are taken
+pub pre_short : (code : List Insn) (place taken : ℕ) (pre : List Bool) → IsPending code place taken pre
+    → (taken ≤ 32) × (length pre ≡ taken)
+pre_short code place taken pre (inl q) = (omega (arith, q.0), ap length q.1 ∙ sym q.0)
+pre_short code place taken pre (inr (inl q)) = (q.1, q.2)
+pre_short code place taken pre (inr (inr q)) = (omega (arith, q.1), ap length q.2 ∙ sym q.1)
+
 -- only a return of A and a division by X have truth values in the name while they are at hand
-none_pending : (code : List Insn) (place taken : ℕ) (pre : List Bool) (i : Insn) → IsPending code place taken pre
-    → IsAt code place i → (i ≡ ReturnA → ⊥) → (i ≡ Alu Div X → ⊥) → pre ≡ []
-none_pending code place taken pre i (inl p) at no_return no_division = p.1
+pub none_pending : (code : List Insn) (place taken : ℕ) (pre : List Bool) (i : Insn) → IsPending code place taken pre
+    → IsAt code place i → (i ≡ ReturnA → ⊥) → (i ≡ Alu Div X → ⊥) → (taken ≡ 0) × (pre ≡ [])
+none_pending code place taken pre i (inl p) at no_return no_division = p
 none_pending code place taken pre i (inr (inl p)) at no_return no_division =
     absurd (no_return (at_same code place i ReturnA at p.0))
 none_pending code place taken pre i (inr (inr p)) at no_return no_division =
     absurd (no_division (at_same code place i (Alu Div X) at p.0))
 
+none_named : (code : List Insn) (place taken : ℕ) (pre : List Bool) (i : Insn) → IsPending code place taken pre
+    → IsAt code place i → (i ≡ ReturnA → ⊥) → (i ≡ Alu Div X → ⊥) → pre ≡ []
+none_named code place taken pre i p at no_return no_division =
+    (none_pending code place taken pre i p at no_return no_division).1
+
 -- where a step meets nothing, nothing of it is in the name
 nothing_taken : (code : List Insn) (place taken : ℕ) (pre : List Bool) (i : Insn) (d : Input) (s t : State)
     → IsPending code place taken pre → IsAt code place i → insn_progress d s i ≡ goes [] t → pre ≡ []
-nothing_taken code place taken pre i d s t pending at e = grind (arith, common_steps, none_pending, div_clash)
+nothing_taken code place taken pre i d s t pending at e = grind (arith, common_steps, none_named, div_clash)
 
 -- where the instruction leads, the state with the same scratch words is reachable
 pub safe_moved : (code : List Insn) (s t : State) (i : Insn) → IsLawfulProgram code → IsReachable code s
@@ -206,7 +218,7 @@ unfolding is_member
 return_stands p i v h s (inl is) =
     let at : IsAt s.code p.machine.place (ReturnConstant v) =
     subst (λ (j : Insn). IsAt s.code p.machine.place j) is s.at in
-    let none = none_pending s.code p.machine.place p.machine.taken s.pre (ReturnConstant v) s.stands.inside.pending at
+    let none = none_named s.code p.machine.place p.machine.taken s.pre (ReturnConstant v) s.stands.inside.pending at
     (λ is. cc) (λ is. cc) in (
       s.base ++ [],
       stands_returned p s.code s.later s.base s.pre [] (ReturnConstant v) v p.name p.conditions p.facts
@@ -215,7 +227,7 @@ return_stands p i v h s (inl is) =
     )
 return_stands p i v h s (inr (is, full, same)) =
     let at : IsAt s.code p.machine.place ReturnA = subst (λ (j : Insn). IsAt s.code p.machine.place j) is s.at in
-    let len = pending s.stands.inside.pending at full in (
+    let len = (pre_short s.code p.machine.place p.machine.taken s.pre s.stands.inside.pending).1 ∙ full in (
       s.base ++ s.pre,
       stands_returned p s.code s.later s.base s.pre s.pre ReturnA v p.name p.conditions p.facts s.stands at (len, refl)
           s.stands.name_is h.zero
@@ -229,13 +241,6 @@ return_stands p i v h s (inr (is, full, same)) =
           (member, returns_are (sym met) (sym value))),
     )
   where
-    pending : IsPending s.code p.machine.place p.machine.taken s.pre → IsAt s.code p.machine.place ReturnA
-        → p.machine.taken ≡ 32 → length s.pre ≡ 32
-    pending (inl q) at full = absurd (omega (arith, q.0))
-    pending (inr (inl q)) at full = q.2 ∙ full
-    pending (inr (inr q)) at full = let clash : Alu Div X ≡ ReturnA =
-        at_same s.code p.machine.place (Alu Div X) ReturnA q.0 at in absurd cc
-
     returns_are : {l l' : List Bool} {n n' : ℕ} → l ≡ l' → n ≡ n' → returns l n ≡ returns l' n'
     returns_are e f = cc
 

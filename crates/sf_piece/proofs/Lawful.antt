@@ -1,6 +1,6 @@
 -- Pieces stay lawful: the symbolic run stands where it should, and on a plain stack nothing is lost.
 use Rattle.std.proofs.lemmas.Grind.{common_steps}
-use Rattle.std.proofs.Common.{◌≡◌, ℕ, ◌<◌, Bool, List, [], ◌∷◌, ◌++◌, length, replicate, refl, ap, ◌∙◌, arith}
+use Rattle.std.proofs.Common.{◌≡◌, ℕ, ◌<◌, Bool, List, [], ◌∷◌, ◌++◌, length, replicate, refl, arith}
 use Rattle.std.specs.Prelude.{Option, Some, None, IfSome, MatchOption}
 use Rattle.std.proofs.lemmas.Bool.{false_from_ne_true}
 use Rattle.std.proofs.lemmas.List.Elements.{All-nil}
@@ -26,12 +26,13 @@ use Rattle.sf_piece.specs.declared.machine.SymbolicMachine.{SymbolicMachine}
 use Rattle.sf_piece.specs.Pieces.{PieceData, is_member}
 use Rattle.sf_piece.specs.PlainPieces.{IsPlainPiece}
 use Rattle.sf_piece.specs.SymbolicRun.{IsPiece, IsLawfulPiece}
-use Rattle.sf_piece.specs.Works.{HasAtHand, GoesTo, ReturnsNow, IsQuery, IsForeseen, PassesAlways, IsOperandNumber, AfterTruthValue, AreChildFacts, IsChild, IsNever, with_sense}
+use Rattle.sf_piece.specs.Works.{HasAtHand, GoesTo, ReturnsNow, IsQuery, IsForeseen, PassesAlways, AfterTruthValue, AreChildFacts, IsChild, IsNever, with_sense}
 use Rattle.sf_piece.specs.Machines.{after_return}
 use Rattle.sf_piece.proofs.Kept.{gone, go_piece, return_piece}
 use Rattle.sf_piece.proofs.Children.{taken_on, take_piece, child_of, child_piece, child_is, piece_named}
 use Rattle.sf_piece.proofs.Grown.{grown, grown_piece}
 use Rattle.sf_piece.proofs.AtHand.{first_piece, first_is}
+use Rattle.sf_piece.proofs.Foretold.{told_always}
 use Rattle.sf_piece.proofs.Plain.{plain_kept, plain_grown, plain_child, sensed_plain}
 
 lawful : (p : PieceData) → IsPiece p → (IsPlain p.stack → IsPlainPiece p) → IsLawfulPiece p
@@ -59,23 +60,12 @@ lawful_child p i cond b m fs h s e facts after =
     lawful (child_of p cond b m fs) (child_piece p i cond b m fs h.run s e facts after)
     (λ is. plain_child p cond b m fs (h.plain is) (e.plain is) facts (facts.plain is))
 
--- the answer of the facts on a test of A is right: one result on every member, or nothing said
-pub foretold : (p : PieceData) (test : Test) (other : Operand) (n : ℕ) (o : Option Bool) → IsPiece p
-    → IsOperandNumber p other n
-    → IfSome o (λ b. (d : Input) → IsInput d → Agrees p.facts p.pool d
-    → passes test (value_of p.pool d p.machine.a.0) n ≡ b)
-    → IfSome o (λ b. PassesAlways p test other b)
-foretold p test other n None h is told = told
-foretold p test other n (Some b) h is told = λ d inp member.
-    let agrees = h.known d inp member in
-    ap (passes test (value_of p.pool d p.machine.a.0)) (is d inp agrees) ∙ told d inp agrees
-
 -- where what is known of A tells a test of it against a number, the test has that result on every member
 pub told_of_known : (p : PieceData) (test : Test) (other : Operand) (n : ℕ) (known : Known) (b : Bool) → IsPiece p
     → other ≡ Constant n → known ≡ known_at p.facts.known p.machine.a.0
     → ((x : ℕ) → Admits known x → passes test x n ≡ b) → PassesAlways p test other b
 unfolding Agrees
-told_of_known p test other n known b h e is told = search (arith, foretold)
+told_of_known p test other n known b h e is told = search (arith, told_always)
 
 -- what is learnt from the piece's facts
 pub learnt_child : (laws : IsLearningSound) (p : PieceData) (cond : Cond) (b : Bool) (o : Option FactsView) → IsPiece p
@@ -92,9 +82,7 @@ learnt_child laws p cond b (Some fs) h below plain covers rule =
     record {
       covers = covers;
       known = λ d inp member. learns.keeps d inp (h.known d inp member);
-      narrower = learns.narrower;
       rule = rule;
-      decided = learns.decided;
       plain = λ is. learns.only (sensed_plain p.pool cond b (plain is));
     }
 

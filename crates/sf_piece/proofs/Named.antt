@@ -1,6 +1,6 @@
--- Names, stacks and pools of what is made of a piece.
-use Rattle.std.proofs.Common.{append_assoc, append-nil, ◌≡◌, ℕ, zero, suc, ◌-◌, ◌^◌, Bool, true, false, List, [], ◌∷◌, ◌++◌, refl, sym, ap, subst, ◌∙◌, inl, inr}
-use Rattle.std.specs.Prelude.{Option, Some, None, MatchOption}
+-- Names, stacks, pools and words of what is made of a piece.
+use Rattle.std.proofs.Common.{append_assoc, append-nil, length-append, ◌≡◌, ℕ, zero, suc, ◌+◌, ◌-◌, ◌^◌, ◌≤◌, Bool, true, false, List, [], ◌∷◌, ◌++◌, length, refl, sym, ap, subst, ◌∙◌, inl, inr, arith}
+use Rattle.std.specs.Prelude.{Option, Some, None, MatchOption, if◌then◌else◌}
 use Rattle.std.proofs.lemmas.Option.{same_Some}
 use Rattle.sf_insn.specs.declared.ops.Test.TheVariants.{Equal, AnyBit}
 use Rattle.sf_check.specs.declared.insn.Insn.{Insn}
@@ -11,30 +11,36 @@ use Rattle.sf_sym.specs.declared.pool.Cond.{Cond}
 use Rattle.sf_sym.specs.declared.pool.Node.{Node}
 use Rattle.sf_sym.specs.declared.pool.Node.TheVariants.{Const, Word, Bin, Neg}
 use Rattle.sf_sym.specs.declared.pool.NodeId.{NodeId}
-use Rattle.sf_sym.specs.Pool.{IsPool}
+use Rattle.sf_sym.specs.Pool.{IsPool, folded_node}
 use Rattle.sf_dom.specs.Rules.{Then}
+use Rattle.sf_piece.specs.declared.machine.SymbolicMachine.{SymbolicMachine}
 use Rattle.sf_piece.specs.Pieces.{PieceData, Split}
-use Rattle.sf_piece.specs.Execution.{IsGiven, Gets, GetsOperand, piece_with_a, piece_with_x, LoadsA, LoadsX, Computes, query, HasQuery, MakesOf, GoesOnFor, HasStep, IsBelow}
+use Rattle.sf_piece.specs.Execution.{IsPutIn, IsGiven, Gets, GetsOperand, with_machine, piece_with_a, piece_with_x, LoadsA, LoadsX, Computes, query, HasQuery, IsSide, MakesOf, GoesOnFor, SplitsInto, HasStep, IsBelow}
 
--- the same name and stack, and a lawful pool if there was one
-pub record IsKept (p q : PieceData) : Type 0 where
-  pub name : q.name ≡ p.name
-  pub stack : q.stack ≡ p.stack
-  pub pool : IsPool p.pool → IsPool q.pool
+-- ---- words
 
-kept_on : (p q r : PieceData) → IsKept p q → IsKept q r → IsKept p r
-kept_on p q r h k = record { name = k.name ∙ h.name; stack = k.stack ∙ h.stack; pool = λ l. k.pool (h.pool l) }
+-- all stays but the pool and the facts; there is at most one node more, and the pool stays lawful
+pub record IsMore (p q : PieceData) : Type 0 where
+  pub rest : q ≡ record p { pool = q.pool; facts = q.facts }
+  pub pool : length q.pool ≤ length p.pool + 1
+  pub lawful : IsPool p.pool → IsPool q.pool
 
-kept_refl : (p : PieceData) → IsKept p p
-kept_refl p = record { name = refl; stack = refl; pool = λ l. l }
+same_more : (p : PieceData) → IsMore p p
+same_more p = record { rest = refl; pool = omega arith; lawful = λ l. l }
 
-kept_given : (p : PieceData) (node : Node) (given : PieceData × NodeId) → IsGiven p node given.0 given.1
-    → IsKept p given.0
-kept_given p node given h = record {
-  name = ap (λ (r : PieceData). r.name) h.rest;
-  stack = ap (λ (r : PieceData). r.stack) h.rest;
-  pool = λ _. h.lawful;
-}
+given_more : (p q : PieceData) (node : Node) (id : NodeId) → IsGiven p node q id → IsMore p q
+given_more p q node id h = record { rest = h.rest; pool = by h.pool; lawful = λ _. h.lawful }
+  where
+    by : IsPutIn p.pool node q.pool id → length q.pool ≤ length p.pool + 1
+    by (inl there) = omega (arith, ap length there.1)
+    by (inr new) =
+        omega (arith, ap length new.2, length-append p.pool (folded_node p.pool node ∷ []))
+
+pub operand_more : (p : PieceData) (other : Operand) (given : PieceData × NodeId) → GetsOperand p other (Some given)
+    → IsMore p given.0
+operand_more p (Constant k) given h = given_more p given.0 (Const k) given.1 h
+operand_more p X given h =
+    subst (λ (g : PieceData × NodeId). IsMore p g.0) (sym (same_Some given (p, p.machine.x) h)) (same_more p)
 
 -- where two steps give something, so did the first
 both_gave : {A B : Type 0} (first : Option A → Type 0) (second : A → Option B → Type 0) (b : B)
@@ -46,53 +52,80 @@ both_gave {A} {B} first second b h = on h.0 h.1 h.2
     on None i x = let clash : Some b ≡ None = x in absurd cc
     on (Some a) i x = (a, i, x)
 
-loads_keep : (p q : PieceData) (node : Node) → LoadsA p node (Some q) → IsKept p q
-loads_keep p q node h =
-    let m = both_gave (Gets p node) (λ given next. next ≡ Some (piece_with_a given)) q h in
-    let k = kept_given p node m.0 m.1 in
-    subst (IsKept p) (sym (same_Some q (piece_with_a m.0) m.2))
-    (record { name = k.name; stack = k.stack; pool = k.pool })
-
-loads_x_keep : (p q : PieceData) (c : ℕ) → LoadsX p c (Some q) → IsKept p q
-loads_x_keep p q c h =
-    let m = both_gave (Gets p (Const c)) (λ given next. next ≡ Some (piece_with_x given)) q h in
-    let k = kept_given p (Const c) m.0 m.1 in
-    subst (IsKept p) (sym (same_Some q (piece_with_x m.0) m.2))
-    (record { name = k.name; stack = k.stack; pool = k.pool })
-
-pub operand_keeps : (p : PieceData) (other : Operand) (given : PieceData × NodeId) → GetsOperand p other (Some given)
-    → IsKept p given.0
-operand_keeps p (Constant k) given h = kept_given p (Const k) given h
-operand_keeps p X given h =
-    subst (λ (g : PieceData × NodeId). IsKept p g.0) (sym (same_Some given (p, p.machine.x) h)) (kept_refl p)
-
-computes_keeps : (p q : PieceData) (i : Insn) → Computes p i (Some q) → IsKept p q
-computes_keeps p q (LoadWord w) h = loads_keep p q (Word w) h
-computes_keeps p q (LoadConstant c) h = loads_keep p q (Const c) h
-computes_keeps p q LoadLength h = loads_keep p q (Const 64) h
-computes_keeps p q (LoadXConstant c) h = loads_x_keep p q c h
-computes_keeps p q LoadXLength h = loads_x_keep p q 64 h
-computes_keeps p q Negate h = loads_keep p q (Neg p.machine.a) h
-computes_keeps p q (Alu op other) h =
-    let m = both_gave (GetsOperand p other) (λ right. LoadsA right.0 (Bin op p.machine.a right.1)) q h.1 in
-    kept_on p m.0.0 q (operand_keeps p other m.0 m.1) (loads_keep m.0.0 q (Bin op p.machine.a m.0.1) m.2)
-computes_keeps p q _ h = absurd h
-
-pub query_keeps : (p : PieceData) (i : Insn) (asked : PieceData × Cond) → HasQuery p i (Some asked)
-    → IsKept p asked.0
-query_keeps p (Branch test other t f) asked h =
+pub query_more : (p : PieceData) (i : Insn) (asked : PieceData × Cond) → HasQuery p i (Some asked) → IsMore p asked.0
+query_more p (Branch test other t f) asked h =
     let m = both_gave (GetsOperand p other) (λ right q. q ≡ Some (right.0, query p.machine.a test right.1)) asked h in
-    subst (λ (a : PieceData × Cond). IsKept p a.0) (sym (same_Some asked (m.0.0, query p.machine.a test m.0.1) m.2))
-    (operand_keeps p other m.0 m.1)
-query_keeps p ReturnA asked h =
+    subst (λ (a : PieceData × Cond). IsMore p a.0) (sym (same_Some asked (m.0.0, query p.machine.a test m.0.1) m.2))
+    (operand_more p other m.0 m.1)
+query_more p ReturnA asked h =
     let bit : Node = Const (2 ^ (31 - p.machine.taken)) in
     let m = both_gave (Gets p bit) (λ bit q. q ≡ Some (bit.0, query p.machine.a AnyBit bit.1)) asked h.1 in
-    subst (λ (a : PieceData × Cond). IsKept p a.0) (sym (same_Some asked (m.0.0, query p.machine.a AnyBit m.0.1) m.2))
-    (kept_given p bit m.0 m.1)
-query_keeps p (Alu op other) asked h =
-    subst (λ (a : PieceData × Cond). IsKept p a.0)
-    (sym (same_Some asked (p, query p.machine.x Equal p.machine.zero) h.1)) (kept_refl p)
-query_keeps p _ asked h = absurd h
+    subst (λ (a : PieceData × Cond). IsMore p a.0) (sym (same_Some asked (m.0.0, query p.machine.a AnyBit m.0.1) m.2))
+    (given_more p m.0.0 bit m.0.1 m.1)
+query_more p (Alu op other) asked h =
+    subst (λ (a : PieceData × Cond). IsMore p a.0)
+    (sym (same_Some asked (p, query p.machine.x Equal p.machine.zero) h.1)) (same_more p)
+query_more p _ asked h = absurd h
+
+-- the piece goes on to the next instruction with a word that it made, with at most two nodes more
+pub record HasWord (p q : PieceData) : Type 0 where
+  pub stack : q.stack ≡ p.stack
+  pub name : q.name ≡ p.name
+  pub conditions : q.conditions ≡ p.conditions
+  pub pool : length q.pool ≤ length p.pool + 2
+  pub lawful : IsPool p.pool → IsPool q.pool
+  pub program : q.machine.program ≡ p.machine.program
+  pub place : q.machine.place ≡ p.machine.place + 1
+  pub taken : q.machine.taken ≡ 0
+
+-- so it does where what a piece with one node more is given one more, and the machine goes on
+word_of : (p mid given q : PieceData) (m : SymbolicMachine) → IsMore p mid → IsMore mid given → q ≡ with_machine given m
+    → m.program ≡ given.machine.program → m.place ≡ given.machine.place + 1 → m.taken ≡ 0 → HasWord p q
+word_of p mid given q m one two same program place taken =
+    let machine : given.machine ≡ p.machine = ap (λ (r : PieceData). r.machine) two.rest
+    ∙ ap (λ (r : PieceData). r.machine) one.rest in
+    let mine : q.machine ≡ m = ap (λ (r : PieceData). r.machine) same in
+    record {
+      stack = ap (λ (r : PieceData). r.stack) same ∙ ap (λ (r : PieceData). r.stack) two.rest
+          ∙ ap (λ (r : PieceData). r.stack) one.rest;
+      name = ap (λ (r : PieceData). r.name) same ∙ ap (λ (r : PieceData). r.name) two.rest
+          ∙ ap (λ (r : PieceData). r.name) one.rest;
+      conditions = ap (λ (r : PieceData). r.conditions) same ∙ ap (λ (r : PieceData). r.conditions) two.rest
+          ∙ ap (λ (r : PieceData). r.conditions) one.rest;
+      pool = omega (arith, ap (λ (r : PieceData). length r.pool) same, two.pool, one.pool);
+      lawful = λ l. subst (λ (r : PieceData). IsPool r.pool) (sym same) (two.lawful (one.lawful l));
+      program = ap (λ (n : SymbolicMachine). n.program) mine ∙ program
+          ∙ ap (λ (n : SymbolicMachine). n.program) machine;
+      place = ap (λ (n : SymbolicMachine). n.place) mine ∙ place
+          ∙ ap (λ (n : SymbolicMachine). n.place + 1) machine;
+      taken = ap (λ (n : SymbolicMachine). n.taken) mine ∙ taken;
+    }
+
+loads_word : (p mid q : PieceData) (node : Node) → IsMore p mid → LoadsA mid node (Some q) → HasWord p q
+loads_word p mid q node more h =
+    let m = both_gave (Gets mid node) (λ given next. next ≡ Some (piece_with_a given)) q h in
+    word_of p mid m.0.0 q (piece_with_a m.0).machine more (given_more mid m.0.0 node m.0.1 m.1)
+    (same_Some q (piece_with_a m.0) m.2) refl refl refl
+
+loads_x_word : (p q : PieceData) (k : ℕ) → LoadsX p k (Some q) → HasWord p q
+loads_x_word p q k h =
+    let m = both_gave (Gets p (Const k)) (λ given next. next ≡ Some (piece_with_x given)) q h in
+    word_of p p m.0.0 q (piece_with_x m.0).machine (same_more p) (given_more p m.0.0 (Const k) m.0.1 m.1)
+    (same_Some q (piece_with_x m.0) m.2) refl refl refl
+
+pub computes_word : (p q : PieceData) (i : Insn) → Computes p i (Some q) → HasWord p q
+computes_word p q (LoadWord w) h = loads_word p p q (Word w) (same_more p) h
+computes_word p q (LoadConstant k) h = loads_word p p q (Const k) (same_more p) h
+computes_word p q LoadLength h = loads_word p p q (Const 64) (same_more p) h
+computes_word p q (LoadXConstant k) h = loads_x_word p q k h
+computes_word p q LoadXLength h = loads_x_word p q 64 h
+computes_word p q Negate h = loads_word p p q (Neg p.machine.a) (same_more p) h
+computes_word p q (Alu op other) h =
+    let m = both_gave (GetsOperand p other) (λ right. LoadsA right.0 (Bin op p.machine.a right.1)) q h.1 in
+    loads_word p m.0.0 q (Bin op p.machine.a m.0.1) (operand_more p other m.0 m.1) m.2
+computes_word p q _ h = absurd h
+
+-- ---- names
 
 -- a piece that has gone on has a name that goes on
 pub record HasGoneOn (p q : PieceData) : Type 0 where
@@ -109,8 +142,8 @@ made_on p i q (inl m) = record {
   pool = λ l. subst (λ (r : PieceData). IsPool r.pool) (sym m.2) l;
 }
 made_on p i q (inr (inl m)) =
-    let k = computes_keeps p q i m in
-    record { on = []; name = k.name ∙ sym (append-nil p.name); stack = k.stack; pool = k.pool }
+    let w = computes_word p q i m in
+    record { on = []; name = w.name ∙ sym (append-nil p.name); stack = w.stack; pool = w.lawful }
 made_on p i q (inr (inr m)) = record {
   on = m.1 ∷ [];
   name = ap (λ (r : PieceData). r.name) m.4.rest;
@@ -135,34 +168,32 @@ goes_named (suc n) p q h =
       pool = λ l. rest.pool (one.pool l);
     }
 
+-- the side of a split on which its query has this truth value
+pub side_of : (q f t : PieceData) (s : SplitsInto q f t) (b : Bool) → IsSide s.1 s.0 b (if b then t else f)
+side_of q f t s true = s.5
+side_of q f t s false = s.4
+
 -- both pieces of a split are named by what came, and then by their truth values
 pub record AreNamedSides (r f t : PieceData) : Type 0 where
   pub on : List Bool
-  pub false_name : f.name ≡ r.name ++ on ++ false ∷ []
-  pub true_name : t.name ≡ r.name ++ on ++ true ∷ []
-  pub false_stack : f.stack ≡ r.stack
-  pub true_stack : t.stack ≡ r.stack
-  pub false_pool : IsPool r.pool → IsPool f.pool
-  pub true_pool : IsPool r.pool → IsPool t.pool
+  pub name : (b : Bool) → (if b then t else f).name ≡ r.name ++ on ++ b ∷ []
+  pub stack : (b : Bool) → (if b then t else f).stack ≡ r.stack
+  pub pool : (b : Bool) → IsPool r.pool → IsPool (if b then t else f).pool
 
 pub sides_named : (r f t : PieceData) (name : List Bool) → HasStep r (Split f t) name → AreNamedSides r f t
 sides_named r f t name h =
     let q = h.1 in
     let went = goes_named h.0 r q h.2 in
     let s = h.3.0 in
-    let asked = query_keeps q s.0 s.1 s.3 in
-    let named : (b : Bool) (c : PieceData) → c.name ≡ s.1.0.name ++ b ∷ [] → c.name ≡ r.name ++ went.on ++ b ∷ []
-    = λ b c e. e ∙ ap (λ (l : List Bool). l ++ b ∷ []) (asked.name ∙ went.name) in
-    let lawful : (c : PieceData) → c.pool ≡ s.1.0.pool → IsPool r.pool → IsPool c.pool
-    = λ c e l. subst IsPool (sym e) (asked.pool (went.pool l)) in
+    let asked = query_more q s.0 s.1 s.3 in
     record {
       on = went.on;
-      false_name = named false f (ap (λ (c : PieceData). c.name) s.4.rest);
-      true_name = named true t (ap (λ (c : PieceData). c.name) s.5.rest);
-      false_stack = ap (λ (c : PieceData). c.stack) s.4.rest ∙ asked.stack ∙ went.stack;
-      true_stack = ap (λ (c : PieceData). c.stack) s.5.rest ∙ asked.stack ∙ went.stack;
-      false_pool = lawful f (ap (λ (c : PieceData). c.pool) s.4.rest);
-      true_pool = lawful t (ap (λ (c : PieceData). c.pool) s.5.rest);
+      name = λ b. ap (λ (c : PieceData). c.name) (side_of q f t s b).rest
+          ∙ ap (λ (l : List Bool). l ++ b ∷ []) (ap (λ (c : PieceData). c.name) asked.rest ∙ went.name);
+      stack = λ b. ap (λ (c : PieceData). c.stack) (side_of q f t s b).rest
+          ∙ ap (λ (c : PieceData). c.stack) asked.rest ∙ went.stack;
+      pool = λ b l. subst IsPool (sym (ap (λ (c : PieceData). c.pool) (side_of q f t s b).rest))
+          (asked.lawful (went.pool l));
     }
 
 group : (xs on x : List Bool) (b : Bool) → (xs ++ on ++ b ∷ []) ++ x ≡ xs ++ ((on ++ b ∷ []) ++ x)
@@ -174,17 +205,9 @@ regroup xs on x b = append_assoc (xs ++ on) (b ∷ []) x
 
 pub below_named : (bs : List Bool) (r p : PieceData) → IsBelow bs r p → (on : List Bool) × (p.name ≡ r.name ++ on)
 below_named [] r p h = ([], ap (λ (c : PieceData). c.name) h ∙ sym (append-nil r.name))
-below_named (true ∷ bs) r p h =
+below_named (b ∷ bs) r p h =
     let sides = sides_named r h.0 h.1 r.name h.2 in
-    let rest = below_named bs h.1 p h.3 in (
-      (sides.on ++ true ∷ []) ++ rest.0,
-      rest.1 ∙ ap (λ (l : List Bool). l ++ rest.0) sides.true_name
-          ∙ group r.name sides.on rest.0 true,
-    )
-below_named (false ∷ bs) r p h =
-    let sides = sides_named r h.0 h.1 r.name h.2 in
-    let rest = below_named bs h.0 p h.3 in (
-      (sides.on ++ false ∷ []) ++ rest.0,
-      rest.1 ∙ ap (λ (l : List Bool). l ++ rest.0) sides.false_name
-          ∙ group r.name sides.on rest.0 false,
+    let rest = below_named bs (if b then h.1 else h.0) p h.3 in (
+      (sides.on ++ b ∷ []) ++ rest.0,
+      rest.1 ∙ ap (λ (l : List Bool). l ++ rest.0) (sides.name b) ∙ group r.name sides.on rest.0 b,
     )

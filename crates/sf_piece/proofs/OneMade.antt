@@ -1,7 +1,6 @@
 -- What is made of a piece is one thing, if facts learn and grow in one way at most.
 use Rattle.std.proofs.Common.{◌≡◌, ℕ, ◌-◌, ◌^◌, Bool, true, false, List, [], ◌∷◌, ◌++◌, refl, sym, ap, subst, ◌∙◌, inl, inr}
 use Rattle.std.specs.Prelude.{Option, Some, None}
-use Rattle.std.proofs.lemmas.Option.{same_Some}
 use Rattle.sf_insn.specs.declared.ops.BinOp.{BinOp}
 use Rattle.sf_insn.specs.declared.ops.BinOp.TheVariants.{Div}
 use Rattle.sf_insn.specs.declared.ops.Test.TheVariants.{AnyBit}
@@ -21,6 +20,7 @@ use Rattle.sf_dom.specs.ThenLaws.{then-one}
 use Rattle.sf_piece.specs.declared.machine.SymbolicMachine.{SymbolicMachine}
 use Rattle.sf_piece.specs.Pieces.{PieceData}
 use Rattle.sf_piece.specs.Execution.{IsPutIn, IsGiven, Gets, GetsOperand, piece_with_a, piece_with_x, LoadsA, LoadsX, Computes, query, HasQuery, with_sense, AfterTruthValue, CanLearn, LeavesOnly, IsSide, IsNamedOn}
+use Rattle.sf_piece.proofs.Named.{operand_more}
 
 -- ---- pools
 
@@ -74,12 +74,6 @@ module _ (laws : HaveOneResult) where
   operand_one p (Constant k) pool o r h g = gets_one p (Const k) pool o r h g
   operand_one p X pool o r h g = h ∙ sym g
 
-  operand_pool : (p : PieceData) (other : Operand) (given : PieceData × NodeId) → IsPool p.pool
-      → GetsOperand p other (Some given) → IsPool given.0.pool
-  operand_pool p (Constant k) given pool h = h.lawful
-  operand_pool p X given pool h =
-      subst (λ (g : PieceData × NodeId). IsPool g.0.pool) (sym (same_Some given (p, p.machine.x) h)) pool
-
   loads_one : (p : PieceData) (node : Node) → IsPool p.pool → (m n : Option PieceData) → LoadsA p node m
       → LoadsA p node n → m ≡ n
   loads_one p node pool = then-one (Gets p node) (λ given next. next ≡ Some (piece_with_a given))
@@ -100,7 +94,8 @@ module _ (laws : HaveOneResult) where
   computes_one p Negate m n pool h k = loads_one p (Neg p.machine.a) pool m n h k
   computes_one p (Alu op other) m n pool h k =
       then-one (GetsOperand p other) (λ right. LoadsA right.0 (Bin op p.machine.a right.1)) (operand_one p other pool)
-      (λ right g. loads_one right.0 (Bin op p.machine.a right.1) (operand_pool p other right pool g)) m n h.1 k.1
+      (λ right g. loads_one right.0 (Bin op p.machine.a right.1) ((operand_more p other right g).lawful pool))
+      m n h.1 k.1
   computes_one p _ m n pool h k = absurd h
 
   -- ---- truth values

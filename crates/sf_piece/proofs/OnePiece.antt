@@ -38,19 +38,12 @@ no_longer xs bs b cs e = omega (
 -- a piece below another one has a longer name
 below_longer : (b : Bool) (bs : List Bool) (r p : PieceData) → IsBelow (b ∷ bs) r p
     → (on : List Bool) × (more : List Bool) × (p.name ≡ r.name ++ on ++ b ∷ more)
-below_longer true bs r p h =
+below_longer b bs r p h =
     let sides = sides_named r h.0 h.1 r.name h.2 in
-    let rest = below_named bs h.1 p h.3 in (
+    let rest = below_named bs (if b then h.1 else h.0) p h.3 in (
       sides.on,
       rest.0,
-      rest.1 ∙ ap (λ (l : List Bool). l ++ rest.0) sides.true_name ∙ regroup r.name sides.on rest.0 true,
-    )
-below_longer false bs r p h =
-    let sides = sides_named r h.0 h.1 r.name h.2 in
-    let rest = below_named bs h.0 p h.3 in (
-      sides.on,
-      rest.0,
-      rest.1 ∙ ap (λ (l : List Bool). l ++ rest.0) sides.false_name ∙ regroup r.name sides.on rest.0 false,
+      rest.1 ∙ ap (λ (l : List Bool). l ++ rest.0) (sides.name b) ∙ regroup r.name sides.on rest.0 b,
     )
 
 -- a piece on the false side isn't named as one on the true side
@@ -60,9 +53,9 @@ apart r f t p q bs cs sides h k e =
     let one = below_named bs f p h in
     let two = below_named cs t q k in
     let left : p.name ≡ (r.name ++ sides.on) ++ false ∷ one.0
-    = one.1 ∙ ap (λ (l : List Bool). l ++ one.0) sides.false_name ∙ regroup r.name sides.on one.0 false in
+    = one.1 ∙ ap (λ (l : List Bool). l ++ one.0) (sides.name false) ∙ regroup r.name sides.on one.0 false in
     let right : q.name ≡ (r.name ++ sides.on) ++ true ∷ two.0
-    = two.1 ∙ ap (λ (l : List Bool). l ++ two.0) sides.true_name ∙ regroup r.name sides.on two.0 true in
+    = two.1 ∙ ap (λ (l : List Bool). l ++ two.0) (sides.name true) ∙ regroup r.name sides.on two.0 true in
     no_fork (r.name ++ sides.on) one.0 two.0 (sym left ∙ e ∙ right)
 
 -- pieces of one name, below one piece, are the same
@@ -81,8 +74,8 @@ one_below laws (b ∷ bs) (c ∷ cs) r p q pool h k e =
     let left : h.0 ≡ k.0 = cc in
     let right : h.1 ≡ k.1 = cc in
     let sides = sides_named r h.0 h.1 r.name h.2 in
-    by b c sides (λ x y. one_below laws bs cs h.0 p q (sides.false_pool pool) x y e)
-    (λ x y. one_below laws bs cs h.1 p q (sides.true_pool pool) x y e) h.3
+    by b c sides (λ x y. one_below laws bs cs h.0 p q (sides.pool false pool) x y e)
+    (λ x y. one_below laws bs cs h.1 p q (sides.pool true pool) x y e) h.3
     (subst (λ (x : PieceData). IsBelow cs (if c then h.1 else x) q) (sym left)
     (subst (λ (y : PieceData). IsBelow cs (if c then y else k.0) q) (sym right) k.3))
   where
@@ -154,10 +147,8 @@ one_piece laws p q h k of e =
 -- the pool of a piece of the tree is lawful
 below_pool : (bs : List Bool) (r p : PieceData) → IsPool r.pool → IsBelow bs r p → IsPool p.pool
 below_pool [] r p pool h = subst (λ (x : PieceData). IsPool x.pool) (sym h) pool
-below_pool (true ∷ bs) r p pool h =
-    below_pool bs h.1 p ((sides_named r h.0 h.1 r.name h.2).true_pool pool) h.3
-below_pool (false ∷ bs) r p pool h =
-    below_pool bs h.0 p ((sides_named r h.0 h.1 r.name h.2).false_pool pool) h.3
+below_pool (b ∷ bs) r p pool h =
+    below_pool bs (if b then h.1 else h.0) p ((sides_named r h.0 h.1 r.name h.2).pool b pool) h.3
 
 pub reached_pool : (p : PieceData) → IsInTree p → IsPool p.pool
 reached_pool p h = below_pool h.sides h.first p h.starts.pool h.below
@@ -172,17 +163,11 @@ below_more (c ∷ bs) b r p f t h k = (h.0, h.1, h.2, below_more bs b (if c then
 -- the pieces of a split are reached
 pub sides_reached : (p f t : PieceData) → IsInTree p → HasStep p (Split f t) p.name → IsInTree f × IsInTree t
 sides_reached p f t h k =
-    let sides = sides_named p f t p.name k in (
-      record {
-        first = h.first;
-        starts = subst (λ (s : List (List Insn)). IsFirst s h.first) (sym sides.false_stack) h.starts;
-        sides = h.sides ++ false ∷ [];
-        below = below_more h.sides false h.first p f t h.below k;
-      },
-      record {
-        first = h.first;
-        starts = subst (λ (s : List (List Insn)). IsFirst s h.first) (sym sides.true_stack) h.starts;
-        sides = h.sides ++ true ∷ [];
-        below = below_more h.sides true h.first p f t h.below k;
-      },
-    )
+    let named = sides_named p f t p.name k in
+    let side : (b : Bool) → IsInTree (if b then t else f) = λ b. record {
+      first = h.first;
+      starts = subst (λ (s : List (List Insn)). IsFirst s h.first) (sym (named.stack b)) h.starts;
+      sides = h.sides ++ b ∷ [];
+      below = below_more h.sides b h.first p f t h.below k;
+    } in
+    (side false, side true)

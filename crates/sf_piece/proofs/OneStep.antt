@@ -13,7 +13,7 @@ use Rattle.sf_piece.specs.declared.machine.SymbolicMachine.{SymbolicMachine}
 use Rattle.sf_piece.specs.Pieces.{PieceData, StepData, Split, Settled, Empty}
 use Rattle.sf_piece.specs.Execution.{on, with_machine, Computes, MovesTo, HasQuery, with_sense, LeavesOnly, LeavesNeither, IsSide, IsNamedOn, code_at, IsAtHand, MakesOf, GoesOn, SplitsInto, IsEmptied, GoesOnFor, EndsAs, HasStep}
 use Rattle.sf_piece.proofs.Kept.{at_same}
-use Rattle.sf_piece.proofs.Named.{made_on, query_keeps}
+use Rattle.sf_piece.proofs.Named.{made_on, query_more}
 use Rattle.sf_piece.proofs.OneMade.{can_or_cant, computes_one, forced_one, named_one, query_one, side_one}
 
 -- ---- small steps
@@ -87,7 +87,7 @@ module _ (laws : HaveOneResult) (p : PieceData) (pool : IsPool p.pool) where
   query_same : (i : Insn) (a b : PieceData × Cond) → HasQuery p i (Some a) → HasQuery p i (Some b)
       → (a ≡ b) × IsPool a.0.pool
   query_same i a b h k =
-      (same_Some a b (query_one laws p i (Some a) (Some b) pool h k), (query_keeps p i a h).pool pool)
+      (same_Some a b (query_one laws p i (Some a) (Some b) pool h k), (query_more p i a h).lawful pool)
 
   no_query : (i : Insn) (a : PieceData × Cond) → HasQuery p i (Some a) → HasQuery p i None → ⊥
   no_query i a h k = let clash : Some a ≡ None = query_one laws p i (Some a) None pool h k in absurd cc

@@ -24,10 +24,10 @@ use Rattle.sf_sym.specs.Pool.{value_of, is_met}
 use Rattle.sf_dom.specs.Facts.{FactsView}
 use Rattle.sf_piece.specs.Machines.{after_return}
 use Rattle.sf_piece.specs.Pieces.{PieceData, is_member}
-use Rattle.sf_piece.specs.SymbolicRun.{concrete_state, met_of, number_from, IsPending, AreNodesBelow, StandsAt, IsPiece}
+use Rattle.sf_piece.specs.SymbolicRun.{concrete_state, met_of, number_from, AreNodesBelow, StandsAt, IsPiece}
 use Rattle.sf_piece.specs.Works.{HasAtHand, NextIs, work_left}
 use Rattle.sf_piece.proofs.Moves.{made, stands_moved, stands_kept, stands_returned}
-use Rattle.sf_piece.proofs.Kept.{at_same, safe_moved}
+use Rattle.sf_piece.proofs.Kept.{at_same, none_pending, pre_short, safe_moved}
 
 -- ---- what the trace of a member goes on with
 
@@ -135,7 +135,8 @@ pub branch_turned : (p : PieceData) (test : Test) (other : Operand) (t f : ℕ) 
 unfolding is_member
 branch_turned p test other t f b cs fs h s narrow =
     let small : p.machine.place < 4096 = s.small in
-    let none = pending s.stands.inside.pending in
+    let none = none_pending s.code p.machine.place p.machine.taken s.pre (Branch test other t f)
+    s.stands.inside.pending s.at (λ is. cc) (λ is. cc) in
     record {
       rest = s.code ∷ s.later;
       base = s.base ++ b ∷ [];
@@ -160,13 +161,6 @@ branch_turned p test other t f b cs fs h s narrow =
       falls = less (if b then t else f) small;
     }
   where
-    pending : IsPending s.code p.machine.place p.machine.taken s.pre → (p.machine.taken ≡ 0) × (s.pre ≡ [])
-    pending (inl q) = q
-    pending (inr (inl q)) = let clash : ReturnA ≡ Branch test other t f =
-        at_same s.code p.machine.place ReturnA (Branch test other t f) q.0 s.at in absurd cc
-    pending (inr (inr q)) = let clash : Alu Div X ≡ Branch test other t f =
-        at_same s.code p.machine.place (Alu Div X) (Branch test other t f) q.0 s.at in absurd cc
-
     leads : (b : Bool) → Contains ((p.machine.place + 1 + t) ∷ (p.machine.place + 1 + f) ∷ [])
         (p.machine.place + 1 + (if b then t else f))
     leads true = contains_here (p.machine.place + 1 + t) ((p.machine.place + 1 + f) ∷ []) (p.machine.place + 1 + t) refl
@@ -186,7 +180,7 @@ pub return_turned : (p : PieceData) (b : Bool) (cs : List Cond) (fs : FactsView)
     }) fs)
 unfolding is_member
 return_turned p b cs fs h s more narrow =
-    let len = pending s.stands.inside.pending in
+    let len = (pre_short s.code p.machine.place p.machine.taken s.pre s.stands.inside.pending).1 in
     record {
       rest = s.code ∷ s.later;
       base = s.base;
@@ -209,12 +203,6 @@ return_turned p b cs fs h s more narrow =
       zero_is = refl;
       falls = omega arith;
     }
-  where
-    pending : IsPending s.code p.machine.place p.machine.taken s.pre → length s.pre ≡ p.machine.taken
-    pending (inl q) = ap length q.1 ∙ sym q.0
-    pending (inr (inl q)) = q.2
-    pending (inr (inr q)) = let clash : Alu Div X ≡ ReturnA =
-        at_same s.code p.machine.place (Alu Div X) ReturnA q.0 s.at in absurd cc
 
 div_pending : (p : PieceData) (s : HasAtHand p (Alu Div X)) → p.machine.taken ≡ 0 → s.pre ≡ []
 div_pending p s none = grind (arith, common_steps, at_same)

@@ -1,5 +1,6 @@
 -- A piece stays tidy as it goes on.
 use Rattle.std.proofs.Common.{◌≡◌, ◌^◌, ◌-◌, ◌<◌, ◌≤◌, length, append-nil, ℕ, zero, suc, Bool, true, false, List, [], ◌∷◌, Some, None, refl, sym, ap, subst, ◌∙◌, inl, inr, arith}
+use Rattle.std.specs.Prelude.{if◌then◌else◌}
 use Rattle.std.proofs.lemmas.Option.{same_Some}
 use Rattle.std.proofs.lemmas.List.{get_or_append_left, length_push}
 use Rattle.sf_insn.specs.declared.ops.BinOp.TheVariants.{Div}
@@ -22,6 +23,7 @@ use Rattle.sf_piece.specs.SymbolicRun.{AreNodesBelow}
 use Rattle.sf_piece.proofs.Arms.{set_below}
 use Rattle.sf_piece.proofs.Grown.{nodes_le}
 use Rattle.sf_piece.proofs.Kept.{returned_nodes, none_set}
+use Rattle.sf_piece.proofs.Named.{side_of}
 
 -- an older node stands where it stood
 put_after : (old new : List Node) (node other : Node) (id at : NodeId) → IsNodeAt old other at → IsPutIn old node new id
@@ -108,79 +110,59 @@ tidy_computes p (Alu op other) q tidy (d, (Some right, g, e)) =
     tidy_loads_a right.0 (Bin op p.machine.a right.1) q (tidy_operand p other right tidy g) e
 tidy_computes p i q tidy h = absurd h
 
-zero_moves : (m : SymbolicMachine) (i : Insn) (n : SymbolicMachine) → MovesTo m i n → n.zero ≡ m.zero
-zero_moves m (LoadScratch k) n h = ap (λ (x : SymbolicMachine). x.zero) h.2
-zero_moves m (LoadXScratch k) n h = ap (λ (x : SymbolicMachine). x.zero) h.2
-zero_moves m (StoreA k) n h = ap (λ (x : SymbolicMachine). x.zero) h
-zero_moves m (StoreX k) n h = ap (λ (x : SymbolicMachine). x.zero) h
-zero_moves m Tax n h = ap (λ (x : SymbolicMachine). x.zero) h
-zero_moves m Txa n h = ap (λ (x : SymbolicMachine). x.zero) h
-zero_moves m (Jump k) n h = ap (λ (x : SymbolicMachine). x.zero) h
-zero_moves m (ReturnConstant v) n h = ap (λ (x : SymbolicMachine). x.zero) h
-zero_moves m ReturnA n h = ap (λ (x : SymbolicMachine). x.zero) h.1
-zero_moves m i n h = absurd h
-
-zero_after : (p : PieceData) (i : Insn) (b : Bool) (m : SymbolicMachine) → AfterTruthValue p i b m
-    → m.zero ≡ p.machine.zero
-zero_after p (Branch test other t f) b m h = ap (λ (x : SymbolicMachine). x.zero) h
-zero_after p ReturnA b m h = ap (λ (x : SymbolicMachine). x.zero) h
-zero_after p (Alu Div X) true m h = ap (λ (x : SymbolicMachine). x.zero) h
-zero_after p (Alu Div X) false m h = ap (λ (x : SymbolicMachine). x.zero) h
-zero_after p i b m h = absurd h
-
--- the nodes of the next machine are those of this one
+-- the nodes of the next machine are those of this one, and it has the same 0
 nodes_moves : (p : PieceData) (i : Insn) (m : SymbolicMachine) → AreNodesBelow (length p.pool) p.machine
-    → MovesTo p.machine i m → AreNodesBelow (length p.pool) m
-nodes_moves p (LoadScratch k) m b h = rw h.2 (record {
-  a = b.scratch k h.0 h.1;
-  x = b.x;
-  zero = b.zero;
-  scratch = b.scratch;
-})
-nodes_moves p (LoadXScratch k) m b h = rw h.2 (record {
-  a = b.a;
-  x = b.scratch k h.0 h.1;
-  zero = b.zero;
-  scratch = b.scratch;
-})
-nodes_moves p (StoreA k) m b h = rw h (record {
-  a = b.a;
-  x = b.x;
-  zero = b.zero;
-  scratch = set_below (length p.pool) p.machine.scratch k p.machine.a b.scratch b.a;
-})
-nodes_moves p (StoreX k) m b h = rw h (record {
-  a = b.a;
-  x = b.x;
-  zero = b.zero;
-  scratch = set_below (length p.pool) p.machine.scratch k p.machine.x b.scratch b.x;
-})
-nodes_moves p Tax m b h = rw h (record { a = b.a; x = b.a; zero = b.zero; scratch = b.scratch })
-nodes_moves p Txa m b h = rw h (record { a = b.x; x = b.x; zero = b.zero; scratch = b.scratch })
-nodes_moves p (Jump k) m b h = rw h (record { a = b.a; x = b.x; zero = b.zero; scratch = b.scratch })
-nodes_moves p (ReturnConstant v) m b h = rw h (returned_nodes p v b)
-nodes_moves p ReturnA m b h = rw h.1 (returned_nodes p p.machine.value b)
+    → MovesTo p.machine i m → AreNodesBelow (length p.pool) m × (m.zero ≡ p.machine.zero)
+nodes_moves p (LoadScratch k) m b h =
+    rw h.2 (record { a = b.scratch k h.0 h.1; x = b.x; zero = b.zero; scratch = b.scratch }, refl)
+nodes_moves p (LoadXScratch k) m b h =
+    rw h.2 (record { a = b.a; x = b.scratch k h.0 h.1; zero = b.zero; scratch = b.scratch }, refl)
+nodes_moves p (StoreA k) m b h = rw h (
+  record {
+    a = b.a;
+    x = b.x;
+    zero = b.zero;
+    scratch = set_below (length p.pool) p.machine.scratch k p.machine.a b.scratch b.a;
+  },
+  refl,
+)
+nodes_moves p (StoreX k) m b h = rw h (
+  record {
+    a = b.a;
+    x = b.x;
+    zero = b.zero;
+    scratch = set_below (length p.pool) p.machine.scratch k p.machine.x b.scratch b.x;
+  },
+  refl,
+)
+nodes_moves p Tax m b h = rw h (record { a = b.a; x = b.a; zero = b.zero; scratch = b.scratch }, refl)
+nodes_moves p Txa m b h = rw h (record { a = b.x; x = b.x; zero = b.zero; scratch = b.scratch }, refl)
+nodes_moves p (Jump k) m b h = rw h (record { a = b.a; x = b.x; zero = b.zero; scratch = b.scratch }, refl)
+nodes_moves p (ReturnConstant v) m b h = rw h (returned_nodes p v b, refl)
+nodes_moves p ReturnA m b h = rw h.1 (returned_nodes p p.machine.value b, refl)
 nodes_moves p i m b h = absurd h
 
 nodes_after : (p : PieceData) (i : Insn) (s : Bool) (m : SymbolicMachine) → AreNodesBelow (length p.pool) p.machine
-    → AfterTruthValue p i s m → AreNodesBelow (length p.pool) m
+    → AfterTruthValue p i s m → AreNodesBelow (length p.pool) m × (m.zero ≡ p.machine.zero)
 nodes_after p (Branch test other t f) s m b h =
-    rw h (record { a = b.a; x = b.x; zero = b.zero; scratch = b.scratch })
-nodes_after p ReturnA s m b h = rw h (record { a = b.a; x = b.x; zero = b.zero; scratch = b.scratch })
-nodes_after p (Alu Div X) true m b h = rw h (returned_nodes p 0 b)
+    rw h (record { a = b.a; x = b.x; zero = b.zero; scratch = b.scratch }, refl)
+nodes_after p ReturnA s m b h = rw h (record { a = b.a; x = b.x; zero = b.zero; scratch = b.scratch }, refl)
+nodes_after p (Alu Div X) true m b h = rw h (returned_nodes p 0 b, refl)
 nodes_after p (Alu Div X) false m b h =
-    rw h (record { a = b.a; x = b.x; zero = b.zero; scratch = b.scratch })
+    rw h (record { a = b.a; x = b.x; zero = b.zero; scratch = b.scratch }, refl)
 nodes_after p i s m b h = absurd h
 
 tidy_makes : (p : PieceData) (i : Insn) (q : PieceData) → IsTidy p → MakesOf p i q → IsTidy q
-tidy_makes p i q tidy (inl (m, moves, is)) = subst IsTidy (sym is)
-    (tidy_with p m tidy (zero_moves p.machine i m moves) (nodes_moves p i m tidy.nodes moves))
+tidy_makes p i q tidy (inl (m, moves, is)) =
+    let next = nodes_moves p i m tidy.nodes moves in subst IsTidy (sym is) (tidy_with p m tidy next.1 next.0)
 tidy_makes p i q tidy (inr (inl h)) = tidy_computes p i q tidy h
-tidy_makes p i q tidy (inr (inr (asked, b, has, only, named))) = subst IsTidy (sym named.rest) (record {
-  zero = subst (λ (z : NodeId). IsNodeAt p.pool (Const 0) z) (sym (zero_after p i b q.machine named.machine)) tidy.zero;
-  nodes = nodes_after p i b q.machine tidy.nodes named.machine;
-  carried = tidy.carried;
-})
+tidy_makes p i q tidy (inr (inr (asked, b, has, only, named))) =
+    let next = nodes_after p i b q.machine tidy.nodes named.machine in
+    subst IsTidy (sym named.rest) (record {
+      zero = subst (λ (z : NodeId). IsNodeAt p.pool (Const 0) z) (sym next.1) tidy.zero;
+      nodes = next.0;
+      carried = tidy.carried;
+    })
 
 -- a piece stays tidy, however far it goes on
 pub tidy_on : (n : ℕ) (p q : PieceData) → IsTidy p → GoesOnFor n p q → IsTidy q
@@ -228,23 +210,25 @@ tidy_query p i asked tidy h = absurd h
 
 tidy_side : (asked : PieceData × Cond) (i : Insn) (b : Bool) (c : PieceData) → IsTidy asked.0
     → IsCondBelow (length asked.0.pool) asked.1 → IsSide asked i b c → IsTidy c
-tidy_side asked i b c tidy below h = subst IsTidy (sym h.rest) (record {
-  zero = subst (λ (z : NodeId). IsNodeAt asked.0.pool (Const 0) z)
-      (sym (zero_after asked.0 i b c.machine h.machine)) tidy.zero;
-  nodes = nodes_after asked.0 i b c.machine tidy.nodes h.machine;
-  carried = learnt asked.0.facts asked.0.conditions (with_sense asked.1 b) tidy.carried below h.learns refl;
-})
+tidy_side asked i b c tidy below h =
+    let next = nodes_after asked.0 i b c.machine tidy.nodes h.machine in
+    subst IsTidy (sym h.rest) (record {
+      zero = subst (λ (z : NodeId). IsNodeAt asked.0.pool (Const 0) z) (sym next.1) tidy.zero;
+      nodes = next.0;
+      carried = learnt asked.0.facts asked.0.conditions (with_sense asked.1 b) tidy.carried below h.learns refl;
+    })
 
-tidy_split : (r f t : PieceData) (name : List Bool) → IsTidy r → HasStep r (Split f t) name → IsTidy f × IsTidy t
-tidy_split r f t name tidy h =
+tidy_split : (r f t : PieceData) (name : List Bool) → IsTidy r → HasStep r (Split f t) name → (b : Bool)
+    → IsTidy (if b then t else f)
+tidy_split r f t name tidy h b =
     let s = h.3.0 in
     let asked = tidy_query h.1 s.0 s.1 (tidy_on h.0 r h.1 tidy h.2) s.3 in
-    (tidy_side s.1 s.0 false f asked.0 asked.1 s.4, tidy_side s.1 s.0 true t asked.0 asked.1 s.5)
+    tidy_side s.1 s.0 b (if b then t else f) asked.0 asked.1 (side_of h.1 f t s b)
 
 tidy_below : (bs : List Bool) (r p : PieceData) → IsTidy r → IsBelow bs r p → IsTidy p
 tidy_below [] r p tidy h = subst IsTidy (sym h) tidy
-tidy_below (true ∷ bs) r p tidy h = tidy_below bs h.1 p (tidy_split r h.0 h.1 r.name tidy h.2).1 h.3
-tidy_below (false ∷ bs) r p tidy h = tidy_below bs h.0 p (tidy_split r h.0 h.1 r.name tidy h.2).0 h.3
+tidy_below (b ∷ bs) r p tidy h =
+    tidy_below bs (if b then h.1 else h.0) p (tidy_split r h.0 h.1 r.name tidy h.2 b) h.3
 
 -- each piece of an execution tree is tidy
 pub tidy_reached : (p : PieceData) → IsInTree p → IsTidy p

@@ -22,7 +22,7 @@ use Rattle.sf_sym.specs.declared.pool.Cond.{Cond}
 use Rattle.sf_insn.specs.Words.{apply, passes}
 use Rattle.sf_dom.specs.declared.known.Known.{Known}
 use Rattle.sf_dom.specs.Known.{Admits}
-use Rattle.sf_dom.specs.Facts.{FactsView, Covers, Agrees, AreNarrower, DecidesTest, KeepsOnly}
+use Rattle.sf_dom.specs.Facts.{FactsView, Covers, Agrees, KeepsOnly}
 use Rattle.sf_dom.specs.Propagation.{Meets}
 use Rattle.sf_dom.specs.Learning.{LearnsBy}
 use Rattle.sf_dom.specs.Rules.{IsClosed}
@@ -240,25 +240,22 @@ IsNever p cond b = (d : Input) → IsInput d → is_member p d ≡ true → is_m
 abbrev pub IsImplied : PieceData → Cond → Bool → Type 0
 IsImplied p cond b = (d : Input) → IsInput d → is_member p d ≡ true → is_met p.pool d (with_sense cond b) ≡ true
 
--- Facts of the members on which the condition has this truth value: the piece's facts learn it, by the rules of facts,
--- and nothing that was known is lost. On a plain stack these are exact: an input that agrees with them agreed before,
--- and the condition has this truth value on it.
+-- Facts of the members on which the condition has this truth value: the piece's facts learn it, by the rules of facts.
+-- On a plain stack these are exact: an input that agrees with them agreed before, and the condition has this truth
+-- value on it.
 pub record AreChildFacts (p : PieceData) (cond : Cond) (b : Bool) (facts : FactsView) : Type 0 where
   pub covers : Covers facts p.pool
   pub known : (d : Input) → IsInput d → is_member p d ≡ true → is_met p.pool d (with_sense cond b) ≡ true
       → Agrees facts p.pool d
-  pub narrower : AreNarrower p.facts facts
   pub rule : LearnsBy p.facts facts p.pool (with_sense cond b)
-  pub decided : DecidesTest p.facts (with_sense cond b)
   pub plain : IsPlain p.stack → KeepsOnly p.facts facts p.pool (Meets p.pool (with_sense cond b))
 
--- the piece of the members on which the condition has this truth value: it has one condition more, its name has one
--- truth value more, and its facts hold on these members
+-- the piece of the members on which the condition has this truth value: it has one condition more, and its name has
+-- one truth value more
 pub record IsChild (p : PieceData) (cond : Cond) (b : Bool) (c : PieceData) : Type 0 where
   pub of : c.stack ≡ p.stack
   pub conditions : c.conditions ≡ p.conditions ++ with_sense cond b ∷ []
   pub name : c.name ≡ p.name ++ b ∷ []
   pub named : IsTrulyNamed c
   pub members : (d : Input) → IsInput d → is_member c d ≡ (is_member p d && is_met p.pool d (with_sense cond b))
-  pub facts : AreChildFacts p cond b c.facts
   pub plain : IsPlain p.stack → IsPlainPiece c

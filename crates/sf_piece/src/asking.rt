@@ -26,8 +26,7 @@ use sf_insn::{BinOp, Test};
 use sf_sym::{Cond, Node, NodeId, Pool};
 use std::alloc::Global;
 
-/// Whether the operation has to ask first whether X is 0: it divides by X, and that truth value isn't in the name yet.
-/// `taken` is how many truth values of the operation are in the name.
+/// Whether the operation has to ask first whether X is 0; `taken` of its truth values are in the name.
 fn asks_zero(op: BinOp, other: Operand, taken: usize) -> bool
     ensures { result ≡ divides_at op other taken }
 {
@@ -37,9 +36,7 @@ fn asks_zero(op: BinOp, other: Operand, taken: usize) -> bool
     }
 }
 
-/// The only number that a node may have. `None` where it may have several, and also where its known bits could still
-/// narrow the nodes that it is computed from (`Facts::tell`). The caller's condition: the facts are those of this pool,
-/// and the node is in it.
+/// The only number that a node may have; `None` also where its known bits could still narrow other nodes.
 fn only_number(facts: &Facts, pool: &Pool, node: NodeId) -> Option<u32>
     requires covers { Covers facts.now pool.now }
     requires within { node.0 < length pool.now }
@@ -51,13 +48,12 @@ fn only_number(facts: &Facts, pool: &Pool, node: NodeId) -> Option<u32>
     ensures fits { IfSome result (λ n. n < 2 ^ 32) }
 {
     let number = facts.decided(pool, node)?;
-    // Only `None` matters: known bits could still narrow other nodes then.
+    // Only `None` matters.
     facts.tell(pool, node, Test::Equal, number)?;
     Some(number)
 }
 
-/// The number that A is tested against: the constant, or the only number that X may have (`only_number`). `None` where
-/// that gives none: a test with X can teach something then.
+/// The number that A is tested against. `None` where a test with X can teach something.
 fn number_against(run: &Run, other: Operand) -> Option<u32>
     requires { IsLawfulPiece run.now }
     ensures value { IfSome result (IsOperandNumber run.now other) }
@@ -70,9 +66,7 @@ fn number_against(run: &Run, other: Operand) -> Option<u32>
     }
 }
 
-/// The result of a test of A against `other`, where it is told: every member has this result, and nothing can be learnt
-/// from it. `None` where it isn't told, and where `number_against` gives no number. The facts may then still imply a
-/// result.
+/// The result of a test of A, where it is told: every member has it, and nothing can be learnt from it.
 fn foresee(run: &Run, test: Test, other: Operand) -> Option<bool>
     requires { IsLawfulPiece run.now }
     ensures value { IfSome result (λ b. PassesAlways run.now test other b) }
@@ -85,11 +79,7 @@ fn foresee(run: &Run, test: Test, other: Operand) -> Option<bool>
     run.facts.tell(&run.pool, run.machine.a, test, number)
 }
 
-/// Tries a test of A against `other`, whose result is the next truth value of `insn`: it is learnt as false and as
-/// true, each from the same facts. Where the facts leave both, the result is `Split`. Where they leave one, this is
-/// added to the name, the machine goes on, and the result is `On`. Where they leave neither, or can't take in the node
-/// of `other`, it is `Empty`. With `Split` and `Empty` the run stays as it was. `Memory` comes for any reason that the
-/// fault names. The caller's condition: `insn` stands at the machine's place, and asks for this test.
+/// Tries a test of A, whose result is the next truth value of `insn`. On `Split` and `Empty` the run stays as it is.
 fn ask(
     alloc: Global,
     run: &mut Run,
@@ -118,16 +108,8 @@ fn ask(
     carry_out(run, insn, decision)
 }
 
-/// Runs an operation on A: its result is put in A as a node, and the machine goes on to the next instruction.
-///
-/// A division by X first asks whether X is 0, unless the name says already that it isn't. A call that asks only takes
-/// this truth value. Where the facts leave only one, it is added to the name; where they leave both, the result is
-/// `Split`. Where X is 0, the program returns 0. Otherwise the machine stays at the division, and the next call
-/// divides.
-///
-/// `Empty` where the facts leave neither truth value, or can't take in a node: the run may have new nodes then, but
-/// nothing else has changed. `Memory` comes for any reason that the fault names; the run may be changed then. The
-/// caller's condition: `insn` is this operation, and stands at the machine's place.
+/// Runs an operation on A. A division by X first asks whether X is 0, unless the name says already that it isn't; such
+/// a call only takes this truth value, and the next one divides.
 pub(crate) fn alu(
     alloc: Global,
     run: &mut Run,
@@ -167,12 +149,7 @@ pub(crate) fn alu(
     }
 }
 
-/// Runs a test of A against `other`. Where `foresee` gives its truth value, which is the same on every member, this is
-/// added to the name, and the machine goes to where the test leads then. From there the run goes on over the failing
-/// tests that come next, as `take_failing` does. The result is `On`. Else the test is tried (`ask`).
-///
-/// `Memory` comes for any reason that the fault names; the run may be changed then. The caller's condition: `insn` is
-/// this test, and stands at the machine's place.
+/// Runs a test of A. Where `foresee` tells it, the failing tests behind it are taken too; else it is tried.
 pub(crate) fn branch(
     alloc: Global,
     run: &mut Run,
@@ -195,12 +172,7 @@ pub(crate) fn branch(
     ask(alloc, run, insn, test, other)
 }
 
-/// Runs a return of A, which meets the 32 bits of A, the highest first. Each call takes the next bit, and the machine
-/// stays at the return. When all 32 are in the name, the next call leaves the program, which returns the number that
-/// they spell.
-///
-/// Where the bit is told, it is added to the name. Else it is tried (`ask`). `Memory` comes for any reason that the
-/// fault names; the run may be changed then. The caller's condition: a return of A stands at the machine's place.
+/// Runs a return of A: each call takes the next of the 32 bits of A, the highest first; one more leaves the program.
 pub(crate) fn return_a(alloc: Global, run: &mut Run) -> Result<SmallStep, Fault>
     requires lawful { IsLawfulPiece run.old }
     requires standing { HasAtHand run.old Insn.ReturnA }

@@ -14,8 +14,7 @@ use sf_check::{Insn, Operand, Program, Skipped};
 use sf_dom::Known;
 use sf_insn::Test;
 
-/// How many instructions `insn` skips, if it is a test that is known to fail: it asks whether A equals a number that
-/// lies outside the interval of `known`, what is known of A. `None` for any other instruction.
+/// How many instructions `insn` skips, if it asks whether A equals a number outside the interval of `known`.
 fn failing_skips(insn: Insn, known: Known) -> Option<u8>
     ensures { IfSome result (λ n. IsFailing insn known n) }
 {
@@ -26,11 +25,8 @@ fn failing_skips(insn: Insn, known: Known) -> Option<u8>
     }
 }
 
-/// Counts the tests in a row, from `place` on, that `Program::skip_others` shows to fail, and gives the place behind
-/// them. Each asks whether A equals a number, and stands where the one before it leads when it fails. `skip_others` is
-/// asked only if A has one number by `known`, what is known of A. If A may have several, the count is 0 and the place
-/// behind them is `place`: the caller looks at each instruction. The caller's condition: `place` is a place of the
-/// program.
+/// The failing tests in a row from `place` on, by the program's tables. These serve only where A has one number; else
+/// none is counted, and the caller looks at each instruction.
 fn skip_failing(program: &Program, place: usize, known: Known) -> Skipped
     requires { place < length program.now }
     ensures { AreFailing program.now known result.count place result.behind }
@@ -44,10 +40,8 @@ fn skip_failing(program: &Program, place: usize, known: Known) -> Skipped
     }
 }
 
-/// All tests in a row, from the machine's place on, that `failing_skips` shows to fail: each asks whether A equals a
-/// number, and stands where the one before it leads when it fails. The result says how many there are, and which place
-/// comes behind them. Where there is no such test, and where the last program has returned, it says 0 and the machine's
-/// own place. `known` is what is known of A, without its excluded numbers.
+/// The tests in a row, from the machine's place on, that `failing_skips` shows to fail, each where the one before it
+/// leads. `known` is what is known of A, without its excluded numbers.
 fn failing_chain(run: &Run, known: Known) -> Skipped
     requires lawful { IsLawfulPiece run.now }
     requires known { known ≡ known_at run.now.facts.known run.now.machine.a.0 }
@@ -82,9 +76,7 @@ fn failing_chain(run: &Run, known: Known) -> Skipped
     Skipped { count, behind }
 }
 
-/// Takes the tests that `failing_chain` finds from the machine's place on: a false for each of them is added to the
-/// name, all at once, and the machine moves to the place behind them. All else stays as it is, and where there is no
-/// such test, nothing changes.
+/// Takes the tests of `failing_chain` at once: the name gets a false for each, and the machine moves behind them.
 pub(crate) fn take_failing(run: &mut Run)
     requires { IsLawfulPiece run.old }
     ensures gone { HasGoneOn run.old run.new }

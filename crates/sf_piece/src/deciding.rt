@@ -22,8 +22,7 @@ use std::alloc::Global;
 pub(crate) enum SmallStep {
     /// The run goes on.
     On,
-    /// The facts leave both truth values open. These are the run of the members on which the truth value is false, and
-    /// that of the members on which it is true.
+    /// The facts leave both truth values open: the members on which it is false, and those on which it is true.
     Split(Run, Run),
     /// The last program has returned: the name is whole, and the answer is that of all programs.
     Settled,
@@ -34,7 +33,7 @@ pub(crate) enum SmallStep {
 /// Which of the two truth values of a condition the facts leave.
 #[derive(Drop)]
 pub(crate) enum Decision {
-    /// Both: these are the run of the members on which it is false, and that of the members on which it is true.
+    /// Both: the members on which it is false, and those on which it is true.
     Split(Run, Run),
     /// Only this one.
     Implied(bool),
@@ -49,11 +48,8 @@ fn skip_count(on_true: u8, on_false: u8, sense: bool) -> u8
     if sense { on_true } else { on_false }
 }
 
-/// Moves the machine on: `insn` has met the truth value `sense`. A test skips as many instructions as it says for this
-/// result. A return of A stays at its place, with one more bit. At a division by X, `sense` says whether X is 0. If X
-/// is 0, the program returns 0 (`start_next`). If not, the machine stays at the division, and can now divide. The
-/// caller's conditions: `insn` stands at the machine's place, and is one of these three, with a truth value that isn't
-/// in the name yet.
+/// Moves the machine on: `insn` has met the truth value `sense`. At a division by X this says whether X is 0, and then
+/// the program returns 0; else the machine stays, and can now divide. A return of A stays too, with one more bit.
 fn meet(run: &mut Run, insn: Insn, sense: bool)
     requires standing { HasAtHand run.old insn }
     requires asks { Asks run.old insn }
@@ -79,9 +75,7 @@ fn meet(run: &mut Run, insn: Insn, sense: bool)
     }
 }
 
-/// Takes a truth value that is the same on every member: it is added to the name, the machine goes on (`meet`), and
-/// nothing is learnt from it. `Memory` where `Name::push` fails; the machine may have gone on then. The caller's
-/// conditions: `insn` stands at the machine's place, and on every member the next truth value that it meets is `sense`.
+/// Takes a truth value that is the same on every member. Nothing is learnt from it.
 pub(crate) fn take(run: &mut Run, insn: Insn, sense: bool) -> Result<(), Fault>
     requires lawful { IsLawfulPiece run.old }
     requires standing { HasAtHand run.old insn }
@@ -95,11 +89,7 @@ pub(crate) fn take(run: &mut Run, insn: Insn, sense: bool) -> Result<(), Fault>
     Ok(())
 }
 
-/// The run of those members of `run` on which the next truth value of `insn` is `sense`. It is a copy of `run`, with
-/// four changes: its machine goes on (`meet`), its name gets this truth value, its conditions get `cond` with this
-/// sense, and its facts are `facts`. `Memory` where an allocation is refused, or where something that is shared has too
-/// many owners. The caller's conditions: those of `decide` for `insn` and `cond`, and `facts` are those that
-/// `child_facts` gives for `sense`.
+/// The run of those members on which the next truth value of `insn` is `sense`; `facts` are those of `child_facts`.
 fn child(run: &Run, insn: Insn, cond: Cond, sense: bool, facts: Facts) -> Result<Run, Fault>
     requires lawful { IsLawfulPiece run.now }
     requires standing { HasAtHand run.now insn }
@@ -117,14 +107,7 @@ fn child(run: &Run, insn: Insn, cond: Cond, sense: bool, facts: Facts) -> Result
     Ok(side)
 }
 
-/// A copy of the run's facts that has learnt that the test of `cond` has the result `sense`; `cond.sense` is ignored.
-/// `None` where learning this contradicts the facts: the test has this result on no member. Facts don't promise that
-/// there is such a member. `Memory` where an allocation is refused, or where something that is shared has too many
-/// owners.
-///
-/// The caller's conditions: the run is lawful, and both nodes of the condition are in its pool. On a plain stack the
-/// first node is a word of the input or a constant, and the second one is a constant. Where the test is `AnyBit`, the
-/// second one then has exactly one bit.
+/// A copy of the facts that has learnt that `cond` has the result `sense`; `None` where that contradicts them.
 fn child_facts(alloc: Global, run: &Run, cond: Cond, sense: bool) -> Result<Option<Facts>, Fault>
     requires lawful { IsLawfulPiece run.now }
     requires below { IsCondBelow (length run.now.pool) cond }
@@ -143,11 +126,7 @@ fn child_facts(alloc: Global, run: &Run, cond: Cond, sense: bool) -> Result<Opti
     Ok(learnt)
 }
 
-/// Learns the next truth value of `insn` as false and as true, each from the same facts, and says which of them the
-/// facts leave. Where they leave both, it makes the two runs (`child`). `asked` stays as it is. `Memory` where an
-/// allocation is refused, or where something that is shared has too many owners. The caller's conditions: `insn` stands
-/// at the machine's place; `cond` has the sense true, is met exactly where the next truth value of `insn` is true, and
-/// is such a condition as `child_facts` needs.
+/// Learns the next truth value of `insn`, which `cond` tells, as false and as true, each from the same facts.
 pub(crate) fn decide(alloc: Global, asked: &Run, insn: Insn, cond: Cond) -> Result<Decision, Fault>
     requires lawful { IsLawfulPiece asked.now }
     requires standing { HasAtHand asked.now insn }
@@ -170,10 +149,7 @@ pub(crate) fn decide(alloc: Global, asked: &Run, insn: Insn, cond: Cond) -> Resu
     Ok(Decision::Split(false_run, true_run))
 }
 
-/// Goes on as was decided. `Implied` gives `On`: `take` adds the truth value to the name of `run` and moves the
-/// machine; the pool, the conditions and the facts stay as they are. `Split` gives `Split` with the same two runs, and
-/// `Neither` gives `Empty`; `run` stays as it is then. `Memory` where `take` fails. The caller's conditions: `insn`
-/// stands at the machine's place of `run`, and the decision is right for its next truth value.
+/// Goes on as was decided. An implied truth value is added to the name only.
 pub(crate) fn carry_out(run: &mut Run, insn: Insn, decision: Decision) -> Result<SmallStep, Fault>
     requires lawful { IsLawfulPiece run.old }
     requires standing { HasAtHand run.old insn }

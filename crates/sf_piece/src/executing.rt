@@ -22,9 +22,8 @@ use sf_check::Insn;
 use sf_sym::{Node, NodeId};
 use std::alloc::Global;
 
-/// Runs one instruction, or takes one truth value of it, and says what becomes of the run. Where a test is told, tests
-/// behind it that fail are taken too (`take_failing`). `Settled` where the last program has returned: no instruction is
-/// left. `Memory` comes for any reason that the fault names; the caller then drops the run, which may be changed.
+/// Runs one instruction, or takes one truth value of it. Where a test is told, failing tests behind it are taken too
+/// (`take_failing`). After an error the run may be changed, and is of no use.
 pub(crate) fn execute(alloc: Global, run: &mut Run) -> Result<SmallStep, Fault>
     requires { IsLawfulPiece run.old }
     ensures step { IfOk result (IsSmallStep run.old run.new) }
@@ -64,13 +63,7 @@ pub(crate) fn execute(alloc: Global, run: &mut Run) -> Result<SmallStep, Fault>
     }
 }
 
-/// Puts a node in A, which is what `insn` does, and goes on to the next instruction. `Empty` where the facts can't take
-/// in the node: there is no member. `Memory` where an allocation is refused, or where something that is shared has too
-/// many owners. In both cases only the pool may have changed.
-///
-/// The caller's conditions: `insn` stands at the machine's place; where it divides by X, the name says already that X
-/// isn't 0; the node has the value that `insn` puts in A, and its operands are in the pool; a word of the input is 0 to
-/// 15; on a plain stack the node is a word of the input or a constant.
+/// Puts a node in A, which is what `insn` does, and goes on. `Empty` where the facts can't take in the node.
 pub(crate) fn set_a(
     alloc: Global,
     run: &mut Run,
@@ -94,10 +87,7 @@ pub(crate) fn set_a(
     }
 }
 
-/// Puts the constant `k` in X, which is what `insn` does, and goes on to the next instruction. `Empty` where the facts
-/// can't take in its node: there is no member. `Memory` where an allocation is refused, or where something that is
-/// shared has too many owners. In both cases only the pool may have changed. The caller's conditions: `insn` stands at
-/// the machine's place, and puts `k` in X.
+/// Puts the constant `k` in X, as `set_a` puts a node in A.
 fn set_x(alloc: Global, run: &mut Run, insn: Insn, k: u32) -> Result<SmallStep, Fault>
     requires lawful { IsLawfulPiece run.old }
     requires standing { HasAtHand run.old insn }
@@ -114,9 +104,7 @@ fn set_x(alloc: Global, run: &mut Run, insn: Insn, k: u32) -> Result<SmallStep, 
     }
 }
 
-/// Runs an instruction that moves a word between A, X and the scratch words, or that jumps. The caller's conditions:
-/// `insn` is one of these, and stands at the machine's place. A scratch word that it loads is set, since the program is
-/// lawful.
+/// Runs an instruction that moves a word between A, X and the scratch words, or that jumps.
 fn move_on(run: &mut Run, insn: Insn)
     requires lawful { IsLawfulPiece run.old }
     requires standing { HasAtHand run.old insn }
@@ -146,7 +134,7 @@ fn move_on(run: &mut Run, insn: Insn)
     }
 }
 
-/// The node of scratch word `k`, 0 to 15. The caller's condition: this word is set.
+/// The node of scratch word `k`, which is set.
 fn scratch(m: &SymbolicMachine, k: u8) -> NodeId
     requires { (w : ANodeId) × (slice_get m.now.scratch k ≡ Some (Some w)) }
     ensures { slice_get m.now.scratch k ≡ Some (Some result) }
@@ -157,9 +145,7 @@ fn scratch(m: &SymbolicMachine, k: u8) -> NodeId
     }
 }
 
-/// Goes on by an instruction: the run's machine is updated so (`SymbolicMachine::go_on`). The caller's conditions:
-/// `insn` stands at the machine's place, it doesn't leave the program, the name has all truth values that it meets, and
-/// the machine is right after it with this update.
+/// Goes on by an instruction that doesn't leave the program, and all of whose truth values are in the name.
 fn go(run: &mut Run, insn: Insn, update: Update)
     requires lawful { IsLawfulPiece run.old }
     requires standing { HasAtHand run.old insn }
@@ -174,9 +160,7 @@ fn go(run: &mut Run, insn: Insn, update: Update)
     run.machine.go_on(update);
 }
 
-/// Leaves the program with a return of this value, which is taken into the answer so far (`start_next`). The caller's
-/// conditions: `insn` is a return, returns this value, and stands at the machine's place; if it returns A, all 32 bits
-/// are in the name.
+/// Leaves the program with a return of this value; all bits of a returned A are in the name.
 pub(crate) fn leave_program(run: &mut Run, insn: Insn, value: u32)
     requires lawful { IsLawfulPiece run.old }
     requires standing { HasAtHand run.old insn }

@@ -10,9 +10,8 @@ use std::alloc::{AllocError, Global};
 use std::cmp::{Ordering, Reverse};
 use std::marker::Model;
 
-/// For each true of a name, in order, how many falses are right before it. These numbers are compared in reverse, since
-/// false comes before true: of two names, the one with the longer run comes first. Names that go on from one name share
-/// its full blocks of 16.
+/// For each true of a name, how many falses are right before it. False comes before true, so the longer run comes
+/// first: these numbers are compared in reverse. Names that go on from one name share its full blocks of 16.
 type Runs = SharedList<Reverse<u32>, 2>;
 
 /// A list of truth values. A path meets false far more often than true, so a run of falses is kept as its length.
@@ -33,7 +32,7 @@ impl Model for Name {
 }
 
 impl Name {
-    /// The name of no truth values. `AllocError` where an allocation is refused.
+    /// The name of no truth values.
     pub(crate) fn new(alloc: Global) -> Result<Name, AllocError>
         ensures { IfOk result (λ n. n ≡ []) }
     {
@@ -41,7 +40,7 @@ impl Name {
         Ok(Name { runs, rest: 0 })
     }
 
-    /// The truth values, the first one first. `AllocError` where an allocation is refused.
+    /// The truth values, the first one first.
     pub fn values(&self, alloc: Global) -> Result<Vec<bool>, AllocError>
         ensures { IfOk result (λ values. values.items ≡ self.now) }
     {
@@ -53,21 +52,17 @@ impl Name {
 
     /// How two names compare: at the first truth value in which they differ, false comes before true, and a name comes
     /// before longer ones that begin with it.
-    ///
-    /// The runs of false show this. At the first run that differs, the name with the longer run comes first: it has a
-    /// false where the other has a true. Where one name has further runs behind all runs of the other, the other comes
-    /// first: it has a false, or has ended, at the next true of the one. Where the runs are the same, the name with
-    /// fewer falses at its end comes first.
     pub fn order(&self, other: &Name) -> Ordering
         ensures { result ≡ slice_cmp bool_cmp self.now other.now }
     {
+        // At the first run that differs, the name with the longer one has a false where the other has a true. Where one
+        // name has further runs, the other has a false, or has ended, at its next true.
         self.runs
             .order(&other.runs)
             .then(self.rest.cmp(&other.rest))
     }
 
-    /// A copy of the name, which shares the full blocks of runs. `AllocError` where an allocation is refused, or where
-    /// the list of these blocks has too many owners.
+    /// A copy of the name, which shares the full blocks of runs.
     pub(crate) fn fork(&self) -> Result<Name, AllocError>
         ensures { IfOk result (λ n. n ≡ self.now) }
     {
@@ -77,9 +72,7 @@ impl Name {
         })
     }
 
-    /// Adds a truth value at the end. `AllocError` where an allocation is refused, or where a block of runs has too
-    /// many owners; the name then stays as it was. The caller's condition: the name has fewer than 2^31 truth values,
-    /// so there is room for one more.
+    /// Adds a truth value at the end.
     pub(crate) fn push(&mut self, value: bool) -> Result<(), AllocError>
         requires { length self.old < 2 ^ 31 }
         ensures ok { OnOk result (self.new ≡ self.old ++ value ∷ []) }
@@ -92,8 +85,7 @@ impl Name {
         Ok(())
     }
 
-    /// Adds a true at the end, which ends the last run. `AllocError` where an allocation is refused, or where a block
-    /// of runs has too many owners; the name then stays as it was.
+    /// Adds a true at the end, which ends the last run.
     fn push_true(&mut self) -> Result<(), AllocError>
         ensures ok { OnOk result (self.new ≡ self.old ++ true ∷ []) }
         ensures err { OnErr result (self.new ≡ self.old) }
@@ -103,8 +95,7 @@ impl Name {
         Ok(())
     }
 
-    /// Adds this many falses at the end. Takes no memory. The caller's condition: the name then has fewer than 2^32
-    /// truth values.
+    /// Adds this many falses at the end.
     pub(crate) fn push_falses(&mut self, count: usize)
         requires { length self.old + count < 2 ^ 32 }
         ensures { self.new ≡ self.old ++ replicate count false }
@@ -113,7 +104,7 @@ impl Name {
     }
 }
 
-/// Adds this many falses at the end. `AllocError` where an allocation is refused: the values are as they were then.
+/// Adds this many falses at the end.
 fn add_falses(values: &mut Vec<bool>, count: u32) -> Result<(), AllocError>
     ensures { OnOk result (values.new.items ≡ values.old.items ++ replicate count false) }
 {
@@ -122,8 +113,7 @@ fn add_falses(values: &mut Vec<bool>, count: u32) -> Result<(), AllocError>
     Ok(())
 }
 
-/// Adds, for each run in order, its falses and the true that ends it. `AllocError` where an allocation is refused: some
-/// runs may have been added then.
+/// Adds the falses of each run and the true that ends it.
 fn add_runs(values: &mut Vec<bool>, runs: &Runs) -> Result<(), AllocError>
     ensures { OnOk result (values.new.items ≡ values.old.items ++ spelled runs.now 0) }
 {

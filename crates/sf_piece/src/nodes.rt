@@ -16,11 +16,8 @@ use sf_dom::rules_are_sound;
 use sf_sym::{Node, NodeId};
 use std::alloc::Global;
 
-/// Puts a node in the pool (`Pool::push`), unless an equal one is there, takes it into the facts, and gives its place.
-/// `None` where what is known of it contradicts: the piece has no member then. `Memory` where an allocation is refused,
-/// or where something that is shared has too many owners. In both cases the pool may have the node, but the facts are
-/// as they were. The caller's conditions: the node's operands are in the pool; a word of the input is 0 to 15; on a
-/// plain stack the node is a word of the input or a constant.
+/// Puts a node in the pool and takes it into the facts. `None` where what is known of it contradicts: the piece has no
+/// member then. On `None` and on an error only the pool may have changed.
 pub(crate) fn push(alloc: Global, run: &mut Run, node: Node) -> Result<Option<NodeId>, Fault>
     requires lawful { IsLawfulPiece run.old }
     requires below { OperandsBelow (length run.old.pool) node }
@@ -38,10 +35,7 @@ pub(crate) fn push(alloc: Global, run: &mut Run, node: Node) -> Result<Option<No
     Ok(Some(id))
 }
 
-/// The node of the second word of an operation or a test: a constant is put in the pool and taken into the facts, and X
-/// has a node already. `None` where the facts can't take in the constant: there is no member then. `Memory` where an
-/// allocation is refused, or where something that is shared has too many owners. In both cases the pool may have the
-/// constant, but the facts are as they were.
+/// The node of the second word of an operation or a test, as `push` gives it.
 pub(crate) fn operand(alloc: Global, run: &mut Run, other: Operand) -> Result<Option<NodeId>, Fault>
     requires { IsLawfulPiece run.old }
     ensures made { IfOk result (λ o. MatchOption o (HasNoMember run.old)

@@ -17,8 +17,7 @@ use sf_sym::{Node, Pool};
 use std::alloc::Global;
 use std::sync::Arc;
 
-/// The piece of all inputs of a stack: its name is empty, and nothing has run. `Memory` where an allocation is refused,
-/// or where the stack has too many owners.
+/// The piece of all inputs of a stack: its name is empty, and nothing has run.
 pub fn root(alloc: Global, stack: &Arc<Stack>) -> Result<Arc<Piece>, Fault>
     ensures root { IfOk result (λ p. IsRoot (arc_value stack.now) (arc_value p)) }
     ensures rule { IfOk result (λ p. IsFirst (arc_value stack.now) (arc_value p)) }

@@ -16,9 +16,7 @@ use std::sync::Arc;
 /// Path conditions, the oldest first; full blocks of 16 are shared with the pieces that come of this one.
 pub(crate) type Conditions = SharedList<Cond, 1>;
 
-/// The run behind a piece: what is in its name and its conditions so far, where the machine stands, and what is known
-/// of its words. It is changed in place. It is lawful where these parts are right together. Its type doesn't say so:
-/// functions that need this ask for it, and a piece keeps a lawful one.
+/// The run behind a piece. Its type doesn't say that its parts are right together: functions ask for that.
 #[derive(Drop)]
 pub struct Run {
     pub(crate) stack: Arc<Stack>,
@@ -52,8 +50,7 @@ impl Run {
     ghost use Rattle.sf_piece.specs.SymbolicRun.{IsLawfulPiece};
     ghost use Rattle.sf_piece.specs.Works.{HasAtHand, IsCodeAtHand};
 
-    /// A copy of the run. `Memory` where an allocation is refused, or where something that is shared has too many
-    /// owners.
+    /// A copy of the run.
     pub(crate) fn fork(&self) -> Result<Run, Fault>
         ensures { IfOk result (λ r. r ≡ self.now) }
     {

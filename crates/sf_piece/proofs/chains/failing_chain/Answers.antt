@@ -2,8 +2,8 @@ use Rattle.std.proofs.Common.{List, length, ap, sym, subst, arith}
 use Rattle.sf_check.specs.declared.insn.Insn.{Insn}
 use Rattle.sf_piece.specs.Pieces.{PieceData}
 use Rattle.sf_piece.specs.Works.{IsCodeAtHand, AreFailing}
-use Rattle.sf_piece.proofs.FailingSteps.{steps_none, steps_one_more, steps_failing}
-use Rattle.sf_piece.proofs.FailingTests.{over_none, over_failing, over_one_more, few_failing, inside_behind}
+use Rattle.sf_piece.proofs.FailingSteps.{steps_none, steps_one_more, over_failing}
+use Rattle.sf_piece.proofs.FailingTests.{over_none, over_one_more, few_failing, inside_behind}
 use Rattle.sf_piece.proofs.chains.failing_chain.Goals as goal
 
 pub returns-in_default-clause-gone : goal.returns-in_default-clause-gone
@@ -51,17 +51,14 @@ loop-skips-init c =
     let failing =
     subst (λ (r : PieceData). AreFailing c.in-Some.program.now c.args.known c.skip_failing-count.result.count
     r.machine.place c.skip_failing-count.result.behind) c.run.view_is c.skip_failing-count.ensures in
+    let over = over_failing p c.in-Some.program.now c.args.known c.skip_failing-count.result.count
+    c.skip_failing-count.result.behind c.requires.lawful c.in-Some.ensures c.requires.known failing in
     record {
-      gone = over_failing p c.in-Some.program.now c.args.known c.skip_failing-count.result.count
-          c.skip_failing-count.result.behind
-          c.requires.lawful c.in-Some.ensures c.requires.known failing;
+      gone = over.gone;
       few = omega (
         arith,
         few_failing c.in-Some.program.now c.args.known c.skip_failing-count.result.count p.machine.place
             c.skip_failing-count.result.behind failing,
       );
-      rule = λ laws back.
-          steps_failing laws p c.in-Some.program.now c.args.known c.skip_failing-count.result.count
-          c.skip_failing-count.result.behind
-          back c.in-Some.ensures c.requires.known (over_none p c.requires.lawful) failing;
+      rule = over.rule;
     }
