@@ -13,14 +13,14 @@ use Rattle.sf_piece.specs.Execution.{HasStep}
 use Rattle.sf_piece.specs.OneExecution.{IsExecutionOne}
 use Rattle.sf_book.specs.Books.{OutstandingData, RegionData, BookData, IsLawfulBook, fresh}
 use Rattle.sf_book.specs.Changes.{MayCommit, without}
-use Rattle.sf_book.specs.PartitionLaws.{some_there}
+use Rattle.sf_book.specs.PartitionLaws.{some_there, sum_by-map}
 use Rattle.sf_book.specs.PrefixCounts.{bit}
 use Rattle.sf_book.specs.Unfoldings.{Unfolding, Outstanding, Region, Emptied, Fork, top_of, IsPieceOf, IsUnfolding, outstanding_in, emptied_in, regions_in, forks_in, IsRegionOf, IsFringe}
 use Rattle.sf_book.proofs.Kept.{may_place, left_over}
 use Rattle.sf_book.proofs.Lists.{sum_by-map_same}
 use Rattle.sf_book.proofs.Lawful.{leased_piece, after_split, after_answer, after_empty}
 use Rattle.sf_book.proofs.NameLists.{weighed, permuted, is-name, own-name, the-name}
-use Rattle.sf_book.proofs.Trees.{pieces-one, sum-map}
+use Rattle.sf_book.proofs.Trees.{pieces-one}
 
 -- an unfolding in which another one took the place of the outstanding piece of a name
 pub record HasGrown (stack : List (List Insn)) (u w : Unfolding) (n : List Bool) : Type 0 where
@@ -129,7 +129,7 @@ is-outstanding b id w l m h =
     let f : List Bool → ℕ = λ k. bit (is-name n k) in
     let one : f n ≡ 1 = ap bit (own-name n) in
     let out = taken-out b id w f l m in
-    let names = sum-map f (λ (e : OutstandingData). e.piece.name) b.outstanding in
+    let names = sum_by-map f (λ (e : OutstandingData). e.piece.name) b.outstanding in
     let same = weighed h.outstanding f in
     let found = some_there (λ k. is-name n k) (outstanding_in h.tree) (omega arith) in (
       found.0,
@@ -168,12 +168,12 @@ module _ (one : IsExecutionOne) (b : BookData) (id : ℕ) (w : WorkData) (l : Is
         outstanding = permuted (λ z.
             let name : OutstandingData → List Bool = λ e. e.piece.name in
             let v : OutstandingData → ℕ = λ e. z e.piece.name in
-            let a = sum-map z name ((es ++ leased_piece i f ∷ []) ++ leased_piece j t ∷ []) in
+            let a = sum_by-map z name ((es ++ leased_piece i f ∷ []) ++ leased_piece j t ∷ []) in
             let c = sum_by_push v (es ++ leased_piece i f ∷ []) (leased_piece j t) in
             let d = sum_by_push v es (leased_piece i f) in
             let out = taken-out b id w z l m in
             let before = weighed h.outstanding z in
-            let old = sum-map z name b.outstanding in
+            let old = sum_by-map z name b.outstanding in
             let now = g.outstanding z in
             let two = sum_by-cons z f.name (t.name ∷ []) in
             let last = sum_by-cons z t.name [] in
@@ -197,19 +197,19 @@ module _ (one : IsExecutionOne) (b : BookData) (id : ℕ) (w : WorkData) (l : Is
         first = ap (λ (q : PieceData). q.name) g.same ∙ h.first;
         outstanding = permuted (λ z.
             let name : OutstandingData → List Bool = λ e. e.piece.name in
-            let x = sum-map z name (without id b.outstanding) in
+            let x = sum_by-map z name (without id b.outstanding) in
             let out = taken-out b id w z l m in
             let before = weighed h.outstanding z in
-            let old = sum-map z name b.outstanding in
+            let old = sum_by-map z name b.outstanding in
             let now = g.outstanding z in
             omega arith);
         regions = permuted (λ z.
             let name : RegionData → List Bool = λ r. r.piece.name in
             let v : RegionData → ℕ = λ r. z r.piece.name in
-            let x = sum-map z name (b.regions ++ r ∷ []) in
+            let x = sum_by-map z name (b.regions ++ r ∷ []) in
             let c = sum_by_push v b.regions r in
             let before = weighed h.regions z in
-            let old = sum-map z name b.regions in
+            let old = sum_by-map z name b.regions in
             let now = g.regions z in
             let last = sum_by-cons z w.piece.name [] in
             omega arith);
@@ -229,10 +229,10 @@ module _ (one : IsExecutionOne) (b : BookData) (id : ℕ) (w : WorkData) (l : Is
         first = ap (λ (q : PieceData). q.name) g.same ∙ h.first;
         outstanding = permuted (λ z.
             let name : OutstandingData → List Bool = λ e. e.piece.name in
-            let x = sum-map z name (without id b.outstanding) in
+            let x = sum_by-map z name (without id b.outstanding) in
             let out = taken-out b id w z l m in
             let before = weighed h.outstanding z in
-            let old = sum-map z name b.outstanding in
+            let old = sum_by-map z name b.outstanding in
             let now = g.outstanding z in
             omega arith);
         regions = permuted (λ z. let x = weighed h.regions z in let c = g.regions z in omega arith);
@@ -271,9 +271,9 @@ fringe-marks b g pieces h = record {
   first = h.first;
   outstanding = permuted (λ f.
       let name : OutstandingData → List Bool = λ e. e.piece.name in
-      sum-map f name (map g b.outstanding)
+      sum_by-map f name (map g b.outstanding)
       ∙ sum_by-map_same (λ e. f e.piece.name) g (λ e. ap (λ (p : PieceData). f p.name) (pieces e)) b.outstanding
-      ∙ sym (sum-map f name b.outstanding) ∙ weighed h.outstanding f);
+      ∙ sym (sum_by-map f name b.outstanding) ∙ weighed h.outstanding f);
   regions = h.regions;
   emptied = h.emptied;
   splits = h.splits;
@@ -291,8 +291,8 @@ fringe-permuted b rs p h = record {
   outstanding = h.outstanding;
   regions = permuted (λ f.
       let name : RegionData → List Bool = λ r. r.piece.name in
-      sum-map f name rs ∙ sum_by-IsPermutation (λ r. f r.piece.name) b.regions rs p
-      ∙ sym (sum-map f name b.regions) ∙ weighed h.regions f);
+      sum_by-map f name rs ∙ sum_by-IsPermutation (λ r. f r.piece.name) b.regions rs p
+      ∙ sym (sum_by-map f name b.regions) ∙ weighed h.regions f);
   emptied = h.emptied;
   splits = h.splits;
   reached = h.reached;

@@ -2,15 +2,15 @@
 use Rattle.std.proofs.lemmas.Grind.{common_steps}
 use Rattle.std.proofs.Common.{◌≡◌, ℕ, zero, suc, ◌⊎◌, inl, inr, ⊎_elim, cond, length-append, ◌+◌, ◌==◌, ◌<◌, ◌≤◌, Bool, true, false, List, [], ◌∷◌, ◌++◌, length, map, get_or, refl, sym, ◌∙◌, ap, subst, arith, append_assoc, Option, Some}
 use Rattle.std.specs.List.{All, remove, HoldsAt, sum_by}
-use Rattle.std.proofs.lemmas.List.Sums.{sum_by-remove, sum_by-cons}
 use Rattle.std.proofs.lemmas.List.Elements.{All-push, All-map, All-filter}
 use Rattle.std.proofs.lemmas.Bool.Decides.{nat_tests}
 use Rattle.std.proofs.lemmas.List.{get_or_default, get_or_push}
+use Rattle.std.proofs.lemmas.Option.{slice_get-get_or}
 use Rattle.sf_run.specs.declared.action.Answer.{Answer}
 use Rattle.sf_check.specs.declared.insn.Insn.{Insn}
 use Rattle.sf_check.specs.Stacks.{IsLawfulStack}
-use Rattle.sf_book.specs.PartitionLaws.{prefix-refl}
-use Rattle.sf_book.specs.PrefixCounts.{bit, prefix_bit}
+use Rattle.sf_book.specs.PartitionLaws.{no_second, prefix-refl}
+use Rattle.sf_book.specs.PrefixCounts.{prefix_bit}
 use Rattle.sf_book.proofs.Names.{prefix-append}
 use Rattle.sf_book.proofs.MapLemmas.{some_inj}
 use Rattle.sf_piece.specs.Pieces.{PieceData, WorkData, is_prefix, IsTrulyNamed, IsRightSplit, IsRightAnswer, HasNoMember, IsRoot}
@@ -73,37 +73,18 @@ pub kept_empty : (b : BookData) (p : PieceData) (i next : ℕ) (e : OutstandingD
     → IsKeptBook (after_empty b (remove b.outstanding i) p.name) next
 kept_empty b p i next e h r s = search (arith, empty_lawful, below_less)
 
-two_places : (m : OutstandingData → ℕ) (es : List OutstandingData) (i j : ℕ) (d e : OutstandingData)
-    → i < length es → j < length es
-    → (i ≡ j → ⊥) → m (get_or es i d) + m (get_or es j e) ≤ sum_by m es
-two_places m [] i j d e li lj n = absurd (omega arith)
-two_places m (x ∷ es) zero zero d e li lj n = absurd (n refl)
-two_places m (x ∷ es) zero (suc j) d e li lj n =
-    let one = sum_by-remove m es j e (omega arith) in
-    let all = sum_by-cons m x es in
-    omega arith
-two_places m (x ∷ es) (suc i) zero d e li lj n =
-    let one = sum_by-remove m es i d (omega arith) in
-    let all = sum_by-cons m x es in
-    omega arith
-two_places m (x ∷ es) (suc i) (suc j) d e li lj n =
-    let two = two_places m es i j d e (omega arith) (omega arith) (λ k. n (ap suc k)) in
-    let all = sum_by-cons m x es in
-    omega arith
-
 -- no outstanding piece has a longer name that begins with another's
 no_child : (b : BookData) (p : PieceData) (i : ℕ) (d : OutstandingData) (n : List Bool) → IsLawfulBook b
     → i < length b.outstanding → (get_or b.outstanding i d).piece.name ≡ p.name
     → is_prefix p.name n ≡ true → (p.name ≡ n → ⊥) → All (λ e. e.piece.name ≡ n → ⊥) b.outstanding
 no_child b p i d n h l is begins other = λ j e lj same.
-    let m : OutstandingData → ℕ = λ x. prefix_bit x.piece.name n in
     let apart : i ≡ j → ⊥ = search (arith, get_or_default) in
-    let two : m (get_or b.outstanding i d) + m (get_or b.outstanding j e) ≤ sum_by m b.outstanding =
-    two_places m b.outstanding i j d e l lj apart in
-    let first : m (get_or b.outstanding i d) ≡ 1 = ap (λ k. prefix_bit k n) is ∙ ap bit begins in
-    let second : m (get_or b.outstanding j e) ≡ 1 = ap (λ k. prefix_bit k n) same ∙ ap bit (prefix-refl n) in
-    let before = h.apart n in
-    absurd (omega arith)
+    let few : sum_by (λ (x : OutstandingData). prefix_bit x.piece.name n) b.outstanding ≤ 1 =
+    let before = h.apart n in omega arith in
+    apart (no_second (λ (x : OutstandingData). is_prefix x.piece.name n) b.outstanding few i j
+    (get_or b.outstanding i d) (get_or b.outstanding j e) (slice_get-get_or b.outstanding i d l)
+    (slice_get-get_or b.outstanding j e lj) (ap (λ k. is_prefix k n) is ∙ begins)
+    (ap (λ k. is_prefix k n) same ∙ prefix-refl n))
 
 longer : (xs on : List Bool) (b : Bool) → xs ≡ xs ++ on ++ b ∷ [] → ⊥
 longer xs on b h = grind (arith, common_steps, length-append)

@@ -1,7 +1,7 @@
 -- An execution tree that is explored to the end is one.
-use Rattle.std.proofs.Common.{◌≡◌, ℕ, ◌+◌, Bool, true, false, ◌&&◌, List, [], ◌∷◌, ◌++◌, refl, sym, ap, ◌∙◌, subst, arith, sum_by, map, zero, suc, ◌≤◌, Some, None, length}
+use Rattle.std.proofs.Common.{◌≡◌, ℕ, ◌+◌, Bool, List, [], ◌∷◌, ◌++◌, refl, sym, ap, ◌∙◌, subst, arith, sum_by, map, zero, suc, ◌≤◌, Some, None, length}
 use Rattle.std.proofs.lemmas.List.Sums.{sum_by-cons}
-use Rattle.std.proofs.lemmas.Option.{same_Some, get_or_from_slice_get, slice_get_within}
+use Rattle.std.proofs.lemmas.Option.{same_Some}
 use Rattle.std.specs.List.{All, AllByRecursion, slice_get}
 use Rattle.std.specs.List.Sorted.{IsStrictlySortedBy}
 use Rattle.std.proofs.lemmas.List.{length-map}
@@ -18,7 +18,8 @@ use Rattle.sf_piece.specs.Execution.{HasStep}
 use Rattle.sf_piece.specs.OneExecution.{IsExecutionOne}
 use Rattle.sf_book.specs.Books.{RegionData, OutstandingData, BookData, IsSettled}
 use Rattle.sf_book.specs.NameOrderLaws.{strictly_in_order}
-use Rattle.sf_book.specs.PartitionLaws.{some_there}
+use Rattle.sf_book.specs.PartitionLaws.{some_there, sum_by-map}
+use Rattle.sf_book.specs.ExactLaws.{at_place}
 use Rattle.sf_book.specs.PrefixCounts.{bit, prefix_bit}
 use Rattle.sf_book.proofs.NameLists.{HaveSameElements, weighed, permuted, weighs-none, is-name, own-name, the-name}
 use Rattle.sf_book.specs.Unfoldings.{Unfolding, Outstanding, Region, Emptied, Fork, IsFringe, IsRegionOf, HaveOneOutcome, top_of, IsPieceOf, IsUnfolding, outstanding_in, emptied_in, regions_in, forks_in}
@@ -85,11 +86,6 @@ module _ (one : IsExecutionOne) (stack : List (List Insn)) where
 
 -- ---- the books
 
-pub sum-map : {A B : Type 0} (f : B → ℕ) (g : A → B) (xs : List A) → sum_by f (map g xs) ≡ sum_by (λ x. f (g x)) xs
-sum-map f g [] = refl
-sum-map f g (x ∷ xs) = sum_by-cons f (g x) (map g xs)
-    ∙ (ap (λ k. f (g x) + k) (sum-map f g xs) ∙ sym (sum_by-cons (λ x. f (g x)) x xs))
-
 -- a region of the other list with a piece of this name
 record HasName (rs : List RegionData) (n : List Bool) : Type 0 where
   pub place : ℕ
@@ -107,7 +103,7 @@ has-name r rs qs h =
     let w = h (λ m. bit (is-name n m)) in
     let first = sum_by-cons (λ m. bit (is-name n m)) n (piece-names rs) in
     let one : bit (is-name n n) ≡ 1 = ap bit (own-name n) in
-    let there = sum-map (λ m. bit (is-name n m)) (λ (q : RegionData). q.piece.name) qs in
+    let there = sum_by-map (λ m. bit (is-name n m)) (λ (q : RegionData). q.piece.name) qs in
     let found = some_there (λ (q : RegionData). is-name n q.piece.name) qs (omega arith) in
     record { place = found.0; region = found.1; there = found.2; named = the-name n found.1.piece.name found.3 }
 
@@ -118,10 +114,6 @@ later : (t : List Bool) (rs : List RegionData) (i : ℕ) (r : RegionData)
 later t [] i r h at = let clash : None ≡ Some r = at in absurd cc
 later t (x ∷ rs) zero r h at = subst (λ (y : RegionData). slice_cmp bool_cmp t y.name ≡ Less) (same_Some x r at) h.0
 later t (x ∷ rs) (suc i) r h at = later t rs i r h.1 at
-
-all-at : (P : RegionData → Type 0) (rs : List RegionData) (i : ℕ) (r : RegionData) → All P rs
-    → slice_get rs i ≡ Some r → P r
-all-at P rs i r all at = subst P (get_or_from_slice_get rs i r r at) (all i r (slice_get_within rs i r at))
 
 -- both lists weigh the same without their first elements, where these are one
 without-first : (r q : RegionData) (rs qs : List RegionData) → r.piece.name ≡ q.piece.name
@@ -164,10 +156,10 @@ module _ (one : IsExecutionOne) (stack : List (List Insn)) where
       on (suc i) a zero b = ap (λ (z : RegionData). z.piece.name) (same_Some r y.region b) ∙ y.named
       on (suc i) a (suc j) b =
           let rx : r.name ≡ x.region.name = ap (λ (z : RegionData). z.name) (region-one r x.region
-          (All-head (IsRegionOf stack) r rs h) (all-at (IsRegionOf stack) (q ∷ qs) (suc i) x.region k a)
+          (All-head (IsRegionOf stack) r rs h) (at_place (IsRegionOf stack) (q ∷ qs) (suc i) x.region k a)
           (sym x.named)) in
           let qy : q.name ≡ y.region.name = ap (λ (z : RegionData). z.name) (region-one q y.region
-          (All-head (IsRegionOf stack) q qs k) (all-at (IsRegionOf stack) (r ∷ rs) (suc j) y.region h b)
+          (All-head (IsRegionOf stack) q qs k) (at_place (IsRegionOf stack) (r ∷ rs) (suc j) y.region h b)
           (sym y.named)) in
           let one : slice_cmp bool_cmp q.name r.name ≡ Less = rw rx (later q.name qs i x.region p.0 a) in
           let two : slice_cmp bool_cmp r.name q.name ≡ Less = rw qy (later r.name rs j y.region o.0 b) in

@@ -156,7 +156,7 @@ map_contains f (x ∷ rs) n c = by (contains_cons (f x) (map f rs) n c) (λ k. m
     by (inl e) rest = (zero, x, refl, e)
     by (inr k) rest = let r = rest k in (suc r.0, r.1, r.2, r.3)
 
-at_place : (P : RegionData → Type 0) (rs : List RegionData) (i : ℕ) (r : RegionData) → All P rs
+pub at_place : (P : RegionData → Type 0) (rs : List RegionData) (i : ℕ) (r : RegionData) → All P rs
     → slice_get rs i ≡ Some r → P r
 at_place P rs i r all at = subst P (get_or_from_slice_get rs i r r at) (all i r (slice_get_within rs i r at))
 

@@ -56,7 +56,7 @@ module _ {A : Type 0} (p : A → Bool) where
           let r = rest (omega arith) in
           (suc r.0, r.1, r.2, r.3)
 
-sum_by-map : {A B : Type 0} (f : B → ℕ) (g : A → B) (xs : List A) → sum_by f (map g xs) ≡ sum_by (λ x. f (g x)) xs
+pub sum_by-map : {A B : Type 0} (f : B → ℕ) (g : A → B) (xs : List A) → sum_by f (map g xs) ≡ sum_by (λ x. f (g x)) xs
 sum_by-map f g [] = refl
 sum_by-map f g (x ∷ xs) = sum_by-cons f (g x) (map g xs)
     ∙ (ap (λ k. f (g x) + k) (sum_by-map f g xs) ∙ sym (sum_by-cons (λ x. f (g x)) x xs))

@@ -24,10 +24,10 @@ use std::alloc::Global;
 use std::marker::Model;
 use std::sync::Arc;
 
-/// A piece to work on, and the id under which it is outstanding.
+/// A piece to work on.
 #[derive(Drop)]
 pub struct Lease {
-    /// The id under which the book knows the piece; no other outstanding piece has it.
+    /// The id under which it is outstanding; no other outstanding piece has it.
     pub id: u64,
     /// The piece, which the book and its lease share.
     pub piece: Arc<Piece>,
@@ -38,17 +38,14 @@ pub struct Lease {
 pub struct Book {
     stack: Arc<Stack>,
     outstanding: OutstandingPieces,
-    // In the order in which they settled.
     regions: Vec<Region>,
-    // In the order in which their works were committed.
     emptied: Vec<Emptied>,
     // How many committed works split their piece.
     splits: u32,
-    // How many works are committed.
     commits: u32,
     // How many works may be committed.
     budget: u32,
-    // The id of the next new piece. It is above all ids that were given: none is given twice.
+    // The id of the next new piece, above all ids that were given.
     next_id: u64,
 }
 
@@ -80,8 +77,8 @@ impl Model for Book {
 }
 
 impl Book {
-    /// A new book of the stack. The piece of all inputs is outstanding in it, under the id 0 and not on lease. The book
-    /// takes at most `budget` works. `Memory` where an allocation is refused, or where the stack has too many owners.
+    /// A new book of the stack, which takes at most `budget` works. The piece of all inputs is outstanding, under the
+    /// id 0.
     pub fn open(alloc: Global, stack: Arc<Stack>, budget: u32) -> Result<Book, Fault>
         ensures ok { IfOk result (λ b. (r : PieceData) × IsRoot (arc_value stack) r
             × (b ≡ fresh (arc_value stack) r budget)) }
@@ -109,7 +106,7 @@ impl Book {
         Ok(book)
     }
 
-    /// How many works the book takes at most: `commit` refuses further ones as `Spent`.
+    /// How many works the book takes at most.
     pub fn budget(&self) -> u32
         ensures budget { result ≡ self.now.budget }
         ensures lawful { IsLawfulBook self.now }
@@ -117,7 +114,7 @@ impl Book {
         self.budget
     }
 
-    /// The counts of the book. At any time each input lies in exactly one of its pieces and regions.
+    /// The counts of the book.
     #[tactic(auto, using(crate::specs::PartitionLaws::lies_in_one, crate::specs::PartitionLaws::none_begins_another))]
     pub fn counts(&self) -> Counts
         ensures counts { result ≡ counts_of self.now }
@@ -136,9 +133,8 @@ impl Book {
         }
     }
 
-    /// Leases out the piece whose name comes first (`Name::order`) among those that aren't on lease; `None` where all
-    /// are on lease, or none is outstanding. Takes no memory. `Memory` where too many owners would share the piece: the
-    /// book is unchanged then.
+    /// Leases out the piece whose name comes first (`Name::order`) among those that aren't on lease. Takes no memory,
+    /// but too many owners may share the piece.
     pub fn lease(&mut self) -> Result<Option<Lease>, Fault>
         ensures ok { IfOk result (λ l. MatchOption l ((self.new ≡ self.old)
             × All (λ e. e.leased ≡ true) self.old.outstanding)
@@ -151,8 +147,7 @@ impl Book {
         Ok(Some(Lease { id, piece }))
     }
 
-    /// Takes the piece under the id off lease, after which it can be leased out again. Where no piece is outstanding
-    /// under the id, nothing changes.
+    /// Takes the piece under the id, if any, off lease.
     pub fn give_back(&mut self, id: u64)
         ensures { self.new ≡ record self.old {
           outstanding = map
@@ -172,13 +167,9 @@ impl Book {
         self.outstanding.recall();
     }
 
-    /// Puts what became of a piece in its place: its two children, a region or an emptied name. Returns the ids of the
-    /// two children, the false one's first; both are outstanding and on lease. Without children it returns `None`. The
-    /// piece needn't be on lease.
-    ///
-    /// Refused, with the book unchanged, in this order: `Foreign` where the work is of another stack (`is_of`); `Stale`
-    /// where no piece is outstanding under the id, or one with another name than the work's piece; `Spent` where the
-    /// budget is spent; `Memory` where an allocation is refused, or where too many owners would share a child.
+    /// Puts what became of a piece in its place: its two children, whose ids it gives, on lease, a region or an emptied
+    /// name. The piece needn't be on lease. Refusals come in the order `Foreign`, `Stale`, `Spent`, `Memory`, and leave
+    /// the book unchanged.
     pub fn commit(&mut self, id: u64, work: Work) -> Result<Option<(u64, u64)>, Fault>
         ensures ok { IfOk result (λ ids. MayCommit self.old id work
             × (self.old.commits < self.old.budget)
@@ -192,8 +183,7 @@ impl Book {
         self.commit_of_stack(id, work)
     }
 
-    /// Commits as `commit` does, but the stacks aren't compared, and `Foreign` can't come. The caller's condition: the
-    /// work is of the book's stack.
+    /// Commits a work of the book's stack: stacks aren't compared.
     pub fn commit_of_stack(&mut self, id: u64, work: Work) -> Result<Option<(u64, u64)>, Fault>
         requires { work.piece.stack ≡ self.old.stack }
         ensures ok { IfOk result (λ ids. MayCommit self.old id work
@@ -209,10 +199,7 @@ impl Book {
         replaced
     }
 
-    /// Takes the piece under the id out, puts what the work made of it in its place, and returns what `commit` returns.
-    /// Stack, name and budget aren't looked at. The caller's conditions: `admit` has admitted the work under this id,
-    /// and the book hasn't changed since. `Memory` where an allocation is refused, or where too many owners would share
-    /// a child: the book is unchanged then.
+    /// Puts what the work made of the piece in its place, once `admit` has admitted it.
     fn replace(&mut self, id: u64, work: Work) -> Result<Option<(u64, u64)>, Fault>
         requires may { MayCommit self.old id work }
         requires room { self.old.commits < self.old.budget }
@@ -248,9 +235,7 @@ impl Book {
         }
     }
 
-    /// Fails where a work of the book's stack can't be committed: `Stale` where no piece is outstanding under the id,
-    /// or one with another name than the work's piece; `Spent` where the budget is spent. The caller's condition: the
-    /// work is of the book's stack.
+    /// Fails where a work of the book's stack can't be committed.
     fn admit(&self, id: u64, work: &Work) -> Result<(), Fault>
         requires { work.now.piece.stack ≡ self.now.stack }
         ensures ok { OnOk result (MayCommit self.now id work.now
@@ -269,8 +254,7 @@ impl Book {
         Ok(())
     }
 
-    /// Closes the book of this stack, and puts its regions in name order. `Foreign` where the book is of another stack
-    /// (`Stack::is_same`): the book is dropped then.
+    /// Closes the book of this stack, and puts its regions in name order.
     pub fn finish(self, stack: &Stack) -> Result<Settled, Fault>
         ensures ok { IfOk result (λ s. (self.stack ≡ stack.now) × Settles self s) }
         ensures lawful { IfOk result (λ s. IsSettled s) }

@@ -41,7 +41,6 @@ impl Fault {
 impl From<AllocError> for Fault {
     ghost from_gives = { λ _ e. e ≡ Memory };
 
-    /// Each `AllocError` is the fault `Memory`.
     fn from(_e: AllocError) -> Fault {
         Fault::Memory
     }
@@ -50,7 +49,6 @@ impl From<AllocError> for Fault {
 impl<T: Drop> From<AllocFailed<T>> for Fault {
     ghost from_gives = { λ _ e. e ≡ Memory };
 
-    /// A refused allocation is the fault `Memory`. The value that should have been stored is dropped.
     fn from(_e: AllocFailed<T>) -> Fault {
         Fault::Memory
     }
@@ -59,7 +57,6 @@ impl<T: Drop> From<AllocFailed<T>> for Fault {
 impl From<sf_piece::Fault> for Fault {
     ghost from_gives = { λ _ e. e ≡ Memory };
 
-    /// The only fault of `sf_piece` is `Memory` too.
     fn from(_e: sf_piece::Fault) -> Fault {
         Fault::Memory
     }

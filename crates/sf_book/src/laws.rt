@@ -19,8 +19,7 @@ pub fn each_input_lies_in_one()
         → LiesInOne (parts_of b) d }
 {}
 
-/// For the prover: in a lawful book no name is the beginning of another one. Outstanding pieces, regions and emptied
-/// pieces have these names.
+/// For the prover: in a lawful book no name is the beginning of another one.
 #[tactic(auto, using(crate::specs::PartitionLaws::none_begins_another))]
 pub fn no_name_begins_another()
     ensures { (b : BookData) → IsLawfulBook b → NoneBeginsAnother (names_of b) }
@@ -34,33 +33,29 @@ pub fn at_most_one_for_each_trace()
 {}
 
 /// For the prover: where an exploration of a plain stack ended with nothing outstanding, the names of its regions are
-/// exactly the feasible traces, in name order. Then no piece was emptied, and for n traces there were 2 n - 1 commits.
-/// The clause doesn't say how many of them were splits, but this follows from the counts of a lawful book
-/// (`IsLawfulBook`): n commits settled a piece, and the other n - 1 split one.
+/// the feasible traces. For n traces there were 2 n - 1 commits: n settled a piece, and the others split one.
 pub fn what_is_worked_off_names_each_trace()
     ensures { (b : BookData) → IsSettled b → IsPlainBook b → b.outstanding ≡ [] →
         IsWorkedOff b (feasible_traces b.stack) }
 {}
 
-/// For the prover: while a lawful book of a plain stack with n feasible traces has something outstanding, fewer than
-/// 2 n - 1 works are committed. It takes 2 n - 1 works to settle all regions: n - 1 split a piece, and n settle one.
+/// For the prover: while a lawful book of a plain stack with n feasible traces has something outstanding, fewer than 2
+/// n - 1 works are committed.
 pub fn what_is_left_took_fewer_works()
     ensures { (b : BookData) → IsLawfulBook b → IsPlainBook b → 0 < length b.outstanding →
         b.commits + 1 < 2 * length (feasible_traces b.stack) }
 {}
 
-/// For the prover: take an exploration of a plain stack with n feasible traces. If it ended because nothing was
-/// outstanding or because its budget was spent, then nothing is outstanding exactly where the budget is at least
-/// 2 n - 1. (The budget is how many works may be committed.)
+/// For the prover: an exploration of a plain stack with n feasible traces ends with nothing outstanding exactly where
+/// its budget is at least 2 n - 1.
 pub fn the_least_budget_that_leaves_nothing()
     ensures { (b : BookData) → IsSettled b → IsPlainBook b → (b.outstanding ≡ [])
         ⊎ (b.commits ≡ b.budget) →
         (b.outstanding ≡ []) ↔ (2 * length (feasible_traces b.stack) ≤ b.budget + 1) }
 {}
 
-/// For the prover: two explorations of one stack that both ended with nothing outstanding have one result, whatever
-/// their budgets were, and in whatever order the works came. They have the same regions, the same emptied names, the
-/// same number of splits, and the same number of commits.
+/// For the prover: two explorations of one stack that ended with nothing outstanding have one result, whatever their
+/// budgets were, and in whatever order the works came.
 pub fn explorations_have_one_result()
     ensures { ExplorationsHaveOneResult }
 {

@@ -1,5 +1,6 @@
 //! The worklist of an exploration: a partition of all inputs among pieces that are left to work and regions that
-//! are settled. No thread and no lock: the crates above share it as they like.
+//! are settled. No thread and no lock: the crates above share it as they like. Where memory runs out, a
+//! book stays as it was.
 #![tactic(auto)]
 
 mod book;

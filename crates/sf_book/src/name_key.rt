@@ -16,7 +16,7 @@ use std::cmp::Ordering;
 use std::marker::Model;
 use std::sync::Arc;
 
-/// A piece as a key by its name: two pieces with the same name are the same key.
+/// A piece as a key by its name.
 #[derive(Drop)]
 pub(crate) struct NameKey {
     piece: Arc<Piece>,
@@ -38,8 +38,7 @@ impl NameKey {
         NameKey { piece }
     }
 
-    /// Another key of the same piece, which both keys share. Takes no memory. `Memory` where too many owners would
-    /// share the piece.
+    /// Another key of the same piece, which both share.
     pub(crate) fn share(&self) -> Result<NameKey, Fault>
         ensures ok { IfOk result (λ k. k ≡ self.now) }
         ensures err { IfErr result (λ f. f ≡ Memory) }

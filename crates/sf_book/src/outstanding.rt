@@ -20,15 +20,14 @@ use std::collections::BTreeMap;
 use std::marker::Model;
 use std::sync::Arc;
 
-/// What stands under a name: the id of the piece with this name, and whether the piece is on lease.
+/// What stands under a name: the id of its piece, and whether that is on lease.
 #[derive(Clone, Copy, Debug, PartialEq, Eq)]
 pub(crate) struct LeaseState {
     pub(crate) id: u64,
     pub(crate) leased: bool,
 }
 
-/// Outstanding pieces. The first map finds a piece by its id; the second, in name order, finds the next piece to lease
-/// out.
+/// Outstanding pieces. The second map, in name order, finds the next piece to lease out.
 #[derive(Drop)]
 pub(crate) struct OutstandingPieces {
     by_id: BTreeMap<u64, NameKey>,
@@ -49,8 +48,7 @@ impl Model for OutstandingPieces {
 }
 
 impl OutstandingPieces {
-    /// Only this piece, outstanding under this id, and not on lease. `Memory` where an allocation is refused, or where
-    /// too many owners would share the piece.
+    /// Only this piece, not on lease.
     pub(crate) fn open(
         alloc: Global,
         id: u64,
@@ -78,7 +76,7 @@ impl OutstandingPieces {
         self.by_id.len()
     }
 
-    /// The piece under the id; `None` where none is outstanding under it.
+    /// The piece under the id, if any.
     pub(crate) fn piece(&self, id: u64) -> Option<&Arc<Piece>>
         ensures { MatchOption result (outstanding_at id self.now ≡ None) (λ p. (on : Bool)
             × (outstanding_at id self.now ≡ Some (record {
@@ -93,7 +91,7 @@ impl OutstandingPieces {
         }
     }
 
-    /// The piece at this place in the order of ids, from 0. The caller's condition: the place is below `len`.
+    /// The piece at this place in the order of ids, from 0.
     pub(crate) fn at(&self, i: usize) -> &Arc<Piece>
         requires { i < length self.now }
         ensures { slice_get (map (λ (e : OutstandingData). e.piece) self.now) i
@@ -102,9 +100,7 @@ impl OutstandingPieces {
         key_at(&self.by_id, i).piece()
     }
 
-    /// Leases out the piece whose name comes first (`Name::order`) among those that aren't on lease, and gives its id
-    /// and the piece. `None` where all are on lease, or none is outstanding. Takes no memory. `Memory` where too many
-    /// owners would share the piece: all is as it was then.
+    /// Leases out the piece whose name comes first among those that aren't on lease, and gives its id too.
     pub(crate) fn lease(&mut self) -> Result<Option<(u64, Arc<Piece>)>, Fault>
         ensures ok { IfOk result (λ l. MatchOption l ((self.new ≡ self.old)
             × All (λ e. e.leased ≡ true) self.old) (λ l.
@@ -123,7 +119,7 @@ impl OutstandingPieces {
         Ok(Some((id, piece)))
     }
 
-    /// Takes the piece under the id off lease. Where no piece is outstanding under the id, nothing changes.
+    /// Takes the piece under the id, if any, off lease.
     pub(crate) fn give_back(&mut self, id: u64)
         ensures { self.new ≡ map (with_lease_at id false) self.old }
     {
@@ -139,9 +135,7 @@ impl OutstandingPieces {
         clear_leased(&mut self.by_name);
     }
 
-    /// Adds a piece under an id, on lease where `leased` is true. `Memory` where an allocation is refused, or where too
-    /// many owners would share the piece: all is as it was then. The caller's conditions: the id is above all others,
-    /// and no outstanding piece has the piece's name.
+    /// Adds a piece under an id that is above all others.
     fn add(&mut self, id: u64, piece: Arc<Piece>, leased: bool) -> Result<(), Fault>
         requires above { All (λ e. e.id < id) self.old }
         requires apart { All (λ e. e.piece.name ≢ (arc_value piece).name) self.old }
@@ -164,7 +158,7 @@ impl OutstandingPieces {
         }
     }
 
-    /// Takes the piece under the id out of both maps. Where no piece is outstanding under the id, nothing changes.
+    /// Takes the piece under the id, if any, out of both maps.
     pub(crate) fn remove(&mut self, id: u64)
         ensures { self.new ≡ without id self.old }
     {
@@ -173,11 +167,8 @@ impl OutstandingPieces {
         }
     }
 
-    /// Takes the piece under `id` out, and adds the two into which it is split, both on lease: `f`, the false one,
-    /// under `first`, and `t`, the true one, under `second`. Where no piece is outstanding under `id`, the two are only
-    /// added. `Memory` where an allocation is refused, or where too many owners would share a piece: all is as it was
-    /// then. The caller's conditions: `first` is above `id` and all ids that are outstanding, and `second` above
-    /// `first`; `f` and `t` have different names, which no outstanding piece has.
+    /// Puts the two pieces of a split, on lease, in place of the piece under `id`: `f`, the false one, under `first`,
+    /// and `t`, the true one, under `second`.
     pub(crate) fn split(
         &mut self,
         id: u64,
@@ -211,8 +202,7 @@ impl OutstandingPieces {
     }
 }
 
-/// The key of the piece at place `i`, from 0, in the order of ids. The caller's condition: `i` is below the number of
-/// entries.
+/// The key of the piece at place `i`, from 0, in the order of ids.
 fn key_at(by_id: &BTreeMap<u64, NameKey>, i: usize) -> &NameKey
     requires { i < length (values by_id.now) }
     ensures { slice_get (values by_id.now) i ≡ Some result.now }
@@ -223,8 +213,7 @@ fn key_at(by_id: &BTreeMap<u64, NameKey>, i: usize) -> &NameKey
     named
 }
 
-/// Puts a piece under an id, in place of one that may stand there. `Memory` where an allocation is refused: the map is
-/// as it was then.
+/// Puts a piece under an id, in place of one that may stand there.
 fn put_id(by_id: &mut BTreeMap<u64, NameKey>, id: u64, piece: NameKey) -> Result<(), Fault>
     ensures updates { OnOk result (Updates nat_cmp by_id.old by_id.new id (Some piece)) }
     ensures inserted { OnOk result (by_id.new.entries
@@ -236,8 +225,7 @@ fn put_id(by_id: &mut BTreeMap<u64, NameKey>, id: u64, piece: NameKey) -> Result
     Ok(())
 }
 
-/// Puts the id of a piece, and whether the piece is on lease, under the piece's name, in place of what may stand there.
-/// `Memory` where an allocation is refused: the map is as it was then.
+/// Puts what stands under a piece's name, in place of what may stand there.
 fn put_name(
     by_name: &mut BTreeMap<NameKey, LeaseState>,
     piece: NameKey,
@@ -252,14 +240,14 @@ fn put_name(
     Ok(())
 }
 
-/// Takes the piece under an id out of the map of ids. Where none stands under it, nothing changes.
+/// Takes the piece under an id, if any, out of the map of ids.
 fn drop_id(by_id: &mut BTreeMap<u64, NameKey>, id: u64)
     ensures { by_id.new.entries ≡ remove_entry (is_at (nat_cmp id)) by_id.old.entries }
 {
     by_id.remove(&id);
 }
 
-/// The id of the piece with the first name among those that aren't on lease; `None` where there is no such piece.
+/// The id of the piece with the first name among those that aren't on lease.
 fn first_free(by_name: &BTreeMap<NameKey, LeaseState>) -> Option<u64>
     ensures { result ≡ option_map (λ (m : LeaseState). m.id)
         (find (λ (m : LeaseState). not m.leased) (values by_name.now)) }
@@ -270,7 +258,7 @@ fn first_free(by_name: &BTreeMap<NameKey, LeaseState>) -> Option<u64>
         .map(|state| state.id)
 }
 
-/// Puts the piece of a name on lease, or takes it off. Where the map hasn't the name, nothing changes.
+/// Puts the piece of a name, if the map has it, on lease, or takes it off.
 fn set_leased(by_name: &mut BTreeMap<NameKey, LeaseState>, named: &NameKey, leased: bool)
     ensures { MatchOption (lease_state_of by_name.old.entries named.now)
         (by_name.new.entries ≡ by_name.old.entries) (λ m. by_name.new.entries

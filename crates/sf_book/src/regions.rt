@@ -36,9 +36,7 @@ impl Model for Region {
 }
 
 impl Region {
-    /// The region of a piece that settled. The caller's conditions, which no clause asks for: `name` is the whole trace
-    /// of each member (the piece's own name may be only a beginning of it), and `answer` is the stack's answer on each
-    /// member.
+    /// The region of a piece that settled, with its whole name and its answer.
     pub(crate) fn of(piece: Arc<Piece>, name: Name, answer: Answer) -> Region
         ensures { result ≡ record {
           piece = arc_value piece;
@@ -53,7 +51,7 @@ impl Region {
         }
     }
 
-    /// The piece that settled: its path conditions and its facts are those of the region.
+    /// The piece that settled, whose path conditions and facts are those of the region.
     pub fn piece(&self) -> &Arc<Piece>
         ensures { arc_value result.now ≡ self.now.piece }
     {
@@ -98,8 +96,7 @@ impl Emptied {
     }
 }
 
-/// Adds an element at the end. `Memory` where an allocation is refused: the list is as it was then, and the element is
-/// dropped.
+/// Adds an element at the end.
 pub(crate) fn add<T: Drop>(v: &mut Vec<T>, x: T) -> Result<(), Fault>
     ensures ok { OnOk result (v.new.items ≡ v.old.items ++ x ∷ []) }
     ensures err { IfErr result (λ f. (f ≡ Memory) × (v.new.items ≡ v.old.items)) }
@@ -122,8 +119,7 @@ pub(crate) fn is_of(work: &Work, stack: &Arc<Stack>) -> bool
     work.piece().stack().is_same(stack)
 }
 
-/// How two regions compare in name order: at the first truth value in which their names differ, false comes before
-/// true, and a name comes before longer ones that begin with it.
+/// How two regions compare in name order (`Name::order`).
 fn compare_names(a: &Region, b: &Region) -> Ordering
     ensures { result ≡ slice_cmp bool_cmp a.now.name b.now.name }
 {

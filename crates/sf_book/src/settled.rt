@@ -19,15 +19,12 @@ use sf_run::Counts;
 use std::marker::Model;
 use std::sync::Arc;
 
-/// How an exploration ended: the settled regions, in name order, and the pieces that are left. Each input of the stack
-/// lies in exactly one of them.
+/// How an exploration ended: the settled regions, in name order, and the pieces that are left.
 #[derive(Drop)]
 pub struct Settled {
     pub(crate) stack: Arc<Stack>,
-    // The pieces that are left.
     pub(crate) outstanding: OutstandingPieces,
     pub(crate) regions: Vec<Region>,
-    // In the order in which their works were committed.
     pub(crate) emptied: Vec<Emptied>,
     // The numbers of the book when it was closed.
     pub(crate) splits: u32,
@@ -80,8 +77,7 @@ impl Settled {
         self.regions.len()
     }
 
-    /// The region at this place in the order of names, from 0. The caller's condition: the place is below
-    /// `region_count`.
+    /// The region at this place in the order of names, from 0.
     pub fn region(&self, i: usize) -> &Region
         requires { i < length self.now.regions }
         ensures value { slice_get self.now.regions i ≡ Some result.now }
@@ -100,8 +96,7 @@ impl Settled {
         self.outstanding.len()
     }
 
-    /// The piece at this place, from 0, among those that are left, in the order of ids. The caller's condition: the
-    /// place is below `outstanding_count`.
+    /// The piece at this place, from 0, among those that are left, in the order of ids.
     pub fn outstanding(&self, i: usize) -> &Arc<Piece>
         requires { i < length self.now.outstanding }
         ensures value { slice_get (map (λ (e : OutstandingData). e.piece) self.now.outstanding) i
@@ -119,8 +114,7 @@ impl Settled {
         self.emptied.len()
     }
 
-    /// The name of the piece at this place, from 0, among those that turned out to have no member, in the order in
-    /// which their works were committed. The caller's condition: the place is below `emptied_count`.
+    /// The name at this place, from 0, of the pieces without a member, in the order of their commits.
     pub fn emptied(&self, i: usize) -> &Name
         requires { i < length self.now.emptied }
         ensures value { slice_get self.now.emptied i ≡ Some result.now }
@@ -129,7 +123,7 @@ impl Settled {
         self.emptied[i].name()
     }
 
-    /// The counts of the book when it was closed. Each input lies in exactly one of its pieces and regions.
+    /// The counts of the book when it was closed.
     #[tactic(auto, using(crate::specs::PartitionLaws::lies_in_one, crate::specs::PartitionLaws::none_begins_another))]
     pub fn counts(&self) -> Counts
         ensures counts { result ≡ counts_of self.now }
