@@ -1,5 +1,6 @@
 -- The input that has in each word the least number that facts leave for it.
-use Rattle.std.proofs.Common.{arith, ℕ, ◌<◌, ◌≤◌, List}
+use Rattle.std.proofs.Common.{arith, ◌≡◌, ℕ, ◌<◌, ◌≤◌, true, List, length, sym, ap, ◌∙◌}
+use Rattle.std.proofs.lemmas.List.{ext_get_or}
 use Rattle.std.specs.Prelude.{slice_index}
 use Rattle.sf_insn.specs.declared.input.Input.{Input}
 use Rattle.sf_sym.specs.Pool.{ArePlainNodes}
@@ -7,14 +8,16 @@ use Rattle.sf_sym.specs.declared.pool.Node.{Node}
 use Rattle.sf_dom.specs.Known.{Admits}
 use Rattle.sf_dom.specs.Facts.{FactsView, Agrees, Covers, known_at}
 use Rattle.sf_dom.specs.FactsLaws.{agreeing-word, low-left, words-agree}
+use Rattle.sf_piece.specs.Pieces.{PieceData, is_member}
+use Rattle.sf_piece.specs.PlainPieces.{IsPlainPiece}
 use Rattle.sf_ask.specs.Trying.{IsLeastInput}
 
-abbrev pub low : FactsView → ℕ → ℕ
-low f word = (known_at f.known word).low
-
--- ---- word by word
-
--- ---- what it is
+-- inputs of the same numbers are one
+pub same-input : (d e : Input) → length d.words ≡ 16 → length e.words ≡ 16
+    → ((word : ℕ) → word < 16 → slice_index d.words word ≡ slice_index e.words word) → d ≡ e
+same-input d e ld le same =
+    ap (λ (words : List ℕ). let x : Input = record { words = words } in x)
+    (ext_get_or 0 d.words e.words (ld ∙ sym le) (λ i l. same i (omega arith)))
 
 -- each number of the least input is one that its word may have
 pub least-admitted : (f : FactsView) (ns : List Node) (d : Input) → Covers f ns → IsLeastInput f d → (word : ℕ)
@@ -32,3 +35,8 @@ pub least-agrees : (f : FactsView) (ns : List Node) (d : Input) → Covers f ns 
 unfolding Agrees
 least-agrees f ns d covers plain h = words-agree f ns d covers plain
     (λ word w. rw (h.is word w) (low-left f ns word covers w))
+
+-- on a plain stack the least input that the facts of a piece leave is a member
+pub plain-least : (p : PieceData) (d : Input) → IsPlainPiece p → Covers p.facts p.pool → IsLeastInput p.facts d
+    → is_member p d ≡ true
+plain-least p d exact covers h = exact.exact d h.input (least-agrees p.facts p.pool d covers exact.nodes h)

@@ -7,6 +7,3 @@ pub mod OneVerdict
 pub mod OneReply
 pub mod SheetLemmas
 pub mod ProbeLemmas
-pub mod MemberLemmas
-pub mod Finds
-pub mod OneMembership

@@ -1,10 +1,7 @@
 -- The rules give one verdict on a region.
-use Rattle.std.proofs.Common.{◌≡◌, ℕ, ◌<◌, Bool, true, false, List, length, refl, sym, ap, ◌∙◌, true≢false, arith, MatchBool}
-use Rattle.std.specs.Prelude.{slice_index}
-use Rattle.std.proofs.lemmas.List.{ext_get_or}
+use Rattle.std.proofs.Common.{◌≡◌, Bool, true, false, refl, sym, ap, ◌∙◌, true≢false, MatchBool}
 use Rattle.sf_insn.specs.declared.input.Input.{Input}
 use Rattle.sf_sym.specs.Pool.{IsPool}
-use Rattle.sf_dom.specs.declared.known.Known.{Known}
 use Rattle.sf_dom.specs.Facts.{FactsView, known_at}
 use Rattle.sf_dom.specs.SoundRules.{HaveOneResult}
 use Rattle.sf_piece.specs.Pieces.{PieceData, is_member}
@@ -15,6 +12,7 @@ use Rattle.sf_question.specs.Actions.{has_action}
 use Rattle.sf_question.specs.QuestionData.{QuestionData}
 use Rattle.sf_ask.specs.Judging.{FindsInQuestion, HasVerdict, IsTriedBy}
 use Rattle.sf_ask.proofs.Confinements.{same-before}
+use Rattle.sf_ask.proofs.Leasts.{same-input}
 
 -- ---- verdicts and what is found
 
@@ -28,20 +26,12 @@ asked-verdict r q v asked found = rw asked found
 
 -- ---- one input is tried
 
--- inputs of the same least numbers are one
-pub one-input : (d e : Input) (ks : List Known) → length d.words ≡ 16 → length e.words ≡ 16
-    → ((word : ℕ) → word < 16 → slice_index d.words word ≡ (known_at ks word).low)
-    → ((word : ℕ) → word < 16 → slice_index e.words word ≡ (known_at ks word).low) → d ≡ e
-one-input d e ks ld le hd he =
-    ap (λ (words : List ℕ). let x : Input = record { words = words } in x)
-    (ext_get_or 0 d.words e.words (ld ∙ sym le) (λ i l. hd i (omega arith) ∙ sym (he i (omega arith))))
-
 module _ (laws : HaveOneResult) (q : QuestionData) (p : PieceData) (pool : IsPool p.pool) where
   same-tried : (d e : Input) (a b : Bool) → IsTriedBy p q d a → IsTriedBy p q e b → (d ≡ e) × (a ≡ b)
   same-tried d e a b x y =
       let left = same-before laws p.pool pool q 16 p.facts x.left y.left x.confined y.confined in
-      let one : d ≡ e = one-input d e x.left.known x.least.input.sixteen y.least.input.sixteen x.least.is
-      (λ word l. y.least.is word l ∙ ap (λ (f : FactsView). (known_at f.known word).low) (sym left)) in
+      let one : d ≡ e = same-input d e x.least.input.sixteen y.least.input.sixteen (λ word l. x.least.is word l
+      ∙ ap (λ (f : FactsView). (known_at f.known word).low) left ∙ sym (y.least.is word l)) in
       (one, sym x.member ∙ ap (is_member p) one ∙ y.member)
 
   pub one-found : (v w : Verdict) → FindsInQuestion p q v → FindsInQuestion p q w → v ≡ w

@@ -1,16 +1,15 @@
 -- What a search for a member in a question tells.
 use Rattle.std.proofs.lemmas.Grind.{common_steps}
-use Rattle.std.proofs.Common.{◌≡◌, ℕ, ◌+◌, ◌<◌, ◌≤◌, Bool, true, false, List, length, get_or, take, arith, refl, sym, ap, ◌∙◌, Some}
+use Rattle.std.proofs.Common.{◌≡◌, ℕ, ◌+◌, ◌<◌, ◌≤◌, Bool, true, false, List, take, arith, refl, ap, ◌∙◌, Some}
 use Rattle.std.specs.Prelude.{slice_index, slice_get}
 use Rattle.std.specs.List.{list_all}
-use Rattle.std.proofs.lemmas.List.{ext_get_or}
 use Rattle.std.proofs.lemmas.List.Folds.{list_all_more, list_all_at}
 use Rattle.std.proofs.lemmas.Option.{get_or_from_slice_get, slice_get_within}
 use Rattle.sf_insn.specs.declared.input.Input.{Input}
 use Rattle.sf_insn.specs.Inputs.{IsInput}
 use Rattle.sf_sym.specs.declared.pool.Node.{Node}
 use Rattle.sf_sym.specs.declared.pool.Cond.{Cond}
-use Rattle.sf_dom.specs.Facts.{FactsView, Agrees, AreConfined, NoInput}
+use Rattle.sf_dom.specs.Facts.{FactsView, Agrees, AreConfined}
 use Rattle.sf_run.specs.AnswerLaws.{one}
 use Rattle.sf_book.specs.Books.{BookData, RegionData, IsRightRegion}
 use Rattle.sf_ask.specs.declared.verdict.Verdict.{Verdict}
@@ -21,7 +20,7 @@ use Rattle.sf_piece.specs.PlainPieces.{IsPlainPiece}
 use Rattle.sf_question.specs.QuestionData.{QuestionData}
 use Rattle.sf_question.specs.Breaking.{IsInQuestion}
 use Rattle.sf_ask.specs.Verdicts.{IsLowInput, IsMemberAt, IsBreakAt, IsRightVerdict}
-use Rattle.sf_ask.proofs.Leasts.{least-admitted, least-below, least-agrees}
+use Rattle.sf_ask.proofs.Leasts.{least-admitted, least-below, least-agrees, same-input}
 use Rattle.sf_ask.specs.Trying.{IsNumberBefore, IsLeastInput}
 use Rattle.sf_ask.specs.Searches.{IsRightSearch}
 
@@ -57,21 +56,10 @@ low-is-least p q f g ns d low known a h input is member =
     let agrees = a.keeps low input (known low input member) is.inside in
     let inside = least-inside q f g ns d a h in
     let below = least-below g ns d low a.covers h agrees in
-    let same : (word : ℕ) → word < 16 → slice_index d.words word ≡ slice_index low.words word
-    = search arith in
-    ap (λ (words : List ℕ). let e : Input = record { words = words } in
-    e) (same_words d.words low.words h.input.sixteen input.sixteen same)
-  where
-    same_words : (xs ys : List ℕ) → length xs ≡ 16 → length ys ≡ 16
-        → ((word : ℕ) → word < 16 → get_or xs word 0 ≡ get_or ys word 0) → xs ≡ ys
-    same_words xs ys lx ly same = ext_get_or 0 xs ys (lx ∙ sym ly) (λ i l. same i (omega arith))
+    let same : (word : ℕ) → word < 16 → slice_index d.words word ≡ slice_index low.words word = search arith in
+    same-input d low h.input.sixteen input.sixteen same
 
 -- ---- what the steps of a search tell
-
-pub ruled-out : (p : PieceData) (q : QuestionData) (f : FactsView) (ns : List Node) → MembersAgree p f ns
-    → NoInput f ns (IsInQuestion q)
-    → (d : Input) → IsInput d → is_member p d ≡ true → ¬ IsInQuestion q d
-ruled-out p q f ns known none = λ d input member. none d input (known d input member)
 
 pub doubtful : (p : PieceData) (q : QuestionData) (f g : FactsView) (ns : List Node) (d : Input) → MembersAgree p f ns
     → AreConfined f g ns (IsInQuestion q) (IsNumberBefore q 16) → IsLeastInput g d → is_member p d ≡ false

@@ -10,11 +10,11 @@ use Rattle.sf_dom.specs.Facts.{Agrees, Covers}
 use Rattle.sf_piece.specs.Pieces.{PieceData, is_member}
 use Rattle.sf_book.specs.Books.{BookData, RegionData, IsRightRegion}
 use Rattle.sf_question.specs.Actions.{has_action}
-use Rattle.sf_ask.specs.Probing.{IsRuledOutIfAsked}
+use Rattle.sf_ask.specs.Probing.{LeaveNone, IsRuledOutIfAsked}
 use Rattle.sf_ask.specs.Judging.{FindsInQuestion, HasVerdictAt}
 use Rattle.sf_ask.specs.Searches.{IsRightSearch}
 use Rattle.sf_ask.proofs.ProbeLemmas.{there-is}
-use Rattle.sf_ask.proofs.Searching.{not-asked, ruled-out, region-right}
+use Rattle.sf_ask.proofs.Searching.{not-asked, region-right}
 use Rattle.sf_ask.proofs.OneVerdict.{unasked-verdict, asked-verdict}
 use Rattle.sf_ask.specs.declared.verdict.Verdict.TheVariants.{Clear}
 use Rattle.sf_question.specs.QuestionData.{QuestionData}
@@ -68,21 +68,6 @@ right-if-wanted s questions job q wanted right = grind (arith, common_steps)
 
 -- ---- what probes tell
 
-clear-unasked : (s : BookData) (questions : List QuestionData) (job q : ℕ) (r : RegionData) (x : QuestionData)
-    → slice_get s.regions job ≡ Some r → IsRightRegion s.stack r → slice_get questions q ≡ Some x
-    → has_action x.actions r.answer.action ≡ false → IsRightOn s questions job q Clear
-clear-unasked s questions job q r x there right asking none =
-    clear-is-right s questions job q x asking (not-asked s job x r there right none)
-    (record { region = r; there = there; verdict = unasked-verdict r x none })
-
-clear-ruled-out : (s : BookData) (questions : List QuestionData) (job q : ℕ) (r : RegionData) (x : QuestionData)
-    → slice_get s.regions job ≡ Some r → IsRightRegion s.stack r → slice_get questions q ≡ Some x
-    → has_action x.actions r.answer.action ≡ true → IsRightSearch r.piece x Clear → FindsInQuestion r.piece x Clear
-    → IsRightOn s questions job q Clear
-clear-ruled-out s questions job q r x there right asking asked none rule =
-    clear-is-right s questions job q x asking (region-right s job x r Clear there right asked none)
-    (record { region = r; there = there; verdict = asked-verdict r x Clear asked rule })
-
 -- a question that is ruled out if it asks about the region's action is clear
 pub clear-if-asked : (s : BookData) (questions : List QuestionData) (job q : ℕ) (r : RegionData) (p : PieceData)
     → slice_get s.regions job ≡ Some r → IsRightRegion s.stack r → q < length questions → p ≡ r.piece
@@ -94,9 +79,17 @@ clear-if-asked s questions job q r p there right l same known covers out =
   where
     by : (x : QuestionData) → slice_get questions q ≡ Some x → (b : Bool) → has_action x.actions r.answer.action ≡ b
         → IsRightOn s questions job q Clear
-    by x asking false none = clear-unasked s questions job q r x there right asking none
+    by x asking false none =
+        clear-is-right s questions job q x asking (not-asked s job x r there right none)
+        (record { region = r; there = there; verdict = unasked-verdict r x none })
     by x asking true asks =
-        clear-ruled-out s questions job q r x there right asking asks
-        (subst (λ (y : PieceData). IsRightSearch y x Clear) same
-        (ruled-out p x p.facts p.pool known (out x asking asks p.pool covers).none))
-        (subst (λ (y : PieceData). FindsInQuestion y x Clear) same (out x asking asks p.pool covers).rule)
+        let ruled : LeaveNone p.facts p.pool x = out x asking asks p.pool covers in
+        let none : IsRightSearch r.piece x Clear = subst (λ (y : PieceData). IsRightSearch y x Clear) same
+        (λ d input member. ruled.none d input (known d input member)) in
+        clear-is-right s questions job q x asking (region-right s job x r Clear there right asks none)
+        (record {
+          region = r;
+          there = there;
+          verdict = asked-verdict r x Clear asks
+              (subst (λ (y : PieceData). FindsInQuestion y x Clear) same ruled.rule);
+        })

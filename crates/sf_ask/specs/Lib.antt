@@ -6,7 +6,6 @@ pub mod OneResult
 pub mod OneResultLaws
 pub mod Verdicts
 pub mod Members
-pub mod Finding
 pub mod MemberLaws
 pub mod Searches
 pub mod Probing

@@ -1,25 +1,17 @@
--- What the rules promise, said of the rules alone: a region has one verdict, a search for a member one result, and a
--- question one reply.
+-- What the rules promise, said of the rules alone: a region has one verdict, and a question one reply.
 use Rattle.std.specs.Prelude.{◌≡◌, []}
 use Rattle.sf_sym.specs.Pool.{IsPool}
-use Rattle.sf_piece.specs.Pieces.{PieceData}
 use Rattle.sf_book.specs.Books.{RegionData, BookData, IsSettled}
 use Rattle.sf_book.specs.Unfoldings.{IsFringe}
 use Rattle.sf_ask.specs.declared.verdict.Verdict.{Verdict}
 use Rattle.sf_ask.specs.declared.verdict.Reply.{Reply}
 use Rattle.sf_question.specs.QuestionData.{QuestionData}
-use Rattle.sf_ask.specs.declared.members.Membership.{Membership}
-use Rattle.sf_ask.specs.Finding.{FindsMember}
 use Rattle.sf_ask.specs.Judging.{HasVerdict, HasReply}
 
 -- a region has one verdict on each question
 abbrev pub HaveOneVerdict : Type 0
 HaveOneVerdict = (r : RegionData) (q : QuestionData) (v w : Verdict) → IsPool r.piece.pool → HasVerdict r q v
     → HasVerdict r q w → v ≡ w
-
--- a search for a member finds one thing in a piece
-abbrev pub FindOneThing : Type 0
-FindOneThing = (p : PieceData) (m n : Membership) → IsPool p.pool → FindsMember p m → FindsMember p n → m ≡ n
 
 -- An exploration that ended with nothing outstanding: it is the fringe of the whole execution tree of its stack.
 pub record IsWholeFringe (s : BookData) : Type 0 where

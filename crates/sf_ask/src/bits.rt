@@ -3,7 +3,7 @@
 ghost use Rattle.std.specs.Prelude.{◌≡◌, ◌<◌, ◌==◌, ℕ, if◌then◌else◌, true, false, IsTrue};
 ghost use Rattle.sf_ask.specs.QuestionBits.{bit_of, has_bit};
 
-/// Whether the bit of the question q is set. The caller's condition: q is below 256.
+/// Whether the bit of the question q is set.
 pub fn has_bit(bits: &[u64; 4], q: usize) -> bool
     requires { q < 256 }
     ensures { result ≡ has_bit bits.now q }
@@ -11,7 +11,7 @@ pub fn has_bit(bits: &[u64; 4], q: usize) -> bool
     (bits[q / 64] >> (q % 64)) & 1 == 1
 }
 
-/// Sets the bit of the question q, and leaves the others. The caller's condition: q is below 256.
+/// Sets the bit of the question q.
 pub fn set_bit(bits: &mut [u64; 4], q: usize)
     requires { q < 256 }
     ensures { (p : ℕ) → bit_of bits.new p ≡ (if p == q then 1 else bit_of bits.old p) }

@@ -1,6 +1,6 @@
 //! Facts, confined to the numbers that a question leaves for the words.
 
-ghost use Rattle.std.specs.Prelude.{◌≡◌, ◌<◌, ◌≤◌, true, false, Ok, List, length, IfOk, IfErr, MatchBool, MatchOption};
+ghost use Rattle.std.specs.Prelude.{◌≡◌, ◌<◌, ◌≤◌, true, false, Ok, length, IfOk, IfErr, MatchBool, MatchOption};
 ghost use Rattle.sf_dom.specs.Facts.{Covers, AreConfined, ConfinesWord, NoInput, HasIn, known_at};
 ghost use Rattle.sf_question.specs.Breaking.{IsNumberOf, IsInQuestion};
 ghost use Rattle.sf_question.specs.QuestionData.{is_whole};
@@ -22,8 +22,7 @@ fn is_whole(range: (u32, u32)) -> bool
     range.0 == 0 && range.1 == u32::MAX
 }
 
-/// Whether no number from `low` to `high` lies in the interval that is known for a word. The caller's conditions:
-/// `word` is 0 to 15, the facts have all sixteen words, and `low` isn't above `high`, as in each question.
+/// Whether no number from `low` to `high` lies in the interval that is known for a word.
 fn misses(facts: &Facts, word: usize, low: u32, high: u32) -> bool
     requires word { word < 16 }
     requires known { 16 ≤ length facts.now.known }
@@ -33,9 +32,8 @@ fn misses(facts: &Facts, word: usize, low: u32, high: u32) -> bool
     known.high < low || high < known.low
 }
 
-/// Whether the known interval of some word has no number of the question's range for it: then no input that agrees with
-/// the facts is in the question. `false` leaves open whether one is: this is a quick look, which copies nothing and
-/// doesn't look at masks, known bits and excluded numbers. The caller's condition: the facts have all sixteen words.
+/// Whether the known interval of some word has no number of the question's range for it. This is a quick look: it
+/// copies nothing, and leaves out masks, known bits and excluded numbers.
 pub(crate) fn rules_out(facts: &Facts, question: &Question) -> bool
     requires { 16 ≤ length facts.now.known }
     ensures { result ≡ true → IsRuledOut facts.now question.now }
@@ -49,10 +47,7 @@ pub(crate) fn rules_out(facts: &Facts, question: &Question) -> bool
     false
 }
 
-/// Confines a word, 0 to 15, to the question's range for it. `false` where this shows that no input that agrees with
-/// the facts has a number of this range in the word. `Memory` where an allocation is refused, or where something that
-/// is shared has too many owners. In both cases the facts stay as they were. The caller's condition: they are facts of
-/// this pool.
+/// Confines a word to the question's range for it. `false`: no number is left; the facts stay as they were.
 fn confine_range(
     alloc: Global,
     facts: &mut Facts,
@@ -81,10 +76,8 @@ fn confine_range(
         .map_err(|_| Fault::Memory)
 }
 
-/// Confines a word, 0 to 15, to the numbers that equal the question's value for it on all bits of the mask. `false`
-/// where this shows that no input that agrees with the facts has such a number in the word. `Memory` where an
-/// allocation is refused, or where something that is shared has too many owners. In both cases the facts stay as they
-/// were. The caller's condition: they are facts of this pool.
+/// Confines a word to the numbers that equal the question's value for it on all bits of the mask. `false`: no number is
+/// left; the facts stay as they were.
 fn confine_mask(
     alloc: Global,
     facts: &mut Facts,
@@ -113,10 +106,8 @@ fn confine_mask(
         .map_err(|_| Fault::Memory)
 }
 
-/// Confines a word, 0 to 15, to the numbers that the question's range and mask leave for it. `false` where this shows
-/// that no input that agrees with the facts has such a number in the word. `Memory` where an allocation is refused, or
-/// where something that is shared has too many owners. In both cases the facts may be confined to the range already.
-/// The caller's condition: they are facts of this pool.
+/// Confines a word to the question's range and mask. `false`: no number is left; the facts may be confined to the range
+/// already.
 fn confine_word(
     alloc: Global,
     facts: &mut Facts,
@@ -140,9 +131,7 @@ fn confine_word(
     confine_mask(alloc, facts, pool, question, word)
 }
 
-/// A copy of the facts, confined to the question; `None` where this shows that no input that agrees with the facts is
-/// in the question. `Memory` where an allocation is refused, or where the facts have too many owners. The caller's
-/// condition: they are facts of this pool.
+/// A copy of the facts, confined to the question; `None` where they contradict.
 pub(crate) fn facts_in_question(
     alloc: Global,
     facts: &Facts,

@@ -1,15 +1,9 @@
 //! Verdicts on regions.
 
-ghost use Rattle.std.specs.Prelude.{◌≡◌, ◌<◌, ℕ, true, List, length, slice_get, slice_index, Some, false, IfOk, IfErr, IfSome, IsTrue, MatchOption};
-ghost use Rattle.std.specs.Arc.{arc_value};
-ghost use Rattle.sf_insn.specs.Inputs.{IsInput};
-ghost use Rattle.sf_insn.specs.declared.input.Input.{Input as AnInput};
+ghost use Rattle.std.specs.Prelude.{◌≡◌, ◌<◌, length, IfOk, IfErr, IfSome, MatchOption};
 ghost use Rattle.sf_check.specs.Stacks.{IsPlain};
 ghost use Rattle.sf_question.specs.declared.fault.Fault.TheVariants.{Memory};
-ghost use Rattle.sf_sym.specs.Pool.{IsCondBelow};
 ghost use Rattle.sf_piece.specs.Pieces.{is_member};
-ghost use Rattle.sf_book.specs.Books.{IsRightRegion};
-ghost use Rattle.sf_ask.specs.Finding.{first_missed};
 ghost use Rattle.sf_ask.specs.Judging.{FindsInQuestion, HasVerdictAt};
 ghost use Rattle.sf_ask.specs.Verdicts.{IsRightVerdict, TellsTriedAt, IsDecisive};
 ghost use Rattle.sf_ask.specs.Searches.{IsRightSearch, TellsTried};
@@ -22,11 +16,9 @@ use sf_dom::Facts;
 use sf_insn::Input;
 use sf_piece::Piece;
 use sf_question::{Fault, Question};
-use sf_sym::Cond;
 use std::alloc::Global;
 
-/// The input that has in each word the least number that the facts leave for it. It is never `None`, since the facts
-/// leave at least one number for each word.
+/// The input that has in each word the least number that the facts leave for it. It is never `None`.
 pub(crate) fn least_input(facts: &Facts) -> Option<Input>
     ensures { MatchOption result ⊥ (λ d. IsLeastInput facts.now d) }
 {
@@ -38,9 +30,8 @@ pub(crate) fn least_input(facts: &Facts) -> Option<Input>
     Some(Input { words })
 }
 
-/// Whether the input is a member of the piece, found without computing a node. The piece's conditions are looked at in
-/// order, up to the first that the input doesn't meet. `None` where one of those that are looked at is on a computed
-/// node: whether the input is a member isn't known then. Most conditions are only on words of the input and constants.
+/// Whether the input is a member of the piece, as far as conditions on words of the input and constants tell. Most
+/// conditions are of this kind. `None` where one on a computed node comes first.
 fn meets_without_computing(piece: &Piece, input: &Input) -> Option<bool>
     ensures { IfSome result (λ b. b ≡ is_member piece.now input.now) }
 {
@@ -52,18 +43,9 @@ fn meets_without_computing(piece: &Piece, input: &Input) -> Option<bool>
     Some(true)
 }
 
-/// The first condition of the piece that the input doesn't meet; `None` where it is a member. `Memory` where an
-/// allocation is refused.
-pub(crate) fn first_unmet(
-    alloc: Global,
-    piece: &Piece,
-    input: &Input,
-) -> Result<Option<Cond>, Fault>
-    ensures unmet { IfOk result (λ o. MatchOption o (is_member piece.now input.now ≡ true)
-        (λ c. (is_member piece.now input.now ≡ false)
-        × IsCondBelow (length piece.now.pool) c)) }
-    ensures first { IfOk result (λ o.
-        o ≡ first_missed piece.now.pool piece.now.conditions input.now) }
+/// Whether the input is a member of the piece, found from the values of all nodes.
+fn meets_by_computing(alloc: Global, piece: &Piece, input: &Input) -> Result<bool, Fault>
+    ensures tells { IfOk result (λ b. b ≡ is_member piece.now input.now) }
     ensures err { IfErr result (λ f. f ≡ Memory) }
 {
     let values = piece
@@ -73,14 +55,13 @@ pub(crate) fn first_unmet(
     for i in 0..piece.cond_count() {
         let cond = piece.cond(i);
         if !cond.is_met(values.as_slice()) {
-            return Ok(Some(cond));
+            return Ok(false);
         }
     }
-    Ok(None)
+    Ok(true)
 }
 
-/// Whether the input is a member of the piece: it meets every condition. Nodes are computed only where
-/// `meets_without_computing` gives `None`. `Memory` where an allocation is refused.
+/// Whether the input is a member of the piece. Nodes are computed only where `meets_without_computing` gives `None`.
 pub(crate) fn is_member_of(alloc: Global, piece: &Piece, input: &Input) -> Result<bool, Fault>
     ensures tells { IfOk result (λ b. b ≡ is_member piece.now input.now) }
     ensures err { IfErr result (λ f. f ≡ Memory) }
@@ -88,14 +69,10 @@ pub(crate) fn is_member_of(alloc: Global, piece: &Piece, input: &Input) -> Resul
     if let Some(is_member) = meets_without_computing(piece, input) {
         return Ok(is_member);
     }
-    let unmet = first_unmet(alloc, piece, input)?;
-    Ok(unmet.is_none())
+    meets_by_computing(alloc, piece, input)
 }
 
-/// Looks for a member of the piece that is in the question. The question's actions aren't looked at. `Clear` where the
-/// piece's facts, confined to the question, contradict: no member is in the question. Else one input is tried, which is
-/// in the question: it has in each word the least number that the confined facts leave. `Hit` where it is a member, and
-/// `Doubt` where it isn't. `Memory` where an allocation is refused, or where the facts have too many owners.
+/// Looks for a member of the piece that is in the question, whatever actions this asks about.
 fn search(alloc: Global, piece: &Piece, question: &Question) -> Result<Verdict, Fault>
     ensures right { IfOk result (IsRightSearch piece.now question.now) }
     ensures tried { IfOk result (TellsTried piece.now question.now) }
@@ -116,13 +93,10 @@ fn search(alloc: Global, piece: &Piece, question: &Question) -> Result<Verdict, 
     Ok(Verdict::Hit(input))
 }
 
-/// The verdict on the settled region at this place in the order of names. The caller's condition: there is a region at
-/// the place.
+/// The verdict on the settled region at this place in the order of names.
 ///
-/// `Clear` where the region's action isn't asked about, or its facts, confined to the question, contradict. Else one
-/// input is tried: it has in each word the least number that these facts leave. `Hit` where it is a member of the
-/// region: then no member in the question has a smaller number in any word. `Doubt` where it isn't, which doesn't come
-/// on a plain stack. `Memory` where an allocation is refused, or where the region's facts have too many owners.
+/// One input is tried: it has in each word the least number that the region's facts leave, confined to the question. A
+/// `Hit` is this input. `Doubt`: it isn't a member of the region.
 pub fn judge(
     alloc: Global,
     settled: &Settled,

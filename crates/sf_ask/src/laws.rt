@@ -1,6 +1,6 @@
-//! Laws of the rules of verdicts, of replies, and of members that are found.
+//! Laws of the rules of verdicts and of replies.
 
-ghost use Rattle.sf_ask.specs.OneResult.{FindOneThing, HaveOneVerdict, HaveOneReply};
+ghost use Rattle.sf_ask.specs.OneResult.{HaveOneVerdict, HaveOneReply};
 
 use sf_book::laws::explorations_have_one_result;
 use sf_dom::rules_have_one_result;
@@ -21,11 +21,4 @@ pub fn replies_have_one_result()
     explorations_have_one_result();
     execution_has_one_result();
     verdicts_have_one_result();
-}
-
-/// For the prover: by the rules a search for a member (`find_member`) has one result.
-pub fn members_have_one_result()
-    ensures { FindOneThing }
-{
-    rules_have_one_result();
 }

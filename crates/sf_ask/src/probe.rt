@@ -18,7 +18,7 @@ pub(crate) struct Probe {
 }
 
 impl Probe {
-    /// The probe of the question at a place. The caller's condition: there is a question at the place.
+    /// The probe of the question at a place.
     fn of(questions: &[Question], place: usize) -> Probe
         requires { place < length questions.now }
         ensures place { result.question ≡ place }
@@ -40,8 +40,7 @@ impl Probe {
     }
 }
 
-/// Two lists: the probes of the questions about one call, and those of the other questions. Both are in the order of
-/// the questions. `Memory` where an allocation is refused.
+/// The probes of the questions about one call, and those of the other questions, in the order of the questions.
 fn probes_of(alloc: Global, questions: &[Question]) -> Result<(Vec<Probe>, Vec<Probe>), Fault>
     ensures each { IfOk result (λ r. AreProbes questions.now (length questions.now)
         r.0.items r.1.items) }
@@ -68,20 +67,18 @@ fn put_in_order(probes: &mut Vec<Probe>)
     probes.sort_unstable_by_key(|probe| probe.low);
 }
 
-/// The probes of questions, made once for all regions. Most questions are about only one call. Their probes are in the
-/// order of the calls' numbers, so that for a region only those in the known interval of the call's number are looked
-/// at.
+/// The probes of questions, made once for all regions. Most questions are about only one call. Of their probes, only
+/// those in the known interval of the call's number are looked at for a region.
 #[derive(Drop)]
 pub struct Probes {
-    // Those of the questions about one call, in ascending order of the call's number.
+    // In ascending order of the call's number.
     pub(crate) by_call: Vec<Probe>,
-    // Those of the other questions, in the order of the questions.
+    // In the order of the questions.
     pub(crate) others: Vec<Probe>,
 }
 
 impl Probes {
-    /// The probes of these questions. The caller's condition: there are at most 256. `Memory` where an allocation is
-    /// refused.
+    /// The probes of these questions.
     pub fn of(alloc: Global, questions: &[Question]) -> Result<Probes, Fault>
         requires { length questions.now ≤ 256 }
         ensures ok { IfOk result (AreProbesOf questions.now) }
@@ -92,9 +89,7 @@ impl Probes {
         Ok(Probes { by_call, others })
     }
 
-    /// The probes of the questions about one call whose number is in this range, both ends included; none where `low`
-    /// is above `high`. The caller's condition: `by_call` is in ascending order of the calls' numbers, as `of` makes
-    /// it.
+    /// The probes of the questions about one call whose number is from `low` to `high`.
     pub(crate) fn probes_of_calls(&self, low: u32, high: u32) -> &[Probe]
         requires { IsNonDecreasingBy (λ (p : AProbe). p.low) self.now.by_call.items }
         ensures all { (p : AProbe) → Contains self.now.by_call.items p → low ≤ p.low

@@ -15,8 +15,7 @@ use sf_question::Question;
 use sf_run::Action;
 use sf_sym::NodeId;
 
-/// Whether the probe's question asks about the action, and `rules_out` doesn't rule the question out by the facts. The
-/// caller's conditions: the facts have all sixteen words, and the probe is of one of these questions.
+/// Whether the probe's question asks about the action, and the facts don't rule it out at once.
 #[tactic(auto, unfolding(crate::specs::Probing::IsRuledOutIfAsked))]
 fn is_left_to_judge(facts: &Facts, questions: &[Question], action: Action, probe: &Probe) -> bool
     requires known { 16 ≤ length facts.now.known }
@@ -28,9 +27,7 @@ fn is_left_to_judge(facts: &Facts, questions: &[Question], action: Action, probe
     question.actions().has(action) && !rules_out(facts, question)
 }
 
-/// For each probe whose question is left to judge (`is_left_to_judge`), sets the question's bit in `left`. Other bits
-/// stay as they were. The caller's conditions: the facts have all sixteen words, there are at most 256 questions, and
-/// the probes are of these.
+/// Sets the bit of each probe's question that is left to judge.
 fn add_questions_left(
     facts: &Facts,
     questions: &[Question],
@@ -52,9 +49,7 @@ fn add_questions_left(
     }
 }
 
-/// The questions that ask about the action, as bits, without those that the facts rule out at once: their range for
-/// some word has no number of the interval that is known for this word. The caller's conditions: the facts have all
-/// sixteen words, there are at most 256 questions, and the probes are theirs.
+/// The questions, as bits, that ask about the action and that the facts don't rule out at once.
 fn questions_left(
     facts: &Facts,
     questions: &[Question],
@@ -76,9 +71,8 @@ fn questions_left(
     left
 }
 
-/// The questions on which the region at the place `job` is to be judged, as bits that `has_bit` reads. The region's
-/// verdict on each other question is clear. A question that is to be judged may turn out clear too. The caller's
-/// conditions: there is a region at the place, there are at most 256 questions, and the probes are theirs.
+/// The questions, as bits, on which the region at the place `job` is to be judged. Its verdict on each other question
+/// is clear.
 pub fn questions_to_judge(
     settled: &Settled,
     job: usize,

@@ -1,6 +1,6 @@
 //! Sheets of verdicts.
 
-ghost use Rattle.std.specs.Prelude.{◌≡◌, ◌<◌, ◌≤◌, ℕ, not, length, map, IfOk, IfErr, Some, None, slice_get};
+ghost use Rattle.std.specs.Prelude.{◌≡◌, ◌<◌, ◌≤◌, ℕ, not, length, map, IfOk, IfErr, Some, None};
 ghost use Rattle.sf_ask.specs.QuestionBits.{has_bit};
 ghost use Rattle.sf_ask.specs.Sheets.{SheetData, verdict_at, clear_if_wanted, is_skipped, is_hit, is_doubt, is_clear_or_skipped, AreClearBut, IsRightOn, IsRightWhereGiven, IsRightSheet, HasWanted};
 ghost use Rattle.std.specs.List.{list_all};
@@ -15,8 +15,7 @@ use std::alloc::Global;
 use std::marker::Model;
 use std::snapshot::Snapshot;
 
-/// The verdicts on one settled region: the region's place in the order of names, and for each question a verdict, or
-/// none where the question was skipped. Contracts also see which regions and questions the sheet is about.
+/// The verdicts on one settled region: for each question a verdict, or none where the question was skipped.
 #[derive(Drop)]
 pub struct Sheet {
     // For the prover: the regions and the questions that the sheet is about.
@@ -58,8 +57,8 @@ impl Model for Sheet {
         (option_map (λ v. v.items) s.verdicts))) × (length s.questions.items ≤ 256) };
 }
 
-/// For the prover: a snapshot of each question, by which contracts see what a sheet or a board is about. Snapshots take
-/// no bytes. `Memory` where an allocation is refused.
+/// For the prover: a snapshot of each question, which takes no bytes. By these contracts see what a sheet or a board is
+/// about.
 pub fn snapshots(alloc: Global, questions: &[Question]) -> Result<Vec<Snapshot<Question>>, Fault>
     ensures each { IfOk result (λ v. map (λ q. q.value) v.items ≡ questions.now) }
     ensures err { IfErr result (λ f. f ≡ Memory) }
@@ -71,7 +70,7 @@ pub fn snapshots(alloc: Global, questions: &[Question]) -> Result<Vec<Snapshot<Q
     Ok(all)
 }
 
-/// Whether a verdict is clear, or there is none since its question was skipped: it is neither a hit nor a doubt.
+/// Whether the verdict is clear, or there is none.
 fn is_clear(verdict: Option<Verdict>) -> bool
     ensures { result ≡ is_clear_or_skipped verdict }
 {
@@ -81,10 +80,8 @@ fn is_clear(verdict: Option<Verdict>) -> bool
     }
 }
 
-/// The verdict of the region at the place `job` on the question q: clear, without judging, where the question's bit in
-/// `to_judge` isn't set, and else that of `judge`. `Memory` where an allocation is refused, or where the region's facts
-/// have too many owners. The caller's conditions: there is such a region and such a question, q is below 256, and the
-/// verdict is clear on each question that is not to be judged.
+/// The verdict of the region at the place `job` on the question q. It is judged only where the question's bit in
+/// `to_judge` is set, and else clear.
 fn verdict_on(
     alloc: Global,
     settled: &Settled,
@@ -105,8 +102,7 @@ fn verdict_on(
     judge(alloc, settled, job, &questions[q])
 }
 
-/// The verdict for the question q on a sheet whose verdicts are all clear: `Clear` where the question's bit in `wanted`
-/// is set, and `None` where it isn't. The caller's condition: q is below 256.
+/// The verdict for the question q on a sheet whose verdicts are all clear.
 fn clear_verdict(wanted: &[u64; 4], q: usize) -> Option<Verdict>
     requires { q < 256 }
     ensures { result ≡ clear_if_wanted wanted.now q }
@@ -118,10 +114,8 @@ fn clear_verdict(wanted: &[u64; 4], q: usize) -> Option<Verdict>
     }
 }
 
-/// The verdict of the region at the place `job` on each question, in order: `None` where the question's bit in `wanted`
-/// isn't set, and else that of `verdict_on`, which judges only where the bit in `to_judge` is set too. `Memory` where
-/// an allocation is refused, or where the region's facts have too many owners. The caller's conditions: there is such a
-/// region, there are at most 256 questions, and the verdict is clear on each question that is not to be judged.
+/// The verdict of the region at the place `job` on each question, in order; `None` where the question's bit in `wanted`
+/// isn't set.
 fn verdicts_on(
     alloc: Global,
     settled: &Settled,
@@ -160,10 +154,8 @@ fn are_clear(verdicts: &[Option<Verdict>]) -> bool
 }
 
 impl Sheet {
-    /// The sheet of the region at the place `job`, with a verdict on each question that `wanted` asks for: question q
-    /// has bit q % 64 of word q / 64, and bits past the last question are ignored. The caller's conditions: there is a
-    /// region at the place, and there are at most 256 questions. `Memory` where an allocation is refused, or where the
-    /// region's facts have too many owners.
+    /// The sheet of the region at the place `job`, with a verdict on each question whose bit in `wanted` is set. Bits
+    /// past the last question are ignored.
     pub fn of(
         alloc: Global,
         settled: &Settled,
@@ -182,9 +174,8 @@ impl Sheet {
         Sheet::judge(alloc, settled, job, questions, &[u64::MAX; 4], wanted)
     }
 
-    /// The sheet that `of` makes, for a caller who has looked before which questions are to be judged: those whose bits
-    /// are set in `to_judge`. The caller's conditions: those of `of`, and the verdict is clear on each question that is
-    /// not to be judged. `Memory` where an allocation is refused, or where the region's facts have too many owners.
+    /// The sheet that `of` makes, for a caller who knows that the verdict is clear on each question whose bit in
+    /// `to_judge` isn't set.
     pub fn judge(
         alloc: Global,
         settled: &Settled,
@@ -241,7 +232,7 @@ impl Sheet {
         self.questions.len()
     }
 
-    /// The verdict on the question q; `None` where it was skipped. The caller's condition: q is below `question_count`.
+    /// The verdict on the question q; `None` where it was skipped.
     pub fn verdict(&self, q: usize) -> Option<Verdict>
         requires { q < length self.now.questions }
         ensures value { result ≡ verdict_at self.now.verdicts q }
@@ -261,7 +252,7 @@ impl Sheet {
         self.finds_nothing
     }
 
-    /// Whether there is a hit on the question q. The caller's condition: q is below `question_count`.
+    /// Whether there is a hit on the question q.
     pub fn is_hit(&self, q: usize) -> bool
         requires { q < length self.now.questions }
         ensures { result ≡ is_hit (verdict_at self.now.verdicts q) }
@@ -269,7 +260,7 @@ impl Sheet {
         matches!(self.verdict(q), Some(Verdict::Hit(_)))
     }
 
-    /// Whether the region is in doubt for the question q. The caller's condition: q is below `question_count`.
+    /// Whether the region is in doubt for the question q.
     pub fn is_doubt(&self, q: usize) -> bool
         requires { q < length self.now.questions }
         ensures { result ≡ is_doubt (verdict_at self.now.verdicts q) }
@@ -277,7 +268,7 @@ impl Sheet {
         matches!(self.verdict(q), Some(Verdict::Doubt))
     }
 
-    /// Whether the question q was skipped. The caller's condition: q is below `question_count`.
+    /// Whether the question q was skipped.
     pub fn is_skipped(&self, q: usize) -> bool
         requires { q < length self.now.questions }
         ensures { result ≡ is_skipped (verdict_at self.now.verdicts q) }

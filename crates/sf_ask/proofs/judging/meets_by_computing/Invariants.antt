@@ -1,0 +1,7 @@
+use Rattle.std.proofs.Common.{◌≡◌, true, take}
+use Rattle.std.specs.List.{list_all}
+use Rattle.sf_sym.specs.Pool.{is_met}
+use Rattle.sf_ask.proofs.judging.meets_by_computing.Given as goal
+
+abbrev pub invariant-loop-i : goal.invariant-loop-i
+invariant-loop-i l = list_all (is_met l.piece.pool l.input) (take l.i l.piece.conditions) ≡ true
