@@ -130,10 +130,7 @@ place_there [] q x e = absurd (cc (e))
 place_there (y ∷ l) zero x e = ap (λ (z : Option ℕ). Some z) e
 place_there (y ∷ l) (suc q) x e = place_there l q x e
 
--- what the tally of all regions tells of the question of a number
-no_doubt_plain : (s : BookData) (qs : List QuestionData) (r q : ℕ) → IsPlain s.stack
-    → IsRightWhereGiven s qs r q (Some Doubt) → ⊥
-no_doubt_plain s qs r q plain h = h.decisive plain
+-- ---- what the tally of all regions tells of the question of a number
 
 marked : (n : ℕ) → (n == 1) ≡ true → n ≡ 1
 marked n e = grind (arith, nat_tests, e)
@@ -199,7 +196,7 @@ pub tally_plain : (s : BookData) (qs : List QuestionData) (t : Tally) (q : ℕ) 
     → q < length qs → doubt ≡ (bit_of t.doubts q == 1) → IsPlain s.stack → doubt ≡ false
 tally_plain s qs t q false h lt is plain = refl
 tally_plain s qs t q true h lt is plain = let d = h.doubts q lt (marked (bit_of t.doubts q) (sym is)) in
-    absurd (no_doubt_plain s qs d.0 q plain d.2)
+    absurd (d.2.decisive plain)
 
 pub question_there : (qs : List QuestionData) (q : ℕ) (x : QuestionData) → q < length qs → x ≡ get_or qs q x
     → slice_get qs q ≡ Some x

@@ -1,10 +1,9 @@
-//! Benches: the owner puts items and takes them, thieves steal them, first in, first out. An item is a lease, or a
-//! lease of which more is known.
+//! Benches: the owner puts leases and takes them, thieves steal them, first in, first out.
 
 mod handles;
 mod history;
 
-ghost use Rattle.std.specs.Prelude.{◌≡◌, ℕ, ◌+◌, ◌<◌, ◌⊎◌, All, IfOk, IfErr, MatchResult, MatchOption, vec_len};
+ghost use Rattle.std.specs.Prelude.{◌≡◌, ◌+◌, ◌<◌, ◌⊎◌, All, IfOk, IfErr, MatchResult, MatchOption, vec_len};
 ghost use Rattle.crossbeam_deque.specs.Steals.{MatchSteal};
 ghost use Rattle.sf_crew.specs.History.{Puts, GetsFirst, AllGot, HaveOneHistory, IsWhole, IsKnownFirst, KeepsHandles, new_view, view_of_both};
 ghost use Rattle.sf_crew.specs.BenchRule.{owner_with_thief, new_thief_view};
@@ -18,10 +17,10 @@ pub use history::{End, Event, HandleView};
 use history::{AddingThief, Getting, Joining, Putting, Recalling};
 use std::alloc::{AllocError, Global};
 
-/// How many items a new bench has room for. A bench makes more room where it needs it.
+/// How many items a new bench has room for before it grows.
 const ROOM: usize = 64;
 
-/// A new bench without items: its owner, and this many thieves, 0 to 63. `Memory` where an allocation is refused.
+/// A new bench without items: its owner, and this many thieves.
 pub fn bench<T: Drop>(alloc: Global, thieves: usize) -> Result<(Owner<T>, Vec<Thief<T>>), Fault>
     requires { thieves < 64 }
     ensures owner { IfOk result (λ b. owner_view b.0 ≡ new_view 0 (thieves + 1)) }
@@ -34,7 +33,6 @@ pub fn bench<T: Drop>(alloc: Global, thieves: usize) -> Result<(Owner<T>, Vec<Th
     Ok((owner, new_thieves))
 }
 
-/// The owner of a new bench without thieves. `Memory` where an allocation is refused.
 fn open_bench<T: Drop>(alloc: Global) -> Result<Owner<T>, Fault>
     ensures ok { IfOk result (λ owner. owner_view owner ≡ new_view 0 1) }
     ensures err { IfErr result (λ f. f ≡ Memory) }
@@ -44,8 +42,6 @@ fn open_bench<T: Drop>(alloc: Global) -> Result<Owner<T>, Fault>
     })
 }
 
-/// Makes this many thieves of a bench. `Memory` where an allocation is refused. The caller's conditions: the bench has
-/// no thief yet, nothing was put on it, and fewer than 64 thieves are asked for.
 fn make_thieves<T: Drop>(
     alloc: Global,
     owner: &mut Owner<T>,
@@ -66,7 +62,6 @@ fn make_thieves<T: Drop>(
 }
 
 impl<T> Owner<T> {
-    /// Makes one more thief. `AllocError` where an allocation is refused.
     fn add_thief(&mut self) -> Result<Thief<T>, AllocError>
         requires { 0 < (owner_view self.old).made }
         ensures owner { IfOk result (λ _. owner_view self.new
@@ -79,8 +74,7 @@ impl<T> Owner<T> {
         Ok(Thief { stealer, pass })
     }
 
-    /// Puts the item on the bench, behind all others. Where the bench can't grow, it hands the item back and changes
-    /// nothing.
+    /// Puts the item on the bench, behind all others. Where the bench can't grow, it hands the item back.
     pub fn put(&mut self, item: T) -> Result<(), T>
         ensures put { MatchResult result
             (λ _. Puts (owner_view self.old) item (owner_view self.new))
@@ -91,10 +85,8 @@ impl<T> Owner<T> {
         self.worker.push_as::<Putting>(item)
     }
 
-    /// Takes the first item that no handle has got, at one moment of the call. `None` where each item that was put had
-    /// been got, by the owner or by a thief of the bench. The owner doesn't know what live thieves got. So while there
-    /// are some, the contract says only that some gets of theirs lead to this result. Where all thieves are joined, or
-    /// there never was one, it says exactly what is got.
+    /// Takes the first item that no handle has got, at one moment of the call. The owner doesn't know what live thieves
+    /// got. So while there are some, the contract says only that some gets of theirs lead to this result.
     pub fn take(&mut self) -> Option<T>
         ensures got { MatchOption result ((owner_view self.new ≡ owner_view self.old)
             × AllGot (owner_view self.old))
@@ -109,8 +101,7 @@ impl<T> Owner<T> {
 }
 
 impl<T: Drop> Owner<T> {
-    /// Joins a thief of this bench into the owner, which then knows all that the thief knew. So what the two did was
-    /// done in one lawful history. The caller's condition: the thief is on this bench.
+    /// Joins a thief of this bench into the owner, which then knows all that the thief knew.
     pub fn join(&mut self, thief: Thief<T>)
         requires { IsOnBench self.old thief }
         ensures both { owner_view self.new ≡ view_of_both (owner_view self.old)
@@ -129,10 +120,9 @@ impl<T: Drop> Owner<T> {
 }
 
 impl<T> Thief<T> {
-    /// Tries to take the first item that no handle has got, at one moment of the call: `Success` has it. `Empty` where
-    /// each item that was put had been got. `Retry` where another handle came first: the thief saw an item leave the
-    /// bench, or each had been got. It got nothing then. A thief doesn't know what other live handles put and got, so
-    /// of them the contract says only that some steps of theirs lead to this result.
+    /// Tries to take the first item that no handle has got, at one moment of the call. `Retry`: another handle came
+    /// first. A thief doesn't know what other live handles put and got, so of them the contract says only that some
+    /// steps of theirs lead to this result.
     pub fn steal(&mut self) -> Steal<T>
         ensures got { MatchSteal result ((thief_view self.new ≡ thief_view self.old)
             × AllGot (thief_view self.old)) (thief_view self.new ≡ thief_view self.old)

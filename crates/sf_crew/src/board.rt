@@ -1,5 +1,4 @@
-//! The board: jobs to draw, a least place for each question, the questions with a doubt, and how many sheets were
-//! entered.
+//! The board, by which workers judge regions.
 
 mod closing;
 mod drawing;
@@ -17,18 +16,14 @@ use std::alloc::Global;
 use steps::WholeBoard;
 pub use view::{BoardKey, EnteredSheet, Note, View};
 
-/// A board's shared words, with what each seat knows of them.
 pub(crate) type Words = Table<u8, View, BoardKey, WholeBoard, Global>;
 
 /// Shared words by which workers judge the regions of a settled exploration by some questions. A job of a board is the
 /// place of a region.
 #[derive(Drop)]
 pub struct Board {
-    // The next job, how many sheets were entered, four words of doubts, and a least place for each question.
     pub(crate) table: Words,
-    // How many regions there are.
     pub(crate) regions: usize,
-    // How many questions there are.
     pub(crate) questions: usize,
     ghost counted: { (table.shared.table_id.words ≡ length (questions_of table.shared.key) + 6)
         × (table.shared.table_id.slots ≡ 0) },

@@ -28,7 +28,6 @@ impl Fault {
 impl From<AllocError> for Fault {
     ghost from_gives = { λ _ e. e ≡ Memory };
 
-    /// Each `AllocError` is the fault `Memory`.
     fn from(_e: AllocError) -> Fault {
         Fault::Memory
     }
@@ -37,7 +36,6 @@ impl From<AllocError> for Fault {
 impl<T: Drop> From<AllocFailed<T>> for Fault {
     ghost from_gives = { λ _ e. e ≡ Memory };
 
-    /// A refused allocation is the fault `Memory`. The value that should have been stored is dropped.
     fn from(_e: AllocFailed<T>) -> Fault {
         Fault::Memory
     }
@@ -46,7 +44,6 @@ impl<T: Drop> From<AllocFailed<T>> for Fault {
 impl From<sf_piece::Fault> for Fault {
     ghost from_gives = { λ _ e. e ≡ Memory };
 
-    /// The only fault of `sf_piece` is `Memory`, and it becomes the `Memory` of this crate.
     fn from(_e: sf_piece::Fault) -> Fault {
         Fault::Memory
     }
@@ -55,8 +52,7 @@ impl From<sf_piece::Fault> for Fault {
 impl From<sf_book::Fault> for Fault {
     ghost from_gives = { λ _ e. e ≡ Memory };
 
-    /// Every fault becomes `Memory`. Faults of a book are only turned into faults of this crate while one thread has
-    /// the book to itself: then no other fault than `Memory` can come.
+    /// Only used while one thread has the book to itself: then no other fault than `Memory` can come.
     fn from(_e: sf_book::Fault) -> Fault {
         Fault::Memory
     }
@@ -65,7 +61,7 @@ impl From<sf_book::Fault> for Fault {
 impl From<sf_ask::Fault> for Fault {
     ghost from_gives = { λ _ e. e ≡ Memory };
 
-    /// Every fault becomes `Memory`: no other fault comes when a verdict or a sheet is made.
+    /// No other fault than `Memory` comes when a verdict or a sheet is made.
     fn from(_e: sf_ask::Fault) -> Fault {
         Fault::Memory
     }

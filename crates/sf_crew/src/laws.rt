@@ -7,14 +7,11 @@ ghost use Rattle.sf_crew.specs.History.{HasHistory, IsWhole};
 ghost use Rattle.sf_crew.specs.Gets.{IsSharedOut, IsAllKnown};
 
 /// For the prover: handles of a bench that are joined share out what was put, by each history that fits what they know.
-/// No place of the list of what was put goes to two handles, what all got together is a beginning of this list, and
-/// each item that was got was the first that no handle had.
 pub fn handles_share_what_was_put<T>()
     ensures { (v : HandleView T) (h : List (Event T)) → HasHistory v h → IsSharedOut v h }
 {}
 
-/// For the prover: where all handles of a bench are joined, what they know fits just one history, and each item that
-/// was got went to one of them. If nothing is left to take then, each item that was put was got.
+/// For the prover: where all handles of a bench are joined, what they know fits just one history.
 pub fn joined_handles_know_all<T>()
     ensures { (v : HandleView T) (h : List (Event T)) → IsWhole v → HasHistory v h
         → IsAllKnown v h }

@@ -1,5 +1,6 @@
 //! Workers on threads. They explore a stack by the pieces of a locked book, with benches from which they steal, and
-//! judge regions by a board of shared words, without a lock.
+//! judge regions by a board of shared words, without a lock. The fault `Memory` means that an allocation was refused,
+//! or that something shared has too many owners.
 #![tactic(auto)]
 
 mod benches;

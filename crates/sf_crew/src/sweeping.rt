@@ -20,9 +20,8 @@ use std::marker::Model;
 use std::thread;
 use std::thread::Threads;
 
-/// Whether the board has a hit on the question q at a place below the job. The region of the job then needn't be judged
-/// on the question, since the reply takes the least place. `false` where there is no such question. The caller's
-/// condition: the seat is of this board.
+/// Whether the board has a hit on the question q at a place below the job. The reply takes the least place, so the job
+/// needn't be judged on the question then.
 fn has_lower_hit(board: &Board, seat: &mut Seat, job: usize, q: usize) -> bool
     requires seat { IsSeatOf board.now seat.old }
     ensures same { IsSeatOf board.now seat.new }
@@ -42,10 +41,8 @@ fn has_lower_hit(board: &Board, seat: &mut Seat, job: usize, q: usize) -> bool
     }
 }
 
-/// Looks on the board for hits on the questions whose bits are set in `to_judge`. Returns a word with all bits set but
-/// those of the questions among them that have a hit at a place below the job. Both words are the one at place `word`
-/// of the four words of bits: bit b is that of question 64 * `word` + b. The caller's conditions: the seat is of this
-/// board, and `word` is 0 to 3.
+/// The questions of one word of bits that are wanted: all but those of `to_judge` that have a hit at a place below the
+/// job.
 fn look_at_word(board: &Board, seat: &mut Seat, job: usize, word: usize, to_judge: u64) -> u64
     requires seat { IsSeatOf board.now seat.old }
     requires word { word < 4 }
@@ -65,9 +62,8 @@ fn look_at_word(board: &Board, seat: &mut Seat, job: usize, word: usize, to_judg
     wanted
 }
 
-/// Looks on the board for hits on the questions whose bits, as `has_bit` reads them, are set in `to_judge`. Returns the
-/// questions whose verdicts are wanted, as bits too: all are set but those of the questions among them that have a hit
-/// at a place below the job. The caller's condition: the seat is of this board.
+/// The questions whose verdicts are wanted, as bits: all but those of `to_judge` that have a hit at a place below the
+/// job.
 fn look_at(board: &Board, seat: &mut Seat, job: usize, to_judge: &[u64; 4]) -> [u64; 4]
     requires seat { IsSeatOf board.now seat.old }
     ensures same { IsSeatOf board.now seat.new }
@@ -83,8 +79,6 @@ fn look_at(board: &Board, seat: &mut Seat, job: usize, to_judge: &[u64; 4]) -> [
     wanted
 }
 
-/// What the workers of a sweep share: a board, the regions and questions that they judge by it, and the probes of these
-/// questions.
 #[derive(Drop)]
 pub(crate) struct SharedSweep<'a> {
     board: &'a Board,
@@ -113,12 +107,8 @@ impl<'a> Model for SharedSweep<'a> {
     }) };
 }
 
-/// Judges the region of the job that the seat owes, and enters the sheet. Of the questions that `questions_to_judge`
-/// gives, those are skipped on which the board has a hit at a place below the job. The gate sees the call before the
-/// sheet is entered; `pass` has the numbers of the worker and of its call, for the gate.
-///
-/// The caller's conditions: the seat is of the sweep's board, and `job` is what it owes. `Memory` where an allocation
-/// is refused, or where the region's facts have too many owners: the seat still owes the sheet then.
+/// Judges the region of the job that the seat owes, and enters the sheet. `pass` has the numbers of the worker and of
+/// its call, for the gate. After a fault the seat still owes the sheet.
 fn enter_job<G: Gate>(
     alloc: Global,
     sweep: &SharedSweep<'_>,
@@ -152,10 +142,7 @@ fn enter_job<G: Gate>(
     Ok(())
 }
 
-/// Draws jobs and enters their sheets until all jobs are drawn. Returns the seat, and whether this end was reached.
-/// With `false` the sheet of a job was refused with `Memory` before (`enter_job`), and the seat owes this sheet.
-/// `worker` is the worker's number, for the gate; its calls are numbered from 1. The caller's conditions: the seat is
-/// of the sweep's board and owes no sheet.
+/// Draws jobs and enters their sheets until all jobs are drawn. `false` where memory was refused before that end.
 fn work<G: Gate>(
     alloc: Global,
     sweep: &SharedSweep<'_>,
@@ -180,10 +167,7 @@ fn work<G: Gate>(
     (seat, true)
 }
 
-/// Joins the seats of `others`, as `work` returned them, into `first`. `None` where `false` stands beside one of them:
-/// its worker got `Memory`. The caller's conditions: all are seats of this board; `first` owes no sheet; no seat
-/// was joined into one of `others`; and a seat beside which `true` stands owes no sheet and has found that no job is
-/// left.
+/// Joins seats, as `work` returned them, into `first`. `None` where one of them didn't reach its end.
 fn join_all(board: &Board, first: Seat, mut others: Vec<(Seat, bool)>) -> Option<Seat>
     requires first { IsSeatOf board.now first × ((seat_view first).owes ≡ None) }
     requires others { All (λ s. IsWorked board.now s) others.items }
@@ -201,16 +185,13 @@ fn join_all(board: &Board, first: Seat, mut others: Vec<(Seat, bool)>) -> Option
     Some(all)
 }
 
-/// A worker's number, and its seat.
 #[derive(Drop)]
 pub(crate) struct NumberedSeat {
     number: usize,
     seat: Seat,
 }
 
-/// Numbers the seats: each gets its place in `seats`, counted from 0. The result has them in reversed order. `board` is
-/// there for the contract only. The caller's condition: all are seats of this board that have done nothing. `Memory`
-/// where an allocation is refused.
+/// Numbers the seats by their places in `seats`. The result has them in reversed order.
 fn number_seats(
     alloc: Global,
     board: &Board,
@@ -231,13 +212,9 @@ fn number_seats(
     Ok(numbered_seats)
 }
 
-/// Judges all regions by the questions, and returns the tally of the board. The probes of the questions are made first.
-/// Then this many workers draw jobs and enter their sheets, each with a seat of its own. When they have ended, the
-/// calling thread does the same under the next number: jobs are left for it only where each worker got `Memory`.
-/// A worker for which no thread can be started runs on a thread that is there.
-///
-/// The caller's conditions: 1 to 64 workers, and at most 256 questions. `Memory` where the calling thread or a worker
-/// is refused memory, or where a region's facts have too many owners.
+/// Judges all regions by the questions, and returns the tally of the board. Each worker has a seat of its own. When
+/// they have ended, the calling thread works too, under the next number: jobs are left for it only where each worker
+/// got `Memory`. A worker for which no thread can be started runs on a thread that is there.
 pub(crate) fn tally<R: Threads + Sync, G: Gate>(
     rt: &R,
     alloc: Global,

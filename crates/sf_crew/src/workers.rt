@@ -33,7 +33,7 @@ use std::sync::{Arc, Mutex, Wait};
 use std::thread;
 use std::thread::{Threads, yield_now};
 
-/// A worker that hasn't begun. Nothing was put on its bench, so it may be dropped.
+/// A worker that hasn't begun, so it may be dropped.
 #[derive(Drop)]
 pub(crate) struct NewWorker<N: Naming> {
     pub(crate) number: usize,
@@ -41,8 +41,7 @@ pub(crate) struct NewWorker<N: Naming> {
     pub(crate) others: Thieves<N>,
 }
 
-/// What a worker works with: its number, how many calls it has made, its bench, and a thief on the bench of each other
-/// worker, the next one first. It can't be dropped, since its bench can't.
+/// A worker, with its bench and a thief on the bench of each other one. It can't be dropped, since its bench can't.
 pub(crate) struct Worker<N: Naming> {
     number: usize,
     calls: usize,
@@ -51,7 +50,6 @@ pub(crate) struct Worker<N: Naming> {
 }
 
 impl<N: Naming> NewWorker<N> {
-    /// The worker as it begins: it has made no call, and leases may be put on its bench.
     fn begin(self) -> Worker<N> {
         Worker {
             number: self.number,
@@ -63,9 +61,8 @@ impl<N: Naming> NewWorker<N> {
 }
 
 impl<N: Naming> Worker<N> {
-    /// Gets a lease. First the worker's own bench is tried; then the benches of the other workers, each once, the next
-    /// worker's first; then the book, under its lock. `None` where the book gives none either: all its pieces are on
-    /// lease, or none is outstanding. `Memory` where too many owners would share the piece that the book leases out.
+    /// Gets a lease: from the worker's own bench; else from those of the other workers, the next worker's first; else
+    /// from the book, under its lock. `None` where the book gives none either.
     fn next_lease<R: Wait>(
         &mut self,
         rt: &R,
@@ -84,9 +81,7 @@ impl<N: Naming> Worker<N> {
         book.lock(rt).lease()
     }
 
-    /// Makes the work of a piece, with the children of a split, and lets the gate see the worker's call. The caller has
-    /// counted this call already: `calls` is its number. `Memory` where `advance` gives it, for whatever reason, or
-    /// where too many owners would share a child: the gate sees nothing then.
+    /// Makes the work of a piece, and lets the gate see the worker's call, which was counted already.
     fn make<G: Gate>(
         &self,
         alloc: Global,
@@ -102,13 +97,8 @@ impl<N: Naming> Worker<N> {
         Ok(made)
     }
 
-    /// Counts a call of the worker, works the piece of the lease, lets the gate see this call, and hands the work in.
-    /// The leases of the children of a split are put on the worker's own bench, the false one's first; a lease for
-    /// which the bench can't grow is given back to the book.
-    ///
-    /// `Memory` where the work can't be made (`make`). Where the book refuses the work: `Stale` where no piece is
-    /// outstanding under the lease's id, or one with another name; then `Spent` where the budget is spent; then
-    /// `Memory`. After each fault the lease is given back, and nothing is put on the bench.
+    /// Works the piece of the lease, and hands the work in. The leases of the children of a split are put on the
+    /// worker's own bench. After each fault the lease is given back.
     fn work<R: Wait, G: Gate>(
         &mut self,
         rt: &R,
@@ -147,7 +137,7 @@ impl<N: Naming> Worker<N> {
         }
     }
 
-    /// Takes leases off the worker's own bench until nothing is left there, and gives each back to the book.
+    /// Gives the leases that are left on the worker's own bench back to the book.
     fn empty<R: Wait>(&mut self, rt: &R, book: &Mutex<SharedBook<N>>)
         ensures { AllGot (own_view self.new) }
     {
@@ -161,10 +151,8 @@ impl<N: Naming> Worker<N> {
     }
 }
 
-/// Runs one worker: it gets a lease, works its piece, and begins again. It ends where nothing is outstanding, where the
-/// budget is spent, or where memory or a work is refused to it. Where all outstanding pieces are on lease, it asks
-/// again until it gets a lease or ends. At its end it gives the leases on its own bench back to the book. Returns the
-/// owner of its bench, on which nothing is left.
+/// Runs one worker. It ends where nothing is outstanding, where the budget is spent, or where memory or a work is
+/// refused to it. Where all outstanding pieces are on lease, it asks again.
 fn run<N: Naming, R: Wait, G: Gate>(
     rt: &R,
     alloc: Global,
@@ -202,8 +190,7 @@ fn run<N: Naming, R: Wait, G: Gate>(
 }
 
 /// Lets the workers work on a book, each on a thread, and returns when all of them have ended. Where a thread can't be
-/// started, the other workers do the work; where no thread can be started, no work is done. Once nothing is outstanding
-/// or the budget is spent, no further thread is started.
+/// started, the other workers do the work. Once nothing is left to do, no further thread is started.
 fn run_each<'a, N: Naming, R: Threads + Wait + Sync, G: Gate>(
     rt: &'a R,
     alloc: Global,
@@ -223,9 +210,8 @@ fn run_each<'a, N: Naming, R: Threads + Wait + Sync, G: Gate>(
     });
 }
 
-/// Lets this many workers, 1 to 64, work on a book, and returns the book when they have ended. Pieces may be
-/// outstanding then though the budget isn't spent. `Memory` where an allocation is refused as the workers are made. The
-/// caller's condition: the type N names the book's stack and budget.
+/// Lets this many workers work on a book, and returns it when they have ended. Pieces may be outstanding then though
+/// the budget isn't spent.
 fn run_all<N: Naming, R: Threads + Wait + Sync, G: Gate>(
     rt: &R,
     alloc: Global,
@@ -244,16 +230,11 @@ fn run_all<N: Naming, R: Threads + Wait + Sync, G: Gate>(
     Ok(book.into_inner().into_book())
 }
 
-/// Explores a stack: commits at most `budget` works, and returns what is settled and what is left. The gate sees each
-/// work between its making and its commit, or its refusal.
+/// Explores a stack by at most `budget` works. The gate sees each work between its making and its commit, or its
+/// refusal. Waits for the workers.
 ///
-/// With 1 worker no thread is started. With more, each gets a thread, unless it can't be started or nothing is left to
-/// do. They have the numbers from 0. A worker that is refused memory ends. When all have ended, the calling thread
-/// takes all pieces off lease and works off what is outstanding, under the next number.
-///
-/// The caller's conditions: 1 to 64 workers, and a budget from 1 to 1,000,000; the contract holds for other budgets
-/// too. Waits for the workers. `Memory` where the calling thread is refused memory, or something that is shared has too
-/// many owners.
+/// With 1 worker no thread is started. A worker that is refused memory ends. When all have ended, the calling thread
+/// works off what is outstanding, under the next number.
 pub fn explore<R: Threads + Wait + Sync, G: Gate>(
     rt: &R,
     alloc: Global,
@@ -278,8 +259,8 @@ pub fn explore<R: Threads + Wait + Sync, G: Gate>(
     Ok(finish_book(book, &stack, budget))
 }
 
-/// Waits for the lock of a book that others share, and runs a closure on the book while the lock is held. All that the
-/// closure may rely on is that the book is lawful.
+/// Waits for the lock of a book that others share, and runs a closure on the book, of which it knows only that it is
+/// lawful.
 pub fn visit<R: Wait, F: FnOnce(&Book)>(rt: &R, book: &Mutex<Book>, f: F)
     requires { (b : Bor BookData) → IsLawfulBook b.now → F.pre f b }
     ensures { (b : Bor BookData) × IsLawfulBook b.now × F.post f b result }

@@ -9,8 +9,7 @@ use crossbeam_deque::{Pass, Stealer, Worker};
 use sf_book::Lease;
 use std::alloc::Global;
 
-/// The owner of a bench: the handle that puts items, and takes them too. An item is a lease, or a lease of which more
-/// is known.
+/// The owner of a bench: the handle that puts items, and takes them too.
 #[derive(Drop)]
 pub struct Owner<T = Lease> {
     pub(crate) worker: Worker<T, Global, HandleView<T>, InOrder>,

@@ -3,7 +3,7 @@ use crossbeam_deque::protocol::{Join, Lesson, Outcome, Protocol, Split};
 use sf_book::Lease;
 use std::collections::LinkedList;
 
-/// What happened on a bench: an item was put, or the handle of this number got one.
+/// What happened on a bench.
 pub enum Event<T = Lease> {
     /// The owner put this item.
     Put(T),
@@ -11,7 +11,7 @@ pub enum Event<T = Lease> {
     Got(usize),
 }
 
-/// A handle's number, and the history up to its last step.
+/// A handle's number, and the history that it knows.
 pub struct End<T = Lease> {
     /// The handle's number; the owner has 0.
     pub number: usize,
@@ -19,8 +19,7 @@ pub struct End<T = Lease> {
     pub events: LinkedList<Event<T>>,
 }
 
-/// What a handle knows: how many handles there are (only the owner knows that), its own end, and the ends of the
-/// thieves that were joined into it. For proofs only: no value of it is made.
+/// What a handle knows: its own end, and the ends of the thieves that were joined into it. For proofs only.
 pub struct HandleView<T = Lease> {
     /// How many handles the owner has made, itself included; 0 for a thief.
     pub made: usize,
@@ -28,7 +27,6 @@ pub struct HandleView<T = Lease> {
     pub ends: LinkedList<End<T>>,
 }
 
-/// The rule of a bench: it holds the items that were put and not yet got, in the order of putting.
 pub(crate) struct InOrder;
 
 impl<T> Protocol<T, HandleView<T>> for InOrder {
@@ -42,7 +40,6 @@ impl<T> Protocol<T, HandleView<T>> for InOrder {
     ghost guest = { new_view 0 1 };
 }
 
-/// The step of the owner that puts an item.
 pub(crate) struct Putting;
 
 impl<T> Outcome<T, HandleView<T>> for Putting {
@@ -51,7 +48,6 @@ impl<T> Outcome<T, HandleView<T>> for Putting {
     ghost then = { PutsAll };
 }
 
-/// The step of a handle that gets an item, or finds none.
 pub(crate) struct Getting;
 
 impl<T> Outcome<T, HandleView<T>> for Getting {
@@ -63,7 +59,6 @@ impl<T> Outcome<T, HandleView<T>> for Getting {
     ghost empty = { AllGot };
 }
 
-/// The step of the owner that makes a thief.
 pub(crate) struct AddingThief;
 
 impl<T> Split<HandleView<T>> for AddingThief {
@@ -74,7 +69,6 @@ impl<T> Split<HandleView<T>> for AddingThief {
     ghost right = { new_thief_view };
 }
 
-/// The step of the owner that takes in a thief.
 pub(crate) struct Joining;
 
 impl<T> Join<HandleView<T>> for Joining {
@@ -86,7 +80,7 @@ impl<T> Join<HandleView<T>> for Joining {
     ghost spent = { spent_view };
 }
 
-/// What the owner learns from a look at the bench: some lawful history fits all that it knows.
+/// What the owner learns from a look at the bench.
 pub(crate) struct Recalling;
 
 impl<T> Lesson<T, HandleView<T>> for Recalling {

@@ -10,10 +10,8 @@ use crate::board::{Board, Seat, Tally};
 use atomic_table::Closed;
 use std::alloc::Global;
 
-/// Reads the least place of each question from the words of a closed board. Entry q of the result is that of question
-/// q: `None` where the word isn't below the number of regions, which stands for no place. All entries past the last
-/// question are `None`. The caller's conditions: the board has this many regions, and this many questions, which are at
-/// most 256.
+/// The least place of each question, from the words of a closed board. A word that isn't below the number of regions
+/// stands for none.
 fn least_places(
     closed: &Closed<u8, Global>,
     regions: usize,
@@ -34,17 +32,10 @@ fn least_places(
 }
 
 impl Board {
-    /// Closes the board, and returns what its words say at the end. The caller's condition: the seat is of this board.
+    /// Closes the board, and returns what its words say at the end.
     ///
-    /// The region at the least place of a question has a hit on this question, whichever seat entered the hit. What
-    /// follows is promised only about this seat's sheets: those that it entered, or a seat that was joined into it.
-    /// Each of them is counted. For each of them and each question: where the sheet's region stands before the least
-    /// place of the question, or the question has none, either the region's verdict on the question is clear, or the
-    /// sheet has a doubt for the question and the question's bit is set.
-    ///
-    /// If all seats of the board were joined into this one, only its sheets are counted, and a question's bit is set
-    /// exactly where one of its sheets has a doubt for the question. If it has as many sheets as there are regions,
-    /// each region has one sheet.
+    /// A hit at a least place is right, whichever seat entered it. What else is promised is about the sheets of this
+    /// seat and of those that were joined into it. Where all seats were, that is the whole board.
     pub fn close(self, seat: Seat) -> Tally
         requires { IsSeatOf self seat }
         ensures { RightTally (about self) (seat_view seat) result }

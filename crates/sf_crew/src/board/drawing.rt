@@ -1,15 +1,15 @@
 //! The calls of a seat on its board, but for entering a sheet and closing the board.
-ghost use Rattle.std.specs.Prelude.{◌≡◌, ℕ, ◌+◌, ◌-◌, ◌<◌, ◌≤◌, ◌^◌, ◌==◌, nat_lt, count_by, length, IfSome, IfNone, Some, None, []};
+ghost use Rattle.std.specs.Prelude.{◌≡◌, ℕ, ◌+◌, ◌-◌, ◌<◌, ◌≤◌, ◌==◌, count_by, length, IfSome, IfNone, Some, None};
 ghost use Rattle.sf_ask.specs.Sheets.{HasHit};
 ghost use Rattle.sf_crew.specs.Views.{questions_of, regions_of, count_of_regions, jobs, Noted};
-ghost use Rattle.sf_crew.specs.BoardSteps.{view_with_job, view_without_job, view_with_note, joined_view, Knows, GotNone};
+ghost use Rattle.sf_crew.specs.BoardSteps.{view_with_job, view_with_note, joined_view, Knows, GotNone};
 ghost use Rattle.sf_crew.specs.Boards.{about, seat_view, IsSeatOf};
 
 use crate::board::steps::{Draw, Glance, LEAST, Look, Merge, NEXT};
 use crate::board::{Board, Seat};
 
 impl Seat {
-    /// The job that the seat has drawn and not yet entered a sheet for; `None` where it owes no sheet.
+    /// The job that the seat has drawn and not yet entered a sheet for.
     pub fn owes(&self) -> Option<usize>
         ensures { result ≡ (seat_view self.now).owes }
     {
@@ -18,9 +18,7 @@ impl Seat {
 }
 
 impl Board {
-    /// Draws the next job, which is the place of a region: from then on the seat owes the sheet of this job. `None`
-    /// where all jobs are drawn, now and at each later call with this seat. The caller's conditions: the seat is of
-    /// this board and owes no sheet.
+    /// Draws the next job, whose sheet the seat owes then; `None` where all jobs are drawn.
     pub fn draw(&self, seat: &mut Seat) -> Option<usize>
         requires seat { IsSeatOf self.now seat.old }
         requires free { (seat_view seat.old).owes ≡ None }
@@ -50,9 +48,8 @@ impl Board {
         }
     }
 
-    /// The least place so far of a region with a hit on the question q, counted from 0; `None` where no hit on this
-    /// question was entered yet. From then on the seat has seen this hit, which `enter` asks for where a sheet skips
-    /// the question. The caller's conditions: the seat is of this board, and there is such a question.
+    /// The least place so far of a region with a hit on the question q. From then on the seat has seen this hit, which
+    /// `enter` asks for where a sheet skips the question.
     pub fn look(&self, seat: &mut Seat, q: usize) -> Option<usize>
         requires seat { IsSeatOf self.now seat.old }
         requires there { q < length (questions_of (about self.now)) }
@@ -73,8 +70,7 @@ impl Board {
         }
     }
 
-    /// One seat with all that both have drawn, entered and seen; it draws no more where one of them has found that no
-    /// job is left. The caller's conditions: both are seats of this board that owe no sheet.
+    /// One seat with all that both have drawn, entered and seen.
     pub fn join(&self, first: Seat, second: Seat) -> Seat
         requires seats { IsSeatOf self.now first × IsSeatOf self.now second }
         requires free { ((seat_view first).owes ≡ None) × ((seat_view second).owes ≡ None) }

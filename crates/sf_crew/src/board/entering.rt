@@ -1,6 +1,6 @@
 //! How a sheet is entered.
-ghost use Rattle.std.specs.Prelude.{◌≡◌, ℕ, ◌+◌, ◌<◌, ◌≤◌, length, Some, None, []};
-ghost use Rattle.sf_crew.specs.Views.{questions_of, regions_of, count_of_regions, Noted};
+ghost use Rattle.std.specs.Prelude.{◌≡◌, ◌+◌, ◌<◌, length, Some, None};
+ghost use Rattle.sf_crew.specs.Views.{questions_of, regions_of};
 ghost use Rattle.sf_crew.specs.BoardSteps.{with_notes, with_marks};
 ghost use Rattle.sf_crew.specs.Boards.{about, board_id, seat_view, IsSeatOf};
 ghost use Rattle.sf_crew.specs.EnteredSheets.{MarksDoubts, NotesHits, IsSheetFor, Enters};
@@ -11,9 +11,7 @@ use crate::board::{Board, Seat};
 use sf_ask::Sheet;
 
 impl Board {
-    /// Enters the hits of a sheet, one step for each: the sheet's job becomes the least place of the question, unless
-    /// the board has a lower one. The caller's conditions: the seat is of this board, and the sheet is about the
-    /// board's regions and questions.
+    /// Enters the hits of a sheet: its job becomes the least place of the question, unless the board has a lower one.
     fn enter_hits(&self, seat: &mut atomic_table::Seat<u8, View>, sheet: &Sheet)
         requires table { seat.old.table_id ≡ board_id self.now }
         requires same { (sheet.now.settled ≡ regions_of (about self.now))
@@ -35,9 +33,7 @@ impl Board {
         }
     }
 
-    /// Enters the doubts of a sheet. For each question on which the sheet has a doubt, one atomic step sets the
-    /// question's bit in the board's words of doubts (`DOUBTS`). The caller's conditions: the seat is of this board and
-    /// owes this sheet, and the sheet is about the board's questions.
+    /// Enters the doubts of a sheet, by one bit for each question.
     fn enter_doubts(&self, seat: &mut atomic_table::Seat<u8, View>, sheet: &Sheet)
         requires table { seat.old.table_id ≡ board_id self.now }
         requires questions { sheet.now.questions ≡ questions_of (about self.now) }
@@ -61,10 +57,8 @@ impl Board {
         }
     }
 
-    /// Enters the sheet that the seat owes: first its hits and its doubts, and then it is counted. The seat owes no
-    /// sheet after that. The caller's conditions: the seat is of this board; the sheet is about the board's regions and
-    /// questions and for the job that the seat owes; and the sheet skips only questions on which the seat has seen a
-    /// hit at a place below the job.
+    /// Enters the sheet that the seat owes. It skips only questions on which the seat has seen a hit at a place below
+    /// the job.
     pub fn enter(&self, seat: &mut Seat, sheet: Sheet)
         requires seat { IsSeatOf self.now seat.old }
         requires sheet { IsSheetFor (about self.now) (seat_view seat.old) sheet }

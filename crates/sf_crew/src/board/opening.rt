@@ -14,9 +14,8 @@ use sf_book::Settled;
 use std::alloc::Global;
 use std::snapshot::Snapshot;
 
-/// The words of a new board, in their order. The first `LEAST` (6) words are 0: the next job, the count of the sheets
-/// that were entered, and four words of doubts. Then comes one word for each question: it is the number of regions,
-/// which stands for no least place. `Memory` where an allocation is refused.
+/// The words of a new board, in their order: the next job, the count of sheets, four words of doubts, and one word for
+/// each question. The number of regions stands for no least place.
 fn first_words(alloc: Global, regions: usize, questions: usize) -> Result<Vec<u64>, Fault>
     ensures ok { IfOk result (λ v. v.items ≡ (0 ∷ 0 ∷ 0 ∷ 0 ∷ 0 ∷ 0 ∷ [])
         ++ replicate questions regions) }
@@ -33,9 +32,8 @@ fn first_words(alloc: Global, regions: usize, questions: usize) -> Result<Vec<u6
 }
 
 impl Board {
-    /// Makes a board about these regions and questions, and all its seats. No job is drawn and no sheet entered. The
-    /// caller's conditions: at most 256 questions, and 1 to 65 seats: enough for 64 workers and the calling thread.
-    /// `Memory` where an allocation is refused.
+    /// Makes a board about these regions and questions, and all its seats: enough for 64 workers and the calling
+    /// thread.
     pub fn new(
         alloc: Global,
         settled: &Settled,
@@ -68,9 +66,6 @@ impl Board {
         Ok((board, dealt))
     }
 
-    /// Splits the first seat into this many seats, and returns them all. The caller's conditions: `seats` is the number
-    /// that the board was made for, 1 to 65, and `seat` is the first seat of this board, which has done nothing.
-    /// `Memory` where an allocation is refused.
     fn deal(
         &self,
         alloc: Global,

@@ -2,18 +2,18 @@
 use crate::board::view::{BoardKey, View};
 use atomic_table::{Join, Play, Split, TableRule};
 
-/// The word of the next job.
+// The words of a board: the next job; how many sheets were entered; four words of doubts, where question q has bit
+// q % 64 of the word q / 64; and the least place of each question.
 pub(crate) const NEXT: usize = 0;
-/// The word that counts the sheets that were entered.
+
 pub(crate) const ENTERED: usize = 1;
-/// The first of the four words of doubts: question q has bit q % 64 of the word q / 64.
+
 pub(crate) const DOUBTS: usize = 2;
-/// The word of the first question's least place; those of the other questions follow.
+
 pub(crate) const LEAST: usize = 6;
 /// How many questions one word of doubts has bits for.
 pub(crate) const BITS: usize = 64;
 
-/// The rule of a board, and what its first seat knows.
 pub(crate) struct WholeBoard;
 
 impl TableRule<u8, View, BoardKey> for WholeBoard {
@@ -25,7 +25,6 @@ impl TableRule<u8, View, BoardKey> for WholeBoard {
     ghost first = { first_view };
 }
 
-/// The step of a seat that draws the next job, or finds that all are drawn.
 pub(crate) struct Draw;
 
 impl Play<u8, View> for Draw {
@@ -35,7 +34,6 @@ impl Play<u8, View> for Draw {
     ghost then = { λ st m n w. Draws m.0 n w.0 × (w.1 ≡ m.1) };
 }
 
-/// The step of a seat that reads the least place of a question.
 pub(crate) struct Look;
 
 impl Play<u8, View> for Look {
@@ -45,7 +43,6 @@ impl Play<u8, View> for Look {
     ghost then = { λ st m n w. Looks m.0 (st.word - 6) n w.0 × (w.1 ≡ m.1) };
 }
 
-/// The step of a seat that enters a hit: the job becomes the least place of the question, unless there is a lower one.
 pub(crate) struct Hits;
 
 impl Play<u8, View> for Hits {
@@ -56,7 +53,6 @@ impl Play<u8, View> for Hits {
         × (w.1 ≡ m.1) };
 }
 
-/// The step of a seat that marks a question as one in doubt.
 pub(crate) struct Mark;
 
 impl Play<u8, View> for Mark {
@@ -68,7 +64,6 @@ impl Play<u8, View> for Mark {
         × (w.1 ≡ m.1) };
 }
 
-/// The step of a seat that counts its sheet as entered.
 pub(crate) struct Enter;
 
 impl Play<u8, View> for Enter {
@@ -79,8 +74,7 @@ impl Play<u8, View> for Enter {
         → w.0 ≡ view_with_sheet m.0 j) × (w.1 ≡ m.1) };
 }
 
-/// For the prover: the step of a seat that changes nothing, and gives what the seat knows of its jobs, by the board's
-/// rule.
+/// For the prover: the step of a seat that changes nothing, and tells what it knows of its jobs.
 pub(crate) struct Glance;
 
 impl Play<u8, View> for Glance {
@@ -90,7 +84,6 @@ impl Play<u8, View> for Glance {
     ghost then = { λ st m n w. (w ≡ m) × Knows m.0 };
 }
 
-/// The step that splits a seat: the new one has done nothing.
 pub(crate) struct Deal;
 
 impl Split<View> for Deal {
@@ -101,7 +94,6 @@ impl Split<View> for Deal {
     ghost right = { shared_view };
 }
 
-/// The step that joins two seats into one, which has all that both have drawn, entered and seen.
 pub(crate) struct Merge;
 
 impl Join<View> for Merge {

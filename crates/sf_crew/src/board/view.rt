@@ -7,33 +7,25 @@ use std::snapshot::Snapshot;
 /// What a board is about: the regions, the questions, and how many seats there are.
 #[derive(Drop)]
 pub struct BoardKey {
-    /// The exploration whose regions are judged.
     pub settled: Snapshot<Settled>,
-    /// The questions that they are judged by, in order.
     pub questions: Vec<Snapshot<Question>>,
-    /// How many seats the board was opened with.
     pub seats: usize,
 }
 
 /// A sheet that was entered: its job, and the questions that it has a doubt for.
 pub struct EnteredSheet {
-    /// The place of the sheet's region.
     pub job: usize,
-    /// The places of the questions that the sheet has a doubt for.
     pub doubts: LinkedList<usize>,
 }
 
-/// The least place of a question was `place` or less at some moment.
+/// The least place of a question was `place` or less at some moment. The number of regions stands for no place.
 pub struct Note {
-    /// The question's place, counted from 0.
     pub question: usize,
-    /// The place of a region, or the number of regions, which stands for none.
     pub place: usize,
 }
 
-/// What a seat knows. For proofs only: no value of it is made.
+/// What a seat knows. For proofs only.
 pub struct View {
-    /// What the seat's board is about.
     pub about: Option<BoardKey>,
     /// How many of the seats that the board began with are joined in this one, itself counted.
     pub joined_seats: usize,
@@ -43,7 +35,6 @@ pub struct View {
     pub owes: Option<usize>,
     /// The questions whose doubts the seat has marked for the sheet that it is entering.
     pub marked: LinkedList<usize>,
-    /// The sheets that the seat has entered.
     pub entered_sheets: LinkedList<EnteredSheet>,
     /// What the seat has seen and entered of least places.
     pub notes: LinkedList<Note>,

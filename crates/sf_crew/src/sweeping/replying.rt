@@ -1,6 +1,5 @@
 //! Replies to questions, from the tally of all regions.
-ghost use Rattle.std.specs.Prelude.{◌≡◌, ◌==◌, ◌<◌, ◌≤◌, ℕ, Some, true, false, length, slice_get, IfOk, IfErr};
-ghost use Rattle.sf_question.specs.QuestionData.{QuestionData};
+ghost use Rattle.std.specs.Prelude.{◌≡◌, ◌<◌, ◌≤◌, ℕ, Some, true, false, length, IfOk, IfErr};
 ghost use Rattle.sf_check.specs.Stacks.{IsPlain};
 ghost use Rattle.sf_crew.specs.Sweeps.{IsFullTally, IsUnbroken, HasDoubt, IsReplyTo, AreRightReplies, IsRightReplyAt};
 ghost use Rattle.sf_crew.specs.declared.fault.Fault.TheVariants.{Memory};
@@ -17,9 +16,7 @@ use std::alloc::Global;
 use std::sync::Wait;
 use std::thread::Threads;
 
-/// The reply to a question on which no region has a hit: `Unsettled` where `doubt` is true or a piece is outstanding,
-/// and else `Never`. `_question` is there for the contract only. The caller's conditions: no region has a hit on the
-/// question, and `doubt` says whether some region is in doubt for it, which is never so on a plain stack.
+/// The reply to a question on which no region has a hit. `_question` is there for the contract only.
 fn reply_without_hit(settled: &Settled, _question: &Question, doubt: bool) -> Reply
     requires unbroken { (r : ℕ) → r < length settled.now.regions
         → IsUnbroken settled.now _question.now doubt r }
@@ -38,11 +35,7 @@ fn reply_without_hit(settled: &Settled, _question: &Question, doubt: bool) -> Re
     }
 }
 
-/// The reply to the question q, counted from 0. Where the question has a least place in the tally, the region at this
-/// place is judged once more. By the rules this verdict is a hit again, and the reply is `Allowed` with its member.
-/// Else the reply is that of `reply_without_hit`, and no region is judged. The caller's conditions: there is such a
-/// question, q is below 256, and the tally is that of all regions and these questions. `Memory` where `judge` gives it:
-/// an allocation is refused, or the region's facts have too many owners.
+/// The reply to the question q. The region at its least place is judged once more, which gives the same hit.
 fn reply_of(
     alloc: Global,
     settled: &Settled,
@@ -70,12 +63,8 @@ fn reply_of(
     Ok(Reply::Allowed(input))
 }
 
-/// Replies to the questions, in their order: this many workers judge the regions by the questions, and share a board.
-/// The gate sees each sheet between its making and its entering. A worker for which no thread can be started runs on a
-/// thread that is there. Waits for the workers.
-///
-/// The caller's conditions: 1 to 64 workers, and at most 256 questions. `Memory` where the calling thread or a worker
-/// is refused memory, or where a region's facts have too many owners.
+/// Replies to the questions, in their order: this many workers judge the regions by a board that they share. The gate
+/// sees each sheet before it is entered. Waits for the workers.
 pub fn sweep<R: Threads + Wait + Sync, G: Gate>(
     rt: &R,
     alloc: Global,

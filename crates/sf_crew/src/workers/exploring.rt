@@ -16,8 +16,7 @@ use sf_piece::advance;
 use std::alloc::Global;
 use std::sync::Arc;
 
-/// A lease of the first piece in name order. `None` where no piece is outstanding, or the budget is spent. `Memory`
-/// where too many owners would share the piece. The caller's condition: no piece is on lease.
+/// A lease of the first piece in name order. `None` where no piece is outstanding, or the budget is spent.
 fn next_lease(book: &mut Book) -> Result<Option<Lease>, Fault>
     requires { IsFree book.old.outstanding }
     ensures same { IsSameExploration book.old book.new }
@@ -33,12 +32,7 @@ fn next_lease(book: &mut Book) -> Result<Option<Lease>, Fault>
 }
 
 /// One turn: the piece of the lease is worked, the work is committed, and the children of a split are taken off lease.
-/// The gate sees the work before it is committed; `worker` and `call` are the numbers of the worker and of its call,
-/// for the gate. The work's stack isn't compared with the book's: it is the same, since the lease is of this book.
-///
-/// The caller's conditions: the lease is of this book, no other piece is on lease, and the budget isn't spent. `Memory`
-/// where `advance` or the commit gives it, for whatever reason: the piece stays on lease then. No other fault can come,
-/// since the worker has the book to itself.
+/// After a fault the piece stays on lease.
 fn turn<G: Gate>(
     alloc: Global,
     book: &mut Book,
@@ -63,9 +57,7 @@ fn turn<G: Gate>(
     Ok(())
 }
 
-/// Works pieces one after another until none is outstanding or the budget is spent. `worker` is the worker's number for
-/// the gate, and its calls are numbered from 1. The caller's condition: no piece is on lease. `Memory` where memory is
-/// refused, or something that is shared has too many owners: a piece may be on lease then.
+/// Works pieces one after another until none is outstanding or the budget is spent.
 pub(crate) fn work_off<G: Gate>(
     alloc: Global,
     book: &mut Book,
@@ -90,8 +82,7 @@ pub(crate) fn work_off<G: Gate>(
     Ok(())
 }
 
-/// Closes a book, and returns what was explored. The caller's conditions: the book is of this stack and budget; nothing
-/// is outstanding, or the budget is spent. `_budget` is there for the contract only.
+/// Closes a book, and returns what was explored. `_budget` is there for the contract only.
 pub(crate) fn finish_book(book: Book, stack: &Arc<Stack>, _budget: u32) -> Settled
     requires end { IsExhausted book }
     requires stack { book.stack ≡ arc_value stack.now }
@@ -108,8 +99,7 @@ pub(crate) fn finish_book(book: Book, stack: &Arc<Stack>, _budget: u32) -> Settl
     settled
 }
 
-/// Explores a stack by at most `budget` works, by the calling thread only, as worker 0. The gate sees each work before
-/// it is committed. `Memory` where memory is refused, or something that is shared has too many owners.
+/// Explores a stack by the calling thread only, as worker 0.
 pub(crate) fn explore_alone<G: Gate>(
     alloc: Global,
     stack: Arc<Stack>,

@@ -31,7 +31,6 @@ impl<N: Naming> Model for Held<N> {
 }
 
 impl<N: Naming> Held<N> {
-    /// The piece that is on lease.
     pub(crate) fn piece(&self) -> &Arc<Piece>
         ensures { result.now ≡ self.now.piece }
     {
@@ -39,7 +38,7 @@ impl<N: Naming> Held<N> {
     }
 }
 
-/// A work that is ready to be handed in, and its children, the false one first; `None` where the work isn't a split.
+/// A work that is ready to be handed in, and its children where it is a split.
 #[derive(Drop)]
 pub(crate) struct Made {
     work: Work,
@@ -47,9 +46,8 @@ pub(crate) struct Made {
 }
 
 impl Made {
-    /// A work, and its two children where it is a split. The children are shared with the work, so the worker still
-    /// has them when the book has taken the work. Nothing is allocated: `Memory` comes where too many owners would
-    /// share a child, and the work is dropped then.
+    /// A work with its children. They are shared with it, so the worker still has them when the book has taken the
+    /// work.
     pub(crate) fn of(work: Work) -> Result<Made, Fault>
         ensures ok { IfOk result (λ made. (made.work ≡ work) × HasItsChildren made) }
         ensures err { IfErr result (λ f. f ≡ Memory) }
@@ -63,7 +61,7 @@ impl Made {
 }
 
 /// The book that workers share. Its type names the exploration: whenever the lock is got, the book is of that stack and
-/// budget. What the book leases out comes into a worker's hand.
+/// budget.
 #[derive(Drop)]
 pub(crate) struct SharedBook<N: Naming> {
     book: Book,
@@ -82,7 +80,6 @@ impl<N: Naming> Model for SharedBook<N> {
 }
 
 impl<N: Naming> SharedBook<N> {
-    /// A book that workers are to share. The caller's condition: the type N names the book's stack and budget.
     pub(crate) fn of(book: Book) -> SharedBook<N>
         requires { (book.stack ≡ N.stack) × (book.budget ≡ N.budget) }
         ensures { result ≡ book }
@@ -93,7 +90,6 @@ impl<N: Naming> SharedBook<N> {
         }
     }
 
-    /// The book itself, for use when the workers have ended.
     pub(crate) fn into_book(self) -> Book
         ensures same { result ≡ self }
         ensures named { (result.stack ≡ N.stack) × (result.budget ≡ N.budget) }
@@ -101,7 +97,6 @@ impl<N: Naming> SharedBook<N> {
         self.book
     }
 
-    /// Whether nothing is left to do: nothing is outstanding, or the budget is spent.
     pub(crate) fn is_exhausted(&self) -> bool
         ensures { MatchBool result (IsExhausted self.now) (¬ IsExhausted self.now) }
     {
@@ -109,8 +104,7 @@ impl<N: Naming> SharedBook<N> {
         counts.left == 0 || counts.commits == self.book.budget()
     }
 
-    /// A lease of the first piece, in name order, that isn't on lease; `None` where all are, or none is outstanding.
-    /// `Memory` where too many owners would share the piece: the book is unchanged then.
+    /// A lease of the first piece, in name order, that isn't on lease.
     pub(crate) fn lease(&mut self) -> Result<Option<Held<N>>, Fault>
         ensures ok { IfOk result (λ found. MatchOption found ((self.new ≡ self.old)
             × All (λ e. e.leased ≡ true) self.old.outstanding)
@@ -127,8 +121,7 @@ impl<N: Naming> SharedBook<N> {
         }))
     }
 
-    /// Gives a lease back to the book: its piece can be leased out again. Where no piece is outstanding under the
-    /// lease's id, the book doesn't change.
+    /// Gives a lease back to the book: its piece can be leased out again.
     pub(crate) fn give_back(&mut self, held: Held<N>)
         ensures { self.new ≡ given_back held.id self.old }
     {
@@ -136,14 +129,9 @@ impl<N: Naming> SharedBook<N> {
         self.book.give_back(lease.lease().id);
     }
 
-    /// Commits the work of a lease. Returns the leases of the two children where the work is a split, the false one's
-    /// first, and else `None`. The work's stack isn't compared with the book's: by its type the lease is of a piece of
-    /// the book's stack. The caller's conditions: the work is of the lease's piece, and the children are the work's.
-    ///
-    /// The book refuses the work as `Book::commit_of_stack` does: `Stale` where no piece is outstanding under the
-    /// lease's id, or one with another name; then `Spent` where the budget is spent; then `Memory` where an allocation
-    /// is refused, or too many owners would share a child. The lease is given back then, and nothing else in the book
-    /// changes.
+    /// Commits the work of a lease. Returns the leases of the two children of a split. The work's stack isn't compared
+    /// with the book's: by its type the lease is of a piece of this stack. Where the book refuses the work, the lease
+    /// is given back.
     pub(crate) fn hand_in(
         &mut self,
         held: Held<N>,

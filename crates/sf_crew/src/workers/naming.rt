@@ -3,8 +3,8 @@
 use sf_book::Lease;
 use std::marker::{Brand, Model, PhantomData};
 
-/// The stack and the budget of an exploration, for proofs only. `explore` passes the type `Brand`, for which the proof
-/// of this call picks both.
+/// The stack and the budget of an exploration. `explore` passes the type `Brand`, for which the proof of this call
+/// picks both.
 pub(crate) trait Naming: Send + Sync {
     ghost use Rattle.std.specs.Prelude.{ℕ, List};
     ghost use Rattle.sf_check.specs.declared.insn.Insn.{Insn};
@@ -44,8 +44,7 @@ impl<N: Naming> NamedLease<N> {
     ghost use Rattle.std.specs.Prelude.{◌≡◌};
     ghost use Rattle.std.specs.Arc.{arc_value};
 
-    /// The same lease. For the prover: from now on its type says that its piece is of the stack that N names. The
-    /// caller's condition: the piece is of this stack.
+    /// For the prover: from now on the lease's type says that its piece is of the stack that N names.
     pub(crate) fn of(lease: Lease) -> NamedLease<N>
         requires { (arc_value lease.piece).stack ≡ N.stack }
         ensures { result ≡ lease }
@@ -56,7 +55,6 @@ impl<N: Naming> NamedLease<N> {
         }
     }
 
-    /// The lease itself.
     pub(crate) fn lease(&self) -> &Lease
         ensures same { result.now ≡ self.now }
         ensures named { (arc_value self.now.piece).stack ≡ N.stack }

@@ -1,4 +1,4 @@
-//! How workers are made: a bench for each, and a thief on it for each other worker.
+//! How workers are made.
 
 ghost use Rattle.std.specs.Prelude.{◌≡◌, ◌<◌, ◌≤◌, IfOk, IfErr, length, vec_len};
 ghost use Rattle.sf_crew.specs.declared.fault.Fault.TheVariants.{Memory};
@@ -10,8 +10,7 @@ use crate::workers::hands::{NewBench, Thieves};
 use crate::workers::naming::{NamedLease, Naming};
 use std::alloc::Global;
 
-/// This many workers, 1 to 64, with the numbers from 0. Each has a bench, and a thief on the bench of each other one.
-/// `Memory` where an allocation is refused.
+/// This many workers, with a bench for each, and a thief on it for each other one.
 pub(crate) fn workers_of<N: Naming>(alloc: Global, count: usize) -> Result<Vec<NewWorker<N>>, Fault>
     requires { (0 < count) × (count ≤ 64) }
     ensures count { IfOk result (λ v. vec_len v ≡ count) }
@@ -32,10 +31,8 @@ pub(crate) fn workers_of<N: Naming>(alloc: Global, count: usize) -> Result<Vec<N
     Ok(workers)
 }
 
-/// Gives each worker a thief on the bench of each other worker, that of the next worker first. `thieves` has a list for
-/// each worker's bench, with the thieves on this bench; thieves are taken out of it. Where no thief is left on a bench,
-/// the worker gets none. The caller's condition: there are as many lists as workers, at most 64. `Memory` where an
-/// allocation is refused: some thieves may have been given then.
+/// Gives each worker a thief on the bench of each other worker, that of the next worker first. Thieves are taken out of
+/// `thieves`, which has a list for each worker's bench.
 fn hand_out_all<N: Naming>(
     workers: &mut [NewWorker<N>],
     thieves: &mut [Vec<Thief<NamedLease<N>>>],
@@ -50,9 +47,6 @@ fn hand_out_all<N: Naming>(
 }
 
 /// Gives each worker a thief on the bench that is `step` steps after its own; behind the last bench comes the first.
-/// The thief is taken out of the bench's list in `thieves`. Where the list is empty, the worker gets none. The caller's
-/// conditions: there are as many lists as workers, at most 64, and `step` is below 64. `Memory` where an allocation is
-/// refused: some workers may have got their thief then.
 fn hand_out<N: Naming>(
     workers: &mut [NewWorker<N>],
     thieves: &mut [Vec<Thief<NamedLease<N>>>],

@@ -1,4 +1,4 @@
-//! How leases are stolen: each other bench is tried once.
+//! How leases are stolen.
 ghost use Rattle.std.specs.Prelude.{◌<◌, length};
 ghost use Rattle.sf_crew.specs.Workers.{thief_views, Steals};
 
@@ -7,8 +7,6 @@ use crate::workers::hands::Held;
 use crate::workers::naming::{NamedLease, Naming};
 use crossbeam_deque::Steal;
 
-/// Tries to steal a lease from the bench of the thief at this place. `None` where nothing is left on the bench, or
-/// another handle came first. The caller's condition: there is a thief at this place.
 fn steal_at<N: Naming>(others: &mut [Thief<NamedLease<N>>], place: usize) -> Option<Held<N>>
     requires { place < length others.old }
     ensures { Steals (thief_views others.old) result (thief_views others.new) }
@@ -19,8 +17,7 @@ fn steal_at<N: Naming>(others: &mut [Thief<NamedLease<N>>], place: usize) -> Opt
     }
 }
 
-/// Tries the bench of each thief once, in order, and returns the first lease that it gets. `None` where it gets none:
-/// on each bench nothing was left, or another handle came first.
+/// Tries the bench of each thief once, in order, and returns the first lease that it gets.
 pub(crate) fn steal_from<N: Naming>(others: &mut [Thief<NamedLease<N>>]) -> Option<Held<N>>
     ensures { Steals (thief_views others.old) result (thief_views others.new) }
 {
