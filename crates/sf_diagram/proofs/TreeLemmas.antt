@@ -32,45 +32,41 @@ AreOne s t = (bits : Bits) → value s bits ≡ value t bits
 abbrev IsAlone : Tree → Type 0
 IsAlone s = (t : Tree) (n : ℕ) → IsOrderedFrom n t → IsReducedTree t → AreOne s t → s ≡ t
 
+-- a fork with two sides has other values than each tree of greater variables that is told by its values
+apart : (v : ℕ) (p q u : Tree) → IsOrderedFrom (suc v) p → IsOrderedFrom (suc v) q → p ≢ q → IsOrderedFrom (suc v) u
+    → (AreOne u p → u ≡ p) → (AreOne u q → u ≡ q) → AreOne u (Fork v p q) → ⊥
+apart v p q u op oq ne ou low high same =
+    ne (sym (low (λ x. to x false ∙ value-lower v p q x op)) ∙ high (λ x. to x true ∙ value-higher v p q x oq))
+  where
+    to : (x : Bits) (b : Bool) → value u x ≡ value (Fork v p q) (with_bit x v b)
+    to x b = sym (value-above u (suc v) v b x ou (omega arith)) ∙ same (with_bit x v b)
+
 leaf-alone : (c : ℕ) → IsAlone (Leaf c)
 leaf-alone c (Leaf d) n o r same = ap Leaf (same (λ _. false))
-leaf-alone c (Fork w p q) n o r same =
-    let low : Leaf c ≡ p =
-    leaf-alone c p (suc w) o.1 r.1 (λ x. same (with_bit x w false) ∙ value-lower w p q x o.1) in
-    let high : Leaf c ≡ q =
-    leaf-alone c q (suc w) o.2 r.2 (λ x. same (with_bit x w true) ∙ value-higher w p q x o.2) in
-    absurd (r.0 (sym low ∙ high))
+leaf-alone c (Fork w p q) n o r same = absurd (apart w p q (Leaf c) o.1 o.2 r.0 tt
+    (leaf-alone c p (suc w) o.1 r.1) (leaf-alone c q (suc w) o.2 r.2) same)
 
 fork-alone : (v : ℕ) (p q : Tree) → IsAlone p → IsAlone q → IsOrderedFrom (suc v) p → IsOrderedFrom (suc v) q
     → p ≢ q → IsAlone (Fork v p q)
-fork-alone v p q hp hq op oq ne (Leaf d) n o r same =
-    let low : p ≡ Leaf d = hp (Leaf d) 0 tt tt (λ x. sym (value-lower v p q x op) ∙ same (with_bit x v false)) in
-    let high : q ≡ Leaf d = hq (Leaf d) 0 tt tt (λ x. sym (value-higher v p q x oq) ∙ same (with_bit x v true)) in
-    absurd (ne (low ∙ sym high))
-fork-alone v p q hp hq op oq ne (Fork w s t) n o r same = elim (cases_order v w) [
-  | inl e ↦ (
-      let low : p ≡ s = hp s (suc w) o.1 r.1 (λ x. sym (value-lower v p q x op) ∙ same (with_bit x v false)
-      ∙ rw e (value-lower w s t x o.1)) in
-      let high : q ≡ t = hq t (suc w) o.2 r.2 (λ x. sym (value-higher v p q x oq) ∙ same (with_bit x v true)
-      ∙ rw e (value-higher w s t x o.2)) in
-      rw (e, low, high) refl)
-  | inr (inl less) ↦ (
-      let u : Tree = Fork w s t in
-      let ou : IsOrderedFrom (suc v) u = (omega arith, o.1, o.2) in
-      let low : p ≡ u = hp u (suc v) ou r (λ x. sym (value-lower v p q x op) ∙ same (with_bit x v false)
-      ∙ value-above u (suc v) v false x ou (omega arith)) in
-      let high : q ≡ u = hq u (suc v) ou r (λ x. sym (value-higher v p q x oq) ∙ same (with_bit x v true)
-      ∙ value-above u (suc v) v true x ou (omega arith)) in
-      absurd (ne (low ∙ sym high)))
-  | inr (inr more) ↦ (
-      let u : Tree = Fork v p q in
-      let ou : IsOrderedFrom (suc w) u = (omega arith, op, oq) in
-      let low : u ≡ s = fork-alone v p q hp hq op oq ne s (suc w) o.1 r.1 (λ x.
-      sym (value-above u (suc w) w false x ou (omega arith)) ∙ same (with_bit x w false) ∙ value-lower w s t x o.1) in
-      let high : u ≡ t = fork-alone v p q hp hq op oq ne t (suc w) o.2 r.2 (λ x.
-      sym (value-above u (suc w) w true x ou (omega arith)) ∙ same (with_bit x w true) ∙ value-higher w s t x o.2) in
-      absurd (r.0 (sym low ∙ high)))
-]
+fork-alone v p q hp hq op oq ne = by
+  where
+    above : (u : Tree) → IsOrderedFrom (suc v) u → IsReducedTree u → AreOne (Fork v p q) u → Fork v p q ≡ u
+    above u ou r same = absurd (apart v p q u op oq ne ou (λ h. sym (hp u (suc v) ou r (λ x. sym (h x))))
+        (λ h. sym (hq u (suc v) ou r (λ x. sym (h x)))) (λ x. sym (same x)))
+
+    by : IsAlone (Fork v p q)
+    by (Leaf d) n o r same = above (Leaf d) tt tt same
+    by (Fork w s t) n o r same = elim (cases_order v w) [
+      | inl e ↦ (
+          let low : p ≡ s = hp s (suc w) o.1 r.1 (λ x. sym (value-lower v p q x op) ∙ same (with_bit x v false)
+          ∙ rw e (value-lower w s t x o.1)) in
+          let high : q ≡ t = hq t (suc w) o.2 r.2 (λ x. sym (value-higher v p q x oq) ∙ same (with_bit x v true)
+          ∙ rw e (value-higher w s t x o.2)) in
+          rw (e, low, high) refl)
+      | inr (inl less) ↦ above (Fork w s t) (omega arith, o.1, o.2) r same
+      | inr (inr more) ↦ absurd (apart w s t (Fork v p q) o.1 o.2 r.0 (omega arith, op, oq) (by s (suc w) o.1 r.1)
+          (by t (suc w) o.2 r.2) same)
+    ]
 
 alone : (s : Tree) (n : ℕ) → IsOrderedFrom n s → IsReducedTree s → IsAlone s
 alone (Leaf c) n o r = leaf-alone c

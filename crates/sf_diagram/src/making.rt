@@ -140,10 +140,7 @@ fn make(store: &mut Store, task: Task) -> Result<Id, Fault>
 {
     let (variable, lower, higher) = match step_of(store, task) {
         Step::Same(id) => return Ok(id),
-        Step::Constant(number) => {
-            let leaf = store.leaf(number)?;
-            return Ok(leaf);
-        }
+        Step::Constant(number) => return Ok(store.leaf(number)?),
         Step::Divided(variable, lower, higher) => (variable, lower, higher),
     };
     if let Some(known) = store.recall(task) {

@@ -1,7 +1,7 @@
 //! What a merge makes of two numbers.
 
 ghost use Rattle.std.specs.Prelude.{◌≡◌, ℕ, true};
-ghost use Rattle.sf_diagram.specs.Operations.{action_bits, folded_of, looser_of, merged_of, pair_of, pretended_of, rank, reach_by};
+ghost use Rattle.sf_diagram.specs.Operations.{folded_of, looser_of, merged_of, pair_of, pretended_of, rank, reach_by};
 
 /// What is made of the numbers that two trees have on an input.
 #[derive(Clone, Copy, Debug, PartialEq, Eq)]

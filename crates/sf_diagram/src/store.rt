@@ -144,8 +144,7 @@ impl Store {
     {
         let zero = self.leaf(0)?;
         let one = self.leaf(1)?;
-        let literal = self.fork(variable, zero, one)?;
-        Ok(literal)
+        Ok(self.fork(variable, zero, one)?)
     }
 
     /// The node of a task's tree, where it is remembered.
