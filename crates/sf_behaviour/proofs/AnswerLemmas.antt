@@ -1,5 +1,5 @@
 -- Diagrams of numbers, and their fold to an answer.
-use Rattle.sf_behaviour.proofs.Common.{◌≡◌, ℕ, ◌+◌, ◌*◌, ◌/◌, ◌%◌, ◌<◌, ◌≤◌, ◌^◌, Bool, true, false, List, [], ◌∷◌, ◌++◌, length, map, refl, sym, ap, ap₂, subst, ◌∙◌, arith, bit_at, if◌then◌else◌, Input, Insn, return_of, Tree, Leaf, Bits, value, tree_at, KeepsTrees, input_by, IsDiagramOf, nat_lt, and_mask, shr_le, shr-shr, and_high_mask, map_push, IsInput, action_bits, data_bits, action_number, rank, Answers, IsAnswer, folded_answer, number-action_of, answer_more, answer_none, one, returns_of, Answer, IsMerged, folded_of, Fold, answer_with, HasAnswers, IsBehaviour}
+use Rattle.sf_behaviour.proofs.Common.{◌≡◌, ℕ, ◌+◌, ◌*◌, ◌/◌, ◌%◌, ◌<◌, ◌≤◌, ◌^◌, Bool, true, false, List, [], ◌∷◌, ◌++◌, length, map, refl, sym, ap, ap₂, subst, ◌∙◌, arith, bit_at, if◌then◌else◌, Input, Insn, return_of, Tree, Bits, value, tree_at, KeepsTrees, input_by, IsDiagramOf, nat_lt, and_mask, shr_le, shr-shr, and_high_mask, map_push, IsInput, action_bits, data_bits, action_number, rank, Answers, IsAnswer, folded_answer, number-action_of, answer_more, one, returns_of, Answer, IsMerged, folded_of, Fold, answer_with, HasAnswers, IsBehaviour}
 use Rattle.sf_behaviour.proofs.VariableLemmas.{input-is}
 use Rattle.sf_behaviour.proofs.ReplacingLemmas.{less-if}
 
@@ -15,12 +15,6 @@ number-more m n number {x} {s} {v} e less bit one before =
     let most : number / 2 ^ n ≤ number = shr_le number n in
     next-bit (number / 2 ^ n) (number / 2 ^ m) x s v (shr-shr number n 1 ∙ ap (λ (j : ℕ). number / 2 ^ j) (sym e)) bit
     (omega arith) before one
-
--- all bits
-pub number-made : (n number : ℕ) → n ≡ 0 → number / 2 ^ n ≡ number
-number-made n number e =
-    let whole : number / 2 ^ 0 ≡ number = omega arith in
-    ap (λ (m : ℕ). number / 2 ^ m) e ∙ whole
 
 -- ---- the fold
 
@@ -38,15 +32,6 @@ folded-with newer older =
 -- what programs return, the newest first
 abbrev pub returns_on : List (List Insn) → Bits → List ℕ
 returns_on ps bits = map (λ p. return_of p (input_by bits)) ps
-
--- no filter: ALLOW
-pub fold-begun : (ts : List Tree) (id : ℕ) → id < length ts → tree_at ts id ≡ Leaf 0x7fff0000
-    → HasAnswers (λ bits. returns_on [] bits) ts id
-fold-begun ts id l leaf = record {
-  within = l;
-  small = λ bits. rw leaf (omega arith);
-  answers = λ bits. subst (λ (t : Tree). IsAnswer [] (answer_with (value t bits))) (sym leaf) answer_none;
-}
 
 -- one filter more
 pub fold-more : (ps : List (List Insn)) (p : List Insn) (ts us vs : List Tree) (so_far id new : ℕ)

@@ -1,8 +1,8 @@
 -- The names from elsewhere that the proofs of this crate cite, passed on from one place. Declares nothing.
 pub use Rattle.std.proofs.Common.{Bool, List, None, Option, Some, [], ap, ap₂, arith, below_more, false, get_or, inl, inr, length, length-append, length-set, map, mul-le-mul, not, refl, replicate, rules, subst, suc, sym, take, true, zero, ℕ, ◌%◌, ◌*◌, ◌++◌, ◌+◌, ◌-◌, ◌/◌, ◌<◌, ◌==◌, ◌^◌, ◌∙◌, ◌∷◌, ◌≡◌, ◌≢◌, ◌≤◌, ◌⊎◌}
-pub use Rattle.std.proofs.Math.Nat.{add-mod, div-lt_iff_lt-mul, le-div_iff_mul-le, mod-mod, pow-le-pow_right, pow-suc}
-pub use Rattle.std.proofs.lemmas.Bool.{agree_below_at, cases_eq, cases_lt, eq-eqb, eqb-true, le-leb, le-ltb, leb-false, leb-true, lt-leb, lt-ltb, ltb-true, ne_eqb}
-pub use Rattle.std.proofs.lemmas.Bool.Decides.{nat_tests, same_from_decides}
+pub use Rattle.std.proofs.Math.Nat.{add-mod, div-div-eq-div-mul, div-le_self, div-lt_iff_lt-mul, le-div_iff_mul-le, mod-eq_of_lt, mod-mod, mul-pos, pow-le-pow_right, pow-suc}
+pub use Rattle.std.proofs.lemmas.Bool.{agree_below_at, cases_eq, cases_lt, eq-eqb, eqb-true, le-ltb, leb-false, leb-true, lt-ltb, ne_eqb}
+pub use Rattle.std.proofs.lemmas.Bool.Decides.{nat_tests}
 pub use Rattle.std.proofs.lemmas.Grind.{common_steps, same_number_lists}
 pub use Rattle.std.proofs.lemmas.List.{ext_get_or, get_or-replicate, get_or-set_other, get_or-set_same, get_or_append_left, get_or_default, get_or_past, get_or_push, length-map, length-replicate, map-append, map_push, set-get_or, take_all, take_more}
 pub use Rattle.std.proofs.lemmas.List.FromFn.{get_or-map-range_with_len, length-range_with_len}
@@ -15,16 +15,16 @@ pub use Rattle.std.specs.Int.Bits.{and_block}
 pub use Rattle.std.specs.List.{range_with_len}
 pub use Rattle.std.specs.Map.{lookup}
 pub use Rattle.std.specs.Ordering.{nat_cmp}
-pub use Rattle.std.specs.Prelude.{Contains, IsSome, MatchOption, bit_and, bit_or, if◌then◌else◌, nat_le, nat_lt, slice_get, slice_index, slice_index_or, slice_set, unwrap_or, ◌&&◌}
+pub use Rattle.std.specs.Prelude.{Contains, IsSome, bit_and, if◌then◌else◌, nat_le, nat_lt, slice_get, slice_index, slice_index_or, slice_set, unwrap_or, ◌&&◌}
 pub use Rattle.sf_insn.specs.Inputs.{IsInput}
 pub use Rattle.sf_insn.specs.Words.{apply, negation_of, passes}
 pub use Rattle.sf_insn.specs.declared.input.Input.{Input}
 pub use Rattle.sf_insn.specs.declared.ops.BinOp.{BinOp}
 pub use Rattle.sf_insn.specs.declared.ops.BinOp.TheVariants.{Add, Div, Mul, Sub}
 pub use Rattle.sf_insn.specs.declared.ops.Test.{Test}
-pub use Rattle.sf_insn.specs.declared.ops.Test.TheVariants.{AnyBit, Equal, Greater, GreaterOrEqual}
+pub use Rattle.sf_insn.specs.declared.ops.Test.TheVariants.{AnyBit, Equal}
 pub use Rattle.sf_check.specs.ContainsLaws.{contains_cons, contains_here, contains_nil, contains_there}
-pub use Rattle.sf_check.specs.Insns.{IsInRange, successors}
+pub use Rattle.sf_check.specs.Insns.{successors}
 pub use Rattle.sf_check.specs.ProgramLaws.{below_in, successors_inside}
 pub use Rattle.sf_check.specs.Programs.{IsAt, IsLawfulProgram}
 pub use Rattle.sf_check.specs.declared.insn.Insn.{Insn}
@@ -45,10 +45,10 @@ pub use Rattle.sf_diagram.specs.Trees.{Bits, Fork, IsOrderedFrom, IsOrderedTree,
 pub use Rattle.sf_diagram.specs.declared.operation.Operation.TheVariants.{Fold}
 pub use Rattle.sf_behaviour.specs.Answering.{HasAnswers, IsBehaviour, answer_with}
 pub use Rattle.sf_behaviour.specs.Combining.{IsBitwise, IsDigit, combined, moved, shift_of, shifted_by, tested_bits}
-pub use Rattle.sf_behaviour.specs.Effects.{IsEffect, IsEffectOf, divides, effect_progress, operand_in, places_after, return_progress, set_progress, source_in, source_number, unmet}
+pub use Rattle.sf_behaviour.specs.Effects.{IsEffectOf, divides, effect_progress, operand_in, places_after, return_progress, set_progress, source_in, source_number, unmet}
 pub use Rattle.sf_behaviour.specs.InputBits.{input_bits, input_by, input_first, input_number, places_of_words, words_in_order}
 pub use Rattle.sf_behaviour.specs.Knowledge.{Fits, IsInputWord, IsKnowledge, IsLess, Known, held_in, known_word}
-pub use Rattle.sf_behaviour.specs.Registers.{A, IsRegister, X, next_with, register_bit, register_by, register_first, register_number, registers_of, start_bits, with_register}
+pub use Rattle.sf_behaviour.specs.Registers.{A, IsRegister, X, next_with, register_bit, register_by, register_first, register_number, registers_of, with_register}
 pub use Rattle.sf_behaviour.specs.Replacing.{AreReplaced, IsReplaced}
 pub use Rattle.sf_behaviour.specs.Telling.{AreKnown, AreSteps, IsAfter, IsCarried, IsMet, IsNext, IsPlace, IsSetTo, IsStep, TellFrom, Tells, insns_of, known_of}
 pub use Rattle.sf_behaviour.specs.Words.{IsDiagramOf, IsTruth, IsTruthOf, IsWord, IsWordOf, word_value}

@@ -1,5 +1,5 @@
 -- A diagram that is chosen by a test, and what operations, loads and stores do to a state.
-use Rattle.sf_behaviour.proofs.Common.{◌≡◌, ℕ, suc, ◌+◌, ◌<◌, ◌==◌, Bool, true, false, List, [], ◌∷◌, length, Option, Some, None, refl, ap, ◌∙◌, arith, slice_get, if◌then◌else◌, Input, Insn, apply, Operand, State, Tree, Bits, value, tree_at, KeepsTrees, A, next_with, register_number, set_progress, effect_progress, IsEffectOf, IsDiagramOf, IsTruthOf, Sets, Source, unwrap_or, unwrap_or-slice_get, BinOp, Div, successors, goes, returns, insn_progress, load_progress, operation_progress, store_progress, IsChosen, IsEffect, unmet, Result}
+use Rattle.sf_behaviour.proofs.Common.{◌≡◌, ℕ, suc, ◌+◌, ◌<◌, ◌==◌, Bool, true, false, List, [], ◌∷◌, length, Option, Some, None, refl, ap, ◌∙◌, arith, slice_get, if◌then◌else◌, Input, apply, Operand, State, Tree, Bits, value, tree_at, KeepsTrees, A, next_with, register_number, set_progress, effect_progress, IsDiagramOf, IsTruthOf, Sets, unwrap_or, unwrap_or-slice_get, BinOp, Div, goes, returns, load_progress, operation_progress, store_progress, IsChosen, unmet, Result}
 use Rattle.sf_check.specs.declared.insn.Operand.TheVariants.{X as OfX}
 use Rattle.sf_behaviour.proofs.ReplacingLemmas.{choice-if}
 
@@ -13,12 +13,6 @@ chosen-diagram ts us vs f passed one_way other_way id k l m truth within h = rec
   values = λ bits. h.values bits ∙ rw (truth.values bits, k.same one_way l, k.same other_way m)
       (choice-if (f bits) (value (tree_at ts one_way) bits) (value (tree_at ts other_way) bits));
 }
-
--- the effect of an instruction that sets a register and goes on to the next place
-pub effect-by : {i : Insn} {r : ℕ} {source : Source}
-    → ((d : Input) (s : State) → unmet (insn_progress d s i) ≡ effect_progress d s (Sets r source))
-    → ((at : ℕ) → successors at i ≡ (at + 1) ∷ []) → IsEffect (Sets r source) → IsEffectOf i (Sets r source)
-effect-by does leads there = record { does = does; leads = leads; there = there }
 
 -- what an operation does to a state
 pub alu-does : (op : BinOp) (other : Operand) (d : Input) (s : State)

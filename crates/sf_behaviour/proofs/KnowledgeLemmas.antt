@@ -1,19 +1,14 @@
 -- What registers are known to have, from place to place.
-use Rattle.sf_behaviour.proofs.Common.{◌≡◌, ℕ, ◌<◌, ◌^◌, List, length, length-set, replicate, Option, Some, None, refl, sym, ap, ap₂, ◌∙◌, inl, inr, arith, slice_index, slice_set, same_Some, get_or-set_same, get_or-set_other, cases_eq, apply, negation_of, Operand, Tree, Bits, KeepsTrees, State, start, input_by, A, X, IsRegister, with_register, start_bits, next_with, Known, known_word, held_in, IsInputWord, IsKnowledge, IsLess, source_number, operand_in, source_in, word_value, IsWord, Word, Source, MatchOption, ext_get_or, operand_of, Fits, Held, Negation, Result}
+use Rattle.sf_behaviour.proofs.Common.{◌≡◌, ℕ, ◌<◌, ◌^◌, List, length, length-set, replicate, Option, Some, None, refl, sym, ap, ap₂, ◌∙◌, inl, inr, arith, slice_index, slice_set, same_Some, get_or-set_same, get_or-set_other, cases_eq, apply, negation_of, Operand, Tree, Bits, KeepsTrees, State, input_by, A, X, IsRegister, with_register, next_with, Known, known_word, held_in, IsInputWord, IsKnowledge, IsLess, source_number, operand_in, source_in, word_value, IsWord, Word, Source, set-get_or, operand_of, Fits, Held, Negation, Result}
 use Rattle.sf_check.specs.declared.insn.Operand.TheVariants.{Constant as Fixed, X as OfX}
 use Rattle.sf_behaviour.specs.declared.effects.Source.TheVariants.{Constant, Word as InputWord}
 use Rattle.sf_behaviour.proofs.WordLemmas.{set-each, word-kept, word-small, number-kept}
-use Rattle.sf_behaviour.proofs.VariableLemmas.{with-register-own, with-register-other, start-register, none-there, number-after, number-elsewhere, start-number, start-there}
+use Rattle.sf_behaviour.proofs.VariableLemmas.{with-register-own, with-register-other, none-there, number-after, number-elsewhere}
 
 -- a register has the word that was set
 pub set-own : (k : Known) (r : ℕ) (word : Option Word) → IsRegister r → length k ≡ 18
     → known_word (slice_set k r word) r ≡ word
 set-own k r word there count = get_or-set_same k r word None (omega (arith, there, count))
-
--- the others keep theirs
-pub set-other : (k : Known) (r q : ℕ) (word : Option Word) → (q ≡ r → ⊥)
-    → known_word (slice_set k r word) q ≡ known_word k q
-set-other k r q word ne = get_or-set_other k r q word None ne
 
 -- the variables of one register do not change the number of another one
 in-with : (ts : List Tree) (k : Known) (r q n : ℕ) (bits : Bits) → IsKnowledge ts k → IsRegister r → (q ≡ r → ⊥)
@@ -32,7 +27,7 @@ pub fits-set : (ts : List Tree) (k : Known) (bits : Bits) (s : State) (r n : ℕ
     → Fits ts k bits s → Fits ts (slice_set k r word) (with_register r n bits) (next_with s r n)
 fits-set ts k bits s r n word knows there small is fits q m e = elim (cases_eq q r) [
   | inl same ↦ rw same (number-after s r n m (rw same at e) ∙ sym (by word refl))
-  | inr ne ↦ rw (set-other k r q word ne)
+  | inr ne ↦ rw (get_or-set_other k r q word None ne)
       (fits q m (sym (number-elsewhere s r q n ne) ∙ e) ∙ sym (in-with ts k r q n bits knows there ne))
 ]
   where
@@ -47,7 +42,7 @@ pub fits-less : (ts : List Tree) (k : Known) (bits : Bits) (s : State) (r : ℕ)
 fits-less ts k bits s r w knows there unknown word fits q m e = elim (cases_eq q r) [
   | inl same ↦ rw (same, unknown) ((rw (set-own k r (Some w) there knows.count) at (fits r m (rw same at e)))
       ∙ sym (with-register-own r (word_value ts w.bits bits) bits (word-small bits word)))
-  | inr ne ↦ (rw (set-other k r q (Some w) ne) at (fits q m e))
+  | inr ne ↦ (rw (get_or-set_other k r q (Some w) None ne) at (fits q m e))
       ∙ sym (in-with ts k r q (word_value ts w.bits bits) bits knows there ne)
 ]
 
@@ -94,9 +89,6 @@ source-kept bits (Result op other) keeps h =
 
 -- ---- numbers of sources
 
-pub a-in : (ts : List Tree) (k : Known) (bits : Bits) (s : State) → Fits ts k bits s → s.a ≡ held_in ts k bits A
-a-in ts k bits s fits = fits A s.a refl
-
 pub operand-in : (ts : List Tree) (k : Known) (bits : Bits) (s : State) (other : Operand) → Fits ts k bits s
     → operand_of s other ≡ operand_in ts k bits other
 operand-in ts k bits s (Fixed n) fits = refl
@@ -108,21 +100,10 @@ pub source-in : (ts : List Tree) (k : Known) (bits : Bits) (s : State) (source :
 source-in ts k bits s (Constant m) n fits e = sym (same_Some m n e)
 source-in ts k bits s (InputWord i) n fits e = sym (same_Some (slice_index (input_by bits).words i) n e)
 source-in ts k bits s (Held r) n fits e = fits r n e
-source-in ts k bits s Negation n fits e = sym (same_Some (negation_of s.a) n e) ∙ ap negation_of (a-in ts k bits s fits)
+source-in ts k bits s Negation n fits e = sym (same_Some (negation_of s.a) n e) ∙ ap negation_of (fits A s.a refl)
 source-in ts k bits s (Result op other) n fits e =
     sym (same_Some (apply op s.a (operand_of s other)) n e)
-    ∙ ap₂ (apply op) (a-in ts k bits s fits) (operand-in ts k bits s other fits)
-
--- ---- the start
-
-pub start-fits : (ts : List Tree) (k : Known) (bits : Bits)
-    → ((r : ℕ) (w : Word) → known_word k r ≡ Some w → word_value ts w.bits (start_bits bits) ≡ 0)
-    → Fits ts k (start_bits bits) start
-start-fits ts k bits nought r n e = start-number r n e ∙ by (known_word k r) refl
-  where
-    by : (o : Option Word) → known_word k r ≡ o → 0 ≡ held_in ts k (start_bits bits) r
-    by (Some w) f = rw f (sym (nought r w f))
-    by None f = rw f (sym (start-register r bits (start-there r n e)))
+    ∙ ap₂ (apply op) (fits A s.a refl) (operand-in ts k bits s other fits)
 
 -- ---- what is known more, and less
 
@@ -149,16 +130,6 @@ no_word = None
 pub nothing-less : (k : Known) → IsLess (replicate 18 no_word) k
 nothing-less k r w e = absurd (none-there no_word 18 r w refl e)
 
-pub same-known : (k l : Known) → length k ≡ 18 → length l ≡ 18
-    → ((r : ℕ) → IsRegister r → known_word k r ≡ known_word l r) → k ≡ l
-same-known k l ck cl same = ext_get_or None k l (ck ∙ sym cl) (λ r inside. same r (omega (arith, inside, ck)))
-
--- the word that one knows of a register of which the other knows none
-pub known-already : (k l : Known) (r : ℕ) (v : Word) → IsLess k l → Some v ≡ known_word k r
-    → known_word l r ≡ known_word k r
-known-already k l r v less has = less r v (sym has) ∙ has
-
-pub known-else : (k l : Known) (r : ℕ) (o : Option Word) → None ≡ known_word k r → o ≡ known_word l r
-    → MatchOption o (known_word l r ≡ known_word k r) (λ w. (known_word l r ≡ Some w) × (known_word k r ≡ None))
-known-else k l r None none is = sym is ∙ none
-known-else k l r (Some v) none is = (sym is, sym none)
+-- what is known stays if a register is set to the word that it has
+pub set-same : (k : Known) (r : ℕ) {word : Option Word} → word ≡ known_word k r → k ≡ slice_set k r word
+set-same k r same = sym (ap (λ (o : Option Word). slice_set k r o) same ∙ set-get_or k r None)

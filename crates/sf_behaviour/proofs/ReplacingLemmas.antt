@@ -1,25 +1,5 @@
 -- Diagrams in which a word stands in the place of a register.
-use Rattle.sf_behaviour.proofs.Common.{◌≡◌, ℕ, ◌<◌, ◌≤◌, ◌^◌, Bool, true, false, Some, None, List, length, refl, sym, ap, subst, ◌∙◌, inl, inr, arith, slice_index, if◌then◌else◌, bit_at, bit_at-lt, cases_eq, Tree, Leaf, Fork, Bits, value, tree_at, KeepsTrees, chosen_of, IsTruthOf, IsWordOf, with_register, start_bits, IsReplaced, BTreeMap, get, is_at, Updates, IsEmpty, lookup, nat_cmp, nat_tests, IsOrderedTree, IsChosen, register_bit, AreReplaced, value_from}
-use Rattle.sf_behaviour.proofs.WordLemmas.{bit-of, truth-of-same}
-use Rattle.sf_behaviour.proofs.BitLemmas.{bit-if, literal-truth}
-use Rattle.sf_behaviour.proofs.VariableLemmas.{ordered-from, with-own, with-other, start-low, start-high}
-
--- ---- what stands in the place of a variable
-
--- a bit of the word that stands in the place of the register
-pub bit-given : (r : ℕ) (f : Bits → ℕ) (ts : List Tree) (by : List ℕ) (v i : ℕ) → IsWordOf ts by f
-    → register_bit r v ≡ Some i → i < 32
-    → IsTruthOf ts (slice_index by i) (λ bits. if with_register r (f bits) bits v then 1 else 0)
-bit-given r f ts by v i h e few = truth-of-same (bit-of i h few) (λ bits.
-    sym (ap (λ (b : Bool). if b then 1 else 0) (with-own r (f bits) i v bits e)
-    ∙ bit-if (bit_at (f bits) i) (bit_at-lt (f bits) i)))
-
--- a variable that is none of the register's
-pub bit-other : (r : ℕ) (f : Bits → ℕ) (us : List Tree) (id v : ℕ) → id < length us
-    → tree_at us id ≡ Fork v (Leaf 0) (Leaf 1) → register_bit r v ≡ None
-    → IsTruthOf us id (λ bits. if with_register r (f bits) bits v then 1 else 0)
-bit-other r f us id v l e none = truth-of-same (literal-truth us id v l e)
-    (λ bits. ap (λ (b : Bool). if b then 1 else 0) (sym (with-other r (f bits) v bits none)))
+use Rattle.sf_behaviour.proofs.Common.{◌≡◌, ℕ, ◌<◌, ◌^◌, Bool, true, false, Some, None, List, length, refl, sym, ap, subst, ◌∙◌, inl, inr, arith, if◌then◌else◌, cases_eq, Tree, Fork, Bits, value, tree_at, KeepsTrees, chosen_of, IsTruthOf, with_register, IsReplaced, BTreeMap, get, is_at, Updates, IsEmpty, lookup, nat_cmp, nat_tests, IsChosen, AreReplaced}
 
 -- ---- one diagram
 
@@ -38,18 +18,6 @@ pub replaced-value : {r : ℕ} {ts us : List Tree} {f : Bits → ℕ} {id new : 
     → value (tree_at us new) bits ≡ value (tree_at ts id) (with_register r (f bits) bits)
 replaced-value {r} {f} {id} bits k within h =
     h.values bits ∙ ap (λ (t : Tree). value t (with_register r (f bits) bits)) (k.same id within)
-
--- a fork whose variable is greater than each of the register's has no register
-pub replaced-past : (r : ℕ) (ts : List Tree) (f : Bits → ℕ) (id v : ℕ) (l h : Tree) → id < length ts
-    → tree_at ts id ≡ Fork v l h → IsOrderedTree (tree_at ts id)
-    → ((w : ℕ) → v ≤ w → register_bit r w ≡ None) → IsReplaced r ts f id id
-replaced-past r ts f id v l h within e ordered none =
-    record {
-      id_within = within;
-      within = within;
-      values = λ bits. value_from (tree_at ts id) v (ordered-from v e ordered (omega arith)) bits
-          (with_register r (f bits) bits) (λ w le. sym (with-other r (f bits) w bits (none w le)));
-    }
 
 pub choice-if : (b : Bool) (p q : ℕ) → chosen_of (if b then 1 else 0) p q ≡ (if b then p else q)
 choice-if true p q = refl
@@ -112,14 +80,3 @@ all-put {r} {ts} {f} n {id} {new} put h one = record {
     | inr ne ↦ h.each q made (sym (put.2 q (other-key id q ne)) ∙ at)
   ];
 }
-
--- ---- registers that are 0
-
-pub start-lower : (v : ℕ) (l h : Tree) (bits : Bits) → v < 576
-    → value (Fork v l h) (start_bits bits) ≡ value l (start_bits bits)
-start-lower v l h bits less = rw (start-low bits v less) refl
-
-pub start-stays : (t : Tree) (v : ℕ) (l h : Tree) (bits : Bits) → t ≡ Fork v l h → IsOrderedTree t → 576 ≤ v
-    → value t bits ≡ value t (start_bits bits)
-start-stays t v l h bits e ordered more =
-    value_from t 576 (ordered-from 576 e ordered more) bits (start_bits bits) (λ w le. sym (start-high bits w le))

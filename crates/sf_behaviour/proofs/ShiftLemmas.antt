@@ -1,23 +1,15 @@
 -- Words whose bits are moved, and their products, bit by bit.
 use Rattle.sf_behaviour.proofs.Common.{◌≡◌, ℕ, zero, suc, ◌+◌, ◌-◌, ◌*◌, ◌/◌, ◌%◌, ◌<◌, ◌≤◌, ◌^◌, List, length, refl, sym, ap, ◌∙◌, inl, inr, arith, slice_index, bit_at, cases_lt, lt-ltb, le-ltb, pow_pos, pow-add, bit_at-lt, bit_at_cat_low, apply, Tree, Bits, chosen_of, IsTruthOf, IsWordOf, moved, pow-le-pow_right, div-add-mod', mul-mod_first, shr-shr, shr_le, bit_at-zero, bit_at_above, bit_at_cat_high, shift_of, shifted_by, Direction, Left, Right, add-mod, mod-mod, Mul}
 use Rattle.sf_behaviour.proofs.WordLemmas.{bit-of, number-small, truth-of-same, word-made}
-use Rattle.sf_behaviour.proofs.BitLemmas.{low-more}
+use Rattle.sf_behaviour.proofs.BitLemmas.{low-all, low-more, low-none}
 
 -- ---- bits of shifted numbers
 
-low-bit : (m i : ℕ) → i < 32 → bit_at (m % 2 ^ 32) i ≡ bit_at m i
-low-bit m i l = sym (bit_at_cat_low (m / 2 ^ 32) 32 (m % 2 ^ 32) i l)
-    ∙ ap (λ (n : ℕ). bit_at n i) (div-add-mod' m (2 ^ 32))
-
-left-low : (a by i : ℕ) → i < by → i < 32 → bit_at ((a * 2 ^ by) % 2 ^ 32) i ≡ 0
-left-low a by i less l =
+left-bit : (a by i : ℕ) → i < 32 → bit_at ((a * 2 ^ by) % 2 ^ 32) i ≡ bit_at (a * 2 ^ by + 0) i
+left-bit a by i l =
     let clean : a * 2 ^ by ≡ a * 2 ^ by + 0 = omega arith in
-    low-bit (a * 2 ^ by) i l ∙ ap (λ (n : ℕ). bit_at n i) clean ∙ bit_at_cat_low a by 0 i less ∙ bit_at-zero i
-
-left-high : (a by i : ℕ) → by ≤ i → i < 32 → bit_at ((a * 2 ^ by) % 2 ^ 32) i ≡ bit_at a (i - by)
-left-high a by i more l =
-    let clean : a * 2 ^ by ≡ a * 2 ^ by + 0 = omega arith in
-    low-bit (a * 2 ^ by) i l ∙ ap (λ (n : ℕ). bit_at n i) clean ∙ bit_at_cat_high a by 0 i (pow_pos by) more
+    sym (bit_at_cat_low (a * 2 ^ by / 2 ^ 32) 32 ((a * 2 ^ by) % 2 ^ 32) i l)
+    ∙ ap (λ (n : ℕ). bit_at n i) (div-add-mod' (a * 2 ^ by) (2 ^ 32) ∙ clean)
 
 right-bit : (a by i : ℕ) → bit_at (a / 2 ^ by) i ≡ bit_at a (by + i)
 right-bit a by i = ap (λ (n : ℕ). n % 2) (shr-shr a by i)
@@ -28,9 +20,10 @@ moved-truth : (d : Direction) {ts : List Tree} {ids : List ℕ} {f : Bits → �
     → IsWordOf ts ids f → IsTruthOf ts z (λ bits. 0) → i < 32
     → IsTruthOf ts (moved d ids by z i) (λ bits. bit_at (shifted_by d (f bits) by) i)
 moved-truth Left {f} by i w h l = elim (cases_lt i by) [
-  | inl less ↦ rw (lt-ltb i by less) (truth-of-same h (λ bits. sym (left-low (f bits) by i less l)))
-  | inr more ↦ rw (le-ltb i by more)
-      (truth-of-same (bit-of (i - by) w (omega arith)) (λ bits. sym (left-high (f bits) by i more l)))
+  | inl less ↦ rw (lt-ltb i by less) (truth-of-same h (λ bits.
+      sym (left-bit (f bits) by i l ∙ bit_at_cat_low (f bits) by 0 i less ∙ bit_at-zero i)))
+  | inr more ↦ rw (le-ltb i by more) (truth-of-same (bit-of (i - by) w (omega arith)) (λ bits.
+      sym (left-bit (f bits) by i l ∙ bit_at_cat_high (f bits) by 0 i (pow_pos by) more)))
 ]
 moved-truth Right {f} by i w h l = elim (cases_lt (by + i) 32) [
   | inl less ↦ rw (lt-ltb (by + i) 32 less)
@@ -73,14 +66,7 @@ shift-more d a m (suc zero) p l =
 shift-more d a m (suc (suc b)) p l = absurd (omega arith)
 
 pub few-places : (i p : ℕ) → i < 5 → p ≡ 2 ^ i → p ≤ 32
-few-places i p l e =
-    let two : 0 < 2 = omega arith in
-    let most : i ≤ 5 = omega arith in
-    let bound : 2 ^ i ≤ 2 ^ 5 = pow-le-pow_right {n = 2} two {i = i} {j = 5} most in
-    omega (arith, e, bound)
-
-pub more-places : (i p : ℕ) → p ≡ 2 ^ i → 2 * p ≡ 2 ^ (i + 1)
-more-places i p e = omega (arith, e, pow-add 2 i 1)
+few-places i p l e = omega (arith, e, pow-le-pow_right {n = 2} (omega arith) {i = i} {j = 5} (omega arith))
 
 shift-none : (d : Direction) (a : ℕ) → a < 2 ^ 32 → a ≡ shifted_by d a 0
 shift-none Left a l = omega arith
@@ -88,9 +74,7 @@ shift-none Right a l = omega arith
 
 -- before the first bit, with one more bit, and behind the last one
 pub shift-begun : (d : Direction) (a b : ℕ) → a < 2 ^ 32 → a ≡ shifted_by d a (b % 2 ^ 0)
-shift-begun d a b l =
-    let none : 0 ≡ b % 2 ^ 0 = omega arith in
-    shift-none d a l ∙ ap (shifted_by d a) none
+shift-begun d a b l = shift-none d a l ∙ ap (shifted_by d a) (low-none b)
 
 pub shift-step : (d : Direction) (n a b p : ℕ) → p ≡ 2 ^ n
     → chosen_of (bit_at b n) (shifted_by d (shifted_by d a (b % 2 ^ n)) p) (shifted_by d a (b % 2 ^ n))
@@ -121,9 +105,8 @@ product-more a m (suc (suc b)) p l = absurd (omega arith)
 -- before the first bit, with one more bit, and behind the last one
 pub product-begun : (a b : ℕ) → 0 ≡ (a * (b % 2 ^ 0)) % 2 ^ 32
 product-begun a b =
-    let none : 0 ≡ b % 2 ^ 0 = omega arith in
     let empty : 0 ≡ (a * 0) % 2 ^ 32 = omega arith in
-    empty ∙ ap (λ (m : ℕ). (a * m) % 2 ^ 32) none
+    empty ∙ ap (λ (m : ℕ). (a * m) % 2 ^ 32) (low-none b)
 
 pub product-step : (n a b : ℕ)
     → ((a * (b % 2 ^ n)) % 2 ^ 32 + chosen_of (bit_at b n) ((a * 2 ^ n) % 2 ^ 32) 0) % 2 ^ 32
@@ -132,6 +115,4 @@ product-step n a b =
     product-more a (b % 2 ^ n) (bit_at b n) (2 ^ n) (bit_at-lt b n) ∙ ap (λ (m : ℕ). (a * m) % 2 ^ 32) (low-more b n)
 
 pub product-made : (n a b : ℕ) → n ≡ 32 → b < 2 ^ 32 → (a * (b % 2 ^ n)) % 2 ^ 32 ≡ apply Mul a b
-product-made n a b e l =
-    let all : b % 2 ^ 32 ≡ b = omega arith in
-    ap (λ (m : ℕ). (a * (b % 2 ^ m)) % 2 ^ 32) e ∙ ap (λ (m : ℕ). (a * m) % 2 ^ 32) all
+product-made n a b e l = ap (λ (m : ℕ). (a * m) % 2 ^ 32) (low-all n b e l)

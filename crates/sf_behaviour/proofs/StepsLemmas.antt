@@ -1,43 +1,38 @@
 -- Steps, the places to which they lead, and the diagrams of the last places.
-use Rattle.sf_behaviour.proofs.Common.{◌≡◌, ℕ, zero, suc, ◌+◌, ◌<◌, ◌≤◌, List, [], ◌∷◌, ◌++◌, length, Option, Some, None, refl, sym, ap, ap₂, subst, ◌∙◌, inl, inr, arith, Contains, slice_get, slice_index, slice_set, cases_lt, length-map, length-set, same_Some, Insn, IsLawfulProgram, Tree, value, tree_at, KeepsTrees, insns_of, AreSteps, Tells, TellFrom, return_of, input_by, IsDiagramOf, places_after, IsEffectOf, Known, IsKnowledge, start_bits, Step, Effect, Sets, Tests, ◌⊎◌, length-append, get_or, take, get_or_push, get_or_append_left, map-append, take_more, slice_get-get_or, slice_get_within, get_or_from_slice_get, contains_cons, contains_nil, IsAt, IsStep, IsAfter, Skips, Returns, effect_progress, successors, below_in, successors_inside, IsNext, IsPlace}
-use Rattle.sf_behaviour.proofs.WordLemmas.{number-kept, set-each, word-of-kept, word-of-same}
-use Rattle.sf_behaviour.proofs.KnowledgeLemmas.{input-word-kept, knowledge-kept, set-knowledge, source-kept}
+use Rattle.sf_behaviour.proofs.Common.{◌≡◌, ℕ, zero, suc, ◌+◌, ◌<◌, List, [], ◌∷◌, ◌++◌, length, Option, Some, None, refl, sym, ap, subst, ◌∙◌, inl, inr, arith, Contains, slice_get, slice_index, slice_set, cases_lt, length-map, length-set, same_Some, Insn, IsLawfulProgram, Tree, KeepsTrees, insns_of, AreSteps, Tells, TellFrom, return_of, input_by, IsDiagramOf, places_after, IsEffectOf, Known, IsKnowledge, Step, Effect, Sets, Tests, ◌⊎◌, length-append, get_or, get_or_push, get_or_append_left, slice_get-get_or, slice_get_within, get_or_from_slice_get, contains_cons, contains_here, contains_nil, IsAt, IsStep, IsAfter, Skips, Returns, effect_progress, successors, below_in, successors_inside, IsNext, IsPlace}
+use Rattle.sf_behaviour.proofs.WordLemmas.{set-each, word-of-kept, word-of-same}
+use Rattle.sf_behaviour.proofs.KnowledgeLemmas.{in-kept, input-word-kept, knowledge-kept, set-knowledge, source-kept}
 use Rattle.sf_behaviour.proofs.TellLemmas.{tells-kept, tells-program, Follows, tells-step}
 
-module _ {B : Type 0} where
-  -- what an index gives
-  pub element-at : (xs : List B) (i : ℕ) (x : B) → i < length xs → x ≡ get_or xs i x → slice_get xs i ≡ Some x
-  element-at xs i x l is = slice_get-get_or xs i x l ∙ ap (λ (z : B). Some z) (sym is)
-
-  -- an element of a list with one more at its end
-  pub at-push : (xs : List B) (x y : B) (i : ℕ) → slice_get (xs ++ x ∷ []) i ≡ Some y
-      → ((i < length xs) × (slice_get xs i ≡ Some y)) ⊎ ((i ≡ length xs) × (x ≡ y))
-  at-push xs x y i e = elim (cases_lt i (length xs)) [
-    | inl lt ↦
-        let same : get_or xs i x ≡ y
-        = sym (get_or_append_left xs (x ∷ []) x i lt) ∙ get_or_from_slice_get (xs ++ x ∷ []) i y x e in
-        inl (lt, slice_get-get_or xs i x lt ∙ ap (λ (z : B). Some z) same)
-    | inr ge ↦
-        let within : i < length (xs ++ x ∷ []) = slice_get_within (xs ++ x ∷ []) i y e in
-        let here : length xs ≡ i = omega (arith, length-append xs (x ∷ [])) in
-        inr (sym here, sym (get_or_push xs x x i here) ∙ get_or_from_slice_get (xs ++ x ∷ []) i y x e)
-  ]
+-- an element of a list with one more at its end
+pub at-push : {B : Type 0} (xs : List B) (x y : B) (i : ℕ) → slice_get (xs ++ x ∷ []) i ≡ Some y
+    → ((i < length xs) × (slice_get xs i ≡ Some y)) ⊎ ((i ≡ length xs) × (x ≡ y))
+at-push xs x y i e = elim (cases_lt i (length xs)) [
+  | inl lt ↦
+      let same : get_or xs i x ≡ y
+      = sym (get_or_append_left xs (x ∷ []) x i lt) ∙ get_or_from_slice_get (xs ++ x ∷ []) i y x e in
+      inl (lt, slice_get-get_or xs i x lt ∙ ap Some same)
+  | inr ge ↦
+      let within : i < length (xs ++ x ∷ []) = slice_get_within (xs ++ x ∷ []) i y e in
+      let here : length xs ≡ i = omega (arith, length-append xs (x ∷ [])) in
+      inr (sym here, sym (get_or_push xs x x i here) ∙ get_or_from_slice_get (xs ++ x ∷ []) i y x e)
+]
 
 -- ---- places to which steps lead
 
+pub first-place : (p : ℕ) (ps : List ℕ) → Contains (p ∷ ps) p
+first-place p ps = contains_here p ps p refl
+
 pub one-place : (p q : ℕ) → Contains (p ∷ []) q → p ≡ q
 one-place p q c = elim (contains_cons p [] q c) [ inl e ↦ e | inr none ↦ absurd (contains_nil q none) ]
-
-pub two-places : (p r q : ℕ) → Contains (p ∷ r ∷ []) q → (p ≡ q) ⊎ (r ≡ q)
-two-places p r q c = elim (contains_cons p (r ∷ []) q c) [ inl e ↦ inl e | inr more ↦ inr (one-place r q more) ]
 
 -- a step leads to later places
 pub leads-later : (at q : ℕ) (e : Effect) → Contains (places_after at e) q → at < q
 leads-later at q (Sets r source) c = let e : at + 1 ≡ q = one-place (at + 1) q c in omega arith
 leads-later at q (Skips n) c = let e : at + 1 + n ≡ q = one-place (at + 1 + n) q c in omega arith
-leads-later at q (Tests test other t f) c = elim (two-places (at + 1 + t) (at + 1 + f) q c) [
+leads-later at q (Tests test other t f) c = elim (contains_cons (at + 1 + t) ((at + 1 + f) ∷ []) q c) [
   | inl e ↦ omega arith
-  | inr e ↦ omega arith
+  | inr more ↦ omega (arith, one-place (at + 1 + f) q more)
 ]
 leads-later at q (Returns source) c = absurd (contains_nil q c)
 
@@ -94,8 +89,7 @@ pub steps-kept : {ts us : List Tree} {steps : List Step} → KeepsTrees ts us �
 steps-kept keeps h = record {
   each = λ place step at. step-kept keeps (h.each place step at);
   less = h.less;
-  start = λ step r w bits at known. number-kept bits keeps ((h.each 0 step at).known.each r w known).word
-      ∙ h.start step r w bits at known;
+  start = λ step r bits at there. in-kept bits r keeps (h.each 0 step at).known ∙ h.start step r bits at there;
 }
 
 -- ---- the diagrams of places
@@ -122,16 +116,6 @@ from-more ts us steps ids first place id now e keeps are h here new = record {
       (λ ne s at. (from-kept keeps are h).each q s (omega arith) at) step there;
 }
 
--- no place
-pub from-none : (ts : List Tree) (steps : List Step) (ids : List ℕ) (first : ℕ) → length ids ≡ length steps
-    → length steps ≤ first → TellFrom ts steps ids first
-from-none ts steps ids first count past = record {
-  count = count;
-  each = λ place step low there.
-      let within : place < length steps = slice_get_within steps place step there in
-      absurd (omega arith);
-}
-
 pub steps-some : (steps : List Step) (program : List Insn) → insns_of steps ≡ program → 0 < length program
     → 0 < length steps
 steps-some steps program code some =
@@ -148,23 +132,15 @@ first-tells {ts} (s ∷ steps) first e some h is = (
   subst (λ (x : ℕ). Tells (insns_of (s ∷ steps)) 0 ts s.known x) (sym is) (h.each 0 s (omega arith) refl),
 )
 
--- with all registers 0 it has the number that the program returns
-pub program-diagram : (program : List Insn) (ts : List Tree) (steps : List Step) (ids : List ℕ) (first id new : ℕ)
+-- it has the number that the program returns
+pub program-diagram : (program : List Insn) (ts : List Tree) (steps : List Step) (ids : List ℕ) (first id : ℕ)
     → first ≡ 0 → insns_of steps ≡ program → IsLawfulProgram program → AreSteps ts steps → TellFrom ts steps ids first
-    → id ≡ slice_index ids 0 → IsDiagramOf ts new (λ bits. value (tree_at ts id) (start_bits bits))
-    → IsDiagramOf ts new (λ bits. return_of program (input_by bits))
-program-diagram program ts steps ids first id new e code lawful are h is at_start =
+    → id ≡ slice_index ids 0 → IsDiagramOf ts id (λ bits. return_of program (input_by bits))
+program-diagram program ts steps ids first id e code lawful are h is =
     let t = first-tells steps first e (steps-some steps program code lawful.some) h is in
-    subst (λ (c : List Insn). IsDiagramOf ts new (λ bits. return_of c (input_by bits))) code (tells-program
+    subst (λ (c : List Insn). IsDiagramOf ts id (λ bits. return_of c (input_by bits))) code (tells-program
     (subst (λ (c : List Insn). IsLawfulProgram c) (sym code) lawful) t.2
-    (λ r v bits known. are.start t.0 r v bits t.1 known) at_start)
-
--- the instructions of steps, one by one
-pub code-more : (steps : List Step) (new : Step) (insns : List Insn) (i : ℕ) (d : Insn) → insns_of steps ≡ take i insns
-    → i < length insns → new.insn ≡ get_or insns i d → insns_of (steps ++ new ∷ []) ≡ take (i + 1) insns
-code-more steps new insns i d code l is =
-    map-append (λ (s : Step). s.insn) steps (new ∷ [])
-    ∙ ap₂ (λ (xs : List Insn) (x : Insn). xs ++ x ∷ []) code is ∙ sym (take_more insns i d l)
+    (λ r bits there. are.start t.0 r bits t.1 there))
 
 pub this-step : {ts : List Tree} {steps : List Step} {ids : List ℕ} {place : ℕ} {step : Step}
     → IsPlace ts steps ids place step → IsStep ts step

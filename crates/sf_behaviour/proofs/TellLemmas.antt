@@ -1,9 +1,9 @@
 -- What a diagram tells of the runs from a place, by what the diagrams of the places behind tell.
-use Rattle.sf_behaviour.proofs.Common.{◌≡◌, ℕ, zero, suc, ◌+◌, ◌<◌, ◌==◌, ◌^◌, Bool, true, false, List, [], length, Option, Some, None, refl, sym, ap, ap₂, subst, ◌∙◌, arith, ◌&&◌, slice_set, if◌then◌else◌, same_Some, Input, Test, passes, Insn, Operand, IsLawfulProgram, Tree, Bits, value, tree_at, KeepsTrees, State, start, return_of, input_by, A, X, IsRegister, start_bits, next_with, with_register, Known, known_word, held_in, IsInputWord, IsKnowledge, IsLess, divides, source_number, operand_in, source_in, set_progress, effect_progress, IsEffectOf, Tells, IsReplaced, word_value, IsDiagramOf, Effect, Tests, Source, Word, IsSome, IsAt, Progress, goes, returns, stuck, operand_of, insn_progress, Outcome, outcome_from, put, option_map_some, step_is, safe_start, ends_from, value_is, Fits, return_progress, unmet, IsSetTo}
+use Rattle.sf_behaviour.proofs.Common.{◌≡◌, ℕ, zero, suc, ◌+◌, ◌<◌, ◌==◌, ◌^◌, Bool, true, false, List, [], length, Option, Some, None, refl, sym, ap, ap₂, subst, ◌∙◌, arith, ◌&&◌, slice_set, if◌then◌else◌, same_Some, Input, Test, passes, Insn, Operand, IsLawfulProgram, Tree, Bits, value, tree_at, KeepsTrees, State, start, return_of, input_by, A, X, IsRegister, next_with, with_register, Known, known_word, held_in, IsInputWord, IsKnowledge, IsLess, divides, source_number, operand_in, source_in, set_progress, effect_progress, IsEffectOf, Tells, IsReplaced, word_value, IsDiagramOf, Effect, Tests, Source, Word, IsSome, IsAt, Progress, goes, returns, stuck, operand_of, insn_progress, Outcome, outcome_from, put, option_map_some, step_is, safe_start, ends_from, value_is, Fits, return_progress, unmet, IsSetTo}
 use Rattle.sf_run.specs.Machine.{run_for}
 use Rattle.sf_behaviour.proofs.ReplacingLemmas.{less-if, replaced-value}
-use Rattle.sf_behaviour.proofs.VariableLemmas.{with-register-input, start-input}
-use Rattle.sf_behaviour.proofs.KnowledgeLemmas.{fits-set, fits-less, fits-kept, a-in, operand-in, source-in, start-fits, knowledge-less, set-knowledge}
+use Rattle.sf_behaviour.proofs.VariableLemmas.{with-register-input, start-number, start-there}
+use Rattle.sf_behaviour.proofs.KnowledgeLemmas.{fits-set, fits-less, fits-kept, operand-in, source-in, knowledge-less, set-knowledge}
 
 -- ---- runs
 
@@ -154,7 +154,7 @@ follows-test code place test other t f {ts} {k} {one_way} {other_way} keeps know
       let fits : Fits ts k bits s = fits-kept bits s keeps knows fits' in
       h.values bits
       ∙ ap₂ (λ (a b : ℕ). if passes test a b then value (tree_at ts one_way) bits
-      else value (tree_at ts other_way) bits) (sym (a-in ts k bits s fits)) (sym (operand-in ts k bits s other fits))
+      else value (tree_at ts other_way) bits) (sym (fits A s.a refl)) (sym (operand-in ts k bits s other fits))
       ∙ by bits s v here fits (passes test s.a (operand_of s other)) e;
 }
   where
@@ -185,11 +185,11 @@ follows-return code place source {ts} {k} keeps knows h small = record {
 -- ---- what is known at a place
 
 -- where one register more is known, by what is known in the end
-pub tells-more-known : (ts us : List Tree) (k l : Known) (r : ℕ) (w : Word) (id new : ℕ)
+pub tells-more-known : (r : ℕ) (w : Word) {ts us : List Tree} {k l : Known} {id new : ℕ}
     → KeepsTrees ts us → IsKnowledge ts l → IsLess k l → length k ≡ 18 → IsRegister r → known_word l r ≡ Some w
     → known_word k r ≡ None → IsReplaced r us (word_value ts w.bits) id new
     → (code : List Insn) (place : ℕ) → Tells code place ts k id → Tells code place us (slice_set k r (Some w)) new
-tells-more-known ts us k l r w id new keeps knows less count there has unknown h code place t = record {
+tells-more-known r w {ts} {us} {k} {l} {id} {new} keeps knows less count there has unknown h code place t = record {
   within = h.within;
   small = λ bits. rw (is bits) (t.small (with_register r (number bits) bits));
   values = λ bits s n o here fits e. is bits ∙ t.values (with_register r (number bits) bits) s n o here
@@ -219,20 +219,16 @@ some-is : (o : Outcome) → IsSome o → (p : List Bool × ℕ) × (o ≡ Some p
 some-is None h = absurd cc
 some-is (Some p) h = (p, refl)
 
--- the diagram of place 0, with all registers 0, has the number that the program returns
-pub tells-program : {code : List Insn} {ts : List Tree} {k : Known} {id new : ℕ} → IsLawfulProgram code
-    → Tells code 0 ts k id
-    → ((r : ℕ) (w : Word) (bits : Bits) → known_word k r ≡ Some w → word_value ts w.bits bits ≡ 0)
-    → IsDiagramOf ts new (λ bits. value (tree_at ts id) (start_bits bits))
-    → IsDiagramOf ts new (λ bits. return_of code (input_by bits))
-tells-program {code} {ts} {k} lawful t zero-words h = record {
-  within = h.within;
+-- the diagram of place 0, where all registers are 0, has the number that the program returns
+pub tells-program : {code : List Insn} {ts : List Tree} {k : Known} {id : ℕ} → IsLawfulProgram code
+    → Tells code 0 ts k id → ((r : ℕ) (bits : Bits) → IsRegister r → held_in ts k bits r ≡ 0)
+    → IsDiagramOf ts id (λ bits. return_of code (input_by bits))
+tells-program {code} {ts} {k} lawful t nought = record {
+  within = t.within;
   values = λ bits.
-      let d : Input = input_by (start_bits bits) in
+      let d : Input = input_by bits in
       let end = some-is (run_for (length code) code d start)
       (ends_from (length code) code d start lawful (safe_start code lawful.some) (omega arith)) in
-      h.values bits ∙ t.values (start_bits bits) start (length code) end.0 refl
-      (start-fits ts k bits (λ r w e. zero-words r w (start_bits bits) e)) end.1
-      ∙ value_is (length code) code d end.0 lawful end.1
-      ∙ ap (λ (e : Input). return_of code e) (start-input bits);
+      let fits : Fits ts k bits start = λ r n e. start-number r n e ∙ sym (nought r bits (start-there r n e)) in
+      t.values bits start (length code) end.0 refl fits end.1 ∙ value_is (length code) code d end.0 lawful end.1;
 }

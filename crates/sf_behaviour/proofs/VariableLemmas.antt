@@ -1,7 +1,7 @@
 -- The registers of a state, and their bits and those of the input as variables.
-use Rattle.sf_behaviour.proofs.Common.{◌≡◌, ℕ, zero, suc, ◌<◌, List, length, length-set, replicate, Option, Some, None, refl, sym, ap, ◌∙◌, inl, inr, arith, slice_set, cases_lt, get_or-set_same, get_or-set_other, same_Some, State, start, IsRegister, register_number, next_with, slice_index_or, get_or_past, registers_of, ◌+◌, ◌-◌, ◌*◌, ◌/◌, ◌%◌, ◌≤◌, ◌==◌, ◌^◌, Bool, true, false, [], ◌∷◌, ap₂, subst, map, slice_index, if◌then◌else◌, bit_at, pow-suc, cases_eq, eq-eqb, ne_eqb, lt-ltb, le-ltb, bit_at-lt, bit_at_cat_low, Input, Tree, Leaf, Fork, Bits, IsOrderedFrom, tree_at, input_by, register_by, with_register, start_bits, IsTruthOf, range_with_len, get_or-map-range_with_len, bit_at-zero, IsOrderedTree, input_first, input_number, register_first, register_bit, length-map, agree_below_at, eqb-true, same_number_lists, length-range_with_len, IsInput, places_of_words, words_in_order, input_bits}
+use Rattle.sf_behaviour.proofs.Common.{same_from_bits_below, ◌≡◌, ℕ, zero, suc, ◌<◌, List, length, length-set, replicate, Option, Some, None, refl, sym, ap, ◌∙◌, inl, inr, arith, slice_set, cases_lt, get_or-set_same, get_or-set_other, same_Some, State, start, IsRegister, register_number, next_with, slice_index_or, get_or_past, registers_of, ◌+◌, ◌-◌, ◌*◌, ◌/◌, ◌%◌, ◌≤◌, ◌==◌, ◌^◌, Bool, true, false, [], ◌∷◌, ap₂, subst, map, slice_index, if◌then◌else◌, bit_at, pow-suc, cases_eq, eq-eqb, ne_eqb, bit_at-lt, bit_at_cat_low, Input, Tree, Leaf, Fork, Bits, IsOrderedFrom, tree_at, input_by, register_by, with_register, IsTruthOf, range_with_len, get_or-map-range_with_len, IsOrderedTree, input_first, input_number, register_first, register_bit, length-map, agree_below_at, eqb-true, same_number_lists, length-range_with_len, IsInput, places_of_words, words_in_order, input_bits}
 use Rattle.sf_behaviour.specs.InputBits.{number_by}
-use Rattle.sf_behaviour.proofs.BitLemmas.{low-more, bit-if, if-small, literal-truth}
+use Rattle.sf_behaviour.proofs.BitLemmas.{bit-if, if-small, literal-truth}
 use Rattle.sf_behaviour.proofs.WordLemmas.{top-bit}
 
 module _ {B : Type 0} where
@@ -102,17 +102,12 @@ variable-truth first distance n ts id l within e =
     record { truth = h.truth; values = λ bits. h.values bits ∙ sym (number_by-bit first distance 32 bits n l) }
 
 -- the bits of a number make the number
-pub number_by-is : (first distance n m : ℕ) (bits : Bits)
-    → ((i : ℕ) → i < n → bits (first + distance * (31 - i)) ≡ (bit_at m i == 1))
-    → number_by first distance n bits ≡ m % 2 ^ n
-unfolding number_by
-number_by-is first distance zero m bits is = omega arith
-number_by-is first distance (suc n) m bits is =
-    let next : n + 1 ≡ suc n = omega arith in
-    ap₂ (λ (x : Bool) (y : ℕ). (if x then 1 else 0) * 2 ^ n + y) (is n (omega arith))
-    (number_by-is first distance n m bits (λ i l. is i (omega arith)))
-    ∙ ap (λ (x : ℕ). x * 2 ^ n + m % 2 ^ n) (bit-if (bit_at m n) (bit_at-lt m n))
-    ∙ low-more m n ∙ ap (λ (k : ℕ). m % 2 ^ k) next
+pub number_by-is : (first distance m : ℕ) (bits : Bits) → m < 2 ^ 32
+    → ((i : ℕ) → i < 32 → bits (first + distance * (31 - i)) ≡ (bit_at m i == 1)) → number_by first distance 32 bits ≡ m
+number_by-is first distance m bits small is =
+    same_from_bits_below 32 (number_by first distance 32 bits) m (number_by-small first distance 32 bits) small
+    (λ i l. number_by-bit first distance 32 bits i l ∙ ap (λ (b : Bool). if b then 1 else 0) (is i l)
+    ∙ bit-if (bit_at m i) (bit_at-lt m i))
 
 -- ---- words of the input
 
@@ -194,9 +189,8 @@ with-other r n v bits e = rw e refl
 -- the register has the number then
 pub with-register-own : (r n : ℕ) (bits : Bits) → n < 2 ^ 32 → register_by r (with_register r n bits) ≡ n
 with-register-own r n bits small =
-    let whole : n % 2 ^ 32 ≡ n = omega arith in
-    number_by-is (register_first r) 2 32 n (with_register r n bits)
-    (λ i l. with-own r n i (register_first r + 2 * (31 - i)) bits (own-bit r i l)) ∙ whole
+    number_by-is (register_first r) 2 n (with_register r n bits) small
+    (λ i l. with-own r n i (register_first r + 2 * (31 - i)) bits (own-bit r i l))
 
 -- no other register is changed
 pub with-register-other : (r q n : ℕ) (bits : Bits) → (q ≡ r → ⊥)
@@ -210,21 +204,7 @@ pub with-register-input : (r n : ℕ) (bits : Bits) → IsRegister r → input_b
 with-register-input r n bits there =
     input_by-same (with_register r n bits) bits (λ v l. with-other r n v bits (past-registers r v there l))
 
--- ---- the start
-
-pub start-low : (bits : Bits) (v : ℕ) → v < 576 → start_bits bits v ≡ false
-start-low bits v l = rw (lt-ltb v 576 l) refl
-
-pub start-high : (bits : Bits) (v : ℕ) → 576 ≤ v → start_bits bits v ≡ bits v
-start-high bits v l = rw (le-ltb v 576 l) refl
-
--- at the start all registers are 0 by their variables
-pub start-register : (r : ℕ) (bits : Bits) → IsRegister r → register_by r (start_bits bits) ≡ 0
-start-register r bits there = number_by-is (register_first r) 2 32 0 (start_bits bits)
-    (λ i l. rw (bit_at-zero i) (start-low bits (register_first r + 2 * (31 - i)) (omega arith)))
-
-pub start-input : (bits : Bits) → input_by (start_bits bits) ≡ input_by bits
-start-input bits = input_by-same (start_bits bits) bits (λ v l. start-high bits v l)
+-- ---- inputs by variables
 
 word-at-place : (w : ℕ) → w < 16 → slice_index words_in_order (slice_index places_of_words w) ≡ w
 word-at-place w l = eqb-true (slice_index words_in_order (slice_index places_of_words w)) w
@@ -242,8 +222,7 @@ input-bit d w i lw li =
 
 number-of-word : (d : Input) (w : ℕ) → IsInput d → w < 16 → input_number (input_bits d) w ≡ slice_index d.words w
 number-of-word d w h l =
-    let small : slice_index d.words w % 2 ^ 32 ≡ slice_index d.words w = omega (arith, h.each w) in
-    number_by-is (input_first w) 1 32 (slice_index d.words w) (input_bits d) (λ i li. input-bit d w i l li) ∙ small
+    number_by-is (input_first w) 1 (slice_index d.words w) (input_bits d) (h.each w) (λ i li. input-bit d w i l li)
 
 -- some variables make an input
 pub input-is : (bits : Bits) → IsInput (input_by bits)

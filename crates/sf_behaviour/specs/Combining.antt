@@ -30,7 +30,7 @@ abbrev pub tested_bits : Test → ℕ → ℕ → ℕ → ℕ
 tested_bits Equal a b lower = chosen_of (bit_xor a b) 0 lower
 tested_bits Greater a b lower = chosen_of (bit_xor a b) a lower
 tested_bits GreaterOrEqual a b lower = chosen_of (bit_xor a b) a lower
-tested_bits AnyBit a b lower = bit_or lower (bit_and a b)
+tested_bits AnyBit a b lower = chosen_of (bit_and a b) (bit_and a b) lower
 
 -- one bit of a quotient, and what is left of a rest, by the divisor that is moved to the bit
 pub record IsDigit (rest divisor digit left : ℕ) : Type 0 where

@@ -1,5 +1,5 @@
 -- The registers of a run, and their bits as variables of diagrams.
-use Rattle.std.specs.Prelude.{ℕ, zero, suc, ◌+◌, ◌-◌, ◌*◌, ◌/◌, ◌%◌, ◌<◌, ◌==◌, ◌&&◌, Bool, false, nat_lt, List, ◌∷◌, Option, Some, None, slice_index_or, slice_set, if◌then◌else◌}
+use Rattle.std.specs.Prelude.{ℕ, zero, suc, ◌+◌, ◌-◌, ◌*◌, ◌/◌, ◌%◌, ◌<◌, ◌==◌, ◌&&◌, Bool, List, ◌∷◌, Option, Some, None, slice_index_or, slice_set, if◌then◌else◌}
 use Rattle.std.specs.Int.{bit_at}
 use Rattle.sf_diagram.specs.Trees.{Bits}
 use Rattle.sf_run.specs.Machine.{State}
@@ -36,10 +36,6 @@ with_register r n bits variable = from (register_bit r variable)
     from : Option ℕ → Bool
     from (Some i) = bit_at n i == 1
     from None = bits variable
-
--- the variables with all registers 0
-abbrev pub start_bits : Bits → Bits
-start_bits bits variable = if nat_lt variable 576 then false else bits variable
 
 -- the numbers of a state's registers; None for a scratch word that isn't set
 abbrev pub registers_of : State → List (Option ℕ)

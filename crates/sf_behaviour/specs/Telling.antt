@@ -5,9 +5,10 @@ use Rattle.sf_check.specs.Programs.{IsLawfulProgram}
 use Rattle.sf_run.specs.Machine.{State, run_for}
 use Rattle.sf_diagram.specs.Trees.{Tree, Bits, value}
 use Rattle.sf_diagram.specs.Stores.{tree_at}
-use Rattle.sf_behaviour.specs.Knowledge.{Known, IsInputWord, IsLess, known_word, Fits, IsKnowledge}
+use Rattle.sf_behaviour.specs.Knowledge.{Known, held_in, IsInputWord, IsLess, Fits, IsKnowledge}
 use Rattle.sf_behaviour.specs.Effects.{source_in, places_after, IsEffectOf}
-use Rattle.sf_behaviour.specs.Words.{IsWordOf, word_value}
+use Rattle.sf_behaviour.specs.Registers.{IsRegister}
+use Rattle.sf_behaviour.specs.Words.{IsWordOf}
 use Rattle.sf_behaviour.specs.InputBits.{input_by}
 use Rattle.sf_behaviour.specs.declared.words.Word.{Word}
 use Rattle.sf_behaviour.specs.declared.effects.Effect.{Effect}
@@ -65,14 +66,14 @@ pub record IsStep (ts : List Tree) (step : Step) : Type 0 where
   pub known : IsKnowledge ts step.known
   pub after : IsAfter ts step.known step.effect step.after
 
--- Steps that are right. No place knows more than is known behind each step that leads to it; and at the start a known
--- word is 0.
+-- Steps that are right. No place knows more than is known behind each step that leads to it; and at the start all
+-- registers are 0.
 pub record AreSteps (ts : List Tree) (steps : List Step) : Type 0 where
   pub each : (place : ℕ) (step : Step) → slice_get steps place ≡ Some step → IsStep ts step
   pub less : (p q : ℕ) (step next : Step) → slice_get steps p ≡ Some step → slice_get steps q ≡ Some next
       → Contains (places_after p step.effect) q → IsLess next.known step.after
-  pub start : (step : Step) (r : ℕ) (w : Word) (bits : Bits) → slice_get steps 0 ≡ Some step
-      → known_word step.known r ≡ Some w → word_value ts w.bits bits ≡ 0
+  pub start : (step : Step) (r : ℕ) (bits : Bits) → slice_get steps 0 ≡ Some step → IsRegister r
+      → held_in ts step.known bits r ≡ 0
 
 -- such diagrams for the places of a program, from one on
 pub record TellFrom (ts : List Tree) (steps : List Step) (ids : List ℕ) (first : ℕ) : Type 0 where

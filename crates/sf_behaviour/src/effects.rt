@@ -111,10 +111,7 @@ pub(crate) fn held_word(store: &mut Store, known: &Known, register: Register) ->
 {
     match word_of(known, register) {
         Some(word) => Ok(word),
-        None => {
-            let own = register_word(store, register)?;
-            Ok(own)
-        }
+        None => Ok(register_word(store, register)?),
     }
 }
 

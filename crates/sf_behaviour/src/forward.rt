@@ -1,13 +1,13 @@
 //! How places come to be known, from the first on.
 
-ghost use Rattle.std.specs.Prelude.{◌≡◌, ◌<◌, true, ℕ, List, [], ◌∷◌, Some, length, IfOk, IfErr};
+ghost use Rattle.std.specs.Prelude.{◌≡◌, ◌<◌, true, [], ◌∷◌, Some, length, IfOk, IfErr};
 ghost use Rattle.sf_check.specs.Insns.{IsInRange};
 ghost use Rattle.sf_check.specs.Programs.{IsLawfulProgram};
-ghost use Rattle.sf_diagram.specs.Trees.{Tree, IsOrderedFrom};
+ghost use Rattle.sf_diagram.specs.Trees.{IsOrderedFrom};
 ghost use Rattle.sf_diagram.specs.Stores.{tree_at, KeepsStore, IsFull};
-ghost use Rattle.sf_behaviour.specs.Knowledge.{Known as AKnown, IsInputWord, IsKnowledge};
+ghost use Rattle.sf_behaviour.specs.Knowledge.{IsInputWord, IsKnowledge};
 ghost use Rattle.sf_behaviour.specs.Effects.{places_after, source_in, IsEffect, IsSource};
-ghost use Rattle.sf_behaviour.specs.Telling.{insns_of, AreSteps, IsAfter, IsCarried, IsMet, IsStep};
+ghost use Rattle.sf_behaviour.specs.Telling.{insns_of, AreSteps, IsAfter, IsCarried, IsStep};
 ghost use Rattle.sf_behaviour.specs.Words.{IsWord, IsWordOf};
 ghost use Rattle.sf_behaviour.specs.declared.words.Word.{Word as AWord};
 
@@ -104,26 +104,14 @@ fn step_of(store: &mut Store, insn: Insn, known: Known) -> Result<Step, Fault>
     })
 }
 
-/// What is known so far, if something is, and behind a step.
-fn met(known: Option<Known>, after: &Known) -> Option<Known>
-    ensures leads { IsMet result after.now }
-    ensures stays { (k : AKnown) → IsMet known k → IsMet result k }
-    ensures right { (ts : List Tree) (k : AKnown) → IsKnowledge ts after.now
-        → ((l : AKnown) → known ≡ Some l → IsKnowledge ts l) → result ≡ Some k
-        → IsKnowledge ts k }
-{
-    match known {
-        Some(before) => Some(meet(&before, after)),
-        None => Some(*after),
-    }
-}
-
 /// Carries what is known behind a step to a place, if there is such a place.
 fn carry_to(known: &mut Vec<Option<Known>>, place: usize, after: &Known)
     ensures { IsCarried known.old.items known.new.items after.now (place ∷ []) }
 {
     if place < known.len() {
-        known[place] = met(known[place], after);
+        // Where nothing leads there so far, all that is known behind the step is known.
+        let so_far = known[place].unwrap_or(*after);
+        known[place] = Some(meet(&so_far, after));
     }
 }
 

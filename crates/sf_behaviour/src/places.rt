@@ -1,6 +1,6 @@
 //! What runs return that go on from a place, as diagrams.
 
-ghost use Rattle.std.specs.Prelude.{◌≡◌, ◌==◌, ◌&&◌, ◌<◌, ◌^◌, ℕ, List, None, Some, length, slice_set, if◌then◌else◌, IfOk, IfErr, OnOk, MatchOption};
+ghost use Rattle.std.specs.Prelude.{◌≡◌, ◌==◌, ◌&&◌, ◌<◌, ◌^◌, ℕ, List, None, Some, length, slice_set, if◌then◌else◌, IfOk, IfErr, OnOk};
 ghost use Rattle.sf_insn.specs.Words.{passes};
 ghost use Rattle.sf_check.specs.declared.insn.Insn.{Insn as AnInsn};
 ghost use Rattle.sf_diagram.specs.Trees.{Bits, value};
@@ -18,25 +18,11 @@ use crate::registers::{A, Register, X};
 use crate::replacing::replace;
 use crate::steps::{Step, id_at, step_at};
 use crate::testing::test_words;
-use crate::words::{Word, number_diagram};
+use crate::words::number_diagram;
 use sf_check::Operand;
 use sf_diagram::{Fault, Id, Store, choose};
 use sf_insn::Test;
 use std::alloc::Global;
-
-/// The word that `more` knows of a register of which `known` knows none.
-fn missing(known: &Known, more: &Known, register: Register) -> Option<Word>
-    requires register { IsRegister register }
-    requires less { IsLess known.now more.now }
-    ensures { MatchOption result (known_word more.now register ≡ known_word known.now register)
-        (λ w. (known_word more.now register ≡ Some w)
-        × (known_word known.now register ≡ None)) }
-{
-    match word_of(known, register) {
-        Some(_) => None,
-        None => word_of(more, register),
-    }
-}
 
 /// A diagram that tells what runs return where `known` is known, made one where as much as `more` knows is known of a
 /// register.
@@ -62,13 +48,16 @@ fn learn_register(
     ensures keeps { KeepsStore store.old store.new }
     ensures spent { IfErr result (λ e. e ≡ Fault.Spent → IsFull store.new) }
 {
-    match missing(known, more, register) {
-        None => Ok(id),
-        Some(by) => {
-            let made = replace(alloc, store, register, &by, id)?;
-            known[register] = Some(by);
-            Ok(made)
-        }
+    match word_of(known, register) {
+        Some(_) => Ok(id),
+        None => match word_of(more, register) {
+            None => Ok(id),
+            Some(by) => {
+                let made = replace(alloc, store, register, &by, id)?;
+                known[register] = Some(by);
+                Ok(made)
+            }
+        },
     }
 }
 

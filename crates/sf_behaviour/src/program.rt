@@ -9,7 +9,6 @@ ghost use Rattle.sf_behaviour.specs.Words.{IsDiagramOf};
 
 use crate::forward::forward_steps;
 use crate::places::diagram_of_place;
-use crate::replacing::at_start;
 use crate::steps::{id_at, step_at};
 use sf_check::Program;
 use sf_diagram::{Fault, Id, Store};
@@ -33,7 +32,5 @@ pub(crate) fn returned(alloc: Global, store: &mut Store, program: &Program) -> R
         let id = diagram_of_place(alloc, store, &steps, &ids, place, &step)?;
         ids[place] = id;
     }
-    let first = id_at(&ids, 0);
-    let id = at_start(store, first);
-    Ok(id)
+    Ok(id_at(&ids, 0))
 }

@@ -37,6 +37,5 @@ pub(crate) fn register_word(store: &mut Store, register: Register) -> Result<Wor
     ensures keeps { KeepsStore store.old store.new }
     ensures spent { IfErr result (λ e. e ≡ Fault.Spent → IsFull store.new) }
 {
-    let word = variable_word(store, highest_bit(register), 2)?;
-    Ok(word)
+    Ok(variable_word(store, highest_bit(register), 2)?)
 }

@@ -1,13 +1,12 @@
 //! Diagrams in which a word stands in the place of a register.
 
 ghost use Rattle.std.specs.Prelude.{◌≡◌, ◌≤◌, ◌<◌, ℕ, length, OnOk, IfOk, IfErr, IfSome, if◌then◌else◌};
-ghost use Rattle.sf_diagram.specs.Trees.{Bits, value};
-ghost use Rattle.sf_diagram.specs.Stores.{tree_at, KeepsStore, IsFull};
-ghost use Rattle.sf_behaviour.specs.Words.{IsDiagramOf, IsTruthOf, IsWord, IsWordOf};
-ghost use Rattle.sf_behaviour.specs.Registers.{register_bit, with_register, start_bits, IsRegister};
+ghost use Rattle.sf_diagram.specs.Trees.{Bits};
+ghost use Rattle.sf_diagram.specs.Stores.{KeepsStore, IsFull};
+ghost use Rattle.sf_behaviour.specs.Words.{IsTruthOf, IsWord, IsWordOf};
+ghost use Rattle.sf_behaviour.specs.Registers.{register_bit, with_register, IsRegister};
 ghost use Rattle.sf_behaviour.specs.Replacing.{IsReplaced, AreReplaced};
 
-use crate::inputs::REGISTER_BITS;
 use crate::registers::{Register, highest_bit};
 use crate::words::Word;
 use sf_diagram::{Fault, Id, Node, Store, choose};
@@ -117,20 +116,4 @@ pub(crate) fn replace(
 {
     let mut made = BTreeMap::new(alloc);
     replace_in(store, &mut made, register, by, id)
-}
-
-/// The diagram in which all registers are 0.
-pub(crate) fn at_start(store: &Store, id: Id) -> Id
-    requires { id < length store.now.trees }
-    ensures { IsDiagramOf store.now.trees result
-        (λ bits. value (tree_at store.now.trees id) (start_bits bits)) }
-{
-    let (variable, lower) = match store.node(id) {
-        Node::Number(_) => return id,
-        Node::Choice(variable, lower, _) => (variable, lower),
-    };
-    if variable >= REGISTER_BITS {
-        return id;
-    }
-    at_start(store, lower)
 }

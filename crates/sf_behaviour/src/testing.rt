@@ -36,7 +36,7 @@ fn test_bits(store: &mut Store, test: Test, a: Id, b: Id, lower: Id) -> Result<I
         }
         Test::AnyBit => {
             let both = combine_bits(store, Bitwise::And, a, b)?;
-            combine_bits(store, Bitwise::Or, lower, both)
+            pick(store, both, both, lower)
         }
     }
 }

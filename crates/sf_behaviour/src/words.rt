@@ -30,17 +30,6 @@ pub(crate) fn constant_word(store: &mut Store, number: u32) -> Result<Word, Faul
     Ok(Word { bits })
 }
 
-/// The variable of a bit of a word whose variables are at equal distances, the first that of the highest bit.
-fn variable_of(first: u16, distance: u16, bit: u16) -> u16
-    requires first { first < 16384 }
-    requires distance { distance ≤ 2 }
-    requires bit { bit < 32 }
-    ensures { result ≡ first + distance * (31 - bit) }
-{
-    let behind = distance * (31 - bit);
-    first + behind
-}
-
 /// The word whose bits are these variables: 32 at equal distances, of which the first is the highest bit.
 pub(crate) fn variable_word(store: &mut Store, first: u16, distance: u16) -> Result<Word, Fault>
     requires first { first < 16384 }
@@ -52,7 +41,8 @@ pub(crate) fn variable_word(store: &mut Store, first: u16, distance: u16) -> Res
 {
     let mut bits: [Id; 32] = [0; 32];
     for i in 0..32 {
-        let bit = store.literal(variable_of(first, distance, i as u16))?;
+        let behind = distance * (31 - i as u16);
+        let bit = store.literal(first + behind)?;
         bits[i] = bit;
     }
     Ok(Word { bits })

@@ -7,5 +7,6 @@ returns-in-Some-clause-word c =
     let known = sym c.in-Some.ensures in
     rw known (own-number (c.requires.known.each c.args.register c.in-Some.word known).word)
 
-pub returns-in_ok-own-in-None-clause-word : goal.returns-in_ok-own-in-None-clause-word
-returns-in_ok-own-in-None-clause-word c = rw (sym c.in-None.ensures) c.in_ok-own-in-None.ensures.word
+pub returns-in_ok-register_word-in-None-clause-word : goal.returns-in_ok-register_word-in-None-clause-word
+returns-in_ok-register_word-in-None-clause-word c =
+    rw (sym c.in-None.ensures) c.in_ok-register_word-in-None.ensures.word

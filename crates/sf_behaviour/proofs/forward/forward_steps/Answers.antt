@@ -1,9 +1,8 @@
-use Rattle.sf_behaviour.proofs.Common.{◌≡◌, ◌∙◌, ◌<◌, ap, length, unwrap_or, Option, Some, None, replicate, refl, sym, arith, rules, keeps_more, Step, Known, known_of, length-append, length-replicate, get_or-replicate, get_or_default, take_all}
-use Rattle.sf_behaviour.proofs.WordLemmas.{word-of-kept}
+use Rattle.sf_behaviour.proofs.Common.{inl, inr, [], ◌∷◌, ◌++◌, List, Insn, ap₂, map-append, take_more, slice_get-get_or, ◌≡◌, ◌∙◌, ◌<◌, ap, length, unwrap_or, Option, Some, None, replicate, refl, sym, arith, rules, keeps_more, Step, Known, known_of, length-append, length-replicate, get_or-replicate, get_or_default, take_all}
 use Rattle.sf_behaviour.proofs.VariableLemmas.{none-there}
 use Rattle.sf_behaviour.proofs.KnowledgeLemmas.{knowledge-kept}
-use Rattle.sf_behaviour.proofs.StepsLemmas.{after-knowledge, code-more}
-use Rattle.sf_behaviour.proofs.ForwardLemmas.{AreZero, met-knowledge, met-less, met-more, range-at, steps-more, steps-none, zero-knowledge}
+use Rattle.sf_behaviour.proofs.StepsLemmas.{after-knowledge, at-push}
+use Rattle.sf_behaviour.proofs.ForwardLemmas.{AreZero, met-knowledge, met-less, steps-more, zero-kept, zero-made}
 use Rattle.sf_behaviour.proofs.forward.forward_steps.Goals as goal
 
 pub loop-i-init : goal.loop-i-init
@@ -14,10 +13,14 @@ loop-i-init c =
     = c.in_ok-known.ensures.items_if_clones_equal (search rules) in
     record {
       keeps = c.in_ok-zero.ensures.keeps;
-      zero = (c.in_ok-zero.zero, refl, c.in_ok-zero.ensures.word);
+      zero = zero-made c.constant_word.new.store.trees c.in_ok-zero.zero c.in_ok-zero.ensures.word;
       count = search rules;
       code = rw c.new-steps.ensures.items refl;
-      steps = rw c.new-steps.ensures.items (steps-none c.constant_word.new.store.trees);
+      steps = rw c.new-steps.ensures.items (record {
+        each = λ p s e. absurd cc;
+        less = λ p q s t e there to. absurd cc;
+        start = λ s r bits e there. absurd cc;
+      });
       places = rw made (length-replicate places none);
       met = rw c.new-steps.ensures.items (λ p q s at inside to. absurd cc);
       known = rw made (λ q k e. absurd (none-there none places q k refl e));
@@ -25,7 +28,8 @@ loop-i-init c =
     }
 
 pub step_of-requires-clause-range : goal.step_of-requires-clause-range
-step_of-requires-clause-range c = range-at c.args.insns.now c.loop-i.i _ c.requires (omega arith)
+step_of-requires-clause-range c =
+    c.requires.in_range c.loop-i.i _ (slice_get-get_or c.args.insns.now c.loop-i.i _ (omega arith))
 
 pub step_of-requires-clause-known : goal.step_of-requires-clause-known
 step_of-requires-clause-known c =
@@ -35,7 +39,7 @@ step_of-requires-clause-known c =
     let now : c.index.result.now ≡ known_of c.loop-i.known.items c.loop-i.i
     = c.index.ensures ∙ get_or_default c.loop-i.known.items c.loop-i.i _ None (omega (arith, h.places)) in
     rw (c.unwrap_or-here.ensures, now) (met-knowledge ts (known_of c.loop-i.known.items c.loop-i.i) start
-    (h.known c.loop-i.i) (zero-knowledge ts start h.zero))
+    (h.known c.loop-i.i) h.zero.knows)
 
 pub loop-i-preserved : goal.loop-i-preserved
 loop-i-preserved c =
@@ -48,7 +52,7 @@ loop-i-preserved c =
     let known = c.loop-i.known.items in
     let carried = c.carry.ensures in
     let start = replicate 18 (Some c.in_ok-zero.zero) in
-    let zero : AreZero us start = (h.zero.0, h.zero.1, word-of-kept e.keeps.trees h.zero.2) in
+    let zero : AreZero us start = zero-kept e.keeps.trees h.zero in
     let inside : i < length known = omega (arith, h.places) in
     let here : step.known ≡ unwrap_or (known_of known i) start = e.known ∙ c.unwrap_or-here.ensures
     ∙ ap (λ (o : Option Known). unwrap_or o start) (c.index.ensures ∙ get_or_default known i _ None inside) in
@@ -56,13 +60,18 @@ loop-i-preserved c =
       keeps = keeps_more _ _ _ h.keeps e.keeps;
       zero = zero;
       count = rw c.in_ok-push.ensures.items (omega (arith, h.count, length-append {A = Step}));
-      code = rw c.in_ok-push.ensures.items (code-more steps step c.args.insns.now i step.insn h.code (omega arith)
-          (e.insn ∙ get_or_default c.args.insns.now i _ step.insn (omega arith)));
+      code = rw c.in_ok-push.ensures.items (map-append (λ (s : Step). s.insn) steps (step ∷ [])
+          ∙ ap₂ (λ (xs : List Insn) (x : Insn). xs ++ x ∷ []) h.code
+          (e.insn ∙ get_or_default c.args.insns.now i _ step.insn (omega arith))
+          ∙ sym (take_more c.args.insns.now i step.insn (omega arith)));
       steps = rw c.in_ok-push.ensures.items (steps-more c.loop-i.store.trees us steps i step start e.keeps.trees h.steps
           h.count e.step (λ p s at to. rw here (met-less (known_of known i) start s.after (h.met p i s at inside to)))
           (λ none. here ∙ ap (λ (o : Option Known). unwrap_or o start) (h.first (sym h.count ∙ none))) zero);
       places = carried.count ∙ h.places;
-      met = rw c.in_ok-push.ensures.items (met-more steps step i known _ h.count h.met carried);
+      met = rw c.in_ok-push.ensures.items (λ p q s at inside to. elim (at-push steps step s p at) [
+        | inl before ↦ carried.stays q s.after (h.met p q s before.1 (omega (arith, carried.count)) to)
+        | inr now ↦ rw (← now.1) (carried.leads q (omega (arith, carried.count)) (rw (now.0 ∙ h.count, ← now.1) at to))
+      ]);
       known = carried.right us (after-knowledge e.step) (λ q k is. knowledge-kept e.keeps.trees (h.known q k is));
       first = λ none. absurd (omega arith);
     }

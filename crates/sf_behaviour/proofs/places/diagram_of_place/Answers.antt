@@ -1,7 +1,7 @@
-use Rattle.sf_behaviour.proofs.Common.{◌+◌, [], ◌∷◌, refl, arith, keeps_more, insns_of, set_progress, source_number, contains_here, contains_there}
+use Rattle.sf_behaviour.proofs.Common.{◌+◌, [], ◌∷◌, arith, keeps_more, insns_of, set_progress, source_number, contains_there}
 use Rattle.sf_behaviour.proofs.EffectLemmas.{chosen-diagram}
 use Rattle.sf_behaviour.proofs.KnowledgeLemmas.{knowledge-kept}
-use Rattle.sf_behaviour.proofs.StepsLemmas.{next-of, place-kept, place-step, same-tells, this-step, after-knowledge, after-same, effect-is, step-kept}
+use Rattle.sf_behaviour.proofs.StepsLemmas.{first-place, next-of, place-kept, place-step, same-tells, this-step, after-knowledge, after-same, effect-is, step-kept}
 use Rattle.sf_behaviour.proofs.TellLemmas.{follows-guard, follows-return, follows-set, follows-skip, follows-test, tells-kept}
 use Rattle.sf_behaviour.proofs.places.diagram_of_place.Goals as goal
 
@@ -9,7 +9,7 @@ use Rattle.sf_behaviour.proofs.places.diagram_of_place.Goals as goal
 
 pub diagram_behind-requires : goal.diagram_behind-requires
 diagram_behind-requires c =
-    next-of c.requires (rw c.in-Sets.is (contains_here (c.args.place + 1) [] (c.args.place + 1) refl))
+    next-of c.requires (rw c.in-Sets.is (first-place (c.args.place + 1) []))
 
 pub set_diagram-requires-clause-register : goal.set_diagram-requires-clause-register
 set_diagram-requires-clause-register c = (effect-is (this-step c.requires) c.in-Sets.is).there.0
@@ -45,8 +45,7 @@ returns-in_ok-guarded_diagram-in-Sets-clause-tells c =
 
 pub diagram_behind-requires-in-Skips : goal.diagram_behind-requires-in-Skips
 diagram_behind-requires-in-Skips c =
-    let next = c.args.place + 1 + c.in-Skips.k in
-    next-of c.requires (rw c.in-Skips.is (contains_here next [] next refl))
+    next-of c.requires (rw c.in-Skips.is (first-place (c.args.place + 1 + c.in-Skips.k) []))
 
 pub returns-in_ok-diagram_behind-in-Skips-clause-tells : goal.returns-in_ok-diagram_behind-in-Skips-clause-tells
 returns-in_ok-diagram_behind-in-Skips-clause-tells c =
@@ -59,14 +58,14 @@ pub diagram_behind-requires-in-Tests : goal.diagram_behind-requires-in-Tests
 diagram_behind-requires-in-Tests c =
     let hit = c.args.place + 1 + c.in-Tests.on_true in
     let miss = c.args.place + 1 + c.in-Tests.on_false in
-    next-of c.requires (rw c.in-Tests.is (contains_here hit (miss ∷ []) hit refl))
+    next-of c.requires (rw c.in-Tests.is (first-place hit (miss ∷ [])))
 
 pub diagram_behind-requires-in-Tests-2 : goal.diagram_behind-requires-in-Tests-2
 diagram_behind-requires-in-Tests-2 c =
     let hit = c.args.place + 1 + c.in-Tests.on_true in
     let miss = c.args.place + 1 + c.in-Tests.on_false in
     next-of (place-kept c.in_ok-taken-in-Tests.ensures.keeps.trees c.requires)
-    (rw c.in-Tests.is (contains_there hit (miss ∷ []) miss (contains_here miss [] miss refl)))
+    (rw c.in-Tests.is (contains_there hit (miss ∷ []) miss (first-place miss [])))
 
 pub test_diagram-requires-clause-known : goal.test_diagram-requires-clause-known
 test_diagram-requires-clause-known c =

@@ -1,6 +1,6 @@
-use Rattle.sf_behaviour.proofs.Common.{◌≡◌, ◌∙◌, ℕ, refl, subst, length-set, arith, None, Option, keeps_more, Known, known_word, Tells, Word}
+use Rattle.sf_behaviour.proofs.Common.{ext_get_or, sym, ◌≡◌, ◌∙◌, ℕ, refl, subst, length-set, arith, None, Option, keeps_more, Known, known_word, Tells, Word}
 use Rattle.sf_behaviour.proofs.WordLemmas.{set-each}
-use Rattle.sf_behaviour.proofs.KnowledgeLemmas.{knowledge-kept, same-known, set-less}
+use Rattle.sf_behaviour.proofs.KnowledgeLemmas.{knowledge-kept, set-less}
 use Rattle.sf_behaviour.proofs.places.learn.Goals as goal
 
 pub learn_register-requires-clause-knowledge : goal.learn_register-requires-clause-knowledge
@@ -26,5 +26,7 @@ loop-register-preserved c =
 pub returns-clause-tells : goal.returns-clause-tells
 returns-clause-tells c = λ code place t.
     subst (λ (k : Known). Tells code place c.loop-register.store.trees k c.loop-register.learnt)
-    (same-known c.loop-register.so_far c.args.more.now c.loop-register.invariant.count c.requires.knowledge.count
-    (λ r l. c.loop-register.invariant.same r (omega arith))) (c.loop-register.invariant.tells code place t)
+    (ext_get_or None c.loop-register.so_far c.args.more.now
+    (c.loop-register.invariant.count ∙ sym c.requires.knowledge.count)
+    (λ r l. c.loop-register.invariant.same r (omega (arith, l, c.loop-register.invariant.count))))
+    (c.loop-register.invariant.tells code place t)

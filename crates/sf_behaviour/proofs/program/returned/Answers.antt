@@ -1,5 +1,5 @@
-use Rattle.sf_behaviour.proofs.Common.{List, ap, rules, slice_set, ◌≡◌, ◌<◌, ◌^◌, ◌-◌, ◌+◌, ◌∙◌, ℕ, length, sym, subst, arith, IsLawfulProgram, keeps_more, start_bits, TellFrom, length-replicate}
-use Rattle.sf_behaviour.proofs.StepsLemmas.{first-tells, from-more, from-none, program-diagram, steps-kept, steps-some}
+use Rattle.sf_behaviour.proofs.Common.{slice_get_within, List, ap, rules, slice_set, ◌≡◌, ◌-◌, ◌+◌, ◌∙◌, ℕ, length, sym, subst, arith, IsLawfulProgram, keeps_more, TellFrom, length-replicate}
+use Rattle.sf_behaviour.proofs.StepsLemmas.{first-tells, from-more, program-diagram, steps-kept, steps-some}
 use Rattle.sf_behaviour.proofs.program.returned.Goals as goal
 
 pub forward_steps-requires : goal.forward_steps-requires
@@ -14,9 +14,11 @@ loop-i-init c =
       steps = c.in_ok-steps.ensures.steps;
       some = steps-some c.in_ok-steps.steps.items c.insns.result.now c.in_ok-steps.ensures.code
           (subst IsLawfulProgram (sym c.insns.ensures.same) c.insns.ensures.lawful).some;
-      behind = from-none c.forward_steps.new.store.trees c.in_ok-steps.steps.items c.in_ok-ids.ids.items
-          (length c.in_ok-steps.steps.items - 0)
-          (ap (λ (xs : List ℕ). length xs) made ∙ length-replicate c.len.result 0 ∙ size) (omega arith);
+      behind = record {
+        count = ap (λ (xs : List ℕ). length xs) made ∙ length-replicate c.len.result 0 ∙ size;
+        each = λ place step low there.
+            absurd (omega (arith, slice_get_within c.in_ok-steps.steps.items place step there));
+      };
     }
 
 pub diagram_of_place-requires : goal.diagram_of_place-requires
@@ -49,23 +51,17 @@ loop-i-preserved c =
           c.step_at-step.result (omega arith) e.keeps.trees h.steps h.behind c.step_at-step.ensures e.tells);
     }
 
-pub id_at-first-requires : goal.id_at-first-requires
-id_at-first-requires c = omega (arith, c.loop-i.invariant.behind.count, c.loop-i.invariant.some)
-
-pub at_start-id-requires : goal.at_start-id-requires
-at_start-id-requires c =
-    (first-tells c.in_ok-steps.steps.items (length c.in_ok-steps.steps.items - c.loop-i.i) (omega arith)
-    c.loop-i.invariant.some c.loop-i.invariant.behind c.id_at-first.ensures).2.within
+pub id_at-requires : goal.id_at-requires
+id_at-requires c = omega (arith, c.loop-i.invariant.behind.count, c.loop-i.invariant.some)
 
 pub returns-clause-small : goal.returns-clause-small
-returns-clause-small c = λ bits.
-    subst (λ (n : ℕ). n < 2 ^ 32) (sym (c.at_start-id.ensures.values bits))
-    ((first-tells c.in_ok-steps.steps.items (length c.in_ok-steps.steps.items - c.loop-i.i) (omega arith)
-    c.loop-i.invariant.some c.loop-i.invariant.behind c.id_at-first.ensures).2.small (start_bits bits))
+returns-clause-small c =
+    (first-tells c.in_ok-steps.steps.items (length c.in_ok-steps.steps.items - c.loop-i.i) (omega arith)
+    c.loop-i.invariant.some c.loop-i.invariant.behind c.id_at.ensures).2.small
 
 pub returns-clause-number : goal.returns-clause-number
 returns-clause-number c =
     program-diagram c.args.program.now c.loop-i.store.trees c.in_ok-steps.steps.items c.loop-i.ids.items
-    (length c.in_ok-steps.steps.items - c.loop-i.i) c.id_at-first.result c.at_start-id.result (omega arith)
+    (length c.in_ok-steps.steps.items - c.loop-i.i) c.id_at.result (omega arith)
     (c.in_ok-steps.ensures.code ∙ c.insns.ensures.same) c.insns.ensures.lawful c.loop-i.invariant.steps
-    c.loop-i.invariant.behind c.id_at-first.ensures c.at_start-id.ensures
+    c.loop-i.invariant.behind c.id_at.ensures

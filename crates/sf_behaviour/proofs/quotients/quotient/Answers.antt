@@ -1,21 +1,22 @@
-use Rattle.sf_behaviour.proofs.Common.{◌≡◌, ◌+◌, ◌-◌, ◌==◌, ℕ, ap₂, ◌∙◌, arith, if◌then◌else◌, keeps_more, chosen_of, Bits, value, tree_at, word_value}
-use Rattle.sf_behaviour.proofs.WordLemmas.{none-bit, number-kept, number-now, word-by, word-kept, word-of-kept, word-of-same, word-set, word-small}
-use Rattle.sf_behaviour.proofs.QuotientLemmas.{division-begun, division-step, quotient-made, set-more, twice-less, unset-more}
+use Rattle.sf_behaviour.proofs.Common.{◌≡◌, ◌+◌, ◌-◌, ◌*◌, ◌/◌, ◌<◌, ◌≤◌, ◌^◌, ◌==◌, ℕ, ap₂, sym, ◌∙◌, arith, bit_at, div-le_self, if◌then◌else◌, keeps_more, mod-eq_of_lt, same_from_bits_below, chosen_of, Bits, value, tree_at, word_value}
+use Rattle.sf_behaviour.proofs.WordLemmas.{bit-of-word, none-bit, number-kept, number-now, set-each, value-kept, word-by, word-kept, word-of-kept, word-of-same, word-set, word-small}
+use Rattle.sf_behaviour.proofs.QuotientLemmas.{digit-more, quotient-made}
 use Rattle.sf_behaviour.proofs.quotients.quotient.Goals as goal
 
 pub loop-i-init : goal.loop-i-init
 loop-i-init c =
-    let ts = c.args.store.now.trees in
     let kept = c.in_ok-none.ensures.keeps in
-    let none = c.in_ok-none.ensures.word in
+    let a = word_value c.args.store.now.trees c.args.a.now.bits in
+    let b = word_value c.args.store.now.trees c.args.b.now.bits in
     record {
       keeps = kept;
-      none = none;
+      none = c.in_ok-none.ensures.word;
       rest = word-kept kept.trees c.requires.a;
-      made = none.word;
-      unset = λ j bits l. (none-bit j none l).values bits;
-      so_far = λ bits some. division-begun (word_value ts c.args.a.now.bits bits) (word_value ts c.args.b.now.bits bits)
-          (none.values bits) (number-kept bits kept.trees c.requires.a) (word-small bits c.requires.a) some;
+      made = c.in_ok-none.ensures.word.word;
+      digits = λ j bits low l some. absurd (omega arith);
+      left = λ bits some.
+          let small : a bits < b bits * 2 ^ 32 = omega (arith, word-small bits c.requires.a) in
+          number-kept bits kept.trees c.requires.a ∙ sym (mod-eq_of_lt small);
     }
 
 pub divide_bit-requires-clause-b : goal.divide_bit-requires-clause-b
@@ -30,21 +31,22 @@ loop-i-preserved c =
     let new = c.in_ok-bit.ensures in
     let kept = new.keeps.trees in
     let i = c.loop-i.i in
+    let vs = c.divide_bit.new.store.trees in
+    let a = word_value c.args.store.now.trees c.args.a.now.bits in
     let b = word_value c.args.store.now.trees c.args.b.now.bits in
-    let next : 31 - i ≡ 32 - (i + 1) = omega arith in
+    let before : 31 - i ≡ 32 - (i + 1) = omega arith in
+    let next = λ (bits : Bits) (some : 0 < b bits). digit-more (31 - i) (32 - i) (a bits) (b bits) (omega arith) some
+    (new.bit.small bits) (h.left bits some) (new.digit b (number-now h.keeps.trees c.requires.b) bits) in
     record {
       keeps = keeps_more _ _ _ h.keeps new.keeps;
       none = word-of-kept kept h.none;
       rest = new.left;
       made = word-set (31 - i) kept (omega arith) h.made new.bit;
-      unset = λ j bits l. unset-more (31 - i) c.in_ok-bit.bit j bits (omega arith) kept h.made (omega arith)
-          (h.unset j bits (omega arith));
-      so_far = λ bits some.
-          let now = h.so_far bits some in
-          let few = twice-less (word_value c.loop-i.store.trees c.loop-i.rest.bits bits) (b bits) (31 - i) (32 - i)
-          (omega arith) now.less in
-          rw (← next) (division-step (31 - i) now (new.digit b (number-now h.keeps.trees c.requires.b) bits few)
-          (set-more (31 - i) c.in_ok-bit.bit bits (omega arith) kept h.made (h.unset (31 - i) bits (omega arith))));
+      digits = λ j bits low l some. set-each
+          (λ (k id : ℕ). 32 - (i + 1) ≤ k → value (tree_at vs id) bits ≡ bit_at (a bits / b bits) k) 0 c.loop-i.bits
+          (31 - i) c.in_ok-bit.bit j (omega (arith, h.made.count)) (λ at. (next bits some).0)
+          (λ ne at. value-kept bits kept (h.made.each j l) ∙ h.digits j bits (omega arith) l some) low;
+      left = λ bits some. rw (← before) (next bits some).1;
     }
 
 pub combine-requires-clause-operation : goal.combine-requires-clause-operation
@@ -52,14 +54,17 @@ combine-requires-clause-operation c = c.in_ok-by_zero.ensures.truth.truth
 
 pub returns-clause-word : goal.returns-clause-word
 returns-clause-word c =
-    let ts = c.args.store.now.trees in
     let us = c.loop-i.store.trees in
     let h = c.loop-i.invariant in
     let zero = c.in_ok-by_zero.ensures in
+    let a = word_value c.args.store.now.trees c.args.a.now.bits in
+    let b = word_value c.args.store.now.trees c.args.b.now.bits in
+    let q = word_value us c.loop-i.bits in
     let is_zero = value (tree_at c.test_words.new.store.trees c.in_ok-by_zero.by_zero) in
     let word = word-by (λ (x : Bits). chosen_of (is_zero x)) (word-of-kept zero.keeps.trees h.none)
     (number-now zero.keeps.trees h.made) c.in_ok-combine.ensures.word in
-    word-of-same word (λ bits. quotient-made (32 - c.loop-i.i) (word_value ts c.args.a.now.bits bits)
-    (word_value ts c.args.b.now.bits bits) (word_value us c.loop-i.bits bits) (word_value us c.loop-i.rest.bits bits)
-    (is_zero bits) (omega arith) (zero.truth.values bits ∙ ap₂ (λ (m n : ℕ). if m == n then 1 else 0)
-    (number-kept bits h.keeps.trees c.requires.b) (h.none.values bits)) (h.so_far bits))
+    word-of-same word (λ bits. quotient-made (a bits) (b bits) (q bits) (is_zero bits) (zero.truth.values bits
+    ∙ ap₂ (λ (m n : ℕ). if m == n then 1 else 0) (number-kept bits h.keeps.trees c.requires.b) (h.none.values bits))
+    (λ some. same_from_bits_below 32 (q bits) (a bits / b bits) (word-small bits h.made)
+    (omega (arith, div-le_self (a bits) (b bits), word-small bits c.requires.a))
+    (λ j l. bit-of-word bits j h.made l ∙ h.digits j bits (omega arith) l some)))

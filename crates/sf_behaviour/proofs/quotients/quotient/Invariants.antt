@@ -1,5 +1,4 @@
-use Rattle.sf_behaviour.proofs.Common.{◌≡◌, ℕ, ◌-◌, ◌<◌, ◌^◌, slice_index, Bits, value, tree_at, KeepsStore, word_value, IsWord, IsWordOf}
-use Rattle.sf_behaviour.proofs.QuotientLemmas.{IsDivision}
+use Rattle.sf_behaviour.proofs.Common.{◌≡◌, ℕ, ◌-◌, ◌*◌, ◌/◌, ◌%◌, ◌<◌, ◌≤◌, ◌^◌, bit_at, slice_index, Bits, value, tree_at, KeepsStore, word_value, IsWord, IsWordOf}
 use Rattle.sf_behaviour.proofs.quotients.quotient.Given as goal
 
 abbrev pub invariant-loop-i : goal.invariant-loop-i
@@ -8,8 +7,9 @@ invariant-loop-i l = record {
   none : IsWordOf l.store.trees l.none.bits (λ bits. 0);
   rest : IsWord l.store.trees l.rest.bits;
   made : IsWord l.store.trees l.bits;
-  unset : (j : ℕ) (bits : Bits) → j < 32 - l.i → value (tree_at l.store.trees (slice_index l.bits j)) bits ≡ 0;
-  so_far : (bits : Bits) → 0 < word_value l.fn.store.trees l.b.bits bits
-      → IsDivision (word_value l.fn.store.trees l.a.bits bits) (word_value l.fn.store.trees l.b.bits bits)
-      (word_value l.store.trees l.bits bits) (2 ^ (32 - l.i)) (word_value l.store.trees l.rest.bits bits);
+  digits : (j : ℕ) (bits : Bits) → 32 - l.i ≤ j → j < 32 → 0 < word_value l.fn.store.trees l.b.bits bits
+      → value (tree_at l.store.trees (slice_index l.bits j)) bits
+      ≡ bit_at (word_value l.fn.store.trees l.a.bits bits / word_value l.fn.store.trees l.b.bits bits) j;
+  left : (bits : Bits) → 0 < word_value l.fn.store.trees l.b.bits bits → word_value l.store.trees l.rest.bits bits
+      ≡ word_value l.fn.store.trees l.a.bits bits % (word_value l.fn.store.trees l.b.bits bits * 2 ^ (32 - l.i));
 }

@@ -1,6 +1,7 @@
-use Rattle.sf_behaviour.proofs.Common.{◌<◌, ℕ, refl, sym, word_value, arith, Bits, tree_at, IsReplaced, IsWordOf, keeps_both}
+use Rattle.sf_behaviour.proofs.Common.{value_from, with_register, ◌<◌, ℕ, refl, sym, word_value, arith, Bits, tree_at, IsReplaced, IsWordOf, keeps_both}
 use Rattle.sf_behaviour.proofs.WordLemmas.{word-kept, word-of-back, word-of-kept}
-use Rattle.sf_behaviour.proofs.ReplacingLemmas.{replaced-kept, replaced-past, replaced-made, all-kept, all-put}
+use Rattle.sf_behaviour.proofs.ReplacingLemmas.{replaced-kept, replaced-made, all-kept, all-put}
+use Rattle.sf_behaviour.proofs.VariableLemmas.{ordered-from, with-other}
 use Rattle.sf_behaviour.proofs.replacing.+replace_in.Goals as goal
 use Rattle.sf_behaviour.proofs.replacing.+replace_in.Goals.{In_ok-new}
 
@@ -16,11 +17,17 @@ returns-in-Number-clause-made t c = λ f h. c.requires.made f h
 
 pub returns-then-variable-past-clause-replaced : goal.returns-then-variable-past-clause-replaced
 returns-then-variable-past-clause-replaced t c = λ f h.
-    let ts = c.args.store.now.trees in
-    replaced-past c.args.register ts f c.args.id c.in-Choice.variable
-    (tree_at ts c.in-Choice.lower) (tree_at ts c.in-Choice.higher) c.requires.within c.in-Choice.ensures.tree
-    (c.in-Choice.ensures.lawful.canonical.ordered c.args.id c.requires.within)
-    (λ w le. c.first_past-past.ensures w (omega (arith, le, c.if-variable-past.true)))
+    let tree = tree_at c.args.store.now.trees c.args.id in
+    let v = c.in-Choice.variable in
+    let r = c.args.register in
+    let ordered = c.in-Choice.ensures.lawful.canonical.ordered c.args.id c.requires.within in
+    record {
+      id_within = c.requires.within;
+      within = c.requires.within;
+      values = λ bits. value_from tree v (ordered-from v c.in-Choice.ensures.tree ordered (omega arith)) bits
+          (with_register r (f bits) bits) (λ w le. sym (with-other r (f bits) w bits
+          (c.first_past-past.ensures w (omega (arith, le, c.if-variable-past.true)))));
+    }
 
 pub returns-then-variable-past-clause-made : goal.returns-then-variable-past-clause-made
 returns-then-variable-past-clause-made t c = λ f h. c.requires.made f h

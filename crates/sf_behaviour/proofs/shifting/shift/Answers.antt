@@ -1,7 +1,7 @@
-use Rattle.sf_behaviour.proofs.Common.{◌≡◌, arith, keeps_more, word_value}
+use Rattle.sf_behaviour.proofs.Common.{pow-add, ◌≡◌, arith, keeps_more, word_value}
 use Rattle.sf_behaviour.proofs.WordLemmas.{bit-chosen, number-now, truth-kept, truth-of-kept, word-of-same, word-small}
 use Rattle.sf_behaviour.proofs.BitLemmas.{leaf-truth}
-use Rattle.sf_behaviour.proofs.ShiftLemmas.{few-places, more-places, shift-begun, shift-step, shift-made}
+use Rattle.sf_behaviour.proofs.ShiftLemmas.{few-places, shift-begun, shift-step, shift-made}
 use Rattle.sf_behaviour.proofs.shifting.shift.Goals as goal
 
 pub loop-i-init : goal.loop-i-init
@@ -37,7 +37,7 @@ loop-i-preserved c =
     record {
       keeps = keeps_more _ _ _ h.keeps new.keeps;
       none = truth-of-kept new.keeps.trees h.none;
-      places = more-places c.loop-i.i c.loop-i.places h.places;
+      places = omega (arith, h.places, pow-add 2 c.loop-i.i 1);
       word = word-of-same (bit-chosen c.loop-i.i h.keeps.trees c.requires.by (omega arith) moved h.word new.word)
           (λ bits. shift-step c.args.direction c.loop-i.i (word_value ts c.args.word.now.bits bits)
           (word_value ts c.args.by.now.bits bits) c.loop-i.places h.places);

@@ -1,6 +1,6 @@
 use Rattle.sf_behaviour.proofs.Common.{◌≡◌, ◌+◌, ◌-◌, ◌∙◌, arith, keeps_more, word_value}
 use Rattle.sf_behaviour.proofs.WordLemmas.{bit-now, word-small}
-use Rattle.sf_behaviour.proofs.AnswerLemmas.{number-more, number-made}
+use Rattle.sf_behaviour.proofs.AnswerLemmas.{number-more}
 use Rattle.sf_behaviour.proofs.words.number_diagram.Goals as goal
 
 pub loop-i-init : goal.loop-i-init
@@ -32,6 +32,7 @@ loop-i-preserved c =
 pub returns-clause-number : goal.returns-clause-number
 returns-clause-number c = record {
   within = c.loop-i.invariant.within;
-  values = λ bits. c.loop-i.invariant.so_far bits
-      ∙ number-made (32 - c.loop-i.i) (word_value c.args.store.now.trees c.args.word.now.bits bits) (omega arith);
+  values = λ bits.
+      let none : 32 - c.loop-i.i ≡ 0 = omega arith in
+      c.loop-i.invariant.so_far bits ∙ rw none (omega arith);
 }

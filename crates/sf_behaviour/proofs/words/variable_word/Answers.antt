@@ -1,7 +1,17 @@
-use Rattle.sf_behaviour.proofs.Common.{◌∙◌, ℕ, ap, arith, Leaf, Fork, keeps_more}
+use Rattle.sf_behaviour.proofs.Common.{◌-◌, ◌≤◌, mul-le-mul, arith, keeps_more}
 use Rattle.sf_behaviour.proofs.WordLemmas.{begun-more, word-made}
 use Rattle.sf_behaviour.proofs.VariableLemmas.{number_by-small, variable-truth}
 use Rattle.sf_behaviour.proofs.words.variable_word.Goals as goal
+
+pub overflow_mul-behind : goal.overflow_mul-behind
+overflow_mul-behind c =
+    let most : 31 - c.loop-i.i ≤ 31 = omega arith in
+    omega (arith, mul-le-mul c.requires.distance most)
+
+pub overflow_add-first : goal.overflow_add-first
+overflow_add-first c =
+    let most : 31 - c.loop-i.i ≤ 31 = omega arith in
+    omega (arith, mul-le-mul c.requires.distance most)
 
 pub loop-i-preserved : goal.loop-i-preserved
 loop-i-preserved c =
@@ -10,7 +20,7 @@ loop-i-preserved c =
       keeps = keeps_more _ _ _ c.loop-i.invariant.keeps bit.keeps;
       begun = begun-more c.loop-i.i bit.keeps.trees (omega arith) c.loop-i.invariant.begun
           (variable-truth c.args.first c.args.distance c.loop-i.i c.literal.new.self.trees c.in_ok-bit.bit (omega arith)
-          bit.within (bit.tree ∙ ap (λ (v : ℕ). Fork v (Leaf 0) (Leaf 1)) c.variable_of.ensures));
+          bit.within bit.tree);
     }
 
 pub returns-clause-word : goal.returns-clause-word
