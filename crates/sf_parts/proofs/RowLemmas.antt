@@ -1,48 +1,25 @@
 -- The rows of a tree: each input is in one, which has its number, unless this is hidden; and each row has an input.
 use Rattle.std.proofs.Common.{◌≡◌, ◌≢◌, ℕ, zero, suc, ◌+◌, ◌*◌, ◌/◌, ◌%◌, ◌-◌, ◌^◌, ◌<◌, ◌≤◌, ◌==◌, Bool, true, false, List, [], ◌∷◌, ◌++◌, length, map, take, get_or, refl, sym, ap, ap₂, subst, ◌∙◌, inl, inr, arith, add-zero, zero-add, lit≤}
-use Rattle.std.specs.Prelude.{◌&&◌, All, count_by, not, if◌then◌else◌}
+use Rattle.std.specs.Prelude.{◌&&◌, All, count_by, not, if◌then◌else◌, ◌⊎◌}
 use Rattle.std.specs.List.{flat_map, list_all}
 use Rattle.std.specs.Int.{bit_at}
 use Rattle.std.proofs.lemmas.Bool.{cases_Bool, cond-true, cond-false, cond_both, eqb-false, eq-eqb, ne_eqb, and_left, and_right, and_from}
 use Rattle.std.proofs.lemmas.Nat.Bits.{bit_at-lt}
-use Rattle.std.proofs.lemmas.List.{length-map, get_or-map, take_all, take_more, take-append-le, flat_map_more}
+use Rattle.std.proofs.lemmas.List.{length-map, get_or-map, take_all, take_more, take-append-le, flat_map_more, length-append}
 use Rattle.std.proofs.lemmas.List.Sums.{sum_by-cons}
 use Rattle.std.proofs.lemmas.List.Elements.{All-nil, All-cons, All-head, All-tail, All-append}
+use Rattle.std.proofs.lemmas.List.Folds.{length-flat_map-take}
 use Rattle.std.proofs.Math.Nat.{mod-eq_of_lt, mod-one}
 use Rattle.sf_diagram.specs.Trees.{Tree, Leaf, Fork, Bits, value, IsOrderedFrom}
 use Rattle.sf_diagram.specs.Stores.{tree_at}
-use Rattle.sf_parts.specs.Words.{behind, low_number, word_number, EndsBefore}
+use Rattle.sf_parts.specs.Words.{behind, low_number, word_number, EndsBefore, test_count}
 use Rattle.sf_parts.specs.Parts.{PartData, form_has, parts_in}
-use Rattle.sf_parts.specs.Rows.{ConditionData, RowData, meets, is_in_row, rows_under}
+use Rattle.sf_parts.specs.Rows.{ConditionData, RowData, meets, is_in_row, rows_under, IsCrowded}
 use Rattle.sf_parts.specs.Stored.{StoredPart, part_seen}
-use Rattle.sf_parts.proofs.WordLemmas.{low-more, value-behind}
-use Rattle.sf_parts.proofs.HolderLemmas.{LeadsTo, HasNumber, holders, AreParts}
+use Rattle.sf_parts.specs.WordLaws.{bit-if, low-more, behind-below, behind-ordered, crowded_behind}
+use Rattle.sf_parts.proofs.WordLemmas.{value-behind}
+use Rattle.sf_parts.proofs.PartLemmas.{LeadsTo, HasNumber, holders, AreParts}
 use Rattle.sf_parts.proofs.WayLemmas.{parts_in-right}
-
--- behind a word comes a tree that tests later words only
-pub behind-ordered : (word : ℕ) (t : Tree) (n m : ℕ) → 32 * word ≤ m → IsOrderedFrom m t
-    → IsOrderedFrom (32 * suc word) (behind word t n)
-behind-ordered word (Leaf c) n m le o = tt
-behind-ordered word (Fork v p q) n m le o =
-    let from : 32 * word ≤ v = omega (arith, o.0) in
-    cond_both (v / 32 == word) (if bit_at n (31 - v % 32) == 1 then behind word q n else behind word p n) (Fork v p q)
-    (IsOrderedFrom (32 * suc word))
-    (λ _. cond_both (bit_at n (31 - v % 32) == 1) (behind word q n) (behind word p n) (IsOrderedFrom (32 * suc word))
-    (λ _. behind-ordered word q n (suc v) (omega arith) o.2)
-    (λ _. behind-ordered word p n (suc v) (omega arith) o.1))
-    (λ out.
-    let other : v / 32 ≢ word = eqb-false (v / 32) word out in
-    (omega arith, o.1, o.2))
-
-behind-below : (word limit : ℕ) (t : Tree) (n : ℕ) → EndsBefore limit t → EndsBefore limit (behind word t n)
-behind-below word limit (Leaf c) n h = tt
-behind-below word limit (Fork v p q) n h =
-    cond_both (v / 32 == word) (if bit_at n (31 - v % 32) == 1 then behind word q n else behind word p n) (Fork v p q)
-    (EndsBefore limit)
-    (λ _. cond_both (bit_at n (31 - v % 32) == 1) (behind word q n) (behind word p n) (EndsBefore limit)
-    (λ _. behind-below word limit q n h.2)
-    (λ _. behind-below word limit p n h.1))
-    (λ _. h)
 
 -- a tree that does not test a word first tests later words only
 pub later-ordered : (word v : ℕ) (p q : Tree) → IsOrderedFrom (32 * word) (Fork v p q) → (v / 32 == word) ≡ false
@@ -129,15 +106,12 @@ flag-times true false m = refl
 flag-times false true m = refl
 flag-times false false m = refl
 
-no-flag : (x : Bool) (m : ℕ) → (if x then m else m) ≡ m
-no-flag true m = refl
-no-flag false m = refl
-
 each-one : (bits : Bits) (test : ℕ → Bool) (rows : PartData → List RowData) (b : Tree) (n : ℕ) (x : Bool)
     → ((p : PartData) → LeadsTo b n p → hits bits test (rows p) ≡ (if form_has p.form n && x then 1 else 0))
     → (ps : List PartData) → All (LeadsTo b n) ps
     → hits bits test (flat_map rows ps) ≡ (if x then holders n ps else 0)
-each-one bits test rows b n x one [] lead = sym (no-flag x 0)
+each-one bits test rows b n x one [] lead =
+    cond_both {A = ℕ} x 0 0 (λ m. 0 ≡ m) (λ _. refl) (λ _. refl)
 each-one bits test rows b n x one (p ∷ ps) lead =
     hits-append bits test (rows p) (flat_map rows ps)
     ∙ ap₂ (λ (a b : ℕ). a + b) (one p (All-head (LeadsTo b n) p ps lead))
@@ -258,13 +232,8 @@ put-own word m bits (suc k) le =
     = cond-true (v / 32 == word) (bit_at m (31 - v % 32) == 1) (bits v) (eq-eqb (v / 32) word is)
     ∙ ap (λ (i : ℕ). bit_at m i == 1) place in
     ap₂ (λ (b : Bool) (l : ℕ). (if b then 1 else 0) * 2 ^ k + l) here (put-own word m bits k (omega arith))
-    ∙ ap (λ (d : ℕ). d * 2 ^ k + m % 2 ^ k) (flag (bit_at m k) small)
+    ∙ ap (λ (d : ℕ). d * 2 ^ k + m % 2 ^ k) (bit-if (bit_at m k) small)
     ∙ low-more m k
-  where
-    flag : (d : ℕ) → d < 2 → (if d == 1 then 1 else 0) ≡ d
-    flag zero l = refl
-    flag (suc zero) l = refl
-    flag (suc (suc d)) l = absurd (omega arith)
 
 put-other : (word w m : ℕ) (bits : Bits) (k : ℕ) → w ≢ word → k ≤ 32
     → low_number w k (put word m bits) ≡ low_number w k bits
@@ -435,3 +404,87 @@ rows-step apart hidden n word next i ts cs pushed parts p listed before old new 
     ∙ flat_map_more (rows_behind apart hidden n word cs) before (take i listed) s
     ∙ ap (λ (ps : List PartData). before ++ flat_map (rows_behind apart hidden n word cs) ps)
     (ap (λ (q : PartData). take i listed ++ q ∷ []) (sym one) ∙ sym (take_more listed i s within))
+
+-- ---- rows come to an end only where there would be too many of them, or a word is tested too often
+
+-- there would be more rows than a limit beside others, or a word is tested too often
+abbrev pub IsOver : ℕ → ℕ → ℕ → List RowData → Tree → Type 0
+IsOver most limit others rows t = (most < others + length rows) ⊎ IsCrowded limit t
+
+-- a row beside as many as are allowed is one too many
+pub leaf-over : (most limit others apart hidden left word number : ℕ) (t : Tree) (cs : List ConditionData)
+    → t ≡ Leaf number → (most ≤ others) × ((number == hidden) ≡ false)
+    → IsOver most limit others (rows_under apart hidden left word t cs) t
+leaf-over most limit others apart hidden left word number t cs e h =
+    let row : RowData = record { conditions = cs; number = number } in
+    let one : rows_under apart hidden left word t cs ≡ row ∷ []
+    = sym (rows-leaf apart hidden left word number t cs cs e refl)
+    ∙ cond-false {A = List RowData} (number == hidden) [] (row ∷ []) h.1 in
+    let long : length (rows_under apart hidden left word t cs) ≡ 1 = ap length one in
+    inl (omega (arith, h.0))
+
+pub outside-over : (most limit others apart hidden left n word next v : ℕ) (t p q : Tree) (cs : List ConditionData)
+    → left ≡ suc n → next ≡ suc word → t ≡ Fork v p q → v / 32 ≢ word
+    → (IsOrderedFrom (32 * next) t → IsOver most limit others (rows_under apart hidden n next t cs) t)
+    → IsOrderedFrom (32 * word) t → IsOver most limit others (rows_under apart hidden left word t cs) t
+outside-over most limit others apart hidden left n word next v t p q cs e following is other h o =
+    let ordered : IsOrderedFrom (32 * suc word) (Fork v p q)
+    = later-ordered word v p q (subst (IsOrderedFrom (32 * word)) is o) (ne_eqb (v / 32) word other) in
+    let later : IsOrderedFrom (32 * next) t
+    = subst (λ (m : ℕ). IsOrderedFrom (32 * m) t) (sym following)
+    (subst (IsOrderedFrom (32 * suc word)) (sym is) ordered) in
+    subst (λ (rows : List RowData). IsOver most limit others rows t)
+    (sym (rows-outside apart hidden left n word next v t p q cs e following is other)) (h later)
+
+pub crowded-here : (limit word v : ℕ) (t p q : Tree) → t ≡ Fork v p q → v / 32 ≡ word → limit < test_count word t
+    → IsCrowded limit t
+crowded-here limit word v t p q is in_word more =
+    subst (IsCrowded limit) (sym is)
+    (inl (subst (λ (w : ℕ). limit < test_count w (Fork v p q)) (sym in_word)
+    (subst (λ (u : Tree). limit < test_count word u) is more)))
+
+-- where the rows behind one part are too many, all are
+pub step-over : (most limit others apart hidden left n word next v i : ℕ) (ts : List Tree) (t l r : Tree)
+    (cs pushed : List ConditionData) (parts : List StoredPart) (p : StoredPart) (before old : List RowData)
+    → left ≡ suc n → next ≡ suc word → t ≡ Fork v l r → v / 32 ≡ word → i < length parts → p ≡ get_or parts i p
+    → map (part_seen ts) parts ≡ parts_in word (word == apart) t
+    → old ≡ before ++ flat_map (rows_behind apart hidden n word cs) (take i (parts_in word (word == apart) t))
+    → others ≡ length before → pushed ≡ cs ++ record { word = word; form = p.form } ∷ []
+    → (IsOrderedFrom (32 * next) (tree_at ts p.behind)
+    → IsOver most limit (length old) (rows_under apart hidden n next (tree_at ts p.behind) pushed)
+    (tree_at ts p.behind))
+    → IsOrderedFrom (32 * word) t → IsOver most limit others (rows_under apart hidden left word t cs) t
+step-over most limit others apart hidden left n word next v i ts t l r cs pushed parts p before old e
+    following is here less same seen so_far count grown h o =
+    let ps : List PartData = parts_in word (word == apart) t in
+    let s : PartData = part_seen ts p in
+    let long : length (map (part_seen ts) parts) ≡ length parts = length-map parts (part_seen ts) in
+    let all : length (map (part_seen ts) parts) ≡ length ps = ap length seen in
+    let within : i < length ps = omega arith in
+    let one : get_or ps i s ≡ s
+    = sym (ap (λ (us : List PartData). get_or us i s) seen)
+    ∙ get_or-map (part_seen ts) parts i p s less
+    ∙ ap (part_seen ts) (sym same) in
+    let right : AreParts word t ps = parts_in-right word (word == apart) t o in
+    let some : HasNumber s = subst HasNumber one (right.some i s within) in
+    let leads : s.behind ≡ behind word t some.0
+    = subst (λ (q : PartData). LeadsTo (behind word t some.0) some.0 q) one (right.lead some.0 i s within) some.2 in
+    let ordered : IsOrderedFrom (32 * next) (tree_at ts p.behind)
+    = subst (λ (m : ℕ). IsOrderedFrom (32 * m) (tree_at ts p.behind)) (sym following)
+    (subst (IsOrderedFrom (32 * suc word)) (sym leads) (behind-ordered word t some.0 (32 * word) (omega arith) o)) in
+    let rows : List RowData = flat_map (rows_behind apart hidden n word cs) ps in
+    let whole : rows_under apart hidden left word t cs ≡ rows =
+    rows-inside apart hidden left n word v t l r cs e is here in
+    let made : rows_under apart hidden n next (tree_at ts p.behind) pushed ≡ rows_behind apart hidden n word cs s
+    = ap₂ (λ (m : ℕ) (ds : List ConditionData). rows_under apart hidden n m (tree_at ts p.behind) ds) following grown in
+    elim (h ordered) [
+      | inl more ↦ (
+          let part = length-flat_map-take (rows_behind apart hidden n word cs) ps i s within in
+          let first = ap length so_far ∙ length-append before
+          (flat_map (rows_behind apart hidden n word cs) (take i ps)) in
+          let second = ap length made in
+          let third = ap (λ (q : PartData). length (rows_behind apart hidden n word cs q)) one in
+          let total = ap length whole in
+          inl (omega arith))
+      | inr crowded ↦ inr (crowded_behind limit word t some.0 (subst (IsCrowded limit) leads crowded))
+    ]

@@ -11,11 +11,12 @@ use Rattle.std.proofs.Math.Pow.{mod-mod-pow}
 use Rattle.std.proofs.Math.Nat.{add-mod_right, zero-mod}
 use Rattle.sf_diagram.specs.Trees.{Tree, Leaf, Fork, IsOrderedFrom}
 use Rattle.sf_diagram.specs.Stores.{tree_at, AreCanonical}
+use Rattle.sf_parts.specs.WordLaws.{double}
 use Rattle.sf_parts.specs.Words.{is_in, behind, lower_at, higher_at, tested, is_same_tree}
-use Rattle.sf_parts.specs.Runs.{RunData, mask_for, mask_in, with_run, runs_before, runs_in}
+use Rattle.sf_parts.specs.Runs.{RunData, mask_in, with_run, runs_before, runs_in}
 use Rattle.sf_parts.specs.Stored.{run_seen, runs_seen}
 use Rattle.sf_parts.specs.declared.runs.Run.{Run}
-use Rattle.sf_parts.proofs.WordLemmas.{double, in-block, halves, is_same_tree-true, is_same_tree-self, same-ids, behind-outside, behind-lower, behind-higher, sides-ordered, IsUnder, sides-under, unmasked-ordered, tested-under}
+use Rattle.sf_parts.proofs.WordLemmas.{in-block, halves, is_same_tree-true, is_same_tree-self, same-ids, behind-outside, behind-lower, behind-higher, sides-ordered, IsUnder, sides-under, unmasked-ordered, tested-under}
 
 -- From p on, each number under the mask is in the first run that does not end before it, and the behind of that run is
 -- what comes behind the number. The runs follow one another.
@@ -85,6 +86,15 @@ with_run-right word mask t first last limit b (r ∷ rest) some short block are 
           omega arith),
     ))
 
+-- the runs of both halves of a block, before others; and those of a block behind a node that tests the word
+abbrev pub halves_before : ℕ → ℕ → ℕ → ℕ → Tree → List RunData → List RunData
+halves_before word mask k first s rest =
+    runs_before word mask k first (lower_at k s) (runs_before word mask k (first + 2 ^ k) (higher_at k s) rest)
+
+abbrev pub block_before : ℕ → ℕ → ℕ → ℕ → Tree → List RunData → List RunData
+block_before word mask k first s rest =
+    if bit_at mask k == 1 then halves_before word mask k first s rest else runs_before word mask k first s rest
+
 -- under a mask, the lowest bits of a number are not more than those of the mask
 low-under : (n mask k : ℕ) → bit_and n mask % 2 ^ k ≤ mask % 2 ^ k
 low-under n mask k =
@@ -143,15 +153,9 @@ runs-right word mask (suc k) t s first rest l o u aligned block are =
     let ordered : IsOrderedFrom (32 * word + (31 - k)) s
     = subst (λ (m : ℕ). IsOrderedFrom (32 * word + m) s) from_k o in
     let even : first % 2 ^ k ≡ 0 = aligned-lower first k aligned in
-    cond_both (is_in word s)
-    (if bit_at mask k == 1
-    then runs_before word mask k first (lower_at k s)
-    (runs_before word mask k (first + 2 ^ k) (higher_at k s) rest)
-    else runs_before word mask k first s rest)
+    cond_both (is_in word s) (block_before word mask k first s rest)
     (with_run first (first + mask % 2 ^ suc k) s rest) (AreRuns word mask t first)
-    (λ is. cond_both (bit_at mask k == 1)
-    (runs_before word mask k first (lower_at k s)
-    (runs_before word mask k (first + 2 ^ k) (higher_at k s) rest))
+    (λ is. cond_both (bit_at mask k == 1) (halves_before word mask k first s rest)
     (runs_before word mask k first s rest) (AreRuns word mask t first)
     (λ has.
     let one : bit_at mask k ≡ 1 = eqb-true (bit_at mask k) 1 has in
@@ -166,7 +170,7 @@ runs-right word mask (suc k) t s first rest l o u aligned block are =
     let lower_end : first ≤ bit_and n mask = omega arith in
     let upper_end : bit_and n mask < first + 2 ^ suc k = omega arith in
     block n lower_end upper_end
-    ∙ behind-higher word k s n is small
+    ∙ behind-higher word k s n is
     (sym (bit-under n mask k one)
     ∙ higher-bit first k (bit_and n mask) aligned lower_end upper_end from))
     (subst (λ (m : ℕ). AreRuns word mask t m rest) end are) in
@@ -175,7 +179,7 @@ runs-right word mask (suc k) t s first rest l o u aligned block are =
     (λ n from less.
     let upper_end : bit_and n mask < first + 2 ^ suc k = omega arith in
     block n from upper_end
-    ∙ behind-lower word k s n is small
+    ∙ behind-lower word k s n is
     (sym (bit-under n mask k one)
     ∙ lower-bit first k (bit_and n mask) aligned from upper_end less))
     higher)
@@ -187,7 +191,9 @@ runs-right word mask (suc k) t s first rest l o u aligned block are =
     (earlier word mask t (first + 2 ^ k) (first + 2 ^ suc k) rest (omega arith) are
     (λ n from less.
     let lower_end : first ≤ bit_and n mask = omega arith in
-    no-higher first k (bit_and n mask) aligned lower_end less from (bit-unmasked n mask k other)))))
+    let one : bit_at (bit_and n mask) k ≡ 1 = higher-bit first k (bit_and n mask) aligned lower_end less from in
+    let none : bit_at (bit_and n mask) k ≡ 0 = bit-unmasked n mask k other in
+    omega (arith, one, none)))))
     (λ out.
     let low : mask % 2 ^ suc k < 2 ^ suc k = mod_below mask (2 ^ suc k) (pow_pos (suc k)) in
     with_run-right word mask t first (first + mask % 2 ^ suc k) (first + 2 ^ suc k) s rest (omega arith) (omega arith)
@@ -212,19 +218,6 @@ runs-right word mask (suc k) t s first rest l o u aligned block are =
       | inr h ↦ absurd (omega arith)
     ]
 
-    no-higher : (first k x : ℕ) → first % 2 ^ suc k ≡ 0 → first ≤ x → x < first + 2 ^ suc k → first + 2 ^ k ≤ x
-        → bit_at x k ≡ 0 → ⊥
-    no-higher first k x aligned from below above e = elim (halves first k x aligned from below) [
-      | inl h ↦ omega arith
-      | inr h ↦ (let one : bit_at x k ≡ 1 = h.0 in cc)
-    ]
-
--- the mask has each bit that is tested
-mask-has : (bits j : ℕ) → bit_at bits j ≡ 1 → j < 32 → bit_at (mask_for bits) j ≡ 1
-mask-has bits j e l =
-    cond_both (nat_le 30 (count_ones bits + trailing_zeros w32 bits)) 0xffffffff bits (λ m. bit_at m j ≡ 1)
-    (λ _. bit_at_ones 32 j l) (λ _. e)
-
 tested-small : (word : ℕ) (t : Tree) → tested word t < 2 ^ 32
 tested-small word (Leaf c) = lit< tt
 tested-small word (Fork v p q) =
@@ -242,9 +235,11 @@ mask-small word t =
     (λ _. lit< tt)
     (λ _. tested-small word t)
 
+-- the mask has each bit that is tested
 mask-under : (word : ℕ) (t : Tree) → IsUnder word (mask_in word t) t
 mask-under word t = tested-under word (mask_in word t) t (λ j e. elim (cases_lt j 32) [
-  | inl l ↦ mask-has (tested word t) j e l
+  | inl l ↦ cond_both (nat_le 30 (count_ones (tested word t) + trailing_zeros w32 (tested word t))) 0xffffffff
+      (tested word t) (λ m. bit_at m j ≡ 1) (λ _. bit_at_ones 32 j l) (λ _. e)
   | inr l ↦ (let none : bit_at (tested word t) j ≡ 0 = bit_at_above (tested word t) 32 j (tested-small word t) l in
       absurd (cc))
 ])
@@ -261,37 +256,31 @@ runs_in-right word t o =
     let small : mask_in word t < 2 ^ 32 = mask-small word t in
     omega arith)
 
-pub with_run-length : (first last : ℕ) (b : Tree) (rest : List RunData)
-    → length rest ≤ length (with_run first last b rest)
-with_run-length first last b [] = omega arith
+-- no fewer runs than so many, and at least one
+abbrev AreMore : ℕ → List RunData → Type 0
+AreMore n runs = (n ≤ length runs) × (0 < length runs)
+
+with_run-length : (first last : ℕ) (b : Tree) (rest : List RunData) → AreMore (length rest) (with_run first last b rest)
+with_run-length first last b [] = (omega arith, omega arith)
 with_run-length first last b (r ∷ rest) =
     cond_both (is_same_tree r.behind b) (record { first = first; last = r.last; behind = b } ∷ rest)
-    (record { first = first; last = last; behind = b } ∷ r ∷ rest) (λ rs. suc (length rest) ≤ length rs)
-    (λ _. omega arith) (λ _. omega arith)
+    (record { first = first; last = last; behind = b } ∷ r ∷ rest) (AreMore (suc (length rest)))
+    (λ _. (omega arith, omega arith)) (λ _. (omega arith, omega arith))
 
 pub runs-length : (word mask k first : ℕ) (s : Tree) (rest : List RunData)
-    → length rest ≤ length (runs_before word mask k first s rest)
+    → AreMore (length rest) (runs_before word mask k first s rest)
 unfolding runs_before
 runs-length word mask zero first s rest = with_run-length first first s rest
 runs-length word mask (suc k) first s rest =
-    let higher : length rest ≤ length (runs_before word mask k (first + 2 ^ k) (higher_at k s) rest)
-    = runs-length word mask k (first + 2 ^ k) (higher_at k s) rest in
-    let lower : length (runs_before word mask k (first + 2 ^ k) (higher_at k s) rest)
-    ≤ length (runs_before word mask k first (lower_at k s)
-    (runs_before word mask k (first + 2 ^ k) (higher_at k s) rest))
-    = runs-length word mask k first (lower_at k s)
-    (runs_before word mask k (first + 2 ^ k) (higher_at k s) rest) in
-    cond_both (is_in word s)
-    (if bit_at mask k == 1
-    then runs_before word mask k first (lower_at k s)
-    (runs_before word mask k (first + 2 ^ k) (higher_at k s) rest)
-    else runs_before word mask k first s rest)
-    (with_run first (first + mask % 2 ^ suc k) s rest) (λ rs. length rest ≤ length rs)
-    (λ _. cond_both (bit_at mask k == 1)
-    (runs_before word mask k first (lower_at k s)
-    (runs_before word mask k (first + 2 ^ k) (higher_at k s) rest))
-    (runs_before word mask k first s rest) (λ rs. length rest ≤ length rs)
-    (λ _. omega arith)
+    let high : List RunData = runs_before word mask k (first + 2 ^ k) (higher_at k s) rest in
+    let higher : AreMore (length rest) high = runs-length word mask k (first + 2 ^ k) (higher_at k s) rest in
+    let lower : AreMore (length high) (halves_before word mask k first s rest)
+    = runs-length word mask k first (lower_at k s) high in
+    cond_both (is_in word s) (block_before word mask k first s rest)
+    (with_run first (first + mask % 2 ^ suc k) s rest) (AreMore (length rest))
+    (λ _. cond_both (bit_at mask k == 1) (halves_before word mask k first s rest)
+    (runs_before word mask k first s rest) (AreMore (length rest))
+    (λ _. (omega (arith, higher.0, lower.0), lower.1))
     (λ _. runs-length word mask k first s rest))
     (λ _. with_run-length first (first + mask % 2 ^ suc k) s rest)
 
@@ -307,48 +296,30 @@ pub runs-outside : (word mask first b k : ℕ) (s : Tree) (rest : List RunData) 
 unfolding runs_before
 runs-outside word mask first b k s rest e out =
     ap (λ (m : ℕ). runs_before word mask m first s rest) e
-    ∙ cond-false (is_in word s)
-    (if bit_at mask k == 1
-    then runs_before word mask k first (lower_at k s)
-    (runs_before word mask k (first + 2 ^ k) (higher_at k s) rest)
-    else runs_before word mask k first s rest)
+    ∙ cond-false (is_in word s) (block_before word mask k first s rest)
     (with_run first (first + mask % 2 ^ suc k) s rest) out
     ∙ ap (λ (m : ℕ). with_run first (first + mask % 2 ^ m) s rest) (sym e)
 
 runs-inside : (word mask first b k : ℕ) (s : Tree) (rest : List RunData) → b ≡ suc k → is_in word s ≡ true
-    → runs_before word mask b first s rest
-    ≡ (if bit_at mask k == 1
-    then runs_before word mask k first (lower_at k s)
-    (runs_before word mask k (first + 2 ^ k) (higher_at k s) rest)
-    else runs_before word mask k first s rest)
+    → runs_before word mask b first s rest ≡ block_before word mask k first s rest
 unfolding runs_before
 runs-inside word mask first b k s rest e is =
     ap (λ (m : ℕ). runs_before word mask m first s rest) e
-    ∙ cond-true (is_in word s)
-    (if bit_at mask k == 1
-    then runs_before word mask k first (lower_at k s)
-    (runs_before word mask k (first + 2 ^ k) (higher_at k s) rest)
-    else runs_before word mask k first s rest)
+    ∙ cond-true (is_in word s) (block_before word mask k first s rest)
     (with_run first (first + mask % 2 ^ suc k) s rest) is
 
 pub runs-split : (word mask first b k : ℕ) (s : Tree) (rest : List RunData) → b ≡ suc k → is_in word s ≡ true
-    → (bit_at mask k == 1) ≡ true → runs_before word mask b first s rest
-    ≡ runs_before word mask k first (lower_at k s) (runs_before word mask k (first + 2 ^ k) (higher_at k s) rest)
+    → (bit_at mask k == 1) ≡ true → runs_before word mask b first s rest ≡ halves_before word mask k first s rest
 runs-split word mask first b k s rest e is has =
     runs-inside word mask first b k s rest e is
-    ∙ cond-true (bit_at mask k == 1)
-    (runs_before word mask k first (lower_at k s)
-    (runs_before word mask k (first + 2 ^ k) (higher_at k s) rest))
-    (runs_before word mask k first s rest) has
+    ∙ cond-true (bit_at mask k == 1) (halves_before word mask k first s rest) (runs_before word mask k first s rest) has
 
 pub runs-skip : (word mask first b k : ℕ) (s : Tree) (rest : List RunData) → b ≡ suc k → is_in word s ≡ true
     → (bit_at mask k == 1) ≡ false
     → runs_before word mask b first s rest ≡ runs_before word mask k first s rest
 runs-skip word mask first b k s rest e is has =
     runs-inside word mask first b k s rest e is
-    ∙ cond-false (bit_at mask k == 1)
-    (runs_before word mask k first (lower_at k s)
-    (runs_before word mask k (first + 2 ^ k) (higher_at k s) rest))
+    ∙ cond-false (bit_at mask k == 1) (halves_before word mask k first s rest)
     (runs_before word mask k first s rest) has
 
 -- ---- runs of the code
@@ -396,38 +367,11 @@ kept-reverse ts runs kept = λ k d l.
     subst (λ (r : Run). r.behind < length ts) (sym (get_or-reverse runs k d long))
     (kept (length runs - 1 - k) d (omega arith))
 
-with_run-some : (first last : ℕ) (b : Tree) (rest : List RunData) → 0 < length (with_run first last b rest)
-with_run-some first last b [] = omega arith
-with_run-some first last b (r ∷ rest) =
-    cond_both (is_same_tree r.behind b) (record { first = first; last = r.last; behind = b } ∷ rest)
-    (record { first = first; last = last; behind = b } ∷ r ∷ rest) (λ rs. 0 < length rs)
-    (λ _. omega arith) (λ _. omega arith)
-
-pub runs-some : (word mask k first : ℕ) (s : Tree) (rest : List RunData)
-    → 0 < length (runs_before word mask k first s rest)
-unfolding runs_before
-runs-some word mask zero first s rest = with_run-some first first s rest
-runs-some word mask (suc k) first s rest =
-    cond_both (is_in word s)
-    (if bit_at mask k == 1
-    then runs_before word mask k first (lower_at k s)
-    (runs_before word mask k (first + 2 ^ k) (higher_at k s) rest)
-    else runs_before word mask k first s rest)
-    (with_run first (first + mask % 2 ^ suc k) s rest) (λ rs. 0 < length rs)
-    (λ _. cond_both (bit_at mask k == 1)
-    (runs_before word mask k first (lower_at k s)
-    (runs_before word mask k (first + 2 ^ k) (higher_at k s) rest))
-    (runs_before word mask k first s rest) (λ rs. 0 < length rs)
-    (λ _. runs-some word mask k first (lower_at k s)
-    (runs_before word mask k (first + 2 ^ k) (higher_at k s) rest))
-    (λ _. runs-some word mask k first s rest))
-    (λ _. with_run-some first (first + mask % 2 ^ suc k) s rest)
-
 -- a word has runs
 pub runs_in-some : (word : ℕ) (t : Tree) (ts : List Tree) (runs : List Run) → map (run_seen ts) runs ≡ runs_in word t
     → 0 < length runs
 runs_in-some word t ts runs e =
-    let some : 0 < length (runs_in word t) = runs-some word (mask_in word t) 32 0 t [] in
+    let some : 0 < length (runs_in word t) = (runs-length word (mask_in word t) 32 0 t []).1 in
     let same : length (map (run_seen ts) runs) ≡ length (runs_in word t) = ap length e in
     omega (arith, length-map runs (run_seen ts))
 
@@ -446,7 +390,7 @@ pub runs-more : (limit word mask k first : ℕ) (s : Tree) (ts : List Tree) (run
 runs-more limit word mask k first s ts runs le =
     let seen : length (runs_seen ts runs) ≡ length runs = length-map (reverse runs) (run_seen ts)
     ∙ length-reverse runs in
-    omega (arith, runs-length word mask k first s (runs_seen ts runs))
+    omega (arith, (runs-length word mask k first s (runs_seen ts runs)).0)
 
 -- both halves of a block
 pub runs-made : (word mask first b k w : ℕ) (s l h : Tree) (rest mid : List RunData) → b ≡ suc k → is_in word s ≡ true
@@ -466,7 +410,7 @@ pub runs-higher : (limit word mask first b k w : ℕ) (s h : Tree) (rest : List 
 runs-higher limit word mask first b k w s h rest e is has ew eh le =
     let mid : List RunData = runs_before word mask k (first + w) h rest in
     let more : length mid ≤ length (runs_before word mask k first (lower_at k s) mid)
-    = runs-length word mask k first (lower_at k s) mid in
+    = (runs-length word mask k first (lower_at k s) mid).0 in
     let same : length (runs_before word mask k first (lower_at k s) mid)
     ≡ length (runs_before word mask b first s rest)
     = ap length (runs-made word mask first b k w s (lower_at k s) h rest mid e is has ew refl eh refl) in
@@ -476,12 +420,6 @@ runs-begin : (word mask : ℕ) (t : Tree) (ts : List Tree) (none : List Run) →
     → runs_before word mask 32 0 t (runs_seen ts none) ≡ runs_in word t
 runs-begin word mask t ts none empty masked =
     ap₂ (λ (m : ℕ) (rs : List RunData). runs_before word m 32 0 t rs) masked (ap (runs_seen ts) empty)
-
-pub runs-listed : (word mask : ℕ) (t : Tree) (ts : List Tree) (items listed none : List Run) → listed ≡ reverse items
-    → runs_seen ts items ≡ runs_before word mask 32 0 t (runs_seen ts none) → none ≡ [] → mask ≡ mask_in word t
-    → map (run_seen ts) listed ≡ runs_in word t
-runs-listed word mask t ts items listed none turned made empty masked =
-    ap (map (run_seen ts)) turned ∙ made ∙ runs-begin word mask t ts none empty masked
 
 pub option-more : {X : Type 0} (o : Option X) (P P' : Type 0) (Q Q' : X → Type 0) → (P → P') → ((x : X) → Q x → Q' x)
     → MatchOption o P Q → MatchOption o P' Q'
@@ -497,8 +435,8 @@ pub few-listed : (word mask most : ℕ) (t : Tree) (ts : List Tree) (items liste
     × ((v : List Run) → v ≡ listed → length listed ≤ most
     → (map (run_seen ts) v ≡ runs_in word t) × (length v ≤ most) × All (λ r. r.behind < length ts) v)
 few-listed word mask most t ts items listed none turned made empty masked kept =
-    let all : map (run_seen ts) listed ≡ runs_in word t =
-    runs-listed word mask t ts items listed none turned made empty masked in
+    let all : map (run_seen ts) listed ≡ runs_in word t
+    = ap (map (run_seen ts)) turned ∙ made ∙ runs-begin word mask t ts none empty masked in
     let long : length (map (run_seen ts) listed) ≡ length listed = length-map listed (run_seen ts) in
     let same : length (map (run_seen ts) listed) ≡ length (runs_in word t) = ap length all in (
       λ more. omega arith,

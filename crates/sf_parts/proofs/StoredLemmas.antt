@@ -71,16 +71,13 @@ spans-more ts runs i d b without meant spans new all canonical l kept within e a
 
 -- ---- what comes behind the longest run
 
-same-if : {A : Type 0} (x : Bool) (a : A) → (if x then a else a) ≡ a
-same-if true a = refl
-same-if false a = refl
-
 pub rest-first : (ts : List Tree) (runs : List Run) (d : Run) → 0 < length runs
     → longest_of (run_seen ts (get_or runs 0 d)) (map (run_seen ts) runs) ≡ rest_in (map (run_seen ts) runs)
 rest-first ts [] d l = absurd (omega arith)
 rest-first ts (r ∷ rest) d l =
-    ap (λ (q : RunData). longest_of q (map (run_seen ts) rest))
-    (same-if (nat_le (r.last - r.first) (r.last - r.first)) (run_seen ts r))
+    cond_both (nat_le (r.last - r.first) (r.last - r.first)) (run_seen ts r) (run_seen ts r)
+    (λ q. longest_of q (map (run_seen ts) rest) ≡ longest_of (run_seen ts r) (map (run_seen ts) rest))
+    (λ _. refl) (λ _. refl)
 
 seen-if : (ts : List Tree) (x : Bool) (r best : Run)
     → run_seen ts (if x then r else best) ≡ (if x then run_seen ts r else run_seen ts best)

@@ -1,21 +1,16 @@
 -- Words of trees: their bits, what comes behind them, and where a tree is told from another.
-use Rattle.std.proofs.Common.{◌≡◌, ◌≢◌, ℕ, zero, suc, ◌+◌, ◌-◌, ◌*◌, ◌/◌, ◌%◌, ◌^◌, ◌<◌, ◌≤◌, ◌==◌, Bool, true, false, List, length, refl, sym, ap, ◌∙◌, inl, inr, arith, lit<}
+use Rattle.std.proofs.Common.{◌≡◌, ◌≢◌, ℕ, zero, suc, ◌+◌, ◌-◌, ◌*◌, ◌/◌, ◌%◌, ◌^◌, ◌<◌, ◌≤◌, ◌==◌, Bool, true, false, List, length, refl, sym, ap, ◌∙◌, inl, inr, arith}
 use Rattle.std.specs.Prelude.{◌&&◌, ◌⊎◌, bit_or, if◌then◌else◌}
 use Rattle.std.specs.Int.{bit_at}
 use Rattle.std.proofs.lemmas.Bool.{cases_Bool, cases_lt, cond-true, cond-false, cond_both, eqb-true, eqb-false, eq-eqb, and_parts, and_from}
-use Rattle.std.proofs.lemmas.Nat.{pow-add, shr_split, mod_low, mod_below, pow_pos, mod-pow-add}
+use Rattle.std.proofs.lemmas.Nat.{shr_split, mod_low, mod_below, pow_pos}
 use Rattle.std.proofs.lemmas.Nat.Bits.{bit_at-lt, bit_at_or, bit_at-pow_same, bit_at_cat_low, bit_at_cat_high}
 use Rattle.sf_diagram.specs.Trees.{Tree, Leaf, Fork, Bits, value, IsOrderedFrom}
 use Rattle.sf_diagram.specs.Stores.{tree_at, AreCanonical}
+use Rattle.sf_parts.specs.WordLaws.{low-more, low-small, ordered-weaker}
 use Rattle.sf_parts.specs.Words.{low_number, word_number, is_in, behind, lower_at, higher_at, tested, is_same_tree}
 
 -- ---- numbers and their bits
-
-pub double : (k : ℕ) → 2 ^ suc k ≡ 2 ^ k + 2 ^ k
-double k =
-    let next : suc k ≡ 1 + k = omega arith in
-    let two : 2 ^ 1 * 2 ^ k ≡ 2 ^ k + 2 ^ k = omega arith in
-    ap (λ (m : ℕ). 2 ^ m) next ∙ pow-add 2 1 k ∙ two
 
 -- a number of a block is its first one and its own lowest bits
 pub in-block : (first k x : ℕ) → first % 2 ^ k ≡ 0 → first ≤ x → x < first + 2 ^ k → x ≡ first + x % 2 ^ k
@@ -32,11 +27,6 @@ one-bit : (b w r m : ℕ) → b < 2 → r < w → b * w + r ≡ m → ((b ≡ 0)
 one-bit zero w r m l s e = inl (refl, omega arith)
 one-bit (suc zero) w r m l s e = inr (refl, omega arith)
 one-bit (suc (suc b)) w r m l s e = absurd (omega arith)
-
-pub low-more : (x k : ℕ) → bit_at x k * 2 ^ k + x % 2 ^ k ≡ x % 2 ^ suc k
-low-more x k =
-    let next : suc k ≡ 1 + k = omega arith in
-    sym (mod-pow-add x 1 k) ∙ ap (λ (m : ℕ). x % 2 ^ m) (sym next)
 
 -- a number of a block is in its lower half, or in its higher one, by its bit
 pub halves : (first k x : ℕ) → first % 2 ^ suc k ≡ 0 → first ≤ x → x < first + 2 ^ suc k
@@ -100,41 +90,35 @@ tested-inside word v p q e =
     cond-true (v / 32 == word) (bit_or (bit_or (2 ^ (31 - v % 32)) (tested word p)) (tested word q)) 0
     (eq-eqb (v / 32) word e)
 
--- where the bit is not set, what comes behind comes behind the lower side
-pub behind-lower : (word k : ℕ) (t : Tree) (n : ℕ) → is_in word t ≡ true → k < 32 → bit_at n k ≡ 0
-    → behind word t n ≡ behind word (lower_at k t) n
-behind-lower word k (Leaf c) n is l e = refl
-behind-lower word k (Fork v p q) n is l e =
-    cond_both (v % 32 + k == 31) p (Fork v p q) (λ u. behind word (Fork v p q) n ≡ behind word u n)
-    (λ at.
-    let sum : v % 32 + k ≡ 31 = eqb-true (v % 32 + k) 31 at in
+-- behind a fork that tests a bit comes what its bit tells
+behind-here : (word v k : ℕ) (p q : Tree) (n : ℕ) → (v / 32 == word) ≡ true → v % 32 + k ≡ 31
+    → behind word (Fork v p q) n ≡ (if bit_at n k == 1 then behind word q n else behind word p n)
+behind-here word v k p q n is sum =
     let bit : 31 - v % 32 ≡ k = omega arith in
-    let clear : bit_at n (31 - v % 32) ≡ 0 = ap (λ (m : ℕ). bit_at n m) bit ∙ e in
-    let not_one : (bit_at n (31 - v % 32) == 1) ≡ false = ap (λ (m : ℕ). m == 1) clear in
     cond-true (v / 32 == word) (inner word v p q n) (Fork v p q) is
-    ∙ cond-false (bit_at n (31 - v % 32) == 1) (behind word q n) (behind word p n) not_one)
+    ∙ ap (λ (m : ℕ). if bit_at n m == 1 then behind word q n else behind word p n) bit
+
+-- where the bit is not set, what comes behind comes behind the lower side
+pub behind-lower : (word k : ℕ) (t : Tree) (n : ℕ) → is_in word t ≡ true → bit_at n k ≡ 0
+    → behind word t n ≡ behind word (lower_at k t) n
+behind-lower word k (Leaf c) n is e = refl
+behind-lower word k (Fork v p q) n is e =
+    cond_both (v % 32 + k == 31) p (Fork v p q) (λ u. behind word (Fork v p q) n ≡ behind word u n)
+    (λ at. behind-here word v k p q n is (eqb-true (v % 32 + k) 31 at)
+    ∙ cond-false (bit_at n k == 1) (behind word q n) (behind word p n) (ap (λ (m : ℕ). m == 1) e))
     (λ _. refl)
 
 -- where it is set, behind the higher side
-pub behind-higher : (word k : ℕ) (t : Tree) (n : ℕ) → is_in word t ≡ true → k < 32 → bit_at n k ≡ 1
+pub behind-higher : (word k : ℕ) (t : Tree) (n : ℕ) → is_in word t ≡ true → bit_at n k ≡ 1
     → behind word t n ≡ behind word (higher_at k t) n
-behind-higher word k (Leaf c) n is l e = refl
-behind-higher word k (Fork v p q) n is l e =
+behind-higher word k (Leaf c) n is e = refl
+behind-higher word k (Fork v p q) n is e =
     cond_both (v % 32 + k == 31) q (Fork v p q) (λ u. behind word (Fork v p q) n ≡ behind word u n)
-    (λ at.
-    let sum : v % 32 + k ≡ 31 = eqb-true (v % 32 + k) 31 at in
-    let bit : 31 - v % 32 ≡ k = omega arith in
-    let set_there : bit_at n (31 - v % 32) ≡ 1 = ap (λ (m : ℕ). bit_at n m) bit ∙ e in
-    let is_one : (bit_at n (31 - v % 32) == 1) ≡ true = ap (λ (m : ℕ). m == 1) set_there in
-    cond-true (v / 32 == word) (inner word v p q n) (Fork v p q) is
-    ∙ cond-true (bit_at n (31 - v % 32) == 1) (behind word q n) (behind word p n) is_one)
+    (λ at. behind-here word v k p q n is (eqb-true (v % 32 + k) 31 at)
+    ∙ cond-true (bit_at n k == 1) (behind word q n) (behind word p n) (ap (λ (m : ℕ). m == 1) e))
     (λ _. refl)
 
 -- ---- the order of tests
-
-pub ordered-weaker : (t : Tree) (m n : ℕ) → IsOrderedFrom n t → m ≤ n → IsOrderedFrom m t
-ordered-weaker (Leaf c) m n o l = tt
-ordered-weaker (Fork v p q) m n o l = (omega (arith, o.0), o.1, o.2)
 
 -- the sides at a bit test lower bits only
 pub sides-ordered : (word k : ℕ) (t : Tree) → k < 32 → is_in word t ≡ true
@@ -207,20 +191,13 @@ tested-under word mask (Fork v p q) h = λ in_word.
 
 -- ---- the number that an input has in a word
 
-flag-small : (b : Bool) (w l : ℕ) → l < w → (if b then 1 else 0) * w + l < w + w
-flag-small true w l less = omega arith
-flag-small false w l less = omega arith
-
 flag-bit : (b : Bool) → bit_at (if b then 1 else 0) 0 ≡ (if b then 1 else 0)
 flag-bit true = refl
 flag-bit false = refl
 
-low-small : (word k : ℕ) (bits : Bits) → low_number word k bits < 2 ^ k
-unfolding low_number
-low-small word zero bits = lit< tt
-low-small word (suc k) bits =
-    let twice : 2 ^ suc k ≡ 2 ^ k + 2 ^ k = double k in
-    omega (arith, flag-small (bits (32 * word + (31 - k))) (2 ^ k) (low_number word k bits) (low-small word k bits))
+flag-one : (b : Bool) → ((if b then 1 else 0) == 1) ≡ b
+flag-one true = refl
+flag-one false = refl
 
 bit-in : (word k j : ℕ) (bits : Bits) → j < k
     → bit_at (low_number word k bits) j ≡ (if bits (32 * word + (31 - j)) then 1 else 0)
@@ -246,36 +223,15 @@ pub value-behind : (word : ℕ) (t : Tree) (bits : Bits)
 value-behind word (Leaf c) bits = refl
 value-behind word (Fork v p q) bits =
     let n : ℕ = word_number word bits in
-    let inner : Tree
-    = if bit_at n (31 - v % 32) == 1 then behind word q n else behind word p n in
-    elim (cases_Bool (v / 32 == word)) [
-      | inl is ↦ (
-          let in_word : v / 32 ≡ word = eqb-true (v / 32) word is in
-          let place : 32 * word + (31 - (31 - v % 32)) ≡ v = omega arith in
-          let all : behind word (Fork v p q) n ≡ inner = cond-true (v / 32 == word) inner (Fork v p q) is in
-          let bit : bit_at n (31 - v % 32) ≡ (if bits v then 1 else 0)
-          = bit-in word 32 (31 - v % 32) bits (omega arith)
-          ∙ ap (λ (i : ℕ). if bits i then 1 else 0) place in
-          elim (cases_Bool (bits v)) [
-            | inl set ↦ (
-                let one : (bit_at n (31 - v % 32) == 1) ≡ true
-                = ap (λ (m : ℕ). m == 1) (bit ∙ cond-true (bits v) 1 0 set) in
-                let side : inner ≡ behind word q n
-                = cond-true (bit_at n (31 - v % 32) == 1) (behind word q n) (behind word p n) one in
-                cond-true (bits v) (value q bits) (value p bits) set
-                ∙ value-behind word q bits
-                ∙ ap (λ (t : Tree). value t bits) (sym (all ∙ side)))
-            | inr clear ↦ (
-                let zero_there : (bit_at n (31 - v % 32) == 1) ≡ false
-                = ap (λ (m : ℕ). m == 1) (bit ∙ cond-false (bits v) 1 0 clear) in
-                let side : inner ≡ behind word p n
-                = cond-false (bit_at n (31 - v % 32) == 1) (behind word q n) (behind word p n) zero_there in
-                cond-false (bits v) (value q bits) (value p bits) clear
-                ∙ value-behind word p bits
-                ∙ ap (λ (t : Tree). value t bits) (sym (all ∙ side)))
-          ])
-      | inr out ↦ (
-          let same : behind word (Fork v p q) n ≡ Fork v p q
-          = cond-false (v / 32 == word) inner (Fork v p q) out in
-          ap (λ (t : Tree). value t bits) (sym same))
-    ]
+    cond_both (v / 32 == word) (inner word v p q n) (Fork v p q) (λ u. value (Fork v p q) bits ≡ value u bits)
+    (λ is.
+    let in_word : v / 32 ≡ word = eqb-true (v / 32) word is in
+    let place : 32 * word + (31 - (31 - v % 32)) ≡ v = omega arith in
+    let bit : bit_at n (31 - v % 32) ≡ (if bits v then 1 else 0)
+    = bit-in word 32 (31 - v % 32) bits (omega arith) ∙ ap (λ (i : ℕ). if bits i then 1 else 0) place in
+    let same : bits v ≡ (bit_at n (31 - v % 32) == 1) = sym (ap (λ (m : ℕ). m == 1) bit ∙ flag-one (bits v)) in
+    cond_both (bit_at n (31 - v % 32) == 1) (behind word q n) (behind word p n)
+    (λ u. value (Fork v p q) bits ≡ value u bits)
+    (λ set. cond-true (bits v) (value q bits) (value p bits) (same ∙ set) ∙ value-behind word q bits)
+    (λ clear. cond-false (bits v) (value q bits) (value p bits) (same ∙ clear) ∙ value-behind word p bits))
+    (λ _. refl)

@@ -1,5 +1,3 @@
-//! Why there are no rows.
-
 ghost use Rattle.std.specs.Prelude.{◌≡◌};
 ghost use Rattle.sf_parts.specs.declared.fault.Fault.TheVariants.{Memory};
 
@@ -10,14 +8,12 @@ use std::alloc::{AllocError, AllocFailed};
 pub enum Fault {
     /// There would be more rows than are allowed, or a word is tested more often.
     Spent,
-    /// An allocation was refused.
     Memory,
 }
 
 impl From<AllocError> for Fault {
     ghost from_gives = { λ _ e. e ≡ Memory };
 
-    /// Each `AllocError` is the fault `Memory`.
     fn from(_e: AllocError) -> Fault {
         Fault::Memory
     }
@@ -26,7 +22,6 @@ impl From<AllocError> for Fault {
 impl<T: Drop> From<AllocFailed<T>> for Fault {
     ghost from_gives = { λ _ e. e ≡ Memory };
 
-    /// A refused allocation is the fault `Memory`. The value that should have been stored is dropped.
     fn from(_e: AllocFailed<T>) -> Fault {
         Fault::Memory
     }

@@ -1,5 +1,3 @@
-//! How numbers of a word are written.
-
 ghost use Rattle.std.specs.Prelude.{◌≡◌, IfOk};
 
 use std::alloc::{AllocError, Global};
@@ -8,9 +6,7 @@ use std::marker::Model;
 /// Numbers in a row.
 #[derive(Clone, Copy, Debug, PartialEq, Eq)]
 pub struct Span {
-    /// The first of the numbers.
     pub first: u32,
-    /// The last of them.
     pub last: u32,
 }
 
@@ -34,7 +30,6 @@ impl Model for Form {
     ghost view = { λ f. record { mask = f.mask; without = f.without; spans = f.spans.items } };
 }
 
-/// A copy of spans.
 fn copy_of(alloc: Global, spans: &[Span]) -> Result<Vec<Span>, AllocError>
     ensures { IfOk result (λ v. v.items ≡ spans.now) }
 {
@@ -43,7 +38,6 @@ fn copy_of(alloc: Global, spans: &[Span]) -> Result<Vec<Span>, AllocError>
 }
 
 impl Form {
-    /// A copy. `Err` where an allocation is refused.
     pub(crate) fn try_clone(&self, alloc: Global) -> Result<Form, AllocError>
         ensures { IfOk result (λ f. f ≡ self.now) }
     {

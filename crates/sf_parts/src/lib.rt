@@ -1,4 +1,6 @@
 //! Rows of a decision diagram: for each word which numbers lead on to the same, and what comes behind.
+//!
+//! Where memory runs out, functions fail with `Memory` or `AllocError`.
 #![tactic(auto)]
 
 mod bits;

@@ -1,6 +1,6 @@
 //! The parts of a word: behind the numbers of a part comes the same.
 
-ghost use Rattle.std.specs.Prelude.{◌≡◌, ◌==◌, ◌||◌, ◌-◌, ◌<◌, ◌≤◌, [], ◌∷◌, ◌++◌, length, map, not, true, false, All, IfOk, IfErr, OnOk, nat_le, if◌then◌else◌};
+ghost use Rattle.std.specs.Prelude.{◌≡◌, ◌==◌, ◌||◌, ◌-◌, ◌<◌, [], ◌∷◌, ◌++◌, length, map, not, true, false, All, IfOk, IfErr, OnOk, nat_le, if◌then◌else◌};
 ghost use Rattle.std.specs.List.{list_any};
 ghost use Rattle.sf_diagram.specs.Stores.{tree_at, IsLawfulStore};
 ghost use Rattle.sf_parts.specs.Words.{test_count};
@@ -16,7 +16,6 @@ use sf_diagram::{Id, Store};
 use std::alloc::{AllocError, Global};
 use std::marker::Model;
 
-/// A part of a word.
 #[derive(Drop)]
 pub(crate) struct Part {
     /// How its numbers are written.
@@ -33,7 +32,6 @@ impl Model for Part {
     ghost view = { λ p. record { form = p.form; behind = p.behind } };
 }
 
-/// Of two runs the longer one; the second one where they are as long.
 fn longer(best: Run, run: Run) -> Run
     ensures { result ≡ (if nat_le (best.last - best.first) (run.last - run.first)
         then run else best) }
@@ -45,7 +43,7 @@ fn longer(best: Run, run: Run) -> Run
     }
 }
 
-/// What comes behind the longest run, the last one of several. The caller's condition: there is one.
+/// What comes behind the longest run, the last one of several.
 fn rest_of(store: &Store, runs: &[Run]) -> Id
     requires kept { All (λ r. r.behind < length store.now.trees) runs.now }
     requires some { 0 < length runs.now }
@@ -61,14 +59,12 @@ fn rest_of(store: &Store, runs: &[Run]) -> Id
     best.behind
 }
 
-/// Whether one of the ids is this one.
 fn is_known(known: &[Id], behind: Id) -> bool
     ensures { result ≡ list_any (λ b. behind == b) known.now }
 {
     known.iter().any(|b| behind == *b)
 }
 
-/// Whether an id is the rest's, or known.
 fn is_old(known: &[Id], rest: Id, behind: Id) -> bool
     ensures { result ≡ (behind == rest || list_any (λ b. behind == b) known.now) }
 {
@@ -76,7 +72,6 @@ fn is_old(known: &[Id], rest: Id, behind: Id) -> bool
     behind == rest || found
 }
 
-/// Adds an id if it is new, and not the rest's.
 fn push_known(known: &mut Vec<Id>, rest: Id, behind: Id) -> Result<(), AllocError>
     ensures { OnOk result (known.new.items
         ≡ (if behind == rest || list_any (λ b. behind == b) known.old.items
@@ -156,7 +151,7 @@ fn spans_of(
     Ok(spans)
 }
 
-/// The part of the runs under the mask that lead to a node, or of what the others leave.
+/// The part of the runs that lead to a node, or of what the others leave.
 fn part_of(
     alloc: Global,
     store: &Store,
@@ -212,7 +207,6 @@ fn parts_by(
     Ok(parts)
 }
 
-/// The joined parts of runs under the mask. The caller's condition: there are some.
 fn joined_parts(
     alloc: Global,
     store: &Store,
@@ -249,7 +243,6 @@ fn span_part(alloc: Global, mask: u32, span: Span, behind: Id) -> Result<Part, A
     Ok(Part { form, behind })
 }
 
-/// A part for each of these runs under the mask.
 fn apart_parts(
     alloc: Global,
     store: &Store,
@@ -278,8 +271,7 @@ struct Way {
     number: u32,
 }
 
-/// Adds the ways that begin so, and lead on from a node. `Err` where an allocation is refused. The caller's condition:
-/// there is such a node.
+/// Adds the ways that begin so, and lead on from a node.
 fn push_ways(
     alloc: Global,
     store: &Store,
@@ -321,8 +313,7 @@ fn push_ways(
     Ok(())
 }
 
-/// The ways through a word of a node. `Err` where an allocation is refused. The caller's condition: there is such a
-/// node.
+/// The ways through a word of a node.
 fn ways_of(alloc: Global, store: &Store, word: u16, id: Id) -> Result<Vec<Part>, AllocError>
     requires { id < length store.now.trees }
     ensures kept { IfOk result (λ v. All (λ p. p.behind < length store.now.trees) v.items) }
@@ -339,9 +330,7 @@ fn ways_of(alloc: Global, store: &Store, word: u16, id: Id) -> Result<Vec<Part>,
     Ok(parts)
 }
 
-/// The parts of a word of a node: how their numbers are written, and what comes behind them. The caller's condition:
-/// there is such a node. `Spent` where the word is tested more often than is allowed, `Memory` where an allocation is
-/// refused.
+/// The parts of a word of a node. `Spent` where the word is tested more often than is allowed.
 pub(crate) fn parts_of(
     alloc: Global,
     store: &Store,

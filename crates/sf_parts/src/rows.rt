@@ -1,5 +1,3 @@
-//! The rows of a diagram.
-
 ghost use Rattle.std.specs.Prelude.{◌≡◌, ◌⊎◌, ◌==◌, ◌+◌, ◌*◌, ◌<◌, ◌≤◌, [], ◌∷◌, ◌++◌, length, false, IfOk, IfErr, OnOk, if◌then◌else◌};
 ghost use Rattle.sf_diagram.specs.Trees.{IsOrderedFrom};
 ghost use Rattle.sf_diagram.specs.Stores.{tree_at, IsLawfulStore};
@@ -33,9 +31,8 @@ impl Model for Condition {
 /// The inputs that meet all conditions get the number.
 #[derive(Drop)]
 pub struct Row {
-    /// The conditions, on different words.
+    /// On different words.
     pub conditions: Vec<Condition>,
-    /// The number.
     pub number: u64,
 }
 
@@ -60,7 +57,6 @@ struct Words {
 /// How many rows there may be. A row takes up to some 1.3 kB, so these take 85 MB. Real stacks have some hundred rows.
 pub const ROWS: usize = 65536;
 
-/// A condition, with a copy of the form.
 fn condition_of(alloc: Global, word: u16, form: &Form) -> Result<Condition, AllocError>
     ensures { IfOk result (λ c. c ≡ record { word = word; form = form.now }) }
 {
@@ -68,7 +64,6 @@ fn condition_of(alloc: Global, word: u16, form: &Form) -> Result<Condition, Allo
     Ok(Condition { word, form })
 }
 
-/// A copy of conditions.
 fn conditions_of(alloc: Global, conditions: &[Condition]) -> Result<Vec<Condition>, AllocError>
     ensures { IfOk result (λ v. v.items ≡ conditions.now) }
 {
@@ -80,8 +75,7 @@ fn conditions_of(alloc: Global, conditions: &[Condition]) -> Result<Vec<Conditio
     Ok(copy)
 }
 
-/// Adds the row of a number, unless it is hidden. `Spent` where there are as many as are allowed, `Memory` where an
-/// allocation is refused.
+/// Adds the row of a number, unless it is hidden.
 fn push_row(
     alloc: Global,
     conditions: &[Condition],
@@ -105,8 +99,7 @@ fn push_row(
     Ok(())
 }
 
-/// Adds the rows of a node under conditions on earlier words. `Spent` where there would be more rows than are allowed,
-/// or a word is tested more often, `Memory` where an allocation is refused.
+/// Adds the rows of a node under conditions on earlier words.
 fn push_rows(
     alloc: Global,
     store: &Store,
@@ -156,9 +149,8 @@ fn push_rows(
 }
 
 /// The rows of a node that tests only so many words from this one on. The runs of the word `apart` stand by themselves,
-/// and inputs that get the number `hidden` are left out. The caller's conditions: there is such a node, and the words
-/// have variables. `Spent` where there would be more rows than are allowed, or a word is tested more often, `Memory`
-/// where an allocation is refused.
+/// and inputs that get the number `hidden` are left out. `Spent` where there would be more rows than are allowed, or a
+/// word is tested more often.
 pub fn rows_of(
     alloc: Global,
     store: &Store,

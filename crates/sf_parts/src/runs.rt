@@ -1,5 +1,3 @@
-//! The numbers of a word in runs.
-
 ghost use Rattle.std.specs.Prelude.{◌≡◌, ◌+◌, ◌^◌, ◌<◌, ◌≤◌, [], ◌∷◌, ◌++◌, length, map, reverse, All, IfOk, IfErr, OnOk, MatchOption};
 ghost use Rattle.sf_diagram.specs.Stores.{tree_at, IsLawfulStore};
 ghost use Rattle.sf_parts.specs.Runs.{mask_in, runs_before, runs_in, with_run};
@@ -14,11 +12,8 @@ use std::alloc::Global;
 /// Numbers in a row, behind which the same comes.
 #[derive(Clone, Copy)]
 pub(crate) struct Run {
-    /// The first of the numbers.
     pub(crate) first: u32,
-    /// The last of them.
     pub(crate) last: u32,
-    /// What comes behind.
     pub(crate) behind: Id,
 }
 
@@ -37,7 +32,7 @@ struct Block {
     first: u32,
 }
 
-/// Adds a run to others. `Spent` where there are as many as are allowed, `Memory` where an allocation is refused.
+/// Adds a run, or says `Spent` where there are as many as are allowed.
 fn push_new(runs: &mut Vec<Run>, run: Run, most: usize) -> Result<(), Fault>
     ensures runs { OnOk result (runs.new.items ≡ runs.old.items ++ run ∷ []) }
     ensures spent { IfErr result (λ e. e ≡ Fault.Spent → most ≤ length runs.old.items) }
@@ -49,8 +44,7 @@ fn push_new(runs: &mut Vec<Run>, run: Run, most: usize) -> Result<(), Fault>
     Ok(())
 }
 
-/// Adds a run to those that are listed from the last to the first. `Spent` where there are as many as are allowed,
-/// `Memory` where an allocation is refused.
+/// Adds a run to those that are listed from the last to the first, joined to the last of them where it can be.
 fn push_run(store: &Store, runs: &mut Vec<Run>, run: Run, most: usize) -> Result<(), Fault>
     requires lawful { IsLawfulStore store.now }
     requires within { run.behind < length store.now.trees }
@@ -77,8 +71,7 @@ fn push_run(store: &Store, runs: &mut Vec<Run>, run: Run, most: usize) -> Result
     push_new(runs, run, most)
 }
 
-/// Adds the runs of a block to those that are listed from the last to the first. `Spent` where there would be more
-/// than are allowed, `Memory` where an allocation is refused.
+/// Adds the runs of a block to those that are listed from the last to the first.
 fn push_runs(
     store: &Store,
     word: Word,
@@ -147,7 +140,6 @@ fn push_runs(
     push_runs(store, word, Block { bits, first }, low, runs)
 }
 
-/// Runs in the opposite order.
 fn turned(mut runs: Vec<Run>) -> Vec<Run>
     ensures { result.items ≡ reverse runs.items }
 {
@@ -155,7 +147,6 @@ fn turned(mut runs: Vec<Run>) -> Vec<Run>
     runs
 }
 
-/// Runs, if they are not more than a limit.
 fn if_few(runs: Vec<Run>, most: usize) -> Option<Vec<Run>>
     ensures { MatchOption result (most < length runs.items)
         (λ v. (v.items ≡ runs.items) × (length runs.items ≤ most)) }
@@ -164,7 +155,6 @@ fn if_few(runs: Vec<Run>, most: usize) -> Option<Vec<Run>>
 }
 
 /// The runs of a word of a node under its mask, from the first to the last; `None` where there are more than a limit.
-/// The caller's condition: there is such a node. `Memory` where an allocation is refused.
 ///
 /// The work ends soon after the limit. A block of numbers that is divided leads to several nodes, so some run ends in
 /// it; and the blocks of one size do not overlap. So there are at most 32 divided blocks for each run.

@@ -13,7 +13,7 @@ use sf_diagram::{Id, Node, Store};
 pub const TESTS: u32 = 65536;
 
 /// The variable of a node, where it leads if this is false, and where if it is true; `None` where the node does not
-/// test the word. The caller's condition: there is such a node.
+/// test the word.
 pub(crate) fn fork_in(store: &Store, word: u16, id: Id) -> Option<(u16, Id, Id)>
     requires { id < length store.now.trees }
     ensures fork { MatchOption result (is_in word (tree_at store.now.trees id) ≡ false)
@@ -33,8 +33,7 @@ pub(crate) fn fork_in(store: &Store, word: u16, id: Id) -> Option<(u16, Id, Id)>
     }
 }
 
-/// Where a node leads if a bit of the word is not set, and if it is; `None` where the node does not test the word. The
-/// caller's conditions: there is such a node, and such a bit.
+/// Where a node leads if a bit of the word is not set, and if it is; `None` where the node does not test the word.
 pub(crate) fn sides_in(store: &Store, word: u16, bit: u32, id: Id) -> Option<(Id, Id)>
     requires within { id < length store.now.trees }
     requires bit { bit < 32 }
@@ -53,8 +52,7 @@ pub(crate) fn sides_in(store: &Store, word: u16, bit: u32, id: Id) -> Option<(Id
     Some((id, id))
 }
 
-/// The bits of the word that a node tests, and what is left of as many tests as are allowed. The caller's condition:
-/// there is such a node. `Spent` where there are more tests.
+/// The bits of the word that a node tests, and what is left of as many tests as are allowed.
 pub(crate) fn tested_bits(store: &Store, word: u16, id: Id, left: u32) -> Result<(u32, u32), Fault>
     requires { id < length store.now.trees }
     ensures tested { IfOk result (λ r. r.0 ≡ tested word (tree_at store.now.trees id)) }
