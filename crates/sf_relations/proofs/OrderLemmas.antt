@@ -1,15 +1,14 @@
 -- Inputs before others, by their bits and by their variables.
-use Rattle.std.proofs.Common.{◌≡◌, ◌⊎◌, ℕ, zero, suc, ◌+◌, ◌-◌, ◌*◌, ◌/◌, ◌%◌, ◌^◌, ◌<◌, ◌≤◌, ◌==◌, Bool, true, false, List, map, refl, sym, ap, ap₂, ◌∙◌, inl, inr, arith}
+use Rattle.std.proofs.Common.{◌≡◌, ◌⊎◌, ℕ, zero, suc, ◌+◌, ◌-◌, ◌*◌, ◌/◌, ◌%◌, ◌^◌, ◌<◌, ◌≤◌, ◌==◌, Bool, true, false, refl, sym, ap, ◌∙◌, inl, inr, arith}
 use Rattle.std.specs.Prelude.{nat_lt, slice_index, if◌then◌else◌}
-use Rattle.std.specs.List.{range_with_len}
 use Rattle.std.proofs.lemmas.Bool.{agree_below_at, cases_eq, cases_lt, eqb-true, lt-ltb, le-ltb, ltb-true}
-use Rattle.std.proofs.lemmas.List.FromFn.{fill_by_all, get_or-map-range_with_len}
 use Rattle.std.proofs.Math.Nat.{pow-le-pow_right, pow-suc}
 use Rattle.sf_insn.specs.declared.input.Input.{Input}
 use Rattle.sf_insn.specs.Inputs.{IsInput}
 use Rattle.sf_diagram.specs.Trees.{Bits}
 use Rattle.sf_diagram.specs.LeastInputs.{IsEarlierInput}
-use Rattle.sf_behaviour.specs.InputBits.{number_by, places_of_words, words_in_order, input_first, input_number, input_by, input_bits}
+use Rattle.sf_behaviour.specs.InputBits.{number_by, places_of_words, words_in_order, input_by, input_bits}
+use Rattle.sf_relations.specs.InputLaws.{input-word, same-input}
 use Rattle.sf_relations.specs.Order.{bit_in_order, ComesBefore}
 
 -- ---- a word by its variables
@@ -73,15 +72,7 @@ agree-more first n a b here below i l = elim (cases_eq i n) [
   | inr ne ↦ below i (omega arith)
 ]
 
--- variables that agree make one number
-same-number : (first n : ℕ) (a b : Bits) → AgreeBelow first n a b → number_by first 1 n a ≡ number_by first 1 n b
-unfolding number_by
-same-number first zero a b same = refl
-same-number first (suc n) a b same =
-    ap₂ (λ (x : Bool) (y : ℕ). (if x then 1 else 0) * 2 ^ n + y) (same n (omega arith))
-    (same-number first n a b (λ i l. same i (omega arith)))
-
--- and variables of one number agree
+-- variables of one number agree
 agree : (first n : ℕ) (a b : Bits) → number_by first 1 n a ≡ number_by first 1 n b → AgreeBelow first n a b
 unfolding number_by
 agree first zero a b e = λ i l. absurd (omega arith)
@@ -107,11 +98,6 @@ HaveVariables = (d : Input) → IsInput d → input_by (input_bits d) ≡ d
 abbrev pub AreInputs : Type 0
 AreInputs = (bits : Bits) → IsInput (input_by bits)
 
-input-word : (bits : Bits) (w : ℕ) → w < 16 → slice_index (input_by bits).words w ≡ input_number bits w
-input-word bits w l =
-    let same : 0 + w ≡ w = omega arith in
-    get_or-map-range_with_len (input_number bits) 0 16 w w 0 l same
-
 place-of-word : (place : ℕ) → place < 16 → slice_index places_of_words (slice_index words_in_order place) ≡ place
 place-of-word place l = eqb-true (slice_index places_of_words (slice_index words_in_order place)) place
     (agree_below_at (λ n. slice_index places_of_words (slice_index words_in_order n) == n) (λ n. true) 16 place refl l)
@@ -120,31 +106,12 @@ word-there : (place : ℕ) → place < 16 → slice_index words_in_order place <
 word-there place l = ltb-true (slice_index words_in_order place) 16
     (agree_below_at (λ n. nat_lt (slice_index words_in_order n) 16) (λ n. true) 16 place refl l)
 
-place-there : (w : ℕ) → w < 16 → slice_index places_of_words w < 16
-place-there w l = ltb-true (slice_index places_of_words w) 16
-    (agree_below_at (λ n. nat_lt (slice_index places_of_words n) 16) (λ n. true) 16 w refl l)
-
 -- the word at a place of the order has the next 32 variables
 word-number : (bits : Bits) (place : ℕ) → place < 16
     → slice_index (input_by bits).words (slice_index words_in_order place) ≡ number_by (576 + 32 * place) 1 32 bits
 word-number bits place l =
     input-word bits (slice_index words_in_order place) (word-there place l)
     ∙ ap (λ (p : ℕ). number_by (576 + 32 * p) 1 32 bits) (place-of-word place l)
-
-abbrev pub with_words : List ℕ → Input
-with_words ws = record { words = ws }
-
--- variables that agree behind those of registers make one input
-pub same-input : (a b : Bits) → AreInputs → ((p : ℕ) → p < 512 → a (576 + p) ≡ b (576 + p)) → input_by a ≡ input_by b
-same-input a b inputs same =
-    let words : (input_by a).words ≡ map (input_number b) (range_with_len 0 16)
-    = fill_by_all (input_number b) (input_by a).words 16 0 (inputs a).sixteen (λ w l.
-    input-word a w l ∙ same-number (input_first w) 32 a b (λ i li.
-    let there = place-there w l in
-    let p : ℕ = 32 * slice_index places_of_words w + (31 - i) in
-    let at : input_first w + 1 * (31 - i) ≡ 576 + p = omega arith in
-    rw at (same p (omega (arith, there))))) in
-    ap (λ (ws : List ℕ). with_words ws) words
 
 -- the bits of an input that variables make are these variables
 made-bits : (bits : Bits) → HaveVariables → AreInputs → (p : ℕ) → p < 512

@@ -2,6 +2,7 @@ pub mod Relations
 pub mod Numbers
 pub mod NumberLaws
 pub mod Order
+pub mod InputLaws
 pub mod Changes
 pub mod Comparing
 pub mod Parts

@@ -1,5 +1,3 @@
-//! The least input whose answers by two stacks have a relation.
-
 ghost use Rattle.std.specs.Prelude.{◌≡◌, ◌<◌, List, length, IfOk, IfErr};
 ghost use Rattle.sf_check.specs.declared.insn.Insn.{Insn};
 ghost use Rattle.sf_diagram.specs.Trees.{bits_with};
@@ -19,11 +17,8 @@ use std::alloc::Global;
 /// An input, with the answer of the old stack and that of the new one.
 #[derive(Clone, Copy, Debug, PartialEq, Eq)]
 pub struct Example {
-    /// The input that is changed.
     pub input: Input,
-    /// The old stack's answer to it.
     pub before: Answer,
-    /// The new stack's answer to it.
     pub after: Answer,
 }
 
@@ -37,7 +32,7 @@ fn answer_of(number: u64) -> Answer
     }
 }
 
-/// The input of some variables, and its answers by two diagrams of answers. The caller's condition: the two are there.
+/// The input of some variables, and its answers by two diagrams of answers.
 fn example_at(store: &Store, before: Id, after: Id, variables: &[u16]) -> Example
     requires before { before < length store.now.trees }
     requires after { after < length store.now.trees }
@@ -50,9 +45,7 @@ fn example_at(store: &Store, before: Id, after: Id, variables: &[u16]) -> Exampl
     }
 }
 
-/// The least input whose answers by two stacks have the relation, and these answers; `None` where no input's have. The
-/// two diagrams are those of the answers of the old stack and of the new one, and the caller's condition is that they
-/// are there. `Spent` and `Memory` as the store has them; nodes may have been added then.
+/// The least input whose answers by two stacks have the relation, by the diagrams of these answers.
 pub fn least_example(
     alloc: Global,
     store: &mut Store,

@@ -1,5 +1,3 @@
-//! What changes from one stack to another.
-
 ghost use Rattle.std.specs.Prelude.{◌≡◌, ◌<◌, List, length, IfOk, IfErr};
 ghost use Rattle.sf_check.specs.declared.insn.Insn.{Insn};
 ghost use Rattle.sf_diagram.specs.Stores.{KeepsStore, IsFull};
@@ -11,22 +9,16 @@ use crate::relation::Relation;
 use sf_diagram::{Fault, Id, Store};
 use std::alloc::Global;
 
-/// What is found of each relation between the answers of an old stack and of a new one: the least input that is changed
-/// in this way, or `None` where no input is.
+/// Of each relation between the answers of an old stack and of a new one, the least input that is changed in this way.
 #[derive(Clone, Copy, Debug, PartialEq, Eq)]
 pub struct Findings {
-    /// What is found of `Relation::Looser`.
     pub looser: Option<Example>,
-    /// What is found of `Relation::Tighter`.
     pub tighter: Option<Example>,
-    /// What is found of `Relation::Different`.
     pub different: Option<Example>,
-    /// What is found of `Relation::Pretended`.
     pub pretended: Option<Example>,
 }
 
-/// What is found of each relation, by the diagrams of the answers of the old stack and of the new one. The caller's
-/// condition: the two are there. `Spent` and `Memory` as the store has them; nodes may have been added then.
+/// What is found of each relation, by the diagrams of the answers of the old stack and of the new one.
 pub fn find_changes(
     alloc: Global,
     store: &mut Store,

@@ -1,5 +1,3 @@
-//! The input that some variables make.
-
 ghost use Rattle.std.specs.Prelude.{◌≡◌, ◌<◌};
 ghost use Rattle.sf_diagram.specs.Trees.{bits_with};
 ghost use Rattle.sf_behaviour.specs.InputBits.{number_by, input_first, input_by};
@@ -10,10 +8,10 @@ use sf_insn::Input;
 /// instruction pointer, of two halves the upper one first.
 const PLACES: [u16; 16] = [1, 0, 15, 14, 3, 2, 5, 4, 7, 6, 9, 8, 11, 10, 13, 12];
 
-/// How many variables stand before those of an input: the bits of registers.
+/// The variables of registers stand before those of an input.
 const REGISTER_BITS: u16 = 18 * 32;
 
-/// The variable of the highest bit of a word of an input. The caller's condition: there is such a word.
+/// The variable of the highest bit of a word of an input.
 fn first_variable(word: usize) -> u16
     requires { word < 16 }
     ensures is { result ≡ input_first word }
@@ -22,15 +20,13 @@ fn first_variable(word: usize) -> u16
     REGISTER_BITS + 32 * PLACES[word]
 }
 
-/// Whether a variable is among those that are true.
 fn is_true(variables: &[u16], variable: u16) -> bool
     ensures { result ≡ bits_with variables.now variable }
 {
     variables.iter().any(|v| *v == variable)
 }
 
-/// The number of a word of which some variables are true; the first one is its highest bit. The caller's condition: the
-/// first is below 16,384.
+/// The number of a word of which some variables are true; `first` is that of its highest bit.
 fn number_of(variables: &[u16], first: u16) -> u32
     requires { first < 16384 }
     ensures { result ≡ number_by first 1 32 (bits_with variables.now) }

@@ -1,5 +1,7 @@
 //! How the answers of two stacks are related, read off the diagrams of their answers; and which filters of a stack are
 //! needed.
+//!
+//! Functions fail with `Spent` and `Memory` as the store has them; nodes may have been added then.
 #![tactic(auto)]
 
 mod examples;

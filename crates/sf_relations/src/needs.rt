@@ -1,5 +1,3 @@
-//! Which filters of a stack are needed.
-
 ghost use Rattle.std.specs.Prelude.{◌≡◌, ◌<◌, length, All, IfOk, IfErr};
 ghost use Rattle.sf_diagram.specs.Stores.{KeepsStore, IsFull};
 ghost use Rattle.sf_relations.specs.Parts.{AreParts};
@@ -16,16 +14,14 @@ use std::alloc::Global;
 /// What was found of each filter of a stack, and which filters are kept.
 #[derive(Drop)]
 pub struct Needs {
-    /// Of each filter, in order of installation, the least input that gets further without it: then it is needed.
-    /// `None` where no input does: then it is spare.
+    /// Of each filter, in order of installation, the least input that gets further without it: then it is needed, and
+    /// otherwise spare.
     pub findings: Vec<Option<Example>>,
     /// The places, from 0, of the filters that are kept, in rising order.
     pub kept: Vec<usize>,
 }
 
-/// Of each filter, in order of installation, the least input that gets further without it; `None` where no input does.
-/// `alone` and `last` are the parts of the stack of these programs. `Spent` and `Memory` as the store has them; nodes
-/// may have been added then.
+/// Of each filter the least input that gets further without it. `alone` and `last` are the parts of the stack.
 fn find_each(
     alloc: Global,
     store: &mut Store,
@@ -51,9 +47,8 @@ fn find_each(
     Ok(findings)
 }
 
-/// The places of the filters that are kept, in rising order: from the first to the last, a filter is dropped where
-/// those that are left without it answer each input as the whole stack does. `alone` and `last` are the parts of the
-/// stack of these programs. `Spent` and `Memory` as the store has them; nodes may have been added then.
+/// The places of the filters that are kept: from the first to the last, a filter is dropped where those that are left
+/// without it answer each input as the whole stack does.
 fn keep_each(
     alloc: Global,
     store: &mut Store,
@@ -84,10 +79,8 @@ fn keep_each(
     Ok(kept)
 }
 
-/// Which filters a stack needs, for all inputs; it is given by its programs, the oldest one first. A filter is needed
-/// where some input gets further without it. Beside that, filters are dropped from the first to the last, each where
-/// those that are left without it answer each input as the whole stack does; the others are kept. `Spent` and `Memory`
-/// as the store has them; nodes may have been added then.
+/// Which filters a stack, given by its programs, the oldest one first, needs for all inputs, and which are kept: from
+/// the first to the last, each is dropped where those that are left answer each input as the whole stack does.
 pub fn needed(alloc: Global, store: &mut Store, programs: &[Program]) -> Result<Needs, Fault>
     ensures below { IfOk result (λ n. All (λ p. p < length programs.now) n.kept.items) }
     ensures needs { IfOk result (AreNeedsOf programs.now) }

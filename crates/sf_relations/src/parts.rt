@@ -1,5 +1,3 @@
-//! The answers of parts of a stack, as diagrams.
-
 ghost use Rattle.std.specs.Prelude.{◌≡◌, ◌<◌, ◌++◌, List, length, IfOk, IfErr};
 ghost use Rattle.sf_check.specs.declared.insn.Insn.{Insn};
 ghost use Rattle.sf_diagram.specs.Stores.{KeepsStore, IsFull, IsLawfulStore};
@@ -20,8 +18,7 @@ pub(crate) struct Parts {
     pub(crate) last: Vec<Id>,
 }
 
-/// The diagram of the answers of older filters and newer ones together, by those of each. The caller's condition: the
-/// two are there. `Spent` and `Memory` as the store has them; nodes may have been added then.
+/// The diagram of the answers of older filters and newer ones together.
 pub(crate) fn join(store: &mut Store, newer: Id, older: Id) -> Result<Id, Fault>
     requires newer { newer < length store.old.trees }
     requires older { older < length store.old.trees }
@@ -36,8 +33,7 @@ pub(crate) fn join(store: &mut Store, newer: Id, older: Id) -> Result<Id, Fault>
     Ok(id)
 }
 
-/// The parts of the stack of these programs, which stand in order of installation. `Spent` and `Memory` as the store
-/// has them; nodes may have been added then.
+/// The parts of the stack of these programs, which stand in order of installation.
 pub(crate) fn parts_of(
     alloc: Global,
     store: &mut Store,

@@ -1,5 +1,3 @@
-//! How two answers to one input are related.
-
 ghost use Rattle.std.specs.Prelude.{◌≡◌};
 ghost use Rattle.sf_relations.specs.Numbers.{operation_of};
 
@@ -19,7 +17,7 @@ pub enum Relation {
     Pretended,
 }
 
-/// What makes of the numbers of two answers a number that isn't 0 just where they have the relation.
+/// The operation on two answers that gives 0 unless they have the relation.
 pub fn operation_of(relation: Relation) -> Operation
     ensures { result ≡ operation_of relation }
 {

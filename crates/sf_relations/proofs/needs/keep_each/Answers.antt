@@ -6,7 +6,7 @@ use Rattle.sf_diagram.specs.KeepLaws.{keeps_more}
 use Rattle.sf_behaviour.specs.Answering.{IsBehaviour}
 use Rattle.sf_relations.specs.Needs.{AreKeptUpTo, AnswerTheSame, drops, keeps, filters_at, left_without}
 use Rattle.sf_relations.specs.KeepLaws.{behaviour_kept}
-use Rattle.sf_relations.proofs.KeptLemmas.{alike, filters-more, kept-more}
+use Rattle.sf_relations.proofs.FindingLemmas.{alike, filters-more, kept-more}
 use Rattle.sf_relations.proofs.PartLemmas.{of-all, of-behind, of-none, of-one, parts-kept}
 use Rattle.sf_relations.proofs.needs.keep_each.Goals as goal
 
