@@ -13,7 +13,7 @@ use Rattle.sf_run.specs.declared.counts.Counts.{Counts}
 use Rattle.sf_names.specs.Names.{NamesData}
 use Rattle.sf_calls.specs.Calls.{arguments_in, whole_of}
 use Rattle.sf_calls.specs.Texts.{call_words, is_named}
-use Rattle.sf_policy.specs.Texts.{action_text, hex_text, lower_case_digits}
+use Rattle.sf_stack.specs.Texts.{action_text, hex_text, lower_case_digits}
 
 -- ---- the parts that documents are made of
 

@@ -1,16 +1,14 @@
-//! Answers as JSON.
-
 ghost use Rattle.std.specs.Prelude.{◌≡◌, string_bytes, IfOk};
 ghost use Rattle.sf_json.specs.Documents.{action_document, answer_document};
-ghost use Rattle.sf_policy.specs.Texts.{action_text};
+ghost use Rattle.sf_stack.specs.Texts.{action_text};
 ghost use Rattle.serde_json.specs.View.{view};
 
 use crate::document::{Document, Fields};
-use sf_policy::push_action;
 use sf_run::{Action, Answer};
+use sf_stack::push_action;
 use std::alloc::{AllocError, Global};
 
-/// The name of an action, as `push_action` writes it. An error where an allocation is refused.
+/// The name of an action, as `push_action` writes it.
 fn name_of(alloc: Global, action: Action) -> Result<String, AllocError>
     ensures { IfOk result (λ text. string_bytes text ≡ action_text action) }
 {
@@ -19,8 +17,7 @@ fn name_of(alloc: Global, action: Action) -> Result<String, AllocError>
     Ok(text)
 }
 
-/// The object of an action with two fields: at `action` its name, as `push_action` writes it, and at `data` the number
-/// `info`, which goes with the action. An error where an allocation is refused.
+/// The object of an action: its name at `action`, and the number `info`, which goes with it, at `data`.
 pub fn action_document(alloc: Global, action: Action, info: u32) -> Result<Document, AllocError>
     ensures { IfOk result (λ d. view d ≡ action_document action info) }
 {
@@ -31,8 +28,7 @@ pub fn action_document(alloc: Global, action: Action, info: u32) -> Result<Docum
     Ok(Document::object(fields))
 }
 
-/// An answer as the object that `action_document` makes of its action and its number. An error where an allocation is
-/// refused.
+/// An answer as the object of its action and its number.
 pub fn answer_document(alloc: Global, answer: Answer) -> Result<Document, AllocError>
     ensures { IfOk result (λ d. view d ≡ answer_document answer) }
 {

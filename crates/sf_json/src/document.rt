@@ -1,5 +1,3 @@
-//! JSON values that have no float.
-
 ghost use Rattle.std.specs.Prelude.{◌≡◌, false, string_bytes, IfOk};
 ghost use Rattle.serde_json.specs.Data.{array, boolean, null, number, object, no_members, string, unsigned};
 ghost use Rattle.serde_json.specs.View.{items_view, view};
@@ -13,7 +11,6 @@ use std::marker::Model;
 /// A JSON value that has no float, so that contracts can say what its text is.
 #[derive(Drop)]
 pub struct Document {
-    /// The value, in which no float stands, however deep.
     value: Value,
 }
 
@@ -35,7 +32,6 @@ impl Model for Document {
 }
 
 impl Document {
-    /// The value. For the prover: it has no float.
     pub(crate) fn value(&self) -> &Value
         ensures same { view result.now ≡ view self.now }
         ensures no_float { has_float (view self.now) ≡ false }
@@ -77,7 +73,7 @@ impl Document {
         }
     }
 
-    /// A text, which is written between quotation marks and escaped where JSON asks for it.
+    /// A text, which is written between quotation marks and escaped.
     pub fn text(text: String) -> Document
         ensures { view result ≡ string (string_bytes text) }
     {
@@ -86,14 +82,14 @@ impl Document {
         }
     }
 
-    /// A copy of a text, as a document. An error where an allocation is refused.
+    /// A copy of a text, as a document.
     pub fn copy_of(alloc: Global, text: &str) -> Result<Document, AllocError>
         ensures { IfOk result (λ d. view d ≡ string text.now) }
     {
         Ok(Document::text(String::from_str(alloc, text)?))
     }
 
-    /// A copy of this document. An error where an allocation is refused.
+    /// A copy of this document.
     pub fn try_clone(&self) -> Result<Document, AllocError>
         ensures { IfOk result (λ d. view d ≡ view self.now) }
     {
@@ -101,7 +97,7 @@ impl Document {
         Ok(Document { value })
     }
 
-    /// The array of these documents, in the same order. An error where an allocation is refused.
+    /// The array of these documents, in the same order.
     pub fn array(alloc: Global, documents: Vec<Document>) -> Result<Document, AllocError>
         ensures { IfOk result (λ d. view d ≡ array (items_view documents.items)) }
     {
@@ -121,8 +117,7 @@ impl Document {
     }
 }
 
-/// The values of documents, in the same order. For the prover: none of them has a float. An error where an allocation
-/// is refused.
+/// The values of documents. For the prover: none of them has a float.
 #[tactic(auto, using(crate::proofs::DocumentLemmas::no_float_behind))]
 fn values_of(alloc: Global, documents: Vec<Document>) -> Result<Vec<Value>, AllocError>
     ensures same { IfOk result (λ vs. vs.items ≡ documents.items) }
@@ -135,13 +130,11 @@ fn values_of(alloc: Global, documents: Vec<Document>) -> Result<Vec<Value>, Allo
     Ok(values)
 }
 
-/// The fields of an object, to which more may be added. An object is written with its fields in the order of their
-/// keys, whatever the order in which they were added.
+/// The fields of an object, which is written with them in the order of their keys.
 #[derive(Drop)]
 pub struct Fields {
-    /// Where further fields are allocated.
     alloc: Global,
-    /// The values by their keys. None has a float. They are written in the order of the keys' bytes.
+    /// None of the values has a float.
     map: Map<String, Value>,
 }
 
@@ -173,8 +166,7 @@ impl Fields {
         }
     }
 
-    /// These fields and one more, which replaces a field that has the same key already. An error where an allocation is
-    /// refused.
+    /// These fields and one more, which replaces a field that has the same key already.
     #[tactic(auto, using(crate::proofs::DocumentLemmas::no_float_among))]
     pub fn with(self, key: &str, document: Document) -> Result<Fields, AllocError>
         ensures { IfOk result (λ f. view f ≡ with_field key.now (view document) (view self)) }

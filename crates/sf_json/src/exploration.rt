@@ -9,8 +9,7 @@ use sf_check::{Program, path_length};
 use sf_run::Counts;
 use std::alloc::{AllocError, Global};
 
-/// The object with how many programs there are (`filters`), and the length of the path through them (`path`), as
-/// `path_length` counts it. The caller's condition: at most 64 programs. An error where an allocation is refused.
+/// The object with how many programs there are (`filters`), and the length of the path through them (`path`).
 pub fn sizes_document(alloc: Global, programs: &[Program]) -> Result<Document, AllocError>
     requires { length programs.now ≤ 64 }
     ensures { IfOk result (λ d. view d ≡ sizes_document programs.now) }
@@ -23,8 +22,7 @@ pub fn sizes_document(alloc: Global, programs: &[Program]) -> Result<Document, A
     Ok(Document::object(fields))
 }
 
-/// The object with the counts of an exploration: of regions (`regions`), outstanding pieces (`open`), emptied names
-/// (`emptied`), splits (`splits`) and commits (`commits`). An error where an allocation is refused.
+/// The object with the counts of an exploration: `regions`, `open`, `emptied`, `splits` and `commits`.
 pub fn counts_document(alloc: Global, counts: Counts) -> Result<Document, AllocError>
     ensures { IfOk result (λ d. view d ≡ counts_document counts) }
 {
@@ -37,7 +35,7 @@ pub fn counts_document(alloc: Global, counts: Counts) -> Result<Document, AllocE
     Ok(Document::object(fields))
 }
 
-/// The object with how many nodes diagrams have (`nodes`). An error where an allocation is refused.
+/// The object with how many nodes diagrams have (`nodes`).
 pub fn diagram_document(alloc: Global, nodes: usize) -> Result<Document, AllocError>
     ensures { IfOk result (λ d. view d ≡ diagram_document nodes) }
 {

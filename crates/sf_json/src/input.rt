@@ -1,5 +1,3 @@
-//! Inputs as JSON.
-
 ghost use Rattle.std.specs.Prelude.{◌≡◌, map, string_bytes, IfOk};
 ghost use Rattle.sf_calls.specs.Calls.{arguments_in, whole_of};
 ghost use Rattle.sf_json.specs.Documents.{call_document, input_document, list_of, long_word, word};
@@ -9,11 +7,10 @@ use crate::document::{Document, Fields};
 use sf_calls::{is_named, push_call_words};
 use sf_insn::Input;
 use sf_names::Names;
-use sf_policy::hex_of;
+use sf_stack::hex_of;
 use std::alloc::{AllocError, Global};
 
-/// A number of 32 bits as a text: `0x` and eight hexadecimal digits in lower case. An error where an allocation is
-/// refused.
+/// A number of 32 bits as `0x` and eight hexadecimal digits in lower case.
 pub fn word_document(alloc: Global, number: u32) -> Result<Document, AllocError>
     ensures { IfOk result (λ d. view d ≡ word number) }
 {
@@ -21,8 +18,7 @@ pub fn word_document(alloc: Global, number: u32) -> Result<Document, AllocError>
     Ok(Document::text(text))
 }
 
-/// A number of 64 bits from its low and its high 32 bits, as a text: `0x` and sixteen hexadecimal digits in lower case.
-/// An error where an allocation is refused.
+/// A number of 64 bits, by its halves, as `0x` and sixteen hexadecimal digits in lower case.
 fn long_word(alloc: Global, low: u32, high: u32) -> Result<Document, AllocError>
     ensures { IfOk result (λ d. view d ≡ long_word (whole_of low high)) }
 {
@@ -31,8 +27,7 @@ fn long_word(alloc: Global, low: u32, high: u32) -> Result<Document, AllocError>
     Ok(Document::text(text))
 }
 
-/// An input as a call in words, as `push_call_words` writes it; the document `null` where no set of names has the call.
-/// An error where an allocation is refused.
+/// An input as a call in words; `null` where no set of names has the call.
 fn call_document(alloc: Global, names: &[Names], input: &Input) -> Result<Document, AllocError>
     ensures { IfOk result (λ d. view d ≡ call_document names.now input.now) }
 {
@@ -44,8 +39,7 @@ fn call_document(alloc: Global, names: &[Names], input: &Input) -> Result<Docume
     Ok(Document::text(text))
 }
 
-/// The array of the six arguments of an input, each as `long_word` writes it. The low half of an argument is the word
-/// before its high half. An error where an allocation is refused.
+/// The array of the six arguments of an input.
 fn arguments(alloc: Global, input: &Input) -> Result<Document, AllocError>
     ensures { IfOk result (λ d. view d ≡ list_of (map long_word (arguments_in input.now))) }
 {
@@ -61,12 +55,10 @@ fn arguments(alloc: Global, input: &Input) -> Result<Document, AllocError>
     Document::array(alloc, arguments)
 }
 
-/// An input as an object. Its fields are: `bytes`, the 64 bytes as a text of 128 hexadecimal digits; `nr`, the number
-/// of the call, as a number; `arch`, the architecture, as a text of `0x` and eight hexadecimal digits;
-/// `instruction_pointer`, as a text of `0x` and sixteen; `args`, the array of the six arguments, each written as the
-/// instruction pointer is; and `call`, the call in words, as `push_call_words` writes it, or `null` where none of the
-/// sets of names has the call. The digits of all but `call` are in lower case. An error where an allocation is
-/// refused.
+/// An input as an object: `bytes`, as 128 hexadecimal digits; `nr`, the number of the call; `arch`, as `0x` and eight
+/// hexadecimal digits; `instruction_pointer`, as `0x` and sixteen; `args`, the six arguments, each written so; and
+/// `call`, the call in words (`push_call_words`), or `null` where no set of names has it. Digits but those of `call`
+/// are in lower case.
 pub fn input_document(alloc: Global, names: &[Names], input: &Input) -> Result<Document, AllocError>
     ensures { IfOk result (λ d. view d ≡ input_document names.now input.now) }
 {

@@ -1,4 +1,6 @@
 //! Outputs as JSON: values that have no float, what several of them share, and how one is written.
+//!
+//! Functions that take an allocator fail where memory runs out.
 #![tactic(auto)]
 
 mod answer;

@@ -1,19 +1,16 @@
-//! How a document is written.
-
 ghost use Rattle.std.specs.Prelude.{◌≡◌, ◌⊎◌, string_bytes, IfErr, IfOk, OnErr, OnOk};
 ghost use Rattle.std.specs.Io.KnownBytes.{Appends};
 ghost use Rattle.serde_json.specs.View.{view};
 ghost use Rattle.sf_json.specs.Documents.{document_line};
-ghost use Rattle.sf_policy.specs.Texts.{AppendsFront};
-ghost use Rattle.sf_policy.specs.declared.fault.Fault.TheVariants.{Memory as MemoryFault, Write as WriteFault};
+ghost use Rattle.sf_stack.specs.Texts.{AppendsFront};
+ghost use Rattle.sf_stack.specs.declared.fault.Fault.TheVariants.{Memory as MemoryFault, Write as WriteFault};
 
 use crate::document::Document;
-use sf_policy::{Fault, write_bytes};
+use sf_stack::{Fault, write_bytes};
 use std::alloc::{AllocError, Global};
 use std::io::Write;
 
-/// The text of a document on a line of its own: without blanks between its parts, and with a line feed at its end. An
-/// error where an allocation is refused.
+/// The text of a document on a line of its own: without blanks between its parts, and with a line feed at its end.
 pub fn line_of(alloc: Global, document: &Document) -> Result<String, AllocError>
     ensures { IfOk result (λ text. string_bytes text ≡ document_line (view document.now)) }
 {
@@ -22,24 +19,16 @@ pub fn line_of(alloc: Global, document: &Document) -> Result<String, AllocError>
     Ok(text)
 }
 
-/// Writes a document on a line of its own, as `line_of` gives it.
-///
-/// `Write` where a write fails or takes no byte: a beginning of the line, or nothing, was written then. `Memory` where
-/// the text can't be built: nothing was written then.
+/// Writes a document on a line of its own. After an error a beginning of the line, or nothing, was written.
 pub fn write_document<W: Write>(
     alloc: Global,
     document: &Document,
     out: &mut W,
 ) -> Result<(), Fault>
-    // The line is written, where the writer's bytes are known.
     ensures written { OnOk result (Appends (W.contents out.old) (W.contents out.new)
         (document_line (view document.now))) }
-
-    // After an error a beginning of the line, or nothing, is written.
     ensures begun { OnErr result (AppendsFront (W.contents out.old) (W.contents out.new)
         (document_line (view document.now))) }
-
-    // The only errors are that writing failed, or that memory ran out: then nothing was written.
     ensures refused { IfErr result (λ e. (e ≡ WriteFault)
         ⊎ ((e ≡ MemoryFault) × (out.new ≡ out.old))) }
 {

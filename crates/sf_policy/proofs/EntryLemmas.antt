@@ -8,8 +8,8 @@ use Rattle.sf_question.specs.Actions.{is_no_action}
 use Rattle.sf_question.specs.QuestionData.{QuestionData}
 use Rattle.sf_question.specs.Questions.{is_name, is_in_order, is_inside_mask}
 use Rattle.sf_question.specs.declared.fault.Fault.TheVariants as ask
-use Rattle.sf_policy.specs.declared.fault.Fault.{Fault}
-use Rattle.sf_policy.specs.declared.fault.Fault.TheVariants as faults
+use Rattle.sf_stack.specs.declared.fault.Fault.{Fault}
+use Rattle.sf_stack.specs.declared.fault.Fault.TheVariants as faults
 use Rattle.sf_policy.specs.declared.policy.words.WordEntry.{WordEntry}
 use Rattle.sf_policy.specs.Words.{has_words, has_range, has_mask, range_of, mask_of, entry_at}
 use Rattle.std.specs.Str.{bytes_eq}

@@ -4,8 +4,8 @@ use Rattle.std.proofs.Common.{arith, ◌≡◌, ℕ, ◌+◌, Bool, true, false,
 use Rattle.std.proofs.lemmas.Bool.{false≢true}
 use Rattle.toml.specs.Data.{Members, get_member}
 use Rattle.sf_question.specs.QuestionData.{QuestionData}
-use Rattle.sf_policy.specs.declared.fault.Fault.{Fault}
-use Rattle.sf_policy.specs.declared.fault.Fault.TheVariants as faults
+use Rattle.sf_stack.specs.declared.fault.Fault.{Fault}
+use Rattle.sf_stack.specs.declared.fault.Fault.TheVariants as faults
 use Rattle.sf_policy.specs.declared.policy.Version.{Version}
 use Rattle.sf_policy.specs.Keys.{top_keys, has_only}
 use Rattle.sf_policy.specs.Trees.{number_at}

@@ -5,8 +5,8 @@ use Rattle.std.specs.List.{list_all}
 use Rattle.toml.specs.Data.{Data, as_str, as_table, Members, no_members}
 use Rattle.sf_question.specs.declared.fault.Fault.{Fault as AskFault}
 use Rattle.sf_question.specs.declared.fault.Fault.TheVariants as ask
-use Rattle.sf_policy.specs.declared.fault.Fault.{Fault}
-use Rattle.sf_policy.specs.declared.fault.Fault.TheVariants as faults
+use Rattle.sf_stack.specs.declared.fault.Fault.{Fault}
+use Rattle.sf_stack.specs.declared.fault.Fault.TheVariants as faults
 use Rattle.sf_question.specs.declared.actions.ActionSet.{ActionSet}
 use Rattle.sf_question.specs.QuestionData.{QuestionData}
 use Rattle.sf_question.specs.Questions.{is_name, question_of}

@@ -5,9 +5,4 @@ pub mod Words
 pub mod Actions
 pub mod Policies
 pub mod Encoding
-pub mod FaultPlaces
 pub mod Accepted
-pub mod Filters
-pub mod Texts
-pub mod TextLaws
-pub mod FiltersLaws

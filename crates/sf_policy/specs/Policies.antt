@@ -4,8 +4,8 @@ use Rattle.std.specs.List.{list_all}
 use Rattle.toml.specs.Data.{Data, array, Members, get_member}
 use Rattle.sf_question.specs.QuestionData.{QuestionData}
 use Rattle.sf_question.specs.Questions.{is_name}
-use Rattle.sf_policy.specs.declared.fault.Fault.{Fault}
-use Rattle.sf_policy.specs.declared.fault.Fault.TheVariants as faults
+use Rattle.sf_stack.specs.declared.fault.Fault.{Fault}
+use Rattle.sf_stack.specs.declared.fault.Fault.TheVariants as faults
 use Rattle.sf_policy.specs.declared.policy.Version.{Version}
 use Rattle.sf_policy.specs.declared.policy.Version.TheVariants.{One, Two}
 use Rattle.sf_policy.specs.declared.policy.words.WordEntry.{WordEntry}

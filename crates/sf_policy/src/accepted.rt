@@ -1,31 +1,27 @@
-//! The file that names the questions which may be allowed.
-
 ghost use Rattle.std.specs.Prelude.{◌≡◌, ◌⊎◌, ◌+◌, ℕ, map, string_bytes, IfOk, IfErr};
 ghost use Rattle.std.specs.Str.Lines.{lines};
 ghost use Rattle.sf_policy.specs.Accepted.{AreAccepted, IsMisfitAt, is_comment, is_name_once, words_of_line};
-ghost use Rattle.sf_policy.specs.declared.fault.Fault.TheVariants.{Accepted as AcceptedFault, Memory as MemoryFault};
+ghost use Rattle.sf_stack.specs.declared.fault.Fault.TheVariants.{Accepted as AcceptedFault, Memory as MemoryFault};
 
-use crate::fault::Fault;
 use sf_question::Question;
+use sf_stack::Fault;
 use std::alloc::{AllocError, Global};
 
-/// Whether a part of a line begins a comment: the part's first byte is `#`. The spaces of a line divide it into parts.
-/// `false` where the part is empty.
+/// Whether a part of a line, which spaces divide, begins a comment: its first byte is `#`.
 fn is_comment(part: &str) -> bool
     ensures { result ≡ is_comment part.now }
 {
     matches!(part.as_bytes(), [b'#', ..])
 }
 
-/// The lines of a text. An error where an allocation is refused.
+/// The lines of a text.
 fn lines_of<'a>(alloc: Global, text: &'a str) -> Result<Vec<&'a str>, AllocError>
     ensures { IfOk result (λ v. map (λ t. t.now) v.items ≡ lines text.now) }
 {
     text.lines().collect(alloc)
 }
 
-/// The words of a line before its comment: what stands between spaces, where it isn't empty. Only the byte 0x20 is a
-/// space, so a tab belongs to a word. An error where an allocation is refused.
+/// The words of a line before its comment. Only the byte 0x20 is a space, so a tab belongs to a word.
 fn words_of_line<'a>(alloc: Global, line: &'a str) -> Result<Vec<&'a str>, AllocError>
     ensures { IfOk result (λ v. map (λ t. t.now) v.items ≡ words_of_line line.now) }
 {
@@ -35,7 +31,6 @@ fn words_of_line<'a>(alloc: Global, line: &'a str) -> Result<Vec<&'a str>, Alloc
         .collect(alloc)
 }
 
-/// Whether exactly one of the questions has this name.
 fn is_name_once(questions: &[Question], name: &str) -> bool
     ensures { result ≡ is_name_once questions.now name.now }
 {
@@ -43,12 +38,11 @@ fn is_name_once(questions: &[Question], name: &str) -> bool
     named.count() == 1
 }
 
-/// The names of the questions that may be allowed, by the text of their file, in the order of its lines: each line has
-/// one name or none, and a `#` at its beginning or after a space begins a comment. A name that two lines have comes
-/// twice.
+/// The names of the questions that may be allowed, in the order of the lines of their file: each line has one name or
+/// none, and a `#` at its beginning or after a space begins a comment.
 ///
-/// `Accepted`, with the number of the line from 1, at the first line that has more than one word, or a word that isn't
-/// the name of exactly one of the questions; `Memory` where an allocation is refused.
+/// `Accepted` comes at the first line, counted from 1, that has more than one word, or a word that isn't the name of
+/// exactly one of the questions.
 pub fn read_accepted(
     alloc: Global,
     text: &str,

@@ -1,5 +1,3 @@
-//! The questions of a policy file, which is TOML.
-
 mod actions;
 mod keys;
 mod questions;
@@ -17,24 +15,22 @@ ghost use Rattle.sf_policy.specs.Trees.{number_at};
 ghost use Rattle.sf_policy.specs.Policies.{version_numbered, tables_of_value, policy_of};
 
 use crate::MOST_QUESTIONS;
-use crate::fault::Fault;
 pub use keys::WORD_KEYS;
 use keys::{has_top_keys, number_in, value_at};
 use questions::questions_in;
 pub use refusal::Refusal;
 use sf_question::Question;
+use sf_stack::Fault;
 use std::alloc::Global;
 use toml::{Table, Value};
 
-/// The version of a policy file. In version 2 the value of a word may also be a table with a mask.
+/// In version 2 the value of a word may also be a table with a mask.
 #[derive(Clone, Copy, Debug)]
 enum Version {
     One,
     Two,
 }
 
-/// The version that a policy names at its key `version`; `None` where the key is missing or has another value than 1 or
-/// 2.
 fn version_in(table: &Table) -> Option<Version>
     ensures { result ≡ version_numbered (number_at (codes "version") (table_view table.now)) }
 {
@@ -45,15 +41,12 @@ fn version_in(table: &Table) -> Option<Version>
     }
 }
 
-/// Whether each value is a table.
 fn are_tables(items: &[Value]) -> bool
     ensures { result ≡ list_all (λ v. is_some (as_table (view v))) items.now }
 {
     items.iter().all(|value| value.is_table())
 }
 
-/// The items of a value that is an array of tables; `None` where the value is no array, or one of the items is no
-/// table.
 #[tactic(auto, using(crate::proofs::TreeLemmas::tables_view, crate::proofs::TreeLemmas::no_tables_view))]
 fn tables_in(value: &Value) -> Option<&[Value]>
     ensures { option_map (λ vs. map (λ v. table_or_empty (view v)) vs.now) result
@@ -64,11 +57,6 @@ fn tables_in(value: &Value) -> Option<&[Value]>
 }
 
 /// The questions of a policy's tree, in order.
-///
-/// Refusals, tried in this order: `Version` where the version is missing or neither 1 nor 2; `TopKey` where a key at
-/// the top is unknown; `Count` where the questions are missing; `TopKey` where they are no array of tables; `Count`
-/// where there are none or more than 256; then, question after question, `Key`, `Name`, `Range`, `Mask` and `Actions`,
-/// with the number of the question from 1 (`Fault` says when each comes). `Memory` can come there too.
 fn policy_of_table(alloc: Global, table: &Table) -> Result<Vec<Question>, Fault>
     ensures { IsDue (λ v. v.items) result (policy_of (table_view table.now)) }
 {
@@ -84,16 +72,12 @@ fn policy_of_table(alloc: Global, table: &Table) -> Result<Vec<Question>, Fault>
     questions_in(alloc, version, items)
 }
 
-/// The questions of a policy file, as `read_policy` reads them. A refusal has the fault that `read_policy` answers, and
-/// what was read of the file, from which a person can be shown where the fault lies: the file's tree; or the error of
-/// the TOML reader, where the text is no TOML (`Syntax`) or memory ran out before there was a tree (`Memory`).
+/// The questions of a policy file, as `read_policy` reads them. A refusal also has what was read of the file, from
+/// which a person can be shown where the fault lies.
 #[tactic(auto, using(crate::proofs::NeverSyntax::not_syntax))]
 pub fn read_policy_at(alloc: Global, text: &str) -> Result<Vec<Question>, Refusal>
-    // Where the text is TOML, the questions or the refusal are those of its tree.
     ensures read { (tree : Members) → parse_document text.now ≡ Some tree
         → IsDue (λ v. v.items) (without_place result) (policy_of tree) }
-
-    // `Syntax` comes exactly where it is no TOML, unless memory ran out.
     ensures syntax { without_place result ≡ Err Fault.Syntax
         → parse_document text.now ≡ None }
     ensures no_syntax { parse_document text.now ≡ None
@@ -123,16 +107,11 @@ pub fn read_policy_at(alloc: Global, text: &str) -> Result<Vec<Question>, Refusa
 /// bits of them; a word that it doesn't name may have any number. A question without a key `actions` asks about ALLOW
 /// and LOG.
 ///
-/// Refusals, tried in this order: `Syntax` where the text is no TOML; `Version` where the version is missing or neither
-/// 1 nor 2; `TopKey` where a key at the top is unknown or the questions are no array of tables; `Count` where there are
-/// none or more than 256; then, question after question, `Key`, `Name`, `Range`, `Mask` and `Actions`, with the number
-/// of the question from 1 (`Fault` says when each comes). `Memory` can come anywhere.
+/// Refusals come in this order: `Syntax`; `Version`; `TopKey`, `Count`; then, question after question, `Key`, `Name`,
+/// `Range`, `Mask` and `Actions`, with the number of the question from 1.
 pub fn read_policy(alloc: Global, text: &str) -> Result<Vec<Question>, Fault>
-    // Where the text is TOML, the questions or the refusal are those of its tree.
     ensures read { (tree : Members) → parse_document text.now ≡ Some tree
         → IsDue (λ v. v.items) result (policy_of tree) }
-
-    // `Syntax` comes exactly where it is no TOML, unless memory ran out.
     ensures syntax { result ≡ Err Fault.Syntax → parse_document text.now ≡ None }
     ensures no_syntax { parse_document text.now ≡ None → (result ≡ Err Fault.Syntax)
         ⊎ (result ≡ Err Fault.Memory) }

@@ -1,5 +1,3 @@
-//! The actions that a question names.
-
 ghost use Rattle.std.specs.Prelude.{◌≡◌, option_map, is_some, codes, map};
 ghost use Rattle.std.specs.List.{list_any, list_all};
 ghost use Rattle.std.specs.Str.{bytes_eq};
@@ -12,7 +10,7 @@ use super::keys::{is_among, value_at};
 use sf_question::ActionSet;
 use toml::{Table, Value};
 
-/// The names that a policy has for the actions. `OTHER` stands for all actions without a name.
+/// `OTHER` stands for all actions without a name.
 const ACTION_NAMES: [&str; 9] = [
     "KILL_PROCESS",
     "KILL_THREAD",
@@ -32,36 +30,31 @@ fn text_of(value: &Value) -> &str
     value.as_str().unwrap_or("")
 }
 
-/// Whether a value is the name of an action.
 fn is_action(value: &Value) -> bool
     ensures { result ≡ is_action (text_or_empty (view value.now)) }
 {
     is_among(text_of(value), ACTION_NAMES.as_slice())
 }
 
-/// Whether each value is a text.
 fn are_texts(items: &[Value]) -> bool
     ensures { result ≡ list_all (λ v. is_some (as_str (view v))) items.now }
 {
     items.iter().all(|value| value.is_str())
 }
 
-/// Whether each value names an action.
 fn are_all_actions(items: &[Value]) -> bool
     ensures { result ≡ list_all (λ v. is_action (text_or_empty (view v))) items.now }
 {
     items.iter().all(|value| is_action(value))
 }
 
-/// Whether one of the values is the text `name`. No caller gives an empty `name`: a value that is no text counts as the
-/// empty text here.
+/// Whether one of the values is the text `name`, which isn't empty.
 fn has_text(items: &[Value], name: &str) -> bool
     ensures { result ≡ list_any (λ v. bytes_eq (text_or_empty (view v)) name.now) items.now }
 {
     items.iter().any(|value| text_of(value) == name)
 }
 
-/// Whether there are values, and each names an action.
 #[tactic(auto, using(crate::proofs::ActionLemmas::are_actions_view))]
 fn are_actions(items: &[Value]) -> bool
     ensures { result ≡ are_actions (map (λ v. text_or_empty (view v)) items.now) }
@@ -69,7 +62,7 @@ fn are_actions(items: &[Value]) -> bool
     !items.is_empty() && are_all_actions(items)
 }
 
-/// The set of the actions that texts name; empty where there is no text, or one of them names no action.
+/// The set of the actions that texts name; empty where one of them names no action.
 #[tactic(auto, using(crate::proofs::ActionLemmas::is_named_view))]
 fn set_from(items: &[Value]) -> ActionSet
     ensures { result ≡ encoded_set (map (λ v. text_or_empty (view v)) items.now) }
@@ -90,7 +83,6 @@ fn set_from(items: &[Value]) -> ActionSet
     }
 }
 
-/// The set of the actions that a value names, as `set_from` makes it; `None` where the value is no array of texts.
 #[tactic(auto, using(crate::proofs::TreeLemmas::texts_view, crate::proofs::TreeLemmas::no_texts_view))]
 fn set_in(value: &Value) -> Option<ActionSet>
     ensures { result ≡ option_map encoded_set (texts_of_value (view value.now)) }
@@ -103,9 +95,8 @@ fn set_in(value: &Value) -> Option<ActionSet>
     }
 }
 
-/// The set of the actions that a question names: ALLOW and LOG where it has no key `actions`. Empty where the array has
-/// no name, or one of its names isn't that of an action: a question with an empty set is refused. `None` where the
-/// value isn't an array of texts.
+/// The set of the actions that a question names: ALLOW and LOG where it has no key `actions`, and an empty one, which
+/// is refused, where a text names no action.
 pub(super) fn actions_in(table: &Table) -> Option<ActionSet>
     ensures { result ≡ option_map encoded_set
         (names_at (get_member (codes "actions") (table_view table.now))) }

@@ -1,5 +1,3 @@
-//! The keys of policy files, and the values at them.
-
 ghost use Rattle.std.specs.Prelude.{◌≡◌, string_bytes, option_map};
 ghost use Rattle.std.specs.BTreeMap.{keys};
 ghost use Rattle.std.specs.List.{list_any, list_all};
@@ -17,19 +15,15 @@ pub const WORD_KEYS: [&str; 16] = [
     "arg2_hi", "arg3_lo", "arg3_hi", "arg4_lo", "arg4_hi", "arg5_lo", "arg5_hi",
 ];
 
-/// The keys that a question may have.
 const QUESTION_KEYS: [&str; 18] = [
     "name", "actions", "nr", "arch", "ip_lo", "ip_hi", "arg0_lo", "arg0_hi", "arg1_lo", "arg1_hi",
     "arg2_lo", "arg2_hi", "arg3_lo", "arg3_hi", "arg4_lo", "arg4_hi", "arg5_lo", "arg5_hi",
 ];
 
-/// The keys that a policy may have at its top.
 pub(crate) const TOP_KEYS: [&str; 2] = ["version", "question"];
 
-/// The keys that the table of a word may have.
 const MASK_KEYS: [&str; 4] = ["mask", "value", "low", "high"];
 
-/// The value at a key; `None` where the key is missing.
 #[tactic(auto, using(toml::proofs::Views::table_get))]
 pub(crate) fn value_at<'a>(table: &'a Table, key: &str) -> Option<&'a Value>
     ensures { option_map (λ v. view v.now) result ≡ get_member key.now (table_view table.now) }
@@ -37,14 +31,13 @@ pub(crate) fn value_at<'a>(table: &'a Table, key: &str) -> Option<&'a Value>
     table.get(key)
 }
 
-/// The whole number at a key; `None` where the key is missing, or its value is no whole number.
 pub(crate) fn number_in(table: &Table, key: &str) -> Option<i64>
     ensures { result ≡ number_at key.now (table_view table.now) }
 {
     value_at(table, key)?.as_integer()
 }
 
-/// The whole number at a key, and `absent` where the key is missing; `None` where its value is no whole number.
+/// The whole number at a key, and `absent` where the key is missing.
 pub(crate) fn number_in_or(table: &Table, key: &str, absent: i64) -> Option<i64>
     ensures { result ≡ number_or absent (get_member key.now (table_view table.now)) }
 {
@@ -54,21 +47,18 @@ pub(crate) fn number_in_or(table: &Table, key: &str, absent: i64) -> Option<i64>
     }
 }
 
-/// The text at a key; `None` where the key is missing, or its value is no text.
 pub(crate) fn text_in<'a>(table: &'a Table, key: &str) -> Option<&'a str>
     ensures { option_map (λ s. s.now) result ≡ text_at key.now (table_view table.now) }
 {
     value_at(table, key)?.as_str()
 }
 
-/// Whether the text is one of these texts.
 pub(crate) fn is_among(text: &str, texts: &[&str]) -> bool
     ensures { result ≡ list_any (λ t. bytes_eq text.now t.now) texts.now }
 {
     texts.iter().any(|t| text == *t)
 }
 
-/// Whether each key of a table is among the known keys.
 fn has_only_keys(table: &Table, known: &[&str]) -> bool
     ensures { result ≡ list_all (λ key. list_any (λ k. bytes_eq (string_bytes key) k.now)
         known.now) (keys table.now) }
@@ -76,7 +66,6 @@ fn has_only_keys(table: &Table, known: &[&str]) -> bool
     table.keys().all(|key| is_among(key.as_str(), known))
 }
 
-/// Whether a table has only keys of a question.
 #[tactic(auto, using(crate::proofs::TreeLemmas::has_only_question_keys))]
 pub(crate) fn has_question_keys(table: &Table) -> bool
     ensures { result ≡ has_only question_keys (table_view table.now) }
@@ -84,7 +73,6 @@ pub(crate) fn has_question_keys(table: &Table) -> bool
     has_only_keys(table, QUESTION_KEYS.as_slice())
 }
 
-/// Whether a table has only keys that may stand at the top of a policy.
 #[tactic(auto, using(crate::proofs::TreeLemmas::has_only_view))]
 pub(crate) fn has_top_keys(table: &Table) -> bool
     ensures { result ≡ has_only top_keys (table_view table.now) }
@@ -92,8 +80,7 @@ pub(crate) fn has_top_keys(table: &Table) -> bool
     has_only_keys(table, TOP_KEYS.as_slice())
 }
 
-/// Whether a table has only keys that may stand in it as the value of a word in a question: `mask` and `value`, and
-/// `low` and `high`, the ends of a range. Whether the keys that it needs are there isn't asked.
+/// Whether a table, the value of a word in a question, has only the keys `mask`, `value`, `low` and `high`.
 #[tactic(auto, using(crate::proofs::TreeLemmas::has_only_view))]
 pub(crate) fn has_mask_keys(table: &Table) -> bool
     ensures { result ≡ has_only mask_keys (table_view table.now) }

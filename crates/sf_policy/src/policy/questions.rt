@@ -1,5 +1,3 @@
-//! The questions of a policy file.
-
 ghost use Rattle.std.specs.Prelude.{◌≡◌, ◌≤◌, length, map};
 ghost use Rattle.toml.specs.View.{view, table_view};
 ghost use Rattle.sf_policy.specs.Faults.{IsDue};
@@ -10,12 +8,12 @@ use super::Version;
 use super::actions::actions_in;
 use super::keys::{has_question_keys, text_in};
 use super::words::{WordEntry, entries_in, words_of};
-use crate::fault::Fault;
 use sf_question::{ActionSet, Question};
+use sf_stack::Fault;
 use std::alloc::Global;
 use toml::{Table, Value};
 
-/// A fault of a question, with the question's number, from 1. `Memory` has no number.
+/// A fault of a question, with the question's number, from 1.
 fn fault_of_question(question: usize, fault: sf_question::Fault) -> Fault
     ensures { result ≡ numbered_fault question fault }
 {
@@ -28,8 +26,8 @@ fn fault_of_question(question: usize, fault: sf_question::Fault) -> Fault
     }
 }
 
-/// The fault of a question that has a number outside 32 bits. It is `Range`; but `Name` where the name isn't 1 to 64
-/// bytes from 0x21 to 0x7e, since names are looked at first. `number` is the question's, from 1, for the fault.
+/// The fault of a question that has a number outside 32 bits: `Range`, unless its name is wrong, since names are looked
+/// at first.
 fn fault_of_wide_number(number: usize, name: &str) -> Fault
     ensures { result ≡ fault_of_wide_number number name.now }
 {
@@ -40,12 +38,8 @@ fn fault_of_wide_number(number: usize, name: &str) -> Fault
     }
 }
 
-/// The question with this name, these entries for the sixteen words, and these actions. `number` is the question's,
-/// from 1, for the fault.
-///
-/// Refusals, tried in this order: `Name` where the name isn't 1 to 64 bytes from 0x21 to 0x7e; `Range` where a number
-/// of an entry is negative or has more than 32 bits, or a low end is above its high end; `Mask` where a value has a bit
-/// outside its mask; `Actions` where the set is empty; `Memory` where an allocation is refused.
+/// The question of these parts, whose number, from 1, is for the fault. Refusals come in the order `Name`, `Range`,
+/// `Mask`, `Actions`.
 fn question_of_parts(
     alloc: Global,
     number: usize,
@@ -65,13 +59,8 @@ fn question_of_parts(
     question.map_err(|fault| fault_of_question(number, fault))
 }
 
-/// The question of a table, in a policy of this version: only in version 2 the value of a word may be a table. `number`
-/// is the question's, from 1, for the fault.
-///
-/// Refusals, tried in this order: `Key` where a key is unknown, there is no text at `name`, the value of a word is
-/// neither a whole number, nor an array of two, nor, in version 2, a table with a whole `mask` and `value` and nothing
-/// else but whole ends `low` and `high`, or the value of `actions` is no array of texts; then `Name`, `Range`, `Mask`
-/// and `Actions`, as `question_of_parts` says; `Memory` where an allocation is refused.
+/// The question of a table, whose number, from 1, is for the fault. `Key` comes before what `question_of_parts`
+/// refuses.
 #[tactic(auto, using(crate::proofs::EntryLemmas::table_due))]
 pub(super) fn question_of_table(
     alloc: Global,
@@ -91,12 +80,7 @@ pub(super) fn question_of_table(
     question_of_parts(alloc, number, name, &entries, actions)
 }
 
-/// The questions of an array's tables, in order, in a policy of this version. The caller's condition: at most 256
-/// items.
-///
-/// The refusal is that of the first question that is refused, with its number, from 1: `Key` where it is no table, or
-/// has an unknown key, no text at `name`, or a value of a wrong form; then `Name`, `Range`, `Mask` or `Actions`
-/// (`Fault` says when each comes). `Memory` where an allocation is refused.
+/// The questions of an array's tables. The refusal is that of the first question that is refused.
 pub(super) fn questions_in(
     alloc: Global,
     version: Version,

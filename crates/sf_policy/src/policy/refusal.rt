@@ -3,7 +3,7 @@
 use super::keys::{TOP_KEYS, is_among, text_in, value_at};
 use super::questions::question_of_table;
 use super::{Version, version_in};
-use crate::fault::Fault;
+use sf_stack::Fault;
 use std::alloc::{AllocError, Global};
 use toml::de::Error;
 use toml::{Table, Value};
@@ -11,16 +11,13 @@ use toml::{Table, Value};
 /// Why a policy is refused, and what was read of it.
 #[derive(Debug, Drop)]
 pub struct Refusal {
-    /// The fault for which the policy is refused.
     pub fault: Fault,
     /// The tree of the policy; or why there is none: its text is no TOML, or memory ran out.
     pub read: Result<Table, Error>,
 }
 
-/// Whether a question that has only a right name and this key, with this value, is refused for this fault. Where the
-/// key is `name`, the value takes the place of the right name. The last argument is the number of the question that was
-/// refused, from 1, and its fault, which isn't `Memory`. An error where an allocation is refused here; where
-/// `question_of_table` refuses with `Memory`, the result is `false`.
+/// Whether a question that has only a right name and this key, with this value, is refused for the same fault. `false`
+/// where `question_of_table` runs out of memory.
 fn is_refused_alone(
     alloc: Global,
     version: Version,
@@ -40,7 +37,7 @@ fn is_refused_alone(
 }
 
 impl Refusal {
-    /// The number of the question that is refused, from 1; `None` where the fault is that of no question.
+    /// The number of the question that is refused, from 1, if the fault is that of one.
     pub fn question(&self) -> Option<usize> {
         match self.fault {
             Fault::Key { question }
@@ -52,7 +49,7 @@ impl Refusal {
         }
     }
 
-    /// The values of the policy's array of questions; empty where it has no such array, or `read` has no tree.
+    /// The values of the policy's array of questions; empty where there is none.
     pub fn items(&self) -> &[Value] {
         match &self.read {
             Ok(table) => match value_at(table, "question") {
@@ -63,8 +60,7 @@ impl Refusal {
         }
     }
 
-    /// The table of the question that is refused; or the whole tree, where the fault is that of no question. `None`
-    /// where `read` has no tree, or where the question is no table.
+    /// The table of the question that is refused, or the whole tree, where the fault is that of no question.
     pub fn table(&self) -> Option<&Table> {
         match self.question() {
             Some(number) => self.items().get(number.checked_sub(1)?)?.as_table(),
@@ -72,22 +68,17 @@ impl Refusal {
         }
     }
 
-    /// The name of the question that is refused; `None` where the fault is that of no question, the question is no
-    /// table, or it has no text at its key `name`.
+    /// The name of the question that is refused.
     pub fn name(&self) -> Option<&str> {
         self.question()?;
         text_in(self.table()?, "name")
     }
 
-    /// The key that is refused; empty where `read` has no tree, or where the question that is refused is no table.
+    /// The key that is refused; empty where there is no table.
     ///
-    /// Where the fault is that of a question, it is the first key of the question's table, in alphabetical order, that
-    /// alone with a right name is refused for the same fault, as `is_refused_alone` says. If no key is, it is `name`,
-    /// which is missing then, unless memory ran out as a key was tried.
-    ///
-    /// For `Version` it is `version`. For any other fault it is the first unknown key at the policy's top, in
-    /// alphabetical order, or `question` where all are known; for `Memory` this key has no meaning. An error where an
-    /// allocation is refused, but not where `question_of_table` is refused it.
+    /// For a fault of a question it is the first key, in alphabetical order, that alone with a right name is refused
+    /// for the same fault; if no key is, it is `name`, which is missing then. For any other fault it is that of
+    /// `top_key`. Where `question_of_table` runs out of memory, that is no error here.
     pub fn key(&self, alloc: Global) -> Result<&str, AllocError> {
         let (Some(table), Ok(tree)) = (self.table(), &self.read) else {
             return Ok("");
@@ -103,8 +94,8 @@ impl Refusal {
         Ok("name")
     }
 
-    /// The key at the top of the policy that is refused. It is `version` where the fault is `Version`; else the first
-    /// unknown key of `tree`, in alphabetical order; and `question` where all keys are known. `tree` is the policy's.
+    /// The key at the top of the policy that is refused: `version` for `Version`, else the first unknown key, in
+    /// alphabetical order, or `question`.
     fn top_key<'a>(&self, tree: &'a Table) -> &'a str {
         if self.fault == Fault::Version {
             return "version";

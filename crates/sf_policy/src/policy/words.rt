@@ -15,20 +15,15 @@ use toml::{Table, Value};
 /// What a policy says of a word, in the numbers of the file, which may lie outside 32 bits.
 #[derive(Clone, Copy, Debug)]
 pub(crate) struct WordEntry {
-    /// The least number that the word may be.
     pub(crate) low: i64,
-    /// The greatest number that the word may be.
     pub(crate) high: i64,
-    /// The bits of the word that are asked about.
     pub(crate) mask: i64,
-    /// What these bits have to be.
     pub(crate) value: i64,
 }
 
-/// The greatest number of 32 bits.
 const MOST: i64 = 0xffff_ffff;
 
-/// The entry of a word that a question doesn't name: it may be any number.
+/// The entry of a word that a question doesn't name.
 const ANY_NUMBER: WordEntry = WordEntry {
     low: 0,
     high: MOST,
@@ -36,7 +31,6 @@ const ANY_NUMBER: WordEntry = WordEntry {
     value: 0,
 };
 
-/// The entry of a range, without a mask.
 fn range_entry(low: i64, high: i64) -> WordEntry
     ensures { result ≡ only_between low high }
 {
@@ -48,7 +42,6 @@ fn range_entry(low: i64, high: i64) -> WordEntry
     }
 }
 
-/// The entry of an array of two whole numbers, which are the ends of a range; `None` where it is another array.
 #[tactic(auto, using(crate::proofs::TreeLemmas::short_array, crate::proofs::TreeLemmas::long_array))]
 fn array_entry(items: &[Value]) -> Option<WordEntry>
     ensures { result ≡ entry_of_array (items_view items.now) }
@@ -59,9 +52,7 @@ fn array_entry(items: &[Value]) -> Option<WordEntry>
     }
 }
 
-/// The entry of a table with the keys `mask` and `value`, and perhaps `low` and `high`, the ends of a range. A missing
-/// `low` is 0, and a missing `high` the greatest number of 32 bits. `None` where another key is there, the mask or its
-/// value is missing, or one of the four is no whole number.
+/// The entry of a table with the keys `mask` and `value`, and perhaps `low` and `high`, the ends of a range.
 fn table_entry(table: &Table) -> Option<WordEntry>
     ensures { result ≡ entry_of_table (table_view table.now) }
 {
@@ -76,13 +67,8 @@ fn table_entry(table: &Table) -> Option<WordEntry>
     })
 }
 
-/// The entry of a word's value. A whole number is a range of only this number. An array has the two ends of a range. A
-/// table, which only a policy of version 2 may have, is read by `table_entry`. Whether the numbers fit into 32 bits
-/// isn't asked here.
-///
-/// `None` for an array of other than two whole numbers, for a table in version 1, for one with another key than `mask`,
-/// `value`, `low` and `high`, without `mask` or `value`, or with a value that is no whole number, and for a value of
-/// another kind.
+/// The entry of a word's value. A whole number is a range of only this number. Whether numbers fit into 32 bits isn't
+/// asked here.
 fn value_entry(version: Version, value: &Value) -> Option<WordEntry>
     ensures { result ≡ entry_of version (view value.now) }
 {
@@ -97,9 +83,6 @@ fn value_entry(version: Version, value: &Value) -> Option<WordEntry>
     }
 }
 
-/// The entry of the word with this key in a question's table. Where the key is missing, it is `ANY_NUMBER`, which lets
-/// the word be any number; else it is what `value_entry` gives for the value at the key. `None` where this value is
-/// neither a whole number, nor an array of two, nor, in version 2, a table that `table_entry` takes.
 fn entry_in(version: Version, table: &Table, key: &str) -> Option<WordEntry>
     ensures { result ≡ entry_at version (get_member key.now (table_view table.now)) }
 {
@@ -109,10 +92,7 @@ fn entry_in(version: Version, table: &Table, key: &str) -> Option<WordEntry>
     }
 }
 
-/// The entries of the words with these sixteen keys in a question's table, in the order of the keys. A word whose key
-/// is missing may be any number. `None` where the value at a key is neither a whole number, nor an array of two, nor,
-/// in version 2, a table that `table_entry` takes. For the prover: the keys are an argument, so that it doesn't compute
-/// with them.
+/// For the prover: the keys are an argument, so that it doesn't compute with them.
 fn entries_at(version: Version, table: &Table, keys: &[&str; 16]) -> Option<[WordEntry; 16]>
     ensures { result ≡ each_of (λ key. entry_at version (get_member key (table_view table.now)))
         (map (λ key. key.now) keys.now) }
@@ -124,9 +104,7 @@ fn entries_at(version: Version, table: &Table, keys: &[&str; 16]) -> Option<[Wor
     Some(words)
 }
 
-/// The entries of the sixteen words in a question's table, in the order of `struct seccomp_data`. A word whose key is
-/// missing may be any number. `None` where the value of a word is neither a whole number, nor an array of two, nor, in
-/// version 2, a table that `table_entry` takes.
+/// The entries of the sixteen words in a question's table, in the order of `struct seccomp_data`.
 pub(super) fn entries_in(version: Version, table: &Table) -> Option<[WordEntry; 16]>
     ensures { result ≡ each_of (λ key. entry_at version
         (get_member key (table_view table.now))) word_keys }
@@ -134,8 +112,7 @@ pub(super) fn entries_in(version: Version, table: &Table) -> Option<[WordEntry; 
     entries_at(version, table, &WORD_KEYS)
 }
 
-/// The ends of an entry's range, and then its mask and value; `None` where one of the four is negative or has more than
-/// 32 bits.
+/// The ends of an entry's range, and then its mask and value, if all have 32 bits.
 fn numbers_of(entry: WordEntry) -> Option<((u32, u32), (u32, u32))>
     ensures { result ≡ numbers_in entry }
 {
@@ -145,8 +122,7 @@ fn numbers_of(entry: WordEntry) -> Option<((u32, u32), (u32, u32))>
     ))
 }
 
-/// The ranges of the entries, and then their masks, each with its value; `None` where a number is negative or has more
-/// than 32 bits.
+/// The ranges of the entries, and then their masks, each with its value, if all numbers have 32 bits.
 pub(super) fn words_of(entries: &[WordEntry; 16]) -> Option<([(u32, u32); 16], [(u32, u32); 16])>
     ensures { result ≡ ranges_and_masks entries.now }
 {

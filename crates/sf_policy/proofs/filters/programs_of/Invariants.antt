@@ -1,6 +1,0 @@
-use Rattle.std.proofs.Common.{map, take}
-use Rattle.sf_policy.specs.Filters.{SpellPrograms}
-use Rattle.sf_policy.proofs.filters.programs_of.Given as goal
-
-abbrev pub invariant-loop-i : goal.invariant-loop-i
-invariant-loop-i l = SpellPrograms (take l.i (map (λ f. f.items) l.filters)) l.programs.items

@@ -1,0 +1,6 @@
+use Rattle.std.proofs.Common.{ℕ, ◌<◌}
+use Rattle.sf_stack.specs.Equal.{AreSame}
+use Rattle.sf_stack.proofs.equal.first_same.Given as goal
+
+abbrev pub invariant-loop-later : goal.invariant-loop-later
+invariant-loop-later l = (earlier later : ℕ) → later < l.later → AreSame l.programs earlier later → ⊥

@@ -1,0 +1,6 @@
+use Rattle.std.proofs.Common.{ℕ, ◌<◌}
+use Rattle.sf_stack.specs.Equal.{AreSame}
+use Rattle.sf_stack.proofs.equal.same_before.Given as goal
+
+abbrev pub invariant-loop-earlier : goal.invariant-loop-earlier
+invariant-loop-earlier l = (earlier : ℕ) → earlier < l.earlier → AreSame l.programs earlier l.later → ⊥

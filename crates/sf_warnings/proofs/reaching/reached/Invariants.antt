@@ -1,5 +1,0 @@
-use Rattle.sf_warnings.proofs.ReachingLemmas.{Passes}
-use Rattle.sf_warnings.proofs.reaching.reached.Given as goal
-
-abbrev pub invariant-loop-place : goal.invariant-loop-place
-invariant-loop-place l = Passes l.code l.place l.found.items
