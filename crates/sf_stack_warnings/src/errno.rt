@@ -6,7 +6,7 @@ ghost use Rattle.sf_check.specs.Stacks.{IsPlain};
 ghost use Rattle.sf_stack_warnings.specs.ZeroErrors.{zero_error, IsZeroErrorAt, AreZeroErrors, LeaveNoneOut};
 ghost use Rattle.sf_stack_warnings.specs.Adding.{HaveSame, IsAddedOnce, IsOtherwiseAt, AreAddedBefore};
 
-use sf_ask::{Membership, find_member};
+use sf_ask::find_member;
 use sf_book::Settled;
 use sf_run::{Action, Answer};
 use std::alloc::{AllocError, Global};
@@ -23,10 +23,8 @@ fn is_zero_error(answer: Answer) -> bool
         }
 }
 
-/// Looks for a member of the region at this place, from 0, if the region is answered ERRNO 0, and gives the number of
-/// its call. `None` where the region has another answer, or no member is found; on a plain stack one is found. The
-/// caller's condition: there is a region at the place. An error where an allocation is refused, or where the region's
-/// facts have too many owners.
+/// The number of the call of a member of the region at this place, if the region is answered ERRNO 0 and a member is
+/// found. On a plain stack one is found.
 fn number_at(alloc: Global, settled: &Settled, place: usize) -> Result<Option<u32>, AllocError>
     requires { place < length settled.now.regions }
     ensures number { IfOk result (λ o. IfSome o (IsZeroErrorAt settled.now place)) }
@@ -37,17 +35,16 @@ fn number_at(alloc: Global, settled: &Settled, place: usize) -> Result<Option<u3
     if !is_zero_error(region.answer()) {
         return Ok(None);
     }
-    let Ok(membership) = find_member(alloc, region.piece()) else {
+    let Ok(member) = find_member(alloc, region.piece()) else {
         return Err(AllocError);
     };
-    match membership {
-        Membership::Member(input) => Ok(Some(input.words[0])),
-        Membership::Empty => Ok(None),
-        Membership::Doubt => Ok(None),
+    match member {
+        Some(input) => Ok(Some(input.words[0])),
+        None => Ok(None),
     }
 }
 
-/// Puts a number into a set. Whether it wasn't in it before. An error where an allocation is refused.
+/// Puts a number into a set. Whether it wasn't in it before.
 fn put(seen: &mut BTreeSet<u32>, number: u32) -> Result<bool, AllocError>
     ensures is_new { IfOk result (λ b. MatchBool b (¬ Contains seen.old.keys number)
         (Contains seen.old.keys number)) }
@@ -58,8 +55,7 @@ fn put(seen: &mut BTreeSet<u32>, number: u32) -> Result<bool, AllocError>
     Ok(is_new)
 }
 
-/// Adds a number behind the others, unless it is among them. The caller's condition: `seen` has the same numbers. An
-/// error where an allocation is refused: `seen` may have the number alone then.
+/// Adds a number behind the others, unless it is among them. `seen` has the same numbers.
 fn push_once(
     numbers: &mut Vec<u32>,
     seen: &mut BTreeSet<u32>,
@@ -76,9 +72,7 @@ fn push_once(
     Ok(())
 }
 
-/// Adds the number of the region at `place`, if it gives one, as `number_at` says. The caller's conditions: there is a
-/// region at the place, and the numbers of those before it are added. An error where an allocation is refused, or where
-/// the region's facts have too many owners.
+/// Adds the number of the region at `place`, if it gives one.
 fn add_number_at(
     alloc: Global,
     settled: &Settled,
@@ -98,9 +92,7 @@ fn add_number_at(
 }
 
 /// Numbers of calls that the explored stack answers ERRNO with data 0, each once: that of one input of each region with
-/// this answer, in the order of the regions. On a plain stack each such region has one; else some may have none that is
-/// found. Regions that weren't explored have none. An error where an allocation is refused, or where a region's facts
-/// have too many owners.
+/// this answer, in the order of the regions. Some region of a stack that isn't plain may have none that is found.
 pub fn zero_errors(alloc: Global, settled: &Settled) -> Result<Vec<u32>, AllocError>
     ensures numbers { IfOk result (λ v. AreZeroErrors settled.now
         (length settled.now.regions) v.items) }

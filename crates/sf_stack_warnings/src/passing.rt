@@ -17,9 +17,8 @@ pub fn may_let_through(action: Action) -> bool
     )
 }
 
-/// Whether an exploration found that a stack lets no call through: nothing is outstanding, and no region has an answer
-/// by which a call may get through. `false` doesn't say that a call gets through: a piece may be outstanding, the
-/// region with such an answer may have no member, or another process may decide.
+/// Whether an exploration found that a stack lets no call through. `false` doesn't say that a call gets through: a
+/// piece may be outstanding, the region with such an answer may have no member, or another process may decide.
 pub fn lets_none_through(settled: &Settled) -> bool
     ensures found { result ≡ lets_none_through settled.now }
     ensures none { IsTrue result → LetsNoneThrough settled.now.stack }
