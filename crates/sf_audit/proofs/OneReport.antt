@@ -18,7 +18,7 @@ use Rattle.sf_crew.specs.Sweeps.{IsRightReplyAt, AreRightReplies}
 use Rattle.sf_audit.specs.Audits.{IsAudit}
 use Rattle.sf_audit.specs.Outcomes.{Found}
 use Rattle.sf_json.specs.Documents.{count, counts_document, fields, list_of, sizes_document}
-use Rattle.sf_policy.specs.Texts.{counts_line}
+use Rattle.sf_stack.specs.Texts.{counts_line}
 use Rattle.sf_audit.specs.Reports.{size_line, region_lines, title_line, question_lines, totals_line, report_text}
 use Rattle.sf_audit.specs.Expectations.{ExpectedData}
 use Rattle.sf_audit.specs.Documents.{TellingData, region_documents, question_documents, shown_expected, totals_document, audit_document}

@@ -5,9 +5,9 @@ use Rattle.sf_question.specs.QuestionData.{QuestionData}
 use Rattle.sf_check.specs.Stacks.{IsPlain}
 use Rattle.sf_crew.specs.Explorations.{IsExplorationOf, IsExactExploration}
 use Rattle.sf_crew.specs.Sweeps.{AreRightReplies}
-use Rattle.sf_policy.specs.declared.fault.Fault.{Fault}
-use Rattle.sf_policy.specs.declared.fault.Fault.TheVariants as faults
-use Rattle.sf_policy.specs.Filters.{SpellStack, IsFirstRefusal}
+use Rattle.sf_stack.specs.declared.fault.Fault.{Fault}
+use Rattle.sf_stack.specs.declared.fault.Fault.TheVariants as faults
+use Rattle.sf_stack.specs.Filters.{SpellStack, IsFirstRefusal}
 use Rattle.sf_audit.specs.Outcomes.{Found}
 
 -- An exploration of the stack came to its end, with nothing outstanding or all of the budget spent; the questions are
@@ -17,6 +17,12 @@ pub record IsFoundOn (stack : List (List Insn)) (budget : ℕ) (asked : List Que
   pub plain : IsPlain stack → IsExactExploration stack budget o.settled
   pub questions : o.questions ≡ asked
   pub replies : AreRightReplies o.settled o.questions o.replies
+
+-- what was found was found on this stack, and there are 1 to 256 questions
+pub record IsAuditOf (stack : List (List Insn)) (questions : List QuestionData) (budget : ℕ) (o : Found)
+    : Type 0 where
+  pub counted : (0 < length questions) × (length questions ≤ 256)
+  pub found : IsFoundOn stack budget questions o
 
 -- what was found was found on the stack that the files spell, and there are 1 to 256 questions
 pub record IsAudit (files : List (List ℕ)) (questions : List QuestionData) (budget : ℕ) (o : Found) : Type 0 where

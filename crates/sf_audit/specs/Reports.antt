@@ -6,7 +6,7 @@ use Rattle.sf_book.specs.Books.{BookData, RegionData, counts_of}
 use Rattle.sf_question.specs.QuestionData.{QuestionData}
 use Rattle.sf_ask.specs.declared.verdict.Reply.{Reply}
 use Rattle.sf_ask.specs.declared.verdict.Reply.TheVariants.{Never, Allowed, Unsettled}
-use Rattle.sf_policy.specs.Texts.{action_text, counts_line, hex_text, line}
+use Rattle.sf_stack.specs.Texts.{action_text, counts_line, hex_text, line}
 use Rattle.sf_audit.specs.Outcomes.{Found}
 
 -- what each report begins with, and the number of its form

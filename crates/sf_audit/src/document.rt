@@ -36,8 +36,7 @@ pub struct Telling<'m> {
     pub remarks: &'m [String],
 }
 
-/// The object that says how many replies are of each kind: `never`, `allowed` and `unsettled`. An error where an
-/// allocation is refused.
+/// How many replies are of each kind.
 fn totals_document(alloc: Global, replies: &[Reply]) -> Result<Document, AllocError>
     ensures { IfOk result (λ d. view d ≡ totals_document replies.now) }
 {
@@ -48,13 +47,8 @@ fn totals_document(alloc: Global, replies: &[Reply]) -> Result<Document, AllocEr
     Ok(Document::object(fields))
 }
 
-/// An audit as a JSON object. It has the name of the command (`audit`, in the field `seccomp_audit`), the version of
-/// the form (`version`), the size of the stack (`stack`), the counts of its exploration (`counts`), each question with
-/// its reply (`questions`), what was expected (`expected`), the regions (`regions`), and how many replies are of each
-/// kind (`totals`).
-///
-/// The fields `expected` and `regions` are `null` where `telling` doesn't ask for them. Each question says in any case
-/// whether it is accepted or unexpected by the parameter `expected`. An error where an allocation is refused.
+/// An audit as a JSON object. The fields `expected` and `regions` are `null` where `telling` doesn't ask for them. Each
+/// question says in any case whether it is accepted or unexpected by the parameter `expected`.
 pub fn audit_document(
     alloc: Global,
     outcome: &Outcome,

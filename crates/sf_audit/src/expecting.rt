@@ -16,9 +16,8 @@ use std::marker::Model;
 /// those with an accepted name.
 #[derive(Drop)]
 pub struct Expected {
-    /// The questions of the control.
     control: Vec<Question>,
-    /// The replies to them, one for each, in the same order.
+    /// The replies to the control, one for each question, in the same order.
     held: Vec<Reply>,
     /// The names of the questions that may be allowed.
     accepted: Vec<String>,
@@ -45,8 +44,7 @@ impl Model for Expected {
 
 impl Expected {
     /// What is expected: that each question of `control` is allowed, and that no question is allowed but those with a
-    /// name in `accepted`. The caller's condition: `held` has the replies to the questions of the control, one for
-    /// each, in the same order.
+    /// name in `accepted`.
     pub fn of(control: Vec<Question>, held: Vec<Reply>, accepted: Vec<String>) -> Expected
         requires { length control.items ≡ length held.items }
         ensures { result ≡ record {
@@ -62,7 +60,6 @@ impl Expected {
         }
     }
 
-    /// The questions of the control.
     pub(crate) fn control(&self) -> &[Question]
         ensures same { result.now ≡ self.now.control }
         ensures held { length self.now.control ≡ length self.now.held }
@@ -70,7 +67,6 @@ impl Expected {
         self.control.as_slice()
     }
 
-    /// The replies to the questions of the control, one for each, in the same order.
     pub(crate) fn held(&self) -> &[Reply]
         ensures same { result.now ≡ self.now.held }
         ensures held { length self.now.control ≡ length self.now.held }
@@ -78,14 +74,12 @@ impl Expected {
         self.held.as_slice()
     }
 
-    /// Whether a name is an accepted one.
     pub(crate) fn is_accepted(&self, name: &str) -> bool
         ensures { result ≡ is_accepted self.now.accepted name.now }
     {
         is_accepted(&self.accepted, name)
     }
 
-    /// Whether a question with this name and reply is allowed, and its name isn't an accepted one.
     pub(crate) fn is_unexpected(&self, name: &str, reply: Reply) -> bool
         ensures { result ≡ is_unexpected self.now.accepted name.now reply }
     {
@@ -109,7 +103,7 @@ impl Expected {
 }
 
 /// Adds the line of a question of the control that isn't allowed: `control`, its name, and its reply, `never` or
-/// `unsettled`. Adds nothing for a question that is allowed. An error where an allocation is refused.
+/// `unsettled`. Adds nothing for a question that is allowed.
 fn push_control(text: &mut String, name: &str, reply: Reply) -> Result<(), AllocError>
     ensures { OnOk result (string_bytes text.new ≡ string_bytes text.old
         ++ control_line name.now reply) }
@@ -121,8 +115,6 @@ fn push_control(text: &mut String, name: &str, reply: Reply) -> Result<(), Alloc
     }
 }
 
-/// Adds the lines of the questions of the control that aren't allowed, in their order. The caller's condition:
-/// `replies` has the reply to each question, in the same order. An error where an allocation is refused.
 fn push_controls(
     text: &mut String,
     questions: &[Question],
@@ -138,7 +130,6 @@ fn push_controls(
     Ok(())
 }
 
-/// Whether a name is an accepted one.
 fn is_accepted(accepted: &[String], name: &str) -> bool
     ensures { result ≡ is_accepted (map string_bytes accepted.now) name.now }
 {
@@ -146,7 +137,7 @@ fn is_accepted(accepted: &[String], name: &str) -> bool
 }
 
 /// Adds the line of an accepted question, where its reply is never: `accepted`, its name, and `never`. Such a question
-/// needn't be accepted any more. Adds nothing for another reply. An error where an allocation is refused.
+/// needn't be accepted any more. Adds nothing for another reply.
 fn push_needlessly_accepted(text: &mut String, name: &str, reply: Reply) -> Result<(), AllocError>
     ensures { OnOk result (string_bytes text.new ≡ string_bytes text.old
         ++ accepted_line name.now reply) }
@@ -158,7 +149,7 @@ fn push_needlessly_accepted(text: &mut String, name: &str, reply: Reply) -> Resu
 }
 
 /// Adds the line of a question that isn't accepted, where it is allowed: `unexpected` and its name. Adds nothing for
-/// another reply. An error where an allocation is refused.
+/// another reply.
 fn push_unexpected(text: &mut String, name: &str, reply: Reply) -> Result<(), AllocError>
     ensures { OnOk result (string_bytes text.new ≡ string_bytes text.old
         ++ unexpected_line name.now reply) }
@@ -171,7 +162,6 @@ fn push_unexpected(text: &mut String, name: &str, reply: Reply) -> Result<(), Al
 
 /// Adds a line for a question that isn't as expected: `accepted`, its name, and `never`, where it is accepted and its
 /// reply is never; `unexpected` and its name, where it is allowed and not accepted. Adds nothing for another question.
-/// An error where an allocation is refused.
 fn push_deviation(
     text: &mut String,
     accepted: &[String],
@@ -188,8 +178,6 @@ fn push_deviation(
     }
 }
 
-/// Adds the lines of the questions that aren't as expected, in their order, as `push_deviation` adds each. The caller's
-/// condition: `replies` has the reply to each question, in the same order. An error where an allocation is refused.
 fn push_questions(
     text: &mut String,
     accepted: &[String],
@@ -209,7 +197,7 @@ fn push_questions(
 /// The lines behind a report that say what isn't as expected. First come the lines of the questions of the control that
 /// aren't allowed: `control`, the name, and the reply, `never` or `unsettled`. Then come, in the order of the audit's
 /// questions, the lines that `push_deviation` adds: for a question that is allowed and not accepted, and for one that
-/// is accepted and whose reply is never. Empty where all is as expected. An error where an allocation is refused.
+/// is accepted and whose reply is never. Empty where all is as expected.
 pub fn text_of_expected(
     alloc: Global,
     expected: &Expected,
@@ -228,15 +216,12 @@ pub fn text_of_expected(
     Ok(text)
 }
 
-/// Whether a question is allowed, and its name isn't an accepted one.
 fn is_unexpected(accepted: &[String], name: &str, reply: &Reply) -> bool
     ensures { result ≡ is_unexpected (map string_bytes accepted.now) name.now reply.now }
 {
     is_allowed(reply) && !is_accepted(accepted, name)
 }
 
-/// Whether there is a question that is allowed and whose name isn't an accepted one. The caller's condition: `replies`
-/// has the reply to each question, in the same order.
 fn has_unexpected(accepted: &[String], questions: &[Question], replies: &[Reply]) -> bool
     requires { length questions.now ≡ length replies.now }
     ensures { result

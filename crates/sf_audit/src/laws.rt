@@ -2,7 +2,7 @@
 
 ghost use Rattle.std.specs.Prelude.{◌≡◌, ℕ, Bool, List, []};
 ghost use Rattle.sf_question.specs.QuestionData.{QuestionData};
-ghost use Rattle.sf_policy.specs.declared.fault.Fault.{Fault};
+ghost use Rattle.sf_stack.specs.declared.fault.Fault.{Fault};
 ghost use Rattle.sf_audit.specs.Audits.{IsAudit, IsAuditRefusal};
 ghost use Rattle.sf_audit.specs.Documents.{TellingData, audit_document};
 ghost use Rattle.sf_audit.specs.Expectations.{ExpectedData};
@@ -11,7 +11,7 @@ ghost use Rattle.sf_audit.specs.Reports.{report_text};
 
 use sf_ask::laws::replies_have_one_result;
 use sf_book::laws::explorations_have_one_result;
-use sf_policy::laws::a_refusal_spells_no_stack;
+use sf_stack::laws::a_refusal_spells_no_stack;
 
 /// A law for the prover: where there is an audit, nothing is refused. The files have no refusal then, and there are 1
 /// to 256 questions. So `audit` refuses exactly what `IsAuditRefusal` says, unless memory is refused.

@@ -1,5 +1,6 @@
 //! An audit of a stack of seccomp filters: the replies to questions about it, what was expected of them, and how both
-//! are written, as a report or as JSON.
+//! are written, as a report or as JSON. Memory may run out wherever something is allocated or added to a text; a part
+//! of what was to be added may stand in the text then.
 #![tactic(auto)]
 
 mod auditing;
@@ -10,7 +11,7 @@ pub mod laws;
 mod outcome;
 mod report;
 
-pub use auditing::{audit, reply_to};
+pub use auditing::{audit, audit_stack, reply_to};
 pub use counting::{count_allowed, count_never, count_unsettled};
 pub use document::{Telling, audit_document};
 pub use expecting::{Expected, text_of_expected};

@@ -9,11 +9,9 @@ use std::marker::Model;
 /// What an audit found: how the exploration of the stack ended, the questions that were asked, and a reply to each.
 #[derive(Drop)]
 pub struct Outcome {
-    /// How the exploration ended.
     pub(crate) settled: Settled,
-    /// The questions, in the order in which they were asked.
     pub(crate) questions: Vec<Question>,
-    /// The replies to them, one for each, in the same order.
+    /// One for each question, in the same order.
     pub(crate) replies: Vec<Reply>,
 }
 

@@ -4,12 +4,12 @@ mod text;
 
 ghost use Rattle.std.specs.Prelude.{◌≡◌, ◌⊎◌, ◌++◌, map, string_bytes, OnOk, OnErr, IfErr};
 ghost use Rattle.std.specs.Io.KnownBytes.{Appends};
-ghost use Rattle.sf_policy.specs.Texts.{AppendsFront};
+ghost use Rattle.sf_stack.specs.Texts.{AppendsFront};
 ghost use Rattle.sf_audit.specs.Reports.{report_text};
-ghost use Rattle.sf_policy.specs.declared.fault.Fault.TheVariants.{Memory as MemoryFault, Write as WriteFault};
+ghost use Rattle.sf_stack.specs.declared.fault.Fault.TheVariants.{Memory as MemoryFault, Write as WriteFault};
 
 use crate::outcome::Outcome;
-use sf_policy::{Fault, write_bytes};
+use sf_stack::{Fault, write_bytes};
 use std::alloc::Global;
 use std::io::Write;
 use text::report_of;
@@ -17,9 +17,6 @@ use text::report_of;
 /// Writes the report of an outcome, with a line for each settled region if `regions`. Under the line of each question
 /// stands its remark, which is the text at the question's place in `remarks`: whole lines, or an empty text. A question
 /// behind the end of `remarks` has no remark. Behind the report stands the text `behind`.
-///
-/// `Write` where a write fails or takes no byte: at most a beginning of the text was written then. `Memory` where the
-/// text can't be built: nothing was written then.
 pub fn write_report<W: Write>(
     alloc: Global,
     outcome: &Outcome,
@@ -28,15 +25,10 @@ pub fn write_report<W: Write>(
     behind: &str,
     out: &mut W,
 ) -> Result<(), Fault>
-    // The text is written, where the writer's bytes are known.
     ensures written { OnOk result (Appends (W.contents out.old) (W.contents out.new)
         (report_text outcome.now regions (map string_bytes remarks.now) ++ behind.now)) }
-
-    // After an error a beginning of the text is written.
     ensures begun { OnErr result (AppendsFront (W.contents out.old) (W.contents out.new)
         (report_text outcome.now regions (map string_bytes remarks.now) ++ behind.now)) }
-
-    // The only errors are that writing failed, or that memory ran out: then nothing was written.
     ensures refused { IfErr result (λ e. (e ≡ WriteFault)
         ⊎ ((e ≡ MemoryFault) × (out.new ≡ out.old))) }
 {

@@ -10,8 +10,6 @@ use sf_ask::{Question, Reply};
 use sf_json::{Document, Fields};
 use std::alloc::{AllocError, Global};
 
-/// The object of a question of the control: its name and the word of its reply. An error where an allocation is
-/// refused.
 fn control_document(alloc: Global, name: &str, reply: Reply) -> Result<Document, AllocError>
     ensures { IfOk result (λ d. view d ≡ control_document name.now reply) }
 {
@@ -21,8 +19,6 @@ fn control_document(alloc: Global, name: &str, reply: Reply) -> Result<Document,
     Ok(Document::object(fields))
 }
 
-/// The objects of the questions of the control, in their order. The caller's condition: `replies` has the reply to each
-/// question, in the same order. An error where an allocation is refused.
 fn control_documents(
     alloc: Global,
     questions: &[Question],
@@ -40,8 +36,7 @@ fn control_documents(
     Ok(documents)
 }
 
-/// The object of what was expected: the questions of the control with their replies (`control`), and whether the
-/// control holds (`holds`). The accepted names aren't in it. An error where an allocation is refused.
+/// What was expected, but for the accepted names.
 fn expected_document(alloc: Global, expected: &Expected) -> Result<Document, AllocError>
     ensures { IfOk result (λ d. view d ≡ expected_document expected.now) }
 {
@@ -52,7 +47,6 @@ fn expected_document(alloc: Global, expected: &Expected) -> Result<Document, All
     Ok(Document::object(fields))
 }
 
-/// What `expected_document` gives, if `shown`; else the document `null`. An error where an allocation is refused.
 pub(super) fn shown_expected(
     alloc: Global,
     shown: bool,

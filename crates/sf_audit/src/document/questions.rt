@@ -28,7 +28,6 @@ struct Beside {
     why: Document,
 }
 
-/// The word of a reply: `never`, `allowed` or `unsettled`.
 pub(super) fn reply_word(reply: Reply) -> &'static str
     ensures { result.now ≡ reply_word reply }
 {
@@ -39,8 +38,6 @@ pub(super) fn reply_word(reply: Reply) -> &'static str
     }
 }
 
-/// The example of a reply, shown with these names of calls; the document `null` where the reply has none. An error
-/// where an allocation is refused.
 fn example_of(alloc: Global, names: &[Names], reply: Reply) -> Result<Document, AllocError>
     ensures { IfOk result (λ d. view d ≡ example_of names.now reply) }
 {
@@ -50,8 +47,6 @@ fn example_of(alloc: Global, names: &[Names], reply: Reply) -> Result<Document, 
     }
 }
 
-/// The lines of a remark as one text; the document `null` where they are empty. An error where an allocation is
-/// refused.
 fn remark_document(alloc: Global, text: &str) -> Result<Document, AllocError>
     ensures { IfOk result (λ d. view d ≡ remark_document text.now) }
 {
@@ -61,8 +56,7 @@ fn remark_document(alloc: Global, text: &str) -> Result<Document, AllocError>
     Document::copy_of(alloc, text)
 }
 
-/// The remark on the question at a place, counted from 0; the document `null` where it is empty, or `remarks` don't
-/// reach so far. An error where an allocation is refused.
+/// The remark on the question at a place, from 0.
 fn why_of(alloc: Global, remarks: &[String], place: usize) -> Result<Document, AllocError>
     ensures { IfOk result (λ d. view d
         ≡ remark_document (remark_at (map string_bytes remarks.now) place)) }
@@ -73,8 +67,7 @@ fn why_of(alloc: Global, remarks: &[String], place: usize) -> Result<Document, A
     }
 }
 
-/// Where the question at a place, counted from 0, stands in its policy file: a copy of the object in `origins`. The
-/// document `null` where `origins` don't reach so far. An error where an allocation is refused.
+/// Where the question at a place, from 0, stands in its policy file.
 fn origin_of(origins: &[Document], place: usize) -> Result<Document, AllocError>
     ensures { IfOk result (λ d. view d ≡ origin_of (map view origins.now) place) }
 {
@@ -84,8 +77,7 @@ fn origin_of(origins: &[Document], place: usize) -> Result<Document, AllocError>
     }
 }
 
-/// What is shown beside the reply of the question at a place, counted from 0. `name` and `reply` are those of the
-/// question. An error where an allocation is refused.
+/// What is shown beside the reply of the question at a place, from 0, with this name.
 fn beside_of(
     alloc: Global,
     telling: &Telling<'_>,
@@ -111,9 +103,7 @@ fn beside_of(
     })
 }
 
-/// The object of a question. It has the question's number, which counts from 1, its name, the word of its reply, its
-/// example (`null` where there is none), and the four fields of `beside`: `origin`, `why`, `accepted` and `unexpected`.
-/// An error where an allocation is refused.
+/// The object of the question with this number, from 1.
 fn asked_document(
     alloc: Global,
     number: usize,
@@ -142,9 +132,6 @@ fn asked_document(
     Ok(Document::object(fields))
 }
 
-/// The object of the question at a place, counted from 0, with its name and its reply. The caller's condition: the
-/// place is below 2^63, as it is for each question in memory, so that the question's number, which is the place plus 1,
-/// fits into 64 bits. An error where an allocation is refused.
 fn question_document(
     alloc: Global,
     telling: &Telling<'_>,
@@ -162,8 +149,6 @@ fn question_document(
     asked_document(alloc, place + 1, name, reply_word(reply), example, beside)
 }
 
-/// The objects of questions in their order, each with its reply. The caller's condition: `replies` has the reply to
-/// each question, in the same order. An error where an allocation is refused.
 fn question_documents(
     alloc: Global,
     telling: &Telling<'_>,
@@ -185,7 +170,6 @@ fn question_documents(
     Ok(documents)
 }
 
-/// The array of the questions of an audit in their order, each with its reply. An error where an allocation is refused.
 pub(super) fn questions_document(
     alloc: Global,
     outcome: &Outcome,

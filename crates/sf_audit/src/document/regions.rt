@@ -9,7 +9,7 @@ use sf_book::{Region, Settled};
 use sf_json::{Document, Fields, answer_document};
 use std::alloc::{AllocError, Global};
 
-/// A letter for each truth value: `T` or `F`. An error where an allocation is refused.
+/// A letter for each truth value: `T` or `F`.
 fn letters_of(alloc: Global, name: &[bool]) -> Result<String, AllocError>
     ensures { IfOk result (λ text. string_bytes text ≡ map letter name.now) }
 {
@@ -20,8 +20,6 @@ fn letters_of(alloc: Global, name: &[bool]) -> Result<String, AllocError>
     Ok(text)
 }
 
-/// The name of a region: a letter for each truth value, as `letters_of` writes them; empty where the region's name has
-/// no truth value. An error where an allocation is refused.
 fn name_of(alloc: Global, region: &Region) -> Result<String, AllocError>
     ensures { IfOk result (λ text. string_bytes text ≡ map letter region.now.name) }
 {
@@ -29,7 +27,6 @@ fn name_of(alloc: Global, region: &Region) -> Result<String, AllocError>
     letters_of(alloc, &name)
 }
 
-/// The object of a region: its number, from 1, its name and its answer. An error where an allocation is refused.
 fn region_document(alloc: Global, number: usize, region: &Region) -> Result<Document, AllocError>
     ensures { IfOk result (λ d. view d ≡ region_document number region.now) }
 {
@@ -42,8 +39,7 @@ fn region_document(alloc: Global, number: usize, region: &Region) -> Result<Docu
     Ok(Document::object(fields))
 }
 
-/// The objects of all regions, in the order of their names, which is that of their numbers. An error where an
-/// allocation is refused.
+/// The objects of all regions, in the order of their names, which is that of their numbers.
 fn region_documents(alloc: Global, settled: &Settled) -> Result<Vec<Document>, AllocError>
     ensures { IfOk result (λ v. map view v.items ≡ region_documents 1 settled.now.regions) }
 {
@@ -55,7 +51,6 @@ fn region_documents(alloc: Global, settled: &Settled) -> Result<Vec<Document>, A
     Ok(documents)
 }
 
-/// The array of all regions, if `shown`; else the document `null`. An error where an allocation is refused.
 pub(super) fn shown_regions(
     alloc: Global,
     shown: bool,

@@ -9,11 +9,10 @@ use crate::counting::{count_allowed, count_never, count_unsettled};
 use crate::outcome::Outcome;
 use sf_ask::{Question, Reply};
 use sf_book::{Region, Settled};
-use sf_policy::{hex_of, push_action, push_counts};
+use sf_stack::{hex_of, push_action, push_counts};
 use std::alloc::{AllocError, Global};
 
-/// Adds a region's name: `T` or `F` for each truth value, or a dash where it has none. An error where an allocation is
-/// refused.
+/// Adds a region's name: `T` or `F` for each truth value, or a dash where it has none.
 fn push_truth_values(text: &mut String, name: &[bool]) -> Result<(), AllocError>
     ensures { OnOk result (string_bytes text.new ≡ string_bytes text.old ++ name_text name.now) }
 {
@@ -26,8 +25,7 @@ fn push_truth_values(text: &mut String, name: &[bool]) -> Result<(), AllocError>
     Ok(())
 }
 
-/// Adds the line of a region: `region`, its number, from 1, its name, and the action and the data of its answer. An
-/// error where an allocation is refused.
+/// Adds the line of a region: `region`, its number, from 1, its name, and the action and the data of its answer.
 fn push_region(
     alloc: Global,
     text: &mut String,
@@ -47,8 +45,7 @@ fn push_region(
     write!(text, " {info}\n")
 }
 
-/// Adds the lines of all regions, in the order of their names, which is that of their numbers. An error where an
-/// allocation is refused.
+/// Adds the lines of all regions, in the order of their names, which is that of their numbers.
 fn push_regions(alloc: Global, text: &mut String, settled: &Settled) -> Result<(), AllocError>
     ensures { OnOk result (string_bytes text.new ≡ string_bytes text.old
         ++ region_lines 1 settled.now.regions) }
@@ -59,7 +56,6 @@ fn push_regions(alloc: Global, text: &mut String, settled: &Settled) -> Result<(
     Ok(())
 }
 
-/// Adds the lines of all regions if `shown`; else nothing. An error where an allocation is refused.
 fn push_shown_regions(
     alloc: Global,
     text: &mut String,
@@ -76,8 +72,7 @@ fn push_shown_regions(
 }
 
 /// Adds the line of a question: `question`, its number, from 1, its name, and its reply as `never`, `allowed` or
-/// `unsettled`. Behind `allowed` stand the bytes of the example, as `hex_of` gives them. An error where an allocation
-/// is refused.
+/// `unsettled`. Behind `allowed` stand the bytes of the example, as `hex_of` gives them.
 fn push_question(
     alloc: Global,
     text: &mut String,
@@ -98,7 +93,7 @@ fn push_question(
     }
 }
 
-/// Adds the remark on the question at a place, counted from 0, if it has one. An error where an allocation is refused.
+/// Adds the remark on the question at a place, from 0, if it has one.
 fn push_remark(text: &mut String, remarks: &[String], place: usize) -> Result<(), AllocError>
     ensures { OnOk result (string_bytes text.new ≡ string_bytes text.old
         ++ remark_at (map string_bytes remarks.now) place) }
@@ -110,8 +105,6 @@ fn push_remark(text: &mut String, remarks: &[String], place: usize) -> Result<()
 }
 
 /// Adds the line of the question at a place, counted from 0, and under it the remark on the question, if it has one.
-/// The caller's condition: the place is below 2^63, as it is for each question in memory, so that the question's
-/// number, which is the place plus 1, fits into 64 bits. An error where an allocation is refused.
 fn push_remarked(
     alloc: Global,
     text: &mut String,
@@ -128,9 +121,6 @@ fn push_remarked(
     push_remark(text, remarks, place)
 }
 
-/// Adds the lines of all questions, in their order, and under each the remark on the question, if it has one. The
-/// caller's condition: `replies` has the reply to each question, in the same order. An error where an allocation is
-/// refused.
 fn push_questions(
     alloc: Global,
     text: &mut String,
@@ -149,7 +139,7 @@ fn push_questions(
 }
 
 /// Adds the line that says how much was audited: the number of filters, the length of the path through them, as
-/// seccomp(2) counts it, and the number of questions. An error where an allocation is refused.
+/// seccomp(2) counts it, and the number of questions.
 fn push_size(
     text: &mut String,
     filters: usize,
@@ -166,8 +156,7 @@ fn push_size(
 }
 
 /// Adds the line that says how much was audited, as `push_size` writes it: the number of filters of the explored stack,
-/// the length of the path through them, and `questions`, the number of questions. An error where an allocation is
-/// refused.
+/// the length of the path through them, and `questions`, the number of questions.
 fn push_stack(text: &mut String, settled: &Settled, questions: usize) -> Result<(), AllocError>
     ensures { OnOk result (string_bytes text.new ≡ string_bytes text.old
         ++ size_line (length settled.now.stack) (path_length settled.now.stack) questions) }
@@ -178,8 +167,7 @@ fn push_stack(text: &mut String, settled: &Settled, questions: usize) -> Result<
 
 /// Adds the three lines above the questions: the name of the program with the version of the form of reports, which is
 /// 2; how many filters there are, the length of the path through them, and how many questions; and the counts of the
-/// exploration, as `push_counts` adds them. `questions` is how many questions there are. An error where an allocation
-/// is refused.
+/// exploration, as `push_counts` adds them. `questions` is how many questions there are.
 fn push_head(text: &mut String, settled: &Settled, questions: usize) -> Result<(), AllocError>
     ensures { OnOk result (string_bytes text.new ≡ string_bytes text.old
         ++ head_text settled.now questions) }
@@ -189,7 +177,7 @@ fn push_head(text: &mut String, settled: &Settled, questions: usize) -> Result<(
     push_counts(text, settled.counts())
 }
 
-/// Adds the line of totals, from the number of replies of each kind. An error where an allocation is refused.
+/// Adds the line of totals, from the number of replies of each kind.
 fn push_total(
     text: &mut String,
     never: usize,
@@ -205,7 +193,7 @@ fn push_total(
     )
 }
 
-/// Counts the replies of each kind, and adds the line of totals. An error where an allocation is refused.
+/// Counts the replies of each kind, and adds the line of totals.
 fn push_totals(text: &mut String, replies: &[Reply]) -> Result<(), AllocError>
     ensures { OnOk result (string_bytes text.new ≡ string_bytes text.old
         ++ totals_line replies.now) }
@@ -220,8 +208,7 @@ fn push_totals(text: &mut String, replies: &[Reply]) -> Result<(), AllocError>
 
 /// The whole text of a report: its head, the questions with their replies and remarks, the regions if `regions`, and
 /// the totals. The remark on a question stands at the question's place in `remarks`, and is added as it is. A question
-/// behind the end of `remarks` has no remark. The caller gives remarks that are whole lines, or empty texts. An error
-/// where an allocation is refused.
+/// behind the end of `remarks` has no remark. The caller gives remarks that are whole lines, or empty texts.
 pub(super) fn report_of(
     alloc: Global,
     outcome: &Outcome,

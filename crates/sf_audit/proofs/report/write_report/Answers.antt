@@ -1,5 +1,5 @@
 use Rattle.std.proofs.Common.{OnErr, subst, ◌∙◌, ap, ◌++◌}
-use Rattle.sf_policy.specs.Texts.{AppendsFront}
+use Rattle.sf_stack.specs.Texts.{AppendsFront}
 use Rattle.sf_audit.proofs.report.write_report.Goals as goal
 
 pub returns-clause-begun : goal.returns-clause-begun

@@ -1,0 +1,28 @@
+-- Audits of the stack that files spell.
+use Rattle.std.proofs.Common.{◌≡◌, ◌⊎◌, inl, inr, ℕ, List, sym, subst}
+use Rattle.sf_check.specs.declared.insn.Insn.{Insn}
+use Rattle.sf_question.specs.QuestionData.{QuestionData}
+use Rattle.sf_stack.specs.declared.fault.Fault.{Fault}
+use Rattle.sf_stack.specs.declared.fault.Fault.TheVariants as faults
+use Rattle.sf_stack.specs.Filters.{SpellStack}
+use Rattle.sf_audit.specs.Outcomes.{Found}
+use Rattle.sf_audit.specs.Audits.{IsAudit, IsAuditOf, IsAuditRefusal, IsFoundOn, IsWrongCount}
+
+module _ (files : List (List ℕ)) (stack : List (List Insn)) (questions : List QuestionData)
+    (spelled : SpellStack files stack) where
+  pub audit_of_files : (budget : ℕ) (o : Found) → IsAuditOf stack questions budget o
+      → IsAudit files questions budget o
+  audit_of_files budget o audit =
+      let same : stack ≡ o.settled.stack = sym audit.found.end.of in
+      record {
+        stack = subst (λ (ps : List (List Insn)). SpellStack files ps) same spelled;
+        counted = audit.counted;
+        found = subst (λ (ps : List (List Insn)). IsFoundOn ps budget questions o) same audit.found;
+      }
+
+  pub refusal_of_files : (e : Fault) → (e ≡ faults.Memory) ⊎ ((e ≡ faults.Count) × IsWrongCount questions)
+      → (e ≡ faults.Memory) ⊎ IsAuditRefusal files questions e
+  refusal_of_files e (inl memory) = inl memory
+  refusal_of_files e (inr (count, wrong)) =
+      inr (subst (λ (f : Fault). IsAuditRefusal files questions f) (sym count)
+      (record { stack = stack; spelled = spelled; count = wrong }))
