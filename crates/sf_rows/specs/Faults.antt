@@ -4,8 +4,8 @@ use Rattle.sf_diagram.specs.declared.fault.Fault.{Fault as StoreFault}
 use Rattle.sf_diagram.specs.declared.fault.Fault.TheVariants as store_faults
 use Rattle.sf_parts.specs.declared.fault.Fault.{Fault as PartsFault}
 use Rattle.sf_parts.specs.declared.fault.Fault.TheVariants as parts_faults
-use Rattle.sf_policy.specs.declared.fault.Fault.{Fault as ToldFault}
-use Rattle.sf_policy.specs.declared.fault.Fault.TheVariants as told_faults
+use Rattle.sf_stack.specs.declared.fault.Fault.{Fault as ToldFault}
+use Rattle.sf_stack.specs.declared.fault.Fault.TheVariants as told_faults
 use Rattle.sf_rows.specs.declared.fault.Fault.{Fault}
 use Rattle.sf_rows.specs.declared.fault.Fault.TheVariants.{Nodes, Rows, Memory}
 

@@ -6,7 +6,7 @@ use Rattle.std.specs.Fmt.{decimal, digits, padded_integral, format_spec}
 use Rattle.hex.specs.Hex.{encode_lower}
 use Rattle.sha2.specs.Sha256.{sha256}
 use Rattle.sf_policy.specs.Keys.{word_keys}
-use Rattle.sf_policy.specs.Texts.{answer_words}
+use Rattle.sf_stack.specs.Texts.{answer_words}
 use Rattle.sf_names.specs.Names.{NamesData, names_between}
 use Rattle.sf_behaviour.specs.InputBits.{words_in_order}
 use Rattle.sf_behaviour.specs.Answering.{answer_with}

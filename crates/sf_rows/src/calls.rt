@@ -1,6 +1,4 @@
 //! The rows of calls that have a name.
-//!
-//! Where a function here that adds rows errs, some of them may have been added.
 
 ghost use Rattle.std.specs.Prelude.{◌≡◌, ◌≤◌, ◌<◌, ◌++◌, ◌==◌, IfOk, OnOk, length, map};
 ghost use Rattle.std.specs.Int.{bit_at};
@@ -19,14 +17,11 @@ use sf_parts::{Fault, ROWS, Row, rows_of};
 use std::alloc::{AllocError, Global};
 use std::marker::Model;
 
-/// A row of a call that has a name. All inputs of the call are meant that meet the row's conditions.
+/// A row of a call that has a name: all inputs of the call are meant that meet the row's conditions.
 #[derive(Drop)]
 pub struct CallRow<'a> {
-    /// The call's set.
     names: &'a Names,
-    /// The call.
     call: &'a Call,
-    /// The row.
     row: Row,
 }
 
@@ -61,18 +56,14 @@ impl<'a> CallRow<'a> {
     }
 }
 
-/// The diagram of which rows are.
+/// The diagram of which rows are, and the store in which it stands.
 #[derive(Clone, Copy)]
 pub(crate) struct Source<'s> {
-    /// The store in which it stands.
     pub(crate) store: &'s Store,
-    /// What rows show.
     pub(crate) subject: Subject,
-    /// The diagram.
     pub(crate) id: Id,
 }
 
-/// Whether a number has the bit of this weight: 0 for the lowest bit.
 pub(crate) fn has_bit(number: u32, bit: u32) -> bool
     requires { bit < 32 }
     ensures { result ≡ (bit_at number bit == 1) }
@@ -80,7 +71,7 @@ pub(crate) fn has_bit(number: u32, bit: u32) -> bool
     number >> bit & 1 == 1
 }
 
-/// What comes behind a word where it has this number. The caller's condition: there is such a node.
+/// What comes behind a word where it has this number.
 fn behind(store: &Store, word: u16, number: u32, id: Id) -> Id
     requires { id < length store.now.trees }
     ensures within { result < length store.now.trees }
@@ -102,8 +93,7 @@ fn behind(store: &Store, word: u16, number: u32, id: Id) -> Id
     }
 }
 
-/// The rows of the call with this architecture and this number, of which each has conditions on other words only. The
-/// caller's conditions: the diagram is there, and is one of inputs.
+/// The rows of the call with this architecture and this number, which have conditions on other words only.
 fn rows_of_call(
     alloc: Global,
     source: &Source<'_>,
@@ -129,7 +119,6 @@ fn rows_of_call(
     Ok(rows)
 }
 
-/// Adds rows as those of a call of a set.
 fn push_rows<'a>(
     into: &mut Vec<CallRow<'a>>,
     names: &'a Names,
@@ -145,15 +134,13 @@ fn push_rows<'a>(
     Ok(())
 }
 
-/// Whether a text is one of these.
 fn has_text(texts: &[&str], text: &str) -> bool
     ensures { result ≡ list_any (λ t. bytes_eq text.now t.now) texts.now }
 {
     texts.iter().any(|one| text == *one)
 }
 
-/// The same as `has_text`, whose clause speaks of references to texts. For the prover: the clause here speaks of the
-/// texts themselves.
+/// For the prover: `has_text`, said of the texts themselves.
 fn is_among(texts: &[&str], text: &str) -> bool
     ensures { result ≡ list_any (bytes_eq text.now) (map (λ t. t.now) texts.now) }
 {
@@ -167,9 +154,7 @@ fn is_wanted(wanted: &[&str], call: &Call) -> bool
     wanted.is_empty() || is_among(wanted, call.name())
 }
 
-/// Adds the rows of a call of a set, if it is asked for. The caller's condition: the diagram is there. `Spent` where
-/// there would be more rows than are allowed, with those of other calls, or a word is tested more often; `Memory` where
-/// an allocation is refused.
+/// Adds the rows of a call of a set, if it is asked for.
 fn push_if_wanted<'a>(
     alloc: Global,
     into: &mut Vec<CallRow<'a>>,
@@ -193,8 +178,6 @@ fn push_if_wanted<'a>(
     Ok(())
 }
 
-/// Adds, call after call, the rows of those calls of a set that are asked for. The caller's condition: the diagram is
-/// there.
 fn push_set<'a>(
     alloc: Global,
     into: &mut Vec<CallRow<'a>>,
@@ -215,8 +198,7 @@ fn push_set<'a>(
 }
 
 /// The rows of the calls whose names are in `wanted`, or of all calls where `wanted` is empty: set after set, and in a
-/// set in the order of its calls. The caller's condition: the diagram is there. `Spent` where there would be more rows
-/// than are allowed, all calls together, or a word is tested more often; `Memory` where an allocation is refused.
+/// set in the order of its calls.
 pub(crate) fn call_rows<'a>(
     alloc: Global,
     source: &Source<'_>,

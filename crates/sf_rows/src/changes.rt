@@ -1,5 +1,3 @@
-//! What changes from one stack to another, as a diagram.
-
 ghost use Rattle.std.specs.Prelude.{◌≡◌, ◌<◌, IfOk, length};
 ghost use Rattle.sf_diagram.specs.Trees.{Bits, value};
 ghost use Rattle.sf_diagram.specs.Stores.{IsLawfulStore, KeepsStore, tree_at};
@@ -10,9 +8,8 @@ use sf_diagram::{Fault, Id, Operation, Store, choose, merge};
 use sf_relations::{Relation, operation_of};
 
 /// The diagram of what changes, by those of the answers of an old stack and of a new one: 0 where the two answers are
-/// the same, or where `only` is given and they haven't this relation; else both answers as one number, the old one in
-/// the upper half of its bits. The caller's condition: the two are there. `Spent` and `Memory` as the store has them;
-/// nodes may have been added then.
+/// the same, or haven't the relation `only`; else both answers as one number, the old one in the upper half of its
+/// bits.
 pub fn changes_between(
     store: &mut Store,
     only: Option<Relation>,

@@ -1,5 +1,3 @@
-//! The digest of rows.
-
 ghost use Rattle.std.specs.Prelude.{◌≡◌, IfOk, string_bytes};
 ghost use Rattle.sf_rows.specs.Lines.{digest_of};
 
@@ -9,8 +7,7 @@ use sf_parts::Row;
 use sha2::{Digest, Sha256};
 use std::alloc::{AllocError, Global};
 
-/// The SHA-256 of the lines of rows, without names of calls, as 64 hexadecimal digits in lower case. The rows of two
-/// stacks that answer alike have one digest. An error where an allocation is refused.
+/// The SHA-256 of the lines of rows, without names of calls, as 64 hexadecimal digits in lower case.
 pub fn digest_of_rows(alloc: Global, subject: Subject, rows: &[Row]) -> Result<String, AllocError>
     ensures { IfOk result (λ text. string_bytes text ≡ digest_of subject rows.now) }
 {

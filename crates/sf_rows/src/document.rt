@@ -1,4 +1,4 @@
-//! Rows as JSON. An error of a function here means that an allocation was refused.
+//! Rows as JSON.
 
 ghost use Rattle.std.specs.Prelude.{◌≡◌, IfOk, map, option_map, string_bytes};
 ghost use Rattle.serde_json.specs.Data.{string};
@@ -17,7 +17,6 @@ use sf_names::Names;
 use sf_parts::{Condition, Row, Span};
 use std::alloc::{AllocError, Global};
 
-/// A span as the array of its first number and its last one.
 fn range_document(alloc: Global, span: Span) -> Result<Document, AllocError>
     ensures { IfOk result (λ d. view d ≡ range_document span) }
 {
@@ -25,7 +24,6 @@ fn range_document(alloc: Global, span: Span) -> Result<Document, AllocError>
     Document::array(alloc, ends)
 }
 
-/// Spans, each as an array.
 fn range_documents(alloc: Global, spans: &[Span]) -> Result<Vec<Document>, AllocError>
     ensures { IfOk result (λ v. map view v.items ≡ map range_document spans.now) }
 {
@@ -36,8 +34,8 @@ fn range_documents(alloc: Global, spans: &[Span]) -> Result<Vec<Document>, Alloc
     Ok(documents)
 }
 
-/// A condition as an object: its word (`word`), the bits that count (`mask`), the ranges of numbers (`ranges`), and
-/// whether these are left out (`not`).
+/// A condition: its word (`word`), the bits that count (`mask`), the ranges of numbers (`ranges`), and whether these
+/// are left out (`not`).
 fn condition_document(alloc: Global, condition: &Condition) -> Result<Document, AllocError>
     ensures { IfOk result (λ d. view d ≡ condition_document condition.now) }
 {
@@ -50,7 +48,6 @@ fn condition_document(alloc: Global, condition: &Condition) -> Result<Document, 
     Ok(Document::object(fields))
 }
 
-/// Conditions, each as an object.
 fn condition_documents(alloc: Global, conditions: &[Condition]) -> Result<Vec<Document>, AllocError>
     ensures { IfOk result (λ v. map view v.items ≡ map condition_document conditions.now) }
 {
@@ -79,7 +76,6 @@ fn with_answers(
     }
 }
 
-/// Texts as documents.
 fn text_documents(alloc: Global, texts: Vec<String>) -> Result<Vec<Document>, AllocError>
     ensures { IfOk result (λ v. map view v.items
         ≡ map string (map string_bytes texts.items)) }
@@ -91,7 +87,7 @@ fn text_documents(alloc: Global, texts: Vec<String>) -> Result<Vec<Document>, Al
     Ok(documents)
 }
 
-/// A row as an object: its conditions (`conditions`), what its number says, and the names of its calls (`calls`).
+/// A row: its conditions (`conditions`), what its number says, and the names of its calls (`calls`).
 fn row_document(
     alloc: Global,
     subject: Subject,
@@ -109,7 +105,6 @@ fn row_document(
     Ok(Document::object(shown))
 }
 
-/// Rows, each as an object.
 fn row_documents(
     alloc: Global,
     subject: Subject,
@@ -126,7 +121,7 @@ fn row_documents(
     Ok(documents)
 }
 
-/// A row of a call as an object: the names of the call's set and of the call (`set` and `call`), the row's conditions
+/// A row of a call: the names of the call's set and of the call (`set` and `call`), the row's conditions
 /// (`conditions`), and what its number says.
 fn call_row_document(
     alloc: Global,
@@ -144,7 +139,6 @@ fn call_row_document(
     Ok(Document::object(shown))
 }
 
-/// Rows of calls, each as an object.
 fn call_row_documents(
     alloc: Global,
     subject: Subject,
@@ -177,9 +171,8 @@ fn calls_document(
     }
 }
 
-/// Fields, and what is shown: the rows of calls (`calls`, `null` where none are shown), the other rows (`rows`), and an
-/// object with the number of both together (`total`, at `rows`). `sets` give the names of the calls of a row. An error
-/// where an allocation is refused.
+/// Fields, and what is shown: the rows of calls (`calls`, `null` where none are shown), the other rows (`rows`), and
+/// the number of both together (`total`, at `rows`). `sets` give the names of the calls of a row.
 pub fn with_rows(
     alloc: Global,
     fields: Fields,

@@ -1,5 +1,3 @@
-//! Why no rows are shown.
-
 ghost use Rattle.std.specs.Prelude.{◌≡◌};
 ghost use Rattle.sf_rows.specs.Faults.{of_parts, of_store, told_fault};
 
@@ -10,19 +8,18 @@ pub enum Fault {
     Nodes,
     /// There would be more rows than are allowed, or a word is tested more often.
     Rows,
-    /// An allocation was refused.
     Memory,
 }
 
 impl Fault {
     /// The fault with which the program ends. `nodes` is how many nodes the diagrams may have.
-    pub fn told(self, nodes: u32) -> sf_policy::Fault
+    pub fn told(self, nodes: u32) -> sf_stack::Fault
         ensures { result ≡ told_fault self nodes }
     {
         match self {
-            Fault::Nodes => sf_policy::Fault::TooLarge { nodes },
-            Fault::Rows => sf_policy::Fault::TooManyRows,
-            Fault::Memory => sf_policy::Fault::Memory,
+            Fault::Nodes => sf_stack::Fault::TooLarge { nodes },
+            Fault::Rows => sf_stack::Fault::TooManyRows,
+            Fault::Memory => sf_stack::Fault::Memory,
         }
     }
 }
@@ -30,7 +27,6 @@ impl Fault {
 impl From<sf_diagram::Fault> for Fault {
     ghost from_gives = { λ e f. f ≡ of_store e };
 
-    /// A store that is spent has too many nodes.
     fn from(e: sf_diagram::Fault) -> Fault {
         match e {
             sf_diagram::Fault::Spent => Fault::Nodes,
@@ -42,7 +38,6 @@ impl From<sf_diagram::Fault> for Fault {
 impl From<sf_parts::Fault> for Fault {
     ghost from_gives = { λ e f. f ≡ of_parts e };
 
-    /// Rows that are spent are too many.
     fn from(e: sf_parts::Fault) -> Fault {
         match e {
             sf_parts::Fault::Spent => Fault::Rows,

@@ -1,4 +1,4 @@
-//! Laws of rows, each the contract of a function that does nothing.
+//! Laws of rows: contracts of functions that do nothing.
 
 ghost use Rattle.std.specs.Prelude.{◌≡◌, ◌≢◌, ◌↔◌, ◌==◌, ℕ, List, Contains, Option, count_by, if◌then◌else◌, true};
 ghost use Rattle.sf_insn.specs.declared.input.Input.{Input};
@@ -22,8 +22,8 @@ use sf_behaviour::each_input_has_variables;
 use sf_diagram::{equal_values_make_equal_trees, pairs_give_both_back};
 use sf_parts::{each_input_is_in_one_row, parts_lead_on, rows_have_the_number};
 
-/// An input lies in exactly one row of a tree, or, where the tree has the number that no row shows, in none. The row
-/// has the number that the tree has on the input.
+/// An input lies in exactly one row of a tree, which has the tree's number on it, or in none where no row shows that
+/// number.
 pub fn each_input_lies_in_its_row()
     ensures one { (s : Subject) (t : Tree) (d : Input) → IsInputTree t → IsInput d
         → count_by (lies_in d) (rows_of s t)
@@ -32,13 +32,11 @@ pub fn each_input_lies_in_its_row()
         → IsInput d → Contains (rows_of s t) r → lies_in d r ≡ true
         → r.number ≡ value t (input_bits d) }
 {
-    each_input_has_variables();
     each_input_is_in_one_row();
     rows_have_the_number();
 }
 
-/// An input of a call lies in exactly one of its rows, or, where the tree has the number that no row shows, in none.
-/// The row has the number that the tree has on the input.
+/// The same of an input of a call, and the rows of that call.
 pub fn each_input_of_a_call_lies_in_its_row()
     ensures one { (s : Subject) (t : Tree) (n : NamesData) (c : CallData) (d : Input)
         → IsInputTree t → IsInput d → IsOfCall n c d
@@ -49,14 +47,12 @@ pub fn each_input_of_a_call_lies_in_its_row()
         → Contains (rows_of_call s t n.arch c.number) r → lies_in d r ≡ true
         → r.number ≡ value t (input_bits d) }
 {
-    each_input_has_variables();
     each_input_is_in_one_row();
     rows_have_the_number();
     parts_lead_on();
 }
 
-/// The tree of a stack's answers has on each input the number of the stack's answer, which is one that a row shows. It
-/// is a tree over inputs.
+/// The tree of a stack's answers has on each input the number of the stack's answer, which a row shows.
 pub fn trees_have_the_answers()
     ensures answer { (programs : List (List Insn)) (t : Tree) (d : Input) (a : Answer)
         → IsAnswersTree programs t → IsInput d → Answers programs d a
@@ -69,8 +65,8 @@ pub fn trees_have_the_answers()
     equal_values_make_equal_trees();
 }
 
-/// The tree of what changes between two stacks has on each input whose answers are asked for the number that gives both
-/// back, and on each other input the number that no row shows.
+/// The tree of what changes has the number that gives both answers back on each input whose answers are asked for, and
+/// on each other input the number that no row shows.
 pub fn trees_have_the_changes()
     ensures unasked { (only : Option Relation) (old new : List (List Insn)) (s t u : Tree)
         (d : Input) (a b : Answer) → IsAnswersTree old s → IsAnswersTree new t
@@ -92,8 +88,7 @@ pub fn trees_have_the_changes()
     pairs_give_both_back();
 }
 
-/// Where all calls are shown, the rows beside those of calls have each input of a call without a name, as all rows of
-/// the tree have it, and no input of a named call.
+/// Where all calls are shown, the other rows have each input of a call without a name, and no input of a named call.
 pub fn each_other_input_lies_in_its_row()
     ensures one { (s : Subject) (t rest : Tree) (sets : List NamesData) (d : Input)
         → IsInputTree t → IsTreeOf (unnamed_number sets (hidden_number s) t) rest → IsInput d
@@ -109,7 +104,7 @@ pub fn each_other_input_lies_in_its_row()
     equal_values_make_equal_trees();
 }
 
-/// Two stacks that answer alike on each input have one tree, and so the same rows; and what is shown of a tree is one.
+/// Two stacks that answer alike on each input have one tree, and so the same rows.
 pub fn equal_answers_are_shown_alike()
     ensures tree { (p q : List (List Insn)) (s t : Tree) → IsAnswersTree p s → IsAnswersTree q t
         → ((d : Input) (a : Answer) → IsInput d → Answers p d a

@@ -1,5 +1,8 @@
 //! The rows of decision diagrams over inputs, as text and as JSON: what a stack answers, and what changes from one
 //! stack to another; each row by itself, or call by call.
+//!
+//! Functions fail where memory runs out, where the diagrams would have more nodes than are allowed, where there would
+//! be more rows, or where a word is tested more often. What they were to add may be there in part then.
 #![tactic(auto)]
 
 mod calls;

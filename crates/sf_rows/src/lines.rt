@@ -1,6 +1,4 @@
 //! The lines of rows.
-//!
-//! Where a function here errs, an allocation was refused; a part of what it adds may stand in the text then.
 
 ghost use Rattle.std.specs.Prelude.{◌≡◌, ◌++◌, [], OnOk, option_map, string_bytes};
 ghost use Rattle.std.specs.List.{flat_map};
@@ -67,7 +65,6 @@ fn push_call_row(text: &mut String, subject: Subject, row: &CallRow<'_>) -> Resu
     text.push_str("\n")
 }
 
-/// Adds the line of each of these rows of calls.
 fn push_call_rows(
     text: &mut String,
     subject: Subject,
@@ -82,7 +79,6 @@ fn push_call_rows(
     Ok(())
 }
 
-/// Adds the lines of the rows of calls, if any are shown.
 fn push_calls(
     text: &mut String,
     subject: Subject,
@@ -98,8 +94,7 @@ fn push_calls(
     }
 }
 
-/// Adds the lines of the rows that are shown: first those of calls. `sets` give the names of the calls of the other
-/// rows.
+/// Adds the lines of the rows that are shown: first those of calls. `sets` give the names of calls.
 pub fn push_lines(
     alloc: Global,
     text: &mut String,

@@ -1,6 +1,4 @@
 //! The names of the calls that a row is about.
-//!
-//! Where a function here errs, an allocation was refused; a part of what it adds may have been added then.
 
 ghost use Rattle.std.specs.Prelude.{◌≡◌, ◌++◌, IfOk, OnOk, codes, map, option_map, string_bytes};
 ghost use Rattle.std.specs.List.{flat_map};
@@ -12,7 +10,6 @@ use sf_names::{Call, Names};
 use sf_parts::{Condition, Span};
 use std::alloc::{AllocError, Global};
 
-/// Adds the name of a call, if its number is in a span.
 fn push_call(
     alloc: Global,
     names: &mut Vec<String>,
@@ -28,7 +25,6 @@ fn push_call(
     Ok(())
 }
 
-/// Adds the names of the calls whose numbers are in a span.
 fn push_calls(
     alloc: Global,
     names: &mut Vec<String>,
@@ -44,7 +40,6 @@ fn push_calls(
     Ok(())
 }
 
-/// Adds the names of the calls of a set whose numbers are in a span, if it is a set of the architecture.
 fn push_set(
     alloc: Global,
     names: &mut Vec<String>,
@@ -61,7 +56,6 @@ fn push_set(
     push_calls(alloc, names, set.calls(), span)
 }
 
-/// Adds, set after set, the names of the calls of an architecture whose numbers are in a span.
 fn push_span(
     alloc: Global,
     names: &mut Vec<String>,
@@ -78,7 +72,7 @@ fn push_span(
     Ok(())
 }
 
-/// The names of the calls of an architecture whose numbers are in these spans, span after span.
+/// The names of the calls of an architecture whose numbers are in these spans.
 fn names_in_spans(
     alloc: Global,
     sets: &[Names],
@@ -95,8 +89,7 @@ fn names_in_spans(
     Ok(names)
 }
 
-/// The numbers that a condition means. There are none where it shows those that it leaves out, or where there is no
-/// condition.
+/// The numbers that a condition means; none where it shows those that it leaves out.
 fn meant(condition: Option<&Condition>) -> &[Span]
     ensures { result.now ≡ meant (option_map (λ c. c.now) condition.entry) }
 {
@@ -112,9 +105,8 @@ fn meant(condition: Option<&Condition>) -> &[Span]
     }
 }
 
-/// The names of the calls that have a row's architecture and one of its call numbers; the row's other conditions aren't
-/// looked at. There are none where the row is about more than one architecture, since a number may stand for different
-/// calls then, or about all call numbers. An error where an allocation is refused.
+/// The names of the calls that have a row's architecture and one of its call numbers, whatever its other conditions.
+/// There are none where the row is about more than one architecture, since a number may stand for different calls then.
 pub(crate) fn row_names(
     alloc: Global,
     sets: &[Names],
@@ -129,7 +121,6 @@ pub(crate) fn row_names(
     }
 }
 
-/// Adds names, with ` # ` before the first one and commas between them.
 fn push_each(text: &mut String, names: &[String]) -> Result<(), AllocError>
     ensures { OnOk result (string_bytes text.new ≡ string_bytes text.old
         ++ joined (codes " # ") (codes ",") (map string_bytes names.now)) }
@@ -143,8 +134,7 @@ fn push_each(text: &mut String, names: &[String]) -> Result<(), AllocError>
     Ok(())
 }
 
-/// Adds names, with ` # ` before the first one and commas between them: at most eight, and `..` for the others. Adds
-/// nothing where there are none.
+/// Adds names, with ` # ` before the first one and commas between them: at most eight, and `..` for the others.
 pub(crate) fn push_names(text: &mut String, names: &[String]) -> Result<(), AllocError>
     ensures { OnOk result (string_bytes text.new ≡ string_bytes text.old
         ++ row_names_words (map string_bytes names.now)) }

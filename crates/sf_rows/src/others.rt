@@ -40,9 +40,7 @@ fn parted(alloc: Global, numbers: &[u32], bit: u32) -> Result<(Vec<u32>, Vec<u32
     Ok((set, unset))
 }
 
-/// The diagram that is 1 where a word has the lowest bits of one of the numbers, and else 0. The caller's conditions:
-/// the word is one of an input, and there are so many bits. `Spent` and `Memory` as the store has them; nodes may have
-/// been added then.
+/// The diagram that is 1 where a word has the lowest bits of one of the numbers, and else 0.
 fn one_of(
     alloc: Global,
     store: &mut Store,
@@ -85,8 +83,6 @@ fn numbers_of(alloc: Global, calls: &[Call]) -> Result<Vec<u32>, AllocError>
     Ok(numbers)
 }
 
-/// The diagram that is 1 on the inputs of the calls of a set, and else 0. `Spent` and `Memory` as the store has them;
-/// nodes may have been added then.
 fn calls_of(alloc: Global, store: &mut Store, names: &Names) -> Result<Id, sf_diagram::Fault>
     ensures values { IfOk result (λ id. IsDiagramOf store.new.trees id (λ b.
         if (names.now.arch == word_number 18 b)
@@ -101,8 +97,7 @@ fn calls_of(alloc: Global, store: &mut Store, names: &Names) -> Result<Id, sf_di
     Ok(id)
 }
 
-/// The diagram that is 1 on the inputs of named calls, and else 0. `Spent` and `Memory` as the store has them; nodes
-/// may have been added then.
+/// The diagram that is 1 on the inputs of named calls, and else 0.
 fn named_calls(alloc: Global, store: &mut Store, sets: &[Names]) -> Result<Id, sf_diagram::Fault>
     ensures values { IfOk result (λ id. IsDiagramOf store.new.trees id (λ b.
         if is_named_call sets.now (word_number 18 b) (word_number 19 b) then 1 else 0)) }
@@ -117,8 +112,7 @@ fn named_calls(alloc: Global, store: &mut Store, sets: &[Names]) -> Result<Id, s
     Ok(named)
 }
 
-/// The diagram that on inputs of named calls is this number, and else what a diagram is. The caller's condition: the
-/// diagram is there. `Spent` and `Memory` as the store has them; nodes may have been added then.
+/// The diagram that on inputs of named calls is this number, and else what a diagram is.
 fn without_named(
     alloc: Global,
     store: &mut Store,
@@ -138,8 +132,6 @@ fn without_named(
     Ok(rest)
 }
 
-/// All rows of a diagram. The caller's condition: it is there. `Spent` where there would be more rows than are allowed,
-/// or a word is tested more often; `Memory` where an allocation is refused.
 pub(crate) fn all_rows(
     alloc: Global,
     store: &Store,
@@ -155,10 +147,8 @@ pub(crate) fn all_rows(
     Ok(rows)
 }
 
-/// The rows that are shown beside those of calls. Where `wanted` is empty, these are the rows of the inputs of calls
-/// without a name. Where it has the names of calls, there are none. The caller's condition: the diagram is there.
-/// `Nodes` where the diagrams would have more nodes than are allowed; `Rows` where there would be more rows than are
-/// allowed, or a word is tested more often; `Memory` where an allocation is refused. Nodes may have been added then.
+/// The rows that are shown beside those of calls: where `wanted` is empty, those of the inputs of calls without a name,
+/// and else none.
 pub(crate) fn other_rows(
     alloc: Global,
     store: &mut Store,

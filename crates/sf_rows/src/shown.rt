@@ -1,5 +1,3 @@
-//! What is shown of a diagram: rows, each by itself, or call by call.
-
 ghost use Rattle.std.specs.Prelude.{◌≡◌, ◌<◌, IfOk, length, map, option_map};
 ghost use Rattle.sf_diagram.specs.Stores.{KeepsStore, tree_at};
 ghost use Rattle.sf_rows.specs.Shown.{IsShown, call_rows, shown_count};
@@ -17,9 +15,7 @@ use std::marker::Model;
 /// Rows that are shown.
 #[derive(Drop)]
 pub struct Shown<'a> {
-    /// Those that are shown call by call; `None` where none are.
     calls: Option<Vec<CallRow<'a>>>,
-    /// Those that are shown each by itself.
     rows: Vec<Row>,
 }
 
@@ -61,7 +57,6 @@ pub fn shown_count(shown: &Shown<'_>) -> usize
     }
 }
 
-/// The rows of the calls whose names are in `wanted`, as `call_rows` gives them.
 fn rows_by_call<'a>(
     alloc: Global,
     store: &Store,
@@ -81,10 +76,6 @@ fn rows_by_call<'a>(
 /// The rows of a diagram. Where `calls` is `None`, each stands by itself. Where `calls` has names, they are those of
 /// the calls of `sets` with these names; a name that no set has adds nothing. Where `calls` is an empty list, they are
 /// those of all calls of `sets`, and beside them the rows of the inputs of calls without a name.
-///
-/// The caller's condition: the diagram is there. `Nodes` where the diagrams would have more nodes than are allowed;
-/// `Rows` where there would be more rows than are allowed, or a word is tested more often; `Memory` where an allocation
-/// is refused. Nodes may have been added then.
 pub fn show<'a>(
     alloc: Global,
     store: &mut Store,

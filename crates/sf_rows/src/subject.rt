@@ -1,16 +1,13 @@
 //! What rows show, and how it is shown.
-//!
-//! Where a function here that adds text errs, an allocation was refused; a part of what it adds may stand in the text
-//! then.
 
 ghost use Rattle.std.specs.Prelude.{◌≡◌, ◌++◌, OnOk, codes, string_bytes};
-ghost use Rattle.sf_policy.specs.Texts.{answer_words};
+ghost use Rattle.sf_stack.specs.Texts.{answer_words};
 ghost use Rattle.sf_behaviour.specs.Answering.{answer_with};
 ghost use Rattle.sf_rows.specs.Rows.{after_of, before_of, hidden_number};
 ghost use Rattle.sf_rows.specs.Lines.{answers_words};
 
-use sf_policy::push_action;
 use sf_run::{Action, Answer};
+use sf_stack::push_action;
 use std::alloc::AllocError;
 
 /// What rows show.
@@ -19,11 +16,10 @@ pub enum Subject {
     /// What a stack answers. The number of a row is that of an answer.
     Stack,
     /// What changes from one stack to another. The number of a row stands for two answers, the old one in the upper
-    /// half of its bits.
+    /// half.
     Change,
 }
 
-/// The number whose inputs no row shows.
 pub(crate) fn hidden_number(subject: Subject) -> u64
     ensures { result ≡ hidden_number subject }
 {
@@ -43,14 +39,12 @@ pub(crate) fn answer_of(number: u64) -> Answer
     }
 }
 
-/// The answer of the old stack, by the number that stands for both answers.
 pub(crate) fn before_of(number: u64) -> Answer
     ensures { result ≡ before_of number }
 {
     answer_of(number / 0x1_0000_0000)
 }
 
-/// The answer of the new stack, by the number that stands for both answers.
 pub(crate) fn after_of(number: u64) -> Answer
     ensures { result ≡ after_of number }
 {
@@ -66,7 +60,6 @@ fn push_answer(text: &mut String, answer: Answer) -> Result<(), AllocError>
     write!(text, " {info}")
 }
 
-/// Adds both answers, with ` -> ` between them.
 fn push_change(text: &mut String, before: Answer, after: Answer) -> Result<(), AllocError>
     ensures { OnOk result (string_bytes text.new ≡ string_bytes text.old
         ++ (answer_words before ++ (codes " -> " ++ answer_words after))) }

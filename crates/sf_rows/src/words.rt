@@ -1,6 +1,4 @@
 //! Conditions of rows, as text.
-//!
-//! Where a function here errs, an allocation was refused; a part of what it adds may stand in the text then.
 
 ghost use Rattle.std.specs.Prelude.{◌≡◌, ◌<◌, ◌-◌, ◌==◌, ◌||◌, ◌++◌, [], OnOk, codes, find, if◌then◌else◌, map, option_map, slice_index, string_bytes};
 ghost use Rattle.sf_behaviour.specs.InputBits.{words_in_order};
@@ -10,16 +8,13 @@ use sf_parts::{Condition, Form, Span};
 use sf_policy::WORD_KEYS;
 use std::alloc::AllocError;
 
-/// The word of the architecture.
 pub(crate) const ARCH: u16 = 18;
 
-/// The word of the number of the call.
 pub(crate) const NR: u16 = 19;
 
 /// Which word of `struct seccomp_data` each word from 18 on is.
 const PLACES: [usize; 16] = [1, 0, 5, 4, 7, 6, 9, 8, 11, 10, 13, 12, 15, 14, 3, 2];
 
-/// How the numbers of a word are written.
 #[derive(Clone, Copy)]
 pub(crate) enum Style {
     /// In hexadecimal, without leading zeros.
@@ -37,7 +32,6 @@ fn push_short(text: &mut String, number: u32) -> Result<(), AllocError>
     write!(text, "0x{number:X}")
 }
 
-/// Adds the number of a call: below 65,536 in decimal, else as `push_short` does.
 fn push_call(text: &mut String, number: u32) -> Result<(), AllocError>
     ensures { OnOk result (string_bytes text.new ≡ string_bytes text.old
         ++ number_words Style.Call number) }
@@ -48,7 +42,6 @@ fn push_call(text: &mut String, number: u32) -> Result<(), AllocError>
     push_short(text, number)
 }
 
-/// Adds a number in a style.
 fn push_number(text: &mut String, style: Style, number: u32) -> Result<(), AllocError>
     ensures { OnOk result (string_bytes text.new ≡ string_bytes text.old
         ++ number_words style number) }
@@ -60,7 +53,6 @@ fn push_number(text: &mut String, style: Style, number: u32) -> Result<(), Alloc
     }
 }
 
-/// Adds a span: its number where it has only one, else both ends, with `..` between them.
 fn push_span(text: &mut String, style: Style, span: Span) -> Result<(), AllocError>
     ensures { OnOk result (string_bytes text.new ≡ string_bytes text.old
         ++ span_words style span) }
@@ -73,7 +65,6 @@ fn push_span(text: &mut String, style: Style, span: Span) -> Result<(), AllocErr
     Ok(())
 }
 
-/// Adds spans, with commas between them.
 fn push_spans(text: &mut String, style: Style, spans: &[Span]) -> Result<(), AllocError>
     ensures { OnOk result (string_bytes text.new ≡ string_bytes text.old
         ++ joined [] (codes ",") (map (span_words style) spans.now)) }
@@ -87,7 +78,7 @@ fn push_spans(text: &mut String, style: Style, spans: &[Span]) -> Result<(), All
     Ok(())
 }
 
-/// The number of the only span. `None` where there isn't exactly one span, or where it hasn't exactly one number.
+/// The number of the only span, if it has only one.
 pub(crate) fn number_alone(spans: &[Span]) -> Option<u32>
     ensures { result ≡ number_alone spans.now }
 {
@@ -103,8 +94,7 @@ pub(crate) fn number_alone(spans: &[Span]) -> Option<u32>
     }
 }
 
-/// What stands before numbers that are meant, or, if `without`, before those that aren't: where it is only one number,
-/// or where there are more.
+/// What stands before numbers, which a condition means or leaves out: one number, or more.
 fn start_of(style: Style, without: bool, one: bool) -> &'static str
     ensures { result.now ≡ start_words style without one }
 {
@@ -128,8 +118,7 @@ fn push_form(text: &mut String, style: Style, form: &Form) -> Result<(), AllocEr
     push_spans(text, style, &form.spans)
 }
 
-/// Which word of `struct seccomp_data` a word of trees is. The words 18 to 33 are meant; each other number gives one of
-/// the sixteen, too.
+/// Which word of `struct seccomp_data` a word of trees, 18 to 33, is.
 fn place_of(word: u16) -> usize
     ensures place { result ≡ slice_index words_in_order (word - 18) }
     ensures few { result < 16 }
@@ -149,7 +138,6 @@ pub(crate) fn name_of(word: u16) -> &'static str
     WORD_KEYS[place_of(word)]
 }
 
-/// Adds ` & ` and a mask, if the mask leaves bits out.
 fn push_mask(text: &mut String, mask: u32) -> Result<(), AllocError>
     ensures { OnOk result (string_bytes text.new ≡ string_bytes text.old
         ++ (if mask == 4294967295 then [] else codes " & " ++ short_words mask)) }
@@ -172,14 +160,13 @@ fn push_condition(text: &mut String, condition: &Condition) -> Result<(), AllocE
     push_form(text, Style::Short, &condition.form)
 }
 
-/// Whether a condition is one on this word, with all its bits.
 fn is_on(word: u16, condition: &Condition) -> bool
     ensures { result ≡ is_on word condition.now }
 {
     condition.word == word && condition.form.mask == u32::MAX
 }
 
-/// The first condition on a word with all its bits; `None` where there is none.
+/// The first condition on a word with all its bits.
 pub(crate) fn find_on(conditions: &[Condition], word: u16) -> Option<&Condition>
     ensures { option_map (λ c. c.now) result ≡ find (is_on word) conditions.now }
 {
@@ -198,8 +185,8 @@ fn is_placed(condition: &Condition) -> bool
     is_on(ARCH, condition) || is_on(NR, condition)
 }
 
-/// Adds the conditions that don't stand behind `arch` or `nr`: ` if ` before the first one, and ` and ` before each
-/// later one. Adds nothing where there are none.
+/// Adds the conditions that don't stand behind `arch` or `nr`, with ` if ` before the first one, and ` and ` between
+/// them.
 pub(crate) fn push_conditions(text: &mut String, conditions: &[Condition]) -> Result<(), AllocError>
     ensures { OnOk result (string_bytes text.new ≡ string_bytes text.old
         ++ conditions_words conditions.now) }
@@ -216,7 +203,6 @@ pub(crate) fn push_conditions(text: &mut String, conditions: &[Condition]) -> Re
     Ok(())
 }
 
-/// Adds the numbers of a word on which there is a condition, or `any` where there is none.
 fn push_place(
     text: &mut String,
     style: Style,

@@ -4,8 +4,7 @@ use Rattle.sf_diagram.specs.Trees.{value}
 use Rattle.sf_behaviour.specs.InputBits.{input_bits}
 use Rattle.sf_parts.specs.Rows.{RowData, is_in_row}
 use Rattle.sf_rows.specs.Rows.{rows_of, hidden_number}
-use Rattle.sf_rows.proofs.InputLemmas.{count-is, in-is}
-use Rattle.sf_rows.proofs.RowLemmas.{none-counted, number-of}
+use Rattle.sf_rows.proofs.RowLemmas.{count-is, in-is, none-counted, number-of}
 use Rattle.sf_rows.proofs.laws.each_input_lies_in_its_row.Goals as goal
 
 pub returns-clause-one : goal.returns-clause-one

@@ -1,4 +1,4 @@
-use Rattle.sf_rows.proofs.AnswerLemmas.{one-answers-tree}
+use Rattle.sf_rows.proofs.RowLemmas.{one-answers-tree}
 use Rattle.sf_rows.proofs.OtherLemmas.{shown-once}
 use Rattle.sf_rows.proofs.laws.equal_answers_are_shown_alike.Goals as goal
 

@@ -1,7 +1,6 @@
 use Rattle.std.proofs.Common.{arith}
 use Rattle.sf_behaviour.specs.InputBits.{input_bits}
-use Rattle.sf_rows.proofs.AnswerLemmas.{has-answer}
-use Rattle.sf_rows.proofs.RangeLemmas.{answers-input}
+use Rattle.sf_rows.proofs.RowLemmas.{answers-input, has-answer}
 use Rattle.sf_rows.proofs.laws.trees_have_the_answers.Goals as goal
 
 pub returns-clause-answer : goal.returns-clause-answer
@@ -12,4 +11,4 @@ returns-clause-answer c = λ programs t d a is input answers. (
 
 pub returns-clause-input : goal.returns-clause-input
 returns-clause-input c = λ programs t is.
-    answers-input programs t c.equal_values_make_equal_trees.ensures is
+    answers-input programs t c.each_input_has_variables.ensures.input c.equal_values_make_equal_trees.ensures is

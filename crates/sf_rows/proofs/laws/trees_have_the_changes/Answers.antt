@@ -6,8 +6,7 @@ use Rattle.sf_behaviour.specs.InputBits.{input_bits}
 use Rattle.sf_behaviour.specs.Answering.{answer_with}
 use Rattle.sf_rows.specs.Rows.{after_of, before_of}
 use Rattle.sf_rows.specs.Trees.{AreAskedFor}
-use Rattle.sf_rows.proofs.AnswerLemmas.{asked-number, has-answer, unasked-number}
-use Rattle.sf_rows.proofs.RangeLemmas.{change-input}
+use Rattle.sf_rows.proofs.RowLemmas.{asked-number, change-input, has-answer, unasked-number}
 use Rattle.sf_rows.proofs.laws.trees_have_the_changes.Goals as goal
 
 pub returns-clause-unasked : goal.returns-clause-unasked
