@@ -1,8 +1,7 @@
--- Comparisons of the same files.
+-- Comparisons of the same stacks.
 use Rattle.std.proofs.Common.{◌≡◌, ℕ, Bool, List, Option, Decides, sym, subst}
 use Rattle.std.proofs.lemmas.Bool.Decides.{same_from_decides}
 use Rattle.sf_check.specs.declared.insn.Insn.{Insn}
-use Rattle.sf_policy.specs.Filters.{SpellPrograms}
 use Rattle.sf_relations.specs.declared.relation.Relation.{Relation}
 use Rattle.sf_relations.specs.declared.relation.Relation.TheVariants.{Looser, Tighter, Different, Pretended}
 use Rattle.sf_relations.specs.declared.examples.Example.{Example}
@@ -10,9 +9,6 @@ use Rattle.sf_relations.specs.declared.findings.Findings.{Findings}
 use Rattle.sf_relations.specs.Changes.{IsFinding}
 use Rattle.sf_relations.specs.Comparing.{AreFindingsBetween}
 use Rattle.sf_compare.specs.Comparisons.{Compared, IsComparison, LetsSomeThrough}
-
-abbrev OneStack : Type 0
-OneStack = (files : List (List ℕ)) (a b : List (List Insn)) → SpellPrograms files a → SpellPrograms files b → a ≡ b
 
 abbrev OneFinding : Type 0
 OneFinding = (old new : List (List Insn)) (r : Relation) (a b : Option Example) → IsFinding old new r a
@@ -46,11 +42,9 @@ same-compared : {o o' n n' : List (List Insn)} {m m' : ℕ} {f f' : Findings} {p
     → m ≡ m' → f ≡ f' → p ≡ p' → q ≡ q' → compared_of o n m f p q ≡ compared_of o' n' m' f' p' q'
 same-compared eo en em ef ep eq = cc
 
-pub one-comparison : OneStack → OneFinding → (old new : List (List ℕ)) (c d : Compared) → IsComparison old new c
-    → IsComparison old new d → c.nodes ≡ d.nodes → c ≡ d
-one-comparison stack finding old new c d h k nodes =
-    let first : c.old ≡ d.old = stack old c.old d.old h.old_stack.spelled k.old_stack.spelled in
-    let second : c.new ≡ d.new = stack new c.new d.new h.new_stack.spelled k.new_stack.spelled in
+pub one-comparison : OneFinding → (c d : Compared) → IsComparison c → IsComparison d → c.old ≡ d.old → c.new ≡ d.new
+    → c.nodes ≡ d.nodes → c ≡ d
+one-comparison finding c d h k first second nodes =
     let found : AreFindingsBetween c.old c.new d.findings
     = subst (λ (ps : List (List Insn)). AreFindingsBetween ps c.new d.findings) (sym first)
     (subst (λ (ps : List (List Insn)). AreFindingsBetween d.old ps d.findings) (sym second) k.findings) in

@@ -1,4 +1,3 @@
-pub mod FaultLemmas
 pub mod ComparisonLemmas
 pub mod UserLemmas
 pub mod PassingLemmas

@@ -1,12 +1,11 @@
--- What a comparison of two stacks of filter files finds, and its text.
+-- What a comparison of two stacks finds, and its text.
 use Rattle.std.specs.Prelude.{ℕ, ◌<◌, Bool, IsTrue, ◌↔◌, List, [], ◌∷◌, ◌++◌, Option, Some, None, codes}
 use Rattle.sf_insn.specs.declared.input.Input.{Input}
 use Rattle.sf_insn.specs.Inputs.{IsInput}
 use Rattle.sf_check.specs.declared.insn.Insn.{Insn}
 use Rattle.sf_run.specs.declared.action.Answer.{Answer}
 use Rattle.sf_run.specs.Answers.{Answers}
-use Rattle.sf_policy.specs.Filters.{SpellStack}
-use Rattle.sf_policy.specs.Texts.{answer_words, hex_text, line, nodes_line, filters_line}
+use Rattle.sf_stack.specs.Texts.{answer_words, hex_text, line, nodes_line, filters_line}
 use Rattle.sf_relations.specs.declared.relation.Relation.{Relation}
 use Rattle.sf_relations.specs.declared.relation.Relation.TheVariants.{Looser, Tighter, Different, Pretended}
 use Rattle.sf_relations.specs.declared.examples.Example.{Example}
@@ -32,10 +31,8 @@ pub record Compared : Type 0 where
   pub through_old : Bool
   pub through_new : Bool
 
--- a comparison of the two stacks that files spell: all that is found of them is right
-pub record IsComparison (old new : List (List ℕ)) (c : Compared) : Type 0 where
-  pub old_stack : SpellStack old c.old
-  pub new_stack : SpellStack new c.new
+-- all that is found of the two stacks is right
+pub record IsComparison (c : Compared) : Type 0 where
   pub findings : AreFindingsBetween c.old c.new c.findings
   pub through_old : IsTrue c.through_old ↔ LetsSomeThrough c.old
   pub through_new : IsTrue c.through_new ↔ LetsSomeThrough c.new

@@ -1,4 +1,3 @@
 pub mod Comparisons
 pub mod Documents
-pub mod Faults
 pub mod Upward

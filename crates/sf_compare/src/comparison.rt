@@ -1,19 +1,17 @@
-//! The comparison of two stacks of filter files.
+//! The comparison of two stacks.
 
-ghost use Rattle.std.specs.Prelude.{◌≡◌, ◌⊎◌, ◌↔◌, ◌<◌, ◌≤◌, List, length, map, IfOk, IfErr, IsTrue};
+ghost use Rattle.std.specs.Prelude.{◌≡◌, ◌⊎◌, ◌↔◌, ◌<◌, ◌≤◌, List, length, IfOk, IfErr, IsTrue};
 ghost use Rattle.sf_check.specs.declared.insn.Insn.{Insn};
 ghost use Rattle.sf_diagram.specs.Stores.{KeepsStore};
 ghost use Rattle.sf_behaviour.specs.Answering.{IsBehaviour};
 ghost use Rattle.sf_relations.specs.Comparing.{AreFindingsBetween};
 ghost use Rattle.sf_compare.specs.Comparisons.{IsComparison, LetsSomeThrough, finding_of};
-ghost use Rattle.sf_compare.specs.Faults.{IsRefusalOfBoth};
 
-use crate::files::stacks_of;
 use sf_behaviour::behaviour;
 use sf_check::Stack;
 use sf_diagram::{Id, Store};
-use sf_policy::Fault;
 use sf_relations::{Example, Findings, Relation, find_changes, least_example};
+use sf_stack::Fault;
 use std::alloc::Global;
 use std::marker::Model;
 
@@ -75,7 +73,7 @@ impl Comparison {
         (self.through_old, self.through_new)
     }
 
-    /// What is found of a relation: the least input that has it, with both answers, or `None` where no input has it.
+    /// What is found of a relation: the least input that has it, with both answers.
     pub fn finding(&self, relation: Relation) -> Option<Example>
         ensures { result ≡ finding_of self.now.findings relation }
     {
@@ -89,8 +87,7 @@ impl Comparison {
 }
 
 /// Whether some call may get through a stack, by the diagram of its answers: by some answer it gets further than by
-/// KILL_THREAD, whose number is 0. The caller's condition: the diagram is there. `Spent` and `Memory` as the store has
-/// them.
+/// KILL_THREAD, whose number is 0.
 fn lets_some_through(
     alloc: Global,
     store: &mut Store,
@@ -107,9 +104,8 @@ fn lets_some_through(
     Ok(found.is_some())
 }
 
-/// What is found of each relation between the answers of two stacks, whether some call may get through the old stack,
-/// whether one may through the new one, and how many nodes the diagrams have then. `Spent` where they would have more
-/// than `nodes`, `Memory` where an allocation is refused.
+/// What is found of two stacks: of each relation between their answers, whether some call may get through the old one
+/// and through the new one, and how many nodes the diagrams have then.
 fn find(
     alloc: Global,
     nodes: u32,
@@ -130,30 +126,15 @@ fn find(
     Ok((findings, through_old, through_new, store.count()))
 }
 
-/// Compares two stacks of filter files, for all inputs. The files of each stand in order of installation, the newest
-/// last.
-///
-/// Refusals, tried in this order: what `stack_of` refuses for the old files, then what it refuses for the new ones;
-/// then `TooLarge`, where the diagrams of the answers would have more than `nodes` nodes. Filters are numbered over
-/// both stacks, those of the old one first. `Memory` can come anywhere.
-pub fn compare(
-    alloc: Global,
-    nodes: u32,
-    old: &[Vec<u8>],
-    new: &[Vec<u8>],
-) -> Result<Comparison, Fault>
-    // What is found is right of the stacks that the files spell.
-    ensures found { IfOk result (IsComparison (map (λ f. f.items) old.now)
-        (map (λ f. f.items) new.now)) }
-
-    // The diagrams have no more nodes than are allowed.
+/// Compares two stacks, for all inputs. `TooLarge` where the diagrams of their answers would have more than `nodes`
+/// nodes.
+pub fn compare(alloc: Global, nodes: u32, old: Stack, new: Stack) -> Result<Comparison, Fault>
+    ensures old { IfOk result (λ c. c.old ≡ old) }
+    ensures new { IfOk result (λ c. c.new ≡ new) }
+    ensures found { IfOk result IsComparison }
     ensures few { IfOk result (λ c. c.nodes ≤ nodes) }
-
-    // Any error is the files' first refusal, the budget of nodes, or refused memory.
-    ensures refused { IfErr result (λ e. (e ≡ Fault.Memory) ⊎ ((e ≡ Fault.TooLarge nodes)
-        ⊎ IsRefusalOfBoth (map (λ f. f.items) old.now) (map (λ f. f.items) new.now) e)) }
+    ensures refused { IfErr result (λ e. (e ≡ Fault.Memory) ⊎ (e ≡ Fault.TooLarge nodes)) }
 {
-    let (old, new) = stacks_of(alloc, old, new)?;
     match find(alloc, nodes, &old, &new) {
         Ok((findings, through_old, through_new, nodes)) => Ok(Comparison {
             old,

@@ -15,7 +15,7 @@ use std::alloc::{AllocError, Global};
 
 /// The object with what is found of a relation: the word for it, `never` or `found` (`result`), an example (`example`),
 /// and the answers of the old stack and of the new one to this input (`old` and `new`). Without an example the caller
-/// gives null for all three. An error where an allocation is refused.
+/// gives null for all three.
 fn result_document(
     alloc: Global,
     word: &str,
@@ -35,7 +35,7 @@ fn result_document(
 }
 
 /// What is found of a relation where there is an example: the object with the word `found`, the example, and both
-/// answers. The input is shown with these names of calls. An error where an allocation is refused.
+/// answers. The input is shown with these names of calls.
 fn found_document(alloc: Global, names: &[Names], example: &Example) -> Result<Document, AllocError>
     ensures { IfOk result (λ d. view d ≡ change_document names.now (Some example.now)) }
 {
@@ -45,7 +45,7 @@ fn found_document(alloc: Global, names: &[Names], example: &Example) -> Result<D
     result_document(alloc, "found", input, old, new)
 }
 
-/// What is found of a relation, as JSON, with these names of calls. An error where an allocation is refused.
+/// What is found of a relation, as JSON, with these names of calls.
 fn change_document(
     alloc: Global,
     names: &[Names],
@@ -67,7 +67,7 @@ fn change_document(
 
 /// The fields of a comparison as JSON: the name of the command (`compare`, in the field `seccomp_audit`), the version
 /// of the form, the sizes of both stacks, how many nodes the diagrams have, and what is found of each relation. Inputs
-/// are shown with these names of calls. An error where an allocation is refused.
+/// are shown with these names of calls.
 pub fn comparison_fields(
     alloc: Global,
     comparison: &Comparison,
@@ -95,7 +95,7 @@ pub fn comparison_fields(
         .with("different", different)
 }
 
-/// A comparison as JSON: the object with the fields of `comparison_fields`. An error where an allocation is refused.
+/// A comparison as JSON: the object with the fields of `comparison_fields`.
 pub fn comparison_document(
     alloc: Global,
     comparison: &Comparison,

@@ -1,6 +1,6 @@
 //! Laws of the definitions, each the contract of a function that does nothing, or only calls other laws.
 
-ghost use Rattle.std.specs.Prelude.{◌≡◌, ℕ, List, None, codes, ◌∷◌, []};
+ghost use Rattle.std.specs.Prelude.{◌≡◌, List, None, codes, ◌∷◌, []};
 ghost use Rattle.sf_insn.specs.declared.input.Input.{Input};
 ghost use Rattle.sf_insn.specs.Inputs.{IsInput};
 ghost use Rattle.sf_check.specs.declared.insn.Insn.{Insn};
@@ -12,16 +12,14 @@ ghost use Rattle.sf_relations.specs.Changes.{IsFinding};
 ghost use Rattle.sf_compare.specs.Comparisons.{Compared, IsComparison};
 ghost use Rattle.sf_compare.specs.Upward.{IsUpward};
 
-use sf_policy::laws::one_stack;
 use sf_relations::one_finding;
 
-/// Two comparisons of the same files differ at most in how many nodes their diagrams have. So they have one text and
+/// Two comparisons of the same stacks differ at most in how many nodes their diagrams have. So they have one text and
 /// one document, where this number is the same.
 pub fn one_comparison()
-    ensures { (old new : List (List ℕ)) (c d : Compared) → IsComparison old new c
-        → IsComparison old new d → c.nodes ≡ d.nodes → c ≡ d }
+    ensures { (c d : Compared) → IsComparison c → IsComparison d → c.old ≡ d.old → c.new ≡ d.new
+        → c.nodes ≡ d.nodes → c ≡ d }
 {
-    one_stack();
     one_finding();
 }
 

@@ -1,9 +1,10 @@
 //! What differs between the answers of two stacks of filters, for all inputs, read off the diagrams of their answers.
+//! Memory may run out wherever something is allocated or added to a text; a part of what was to be added may stand in
+//! the text then.
 #![tactic(auto)]
 
 mod comparison;
 mod document;
-mod files;
 pub mod laws;
 mod text;
 

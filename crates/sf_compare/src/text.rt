@@ -2,20 +2,19 @@
 
 ghost use Rattle.std.specs.Prelude.{◌≡◌, ◌⊎◌, ◌++◌, IfOk, IfErr, OnOk, OnErr, string_bytes};
 ghost use Rattle.std.specs.Io.KnownBytes.{Appends};
-ghost use Rattle.sf_policy.specs.Texts.{AppendsFront, answer_words};
-ghost use Rattle.sf_policy.specs.declared.fault.Fault.TheVariants.{Memory as MemoryFault, Write as WriteFault};
+ghost use Rattle.sf_stack.specs.Texts.{AppendsFront, answer_words};
+ghost use Rattle.sf_stack.specs.declared.fault.Fault.TheVariants.{Memory as MemoryFault, Write as WriteFault};
 ghost use Rattle.sf_compare.specs.Comparisons.{change_line, changes_text, comparison_head, comparison_text, part_line};
 
 use crate::comparison::Comparison;
 use sf_check::Stack;
-use sf_policy::{Fault, hex_of, push_action, push_nodes, push_size, write_bytes};
 use sf_relations::{Example, Relation};
 use sf_run::Answer;
+use sf_stack::{Fault, hex_of, push_action, push_nodes, push_size, write_bytes};
 use std::alloc::{AllocError, Global};
 use std::io::Write;
 
-/// An answer as text: the name of its action as `push_action` writes it, a space, and its data as a decimal number. An
-/// error where an allocation is refused.
+/// An answer as text: the name of its action as `push_action` writes it, a space, and its data as a decimal number.
 fn words_of(alloc: Global, answer: Answer) -> Result<String, AllocError>
     ensures { IfOk result (λ text. string_bytes text ≡ answer_words answer) }
 {
@@ -91,7 +90,7 @@ fn push_head(text: &mut String, comparison: &Comparison) -> Result<(), AllocErro
 }
 
 /// The whole text of a comparison: its version, the sizes of both stacks, how many nodes the diagrams have, and a line
-/// for each relation. An error where an allocation is refused.
+/// for each relation.
 pub fn text_of_comparison(alloc: Global, comparison: &Comparison) -> Result<String, AllocError>
     ensures { IfOk result (λ text. string_bytes text ≡ comparison_text comparison.now) }
 {
@@ -102,9 +101,6 @@ pub fn text_of_comparison(alloc: Global, comparison: &Comparison) -> Result<Stri
 }
 
 /// Writes the text of a comparison.
-///
-/// `Write` where a write fails or takes no byte: at most a beginning of the text was written then. `Memory` where the
-/// text can't be built: nothing was written then.
 pub fn write_comparison<W: Write>(
     alloc: Global,
     comparison: &Comparison,

@@ -2,4 +2,4 @@ use Rattle.sf_compare.proofs.ComparisonLemmas.{one-comparison}
 use Rattle.sf_compare.proofs.laws.one_comparison.Goals as goal
 
 pub returns : goal.returns
-returns c = one-comparison c.one_stack.ensures c.one_finding.ensures
+returns c = one-comparison c.one_finding.ensures
