@@ -3,7 +3,7 @@ use Rattle.std.proofs.Common.{◌≡◌, ◌≢◌, ◌∙◌, ℕ, ◌==◌, Li
 use Rattle.std.specs.Prelude.{if◌then◌else◌, None}
 use Rattle.std.proofs.lemmas.Bool.{cond-false, cond-true, eq-eqb, ne_eqb}
 use Rattle.sf_diagram.specs.Trees.{Tree}
-use Rattle.sf_policy.specs.Texts.{filters_line}
+use Rattle.sf_stack.specs.Texts.{filters_line}
 use Rattle.sf_names.specs.Names.{NamesData}
 use Rattle.sf_rows.specs.declared.subject.Subject.TheVariants as subject
 use Rattle.sf_rows.specs.Rows.{rows_of}

@@ -4,7 +4,7 @@ use Rattle.std.specs.Fmt.{decimal}
 use Rattle.serde_json.specs.Data.{Data, string}
 use Rattle.sf_check.specs.declared.insn.Insn.{Insn}
 use Rattle.sf_diagram.specs.Trees.{Tree, value}
-use Rattle.sf_policy.specs.Texts.{line}
+use Rattle.sf_stack.specs.Texts.{line}
 use Rattle.sf_json.specs.Documents.{with_field}
 use Rattle.sf_names.specs.Names.{NamesData}
 use Rattle.sf_relations.specs.declared.relation.Relation.{Relation}

@@ -1,10 +1,9 @@
--- What a listing of a stack of filter files shows, and its text.
+-- What a listing of a stack shows, and its text.
 use Rattle.std.specs.Prelude.{ℕ, List, [], ◌∷◌, ◌++◌, codes, Option, Some, None}
 use Rattle.std.specs.Fmt.{decimal}
 use Rattle.sf_check.specs.declared.insn.Insn.{Insn}
 use Rattle.sf_diagram.specs.Trees.{Tree}
-use Rattle.sf_policy.specs.Filters.{SpellStack}
-use Rattle.sf_policy.specs.Texts.{line, filters_line}
+use Rattle.sf_stack.specs.Texts.{line, filters_line}
 use Rattle.sf_names.specs.Names.{NamesData}
 use Rattle.sf_rows.specs.declared.subject.Subject.TheVariants as subject
 use Rattle.sf_rows.specs.Trees.{IsAnswersTree}
@@ -16,11 +15,9 @@ pub record Listed : Type 0 where
   pub programs : List (List Insn)
   pub shown : ShownData
 
--- What is shown is read off the tree of the answers of the stack that the files spell. `calls` says how: None, each row
--- by itself; else call by call, for the calls that it names, or for all calls where it names none.
-pub record IsListing (files : List (List ℕ)) (sets : List NamesData) (calls : Option (List (List ℕ))) (l : Listed)
-    : Type 0 where
-  pub stack : SpellStack files l.programs
+-- What is shown is read off the tree of the answers of the stack. `calls` says how: None, each row by itself; else call
+-- by call, for the calls that it names, or for all calls where it names none.
+pub record IsListing (sets : List NamesData) (calls : Option (List (List ℕ))) (l : Listed) : Type 0 where
   pub tree : Tree
   pub answers : IsAnswersTree l.programs tree
   pub shown : IsShown calls subject.Stack tree sets l.shown

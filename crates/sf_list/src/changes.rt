@@ -3,8 +3,8 @@
 ghost use Rattle.std.specs.Prelude.{◌≡◌, ◌⊎◌, ◌++◌, IfErr, IfOk, OnErr, OnOk, map, option_map, string_bytes};
 ghost use Rattle.std.specs.Io.KnownBytes.{Appends};
 ghost use Rattle.serde_json.specs.View.{view};
-ghost use Rattle.sf_policy.specs.Texts.{AppendsFront};
-ghost use Rattle.sf_policy.specs.declared.fault.Fault.TheVariants.{Memory as MemoryFault, Write as WriteFault};
+ghost use Rattle.sf_stack.specs.Texts.{AppendsFront};
+ghost use Rattle.sf_stack.specs.declared.fault.Fault.TheVariants.{Memory as MemoryFault, Write as WriteFault};
 ghost use Rattle.sf_list.specs.Changes.{AreChanges, changed_document, changed_line, changed_text, shown_words};
 
 use sf_behaviour::behaviour;
@@ -13,9 +13,9 @@ use sf_compare::{Comparison, comparison_fields, text_of_comparison};
 use sf_diagram::Store;
 use sf_json::Document;
 use sf_names::Names;
-use sf_policy::{Fault, write_bytes};
 use sf_relations::Relation;
 use sf_rows::{Shown, Subject, changes_between, push_lines, show, shown_count, with_rows};
+use sf_stack::{Fault, write_bytes};
 use std::alloc::{AllocError, Global};
 use std::io::Write;
 use std::marker::Model;
@@ -35,8 +35,7 @@ impl<'a> Model for Changes<'a> {
     ghost view = { λ x. record { only = x.only; shown = x.shown } };
 }
 
-/// The rows that are shown of what changes. `Nodes` where the diagrams would have more than `nodes` nodes; `Rows` where
-/// there would be too many rows, or a word is tested too often; `Memory` where an allocation is refused.
+/// The rows that are shown of what changes.
 fn shown_of<'a>(
     alloc: Global,
     nodes: u32,
@@ -62,7 +61,7 @@ fn shown_of<'a>(
 /// Lists what changes between the two stacks of a comparison. Where `only` is given, only the inputs count whose
 /// answers have this relation. `sets` and `calls` say how rows are shown, as for `list`. `TooLarge` where the diagrams
 /// of the answers would have more than `nodes` nodes; `TooManyRows` where there would be too many rows, or a word is
-/// tested too often; `Memory` where an allocation is refused.
+/// tested too often.
 pub fn list_changes<'a>(
     alloc: Global,
     nodes: u32,
@@ -128,9 +127,6 @@ fn text_of(
 
 /// Writes the text of a comparison, the lines of the rows of what changes, with the names of calls from these sets, and
 /// a line that counts these.
-///
-/// `Write` where a write fails or takes no byte: at most a beginning of the text was written then. `Memory` where the
-/// text can't be built: nothing was written then.
 pub fn write_changes<W: Write>(
     alloc: Global,
     comparison: &Comparison,
@@ -150,8 +146,7 @@ pub fn write_changes<W: Write>(
 }
 
 /// A comparison as JSON, with the rows of what changes, and the names of calls from these sets. The object has the
-/// fields of `comparison_fields`, the word of `word_of` (`shown`), and the rows, as `with_rows` adds them. An error
-/// where an allocation is refused.
+/// fields of `comparison_fields`, the word of `word_of` (`shown`), and the rows, as `with_rows` adds them.
 pub fn changes_document(
     alloc: Global,
     comparison: &Comparison,

@@ -11,8 +11,7 @@ use sf_rows::{Subject, with_rows};
 use std::alloc::{AllocError, Global};
 
 /// A listing as JSON, with the names of calls from these sets. The object has the name of the command (`list`, in the
-/// field `seccomp_audit`), the version of the form, the size of the stack, and the rows, as `with_rows` adds them. An
-/// error where an allocation is refused.
+/// field `seccomp_audit`), the version of the form, the size of the stack, and the rows, as `with_rows` adds them.
 pub fn listing_document(
     alloc: Global,
     listing: &Listing<'_>,

@@ -12,7 +12,7 @@ ghost use Rattle.sf_names.specs.Names.{CallData, NamesData};
 ghost use Rattle.sf_rows.specs.declared.subject.Subject.TheVariants as subject;
 ghost use Rattle.sf_rows.specs.Trees.{AreAskedFor, is_named_call};
 ghost use Rattle.sf_rows.specs.Rows.{IsOfCall, after_of, before_of, lies_in, rows_of_call, tree_word};
-ghost use Rattle.sf_policy.specs.Texts.{filters_line};
+ghost use Rattle.sf_stack.specs.Texts.{filters_line};
 ghost use Rattle.sf_list.specs.Listings.{IsListing, Listed, digest_line, listing_text};
 ghost use Rattle.sf_list.specs.Changes.{AreChanges, ChangedData};
 
@@ -24,11 +24,11 @@ use sf_rows::laws::{
 
 /// Where each row stands by itself, each input lies in exactly one row, and this has the stack's answer to it.
 pub fn each_input_is_listed()
-    ensures one { (files : List (List ℕ)) (sets : List NamesData) (l : Listed)
-        (d : Input) (a : Answer) → IsListing files sets None l → IsInput d
+    ensures one { (sets : List NamesData) (l : Listed)
+        (d : Input) (a : Answer) → IsListing sets None l → IsInput d
         → Answers l.programs d a → count_by (lies_in d) l.shown.rows ≡ 1 }
-    ensures answer { (files : List (List ℕ)) (sets : List NamesData) (l : Listed)
-        (d : Input) (a : Answer) (r : RowData) → IsListing files sets None l → IsInput d
+    ensures answer { (sets : List NamesData) (l : Listed)
+        (d : Input) (a : Answer) (r : RowData) → IsListing sets None l → IsInput d
         → Answers l.programs d a → Contains l.shown.rows r → lies_in d r ≡ true
         → answer_with r.number ≡ a }
 {
@@ -39,14 +39,14 @@ pub fn each_input_is_listed()
 /// Where rows stand call by call, each input of a call lies in exactly one row of the call, and this has the stack's
 /// answer to it.
 pub fn each_input_of_a_call_is_listed()
-    ensures one { (files : List (List ℕ)) (sets : List NamesData)
+    ensures one { (sets : List NamesData)
         (calls : Option (List (List ℕ))) (l : Listed) (n : NamesData) (c : CallData) (d : Input)
-        (a : Answer) → (h : IsListing files sets calls l) → IsInput d → IsOfCall n c d
+        (a : Answer) → (h : IsListing sets calls l) → IsInput d → IsOfCall n c d
         → Answers l.programs d a
         → count_by (lies_in d) (rows_of_call subject.Stack h.tree n.arch c.number) ≡ 1 }
-    ensures answer { (files : List (List ℕ)) (sets : List NamesData)
+    ensures answer { (sets : List NamesData)
         (calls : Option (List (List ℕ))) (l : Listed) (n : NamesData) (c : CallData) (d : Input)
-        (a : Answer) (r : RowData) → (h : IsListing files sets calls l) → IsInput d
+        (a : Answer) (r : RowData) → (h : IsListing sets calls l) → IsInput d
         → IsOfCall n c d → Answers l.programs d a
         → Contains (rows_of_call subject.Stack h.tree n.arch c.number) r → lies_in d r ≡ true
         → answer_with r.number ≡ a }
@@ -58,12 +58,12 @@ pub fn each_input_of_a_call_is_listed()
 /// Where the rows of all calls are shown, each input of a call without a name lies in exactly one of the other rows,
 /// and this has the stack's answer to it; an input of a named call lies in none of them.
 pub fn each_other_input_is_listed()
-    ensures one { (files : List (List ℕ)) (sets : List NamesData) (l : Listed)
-        (d : Input) (a : Answer) → IsListing files sets (Some []) l → IsInput d
+    ensures one { (sets : List NamesData) (l : Listed)
+        (d : Input) (a : Answer) → IsListing sets (Some []) l → IsInput d
         → Answers l.programs d a → count_by (lies_in d) l.shown.rows
         ≡ (if is_named_call sets (tree_word d 18) (tree_word d 19) then 0 else 1) }
-    ensures answer { (files : List (List ℕ)) (sets : List NamesData) (l : Listed)
-        (d : Input) (a : Answer) (r : RowData) → IsListing files sets (Some []) l
+    ensures answer { (sets : List NamesData) (l : Listed)
+        (d : Input) (a : Answer) (r : RowData) → IsListing sets (Some []) l
         → IsInput d → Answers l.programs d a → Contains l.shown.rows r
         → lies_in d r ≡ true
         → answer_with r.number ≡ a }
@@ -97,21 +97,21 @@ pub fn each_change_is_listed()
 /// Listings of two stacks that answer alike, with the same `sets` and `calls`, show the same rows. Where the stacks
 /// have the same size too, the two listings are one text. Without calls they have one digest, with any sets.
 pub fn equal_answers_are_listed_alike()
-    ensures shown { (files others : List (List ℕ)) (sets : List NamesData)
-        (calls : Option (List (List ℕ))) (k l : Listed) → IsListing files sets calls k
-        → IsListing others sets calls l
+    ensures shown { (sets : List NamesData)
+        (calls : Option (List (List ℕ))) (k l : Listed) → IsListing sets calls k
+        → IsListing sets calls l
         → ((d : Input) (a : Answer) → IsInput d → Answers k.programs d a
         → Answers l.programs d a)
         → k.shown ≡ l.shown }
-    ensures text { (files others : List (List ℕ)) (sets : List NamesData)
-        (calls : Option (List (List ℕ))) (k l : Listed) → IsListing files sets calls k
-        → IsListing others sets calls l
+    ensures text { (sets : List NamesData)
+        (calls : Option (List (List ℕ))) (k l : Listed) → IsListing sets calls k
+        → IsListing sets calls l
         → ((d : Input) (a : Answer) → IsInput d → Answers k.programs d a
         → Answers l.programs d a)
         → filters_line k.programs ≡ filters_line l.programs
         → listing_text sets k ≡ listing_text sets l }
-    ensures digest { (files others : List (List ℕ)) (sets more : List NamesData) (k l : Listed)
-        → IsListing files sets None k → IsListing others more None l
+    ensures digest { (sets more : List NamesData) (k l : Listed)
+        → IsListing sets None k → IsListing more None l
         → ((d : Input) (a : Answer) → IsInput d → Answers k.programs d a
         → Answers l.programs d a)
         → digest_line k ≡ digest_line l }

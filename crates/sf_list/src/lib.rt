@@ -1,5 +1,6 @@
-//! What a stack of filter files does to each input, and what changes from one stack to another, as rows: each by
-//! itself, or call by call.
+//! What a stack does to each input, and what changes from one stack to another, as rows: each by itself, or call by
+//! call. Memory may run out wherever something is allocated or added to a text; a part of what was to be added may
+//! stand in the text then.
 #![tactic(auto)]
 
 mod changes;

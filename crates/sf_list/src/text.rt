@@ -2,14 +2,14 @@
 
 ghost use Rattle.std.specs.Prelude.{◌≡◌, ◌⊎◌, ◌++◌, IfErr, IfOk, OnErr, OnOk, option_map, string_bytes};
 ghost use Rattle.std.specs.Io.KnownBytes.{Appends};
-ghost use Rattle.sf_policy.specs.Texts.{AppendsFront};
-ghost use Rattle.sf_policy.specs.declared.fault.Fault.TheVariants.{Memory as MemoryFault, Write as WriteFault};
+ghost use Rattle.sf_stack.specs.Texts.{AppendsFront};
+ghost use Rattle.sf_stack.specs.declared.fault.Fault.TheVariants.{Memory as MemoryFault, Write as WriteFault};
 ghost use Rattle.sf_list.specs.Listings.{counted_words, listing_text, listing_title, rows_total_line};
 
 use crate::listing::Listing;
 use sf_names::Names;
-use sf_policy::{Fault, push_size, write_bytes};
 use sf_rows::{CallRow, Shown, Subject, push_lines, shown_count};
+use sf_stack::{Fault, push_size, write_bytes};
 use std::alloc::{AllocError, Global};
 use std::io::Write;
 
@@ -43,7 +43,7 @@ fn push_total(text: &mut String, shown: &Shown<'_>) -> Result<(), AllocError>
 }
 
 /// The whole text of a listing, with the names of calls from these sets: its title, the size of the stack, the lines of
-/// the rows, and a line that counts these. An error where an allocation is refused.
+/// the rows, and a line that counts these.
 fn text_of(alloc: Global, listing: &Listing<'_>, sets: &[Names]) -> Result<String, AllocError>
     ensures { IfOk result (λ text. string_bytes text ≡ listing_text sets.now listing.now) }
 {
@@ -56,9 +56,6 @@ fn text_of(alloc: Global, listing: &Listing<'_>, sets: &[Names]) -> Result<Strin
 }
 
 /// Writes the text of a listing, with the names of calls from these sets.
-///
-/// `Write` where a write fails or takes no byte: at most a beginning of the text was written then. `Memory` where the
-/// text can't be built: nothing was written then.
 pub fn write_listing<W: Write>(
     alloc: Global,
     listing: &Listing<'_>,

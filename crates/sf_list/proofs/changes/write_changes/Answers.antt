@@ -1,5 +1,5 @@
 use Rattle.std.proofs.Common.{OnErr, subst, ◌∙◌}
-use Rattle.sf_policy.specs.Texts.{AppendsFront}
+use Rattle.sf_stack.specs.Texts.{AppendsFront}
 use Rattle.sf_list.proofs.changes.write_changes.Goals as goal
 
 pub returns-clause-begun : goal.returns-clause-begun

@@ -5,14 +5,14 @@ use Rattle.sf_list.proofs.ListingLemmas.{one-where-shown}
 use Rattle.sf_list.proofs.laws.each_input_of_a_call_is_listed.Goals as goal
 
 pub returns-clause-one : goal.returns-clause-one
-returns-clause-one c = λ files sets calls l n k d a h input of answers.
+returns-clause-one c = λ sets calls l n k d a h input of answers.
     let over = c.trees_have_the_answers.ensures.input l.programs h.tree h.answers in
     let shown = c.trees_have_the_answers.ensures.answer l.programs h.tree d a h.answers input answers in
     c.each_input_of_a_call_lies_in_its_row.ensures.one subject.Stack h.tree n k d over input of
     ∙ one-where-shown _ _ shown.1
 
 pub returns-clause-answer : goal.returns-clause-answer
-returns-clause-answer c = λ files sets calls l n k d a r h input of answers there yes.
+returns-clause-answer c = λ sets calls l n k d a r h input of answers there yes.
     let over = c.trees_have_the_answers.ensures.input l.programs h.tree h.answers in
     let shown = c.trees_have_the_answers.ensures.answer l.programs h.tree d a h.answers input answers in
     ap answer_with

@@ -2,11 +2,10 @@ use Rattle.sf_rows.specs.TreeLaws.{answers_tree}
 use Rattle.sf_diagram.specs.Stores.{tree_at}
 use Rattle.sf_list.proofs.listing.listing_of.Goals as goal
 
-pub returns : goal.returns
-returns c =
+pub returns-clause-listed : goal.returns-clause-listed
+returns-clause-listed c =
     let before = c.behaviour.new.store in
-    let id = c.in_ok-answers.answers in λ files spelled. record {
-      stack = spelled;
+    let id = c.in_ok-answers.answers in record {
       tree = tree_at before.trees id;
       answers = answers_tree c.args.stack before.trees id c.node-node.ensures.lawful.canonical
           (rw c.programs.ensures.same at c.in_ok-answers.ensures.answers);
