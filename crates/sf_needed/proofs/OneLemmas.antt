@@ -1,18 +1,14 @@
--- What is found of the same files.
+-- What is found of the same stack.
 use Rattle.std.proofs.Common.{◌≡◌, ◌∙◌, ℕ, List, Option, None, length, sym, subst, arith}
 use Rattle.std.specs.Prelude.{remove, slice_index_or}
 use Rattle.std.proofs.lemmas.List.{ext_get_or}
 use Rattle.sf_check.specs.declared.insn.Insn.{Insn}
-use Rattle.sf_policy.specs.Filters.{SpellPrograms}
 use Rattle.sf_relations.specs.declared.relation.Relation.{Relation}
 use Rattle.sf_relations.specs.declared.relation.Relation.TheVariants.{Looser}
 use Rattle.sf_relations.specs.declared.examples.Example.{Example}
 use Rattle.sf_relations.specs.Changes.{IsFinding}
 use Rattle.sf_relations.specs.Needs.{AreFoundWithout, AreKeptUpTo}
-use Rattle.sf_needed.specs.Needs.{AreNeedsOfFiles, NeedsData}
-
-abbrev OneStack : Type 0
-OneStack = (files : List (List ℕ)) (a b : List (List Insn)) → SpellPrograms files a → SpellPrograms files b → a ≡ b
+use Rattle.sf_needed.specs.Needs.{AreNeeds, NeedsData}
 
 abbrev OneFinding : Type 0
 OneFinding = (old new : List (List Insn)) (r : Relation) (a b : Option Example) → IsFinding old new r a
@@ -35,10 +31,9 @@ same-needs : {s s' : List (List Insn)} {n n' : ℕ} {f f' : List (Option Example
     → f ≡ f' → k ≡ k' → needs_of s n f k ≡ needs_of s' n' f' k'
 same-needs es en ef ek = cc
 
-pub one-result : OneStack → OneFinding → OneKept → (files : List (List ℕ)) (m n : NeedsData) → AreNeedsOfFiles files m
-    → AreNeedsOfFiles files n → m.nodes ≡ n.nodes → m ≡ n
-one-result stack finding kept files m n h k nodes =
-    let same : m.stack ≡ n.stack = stack files m.stack n.stack h.spelled.spelled k.spelled.spelled in
+pub one-result : OneFinding → OneKept → (m n : NeedsData) → AreNeeds m → AreNeeds n → m.stack ≡ n.stack
+    → m.nodes ≡ n.nodes → m ≡ n
+one-result finding kept m n h k same nodes =
     let found : AreFoundWithout m.stack n.findings
     = subst (λ (ps : List (List Insn)). AreFoundWithout ps n.findings) (sym same) k.findings in
     let left : AreKeptUpTo m.stack (length m.stack) n.kept

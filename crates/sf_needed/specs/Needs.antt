@@ -1,7 +1,6 @@
--- Which filters of the stack of some files are needed, and which are kept.
+-- Which filters of a stack are needed, and which are kept.
 use Rattle.std.specs.Prelude.{ℕ, List, Option, length}
 use Rattle.sf_check.specs.declared.insn.Insn.{Insn}
-use Rattle.sf_policy.specs.Filters.{SpellStack}
 use Rattle.sf_relations.specs.declared.examples.Example.{Example}
 use Rattle.sf_relations.specs.Needs.{AreFoundWithout, AreKeptUpTo}
 
@@ -12,8 +11,7 @@ pub record NeedsData : Type 0 where
   pub findings : List (Option Example)
   pub kept : List ℕ
 
--- this was found of the stack that files spell
-pub record AreNeedsOfFiles (files : List (List ℕ)) (n : NeedsData) : Type 0 where
-  pub spelled : SpellStack files n.stack
+-- all that was found of the stack is right
+pub record AreNeeds (n : NeedsData) : Type 0 where
   pub findings : AreFoundWithout n.stack n.findings
   pub kept : AreKeptUpTo n.stack (length n.stack) n.kept

@@ -1,7 +1,7 @@
 -- The text that tells which filters of a stack are needed.
 use Rattle.std.specs.Prelude.{ℕ, ◌+◌, Bool, true, false, List, [], ◌∷◌, ◌++◌, Option, Some, None, codes, count_by, flat_map, length}
 use Rattle.std.specs.Fmt.{decimal}
-use Rattle.sf_policy.specs.Texts.{hex_text, line, nodes_line, filters_line}
+use Rattle.sf_stack.specs.Texts.{hex_text, line, nodes_line, filters_line}
 use Rattle.sf_relations.specs.declared.examples.Example.{Example}
 use Rattle.sf_needed.specs.Needs.{NeedsData}
 

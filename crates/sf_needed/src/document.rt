@@ -11,8 +11,7 @@ use sf_relations::Example;
 use std::alloc::{AllocError, Global};
 
 /// The object of one filter: its number, counted from 1 (`number`), the word for what was found of it, which is
-/// `needed` or `spare` (`result`), and an example (`example`), for which the caller gives null where there is none. An
-/// error where an allocation is refused.
+/// `needed` or `spare` (`result`), and an example (`example`), for which the caller gives null where there is none.
 fn finding_object(
     alloc: Global,
     number: usize,
@@ -28,8 +27,7 @@ fn finding_object(
     Ok(Document::object(fields))
 }
 
-/// The object of a filter that is needed, with this example. The call of the example isn't named. An error where an
-/// allocation is refused.
+/// The object of a filter that is needed, with this example. The call of the example isn't named.
 fn needed_document(alloc: Global, number: usize, example: &Example) -> Result<Document, AllocError>
     ensures { IfOk result (λ d. view d ≡ finding_document number (Some example.now)) }
 {
@@ -38,7 +36,6 @@ fn needed_document(alloc: Global, number: usize, example: &Example) -> Result<Do
 }
 
 /// The object of one filter: its number, what was found of it, and an example, which is null where the filter is spare.
-/// An error where an allocation is refused.
 fn finding_document(
     alloc: Global,
     number: usize,
@@ -52,8 +49,7 @@ fn finding_document(
     }
 }
 
-/// The objects of all filters (`finding_document`), in their order, with numbers from 1. An error where an allocation
-/// is refused.
+/// The objects of all filters (`finding_document`), in their order, with numbers from 1.
 fn finding_documents(
     alloc: Global,
     findings: &[Option<Example>],
@@ -68,8 +64,7 @@ fn finding_documents(
     Ok(documents)
 }
 
-/// The numbers, from 1, of the filters at the places that are kept, each as JSON. The caller's condition: each place is
-/// below 64. An error where an allocation is refused.
+/// The numbers, from 1, of the filters at the places that are kept, each as JSON.
 fn kept_documents(alloc: Global, kept: &[usize]) -> Result<Vec<Document>, AllocError>
     requires { All (λ p. p < 64) kept.now }
     ensures { IfOk result (λ v. map view v.items ≡ map (λ p. count (p + 1)) kept.now) }
@@ -81,7 +76,7 @@ fn kept_documents(alloc: Global, kept: &[usize]) -> Result<Vec<Document>, AllocE
     Ok(documents)
 }
 
-/// The totals as JSON: how many filters are needed, spare and kept. An error where an allocation is refused.
+/// The totals as JSON: how many filters are needed, spare and kept.
 fn totals_document(alloc: Global, needs: &NeededFilters) -> Result<Document, AllocError>
     ensures { IfOk result (λ d. view d ≡ needed_totals_document needs.now) }
 {
@@ -94,7 +89,7 @@ fn totals_document(alloc: Global, needs: &NeededFilters) -> Result<Document, All
 
 /// Which filters of a stack are needed, as JSON. The object has the name of the command (`needed`, in the field
 /// `seccomp_audit`), the version of the form, the size of the stack, how many nodes the diagrams have, what was found
-/// of each filter, the numbers of the filters that are kept, and the totals. An error where an allocation is refused.
+/// of each filter, the numbers of the filters that are kept, and the totals.
 pub fn needs_document(alloc: Global, needs: &NeededFilters) -> Result<Document, AllocError>
     ensures { IfOk result (λ d. view d ≡ needs_document needs.now) }
 {

@@ -1,5 +1,6 @@
 //! Which filters of a stack are needed, for all inputs, read off the diagrams of their answers; and which filters
-//! answer as the whole stack does.
+//! answer as the whole stack does. Memory may run out wherever something is allocated or added to a text; a part of
+//! what was to be added may stand in the text then.
 #![tactic(auto)]
 
 mod document;

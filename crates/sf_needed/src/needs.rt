@@ -1,15 +1,14 @@
-//! Which filters of the stack of some files are needed.
+//! Which filters of a stack are needed.
 
-ghost use Rattle.std.specs.Prelude.{◌≡◌, ◌⊎◌, ◌<◌, ◌≤◌, map, count_by, All, IfOk, IfErr};
-ghost use Rattle.sf_policy.specs.Filters.{IsFirstRefusal};
+ghost use Rattle.std.specs.Prelude.{◌≡◌, ◌⊎◌, ◌<◌, ◌≤◌, count_by, All, IfOk, IfErr};
 ghost use Rattle.sf_relations.specs.Needs.{AreNeedsOf};
-ghost use Rattle.sf_needed.specs.Needs.{AreNeedsOfFiles};
+ghost use Rattle.sf_needed.specs.Needs.{AreNeeds};
 ghost use Rattle.sf_needed.specs.Texts.{is_needed, is_spare};
 
 use sf_check::Stack;
 use sf_diagram::Store;
-use sf_policy::{Fault, stack_of};
 use sf_relations::{Example, Needs};
+use sf_stack::Fault;
 use std::alloc::Global;
 use std::marker::Model;
 
@@ -94,8 +93,7 @@ impl NeededFilters {
     }
 }
 
-/// Which filters a stack needs, and how many nodes the diagrams have then. `Spent` where they would have more than
-/// `nodes`, `Memory` where an allocation is refused.
+/// Which filters a stack needs, and how many nodes the diagrams have then.
 fn find(alloc: Global, nodes: u32, stack: &Stack) -> Result<(Needs, usize), sf_diagram::Fault>
     ensures below { IfOk result (λ f. All (λ p. p < 64) f.0.kept.items) }
     ensures needs { IfOk result (λ f. AreNeedsOf stack.now f.0) }
@@ -106,22 +104,19 @@ fn find(alloc: Global, nodes: u32, stack: &Stack) -> Result<(Needs, usize), sf_d
     Ok((needs, store.count()))
 }
 
-/// Finds which filters of the stack that files spell are needed, for all inputs, and which are kept. The filter files
-/// stand in order of installation, the newest last.
+/// Finds which filters of a stack are needed, for all inputs, and which are kept.
 ///
 /// A filter is needed where some input gets further without it, and spare where none does. Beside that, filters are
 /// dropped from the first to the last, each where those that are left without it answer each input as the whole stack
 /// does; the others are kept. It may be that none is kept: a stack without filters allows each input.
 ///
-/// Refusals, tried in this order: what `stack_of` refuses; then `TooLarge`, where the diagrams of the answers would
-/// have more than `nodes` nodes. `Memory` can come anywhere.
-pub fn needed(alloc: Global, nodes: u32, files: &[Vec<u8>]) -> Result<NeededFilters, Fault>
-    ensures needs { IfOk result (AreNeedsOfFiles (map (λ f. f.items) files.now)) }
+/// `TooLarge` where the diagrams of the answers would have more than `nodes` nodes.
+pub fn needed(alloc: Global, nodes: u32, stack: Stack) -> Result<NeededFilters, Fault>
+    ensures stack { IfOk result (λ n. n.stack ≡ stack) }
+    ensures needs { IfOk result AreNeeds }
     ensures few { IfOk result (λ n. n.nodes ≤ nodes) }
-    ensures refused { IfErr result (λ e. (e ≡ Fault.Memory) ⊎ ((e ≡ Fault.TooLarge nodes)
-        ⊎ IsFirstRefusal (map (λ f. f.items) files.now) e)) }
+    ensures refused { IfErr result (λ e. (e ≡ Fault.Memory) ⊎ (e ≡ Fault.TooLarge nodes)) }
 {
-    let stack = stack_of(alloc, files)?;
     match find(alloc, nodes, &stack) {
         Ok((needs, nodes)) => Ok(NeededFilters {
             stack,

@@ -3,13 +3,13 @@
 
 ghost use Rattle.std.specs.Prelude.{◌≡◌, ◌⊎◌, ◌++◌, ◌<◌, All, IfOk, IfErr, OnOk, OnErr, string_bytes};
 ghost use Rattle.std.specs.Io.KnownBytes.{Appends};
-ghost use Rattle.sf_policy.specs.Texts.{AppendsFront};
-ghost use Rattle.sf_policy.specs.declared.fault.Fault.TheVariants.{Memory as MemoryFault, Write as WriteFault};
+ghost use Rattle.sf_stack.specs.Texts.{AppendsFront};
+ghost use Rattle.sf_stack.specs.declared.fault.Fault.TheVariants.{Memory as MemoryFault, Write as WriteFault};
 ghost use Rattle.sf_needed.specs.Texts.{finding_line, finding_lines, kept_line, kept_words, needed_head_text, needs_text, needed_total_line};
 
 use crate::needs::NeededFilters;
-use sf_policy::{Fault, hex_of, push_nodes, push_size, write_bytes};
 use sf_relations::Example;
+use sf_stack::{Fault, hex_of, push_nodes, push_size, write_bytes};
 use std::alloc::{AllocError, Global};
 use std::io::Write;
 
@@ -49,7 +49,7 @@ fn push_findings(
 }
 
 /// Adds the numbers, from 1, of the filters at the places that are kept, each after a blank; where there are none, a
-/// blank and a dash. The caller's condition: each place is below 64.
+/// blank and a dash.
 fn push_numbers(text: &mut String, kept: &[usize]) -> Result<(), AllocError>
     requires { All (λ p. p < 64) kept.now }
     ensures { OnOk result (string_bytes text.new ≡ string_bytes text.old ++ kept_words kept.now) }
@@ -63,8 +63,7 @@ fn push_numbers(text: &mut String, kept: &[usize]) -> Result<(), AllocError>
     Ok(())
 }
 
-/// Adds the line of the filters that are kept: the word `kept`, and what `push_numbers` adds. The caller's condition:
-/// each place is below 64.
+/// Adds the line of the filters that are kept: the word `kept`, and what `push_numbers` adds.
 fn push_kept(text: &mut String, kept: &[usize]) -> Result<(), AllocError>
     requires { All (λ p. p < 64) kept.now }
     ensures { OnOk result (string_bytes text.new ≡ string_bytes text.old ++ kept_line kept.now) }
@@ -97,7 +96,7 @@ fn push_total(text: &mut String, needs: &NeededFilters) -> Result<(), AllocError
 }
 
 /// The whole text that says which filters are needed: the lines of `push_head`, one line for each filter, the filters
-/// that are kept, and the totals. An error where an allocation is refused.
+/// that are kept, and the totals.
 pub fn text_of_needs(alloc: Global, needs: &NeededFilters) -> Result<String, AllocError>
     ensures { IfOk result (λ text. string_bytes text ≡ needs_text needs.now) }
 {
@@ -110,9 +109,6 @@ pub fn text_of_needs(alloc: Global, needs: &NeededFilters) -> Result<String, All
 }
 
 /// Writes the text that says which filters are needed.
-///
-/// `Write` where a write fails or takes no byte: at most a beginning of the text was written then. `Memory` where the
-/// text can't be built: nothing was written then.
 pub fn write_needed<W: Write>(
     alloc: Global,
     needs: &NeededFilters,

@@ -1,5 +1,5 @@
 use Rattle.std.proofs.Common.{OnErr, subst, ◌∙◌}
-use Rattle.sf_policy.specs.Texts.{AppendsFront}
+use Rattle.sf_stack.specs.Texts.{AppendsFront}
 use Rattle.sf_needed.proofs.text.write_needed.Goals as goal
 
 pub returns-clause-begun : goal.returns-clause-begun
