@@ -7,8 +7,8 @@ use Rattle.clap.specs.Words.{Row, Text}
 use Rattle.sf_command_line.specs.Options.{text_of}
 use Rattle.sf_names.specs.Names.{NamesData}
 use Rattle.sf_calls.specs.Numbers.{read_arguments}
-use Rattle.sf_policy.specs.declared.fault.Fault.{Fault}
-use Rattle.sf_policy.specs.declared.fault.Fault.TheVariants.{Input, UnknownName}
+use Rattle.sf_stack.specs.declared.fault.Fault.{Fault}
+use Rattle.sf_stack.specs.declared.fault.Fault.TheVariants.{Input, UnknownName}
 use Rattle.sf_evaluate.specs.Asking.{LacksName, is_given, is_nr_narrow, numbers_fit}
 
 -- a reading is there just where what is read is

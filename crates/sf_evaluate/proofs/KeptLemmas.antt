@@ -1,16 +1,11 @@
 -- Files that are read one after the other, of which only the first ones are kept.
 use Rattle.std.proofs.Common.{◌≡◌, ◌⊎◌, inl, inr, ℕ, ◌<◌, ◌≤◌, List, [], ◌∷◌, ◌++◌, length, length-append, take, Option, Bor, refl, sym, subst, arith, ◌∙◌, ◌+◌}
 use Rattle.std.proofs.lemmas.List.{take-append-le, take_all}
-use Rattle.std.specs.Prelude.{Bool, None, Some, slice_get}
-use Rattle.sf_insn.specs.declared.input.Input.{Input}
-use Rattle.sf_policy.specs.declared.fault.Fault.{Fault}
-use Rattle.sf_policy.specs.declared.fault.Fault.TheVariants as faults
-use Rattle.sf_names.specs.Names.{NamesData}
-use Rattle.sf_policy.specs.Filters.{IsFirstRefusal}
-use Rattle.sf_evaluate.specs.Files.{AreKeptFiles, AreKnownBytes, HasUnknown}
-use Rattle.sf_evaluate.specs.KeptLaws.{few_are_all, kept_refusal, kept_stack, many_of_many}
-use Rattle.sf_evaluate.specs.declared.checking.Manner.{Manner}
-use Rattle.sf_evaluate.specs.Outputs.{AnswersFiles, ChecksFiles, RefusesFiles, WritesAnswer, WritesCheck}
+use Rattle.std.specs.Prelude.{None, Some, slice_get}
+use Rattle.sf_stack.specs.declared.fault.Fault.{Fault}
+use Rattle.sf_stack.specs.declared.fault.Fault.TheVariants as faults
+use Rattle.sf_evaluate.specs.Files.{AreKeptFiles, AreKnownBytes, HasUnknown, RefusesFiles}
+use Rattle.sf_evaluate.proofs.KeptFiles.{few_are_all, many_of_many}
 use Rattle.sf_evaluate.proofs.Pairing.{PairedSoFar, paired_all, paired_more}
 
 -- where at most 64 files are kept, one more that is read is kept too
@@ -72,31 +67,11 @@ pub all_kept : (before after : List ℕ → Option (List ℕ)) (paths : List (Bo
     → AreKeptFiles before paths kept
 all_kept before after paths place kept so_far over under = search (arith, paired_all)
 
-module _ (holds : List ℕ → Option (List ℕ)) (paths : List (Bor (List ℕ))) (kept : List (List ℕ))
-    (all : AreKeptFiles holds paths kept) where
-  pub kept_checks : (listed json : Bool) (old new : Option (List ℕ)) → WritesCheck listed json kept old new
-      → ChecksFiles listed json holds paths old new
-  kept_checks listed json old new (programs, text, spell, told, written) =
-      (kept, kept_stack holds paths kept all programs spell, (programs, text, spell, told, written))
-
-  pub kept_answers : (input : Input) (how : Manner) (names : List NamesData) (old new : Option (List ℕ))
-      → WritesAnswer kept input how names old new
-      → AnswersFiles input how holds paths names old new
-  kept_answers input how names old new (programs, answer, spell, answers, written) = (
-    kept,
-    kept_stack holds paths kept all programs spell,
-    (programs, answer, spell, answers, written),
-  )
-
-  pub kept_why : (e : Fault) → (e ≡ faults.Memory) ⊎ IsFirstRefusal kept e → RefusesFiles holds paths e
-  kept_why e (inl memory) = inr (inl memory)
-  kept_why e (inr refused) = inr (inr (all.files, all.read, kept_refusal holds paths kept all e refused))
-
-  pub kept_refuses : {Same : Type 0} (e : Fault) → (e ≡ faults.Write)
-      ⊎ (((e ≡ faults.Memory) ⊎ IsFirstRefusal kept e) × Same)
-      → (e ≡ faults.Write) ⊎ (RefusesFiles holds paths e × Same)
-  kept_refuses e (inl write) = inl write
-  kept_refuses e (inr (why, same)) = inr (kept_why e why, same)
+-- where nothing but memory is refused after the files were read
+pub memory_refuses : {Same : Type 0} (holds : List ℕ → Option (List ℕ)) (paths : List (Bor (List ℕ))) (e : Fault)
+    → (e ≡ faults.Write) ⊎ ((e ≡ faults.Memory) × Same) → (e ≡ faults.Write) ⊎ (RefusesFiles holds paths e × Same)
+memory_refuses holds paths e (inl write) = inl write
+memory_refuses holds paths e (inr (memory, same)) = inr (inr (inl memory), same)
 
 -- a file can't be read, or memory ran out
 pub read_why : (before after : List ℕ → Option (List ℕ)) (paths : List (Bor (List ℕ))) (n : ℕ)

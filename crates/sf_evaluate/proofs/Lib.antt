@@ -1,5 +1,6 @@
 pub mod Pairing
 pub mod PolicyLemmas
+pub mod KeptFiles
 pub mod KeptLemmas
 pub mod TraceLemmas
 pub mod ListingLemmas

@@ -4,8 +4,8 @@ use Rattle.std.specs.Prelude.{IfOk}
 use Rattle.toml.specs.Data.{Members}
 use Rattle.toml.specs.Parse.{parse_document}
 use Rattle.sf_question.specs.QuestionData.{QuestionData}
-use Rattle.sf_policy.specs.declared.fault.Fault.{Fault}
-use Rattle.sf_policy.specs.declared.fault.Fault.TheVariants as faults
+use Rattle.sf_stack.specs.declared.fault.Fault.{Fault}
+use Rattle.sf_stack.specs.declared.fault.Fault.TheVariants as faults
 use Rattle.sf_policy.specs.Faults.{IsDue}
 use Rattle.sf_policy.specs.Policies.{policy_of}
 use Rattle.sf_evaluate.specs.Policies.{IsPolicyFile}

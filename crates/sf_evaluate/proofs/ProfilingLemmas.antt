@@ -6,7 +6,7 @@ use Rattle.sf_names.specs.Names.{NamesData}
 use Rattle.sf_profile.specs.declared.fault.Fault.{Fault as ProfileFault}
 use Rattle.sf_profile.specs.declared.fault.Fault.TheVariants.{Memory, Set as UnknownSet}
 use Rattle.sf_profile.specs.declared.settings.Settings.{Settings}
-use Rattle.sf_policy.specs.declared.fault.Fault.TheVariants as faults
+use Rattle.sf_stack.specs.declared.fault.Fault.TheVariants as faults
 use Rattle.sf_evaluate.specs.declared.fault.Fault.{Fault}
 use Rattle.sf_evaluate.specs.declared.fault.Fault.TheVariants.{Other}
 use Rattle.sf_evaluate.specs.Faults.{IsOther, of_profile}

@@ -6,9 +6,9 @@ use Rattle.sf_names.specs.declared.fault.Fault.{Fault as NamesFault}
 use Rattle.sf_names.specs.declared.fault.Fault.TheVariants as names_faults
 use Rattle.sf_names.specs.Joined.{AreSetsJoined, AreSetsUnfit}
 use Rattle.sf_names.specs.JoinedLaws.{joined_append, unfit_append}
-use Rattle.sf_policy.specs.declared.fault.Fault.{Fault}
-use Rattle.sf_policy.specs.declared.fault.Fault.TheVariants as faults
-use Rattle.sf_policy.specs.Faults.{of_names}
+use Rattle.sf_stack.specs.declared.fault.Fault.{Fault}
+use Rattle.sf_stack.specs.declared.fault.Fault.TheVariants as faults
+use Rattle.sf_stack.specs.Faults.{of_names}
 use Rattle.sf_evaluate.specs.Names.{AreNamesRead, IsNamesFile, RefusesNamesFile, RefusesNaming, all_sets}
 use Rattle.sf_evaluate.proofs.NamingLemmas.{ReadSoFar, all_read, one_read}
 use Rattle.sf_evaluate.proofs.Pairing.{first_paired}

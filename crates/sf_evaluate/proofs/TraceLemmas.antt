@@ -53,7 +53,3 @@ pub return_parts : (old head acted new number action info place mark marked : Li
     → new ≡ old ++ (codes "filter " ++ (number ++ 32
     ∷ (action ++ 32 ∷ (info ++ (codes " instruction " ++ (place ++ (marked ++ 10 ∷ [])))))))
 return_parts old head acted new number action info place mark marked p q same r = rw (r, q, p, same) (simp append_assoc)
-
--- a text to which three parts were added
-pub three_added : (old t u new a b c : List ℕ) → t ≡ old ++ a → u ≡ t ++ b → new ≡ u ++ c → new ≡ old ++ (a ++ (b ++ c))
-three_added old t u new a b c p q r = rw (r, q, p) (simp append_assoc)

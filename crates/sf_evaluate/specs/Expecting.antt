@@ -4,8 +4,8 @@ use Rattle.std.specs.List.{list_any}
 use Rattle.std.specs.Str.{IsUtf8, bytes_eq}
 use Rattle.clap.specs.Words.{Row, first_of}
 use Rattle.sf_question.specs.QuestionData.{QuestionData}
-use Rattle.sf_policy.specs.declared.fault.Fault.{Fault}
-use Rattle.sf_policy.specs.declared.fault.Fault.TheVariants.{Accepted, Memory, Read, Syntax}
+use Rattle.sf_stack.specs.declared.fault.Fault.{Fault}
+use Rattle.sf_stack.specs.declared.fault.Fault.TheVariants.{Accepted, Memory, Read, Syntax}
 use Rattle.sf_policy.specs.Accepted.{AreAccepted, IsMisfitAt}
 use Rattle.sf_command_line.specs.Options.{paths_of}
 use Rattle.sf_evaluate.specs.Files.{AreKnownBytes}

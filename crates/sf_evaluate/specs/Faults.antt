@@ -1,8 +1,8 @@
 -- The faults with which the program ends, and their numbers.
 use Rattle.std.specs.Prelude.{◌≡◌, ℕ}
-use Rattle.sf_policy.specs.Faults.{fault_number as other_number}
-use Rattle.sf_policy.specs.declared.fault.Fault.{Fault as OtherFault}
-use Rattle.sf_policy.specs.declared.fault.Fault.TheVariants.{Memory}
+use Rattle.sf_stack.specs.Faults.{fault_number as other_number}
+use Rattle.sf_stack.specs.declared.fault.Fault.{Fault as OtherFault}
+use Rattle.sf_stack.specs.declared.fault.Fault.TheVariants.{Memory}
 use Rattle.sf_profile.specs.Faults.{fault_number as profile_number}
 use Rattle.sf_profile.specs.declared.fault.Fault.{Fault as ProfileFault}
 use Rattle.sf_profile.specs.declared.fault.Fault.TheVariants as profile_faults

@@ -1,6 +1,11 @@
--- Files by their paths.
-use Rattle.std.specs.Prelude.{◌≡◌, ℕ, List, Option, Some, None, slice_get, take}
+-- Files by their paths, and the stacks that filter files spell.
+use Rattle.std.specs.Prelude.{◌≡◌, ◌⊎◌, ℕ, List, Option, Some, None, slice_get, take}
 use Rattle.std.specs.Borrow.{Bor}
+use Rattle.sf_check.specs.declared.insn.Insn.{Insn}
+use Rattle.sf_stack.specs.declared.fault.Fault.{Fault}
+use Rattle.sf_stack.specs.declared.fault.Fault.TheVariants.{Memory, Read}
+use Rattle.sf_stack.specs.Filters.{IsFirstRefusal, SpellStack}
+use Rattle.sf_stack.specs.TwoStacks.{IsRefusalOfBoth}
 use Rattle.sf_evaluate.specs.Pairs.{Pairwise}
 
 -- the bytes that were read are the known ones, where any are known
@@ -25,3 +30,23 @@ pub record HasUnknown (holds : List ℕ → Option (List ℕ)) (paths : List (Bo
   pub path : Bor (List ℕ)
   pub at : slice_get paths place ≡ Some path
   pub unknown : holds path.now ≡ None
+
+-- the files at the paths were read, and spell this stack
+pub record HoldStack (holds : List ℕ → Option (List ℕ)) (paths : List (Bor (List ℕ))) (stack : List (List Insn))
+    : Type 0 where
+  pub files : List (List ℕ)
+  pub read : AreRead holds paths files
+  pub spelled : SpellStack files stack
+
+-- Why the files at the paths are refused: one whose bytes aren't known can't be read; memory ran out, which can come at
+-- any time; or all were read and make no lawful stack.
+abbrev pub RefusesFiles : (List ℕ → Option (List ℕ)) → List (Bor (List ℕ)) → Fault → Type 0
+RefusesFiles holds paths fault =
+    ((fault ≡ Read) × HasUnknown holds paths) ⊎ (fault ≡ Memory)
+    ⊎ ((files : List (List ℕ)) × AreRead holds paths files × IsFirstRefusal files fault)
+
+-- why the files of two stacks are refused, in the same way
+abbrev pub RefusesBoth : (holds : List ℕ → Option (List ℕ)) → (old new : List (Bor (List ℕ))) → Fault → Type 0
+RefusesBoth holds old new fault =
+    ((fault ≡ Read) × (HasUnknown holds old ⊎ HasUnknown holds new)) ⊎ (fault ≡ Memory)
+    ⊎ ((olds news : List (List ℕ)) × AreRead holds old olds × AreRead holds new news × IsRefusalOfBoth olds news fault)

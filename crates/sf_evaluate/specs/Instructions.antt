@@ -10,7 +10,7 @@ use Rattle.sf_check.specs.declared.insn.Insn.{Insn}
 use Rattle.sf_check.specs.declared.insn.Insn.TheVariants.{LoadWord, LoadConstant, LoadScratch, LoadLength, LoadXConstant, LoadXScratch, LoadXLength, StoreA, StoreX, Alu, Negate, Jump, Branch, ReturnConstant, ReturnA, Tax, Txa}
 use Rattle.sf_check.specs.declared.insn.Operand.{Operand}
 use Rattle.sf_check.specs.declared.insn.Operand.TheVariants.{Constant, X}
-use Rattle.sf_warnings.specs.Reaching.{AreReached}
+use Rattle.sf_stack.specs.Reaching.{AreReached}
 
 -- a constant, in hexadecimal
 abbrev pub constant_text : ℕ → List ℕ

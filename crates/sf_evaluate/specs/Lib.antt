@@ -1,7 +1,6 @@
 pub mod Pairs
 pub mod Files
 pub mod FilesLaws
-pub mod KeptLaws
 pub mod Names
 pub mod Policies
 pub mod Expecting

@@ -8,9 +8,9 @@ use Rattle.toml.specs.Parse.{parse_document}
 use Rattle.sf_names.specs.declared.fault.Fault.{Fault as NamesFault}
 use Rattle.sf_names.specs.Names.{HaveOrderedCalls, NamesData, sets_of_file}
 use Rattle.sf_names.specs.Joined.{AreSetsJoined, AreSetsUnfit}
-use Rattle.sf_policy.specs.declared.fault.Fault.{Fault}
-use Rattle.sf_policy.specs.declared.fault.Fault.TheVariants.{Memory, Read, Syntax}
-use Rattle.sf_policy.specs.Faults.{of_names}
+use Rattle.sf_stack.specs.declared.fault.Fault.{Fault}
+use Rattle.sf_stack.specs.declared.fault.Fault.TheVariants.{Memory, Read, Syntax}
+use Rattle.sf_stack.specs.Faults.{of_names}
 use Rattle.sf_evaluate.specs.Files.{AreKnownBytes, HasUnknown}
 use Rattle.sf_evaluate.specs.Pairs.{Pairwise}
 

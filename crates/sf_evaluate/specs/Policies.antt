@@ -6,8 +6,8 @@ use Rattle.std.specs.Str.{IsUtf8}
 use Rattle.toml.specs.Data.{Members}
 use Rattle.toml.specs.Parse.{parse_document}
 use Rattle.sf_question.specs.QuestionData.{QuestionData}
-use Rattle.sf_policy.specs.declared.fault.Fault.{Fault}
-use Rattle.sf_policy.specs.declared.fault.Fault.TheVariants.{Memory, Read, Syntax}
+use Rattle.sf_stack.specs.declared.fault.Fault.{Fault}
+use Rattle.sf_stack.specs.declared.fault.Fault.TheVariants.{Memory, Read, Syntax}
 use Rattle.sf_policy.specs.Policies.{policy_of}
 use Rattle.sf_evaluate.specs.Files.{AreKnownBytes, HasUnknown}
 use Rattle.sf_evaluate.specs.Pairs.{Pairwise}

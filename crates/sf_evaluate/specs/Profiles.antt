@@ -19,7 +19,7 @@ use Rattle.sf_profile.specs.declared.rules.Reading.TheVariants.{Strictest, Milde
 use Rattle.sf_profile.specs.declared.settings.Calls.{Calls}
 use Rattle.sf_profile.specs.declared.settings.Settings.{Settings}
 use Rattle.sf_names.specs.Names.{NamesData}
-use Rattle.sf_policy.specs.declared.fault.Fault.TheVariants as faults
+use Rattle.sf_stack.specs.declared.fault.Fault.TheVariants as faults
 use Rattle.sf_evaluate.specs.declared.fault.Fault.{Fault}
 use Rattle.sf_evaluate.specs.declared.fault.Fault.TheVariants.{Profile, Other}
 use Rattle.sf_evaluate.specs.Faults.{IsOther, of_profile}

@@ -4,7 +4,7 @@ use Rattle.std.specs.Fmt.{decimal}
 use Rattle.sf_check.specs.declared.insn.Insn.{Insn}
 use Rattle.sf_check.specs.Stacks.{path_length}
 use Rattle.sf_run.specs.declared.action.Answer.{Answer}
-use Rattle.sf_policy.specs.Texts.{action_text, line}
+use Rattle.sf_stack.specs.Texts.{action_text, line}
 use Rattle.sf_evaluate.specs.Instructions.{AreInsnLines}
 
 -- the line of `eval`: an action and its data

@@ -14,7 +14,7 @@ use Rattle.sf_run.specs.Answers.{Answers, action_bits, action_of, data_bits, act
 use Rattle.sf_run.specs.Walks.{CourseData, walk_of}
 use Rattle.sf_policy.specs.Keys.{word_keys}
 use Rattle.sf_names.specs.Names.{NamesData, names_between, names_words}
-use Rattle.sf_policy.specs.Texts.{action_text, line}
+use Rattle.sf_stack.specs.Texts.{action_text, line}
 use Rattle.sf_calls.specs.Texts.{call_words, is_named}
 use Rattle.sf_evaluate.specs.Texts.{answer_text}
 

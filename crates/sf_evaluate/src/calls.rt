@@ -9,9 +9,7 @@ use sf_names::Names;
 use sf_profile::{Calls, Fault};
 use std::alloc::Global;
 
-/// These names as the calls that a profile needs. The result also says which set of `CallSet` they are: `set_of_names`
-/// of `sf_profile` finds it by the architecture and by the numbers of the calls. The set's name in `names` isn't looked
-/// at. The fault `Set` where no set of `CallSet` has this architecture.
+/// These names as the calls that a profile needs, by their architecture and the numbers of the calls.
 fn calls_of_one(names: Names) -> Result<Calls, Fault>
     ensures meant { IfOk result (λ c. Some c ≡ calls_of_names names) }
     ensures refused { IfErr result (λ e. (e ≡ UnknownSet) × (set_of_names names ≡ None)) }
@@ -22,8 +20,6 @@ fn calls_of_one(names: Names) -> Result<Calls, Fault>
     }
 }
 
-/// The calls of each of these sets of names, in order. The fault `Set` where one of the sets is none of the five of
-/// `CallSet`, as by `calls_of_one`; `Memory` where an allocation is refused.
 pub(crate) fn calls_of(alloc: Global, names: Vec<Names>) -> Result<Vec<Calls>, Fault>
     ensures meant { IfOk result (λ v. AreCallsOf names.items v.items) }
     ensures refused { IfErr result (λ e. (e ≡ MemoryFault)

@@ -1,28 +1,27 @@
 //! The subcommands `check` and `eval`: read the filter files and write what is found of their stack.
 
-ghost use Rattle.std.specs.Prelude.{◌≡◌, ◌⊎◌, map, string_bytes, Ok, IfOk, IfErr, OnOk, IsOk};
+ghost use Rattle.std.specs.Prelude.{◌≡◌, ◌⊎◌, string_bytes, Ok, IfOk, IfErr, OnOk, IsOk};
 ghost use Rattle.std.specs.Io.KnownBytes.{Appends};
 ghost use Rattle.hex.specs.Hex.{decode_sized};
 ghost use Rattle.sf_insn.specs.Inputs.{input_bytes};
 ghost use Rattle.sf_run.specs.Answers.{Answers};
 ghost use Rattle.sf_run.specs.declared.action.Answer.{Answer};
 ghost use Rattle.sf_evaluate.specs.Traces.{eval_text};
-ghost use Rattle.sf_evaluate.specs.Outputs.{AnswersFiles, ChecksFiles, IsCheckOutput, RefusesFiles, WritesAnswer, WritesCheck, eval_output};
-ghost use Rattle.sf_policy.specs.Filters.{IsFirstRefusal};
-ghost use Rattle.sf_policy.specs.declared.fault.Fault.TheVariants.{Memory as MemoryFault, Input as InputFault, Write as WriteFault};
+ghost use Rattle.sf_evaluate.specs.Files.{RefusesFiles};
+ghost use Rattle.sf_evaluate.specs.Outputs.{AnswersFiles, ChecksFiles, IsCheckOutput, WritesAnswer, WritesCheck, eval_output};
+ghost use Rattle.sf_stack.specs.declared.fault.Fault.TheVariants.{Memory as MemoryFault, Input as InputFault, Write as WriteFault};
 
 use crate::document::{check_document, eval_document};
 use crate::explaining::Notes;
-use crate::files::{Files, read_all};
+use crate::files::{Files, read_stack};
 use crate::texts::{Trace, answer_text, check_text, push_trace};
 use hex::FromHex;
 use sf_check::Stack;
 use sf_insn::{Input, input_of_bytes};
 use sf_json::line_of;
 use sf_names::Names;
-use sf_policy::{Fault, stack_of, write_bytes};
 use sf_run::answer;
-use sf_warnings::warnings_of_files;
+use sf_stack::{Fault, warnings_of_filters, write_bytes};
 use std::alloc::{AllocError, Global};
 use std::io::Write;
 
@@ -31,34 +30,32 @@ use std::io::Write;
 pub struct CheckManner {
     /// Whether the instructions of each filter are shown too.
     pub listed: bool,
-    /// Whether all that is shown is one JSON document, and no text.
+    /// Whether one JSON document is written in place of the text.
     pub json: bool,
 }
 
 /// How `eval` shows an answer.
 #[derive(Clone, Copy)]
 pub struct Manner {
-    /// Whether a trace is shown with the answer: how each filter comes to its return value. In a text, its lines stand
-    /// under the answer, with the input before them. A JSON document has the input in any case.
+    /// Whether a trace is shown: how each filter comes to its return value. A text then has the input too, which a JSON
+    /// document has in any case.
     pub traced: bool,
-    /// Whether a trace is shown in brief, without the comparisons that are false. `traced` needn't be set then.
+    /// Whether a trace is shown without the comparisons that are false. `traced` needn't be set then.
     pub brief: bool,
-    /// Whether all that is shown is one JSON document, and no text.
+    /// Whether one JSON document is written in place of the text.
     pub json: bool,
 }
 
 /// What `eval` is asked for.
 #[derive(Clone, Copy, Drop)]
 pub struct Evaluation<'a> {
-    /// The input to which the answer is wanted.
     pub input: &'a Input,
-    /// How the answer is shown.
     pub how: Manner,
-    /// Sets of names of calls. Where the input is shown, it is shown with these names.
+    /// Sets of names of calls with which the input is shown.
     pub names: &'a [Names],
 }
 
-/// Writes a text to standard output. `Write` where that fails (a beginning of the text may be written then).
+/// Writes a text to standard output.
 pub fn print<O: Write>(text: &str, out: &mut O) -> Result<(), Fault>
     ensures written { OnOk result (Appends (O.contents out.old) (O.contents out.new) text.now) }
     ensures refused { IfErr result (λ e. e ≡ WriteFault) }
@@ -66,8 +63,8 @@ pub fn print<O: Write>(text: &str, out: &mut O) -> Result<(), Fault>
     write_bytes(text.as_bytes(), out)
 }
 
-/// The input that 128 hexadecimal digits spell, in lower or upper case: two digits for each of the 64 bytes of
-/// `struct seccomp_data`, whose words are little-endian. `Input` where the text is anything else.
+/// The input that 128 hexadecimal digits spell: two for each of the 64 bytes of `struct seccomp_data`, whose words are
+/// little-endian.
 pub(crate) fn input_of(text: &str) -> Result<Input, Fault>
     ensures spelled { IfOk result (λ d. decode_sized text.now 64 ≡ Ok (input_bytes d)) }
     ensures refused { IfErr result (λ e. (e ≡ InputFault)
@@ -77,8 +74,6 @@ pub(crate) fn input_of(text: &str) -> Result<Input, Fault>
     Ok(input_of_bytes(&bytes))
 }
 
-/// What `check` says of a stack: the text of `check_text`, or if `json` the document of `check_document` on a line of
-/// its own. If `listed`, the instructions of each filter belong to it. An error where an allocation is refused.
 fn check_output(
     alloc: Global,
     stack: &Stack,
@@ -94,36 +89,25 @@ fn check_output(
     line_of(alloc, &document)
 }
 
-/// Writes how many instructions each filter has, and the path length of their stack, in the manner `how`. `filters` are
-/// the bytes of the filter files, in order of installation. Unless `stack_of` refuses them, the warnings of the notes
-/// become those about these files, or an error where there is no memory for them. This error is no refusal.
-///
-/// Refusals, tried in this order: those of `stack_of`, which are `NoFilter`, `TooMany` (more than 64 files), the fault
-/// of the first file that spells no filter, and `PathLength` (above 32768); then `Write` where standard output can't be
-/// written (a beginning of the text may be written then). `Memory` can come anywhere. After any error but `Write`
-/// nothing is written.
-fn check_filters<O: Write>(
+/// Writes what `check` says of the stack, and keeps the warnings about it.
+fn check_stack<O: Write>(
     alloc: Global,
-    filters: &[Vec<u8>],
+    stack: &Stack,
     how: CheckManner,
     notes: &mut Notes,
     out: &mut O,
 ) -> Result<(), Fault>
-    ensures written { OnOk result (WritesCheck how.listed how.json
-        (map (λ f. f.items) filters.now) (O.contents out.old) (O.contents out.new)) }
+    ensures written { OnOk result (WritesCheck how.listed how.json stack.now
+        (O.contents out.old) (O.contents out.new)) }
     ensures refused { IfErr result (λ e. (e ≡ WriteFault)
-        ⊎ (((e ≡ MemoryFault) ⊎ IsFirstRefusal (map (λ f. f.items) filters.now) e)
-        × (out.new ≡ out.old))) }
+        ⊎ ((e ≡ MemoryFault) × (out.new ≡ out.old))) }
 {
-    let stack = stack_of(alloc, filters)?;
-    notes.warnings = warnings_of_files(alloc, filters, stack.programs());
-    let text = check_output(alloc, &stack, how.listed, how.json)?;
+    notes.warnings = warnings_of_filters(alloc, stack.programs());
+    let text = check_output(alloc, stack, how.listed, how.json)?;
     print(&text, out)
 }
 
-/// The text of the stack's answer to the input. Where `traced` or `brief` is set, the lines of `push_trace` stand under
-/// the answer: the input, shown with these names of calls, and for each filter, newest first, how it comes to its
-/// return value. With `brief`, the comparisons that are false are left out. `Memory` where an allocation is refused.
+/// The text of `eval`: the answer, and under it the trace, where it is asked for.
 fn eval_text(
     alloc: Global,
     stack: &Stack,
@@ -152,9 +136,6 @@ fn eval_text(
     Ok(text)
 }
 
-/// What `eval` says of the stack's answer to the input, in the manner `how` and with these names of calls: the text of
-/// `eval_text`, or if `how.json` the document of `eval_document` on a line of its own. `Memory` where an allocation is
-/// refused.
 fn eval_output(
     alloc: Global,
     stack: &Stack,
@@ -174,40 +155,26 @@ fn eval_output(
     Ok(line_of(alloc, &document)?)
 }
 
-/// Writes what the stack of the filters answers to the input in `asked`, in the manner that `asked` has. `filters` are
-/// the bytes of the filter files, in order of installation.
-///
-/// Refusals, tried in this order: those of `stack_of`, which are `NoFilter`, `TooMany` (more than 64 files), the fault
-/// of the first file that spells no filter, and `PathLength` (above 32768); then `Write`, where a beginning of the text
-/// may be written. `Memory` can come anywhere. After any error but `Write` nothing is written.
-fn evaluate_filters<O: Write>(
+fn evaluate_stack<O: Write>(
     alloc: Global,
     asked: &Evaluation<'_>,
-    filters: &[Vec<u8>],
+    stack: &Stack,
     out: &mut O,
 ) -> Result<(), Fault>
-    ensures written { OnOk result (WritesAnswer (map (λ f. f.items) filters.now)
-        asked.now.input.now asked.now.how asked.now.names.now
-        (O.contents out.old) (O.contents out.new)) }
+    ensures written { OnOk result (WritesAnswer stack.now asked.now.input.now asked.now.how
+        asked.now.names.now (O.contents out.old) (O.contents out.new)) }
     ensures refused { IfErr result (λ e. (e ≡ WriteFault)
-        ⊎ (((e ≡ MemoryFault) ⊎ IsFirstRefusal (map (λ f. f.items) filters.now) e)
-        × (out.new ≡ out.old))) }
+        ⊎ ((e ≡ MemoryFault) × (out.new ≡ out.old))) }
 {
-    let stack = stack_of(alloc, filters)?;
-    let text = eval_output(alloc, &stack, asked.input, asked.how, asked.names)?;
+    let text = eval_output(alloc, stack, asked.input, asked.how, asked.names)?;
     print(&text, out)
 }
 
-/// Reads the filter files at `paths`, which stand in order of installation, and writes the number of instructions of
-/// each and the path length of their stack. Where `how.listed` asks for it, the instructions of each filter are listed
-/// with it, and those to which no path through the filter comes are marked. Where `how.json` asks for it, all that is
-/// one JSON document. The notes count the files. Once `stack_of` has accepted the filters, the warnings of the notes
-/// become those about these files, or an error where there is no memory for them. This error is no refusal.
+/// Reads the filter files at `paths`, in order of installation, and writes the number of instructions of each and the
+/// path length of their stack, and where `how.listed` asks for it, the instructions, of which those are marked to which
+/// no path comes. The notes count the files, and get the warnings about them once the stack is accepted.
 ///
-/// Refusals, tried in this order: `Read` where a file can't be read or has more than `MOST_BYTES` bytes; those of
-/// `stack_of`, which are `NoFilter`, `TooMany` (more than 64 files), the fault of the first file that spells no filter,
-/// and `PathLength` (above 32768); then `Write` where standard output can't be written (a beginning of the text may be
-/// written then). `Memory` can come anywhere. After any error but `Write` nothing is written.
+/// Refusals come in this order: `Read`, those of `stack_of`, `Write`. After any error but `Write` nothing is written.
 pub fn check<F: Files, O: Write>(
     alloc: Global,
     paths: &[&str],
@@ -221,17 +188,14 @@ pub fn check<F: Files, O: Write>(
     ensures refused { IfErr result (λ e. (e ≡ WriteFault)
         ⊎ (RefusesFiles (F.holds files.old) paths.now e × (out.new ≡ out.old))) }
 {
-    let filters = read_all(alloc, paths, files, notes)?;
-    check_filters(alloc, &filters, how, notes, out)
+    let stack = read_stack(alloc, paths, files, notes)?;
+    check_stack(alloc, &stack, how, notes, out)
 }
 
-/// Reads the filter files at `paths`, which stand in order of installation, and writes what their stack answers to the
-/// input in `asked`, in the manner that `asked` has. The notes count the files.
+/// Reads the filter files at `paths`, in order of installation, and writes what their stack answers to the input in
+/// `asked`. The notes count the files.
 ///
-/// Refusals, tried in this order: `Read` where a file can't be read or has more than `MOST_BYTES` bytes; those of
-/// `stack_of`, which are `NoFilter`, `TooMany` (more than 64 files), the fault of the first file that spells no filter,
-/// and `PathLength` (above 32768); then `Write`, where a beginning of the text may be written. `Memory` can come
-/// anywhere. After any error but `Write` nothing is written.
+/// Refusals come in this order: `Read`, those of `stack_of`, `Write`. After any error but `Write` nothing is written.
 pub fn evaluate<F: Files, O: Write>(
     alloc: Global,
     asked: &Evaluation<'_>,
@@ -246,6 +210,6 @@ pub fn evaluate<F: Files, O: Write>(
     ensures refused { IfErr result (λ e. (e ≡ WriteFault)
         ⊎ (RefusesFiles (F.holds files.old) paths.now e × (out.new ≡ out.old))) }
 {
-    let filters = read_all(alloc, paths, files, notes)?;
-    evaluate_filters(alloc, asked, &filters, out)
+    let stack = read_stack(alloc, paths, files, notes)?;
+    evaluate_stack(alloc, asked, &stack, out)
 }

@@ -1,5 +1,7 @@
 //! What `--explain-errors` shows of a fault under its line. It is for a person: contracts say only when it may be
 //! shown.
+//!
+//! Functions that add lines are called only where they apply, and fail only where an allocation is or was refused.
 
 mod hints;
 mod kinds;
@@ -29,47 +31,45 @@ use policies::Page;
 pub(crate) use refusals::OtherSet;
 use refusals::refusal_text;
 pub(crate) use roles::Which;
-use roles::{Role, count_before_filters, count_of, file_at, filter_path, which_policy};
+use roles::{
+    Role, count_before_filters, count_of, file_at, filter_path, is_of_policy, path_at, which_policy,
+};
 use sf_calls::{read_arguments, read_word};
 use sf_command_line::{text_of, wants_explanation};
-use sf_policy::{Fault, Refusal};
+use sf_policy::Refusal;
 use sf_profile::Refused;
 use sf_question::Question;
+use sf_stack::Fault;
 use std::alloc::{AllocError, Global};
 
 /// What a run notes for a person beside its result: what was read, what was refused, warnings, and the text that
 /// explains a fault.
 #[derive(Drop)]
 pub struct Notes {
-    /// The bytes of the policy file that was read last, which may be that of the control; empty before one is read.
+    /// The bytes of the policy file that was read last, which may be that of the control.
     pub policy: Vec<u8>,
-    /// Why `read_policy_at` refused a policy, and what was read of the policy; `None` where it refused none.
+    /// Why `read_policy_at` refused a policy, and what was read of it.
     pub refusal: Option<Refusal>,
-    /// The key for which a profile is refused, and why, as far as they are known; an error where there was no memory
-    /// for that.
+    /// The key for which a profile is refused, and why; an error where there was no memory for that.
     pub refused: Result<Refused, AllocError>,
-    /// The first set of names that is none of the five of `CallSet`, for which the subcommand `profile` is refused;
-    /// `Ok(None)` where there is none, and an error where there was no memory for it.
+    /// The first set of names that is none of the five of `CallSet`; an error where there was no memory for it.
     pub(crate) other: Result<Option<OtherSet>, AllocError>,
-    /// For each file of names, in the order in which these files were read: how many sets it has, and how many there
-    /// are when they are joined to those of the files before it. Where an allocation was refused for the numbers of a
-    /// file, the list ends before that file.
+    /// For each file of names how many sets it has, and how many there are with those of the files before it. Where
+    /// there is no memory, the list ends.
     sets: Vec<(usize, usize)>,
     /// How many files were read, of whatever kind.
     pub files: usize,
-    /// What each of these files seems to hold, in the order in which they were read. Where an allocation was refused
-    /// for a file, the list ends before that file.
+    /// What each of these files seems to hold. Where there is no memory, the list ends.
     kinds: Vec<Kind>,
-    /// Which of the policies is refused, where one is. It is `Only` until `explain` is called.
+    /// Which of the policies is refused. It is `Only` until `explain` is called.
     pub(crate) which: Which,
     /// The lines that explain the fault, where they are asked for and there is memory for them.
     pub explanation: Option<String>,
     /// The lines of warnings; an error where there was no memory for them.
     pub warnings: Result<String, AllocError>,
-    /// Whether the files of names have a set with the name behind `eval --arch`. It is true until that is looked up.
-    /// Where the number of an architecture stands there, it means nothing.
+    /// Whether the files of names have a set with the name behind `eval --arch`; true until that is looked up.
     pub(crate) is_set_known: bool,
-    /// The place, from 0, of the first call behind `--calls` that no file of names has; 0 where there is none.
+    /// The place, from 0, of the first call behind `--calls` that no file of names has.
     pub(crate) unknown_call: usize,
 }
 
@@ -100,9 +100,8 @@ impl Notes {
         }
     }
 
-    /// Counts a file with these bytes that was read, and keeps what it seems to hold. Where there is no memory for
-    /// that, nothing is kept for this file nor for later ones: else what is kept for a later file would stand at the
-    /// place of this one.
+    /// Counts a file that was read, and keeps what it seems to hold. Where there is no memory for that, nothing is kept
+    /// for later files either: it would stand at the wrong place.
     pub(crate) fn count_file(&mut self, bytes: &[u8]) {
         if self.kinds.len() == self.files {
             let _ = self.kinds.push(kind_of(bytes));
@@ -110,17 +109,14 @@ impl Notes {
         self.files = self.files.saturating_add(1);
     }
 
-    /// Keeps how many sets a file of names has, and how many there are in `all`, to which they are joined. The caller
-    /// has counted this file just before, with `count_file`, and only files of names before it. Where there is no
-    /// memory for the numbers, nothing is kept for this file nor for later ones.
+    /// Keeps how many sets the file of names counted last has, and how many there are in `all`.
     pub(crate) fn count_sets(&mut self, count: usize, all: usize) {
         if self.sets.len().saturating_add(1) == self.files {
             let _ = self.sets.push((count, all));
         }
     }
 
-    /// The file of names that has the set at `place` first, and how many sets that file has; `None` where no file whose
-    /// sets were counted has it. Both places count from 0, among all sets and among the files of names.
+    /// The file of names that has the set at `place` first, and how many sets it has. Both places count from 0.
     pub(crate) fn file_of_set(&self, place: usize) -> Option<(usize, usize)> {
         for (file, (count, all)) in self.sets.iter().enumerate() {
             if place < *all {
@@ -130,17 +126,11 @@ impl Notes {
         None
     }
 
-    /// What a file seems to hold, by its place, from 0, in the order in which files were read; `Empty` where that isn't
-    /// known.
     fn kind_at(&self, place: usize) -> Kind {
-        match self.kinds.get(place) {
-            Some(kind) => *kind,
-            None => Kind::Empty,
-        }
+        self.kinds.get(place).copied().unwrap_or(Kind::Empty)
     }
 
-    /// The questions, where `read` has them; the notes are unchanged then. Where `read` has the refusal of a policy,
-    /// the notes keep the refusal, and its fault is the error.
+    /// The questions that were read; or the notes keep the refusal, and its fault is the error.
     pub fn take_refusal(
         &mut self,
         read: Result<Vec<Question>, Refusal>,
@@ -157,14 +147,8 @@ impl Notes {
         }
     }
 
-    /// Does nothing where `ran`, the end of the run, is no fault. Else the notes keep which of the policies is refused,
-    /// by `which_policy`, and the lines that explain the fault. These lines are kept only where the matches ask for
-    /// them or `explains` is true, and where there is memory for them; else the notes have none. Where the fault is
-    /// that of a profile, `which` is unchanged. Where the matches name no subcommand, `which` is unchanged, and the
-    /// notes have no lines.
-    ///
-    /// `explains` and `reason` are what the methods of `Files` with these names give: whether each fault is explained,
-    /// and in words for a person why a file can't be read.
+    /// Keeps which of the policies is refused for the fault with which a run ended, if it did, and the lines that
+    /// explain it, where the matches or `explains` ask for them. `reason` says why a file can't be read.
     pub fn explain(
         &mut self,
         alloc: Global,
@@ -188,16 +172,7 @@ impl Notes {
     }
 }
 
-/// The path of the file at a place among all that are read, counted from 0; empty where there is none.
-fn path_at<'a>(found: &ArgMatches<'a>, place: usize) -> &'a str {
-    match file_at(found, place) {
-        Some((_, path)) => path,
-        None => "",
-    }
-}
-
-/// What the file that was read last was read as. Where none was read, it is what the first file would be read as; a
-/// filter where the command line names no file.
+/// What the file that was read last was read as; where none was, what the first one would be read as.
 fn role_of_last(found: &ArgMatches<'_>, notes: &Notes) -> Role {
     match file_at(found, notes.files.saturating_sub(1)) {
         Some((role, _)) => role,
@@ -205,43 +180,29 @@ fn role_of_last(found: &ArgMatches<'_>, notes: &Notes) -> Role {
     }
 }
 
-/// Adds the line of the file of names that is refused. The caller has seen that it is the file that was read last. An
-/// error where an allocation is refused.
-fn push_names(text: &mut String, found: &ArgMatches<'_>, notes: &Notes) -> Result<(), AllocError> {
-    let path = path_at(found, notes.files.saturating_sub(1));
-    write!(text, "names {path:?}\n")
-}
-
-/// Adds the line that names the file behind `--accept`, which lists the questions that may be allowed: `accept` and the
-/// file's path. The caller's condition: `--accept` is given. An error where an allocation is refused.
+/// Adds the line of the file behind `--accept`.
 fn push_accept(text: &mut String, found: &ArgMatches<'_>) -> Result<(), AllocError> {
     let path = text_of(found, "accept");
     write!(text, "accept {path:?}\n")
 }
 
-/// Adds the lines of the file that was read last: of a policy, with the place in it that is refused; of a file of
-/// names; or of the file behind `--accept`. Where this file is a filter or a profile, it isn't the one that is refused,
-/// and nothing is added. The caller has seen that `is_of_policy_or_names` is true for the fault. An error only where an
-/// allocation is refused.
+/// Adds the lines of the file that was read last. A filter or a profile isn't the one that is refused.
 fn push_last_read(
     alloc: Global,
     text: &mut String,
     found: &ArgMatches<'_>,
     notes: &Notes,
 ) -> Result<(), AllocError> {
+    let path = path_at(found, notes.files.saturating_sub(1));
     match role_of_last(found, notes) {
-        Role::Policy | Role::Control => {
-            let path = path_at(found, notes.files.saturating_sub(1));
-            push_policy(alloc, text, path, notes)
-        }
-        Role::Names => push_names(text, found, notes),
+        Role::Policy | Role::Control => push_policy(alloc, text, path, notes),
+        Role::Names => write!(text, "names {path:?}\n"),
         Role::Accept => push_accept(text, found),
         Role::Filter | Role::Profile => Ok(()),
     }
 }
 
-/// Adds the line of a file that can't be read: its path, and the reason behind it, unless the reason is empty. An error
-/// where an allocation is refused.
+/// Adds the line of a file that can't be read, and the reason, unless it is empty.
 fn push_unread(text: &mut String, path: &str, reason: &str) -> Result<(), AllocError> {
     if reason.is_empty() {
         return write!(text, "file {path:?}\n");
@@ -249,9 +210,8 @@ fn push_unread(text: &mut String, path: &str, reason: &str) -> Result<(), AllocE
     write!(text, "file {path:?}: {reason}\n")
 }
 
-/// Adds the line that says why a text spells no input: the number, from 1, of its first character that is no
-/// hexadecimal digit; or where each is one, how many digits there are. The caller has seen that the text spells no
-/// input. An error where an allocation is refused.
+/// Adds the line that says why a text spells no input: by its first character, counted from 1, that is no hexadecimal
+/// digit, or by the number of its digits.
 fn push_input(text: &mut String, input: &str) -> Result<(), AllocError> {
     match input.chars().position(|digit| !digit.is_ascii_hexdigit()) {
         Some(place) => {
@@ -265,9 +225,7 @@ fn push_input(text: &mut String, input: &str) -> Result<(), AllocError> {
     }
 }
 
-/// Adds the line that says which number of a call is too wide: one behind `--args`, else that behind `--nr`, else that
-/// behind `--arch`. The caller has seen by `eval_words_fit` that the words have the right form, and by `numbers_fit`
-/// that a number is too wide. An error where an allocation is refused.
+/// Adds the line that says which number of a call is too wide: behind `--args`, else `--nr`, else `--arch`.
 fn push_wide(text: &mut String, found: &ArgMatches<'_>) -> Result<(), AllocError> {
     let (args, nr) = (text_of(found, "args"), text_of(found, "nr"));
     if read_arguments(args).is_err() {
@@ -280,19 +238,7 @@ fn push_wide(text: &mut String, found: &ArgMatches<'_>) -> Result<(), AllocError
     write!(text, "arch {arch:?}: more than 32 bits\n")
 }
 
-/// Adds the line that says why the words of `eval` spell no input: by `push_input` where `--input` is given, else by
-/// `push_wide`. The caller has seen that they spell none. An error where an allocation is refused.
-fn push_misspelled(text: &mut String, found: &ArgMatches<'_>) -> Result<(), AllocError> {
-    match found.get_str("input") {
-        Some(input) => push_input(text, input),
-        None => push_wide(text, found),
-    }
-}
-
-/// Adds the line of the name that is unknown. The caller has seen that the fault is `UnknownName`. Where `--calls` is
-/// given, it is the name in the text of `--calls` at the place `notes.unknown_call`. Else it is the name of the set
-/// behind `--arch`, where the notes say that this set is unknown. Else it is the name of the call behind `--call`,
-/// which is shown with the name of its set. An error where an allocation is refused.
+/// Adds the line of the name that is unknown: in the text of `--calls`, or behind `--arch`, or behind `--call`.
 fn push_unknown(
     text: &mut String,
     found: &ArgMatches<'_>,
@@ -309,9 +255,7 @@ fn push_unknown(
     write!(text, "set {set:?}\n")
 }
 
-/// Adds the line of the policy file with this path, and lines that say where it is refused: the place at which it isn't
-/// UTF-8, or what the notes know of its refusal. The caller has seen that the notes have the bytes of this file. An
-/// error only where an allocation is refused, or was while the policy was read.
+/// Adds the line of a policy file, and lines that say where it is refused.
 fn push_policy(
     alloc: Global,
     text: &mut String,
@@ -320,7 +264,7 @@ fn push_policy(
 ) -> Result<(), AllocError> {
     write!(text, "policy {path:?}\n")?;
     let bytes = bytes_of_text(&notes.policy);
-    // The bytes of a byte order mark, which the place of a TOML error counts, and lines and columns here don't.
+    // A byte order mark: the place of a TOML error counts its bytes, and lines and columns here don't.
     let hidden = notes.policy.len().saturating_sub(bytes.len());
     match (std::str::from_utf8(bytes), &notes.refusal) {
         (Ok(policy), Some(refusal)) => Page {
@@ -337,7 +281,7 @@ fn push_policy(
     }
 }
 
-/// The number, from 1, of the filter that is refused for a fault; `None` where the fault isn't that of one filter.
+/// The number, from 1, of the filter that is refused for a fault.
 fn filter_of(fault: &Fault) -> Option<usize> {
     match fault {
         Fault::Ragged { filter }
@@ -354,26 +298,14 @@ fn filter_of(fault: &Fault) -> Option<usize> {
 
 /// Whether this can be a fault of a policy or of a file of names. `Syntax` can be one of the file of `--accept` too.
 fn is_of_policy_or_names(fault: &Fault) -> bool {
-    match fault {
-        Fault::Version
-        | Fault::TopKey
-        | Fault::Count
-        | Fault::Syntax
-        | Fault::Key { .. }
-        | Fault::Range { .. }
-        | Fault::Actions { .. }
-        | Fault::Name { .. }
-        | Fault::Mask { .. }
-        | Fault::NamesKey
-        | Fault::NamesCount
-        | Fault::NamesRange => true,
-        _ => false,
-    }
+    is_of_policy(fault)
+        || matches!(
+            fault,
+            Fault::NamesKey | Fault::NamesCount | Fault::NamesRange
+        )
 }
 
-/// Adds the lines that say where a fault lies. For a fault of one file, the first line names the file that is refused
-/// or can't be read; `reason` is why it can't be read. For a fault in the words of the command line there is one line,
-/// about the word. For any other fault nothing is added. An error only where an allocation is refused.
+/// Adds the lines that say where a fault lies: in which file, or in which word of the command line.
 fn push_place(
     alloc: Global,
     text: &mut String,
@@ -387,7 +319,10 @@ fn push_place(
         return write!(text, "filter {filter} {path:?}\n");
     }
     match fault {
-        Fault::Input => push_misspelled(text, found),
+        Fault::Input => match found.get_str("input") {
+            Some(input) => push_input(text, input),
+            None => push_wide(text, found),
+        },
         Fault::UnknownName => push_unknown(text, found, notes),
         Fault::Accepted { .. } => push_accept(text, found),
         Fault::Read => push_unread(text, path_at(found, notes.files), reason),
@@ -396,8 +331,7 @@ fn push_place(
     }
 }
 
-/// The hint at what may have been meant by what is refused with this fault; `None` where that isn't known. `reason` is
-/// why a file can't be read. An error only where an allocation is refused.
+/// The hint at what may have been meant by what is refused with this fault.
 fn hint_of(
     alloc: Global,
     found: &ArgMatches<'_>,
@@ -425,8 +359,7 @@ fn hint_of(
     }
 }
 
-/// The lines that explain a fault: where it lies, what it means, and a hint where there is one. `reason` is why a file
-/// can't be read. An error only where an allocation is refused.
+/// The lines that explain a fault: where it lies, what it means, and a hint where there is one.
 fn fault_text(
     alloc: Global,
     found: &ArgMatches<'_>,
@@ -448,9 +381,7 @@ fn fault_text(
     Ok(text)
 }
 
-/// The lines that explain a fault, where the matches ask for them or `explains` is true. `reason` is why a file can't
-/// be read. `None` where the matches name no subcommand, where neither they nor `explains` ask for the lines, or where
-/// there is no memory for the lines.
+/// The lines that explain a fault, where they are asked for, and there is memory for them.
 fn explanation(
     alloc: Global,
     matches: &ArgMatches<'_>,

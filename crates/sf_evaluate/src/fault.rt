@@ -1,22 +1,19 @@
-//! Why the program ends with an error.
-
 ghost use Rattle.std.specs.Prelude.{◌≡◌};
-ghost use Rattle.sf_policy.specs.declared.fault.Fault.TheVariants.{Memory};
+ghost use Rattle.sf_stack.specs.declared.fault.Fault.TheVariants.{Memory};
 ghost use Rattle.sf_evaluate.specs.declared.fault.Fault.TheVariants.{Other};
 ghost use Rattle.sf_evaluate.specs.Faults.{fault_number, of_profile};
 
 use std::alloc::AllocError;
 use thiserror::Error;
 
-/// Why the program ends with an error. The text of a fault is that of the fault in it.
+/// Why the program ends with an error.
 #[derive(Clone, Copy, Debug, PartialEq, Eq, Error)]
 pub enum Fault {
     /// A profile is refused for this fault, which isn't `Memory`.
     #[error("{0}")]
     Profile(sf_profile::Fault),
-    /// Anything else is refused; or reading, writing or memory failed.
     #[error("{0}")]
-    Other(sf_policy::Fault),
+    Other(sf_stack::Fault),
 }
 
 impl Fault {
@@ -34,17 +31,15 @@ impl Fault {
 impl From<AllocError> for Fault {
     ghost from_gives = { λ _ e. e ≡ Other Memory };
 
-    /// A refused allocation is the fault `Memory`.
     fn from(_e: AllocError) -> Fault {
-        Fault::Other(sf_policy::Fault::Memory)
+        Fault::Other(sf_stack::Fault::Memory)
     }
 }
 
-impl From<sf_policy::Fault> for Fault {
+impl From<sf_stack::Fault> for Fault {
     ghost from_gives = { λ e f. f ≡ Other e };
 
-    /// The same fault.
-    fn from(e: sf_policy::Fault) -> Fault {
+    fn from(e: sf_stack::Fault) -> Fault {
         Fault::Other(e)
     }
 }
@@ -55,7 +50,7 @@ impl From<sf_profile::Fault> for Fault {
     /// `Memory` for refused memory; any other fault is that of a profile.
     fn from(e: sf_profile::Fault) -> Fault {
         match e {
-            sf_profile::Fault::Memory => Fault::Other(sf_policy::Fault::Memory),
+            sf_profile::Fault::Memory => Fault::Other(sf_stack::Fault::Memory),
             refusal => Fault::Profile(refusal),
         }
     }

@@ -1,5 +1,8 @@
 //! The subcommands `check`, `eval` and `profile`, which explore nothing; the files that all subcommands read; whether
 //! the words of the command line fit together; and how a fault is reported and explained.
+//!
+//! Where memory runs out, functions fail with `Memory` or `AllocError`. What they were to add to a text may be there in
+//! part: their callers drop it.
 #![tactic(auto)]
 
 mod architectures;
@@ -20,8 +23,8 @@ pub use checking::{CheckManner, Evaluation, Manner, check, evaluate, print};
 pub use explaining::Notes;
 pub use fault::Fault;
 pub use files::{
-    Files, MOST_BYTES, accepted_in, all_questions_in, audit_words_fit, control_in, read_all,
-    read_all_names,
+    Files, MOST_BYTES, accepted_in, all_questions_in, audit_words_fit, control_in, read_all_names,
+    read_stack, read_stacks,
 };
 pub use profiling::profile;
 pub use telling::{tell, tell_fault, warn};

@@ -2,7 +2,7 @@
 
 ghost use Rattle.std.specs.Prelude.{◌≡◌, ◌⊎◌, ℕ, List, true, false, IfOk, IfErr, OnOk};
 ghost use Rattle.clap.specs.Words.{found_of, rows_of};
-ghost use Rattle.sf_policy.specs.declared.fault.Fault.TheVariants.{Write as WriteFault};
+ghost use Rattle.sf_stack.specs.declared.fault.Fault.TheVariants.{Write as WriteFault};
 ghost use Rattle.sf_evaluate.specs.declared.fault.Fault.TheVariants.{Other};
 ghost use Rattle.sf_evaluate.specs.Profiles.{IsReadFor, RefusesNamesOf, RefusesProfile, RefusesProfileOf, WritesOf, WritesProfile, profile_words_fit};
 
@@ -15,21 +15,17 @@ use crate::words::{profile_words_fit, settings_of};
 use clap::ArgMatches;
 use sf_command_line::{text_of, wants_notes, wants_quiet};
 use sf_names::Names;
-use sf_policy::write_bytes;
 use sf_profile::{
     Settings, loose_masks, notes as notes_of, profile as filter_of, refused, set_of_names,
     unknown_names, zero_errors,
 };
-use sf_warnings::push_zero_errors;
+use sf_stack::{push_zero_errors, write_bytes};
 use std::alloc::{AllocError, Global};
 use std::io::Write;
 
-/// The most rules of which a warning tells one by one.
 const MOST_RULES: usize = 3;
 
-/// Adds the line that warns of names in a profile that are passed over, since no set in `settings.calls` has them; adds
-/// nothing where there are no such names. `bytes` are those of the profile's file. The caller's condition and the error
-/// are those of `warnings_of`.
+/// Adds the line that warns of names in a profile that are passed over, if there are any.
 fn push_unknown_names(
     alloc: Global,
     text: &mut String,
@@ -44,7 +40,7 @@ fn push_unknown_names(
 }
 
 /// Adds a line for each of these rules, whose comparison asks for a bit outside its mask; of more than `MOST_RULES`,
-/// the last line tells only how many more there are. An error where an allocation is refused.
+/// the last line tells how many more there are.
 fn push_loose(text: &mut String, rules: &[usize]) -> Result<(), AllocError> {
     for rule in rules.iter().take(MOST_RULES) {
         write!(
@@ -59,12 +55,8 @@ fn push_loose(text: &mut String, rules: &[usize]) -> Result<(), AllocError> {
     }
 }
 
-/// The lines that warn of a profile: of names that are passed over, unless the notes on the profile are written, which
-/// have them; of calls that fail with the error number 0; and of comparisons under a mask. Empty where there are none.
-/// `bytes` are those of the profile's file. Only rules that apply with these settings count.
-///
-/// The caller has made the filter of this profile, or the notes on it, with these settings before. So an error comes
-/// only where an allocation is refused.
+/// The lines that warn of a profile: of names that are passed over, unless notes, which have them, are written; of
+/// calls that fail with the error number 0; and of comparisons under a mask.
 fn warnings_of(
     alloc: Global,
     settings: &Settings,
@@ -82,12 +74,8 @@ fn warnings_of(
     Ok(text)
 }
 
-/// Writes a profile's filter to standard output, `out`; or if `wants_notes`, the notes on the profile instead. `bytes`
-/// are those of the profile's file.
-///
-/// Refusals: `Profile` with the fault for which `profile` of `sf_profile` refuses these bytes; then `Write` where
-/// standard output can't be written (a beginning may be written then). `Memory` where an allocation is refused. After
-/// any error but `Write` nothing is written.
+/// Writes a profile's filter to `out`, or if `wants_notes`, the notes on the profile. After any error but `Write`
+/// nothing is written.
 fn write_of<O: Write>(
     alloc: Global,
     settings: &Settings,
@@ -108,9 +96,8 @@ fn write_of<O: Write>(
     Ok(write_bytes(&filter, out)?)
 }
 
-/// The place, from 0, and the name of the first set that is none of the five of `CallSet`; `None` where each set is one
-/// of them. `set_of_names` decides this by a set's architecture, not by its name. An error where an allocation is
-/// refused.
+/// The place, from 0, and the name of the first set that is none of the five of `CallSet`, by its architecture, not by
+/// its name.
 fn other_set(alloc: Global, names: &[Names]) -> Result<Option<OtherSet>, AllocError> {
     for (place, one) in names.iter().enumerate() {
         if set_of_names(one).is_none() {
@@ -122,13 +109,10 @@ fn other_set(alloc: Global, names: &[Names]) -> Result<Option<OtherSet>, AllocEr
 }
 
 /// The settings for a profile: what the command line says, with the calls of the files of names. The notes count these
-/// files, and keep how many sets each has. Their field `other` gets what `other_set` gives: the first set that is none
-/// of the five of `CallSet`, or an error where there is no memory for it. That error alone doesn't end the function.
+/// files and their sets, and get what `other_set` gives.
 ///
-/// The caller's conditions: the words behind the options fit, as `profile_words_fit` says; and the notes have counted
-/// no file yet. Refusals, tried in this order: `Read`, `Syntax`, `NamesKey`, `NamesCount` and `NamesRange`, when
-/// `read_all_names` says; `Profile(Set)` where one of the sets is none of the five of `CallSet`. `Memory` can come
-/// anywhere.
+/// Refusals come in this order: those of `read_all_names`; `Profile(Set)` where one of the sets is none of the five of
+/// `CallSet`.
 fn read_settings<F: Files>(
     alloc: Global,
     found: &ArgMatches<'_>,
@@ -148,8 +132,7 @@ fn read_settings<F: Files>(
     Ok(settings_of(alloc, found, calls)?)
 }
 
-/// Keeps in `notes.warnings` what `warnings_of` gives, or an error where there was no memory for it. Does nothing where
-/// `--quiet` is given. The caller's condition is that of `warnings_of`.
+/// Keeps what `warnings_of` gives, unless `--quiet` is given.
 fn keep_warnings(
     alloc: Global,
     found: &ArgMatches<'_>,
@@ -162,9 +145,7 @@ fn keep_warnings(
     }
 }
 
-/// Keeps in `notes.refused` for which key a profile is refused, and why, as `refused` gives it, or an error where there
-/// is no memory for that. Does nothing where `fault` isn't `Fault::Profile`. The caller's condition: `bytes` are those
-/// of the profile's file, and if `fault` is `Fault::Profile`, they were refused with this fault and these settings.
+/// Keeps for which key the profile of these bytes is refused with this fault, and why.
 fn keep_refused(
     alloc: Global,
     settings: &Settings,
@@ -177,21 +158,16 @@ fn keep_refused(
     }
 }
 
-/// Reads the files of names and then the profile that the matches of the subcommand name, and writes the filter that
-/// the profile means: a program that answers each input as the profile does. Where `--notes` asks for it, notes on the
-/// profile are written, and no filter. The status is 0; or 4 where a word isn't one that its option takes: then no file
-/// is read, and nothing is written.
+/// Reads the files of names and then the profile that the matches name, and writes the filter that the profile means,
+/// or with `--notes` notes on the profile. The status is 0; or 4 where a word isn't one that its option takes: then no
+/// file is read, and nothing is written.
 ///
-/// `notes` count the files, and keep how many sets each file of names has. Once the filter or the notes on the profile
-/// are written, they get the lines of `warnings_of`, unless `--quiet` is given. Where a profile is refused, they get
-/// the set of names, or the key and the reason for which it is refused, if that is known. The caller's condition: the
-/// notes have counted no file before.
+/// `notes`, which have counted no file before, count the files and their sets, and get the warnings, unless `--quiet`
+/// is given, or for what the profile is refused.
 ///
-/// Refusals, tried in this order: those of `read_all_names` for the files of names, `Read`, `Syntax`, `NamesKey`,
-/// `NamesCount` and `NamesRange`; `Profile(Set)` where one of the sets of names is none of the five sets of `CallSet`;
-/// `Read` where the profile can't be read, or has more than `MOST_BYTES` bytes; `Profile` with the fault for which
-/// `profile` of `sf_profile` refuses it; `Write` where standard output can't be written (a beginning may be written
-/// then). `Memory` can come anywhere. After any error but `Write` nothing is written.
+/// Refusals come in this order: those of `read_all_names`; `Profile(Set)` where one of the sets is none of the five of
+/// `CallSet`; `Read` for the profile; `Profile` with the fault for which `sf_profile` refuses it; `Write`. After any
+/// error but `Write` nothing is written.
 pub fn profile<F: Files, O: Write>(
     alloc: Global,
     found: &ArgMatches<'_>,

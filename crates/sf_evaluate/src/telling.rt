@@ -1,4 +1,4 @@
-//! What is written to standard error: faults and warnings.
+//! What is written to standard error: faults and warnings. Errors of these writes are ignored.
 
 ghost use Rattle.std.specs.Prelude.{true, ◌≡◌, ◌++◌, IfOk, string_bytes};
 ghost use Rattle.clap.specs.Words.{subcommand_rows_of};
@@ -18,12 +18,10 @@ use std::io::Write;
 /// most 20 digits each.
 const LINE: usize = 96;
 
-/// The number of `TooLarge` and of `TooManyRows`.
 const TOO_LARGE: u16 = 32;
 
-/// The exit status of a fault. It is 2 for `TooLarge` and `TooManyRows`: nothing is wrong, but more nodes or rows are
-/// needed than are allowed. It is 3 where the filters, a policy, a profile, a file of names, the file of `--accept`,
-/// the input, or the name of a call or of a set of calls is refused. It is 5 where reading, writing or memory fails:
+/// The exit status of a fault: 2 for `TooLarge` and `TooManyRows`, where nothing is wrong, but more nodes or rows are
+/// needed than are allowed; 3 where something that was given is refused; 5 where reading, writing or memory fails:
 /// these faults have the numbers from 50.
 fn status_of(fault: &Fault) -> u8
     ensures { result ≡ fault_status (fault_number fault.now) }
@@ -38,8 +36,8 @@ fn status_of(fault: &Fault) -> u8
     }
 }
 
-/// The line of a fault: `error`, its number, its name, and its place where it has one. That of `TooLarge` and
-/// `TooManyRows` is the text alone, a sentence.
+/// The line of a fault: `error`, its number, its name and its place. That of `TooLarge` and `TooManyRows` is a
+/// sentence.
 fn line_of(fault: &Fault) -> InlineText<LINE> {
     if fault.number() == TOO_LARGE {
         InlineText::of(format_args!("{fault}\n"))
@@ -48,9 +46,8 @@ fn line_of(fault: &Fault) -> InlineText<LINE> {
     }
 }
 
-/// The line of a fault in one of several policies, or in that of the control. `policy` says which one it is, such as
-/// `policy 2` or `control`. This text stands before the word `question` and the question's number; where the fault has
-/// no question, it stands at the end of the line.
+/// The line of a fault in the policy that `policy` says, such as `policy 2` or `control`. This stands before the word
+/// `question`, or at the end of the line.
 fn line_in(fault: &Fault, policy: &str) -> InlineText<LINE> {
     let line: InlineText<LINE> = InlineText::of(format_args!("{fault}"));
     match line.as_str().split_once(" question ") {
@@ -61,8 +58,6 @@ fn line_in(fault: &Fault, policy: &str) -> InlineText<LINE> {
     }
 }
 
-/// The line of a fault. Where `which` says that the fault lies in one of several policies, the line has the word
-/// `policy` with the number of this policy; where it lies in the policy of the control, the word `control`.
 fn placed_line(fault: &Fault, which: Which) -> InlineText<LINE> {
     match which {
         Which::Only => line_of(fault),
@@ -74,8 +69,8 @@ fn placed_line(fault: &Fault, which: Which) -> InlineText<LINE> {
     }
 }
 
-/// Writes `line`, which is that of `fault`, to standard error. One `write_all` takes the whole line, so that it stays
-/// whole beside the lines of other programs. An error of the write is ignored. Gives the exit status of the fault.
+/// Writes a fault's line to standard error, and gives its exit status. One `write_all` takes the whole line, so that it
+/// stays whole beside the lines of other programs.
 fn tell_line<E: Write>(line: &InlineText<LINE>, fault: &Fault, err: &mut E) -> u8
     ensures { result ≡ fault_status (fault_number fault.now) }
 {
@@ -83,16 +78,14 @@ fn tell_line<E: Write>(line: &InlineText<LINE>, fault: &Fault, err: &mut E) -> u
     status_of(fault)
 }
 
-/// Writes the line of a fault to standard error, as `tell_line` does, and gives the exit status of the fault. The line
-/// names no policy. Nothing is allocated, since memory may have run out.
+/// Writes the line of a fault to standard error, and gives its exit status. Nothing is allocated, since memory may have
+/// run out.
 pub fn tell_fault<E: Write>(fault: &Fault, err: &mut E) -> u8
     ensures { result ≡ fault_status (fault_number fault.now) }
 {
     tell_line(&line_of(fault), fault, err)
 }
 
-/// A copy of `line`, which ends with a line break, and of the lines `more` under it. An error where an allocation is
-/// refused.
 fn with_more(alloc: Global, line: &str, more: &str) -> Result<String, AllocError>
     ensures { IfOk result (λ text. string_bytes text ≡ line.now ++ more.now) }
 {
@@ -101,9 +94,8 @@ fn with_more(alloc: Global, line: &str, more: &str) -> Result<String, AllocError
     Ok(text)
 }
 
-/// Writes the line of a fault to standard error, with the policy that `notes.which` tells, as by `placed_line`. Under
-/// the line come the lines of `notes.explanation`, if there are any, and there is memory to join them to the line. One
-/// `write_all` takes all, and an error of the write is ignored, as in `tell_line`. Gives the exit status of the fault.
+/// Writes the line of a fault to standard error, with the policy that `notes.which` tells, and under it the lines of
+/// `notes.explanation`, if there is memory to join them. Gives the exit status of the fault.
 pub fn tell<E: Write>(alloc: Global, fault: &Fault, notes: &Notes, err: &mut E) -> u8
     ensures { result ≡ fault_status (fault_number fault.now) }
 {
@@ -117,7 +109,6 @@ pub fn tell<E: Write>(alloc: Global, fault: &Fault, notes: &Notes, err: &mut E) 
     tell_line(&line, fault, err)
 }
 
-/// Whether the matches of the command line ask for no warnings; `false` where they name no subcommand.
 fn is_quiet(matches: &ArgMatches<'_>) -> bool
     ensures { IsQuiet (subcommand_rows_of matches.now) → result ≡ true }
 {
@@ -127,8 +118,8 @@ fn is_quiet(matches: &ArgMatches<'_>) -> bool
     }
 }
 
-/// Writes the lines of warnings to standard error, unless there are none, or the matches ask for none. Where there was
-/// no memory for them (`warnings` is an error), one line says so. An error of the write is ignored.
+/// Writes the lines of warnings to standard error, unless the matches ask for none. Where there was no memory for them,
+/// one line says so.
 pub fn warn<E: Write>(matches: &ArgMatches<'_>, warnings: &Result<String, AllocError>, err: &mut E)
     ensures quiet { IsQuiet (subcommand_rows_of matches.now) → err.new ≡ err.old }
 {

@@ -1,5 +1,4 @@
-//! The texts that `check` and `eval` write. After an error a part of what was to be added may stand in a text; the
-//! callers drop this text.
+//! The texts that `check` and `eval` write.
 
 mod instructions;
 mod tracing;
@@ -10,14 +9,13 @@ ghost use Rattle.sf_evaluate.specs.Texts.{AreFilterLines, IsCheckText, StandUnde
 
 pub(crate) use instructions::push_instructions;
 use sf_check::{Program, Stack};
-use sf_policy::push_action;
 use sf_run::Answer;
+use sf_stack::push_action;
 use std::alloc::{AllocError, Global};
 pub(crate) use tracing::{Trace, push_trace};
 pub use why::why_text;
 
-/// The line of an answer: its action, as `push_action` writes it, and its data as a decimal number. An error where an
-/// allocation is refused.
+/// The line of an answer: its action, as `push_action` writes it, and its data as a decimal number.
 pub fn answer_text(alloc: Global, answer: Answer) -> Result<String, AllocError>
     ensures { IfOk result (λ text. string_bytes text ≡ answer_text answer) }
 {
@@ -28,8 +26,7 @@ pub fn answer_text(alloc: Global, answer: Answer) -> Result<String, AllocError>
     Ok(text)
 }
 
-/// Adds the line of a filter: its number, which the caller counts from 1, and how many instructions it has. An error
-/// where an allocation is refused.
+/// Adds the line of a filter: its number, from 1, and how many instructions it has.
 fn push_filter(text: &mut String, number: usize, instructions: usize) -> Result<(), AllocError>
     ensures { OnOk result (string_bytes text.new ≡ string_bytes text.old
         ++ filter_line number instructions) }
@@ -37,8 +34,6 @@ fn push_filter(text: &mut String, number: usize, instructions: usize) -> Result<
     write!(text, "filter {number} {instructions} instructions\n")
 }
 
-/// Adds the lines of a filter's instructions, as `push_instructions` does, if `listed`; else nothing. An error where an
-/// allocation is refused.
 fn push_under(
     alloc: Global,
     text: &mut String,
@@ -54,8 +49,7 @@ fn push_under(
     Ok(())
 }
 
-/// Adds the lines of all filters, in order of installation and numbered from 1. If `listed`, the lines of a filter's
-/// instructions stand under the line of the filter. An error where an allocation is refused.
+/// Adds the lines of all filters, in order of installation; if `listed`, with their instructions.
 fn push_filters(
     alloc: Global,
     text: &mut String,
@@ -72,16 +66,14 @@ fn push_filters(
     Ok(())
 }
 
-/// Adds the line of a stack's path length. An error where an allocation is refused.
 fn push_path(text: &mut String, path: usize) -> Result<(), AllocError>
     ensures { OnOk result (string_bytes text.new ≡ string_bytes text.old ++ path_line path) }
 {
     write!(text, "path {path}\n")
 }
 
-/// The text of `check`: a line for each filter, with its number of instructions, and a line with the path length of the
-/// stack. Where `listed` asks for it, the instructions of each filter stand under its line. An error where an
-/// allocation is refused.
+/// The text of `check`: a line for each filter, with its number of instructions, and under it, where `listed` asks for
+/// them, the instructions; and a line with the path length of the stack.
 pub fn check_text(alloc: Global, stack: &Stack, listed: bool) -> Result<String, AllocError>
     ensures { IfOk result (λ text. IsCheckText listed stack.now (string_bytes text)) }
 {

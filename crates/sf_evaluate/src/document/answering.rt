@@ -8,7 +8,7 @@ ghost use Rattle.sf_run.specs.declared.action.Answer.{Answer as AnAnswer};
 ghost use Rattle.sf_run.specs.Walks.{CourseData, walk_of};
 ghost use Rattle.sf_json.specs.Documents.{action_document, list_of};
 ghost use Rattle.sf_evaluate.specs.TraceDocuments.{eval_document, filter_document, filter_documents, shown_meeting, traced_document};
-ghost use Rattle.sf_policy.specs.declared.fault.Fault.TheVariants.{Memory as MemoryFault};
+ghost use Rattle.sf_stack.specs.declared.fault.Fault.TheVariants.{Memory as MemoryFault};
 
 use super::steps::met_documents;
 use crate::texts::Trace;
@@ -16,14 +16,12 @@ use sf_check::{Program, Stack};
 use sf_insn::Input;
 use sf_json::{Document, Fields, action_document, answer_document, input_document};
 use sf_names::Names;
-use sf_policy::Fault;
 use sf_run::{Action, Course, answer, walk};
+use sf_stack::Fault;
 use std::alloc::{AllocError, Global};
 
-/// The object of a filter, by its run: the number of the filter, its answer, the place of the instruction that returns
-/// this answer, `stands`, and at `met` the array of what `met_documents` gives. The upper 16 bits of the return value
-/// are the answer's action, the lower 16 its data. `stands` says whether this answer stands, as by `push_filter`. If
-/// `brief`, the comparisons that are false are left out. An error where an allocation is refused.
+/// The object of a filter: its number, its answer, the place of the instruction that returns it, whether this answer
+/// stands, and what it met.
 fn filter_document(
     alloc: Global,
     brief: bool,
@@ -48,9 +46,8 @@ fn filter_document(
     Ok(Document::object(fields))
 }
 
-/// Adds the document of the filter `program`, which has this number. Returns whether its answer stands: the filter
-/// returns the action of the stack's answer, and no newer filter's answer stood. `stood` says whether the answer of a
-/// newer filter stood. An error where an allocation is refused.
+/// Adds the document of a filter. Returns whether its answer stands: it has the action of the stack's answer, and no
+/// newer filter's answer stood.
 fn push_filter(
     alloc: Global,
     documents: &mut Vec<Document>,
@@ -73,8 +70,7 @@ fn push_filter(
     Ok(stands)
 }
 
-/// The documents of all filters, newest first; the newest one has the highest number. An error where an allocation is
-/// refused.
+/// The documents of all filters, newest first; the newest one has the highest number.
 fn filter_documents(alloc: Global, trace: &Trace<'_>) -> Result<Vec<Document>, sf_run::Fault>
     ensures { IfOk result (λ v. map view v.items
         ≡ filter_documents trace.now.brief (length trace.now.stack.now)
@@ -92,8 +88,6 @@ fn filter_documents(alloc: Global, trace: &Trace<'_>) -> Result<Vec<Document>, s
     Ok(documents)
 }
 
-/// The array of all filters, newest first, where `traced` or `trace.brief` asks for it; else the document `null`. An
-/// error where an allocation is refused.
 fn traced_document(
     alloc: Global,
     traced: bool,
@@ -109,9 +103,6 @@ fn traced_document(
     Ok(Document::array(alloc, documents)?)
 }
 
-/// What `eval` finds, as JSON: the name of the subcommand, the version of this form of the document, the input, the
-/// answer, and the filters. Where neither `traced` nor `trace.brief` asks for the filters, `null` stands in their
-/// place. An error where an allocation is refused.
 fn document_of(alloc: Global, traced: bool, trace: &Trace<'_>) -> Result<Document, sf_run::Fault>
     ensures { IfOk result (λ d. view d ≡ eval_document traced trace.now.brief trace.now.names.now
         trace.now.stack.now trace.now.input.now trace.now.answer) }
@@ -125,10 +116,8 @@ fn document_of(alloc: Global, traced: bool, trace: &Trace<'_>) -> Result<Documen
     Ok(Document::object(fields))
 }
 
-/// What `eval` finds, as JSON: the input, shown with these names of calls, and the stack's answer to it. Where `traced`
-/// or `brief` is set, each filter follows, newest first: what it returns and at which instruction, whether it is the
-/// newest one that returns the action of the stack's answer, and what it meets. Else `null` stands in place of the
-/// filters. With `brief`, comparisons that are false are left out. `Memory` where an allocation is refused.
+/// What `eval` finds, as JSON: the input, shown with these names of calls, the stack's answer to it, and where `traced`
+/// or `brief` is set, each filter, newest first, else `null`. With `brief`, comparisons that are false are left out.
 pub fn eval_document(
     alloc: Global,
     stack: &Stack,

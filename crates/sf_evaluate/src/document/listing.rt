@@ -9,7 +9,6 @@ use sf_check::{Program, Stack};
 use sf_json::{Document, Fields};
 use std::alloc::{AllocError, Global};
 
-/// The text of a filter's instructions, if `listed`; else the document `null`. An error where an allocation is refused.
 fn listing_of(alloc: Global, listed: bool, program: &Program) -> Result<Document, AllocError>
     ensures { IfOk result (λ d. AreListedLines listed program.now (view d)) }
 {
@@ -21,8 +20,6 @@ fn listing_of(alloc: Global, listed: bool, program: &Program) -> Result<Document
     Ok(Document::text(text))
 }
 
-/// The object of a filter: its number, how many instructions it has, and at `listing` the document that `listing_of`
-/// gives. An error where an allocation is refused.
 fn filter_object(
     alloc: Global,
     number: usize,
@@ -39,8 +36,6 @@ fn filter_object(
     Ok(Document::object(fields))
 }
 
-/// The object of the filter with this number: the number, how many instructions it has, and their listing if `listed`,
-/// else `null` in its place. An error where an allocation is refused.
 fn document_of(
     alloc: Global,
     listed: bool,
@@ -53,8 +48,6 @@ fn document_of(
     filter_object(alloc, number, program.insns().len(), listing)
 }
 
-/// The objects of all filters, in order of installation, numbered from 1, as `document_of` gives them. An error where
-/// an allocation is refused.
 fn filter_documents(
     alloc: Global,
     listed: bool,
@@ -70,10 +63,8 @@ fn filter_documents(
     Ok(documents)
 }
 
-/// What `check` finds of a stack, as JSON: the name of the subcommand, the version of this form of the document, an
-/// object for each filter, and the path length of the stack. The object of a filter has its number, how many
-/// instructions it has, and their listing where `listed` asks for it, else `null`. An error where an allocation is
-/// refused.
+/// What `check` finds of a stack, as JSON: an object for each filter, with its number, how many instructions it has,
+/// and their listing where `listed` asks for it, else `null`; and the path length of the stack.
 pub fn check_document(alloc: Global, stack: &Stack, listed: bool) -> Result<Document, AllocError>
     ensures { IfOk result (λ d. IsCheckDocument listed stack.now (view d)) }
 {

@@ -14,8 +14,6 @@ use sf_policy::WORD_KEYS;
 use sf_run::{Meeting, Met};
 use std::alloc::{AllocError, Global};
 
-/// The name of the word of the input at the place `word`, 0 to 15; an empty text for a higher place, and the document
-/// `null` where `word` is `None`. An error where an allocation is refused.
 fn word_name(alloc: Global, word: Option<u8>) -> Result<Document, AllocError>
     ensures { IfOk result (λ d. view d ≡ word_name word) }
 {
@@ -26,9 +24,7 @@ fn word_name(alloc: Global, word: Option<u8>) -> Result<Document, AllocError>
     Document::copy_of(alloc, name)
 }
 
-/// The object of a comparison: the place of its instruction; the name of the word that is compared, or `null`; the
-/// number that is compared, the sign and the other number; and whether it is true. An error where an allocation is
-/// refused.
+/// The object of a comparison.
 fn compared_document(alloc: Global, compared: &Comparison) -> Result<Document, AllocError>
     ensures { IfOk result (λ d. view d ≡ step_document compared.now.place
         (word_name compared.now.word) (word_of compared.now.value)
@@ -45,9 +41,7 @@ fn compared_document(alloc: Global, compared: &Comparison) -> Result<Document, A
     Ok(Document::object(fields))
 }
 
-/// The object of a return of A: the place of the instruction, and at `value` the number in A. It has all fields of a
-/// comparison, so that each object in `met` has the same ones; the others are `null`. An error where an allocation is
-/// refused.
+/// The object of a return of A. It has all fields of a comparison, so that each object in `met` has the same ones.
 fn returned_document(alloc: Global, place: usize, value: u32) -> Result<Document, AllocError>
     ensures { IfOk result (λ d. view d ≡ step_document place null
         (word_of value) null null null) }
@@ -62,8 +56,6 @@ fn returned_document(alloc: Global, place: usize, value: u32) -> Result<Document
     Ok(Document::object(fields))
 }
 
-/// The object of what a filter meets at an instruction. A division by X is shown as a comparison of X with 0. An error
-/// where an allocation is refused.
 fn meeting_document(alloc: Global, meeting: Meeting) -> Result<Document, AllocError>
     ensures { IfOk result (λ d. view d ≡ meeting_document meeting) }
 {
@@ -95,8 +87,6 @@ fn meeting_document(alloc: Global, meeting: Meeting) -> Result<Document, AllocEr
     }
 }
 
-/// Adds the document of what a filter meets at an instruction. If `brief`, adds nothing for a comparison that is false,
-/// as by `is_false`: also nothing for a division by an X that isn't 0. An error where an allocation is refused.
 fn push_shown(
     alloc: Global,
     documents: &mut Vec<Document>,
@@ -113,8 +103,7 @@ fn push_shown(
     Ok(())
 }
 
-/// The documents of what a filter meets, in order. If `brief`, the comparisons that are false are left out, as by
-/// `is_false`: also each division by an X that isn't 0. An error where an allocation is refused.
+/// The documents of what a filter meets, in order, without false comparisons if `brief`.
 pub(super) fn met_documents(
     alloc: Global,
     brief: bool,

@@ -3,7 +3,8 @@
 use super::kinds::Kind;
 use super::roles::{Role, file_at};
 use clap::ArgMatches;
-use sf_policy::{Fault, Refusal, WORD_KEYS};
+use sf_policy::{Refusal, WORD_KEYS};
+use sf_stack::Fault;
 use std::alloc::{AllocError, Global};
 use toml::Value;
 
@@ -21,23 +22,19 @@ const MEANT: [(&str, &str); 7] = [
 /// The numbers of 64 bits that a question has in two halves, each with a key of its own.
 const HALVED: [&str; 7] = ["ip", "arg0", "arg1", "arg2", "arg3", "arg4", "arg5"];
 
-/// What is said about a text that spells no input.
 const INPUT: &str =
     "128 digits without `0x` are wanted: the 64 bytes of struct seccomp_data, of each number the lowest byte first";
 
-/// A hint for a person.
 #[derive(Clone, Copy, Debug)]
 pub(crate) enum Hint {
-    /// This sentence.
     Sentence(&'static str),
     /// In place of the key that was written, this one may be meant.
     Meant(&'static str),
-    /// The key that was written is this one, which names a number of 64 bits: a question has a key for each half of it.
+    /// The key that was written names a number of 64 bits: a question has a key for each half of it.
     Halved(&'static str),
 }
 
 impl Hint {
-    /// Adds the line of the hint. An error where an allocation is refused.
     pub(crate) fn push(self, text: &mut String) -> Result<(), AllocError> {
         match self {
             Hint::Sentence(sentence) => write!(text, "hint: {sentence}\n"),
@@ -55,16 +52,15 @@ pub(crate) fn hint_of_input() -> Hint {
     Hint::Sentence(INPUT)
 }
 
-/// The hint for an unknown name of a call or of a set of calls, where the command line names no file of names.
+/// The hint for an unknown name, where the command line names no file of names.
 pub(crate) fn hint_of_unknown() -> Hint {
     Hint::Sentence(
         "a file of names has the sets of calls: `--names policies/names/x86_64.toml` has x86_64",
     )
 }
 
-/// Whether this fault fits a filter file in which the number of the instructions stands before them: the file's length
-/// is no multiple of 8, or one of its first two instructions has a wrong code or field. The number takes at most 16
-/// bytes, as two instructions do.
+/// Whether this fault fits a filter file in which the number of the instructions stands before them. It takes at most
+/// 16 bytes, as two instructions do.
 fn is_at_front(fault: &Fault) -> bool {
     match fault {
         Fault::Ragged { .. } => true,
@@ -73,8 +69,7 @@ fn is_at_front(fault: &Fault) -> bool {
     }
 }
 
-/// The hint for a file of this kind that is refused as a filter, for this fault. `None` for `Bytes`, which may be
-/// instructions; for `Counted`, where this fault doesn't fit a number before the instructions; and for `Empty`.
+/// The hint for a file of this kind that is refused as a filter.
 pub(crate) fn hint_of_filter(kind: Kind, fault: &Fault) -> Option<Hint> {
     let sentence = match kind {
         Kind::Json => "this is JSON: a profile becomes a filter by `seccomp_audit profile`",
@@ -93,8 +88,7 @@ pub(crate) fn hint_of_filter(kind: Kind, fault: &Fault) -> Option<Hint> {
     Some(Hint::Sentence(sentence))
 }
 
-/// The hint for a file of this kind that is refused as a file of names. `None` where the file seems to be a file of
-/// names, for a text of no known kind, and for an empty file.
+/// The hint for a file of this kind that is refused as a file of names.
 pub(crate) fn hint_of_names(kind: Kind) -> Option<Hint> {
     let sentence = match kind {
         Kind::Json => "this is JSON, and a file of names is TOML, as policies/names/x86_64.toml is",
@@ -107,8 +101,7 @@ pub(crate) fn hint_of_names(kind: Kind) -> Option<Hint> {
     Some(Hint::Sentence(sentence))
 }
 
-/// The hint for a file of this kind that is refused as a profile. `None` for JSON, which is what a profile is, for a
-/// file of names, and for an empty file.
+/// The hint for a file of this kind that is refused as a profile.
 pub(crate) fn hint_of_profile(kind: Kind) -> Option<Hint> {
     let sentence = match kind {
         Kind::Policy => "this is a policy: `audit --policy` takes it",
@@ -121,21 +114,13 @@ pub(crate) fn hint_of_profile(kind: Kind) -> Option<Hint> {
     Some(Hint::Sentence(sentence))
 }
 
-/// The hint for a file that can't be read: the sentence `ready`, which says what file is wanted. It is given where
-/// `path` has no `/`, since a name may have been given in place of a path. It is also given where `reason`, the
-/// system's words, says that the path is that of a folder. Else `None`.
-fn hint_of_unread(path: &str, reason: &str, ready: &'static str) -> Option<Hint> {
+/// The hint for the file at a place, from 0, that can't be read: what kind of file is wanted. There is one where a name
+/// may have been given in place of a path (it has no `/`), or the path is that of a folder.
+pub(crate) fn hint_of_read(found: &ArgMatches<'_>, place: usize, reason: &str) -> Option<Hint> {
+    let (role, path) = file_at(found, place)?;
     if path.contains('/') && !reason.starts_with("Is a directory") {
         return None;
     }
-    Some(Hint::Sentence(ready))
-}
-
-/// The hint for a file that can't be read: what kind of file is wanted. `place` is the file's, from 0, among all files
-/// that are read, and `reason` says why the file can't be read. `None` for a filter or a profile, where no file is at
-/// the place, and where `hint_of_unread` gives `None`.
-pub(crate) fn hint_of_read(found: &ArgMatches<'_>, place: usize, reason: &str) -> Option<Hint> {
-    let (role, path) = file_at(found, place)?;
     let ready = match role {
         Role::Names => "a file of names is wanted, as policies/names/x86_64.toml is one",
         Role::Policy => "a policy file is wanted, as policies/x86_64.toml is one",
@@ -143,11 +128,10 @@ pub(crate) fn hint_of_read(found: &ArgMatches<'_>, place: usize, reason: &str) -
         Role::Accept => "a file is wanted with the name of a question on each line",
         Role::Filter | Role::Profile => return None,
     };
-    hint_of_unread(path, reason, ready)
+    Some(Hint::Sentence(ready))
 }
 
-/// The hint for a file of this kind that is refused as a policy. `None` where the file seems to be a policy, for a text
-/// of no known kind, and for an empty file.
+/// The hint for a file of this kind that is refused as a policy.
 fn hint_of_policy_file(kind: Kind) -> Option<Hint> {
     let sentence = match kind {
         Kind::Json => "this is JSON, and a policy is TOML, as policies/x86_64.toml is",
@@ -160,13 +144,11 @@ fn hint_of_policy_file(kind: Kind) -> Option<Hint> {
     Some(Hint::Sentence(sentence))
 }
 
-/// Whether a question may have this key.
 fn is_key_of_question(key: &str) -> bool {
     key == "name" || key == "actions" || WORD_KEYS.iter().any(|known| *known == key)
 }
 
-/// The key of a question that is meant by `key`: the one that `MEANT` has for it, or else the key of a word that equals
-/// it. Capitals count as small letters in both cases. `None` where there is neither.
+/// The key of a question that is meant by `key`. Capitals count as small letters.
 fn key_meant_by(key: &str) -> Option<&'static str> {
     for (written, meant) in MEANT {
         if key.eq_ignore_ascii_case(written) {
@@ -178,7 +160,6 @@ fn key_meant_by(key: &str) -> Option<&'static str> {
         .find(|known| key.eq_ignore_ascii_case(*known))
 }
 
-/// The hint for an unknown key of a question; `None` where it isn't known which key is meant.
 fn meant_by(key: &str) -> Option<Hint> {
     for halved in HALVED {
         if key.eq_ignore_ascii_case(halved) {
@@ -188,8 +169,8 @@ fn meant_by(key: &str) -> Option<Hint> {
     key_meant_by(key).map(|meant| Hint::Meant(meant))
 }
 
-/// The hint for a key that is refused at the top of a policy. `key` is `question` where there are no questions, or
-/// where they are no array of tables.
+/// The hint for a key that is refused at the top of a policy. `key` is `question` where the questions are missing or
+/// wrong.
 fn hint_of_top_key(key: &str) -> Hint {
     match key {
         "question" => Hint::Sentence("each question begins with the line `[[question]]`"),
@@ -201,8 +182,7 @@ fn hint_of_top_key(key: &str) -> Hint {
     }
 }
 
-/// The sentence of the hint for a value that is refused with the fault `Key`. `key` is its key, that of a word of the
-/// input. The value is of a wrong kind, or it is an array or a table whose parts are wrong; version 1 has no tables.
+/// The sentence of the hint for a value of a word that is refused with the fault `Key`.
 fn sentence_of_word(refusal: &Refusal, key: &str, value: &Value) -> &'static str {
     match value {
         Value::Table(_) if has_version_1(refusal) => {
@@ -219,7 +199,6 @@ fn sentence_of_word(refusal: &Refusal, key: &str, value: &Value) -> &'static str
     }
 }
 
-/// Whether a policy names version 1. It is false where `read` has no tree: the text is no TOML, or memory ran out.
 fn has_version_1(refusal: &Refusal) -> bool {
     match &refusal.read {
         Ok(tree) => matches!(tree.get("version"), Some(Value::Integer(1))),
@@ -240,9 +219,8 @@ fn hint_of_question_key(refusal: &Refusal, key: &str, value: &Value) -> Hint {
     }
 }
 
-/// The hint for the value of a word that is refused with the fault `Range`; `key` is the word's key. A value that is a
-/// single number is negative then, or has more than 32 bits. `None` where the value is an array or a table, and where
-/// a number at `nr` or `arch` is too large: these words are no halves of a longer number.
+/// The hint for the value of a word that is refused with the fault `Range`. A single number is negative then, or has
+/// more than 32 bits. `nr` and `arch` are no halves of a longer number.
 fn hint_of_range(key: &str, value: &Value) -> Option<Hint> {
     match value {
         Value::Integer(number) if *number < 0 => Some(Hint::Sentence(
@@ -255,8 +233,7 @@ fn hint_of_range(key: &str, value: &Value) -> Option<Hint> {
     }
 }
 
-/// The hint for a policy that is refused at this key, which stands there with this value. `None` where the fault is
-/// none of `TopKey`, `Key`, `Range` and `Actions`, and where `hint_of_range` gives `None`.
+/// The hint for a policy that is refused at this key with this value.
 fn hint_of_key(refusal: &Refusal, key: &str, value: &Value) -> Option<Hint> {
     match refusal.fault {
         Fault::TopKey => Some(hint_of_top_key(key)),
@@ -269,9 +246,7 @@ fn hint_of_key(refusal: &Refusal, key: &str, value: &Value) -> Option<Hint> {
     }
 }
 
-/// The hint for a policy that is refused, by its fault: for a missing or unknown version, for a lack of questions, or
-/// for the key that is refused. `None` where the text is no TOML, where another key is missing, and where `hint_of_key`
-/// gives `None`. An error only where an allocation is refused.
+/// The hint for a policy that is refused, by its fault.
 fn hint_of_refusal(alloc: Global, refusal: &Refusal) -> Result<Option<Hint>, AllocError> {
     if refusal.fault == Fault::Version {
         return Ok(Some(Hint::Sentence("a policy begins with `version = 2`")));
@@ -289,9 +264,7 @@ fn hint_of_refusal(alloc: Global, refusal: &Refusal) -> Result<Option<Hint>, All
     }
 }
 
-/// The hint for a file of this kind that is refused as a policy: that of `hint_of_policy_file`, or else that of
-/// `hint_of_refusal`, where the refusal is known. `None` where there is neither. An error only where an allocation is
-/// refused.
+/// The hint for a file that is refused as a policy, by its kind or by the refusal.
 pub(crate) fn hint_of_policy(
     alloc: Global,
     kind: Kind,

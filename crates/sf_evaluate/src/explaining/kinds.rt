@@ -1,9 +1,7 @@
 //! What the content of a file seems to be, mostly from how it begins. It is for a person, so no contract speaks of it.
 
-/// What a file seems to hold.
 #[derive(Clone, Copy, Debug, PartialEq, Eq)]
 pub(crate) enum Kind {
-    /// Nothing.
     Empty,
     /// The bytes of instructions, or others that are no text.
     Bytes,
@@ -11,22 +9,17 @@ pub(crate) enum Kind {
     BigEndian,
     /// The number of the instructions, and then the instructions, as `struct sock_fprog` has them.
     Counted,
-    /// A program or a library in the format ELF.
     Elf,
-    /// JSON.
     Json,
-    /// A policy.
     Policy,
-    /// A file of names.
     Names,
-    /// Another text.
     Text,
 }
 
 /// The most bytes at the front of a file that are looked at to see whether it is a text.
 const FRONT: usize = 64;
 
-/// These bytes of a text, but not the byte order mark of UTF-8 where they begin with it: the mark belongs to no line.
+/// A text without a byte order mark of UTF-8, which belongs to no line.
 pub(crate) fn bytes_of_text(bytes: &[u8]) -> &[u8] {
     match bytes {
         [0xEF, 0xBB, 0xBF, rest @ ..] => rest,
@@ -34,15 +27,13 @@ pub(crate) fn bytes_of_text(bytes: &[u8]) -> &[u8] {
     }
 }
 
-/// Whether bytes begin like a text: none of the first `FRONT` bytes is below 0x20, but for white space. The bytes of a
-/// filter never begin so, since the second byte of each permitted code is 0.
+/// Whether bytes begin like a text. Those of a filter never do, since the second byte of each permitted code is 0.
 fn is_text(bytes: &[u8]) -> bool {
     let mut front = bytes.iter().take(FRONT);
     front.all(|byte| 0x20 <= *byte || byte.is_ascii_whitespace())
 }
 
-/// Whether the number of the instructions seems to stand before them, in 2, 4, 8 or 16 bytes. The first two bytes, the
-/// low one first, are then a number above 0, and as many instructions of 8 bytes fill the rest of the file.
+/// Whether the number of the instructions seems to stand before them, in 2, 4, 8 or 16 bytes, the low byte first.
 fn is_counted(bytes: &[u8]) -> bool {
     let [low, high, ..] = bytes else {
         return false;
@@ -52,8 +43,7 @@ fn is_counted(bytes: &[u8]) -> bool {
     count != 0 && matches!(bytes.len().checked_sub(length), Some(2 | 4 | 8 | 16))
 }
 
-/// The line at a place, without the blanks around it; empty where there is none. Only lines that are neither blank nor
-/// a comment of TOML have a place; the first one has the place 0.
+/// The line at a place, from 0, without the blanks around it. Blank lines and comments of TOML have no place.
 fn line_at(text: &str, place: usize) -> &str {
     let mut left = place;
     for line in text.lines() {
@@ -68,14 +58,12 @@ fn line_at(text: &str, place: usize) -> &str {
     ""
 }
 
-/// Whether a line begins with `arch` or `calls`, as the keys of a set of calls do.
 fn is_of_set(line: &str) -> bool {
     line.starts_with("arch") || line.starts_with("calls")
 }
 
-/// What a text seems to be, by its first two lines, as `line_at` gives them. The second one counts only where the first
-/// one is a header, which begins with `[`: a file of several sets of calls begins with the header of a set, and a key
-/// of the set follows.
+/// What a text seems to be, by its first two lines. The second one counts only behind a header: a file of several sets
+/// of calls begins with one, and a key of the set follows.
 fn kind_of_lines(line: &str, next: &str) -> Kind {
     if line.starts_with('{') || line.starts_with("[{") || line == "[" {
         return Kind::Json;
@@ -93,9 +81,8 @@ fn kind_of_lines(line: &str, next: &str) -> Kind {
     }
 }
 
-/// What a file with these bytes seems to hold. A text that isn't UTF-8 is `Text`. The high byte of each permitted code
-/// is 0: where a 0 stands first and another number behind it, and the length is a multiple of 8, the instructions seem
-/// to be big-endian.
+/// What a file seems to hold. The high byte of each permitted code is 0: where a 0 stands first and another number
+/// behind it, and the length is a multiple of 8, the instructions seem to be big-endian.
 pub(crate) fn kind_of(bytes: &[u8]) -> Kind {
     if bytes.is_empty() {
         return Kind::Empty;

@@ -1,9 +1,8 @@
 //! What a fault means, in words for a person.
 
 use super::roles::Role;
-use sf_policy::Fault;
+use sf_stack::Fault;
 
-/// What a fault means, without the end of a line. Faults that share a number may have different words.
 pub(crate) fn meaning_of(fault: &Fault) -> &'static str {
     match fault {
         Fault::Ragged { .. } => "the length of the file is no multiple of 8",
@@ -51,8 +50,7 @@ pub(crate) fn meaning_of(fault: &Fault) -> &'static str {
     }
 }
 
-/// What the fault `Syntax` means for a file that was read in this role. `Syntax` never comes for a filter or a profile,
-/// which get the words for a policy here.
+/// What `Syntax` means for a file that was read in this role. It never comes for a filter or a profile.
 pub(crate) fn meaning_of_syntax(role: Role) -> &'static str {
     match role {
         Role::Names => "the file of names is no UTF-8 or no TOML",
@@ -61,9 +59,7 @@ pub(crate) fn meaning_of_syntax(role: Role) -> &'static str {
     }
 }
 
-/// What a fault of `sf_profile` means, in words for a person, without a line break at the end. The number of the rule
-/// isn't in it. It doesn't name every cause: `Key` comes also where the file has no profile, and `Set` also where the
-/// calls of a set are given more than once.
+/// What a fault of a profile means. Not every cause is named: `Key` comes also where the file has no profile.
 pub(crate) fn meaning_of_refusal(refusal: sf_profile::Fault) -> &'static str {
     match refusal {
         sf_profile::Fault::TooLong => "the filter of the profile has more than 4096 instructions",

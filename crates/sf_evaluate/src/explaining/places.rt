@@ -1,42 +1,40 @@
 //! On which line of a policy a key or a question stands. The tokens of the policy are read for it once more. It is for
 //! a person, so no contract speaks of it.
+//!
+//! A policy here has no byte order mark. Where memory runs out, what is looked for may not be found.
 
 use std::alloc::{AllocError, Global};
 use toml_parser::text::{first, skip, skip_blank, skip_ws};
 use toml_parser::{Key, dotted_key, quoted, starts_string, unquoted};
 
 /// How far the tokens of a policy were read, and what is looked for: a key of a question, a key at the top, or a
-/// question itself. Nothing is looked for where `question` and `key` are both `None`.
+/// question itself.
 #[derive(Drop)]
 struct Reading<'a> {
-    /// The number, from 1, of the question that is looked for, or of the one whose key is looked for; `None` where a
-    /// key at the top is looked for.
+    /// The number, from 1, of the question that is looked for, or of the one whose key is.
     question: Option<usize>,
-    /// The key that is looked for; `None` where a question itself is looked for.
+    /// The key that is looked for; `None` where a question itself is.
     key: Option<&'a str>,
     /// Whether no header was read yet, so that keys stand at the top.
     is_top: bool,
-    /// How many arrays and tables are open: brackets that were opened and not closed.
+    /// How many brackets are open.
     depth: usize,
     /// The depth at which a key is that of a question: 0 below `[[question]]`, and 2 in a table of
-    /// `question = [{ .. }]`. None where no key is that of a question.
+    /// `question = [{ .. }]`.
     depth_of_questions: Option<usize>,
-    /// How many questions have begun.
     questions: usize,
 }
 
-/// The part of a dotted key at a place, counted from 0; the last part where the key has none at this place.
+/// The part of a dotted key at a place, or its last part.
 fn part_of(key: &Key, place: usize) -> &str {
     key.path.get(place).unwrap_or(&key.last).as_str()
 }
 
-/// Whether a key is `question`, which begins the questions.
 fn is_question(key: &Key) -> bool {
     key.path.is_empty() && key.last.as_str() == "question"
 }
 
-/// The key at the head of a text, and the text from its value on. `None` where no key with a value stands there, and
-/// where an allocation is refused.
+/// The key at the head of a text, and the text from its value on.
 fn key_and_value(alloc: Global, text: &str) -> Option<(Key, &str)> {
     let (key, rest) = dotted_key(alloc, text).ok()?;
     if first(rest) == b'=' {
@@ -46,20 +44,30 @@ fn key_and_value(alloc: Global, text: &str) -> Option<(Key, &str)> {
     }
 }
 
+/// The reading of a policy from its start.
+fn reading_for<'a>(question: Option<usize>, key: Option<&'a str>) -> Reading<'a> {
+    Reading {
+        question,
+        key,
+        is_top: true,
+        depth: 0,
+        depth_of_questions: None,
+        questions: 0,
+    }
+}
+
 impl Reading<'_> {
-    /// Whether this key of the question that began last is looked for; without a key, whether that question itself is.
+    /// Whether this key of the question that began last, or without a key that question itself, is looked for.
     fn is_of_question(&self, key: Option<&str>) -> bool {
         self.question == Some(self.questions) && self.key == key
     }
 
-    /// Whether this key at the top is looked for.
     fn is_at_top(&self, key: &str) -> bool {
         self.question.is_none() && self.key == Some(key)
     }
 
     /// Reads a key that stands before a value, and says whether it is looked for. Of a dotted key only the first part
-    /// is compared. A key at the top also sets `depth_of_questions`: to 2 where the key is `question`, since the tables
-    /// of `question = [{ .. }]` are questions, else to `None`.
+    /// is compared.
     fn take_key(&mut self, key: &Key) -> bool {
         if self.is_top && self.depth == 0 {
             self.depth_of_questions = if is_question(key) { Some(2) } else { None };
@@ -68,9 +76,8 @@ impl Reading<'_> {
         self.depth_of_questions == Some(self.depth) && self.is_of_question(Some(part_of(key, 0)))
     }
 
-    /// Reads the key of a header, which stands as `[key]`, or where `is_array` as `[[key]]`. Says whether what is
-    /// looked for stands there: a question that begins, a key at the top, or as in `[question.nr]` a key of the
-    /// question that began last. The keys behind a header are those of a question only where it is `[[question]]`.
+    /// Reads the key of a header, `[key]`, or where `is_array` `[[key]]`, and says whether what is looked for stands
+    /// there. The keys behind `[[question]]` are those of a question.
     fn take_header(&mut self, key: &Key, is_array: bool) -> bool {
         self.is_top = false;
         self.depth_of_questions = None;
@@ -82,23 +89,21 @@ impl Reading<'_> {
             || part_of(key, 0) == "question" && self.is_of_question(Some(part_of(key, 1)))
     }
 
-    /// Begins a question, and says whether it is looked for.
     fn begin_question(&mut self) -> bool {
         self.questions = self.questions.saturating_add(1);
         self.is_of_question(None)
     }
 
-    /// Reads an opening bracket, `[` or `{`, and says whether a question that is looked for begins there. One begins at
-    /// the `{` of each table in `question = [{ .. }]`.
+    /// Reads an opening bracket, and says whether a question that is looked for begins there, as at each `{` in
+    /// `question = [{ .. }]`.
     fn open(&mut self, bracket: u8) -> bool {
         let begins = bracket == b'{' && self.depth == 1 && self.depth_of_questions == Some(2);
         self.depth = self.depth.saturating_add(1);
         begins && self.begin_question()
     }
 
-    /// Reads the token at the head of a text. The caller has skipped the blanks, ends of lines and comments before it.
-    /// Gives whether what is looked for stands there, and the text behind the token. `None` where no token can be read;
-    /// it can be `None` too where an allocation is refused.
+    /// Reads the token at the head of a text that begins with none of blanks, ends of lines and comments. Gives whether
+    /// what is looked for stands there, and the text behind the token.
     ///
     /// A key and its `=` are one token, and a `[` behind the `=` belongs to it too. Any other `[` begins a header where
     /// no bracket is open. The token of a header ends before its closing brackets, which are tokens themselves.
@@ -131,26 +136,15 @@ impl Reading<'_> {
     }
 }
 
-/// The number, from 1, of the line of a policy on which a key stands: a key of the question with this number, from 1,
-/// or where `question` is `None`, a key at the top. Where `key` is `None`, it is the line on which the question begins.
-///
-/// `None` where this isn't found, as where a token before it can't be read, or where both are `None`; it can be `None`
-/// too where an allocation is refused. The caller's condition: `policy` begins with no byte order mark, which would be
-/// such a token.
+/// The number, from 1, of the line of a policy on which a key of the question with this number, from 1, or without a
+/// number a key at the top stands. Without a key it is the line on which the question begins.
 pub fn line_of(
     alloc: Global,
     policy: &str,
     question: Option<usize>,
     key: Option<&str>,
 ) -> Option<usize> {
-    let mut reading = Reading {
-        question,
-        key,
-        is_top: true,
-        depth: 0,
-        depth_of_questions: None,
-        questions: 0,
-    };
+    let mut reading = reading_for(question, key);
     let mut rest = policy;
     // Each token has a byte at least, so there are no more tokens than bytes.
     for _ in 0..policy.len() {
@@ -165,30 +159,19 @@ pub fn line_of(
     None
 }
 
-/// How many lines end in the first `length` bytes of a text.
 fn count_ends(text: &str, length: usize) -> usize {
     let front = text.as_bytes().iter().take(length);
     front.filter(|byte| **byte == b'\n').count()
 }
 
-/// The numbers, from 1, of the lines on which the questions of a policy begin, in their order. The list ends early
-/// where a token can't be read; it can end early too where an allocation is refused while one is read. An error where
-/// an allocation is refused for the list itself. The caller's condition: `policy` begins with no byte order mark, which
-/// would be a token that can't be read.
+/// The numbers, from 1, of the lines on which the questions of a policy begin. The list ends early where a token can't
+/// be read.
 pub fn lines_of_questions(alloc: Global, policy: &str) -> Result<Vec<usize>, AllocError> {
     // Nothing is looked for: this reading only counts the questions that have begun.
-    let mut reading = Reading {
-        question: None,
-        key: None,
-        is_top: true,
-        depth: 0,
-        depth_of_questions: None,
-        questions: 0,
-    };
+    let mut reading = reading_for(None, None);
     let mut lines = Vec::new(alloc);
     let mut line = 1usize;
     let mut rest = policy;
-    // Each token has a byte at least, so there are no more tokens than bytes.
     for _ in 0..policy.len() {
         let start = skip_blank(rest, true);
         line = line.saturating_add(count_ends(rest, rest.len().saturating_sub(start.len())));

@@ -2,15 +2,15 @@
 //! terminal obeys or hides are replaced.
 
 use super::places::{line_of, position_of};
-use sf_policy::{Fault, MOST_QUESTIONS, Refusal};
+use sf_policy::{MOST_QUESTIONS, Refusal};
+use sf_stack::Fault;
 use std::alloc::{AllocError, Global};
 use toml::de::Error;
 
 /// The most characters of a line, a name or a key that are shown.
 const MOST_CHARACTERS: usize = 160;
 
-/// The first `MOST_CHARACTERS` characters of a text, or all where it has fewer; and the mark behind them: ` ..` where
-/// the text was cut there, else an empty text. An error where an allocation is refused.
+/// The first `MOST_CHARACTERS` characters of a text; and the mark behind them, ` ..`, where the text was cut.
 fn front_of(alloc: Global, text: &str) -> Result<(String, &'static str), AllocError> {
     let mut front = String::new(alloc);
     for character in text.chars().take(MOST_CHARACTERS) {
@@ -20,9 +20,7 @@ fn front_of(alloc: Global, text: &str) -> Result<(String, &'static str), AllocEr
     Ok((front, mark))
 }
 
-/// Adds a character of a line: a blank for a control character, and any other ASCII character as it is. Of a character
-/// that is neither, it adds what `escape_debug` gives: the character itself, or the number of one that can't be seen by
-/// itself, as `\u{200b}`. An error where an allocation is refused.
+/// Adds a character of a line: a blank for a control character, and as `\u{200b}` one that can't be seen by itself.
 fn push_character(text: &mut String, character: char) -> Result<(), AllocError> {
     if character.is_control() {
         return text.push(' ');
@@ -39,25 +37,20 @@ fn push_character(text: &mut String, character: char) -> Result<(), AllocError> 
 /// A policy that is refused, and the text that gets what is shown of it.
 #[derive(Drop)]
 pub struct Page<'a> {
-    /// The allocator of what is added.
     pub alloc: Global,
-    /// The text to which lines are added.
     pub text: &'a mut String,
-    /// The text of the policy, without a byte order mark.
+    /// Without a byte order mark.
     pub policy: &'a str,
 }
 
 impl Page<'_> {
-    /// Adds a name or a key in quotes, with escapes, cut as by `front_of`, and the end of the line. An error where an
-    /// allocation is refused.
+    /// Adds a name or a key in quotes, with escapes, cut as by `front_of`, and the end of the line.
     fn push_quoted(&mut self, quoted: &str) -> Result<(), AllocError> {
         let (front, mark) = front_of(self.alloc, quoted)?;
         write!(self.text, "{front:?}{mark}\n")
     }
 
-    /// Adds `: ` and the text of the policy's line with this number, from 1, and the end of the line. The number 0 is
-    /// taken as 1. The text is cut as by `front_of`, and its characters are added by `push_character`. It is empty
-    /// where the policy has fewer lines. An error where an allocation is refused.
+    /// Adds `: ` and the text of the policy's line with this number, from 1, cut as by `front_of`.
     fn push_line(&mut self, number: usize) -> Result<(), AllocError> {
         let lines = &mut self.policy.lines();
         let line = lines.nth(number.saturating_sub(1)).unwrap_or("");
@@ -69,9 +62,7 @@ impl Page<'_> {
         write!(self.text, "{mark}\n")
     }
 
-    /// Adds the number and the text of the line that `line_of` finds: the one on which a key stands, or without a key
-    /// the one on which a question begins. Without a question's number the key is one at the top. Nothing is added
-    /// where no line is found. An error only where an allocation is refused.
+    /// Adds the number and the text of the line that `line_of` finds, if it finds one.
     fn push_place(&mut self, question: Option<usize>, key: Option<&str>) -> Result<(), AllocError> {
         let Some(number) = line_of(self.alloc, self.policy, question, key) else {
             return Ok(());
@@ -80,10 +71,8 @@ impl Page<'_> {
         self.push_line(number)
     }
 
-    /// Adds why the policy is no TOML; then the line and the column at which it is none, and the text of this line.
-    /// `hidden` is the length in bytes of the byte order mark before the policy's text: the place of `error` counts
-    /// these bytes too. An error where an allocation is refused, or was while the policy was read, so that `error` has
-    /// no place.
+    /// Adds why the policy is no TOML, the line and the column of the error, and the text of this line. `hidden` is the
+    /// length in bytes of the byte order mark, which the place of `error` counts too.
     fn push_syntax(&mut self, error: &Error, hidden: usize) -> Result<(), AllocError> {
         let Some(span) = error.span() else {
             return Err(AllocError);
@@ -94,10 +83,8 @@ impl Page<'_> {
         self.push_line(line)
     }
 
-    /// Adds the key that is refused, and the line on which it stands. Where it is missing, adds that there is no such
-    /// key, and the line on which its question begins, or no line where the key would stand at the top. No line is
-    /// added where `line_of` finds none. The caller has seen that `refusal.read` has a tree. An error only where an
-    /// allocation is refused.
+    /// Adds the key that is refused, and the line on which it stands, or that it is missing, and the line on which its
+    /// question begins.
     fn push_key(&mut self, refusal: &Refusal) -> Result<(), AllocError> {
         let key = refusal.key(self.alloc)?;
         let question = refusal.question();
@@ -111,13 +98,9 @@ impl Page<'_> {
         self.push_place(question, None)
     }
 
-    /// Adds where the policy is refused, as far as that is known. Where the policy is no TOML, these are the lines of
-    /// `push_syntax`. Where it has too many questions, they say how many there are, and show the line of the first
-    /// question that is too many. Else they have the number of the question that is refused, if one is, with its name,
-    /// if it has one; and then come the lines of `push_key`.
-    ///
-    /// `hidden` is the length in bytes of the byte order mark before the policy's text. An error only where an
-    /// allocation is refused, or was while the policy was read.
+    /// Adds where the policy is refused, as far as that is known: where it is no TOML, by `push_syntax`; where it has
+    /// too many questions, by the first that is too many; else by the question that is refused, if one is, and by
+    /// `push_key`. `hidden` is as there.
     pub fn push_refusal(&mut self, refusal: &Refusal, hidden: usize) -> Result<(), AllocError> {
         if let Err(error) = &refusal.read {
             return self.push_syntax(error, hidden);

@@ -7,17 +7,13 @@ use clap::ArgMatches;
 use sf_command_line::text_of;
 use std::alloc::{AllocError, Global};
 
-/// A set of calls of a file of names that is none of the five of `CallSet`.
 #[derive(Drop)]
 pub(crate) struct OtherSet {
-    /// Its place among all sets, counted from 0.
     pub(crate) place: usize,
-    /// Its name.
     pub(crate) name: String,
 }
 
-/// Adds the line of the file of names that has the set `other`, and the line of this set where the file has several. An
-/// error where an allocation is refused, or was before, so that the notes don't know which file it is.
+/// Adds the line of the file of names that has the set `other`, and the line of this set where the file has several.
 fn push_unknown_set(
     text: &mut String,
     found: &ArgMatches<'_>,
@@ -27,10 +23,8 @@ fn push_unknown_set(
     let Some((file, count)) = notes.file_of_set(other.place) else {
         return Err(AllocError);
     };
-    let path = match found.get_strs("names").unwrap_or(&[]).get(file) {
-        Some(path) => *path,
-        None => "",
-    };
+    let paths = found.get_strs("names").unwrap_or(&[]);
+    let path = paths.get(file).copied().unwrap_or("");
     write!(text, "names {path:?}\n")?;
     if count > 1 {
         let set = &other.name;
@@ -40,7 +34,6 @@ fn push_unknown_set(
 }
 
 /// Adds the line of the profile, and those of the key for which it is refused and of the reason, where they are known.
-/// An error where there was no memory to keep them, or an allocation is refused.
 fn push_refused_profile(
     text: &mut String,
     found: &ArgMatches<'_>,
@@ -60,8 +53,7 @@ fn push_refused_profile(
     Ok(())
 }
 
-/// Adds the lines of what `profile` refuses: of the set of calls that the notes have as `other`, or else of the
-/// profile. An error where there was no memory to keep which set or key it is, or an allocation is refused.
+/// Adds the lines of what `profile` refuses: a set of calls, or the profile.
 fn push_profile(
     text: &mut String,
     found: &ArgMatches<'_>,
@@ -75,8 +67,7 @@ fn push_profile(
 }
 
 /// The lines that explain why a profile is refused: the set of names or the key at fault, what the fault means, and a
-/// hint where the profile itself is refused, if there is one. An error only where an allocation is refused, or was
-/// refused before, so that the notes lack the set or the key.
+/// hint.
 pub(crate) fn refusal_text(
     alloc: Global,
     found: &ArgMatches<'_>,

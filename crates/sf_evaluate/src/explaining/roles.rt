@@ -1,27 +1,21 @@
 //! Which file stands at a place, among all files that are read. It is for a person, so no contract speaks of it.
 
 use clap::ArgMatches;
-use sf_policy::Fault;
+use sf_stack::Fault;
 
-/// What a file is read as.
 #[derive(Clone, Copy, Debug, PartialEq, Eq)]
 pub(crate) enum Role {
-    /// A file of names.
     Names,
     /// A policy that asks questions.
     Policy,
-    /// The policy of the control.
     Control,
     /// The file of the questions that may be allowed.
     Accept,
-    /// A filter.
     Filter,
-    /// A profile.
     Profile,
 }
 
-/// The names of the options and other arguments that name files, and what these files are read as, in the order in
-/// which they are read.
+/// The arguments that name files, and what these are read as, in the order in which they are read.
 const READ: [(&str, Role); 8] = [
     ("names", Role::Names),
     ("policy", Role::Policy),
@@ -33,7 +27,6 @@ const READ: [(&str, Role); 8] = [
     ("profile", Role::Profile),
 ];
 
-/// How many of the files that the command line names are read in this role.
 pub(crate) fn count_of(found: &ArgMatches<'_>, role: Role) -> usize {
     let mut count = 0usize;
     for (name, of) in READ {
@@ -44,15 +37,13 @@ pub(crate) fn count_of(found: &ArgMatches<'_>, role: Role) -> usize {
     count
 }
 
-/// How many files are read before the filters.
 pub(crate) fn count_before_filters(found: &ArgMatches<'_>) -> usize {
     let policies = count_of(found, Role::Policy).saturating_add(count_of(found, Role::Control));
     let others = count_of(found, Role::Names).saturating_add(count_of(found, Role::Accept));
     policies.saturating_add(others)
 }
 
-/// What the file at a place is read as, and its path. Places count from 0, in the order in which all files are read.
-/// `None` where there is no such file.
+/// What the file at a place, from 0, in the order in which all files are read, is read as, and its path.
 pub(crate) fn file_at<'a>(found: &ArgMatches<'a>, place: usize) -> Option<(Role, &'a str)> {
     let mut place = place;
     for (name, role) in READ {
@@ -65,14 +56,18 @@ pub(crate) fn file_at<'a>(found: &ArgMatches<'a>, place: usize) -> Option<(Role,
     None
 }
 
-/// The path of the filter at a place, counted from 0 among all filters; empty where there is none. The old filters of a
-/// comparison stand before the new ones. The caller's condition: the matches aren't those of `profile`, which has no
-/// filters; for them the path at place 0 is the profile's.
-pub(crate) fn filter_path<'a>(found: &ArgMatches<'a>, place: usize) -> &'a str {
-    match file_at(found, count_before_filters(found).saturating_add(place)) {
+/// The path of the file at a place, as by `file_at`; empty where there is none.
+pub(crate) fn path_at<'a>(found: &ArgMatches<'a>, place: usize) -> &'a str {
+    match file_at(found, place) {
         Some((_, path)) => path,
         None => "",
     }
+}
+
+/// The path of the filter at a place, from 0 among all filters, old ones before new ones; empty where there is none.
+/// The subcommand `profile` has no filters.
+pub(crate) fn filter_path<'a>(found: &ArgMatches<'a>, place: usize) -> &'a str {
+    path_at(found, count_before_filters(found).saturating_add(place))
 }
 
 /// Which of the policies is refused.
@@ -82,13 +77,11 @@ pub(crate) enum Which {
     Only,
     /// One of several that ask questions, by its number from 1.
     Number(usize),
-    /// That of the control.
     Control,
 }
 
-/// Whether a policy can be refused for a fault. A file of names or of questions that may be allowed can be refused for
-/// `Syntax` too.
-fn is_of_policy(fault: &Fault) -> bool {
+/// Whether a policy can be refused for a fault. Other files can be refused for `Syntax` too.
+pub(crate) fn is_of_policy(fault: &Fault) -> bool {
     matches!(
         fault,
         Fault::Version
@@ -103,10 +96,8 @@ fn is_of_policy(fault: &Fault) -> bool {
     )
 }
 
-/// Which of the policies is refused for a fault. `read` is how many files had been read when the fault came. Where a
-/// policy can be refused for the fault, it is the file that was read last, if this is a policy. `Only` where no policy
-/// can be refused for the fault, where the file that was read last is no policy, and where this file is the only policy
-/// that asks questions.
+/// Which of the policies is refused for a fault that came when `read` files had been read: the file that was read last,
+/// if it is a policy, and a policy can be refused for the fault.
 pub(crate) fn which_policy(found: &ArgMatches<'_>, fault: &Fault, read: usize) -> Which {
     let place = read.saturating_sub(1);
     if !is_of_policy(fault) {

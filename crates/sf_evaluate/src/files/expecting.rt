@@ -3,7 +3,7 @@
 ghost use Rattle.std.specs.Prelude.{◌≡◌, ◌⊎◌, ℕ, List, None, Some, codes, map, option_map, string_bytes, IfOk, IfErr};
 ghost use Rattle.clap.specs.Words.{found_of, rows_of};
 ghost use Rattle.sf_policy.specs.Accepted.{AreAccepted};
-ghost use Rattle.sf_policy.specs.declared.fault.Fault.TheVariants.{Memory as MemoryFault, Read as ReadFault};
+ghost use Rattle.sf_stack.specs.declared.fault.Fault.TheVariants.{Memory as MemoryFault, Read as ReadFault};
 ghost use Rattle.sf_command_line.specs.Options.{paths_of};
 ghost use Rattle.sf_evaluate.specs.Files.{AreKnownBytes};
 ghost use Rattle.sf_evaluate.specs.Expecting.{AreAcceptedIn, IsAcceptFile, IsControl, RefusesAccepted, RefusesControl, RefusesNamed, audit_words_fit};
@@ -14,17 +14,13 @@ use crate::files::Files;
 use crate::words::is_among;
 use clap::ArgMatches;
 use sf_command_line::given_text;
-use sf_policy::{Fault, read_accepted};
+use sf_policy::read_accepted;
 use sf_question::Question;
+use sf_stack::Fault;
 use std::alloc::Global;
 
-/// The questions of the control, whose policy file is at a path; an empty list where no path is given. Once the file is
-/// read, the notes count it and keep its bytes; if `read_policy_at` refuses it, they keep the refusal too. The
-/// notes are unchanged where no path is given.
-///
-/// Refusals, tried in this order: `Read` where the file can't be read or has more than `MOST_BYTES` bytes; `Syntax`
-/// where it is no UTF-8 or no TOML; then `Version`, `TopKey`, `Count`, `Key`, `Name`, `Range`, `Mask` and `Actions`,
-/// when `read_policy` says. `Memory` can come anywhere.
+/// The questions of the control, whose policy file is at a path; an empty list where no path is given. The notes count
+/// the file, and keep its bytes and its refusal. Refusals are `Read` and those of `read_policy`.
 pub fn control_in<F: Files>(
     alloc: Global,
     path: Option<&str>,
@@ -43,9 +39,7 @@ pub fn control_in<F: Files>(
     }
 }
 
-/// The names of the questions that may be allowed, by the bytes of the file that has these names. Each is the name of
-/// exactly one of `questions`. Refusals, tried in this order: `Syntax` where the bytes are no UTF-8; then `Accepted`,
-/// with the number of a line from 1, when `read_accepted` says. `Memory` can come anywhere.
+/// The names of the questions that may be allowed, by the bytes of their file.
 fn accepted_of(alloc: Global, bytes: &[u8], questions: &[Question]) -> Result<Vec<String>, Fault>
     ensures named { IfOk result (λ v. AreAccepted questions.now bytes.now
         (map string_bytes v.items)) }
@@ -58,12 +52,6 @@ fn accepted_of(alloc: Global, bytes: &[u8], questions: &[Question]) -> Result<Ve
     }
 }
 
-/// The names of the questions that may be allowed, by the file at a path. Each is the name of exactly one of
-/// `questions`. Once the file is read, the notes count it.
-///
-/// Refusals, tried in this order: `Read` where the file can't be read or has more than `MOST_BYTES` bytes; `Syntax`
-/// where it isn't UTF-8; `Accepted`, with the number of a line from 1, when `read_accepted` says. `Memory` can come
-/// anywhere.
 fn accepted_at<F: Files>(
     alloc: Global,
     path: &str,
@@ -84,12 +72,8 @@ fn accepted_at<F: Files>(
     accepted_of(alloc, &bytes, questions)
 }
 
-/// The names of the questions that may be allowed, by the file with these names at a path; an empty list where no path
-/// is given. Once the file is read, the notes count it.
-///
-/// Refusals, tried in this order: `Read` where the file can't be read or has more than `MOST_BYTES` bytes; `Syntax`
-/// where it isn't UTF-8; `Accepted`, with the number of the line from 1, at the first line that has before its comment
-/// two words or more, or a word that isn't the name of exactly one of `questions`. `Memory` can come anywhere.
+/// The names of the questions that may be allowed, by the file at a path; an empty list where no path is given. The
+/// notes count the file. Refusals come in this order: `Read`; `Syntax` where it isn't UTF-8; `Accepted`.
 pub fn accepted_in<F: Files>(
     alloc: Global,
     path: Option<&str>,
@@ -109,8 +93,7 @@ pub fn accepted_in<F: Files>(
     }
 }
 
-/// Whether the words of `audit` fit: the path behind `--control` is none of those behind `--policy`. True where
-/// `--control` isn't given. Paths are compared as texts.
+/// Whether the path behind `--control` is none of those behind `--policy`. Paths are compared as texts.
 pub fn audit_words_fit(found: &ArgMatches<'_>) -> bool
     ensures { result ≡ audit_words_fit (rows_of (found_of found.now)) }
 {

@@ -1,17 +1,15 @@
 //! The sets of calls of the files of names that the command line names.
 
 ghost use Rattle.std.specs.Prelude.{◌≡◌, ◌⊎◌, ℕ, List, None, IfOk, IfErr};
-ghost use Rattle.sf_policy.specs.declared.fault.Fault.TheVariants.{Memory as MemoryFault, Read as ReadFault};
+ghost use Rattle.sf_stack.specs.declared.fault.Fault.TheVariants.{Memory as MemoryFault, Read as ReadFault};
 ghost use Rattle.sf_evaluate.specs.Names.{AreNames, AreNamesRead, IsNamesFile, RefusesNames, RefusesNamesFile, RefusesNaming};
 
 use crate::explaining::Notes;
 use crate::files::Files;
 use sf_names::{Names, join_sets, read_names};
-use sf_policy::Fault;
+use sf_stack::Fault;
 use std::alloc::Global;
 
-/// The sets of a file of names with this text, as `read_names` of `sf_names` reads and refuses them. Its faults `Key`,
-/// `Count` and `Range` are `NamesKey`, `NamesCount` and `NamesRange` here; `Syntax` and `Memory` keep their names.
 fn sets_of(alloc: Global, text: &str) -> Result<Vec<Names>, Fault>
     ensures meant { IfOk result (λ v. AreNames text.now v.items) }
     ensures refused { IfErr result (λ e. (e ≡ MemoryFault) ⊎ RefusesNames text.now e) }
@@ -19,11 +17,7 @@ fn sets_of(alloc: Global, text: &str) -> Result<Vec<Names>, Fault>
     Ok(read_names(alloc, text)?)
 }
 
-/// The sets of the file of names at a path. Once the file is read, the notes count it.
-///
-/// Refusals, tried in this order: `Read` where the file can't be read, or has more than `MOST_BYTES` bytes; `Syntax`
-/// where it is no UTF-8 or no TOML; then `NamesKey`, `NamesCount` and `NamesRange`, where `read_names` of `sf_names`
-/// refuses its text with `Key`, `Count` and `Range`. `Memory` can come anywhere.
+/// The sets of the file of names at a path, which the notes count.
 fn names_in<F: Files>(
     alloc: Global,
     path: &str,
@@ -45,15 +39,10 @@ fn names_in<F: Files>(
 }
 
 /// The sets of the files of names at these paths, joined one file after the other: a file may add calls to a set of an
-/// earlier one. The notes count the files that are read, and keep how many sets each file has that `names_in` accepts.
-/// The caller's condition: the notes have counted no file before.
+/// earlier one. The notes, which have counted no file before, count the files and their sets.
 ///
-/// The refusal is that of the first file that is refused. For each file these are tried, in this order: `Read` where it
-/// can't be read, or has more than `MOST_BYTES` bytes; `Syntax` where it is no UTF-8 or no TOML; `NamesKey` where a key
-/// is missing or unknown, or a name or the kind of a value is wrong, `NamesCount` where it has more than 64 sets, or a
-/// set more than 1,024 calls, and `NamesRange` where a number is outside 32 bits (`read_names` of `sf_names` has the
-/// details); then `NamesKey` and `NamesCount` where `join_sets` of `sf_names` refuses one of its sets. `Memory` can
-/// come anywhere.
+/// The refusal is that of the first file that is refused: `Read`; `Syntax`; `NamesKey`, `NamesCount` and `NamesRange`
+/// as by `read_names` of `sf_names`; then `NamesKey` and `NamesCount` as by `join_sets`.
 pub fn read_all_names<F: Files>(
     alloc: Global,
     paths: &[&str],

@@ -9,9 +9,8 @@ use crate::explaining::{bytes_of_text, lines_of_questions};
 use sf_json::{Document, Fields};
 use std::alloc::{AllocError, Global};
 
-/// Where a question stands, as a JSON object: at `policy` the path of its policy file; at `line` the number, from 1, of
-/// the line on which the question begins there, or `null` where that isn't known (`line` is `None`). An error where an
-/// allocation is refused.
+/// Where a question stands, as a JSON object: at `policy` the path of its file; at `line` the number, from 1, of the
+/// line on which it begins, or `null`.
 fn origin_document(alloc: Global, path: &str, line: Option<&usize>) -> Result<Document, AllocError>
     ensures { IfOk result (λ d. IsOrigin path.now (view d)) }
 {
@@ -25,9 +24,7 @@ fn origin_document(alloc: Global, path: &str, line: Option<&usize>) -> Result<Do
     Ok(Document::object(fields))
 }
 
-/// The numbers, from 1, of the lines on which the questions of a policy begin, in their order and as far as they are
-/// found, by the bytes of its file; an empty list where these are no UTF-8. An error where an allocation is refused for
-/// the list itself; where one is refused while a token is read, at most the list ends early.
+/// The numbers, from 1, of the lines on which the questions of a policy begin, as far as they are found.
 fn lines_in(alloc: Global, policy: &[u8]) -> Result<Vec<usize>, AllocError> {
     match std::str::from_utf8(bytes_of_text(policy)) {
         Ok(text) => lines_of_questions(alloc, text),
@@ -35,10 +32,8 @@ fn lines_in(alloc: Global, policy: &[u8]) -> Result<Vec<usize>, AllocError> {
     }
 }
 
-/// Adds to `origins` one object for each of the `count` questions of a policy file, in their order. The object says
-/// where the question stands, as `origin_document` writes it; its `line` is `null` where `lines_in` didn't find the
-/// line. The caller's condition: `path` is the path of the file, `policy` are its bytes, and it has `count` questions.
-/// An error where an allocation is refused for the list of lines or for an object; some objects may be added then.
+/// Adds an object for each of the `count` questions of the policy with this path and these bytes, as `origin_document`
+/// writes it.
 pub(crate) fn push_origins(
     alloc: Global,
     origins: &mut Vec<Document>,

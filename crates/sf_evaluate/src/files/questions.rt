@@ -2,7 +2,7 @@
 
 ghost use Rattle.std.specs.Prelude.{◌≡◌, ◌⊎◌, ℕ, List, None, map, IfOk, IfErr};
 ghost use Rattle.serde_json.specs.View.{view};
-ghost use Rattle.sf_policy.specs.declared.fault.Fault.TheVariants.{Memory as MemoryFault, Read as ReadFault};
+ghost use Rattle.sf_stack.specs.declared.fault.Fault.TheVariants.{Memory as MemoryFault, Read as ReadFault};
 ghost use Rattle.sf_evaluate.specs.Origins.{HasOrigins};
 ghost use Rattle.sf_evaluate.specs.Policies.{AreAsked, IsPolicyFile, RefusesAsking, RefusesPolicyFile};
 
@@ -10,16 +10,12 @@ use super::origins::push_origins;
 use crate::explaining::Notes;
 use crate::files::Files;
 use sf_json::Document;
-use sf_policy::{Fault, read_policy_at};
+use sf_policy::read_policy_at;
 use sf_question::Question;
+use sf_stack::Fault;
 use std::alloc::Global;
 
-/// The questions of the policy file at a path. Once the file is read, the notes count it and keep its bytes; if
-/// `read_policy_at` refuses it, they keep the refusal too.
-///
-/// Refusals, tried in this order: `Read` where the file can't be read, or has more than `MOST_BYTES` bytes; `Syntax`
-/// where it is no UTF-8 or no TOML; then `Version`, `TopKey`, `Count`, `Key`, `Name`, `Range`, `Mask` and `Actions`,
-/// when `read_policy` says. `Memory` can come anywhere.
+/// The questions of the policy file at a path. The notes count it, and keep its bytes and its refusal.
 pub(crate) fn questions_in<F: Files>(
     alloc: Global,
     path: &str,
@@ -44,16 +40,13 @@ pub(crate) fn questions_in<F: Files>(
     }
 }
 
-/// The questions of the policy files at these paths, one file after the other; and a second list, which is empty unless
-/// `with_origins`. Then it says, in the same order, where each question stands: a JSON object with the path of its file
-/// at `policy`, and at `line` the number, from 1, of the line on which it begins, or `null` where that isn't found. The
-/// notes count each file that is read, and keep the bytes of the last one; if `read_policy_at` refuses it, they keep
-/// the refusal too.
+/// The questions of the policy files at these paths, one file after the other; and in the same order, if
+/// `with_origins`, where each question stands: a JSON object with the path of its file at `policy`, and at `line` the
+/// number, from 1, of the line on which it begins, or `null`. The notes count the files, and keep the bytes of the last
+/// one and its refusal.
 ///
-/// The refusal is that of the first file that is refused. For each file these are tried, in this order: `Read` where it
-/// can't be read, or has more than `MOST_BYTES` bytes; `Syntax` where it is no UTF-8 or no TOML; then `Version`,
-/// `TopKey`, `Count`, `Key`, `Name`, `Range`, `Mask` and `Actions`, when `read_policy` says. In a refusal, the
-/// questions of each file are numbered from 1. `Memory` can come anywhere.
+/// The refusal is that of the first file that is refused: `Read`, or one of `read_policy`. It numbers the questions of
+/// each file from 1.
 pub fn all_questions_in<F: Files>(
     alloc: Global,
     paths: &[&str],

@@ -1,14 +1,12 @@
 //! The text of `check --instructions`: the instructions of a filter, in the form that the kernel's `bpf_asm` reads.
-//! After an error a part of what was to be added may stand in the text; the callers drop the text.
 ghost use Rattle.std.specs.Prelude.{◌≡◌, ◌+◌, ◌<◌, ◌≤◌, ◌++◌, ℕ, List, OnOk, length, string_bytes};
 ghost use Rattle.sf_evaluate.specs.Instructions.{AreInsnLines, alu_text, branch_text, comment_text, insn_line, insn_lines, insn_text, operand_text, operation_text, test_text};
 
 use sf_check::{Insn, Operand, Program};
 use sf_insn::{BinOp, Test};
-use sf_warnings::reached;
+use sf_stack::reached;
 use std::alloc::{AllocError, Global};
 
-/// The name of an operation in the form of `bpf_asm`.
 fn name_of_operation(op: BinOp) -> &'static str
     ensures { result.now ≡ operation_text op }
 {
@@ -25,7 +23,6 @@ fn name_of_operation(op: BinOp) -> &'static str
     }
 }
 
-/// The name of a test in the form of `bpf_asm`.
 fn name_of_test(test: Test) -> &'static str
     ensures { result.now ≡ test_text test }
 {
@@ -37,14 +34,12 @@ fn name_of_test(test: Test) -> &'static str
     }
 }
 
-/// The comment behind an instruction to which no path comes; an empty text where one does.
 fn comment_of(is_reached: bool) -> &'static str
     ensures { result.now ≡ comment_text is_reached }
 {
     if is_reached { "" } else { " ; never reached" }
 }
 
-/// Adds the second word of an operation or a test: a constant, or X. An error where an allocation is refused.
 fn push_operand(text: &mut String, operand: Operand) -> Result<(), AllocError>
     ensures { OnOk result (string_bytes text.new ≡ string_bytes text.old
         ++ operand_text operand) }
@@ -55,7 +50,6 @@ fn push_operand(text: &mut String, operand: Operand) -> Result<(), AllocError>
     }
 }
 
-/// Adds an operation on A: its name and its second word. An error where an allocation is refused.
 fn push_alu(text: &mut String, op: BinOp, operand: Operand) -> Result<(), AllocError>
     ensures { OnOk result (string_bytes text.new ≡ string_bytes text.old ++ alu_text op operand) }
 {
@@ -64,10 +58,8 @@ fn push_alu(text: &mut String, op: BinOp, operand: Operand) -> Result<(), AllocE
     push_operand(text, operand)
 }
 
-/// Adds the test that is the instruction at `place`: its name, its second word, and the labels of the instructions to
-/// which it leads where it is true and where it is false. `on_true` and `on_false` say how many instructions behind the
-/// test are skipped in these two cases. The caller's condition: the place is below 4096. An error where an allocation
-/// is refused.
+/// Adds the test at `place`, with the labels of the instructions to which it leads where it is true and where it is
+/// false.
 fn push_branch(
     text: &mut String,
     place: usize,
@@ -88,8 +80,7 @@ fn push_branch(
     write!(text, ", l{if_true}, l{if_false}")
 }
 
-/// Adds the instruction at a place; a jump or a test with the labels of the instructions to which it leads. The
-/// caller's condition: the place is below 4096. An error where an allocation is refused.
+/// Adds the instruction at a place; a jump or a test with the labels of the instructions to which it leads.
 fn push_insn(text: &mut String, place: usize, insn: Insn) -> Result<(), AllocError>
     requires small { place < 4096 }
     ensures { OnOk result (string_bytes text.new ≡ string_bytes text.old
@@ -124,9 +115,7 @@ fn push_insn(text: &mut String, place: usize, insn: Insn) -> Result<(), AllocErr
     }
 }
 
-/// Adds the line of the instruction at a place: its own label, the instruction, and a comment unless `is_reached`,
-/// which says whether a path comes to it. The caller's condition: the place is below 4096. An error where an
-/// allocation is refused.
+/// Adds the line of the instruction at a place, with a comment if no path comes to it.
 fn push_line(
     text: &mut String,
     place: usize,
@@ -143,9 +132,6 @@ fn push_line(
     write!(text, "{comment}\n")
 }
 
-/// Adds the lines of the instructions `code`, in order. `found` says for each place whether a path comes to it. The
-/// caller's condition: there are at most 4096 instructions, and `found` is as long as `code`. An error where an
-/// allocation is refused.
 fn push_lines(text: &mut String, code: &[Insn], found: &[bool]) -> Result<(), AllocError>
     requires short { length code.now ≤ 4096 }
     requires count { length found.now ≡ length code.now }
@@ -158,9 +144,8 @@ fn push_lines(text: &mut String, code: &[Insn], found: &[bool]) -> Result<(), Al
     Ok(())
 }
 
-/// Adds the lines of a filter's instructions, in order of their places. An instruction to which no path comes has a
-/// comment, as by `reached`: behind each test there are paths for both results, whether or not an input gives them. An
-/// error where an allocation is refused.
+/// Adds the lines of a filter's instructions. One to which no path comes has a comment: behind each test there are
+/// paths for both results, whether or not an input gives them.
 pub fn push_instructions(
     alloc: Global,
     text: &mut String,

@@ -1,5 +1,4 @@
-//! The text of `eval --trace`: the input, and how each filter comes to its return value. After an error a part of what
-//! was to be added may stand in the text; the callers drop the text.
+//! The text of `eval --trace`: the input, and how each filter comes to its return value.
 ghost use Rattle.std.specs.Prelude.{◌≡◌, ◌<◌, ◌++◌, ◌==◌, ◌&&◌, ◌||◌, not, false, OnOk, IfOk, Some, length, string_bytes};
 ghost use Rattle.sf_run.specs.Answers.{action_bits, action_number};
 ghost use Rattle.sf_run.specs.Walks.{CourseData, walk_of};
@@ -10,19 +9,17 @@ use sf_calls::{is_named, push_call_words};
 use sf_check::{Program, Stack};
 use sf_insn::Input;
 use sf_names::{Names, push_names_between};
-use sf_policy::{WORD_KEYS, push_action};
+use sf_policy::WORD_KEYS;
 use sf_run::{Action, Answer, Course, Fault, Meeting, Met, walk};
+use sf_stack::push_action;
 use std::alloc::{AllocError, Global};
 
-/// Adds a word as `0x` and eight hexadecimal digits. An error where an allocation is refused.
 fn push_word(text: &mut String, word: u32) -> Result<(), AllocError>
     ensures { OnOk result (string_bytes text.new ≡ string_bytes text.old ++ word_text word) }
 {
     write!(text, "0x{word:08X}")
 }
 
-/// Adds the line of a field of 64 bits: its name, and its number from the low and the high half. An error where an
-/// allocation is refused.
 fn push_field(text: &mut String, name: &str, low: u32, high: u32) -> Result<(), AllocError>
     ensures { OnOk result (string_bytes text.new ≡ string_bytes text.old
         ++ field_line name.now low high) }
@@ -33,7 +30,7 @@ fn push_field(text: &mut String, name: &str, low: u32, high: u32) -> Result<(), 
 }
 
 /// Adds the line of a call's number, in hexadecimal and in decimal digits, and the names that the sets of this
-/// architecture have for it, as `push_names_between` writes them. An error where an allocation is refused.
+/// architecture have for it.
 fn push_nr(text: &mut String, names: &[Names], arch: u32, nr: u32) -> Result<(), AllocError>
     ensures { OnOk result (string_bytes text.new ≡ string_bytes text.old
         ++ nr_line names.now arch nr) }
@@ -44,8 +41,7 @@ fn push_nr(text: &mut String, names: &[Names], arch: u32, nr: u32) -> Result<(),
     Ok(())
 }
 
-/// Adds three lines of an input: that of the call's number and names, as by `push_nr`, that of the architecture, and
-/// that of the instruction pointer. An error where an allocation is refused.
+/// Adds the lines of the call's number and names, of the architecture, and of the instruction pointer.
 fn push_call(text: &mut String, names: &[Names], input: &Input) -> Result<(), AllocError>
     ensures { OnOk result (string_bytes text.new ≡ string_bytes text.old
         ++ call_text names.now input.now) }
@@ -56,7 +52,6 @@ fn push_call(text: &mut String, names: &[Names], input: &Input) -> Result<(), Al
     push_field(text, "ip", input.words[2], input.words[3])
 }
 
-/// Adds the lines of the arguments 0 to 2. An error where an allocation is refused.
 fn push_first_arguments(text: &mut String, input: &Input) -> Result<(), AllocError>
     ensures { OnOk result (string_bytes text.new ≡ string_bytes text.old
         ++ first_arguments input.now) }
@@ -66,7 +61,6 @@ fn push_first_arguments(text: &mut String, input: &Input) -> Result<(), AllocErr
     push_field(text, "arg2", input.words[8], input.words[9])
 }
 
-/// Adds the lines of the arguments 3 to 5. An error where an allocation is refused.
 fn push_last_arguments(text: &mut String, input: &Input) -> Result<(), AllocError>
     ensures { OnOk result (string_bytes text.new ≡ string_bytes text.old
         ++ last_arguments input.now) }
@@ -76,8 +70,6 @@ fn push_last_arguments(text: &mut String, input: &Input) -> Result<(), AllocErro
     push_field(text, "arg5", input.words[14], input.words[15])
 }
 
-/// Adds the lines of all fields of an input. The names that the sets `names` have for the call stand beside its number,
-/// as by `push_nr`. An error where an allocation is refused.
 fn push_fields(text: &mut String, names: &[Names], input: &Input) -> Result<(), AllocError>
     ensures { OnOk result (string_bytes text.new ≡ string_bytes text.old
         ++ fields_text names.now input.now) }
@@ -87,8 +79,6 @@ fn push_fields(text: &mut String, names: &[Names], input: &Input) -> Result<(), 
     push_last_arguments(text, input)
 }
 
-/// Adds the line of an input as a call: `call `, and then the words of `push_call_words`. An error where an allocation
-/// is refused.
 pub(crate) fn push_call_line(
     text: &mut String,
     names: &[Names],
@@ -103,7 +93,6 @@ pub(crate) fn push_call_line(
     Ok(())
 }
 
-/// Adds the line of an input as a call, if a set has the call; else nothing. An error where an allocation is refused.
 fn push_named(text: &mut String, names: &[Names], input: &Input) -> Result<(), AllocError>
     ensures { OnOk result (string_bytes text.new ≡ string_bytes text.old
         ++ named_line names.now input.now) }
@@ -114,8 +103,7 @@ fn push_named(text: &mut String, names: &[Names], input: &Input) -> Result<(), A
     Ok(())
 }
 
-/// Adds the line of an input as a call, if a set has the call, and then the lines of all its fields. An error where an
-/// allocation is refused.
+/// Adds the line of an input as a call, if a set has the call, and then the lines of all its fields.
 fn push_input(text: &mut String, names: &[Names], input: &Input) -> Result<(), AllocError>
     ensures { OnOk result (string_bytes text.new ≡ string_bytes text.old
         ++ input_text names.now input.now) }
@@ -124,15 +112,12 @@ fn push_input(text: &mut String, names: &[Names], input: &Input) -> Result<(), A
     push_fields(text, names, input)
 }
 
-/// The text of a truth value.
 fn truth_of(truth: bool) -> &'static str
     ensures { result.now ≡ truth_text truth }
 {
     if truth { "true" } else { "false" }
 }
 
-/// Adds the end of the line of a comparison: its sign, the other number and the result. An error where an allocation is
-/// refused.
 fn push_compared(text: &mut String, sign: &str, other: u32, truth: bool) -> Result<(), AllocError>
     ensures { OnOk result (string_bytes text.new ≡ string_bytes text.old
         ++ compared_word_text sign.now other truth) }
@@ -141,8 +126,7 @@ fn push_compared(text: &mut String, sign: &str, other: u32, truth: bool) -> Resu
     write!(text, " {sign} 0x{other:08X} {truth}\n")
 }
 
-/// Adds the name of a word of the input and a blank. `word` is the word's place, 0 to 15; nothing is added where it is
-/// `None`, and only the blank where it is above 15. An error where an allocation is refused.
+/// Adds the name of a word of the input, at this place, and a blank.
 fn push_name(text: &mut String, word: Option<u8>) -> Result<(), AllocError>
     ensures { OnOk result (string_bytes text.new ≡ string_bytes text.old ++ named_text word) }
 {
@@ -153,7 +137,6 @@ fn push_name(text: &mut String, word: Option<u8>) -> Result<(), AllocError>
     write!(text, "{name} ")
 }
 
-/// Adds the line of a comparison that the filter with this number makes. An error where an allocation is refused.
 fn push_test(text: &mut String, number: usize, compared: &Comparison) -> Result<(), AllocError>
     ensures { OnOk result (string_bytes text.new ≡ string_bytes text.old
         ++ test_line number compared.now.place compared.now.word compared.now.value
@@ -166,9 +149,7 @@ fn push_test(text: &mut String, number: usize, compared: &Comparison) -> Result<
     push_compared(text, compared.sign, compared.other, compared.truth)
 }
 
-/// Adds the line of what an instruction of the filter with this number met: a comparison with its result, or a return
-/// of A with the number in A. A division by X is shown as a comparison of X with 0. An error where an allocation is
-/// refused.
+/// Adds the line of what the filter with this number met: a comparison, or a return of A.
 pub(crate) fn push_meeting(
     text: &mut String,
     number: usize,
@@ -208,8 +189,6 @@ pub(crate) fn push_meeting(
     }
 }
 
-/// Adds the line of what the filter with this number met at an instruction, as `push_meeting` does. If `brief`, it adds
-/// nothing for a comparison that is false. An error where an allocation is refused.
 fn push_shown(
     text: &mut String,
     brief: bool,
@@ -225,8 +204,7 @@ fn push_shown(
     push_meeting(text, number, meeting)
 }
 
-/// Adds the lines of all that the filter with this number met, in order. If `brief`, comparisons that are false are
-/// left out. An error where an allocation is refused.
+/// Adds the lines of all that the filter met, in order, without false comparisons if `brief`.
 fn push_meetings(
     text: &mut String,
     brief: bool,
@@ -242,17 +220,14 @@ fn push_meetings(
     Ok(())
 }
 
-/// The end of a filter's line: ` stands` where `stands` says that the filter's answer stands, as by `push_filter`, else
-/// an empty text.
 fn stands_word(stands: bool) -> &'static str
     ensures { result.now ≡ stands_text stands }
 {
     if stands { " stands" } else { "" }
 }
 
-/// Adds the line of what a filter returns: an action and its data, `info`. `number` is that of the filter, `place` that
-/// of the instruction that returns. `stands` says whether the filter's answer stands, as by `push_filter`. An error
-/// where an allocation is refused.
+/// Adds the line of what a filter returns: an action and its data, `info`, at `place`. `stands` says whether this
+/// answer stands.
 pub(crate) fn push_return(
     text: &mut String,
     number: usize,
@@ -274,22 +249,17 @@ pub(crate) fn push_return(
 /// in the JSON of `eval`.
 #[derive(Clone, Copy, Drop)]
 pub struct Trace<'a> {
-    /// The stack that is run.
     pub stack: &'a Stack,
-    /// The input that it is run on.
     pub input: &'a Input,
     /// The answer of the stack to this input.
     pub answer: Answer,
     /// Whether comparisons that are false are left out. It isn't looked at for `audit --why`.
     pub brief: bool,
-    /// Sets of calls, whose names are shown with the calls' numbers.
     pub names: &'a [Names],
 }
 
-/// Adds the lines of the filter with this number, which is `program`: what it returns, and under it what it met, as by
-/// `push_meetings`. Returns whether its answer stands: the filter returns the action of the stack's answer, and the
-/// answer of no newer filter stood. `stood` says whether the answer of a newer filter stood. The upper 16 bits of a
-/// return value are the action, the lower 16 the data. `Memory` where an allocation is refused.
+/// Adds the lines of a filter: what it returns, and what it met. Returns whether its answer stands: it has the action
+/// of the stack's answer, and the answer of no newer filter stood.
 fn push_filter(
     alloc: Global,
     text: &mut String,
@@ -319,8 +289,7 @@ fn push_filter(
     Ok(stands)
 }
 
-/// Adds the lines of all filters, newest first: what each returns, and under it what it met, without false comparisons
-/// if `trace.brief`. The newest filter has the highest number. `Memory` where an allocation is refused.
+/// Adds the lines of all filters, newest first. The newest filter has the highest number.
 fn push_filters(alloc: Global, text: &mut String, trace: &Trace<'_>) -> Result<(), Fault>
     ensures { OnOk result (string_bytes text.new ≡ string_bytes text.old
         ++ filters_text trace.now.brief (length trace.now.stack.now)
@@ -337,11 +306,9 @@ fn push_filters(alloc: Global, text: &mut String, trace: &Trace<'_>) -> Result<(
     Ok(())
 }
 
-/// Adds the lines of `eval --trace`. First comes the input as a call, if a set of `trace.names` has the call, and then
-/// its fields. Then comes each filter, newest first: what it returns and at which instruction, and under it what it
-/// met, in order. One filter is marked with `stands`: the newest one that returns the action of the stack's answer.
-/// Where `trace.brief` is set, comparisons that are false are left out. `Memory` where an allocation is refused; some
-/// of the text may be added then.
+/// Adds the lines of `eval --trace`: the input as a call, if a set has the call, and its fields; then each filter,
+/// newest first: what it returns and at which instruction, and under it what it met. The newest one that returns the
+/// action of the stack's answer is marked with `stands`.
 pub fn push_trace(alloc: Global, text: &mut String, trace: &Trace<'_>) -> Result<(), Fault>
     ensures { OnOk result (string_bytes text.new ≡ string_bytes text.old
         ++ trace_text trace.now.brief trace.now.names.now trace.now.stack.now

@@ -1,22 +1,20 @@
-//! Why a stack answers an input as it does: the lines of `audit --why`. After an error a part of what was to be added
-//! may stand in the text; the callers drop the text.
+//! Why a stack answers an input as it does: the lines of `audit --why`.
 
 ghost use Rattle.std.specs.Prelude.{◌≡◌, ◌++◌, ◌==◌, ◌&&◌, not, false, find, reverse, length, IfErr, IfOk, OnOk, Some, string_bytes};
 ghost use Rattle.std.specs.Option.{option_map};
 ghost use Rattle.sf_run.specs.Answers.{action_bits, action_number};
 ghost use Rattle.sf_run.specs.Walks.{CourseData, walk_of};
-ghost use Rattle.sf_policy.specs.declared.fault.Fault.TheVariants.{Memory as MemoryFault};
+ghost use Rattle.sf_stack.specs.declared.fault.Fault.TheVariants.{Memory as MemoryFault};
 ghost use Rattle.sf_evaluate.specs.Traces.{IsWhy, call_line, cause_line, cause_text, is_true, last_true, return_line, stack_text, why_line, why_text};
 
 use super::tracing::{Trace, push_call_line, push_meeting, push_return};
 use sf_check::{Program, Stack};
 use sf_insn::Input;
 use sf_names::Names;
-use sf_policy::Fault;
 use sf_run::{Action, Answer, Meeting, Met, answer, walk};
+use sf_stack::Fault;
 use std::alloc::{AllocError, Global};
 
-/// Adds the line of an input as a call, with `why ` before it. An error where an allocation is refused.
 fn push_called(text: &mut String, names: &[Names], input: &Input) -> Result<(), AllocError>
     ensures { OnOk result (string_bytes text.new ≡ string_bytes text.old
         ++ why_line (call_line names.now input.now)) }
@@ -25,9 +23,7 @@ fn push_called(text: &mut String, names: &[Names], input: &Input) -> Result<(), 
     push_call_line(text, names, input)
 }
 
-/// Adds the line of what a filter returns, with `why ` before it. `number` is the filter's, `place` that of the
-/// instruction that returns, `value` what it returns: the action in the upper 16 bits, its data in the lower 16.
-/// `stands` says whether the filter's answer stands, as by `is_standing`. An error where an allocation is refused.
+/// Adds the line of what a filter returns, with `why ` before it.
 fn push_returned(
     text: &mut String,
     number: usize,
@@ -43,8 +39,7 @@ fn push_returned(
     push_return(text, number, place, action, value & 0xffff, stands)
 }
 
-/// Whether what was met is a comparison that is true. A division by X compares X with 0, so it is true where X is 0. A
-/// return is no comparison.
+/// Whether what was met is a comparison that is true. A division by X compares X with 0.
 fn is_true(meeting: Meeting) -> bool
     ensures { result ≡ is_true meeting }
 {
@@ -55,15 +50,13 @@ fn is_true(meeting: Meeting) -> bool
     }
 }
 
-/// The last true comparison of what was met; `None` where no comparison was true.
 fn last_true(met: &[Meeting]) -> Option<&Meeting>
     ensures { option_map (λ m. m.now) result ≡ last_true met.now }
 {
     met.iter().rev().find(|meeting| is_true(**meeting))
 }
 
-/// Adds the line of the last true comparison that the filter with this number met, with `why ` before it; nothing where
-/// none was true. `met` is all that the filter met, in order. An error where an allocation is refused.
+/// Adds the line of the last true comparison that the filter met, with `why ` before it, if there is one.
 fn push_cause(text: &mut String, number: usize, met: &[Meeting]) -> Result<(), AllocError>
     ensures { OnOk result (string_bytes text.new ≡ string_bytes text.old
         ++ cause_line number (last_true met.now)) }
@@ -77,17 +70,15 @@ fn push_cause(text: &mut String, number: usize, met: &[Meeting]) -> Result<(), A
     }
 }
 
-/// Whether the answer of a filter that returns `value` stands: the value has the action of `answer`, which is the
-/// stack's, and the answer of no newer filter stood. `stood` says whether the answer of a newer filter stood.
+/// Whether the answer of a filter that returns `value` stands: it has the action of the stack's answer, and that of no
+/// newer filter `stood`.
 fn is_standing(stood: bool, value: u32, answer: Answer) -> bool
     ensures { result ≡ (not stood && (action_bits value == action_number answer.action)) }
 {
     !stood && value & 0xffff0000 == answer.action.number()
 }
 
-/// Adds the lines of the filter with this number: what it returns, and the last true comparison that it met, if it met
-/// one. Returns whether its answer stands, as `is_standing` says. `stood` is whether the answer of a newer filter did.
-/// `Memory` where an allocation is refused.
+/// Adds the lines of a filter. Returns whether its answer stands.
 fn push_filter(
     alloc: Global,
     text: &mut String,
@@ -109,8 +100,6 @@ fn push_filter(
     Ok(stands)
 }
 
-/// Adds the lines of all filters, newest first: what each returns, and the last true comparison that it met, if it met
-/// one. The newest filter has the highest number. `Memory` where an allocation is refused.
 fn push_filters(alloc: Global, text: &mut String, trace: &Trace<'_>) -> Result<(), Fault>
     ensures added { OnOk result (string_bytes text.new ≡ string_bytes text.old
         ++ stack_text cause_text (length trace.now.stack.now)
@@ -128,8 +117,6 @@ fn push_filters(alloc: Global, text: &mut String, trace: &Trace<'_>) -> Result<(
     Ok(())
 }
 
-/// Adds the line of the input as a call, and then the lines of all filters, newest first. `Memory` where an allocation
-/// is refused.
 fn push_why(alloc: Global, text: &mut String, trace: &Trace<'_>) -> Result<(), Fault>
     ensures added { OnOk result (string_bytes text.new ≡ string_bytes text.old
         ++ why_text trace.now.names.now trace.now.stack.now trace.now.input.now
@@ -140,10 +127,9 @@ fn push_why(alloc: Global, text: &mut String, trace: &Trace<'_>) -> Result<(), F
     push_filters(alloc, text, trace)
 }
 
-/// Why a stack answers an input as it does. First comes the input as a call, shown with the names of `names`. Then come
-/// the lines of each filter, newest first: what it returns and at which instruction, and under it the last true
-/// comparison that it met, if it met one. One filter is marked with `stands`: the newest one that returns the action of
-/// the stack's answer. Each line begins with `why`. `Memory` where an allocation is refused.
+/// Why a stack answers an input as it does: the input as a call, and each filter, newest first: what it returns and at
+/// which instruction, and the last true comparison that it met. The newest one that returns the action of the stack's
+/// answer is marked with `stands`. Each line begins with `why`.
 pub fn why_text(
     alloc: Global,
     names: &[Names],

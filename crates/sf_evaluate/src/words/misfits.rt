@@ -1,4 +1,6 @@
 //! Words of the command line that don't fit together, in words for a person. No contract speaks of them.
+//!
+//! The functions that add lines are called only where something doesn't fit.
 
 use super::asking::{has_names, is_given};
 use super::settings::wrong_word_text;
@@ -14,11 +16,10 @@ use std::io::Write;
 /// What doesn't fit. Options are written as messages call them, such as `--nr <N>`.
 #[derive(Drop)]
 enum Misfit<'a> {
-    /// These two options don't go together.
     Both(&'static str, &'static str),
     /// This option is missing; or several, one of which is wanted, are all missing.
     Missing(&'static str),
-    /// An option has a value that it doesn't take: the option, its value, and what it takes.
+    /// The option, its value, and what it takes.
     Value(&'static str, &'a str, &'static str),
 }
 
@@ -29,57 +30,39 @@ const ASKING: [(&str, &str); 3] = [
     ("nr", "--nr <N>"),
 ];
 
-/// The options that go only with a call: the name of each, without dashes, and what messages call it.
+/// The options that go only with a call.
 const OF_CALL: [(&str, &str); 2] = [("arch", "--arch <SET>"), ("args", "--args <A,..>")];
 
-/// What a number looks like, as messages say it.
 const NUMBER: &str = "decimal digits, or 0x and hexadecimal digits";
 
 /// What is said where `--call` is given without `--args`.
 const ONE_INPUT: &str =
     "one input of a call says nothing of its other inputs: `list --calls <NAME>` tells the answers to all of them";
 
-/// The first of these options that is given, as messages call it; `None` where none is given. `options` has the name of
-/// each, without dashes, and what messages call it. The caller's condition: none of them has a usual value.
-fn first_given(
+/// The first of these options that is given, or if not `given` the first that is missing, as messages call it.
+fn first_of(
     found: &ArgMatches<'_>,
     options: &[(&'static str, &'static str)],
+    given: bool,
 ) -> Option<&'static str> {
     for (name, called) in options {
-        if is_given(found, name) {
+        if is_given(found, name) == given {
             return Some(*called);
         }
     }
     None
 }
 
-/// The first of these options that is missing, as messages call it; `None` where all are given. `options` has the name
-/// of each, without dashes, and what messages call it. The caller's condition: none of them has a usual value.
-fn first_missing(
-    found: &ArgMatches<'_>,
-    options: &[(&'static str, &'static str)],
-) -> Option<&'static str> {
-    for (name, called) in options {
-        if !is_given(found, name) {
-            return Some(*called);
-        }
-    }
-    None
-}
-
-/// The misfit of `--input`, which the caller has seen to be given, with the first of `--call`, `--nr`, `--arch` and
-/// `--args` that is given too; `None` where none of these four is given.
+/// The misfit of `--input` with an option of a call that is given too.
 fn misfit_of_input<'a>(found: &ArgMatches<'a>) -> Option<Misfit<'a>> {
-    let other = match first_given(found, &ASKING[1..]) {
+    let other = match first_of(found, &ASKING[1..], true) {
         Some(other) => other,
-        None => first_given(found, &OF_CALL)?,
+        None => first_of(found, &OF_CALL, true)?,
     };
     Some(Misfit::Both("--input <HEX>", other))
 }
 
-/// The first thing that doesn't fit where a call is asked for by its name, in this order: the value of `--call`, that
-/// of `--arch`, a missing file of names. `None` where all fits. The caller has seen that `--call`, `--arch` and
-/// `--args` are given, and `--nr` isn't.
+/// The first thing that doesn't fit where a call is asked for by its name.
 fn misfit_of_call<'a>(found: &ArgMatches<'a>) -> Option<Misfit<'a>> {
     let (call, arch) = (text_of(found, "call"), text_of(found, "arch"));
     if !is_call_name(call) {
@@ -96,9 +79,7 @@ fn misfit_of_call<'a>(found: &ArgMatches<'a>) -> Option<Misfit<'a>> {
     None
 }
 
-/// The first thing that doesn't fit where a call is asked for by its number: the value of `--nr`, or else that of
-/// `--arch`. `None` where both fit. The caller has seen that `--nr`, `--arch` and `--args` are given, and `--call`
-/// isn't.
+/// The first thing that doesn't fit where a call is asked for by its number.
 fn misfit_of_nr<'a>(found: &ArgMatches<'a>) -> Option<Misfit<'a>> {
     let (nr, arch) = (text_of(found, "nr"), text_of(found, "arch"));
     if !is_number(nr) {
@@ -111,7 +92,6 @@ fn misfit_of_nr<'a>(found: &ArgMatches<'a>) -> Option<Misfit<'a>> {
     None
 }
 
-/// The first thing in the words of `eval` that doesn't fit; `None` where all fits, so that `eval_words_fit` is true.
 fn first_misfit<'a>(found: &ArgMatches<'a>) -> Option<Misfit<'a>> {
     if is_given(found, "input") {
         return misfit_of_input(found);
@@ -119,10 +99,10 @@ fn first_misfit<'a>(found: &ArgMatches<'a>) -> Option<Misfit<'a>> {
     if is_given(found, "call") && is_given(found, "nr") {
         return Some(Misfit::Both("--call <NAME>", "--nr <N>"));
     }
-    if first_given(found, &ASKING).is_none() {
+    if first_of(found, &ASKING, true).is_none() {
         return Some(Misfit::Missing("--input <HEX>, --call <NAME> or --nr <N>"));
     }
-    if let Some(missing) = first_missing(found, &OF_CALL) {
+    if let Some(missing) = first_of(found, &OF_CALL, false) {
         return Some(Misfit::Missing(missing));
     }
     let args = text_of(found, "args");
@@ -138,8 +118,7 @@ fn first_misfit<'a>(found: &ArgMatches<'a>) -> Option<Misfit<'a>> {
     }
 }
 
-/// Adds the lines that say what doesn't fit, in the form in which `clap` says it. An error where an allocation is
-/// refused; a part of the lines may stand in the text then.
+/// Adds the lines that say what doesn't fit, in the form in which `clap` says it.
 fn push_misfit(text: &mut String, misfit: &Misfit<'_>) -> Result<(), AllocError> {
     match misfit {
         Misfit::Both(one, other) => write!(
@@ -158,8 +137,7 @@ fn push_misfit(text: &mut String, misfit: &Misfit<'_>) -> Result<(), AllocError>
 }
 
 /// The lines that tell the first thing in the words of `eval` that doesn't fit. Where `--call` is given without
-/// `--args`, a line points to `list`. The last line points to `--help`. The caller has seen that `eval_words_fit` is
-/// false. An error where an allocation is refused.
+/// `--args`, a line points to `list`.
 fn misfit_text(alloc: Global, found: &ArgMatches<'_>) -> Result<String, AllocError> {
     let mut text = String::new(alloc);
     if let Some(misfit) = first_misfit(found) {
@@ -172,10 +150,8 @@ fn misfit_text(alloc: Global, found: &ArgMatches<'_>) -> Result<String, AllocErr
     Ok(text)
 }
 
-/// The lines that say what is wrong with the words of `list` or `compare`: with `--calls` where `calls_fit` is false,
-/// else with `--digest` where `digest_fits` is false, else with the options of `compare` about rows. The last line
-/// points to `--help`. The caller has seen that one of these is false, or `rows_fit`. An error where an allocation is
-/// refused.
+/// The lines that say what is wrong with the words of `list` or `compare`: `--calls`, `--digest`, or the options about
+/// rows.
 fn wrong_rows_text(alloc: Global, found: &ArgMatches<'_>) -> Result<String, AllocError> {
     let mut text = String::new(alloc);
     if !calls_fit(found) {
@@ -189,9 +165,7 @@ fn wrong_rows_text(alloc: Global, found: &ArgMatches<'_>) -> Result<String, Allo
     Ok(text)
 }
 
-/// The lines that say that the path behind `--control` is one of those behind `--policy`, and what a control and a
-/// policy ask about. The last line points to `--help`. The caller has seen that `audit_words_fit` is false. An error
-/// where an allocation is refused.
+/// The lines that say that the path behind `--control` is one of those behind `--policy`, and what both ask about.
 fn wrong_control_text(alloc: Global, found: &ArgMatches<'_>) -> Result<String, AllocError> {
     let mut text = String::new(alloc);
     let control = text_of(found, "control");
@@ -206,10 +180,9 @@ fn wrong_control_text(alloc: Global, found: &ArgMatches<'_>) -> Result<String, A
     Ok(text)
 }
 
-/// Writes to standard error which words of the command line don't fit, if a run ended for that reason: then `ran` has
-/// the status 4, and the matches name a subcommand. Where there is no memory for the lines, one line says so. Nothing
-/// is written otherwise. An error of the write is ignored. The caller's condition: `ran` is how the run of these
-/// matches ended.
+/// Writes to standard error which words of the command line don't fit, if the run of these matches ended for that
+/// reason, with the status 4. Where there is no memory for the lines, one line says so. An error of the write is
+/// ignored.
 pub fn tell_wrong_words<E: Write>(
     alloc: Global,
     matches: &ArgMatches<'_>,

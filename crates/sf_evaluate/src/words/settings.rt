@@ -12,7 +12,7 @@ use sf_command_line::{skips_unknown, text_of, wants_newer};
 use sf_profile::{CallSet, Calls, Reading, Settings, version_of};
 use std::alloc::{AllocError, Global};
 
-/// The names of the capabilities of linux/capability.h, in the order of their numbers, which are 0 to 40.
+/// The names of the capabilities of linux/capability.h, in the order of their numbers, 0 to 40.
 const CAPABILITIES: [&str; 41] = [
     "CAP_CHOWN",
     "CAP_DAC_OVERRIDE",
@@ -57,8 +57,7 @@ const CAPABILITIES: [&str; 41] = [
     "CAP_CHECKPOINT_RESTORE",
 ];
 
-/// The set of calls that programs built for a machine use, by the word behind `--machine`, which names the machine;
-/// `None` where the text isn't `x86_64`, `i386`, `aarch64` or `arm`.
+/// The set of calls that programs built for a machine use, by the word behind `--machine`.
 fn machine_named(text: &str) -> Option<CallSet>
     ensures { result ≡ machine_named text.now }
 {
@@ -71,8 +70,7 @@ fn machine_named(text: &str) -> Option<CallSet>
     }
 }
 
-/// Which of several rules of a profile counts for a call, by the word behind `--conflicts`; `None` where the text isn't
-/// `strictest`, `mildest` or `first`.
+/// Which of several rules of a profile counts for a call, by the word behind `--conflicts`.
 fn reading_named(text: &str) -> Option<Reading>
     ensures { result ≡ reading_named text.now }
 {
@@ -84,36 +82,31 @@ fn reading_named(text: &str) -> Option<Reading>
     }
 }
 
-/// Whether a text is one of these.
 fn has_text(texts: &[&str], text: &str) -> bool
     ensures { result ≡ list_any (λ t. bytes_eq text.now t.now) texts.now }
 {
     texts.iter().any(|one| text == *one)
 }
 
-/// Whether a text is one of these. It does the same as `has_text`. There are two functions only for the prover: the
-/// contract of this one speaks of the texts, not of references to them.
+/// For the prover: `has_text`, said of the texts, not of references to them.
 pub(crate) fn is_among(text: &str, texts: &[&str]) -> bool
     ensures { result ≡ list_any (bytes_eq text.now) (map (λ t. t.now) texts.now) }
 {
     has_text(texts, text)
 }
 
-/// Whether a text is the name of a capability.
 fn is_capability(text: &str) -> bool
     ensures { result ≡ is_capability text.now }
 {
     is_among(text, CAPABILITIES.as_slice())
 }
 
-/// Whether each text is the name of a capability.
 fn are_capabilities(texts: &[&str]) -> bool
     ensures { result ≡ list_all (λ t. is_capability t.now) texts.now }
 {
     texts.iter().all(|text| is_capability(text))
 }
 
-/// Whether each text behind `--cap` is the name of a capability. True where the option isn't given.
 fn caps_fit(found: &ArgMatches<'_>) -> bool
     ensures { result ≡ list_all is_capability (paths_of (codes "cap")
         (rows_of (found_of found.now))) }
@@ -121,16 +114,15 @@ fn caps_fit(found: &ArgMatches<'_>) -> bool
     are_capabilities(found.get_strs("cap").unwrap_or(&[]))
 }
 
-/// Whether a text is empty, as where `--kernel` isn't given, or the version of a kernel, such as 6.12.
+/// Whether a text is the version of a kernel, such as 6.12, or empty, as where `--kernel` isn't given.
 fn is_kernel_or_none(text: &str) -> bool
     ensures { result ≡ is_kernel_or_none text.now }
 {
     text.is_empty() || version_of(text).is_some()
 }
 
-/// Whether each word behind `--machine`, `--conflicts`, `--kernel` and `--cap` of `profile` is one that its option
-/// takes. False where `--machine` isn't given. The others needn't be given: the usual word of `--conflicts` is
-/// `strictest`, and `--kernel` and `--cap` may have none.
+/// Whether each word behind `--machine`, `--conflicts`, `--kernel` and `--cap` is one that its option takes. Only
+/// `--machine` must be given.
 pub fn profile_words_fit(found: &ArgMatches<'_>) -> bool
     ensures { result ≡ profile_words_fit (rows_of (found_of found.now)) }
 {
@@ -140,7 +132,6 @@ pub fn profile_words_fit(found: &ArgMatches<'_>) -> bool
         && caps_fit(found)
 }
 
-/// Copies of these texts, which own their bytes. An error where an allocation is refused.
 fn strings_of(alloc: Global, texts: &[&str]) -> Result<Vec<String>, AllocError>
     ensures { IfOk result (λ v. map string_bytes v.items ≡ map (λ t. t.now) texts.now) }
 {
@@ -152,10 +143,8 @@ fn strings_of(alloc: Global, texts: &[&str]) -> Result<Vec<String>, AllocError>
     Ok(strings)
 }
 
-/// The settings with which a profile is read: what the options say (machine, capabilities, kernel and so on), and these
-/// calls. The kernel's version is `None` where `--kernel` isn't given. The caller's condition: the words behind the
-/// options fit, as `profile_words_fit` says. So no word is unknown, and the values that stand here for unknown words
-/// aren't used. An error where an allocation is refused.
+/// The settings with which a profile is read: what the options say, and these calls. The words are known, so the values
+/// that stand here for unknown ones aren't used.
 pub(crate) fn settings_of(
     alloc: Global,
     found: &ArgMatches<'_>,
@@ -177,9 +166,7 @@ pub(crate) fn settings_of(
     })
 }
 
-/// The first option of `profile` with a word that it doesn't take, in the order `--machine`, `--conflicts`, `--kernel`,
-/// `--cap`: the option as messages call it, the word, and what the option takes. `None` where each option takes its
-/// words.
+/// The first option of `profile` with a word that it doesn't take: the option, the word, and what the option takes.
 fn wrong_word<'a>(found: &ArgMatches<'a>) -> Option<(&'static str, &'a str, &'static str)> {
     let machine = text_of(found, "machine");
     if machine_named(machine).is_none() {
@@ -209,9 +196,7 @@ fn wrong_word<'a>(found: &ArgMatches<'a>) -> Option<(&'static str, &'a str, &'st
     None
 }
 
-/// The lines that tell the first word of `profile` that its option doesn't take, and what the option takes, in the form
-/// in which `clap` says it. The last line points to `--help`. The text is empty where each option takes its words. An
-/// error where an allocation is refused.
+/// The lines that tell the first word of `profile` that its option doesn't take, in the form in which `clap` says it.
 pub(crate) fn wrong_word_text(alloc: Global, found: &ArgMatches<'_>) -> Result<String, AllocError> {
     let mut text = String::new(alloc);
     if let Some((option, word, taken)) = wrong_word(found) {

@@ -7,7 +7,7 @@ ghost use Rattle.std.specs.Str.{bytes_eq};
 ghost use Rattle.std.specs.Option.{option_map_or};
 ghost use Rattle.clap.specs.Words.{first_of, found_of, rows_of};
 ghost use Rattle.sf_calls.specs.Numbers.{comma_parts};
-ghost use Rattle.sf_policy.specs.declared.fault.Fault.TheVariants.{Memory as MemoryFault, UnknownName as UnknownNameFault};
+ghost use Rattle.sf_stack.specs.declared.fault.Fault.TheVariants.{Memory as MemoryFault, UnknownName as UnknownNameFault};
 ghost use Rattle.sf_evaluate.specs.Wanted.{are_known, calls_asked, calls_fit, digest_fits, has_rows_if_needed, is_known_call, is_wanted_once, is_relation, names_in_text, rows_fit};
 
 use super::asking::{has_names, is_given};
@@ -15,26 +15,23 @@ use crate::explaining::Notes;
 use clap::ArgMatches;
 use sf_command_line::{given_text, text_of};
 use sf_names::{Names, is_call_name};
-use sf_policy::Fault;
+use sf_stack::Fault;
 use std::alloc::{AllocError, Global};
 use std::io::Write;
 
-/// How many of the comma-separated names in a text are this one.
 fn count_of(text: &str, name: &str) -> usize
     ensures { result ≡ count_by (bytes_eq name.now) (comma_parts text.now) }
 {
     text.split(',').filter(|part| name == *part).count()
 }
 
-/// Whether a name can be that of a call, and stands exactly once among the comma-separated names in a text.
 fn is_name_once(text: &str, name: &str) -> bool
     ensures { result ≡ is_wanted_once (comma_parts text.now) name.now }
 {
     is_call_name(name) && count_of(text, name) == 1
 }
 
-/// Whether each of the comma-separated names in a text can be that of a call, and stands there only once. True for an
-/// empty text, which has no names.
+/// Whether each of the comma-separated names in a text can be that of a call, and stands there only once.
 fn are_names(text: &str) -> bool
     ensures { result ≡ list_all (is_wanted_once (names_in_text text.now))
         (names_in_text text.now) }
@@ -42,8 +39,8 @@ fn are_names(text: &str) -> bool
     text.is_empty() || text.split(',').all(|name| is_name_once(text, name))
 }
 
-/// Whether `--names` gives a file of names, and each name behind `--calls` can be that of a call and stands there only
-/// once. True where `--calls` isn't given. `--calls` with an empty text asks for all calls, and needs only the file.
+/// Whether `--calls`, if it is given, has right names, each once, and `--names` a file. With an empty text it asks for
+/// all calls.
 pub fn calls_fit(found: &ArgMatches<'_>) -> bool
     ensures { result ≡ calls_fit (rows_of (found_of found.now)) }
 {
@@ -53,14 +50,12 @@ pub fn calls_fit(found: &ArgMatches<'_>) -> bool
     }
 }
 
-/// Whether a word is that of a relation between the answers of two stacks: `looser`, `tighter` or `different`.
 fn is_relation(word: &str) -> bool
     ensures { result ≡ is_relation word.now }
 {
     word == "looser" || word == "tighter" || word == "different"
 }
 
-/// Whether the word of `--only` names a relation. True where the option isn't given.
 fn only_fits(found: &ArgMatches<'_>) -> bool
     ensures { result ≡ option_map_or is_relation
         (first_of (codes "only") (rows_of (found_of found.now))) true }
@@ -71,24 +66,23 @@ fn only_fits(found: &ArgMatches<'_>) -> bool
     }
 }
 
-/// Whether `--rows` is given, or neither `--calls` nor `--only` is. These two options of `compare` say how rows are
-/// shown, so they need `--rows`. (A switch that is given has the text `true`.)
+/// Whether `--rows` is given, or neither `--calls` nor `--only`, which say how rows are shown. A switch that is given
+/// has the text `true`.
 fn has_rows_if_needed(found: &ArgMatches<'_>) -> bool
     ensures { result ≡ has_rows_if_needed (rows_of (found_of found.now)) }
 {
     text_of(found, "rows") == "true" || !(is_given(found, "calls") || is_given(found, "only"))
 }
 
-/// Whether the options of `compare` about rows fit: `--calls` and `--only` come only with `--rows`, and `--only`, if it
-/// is given, names a relation.
+/// Whether the options of `compare` about rows fit: `--calls` and `--only` come only with `--rows`, and `--only` names
+/// a relation.
 pub fn rows_fit(found: &ArgMatches<'_>) -> bool
     ensures { result ≡ rows_fit (rows_of (found_of found.now)) }
 {
     has_rows_if_needed(found) && only_fits(found)
 }
 
-/// Whether `--digest` isn't given, or is given without `--names`, `--calls` and `--json`. (A switch that is given has
-/// the text `true`.)
+/// Whether `--digest`, if it is given, stands without `--names`, `--calls` and `--json`.
 pub fn digest_fits(found: &ArgMatches<'_>) -> bool
     ensures { result ≡ digest_fits (rows_of (found_of found.now)) }
 {
@@ -96,8 +90,6 @@ pub fn digest_fits(found: &ArgMatches<'_>) -> bool
         || !(has_names(found) || is_given(found, "calls") || text_of(found, "json") == "true")
 }
 
-/// The names in a text, with commas between them; an empty list where the text is empty. An error where an allocation
-/// is refused.
 fn names_in_text<'a>(alloc: Global, text: &'a str) -> Result<Vec<&'a str>, AllocError>
     ensures { IfOk result (λ v. map (λ t. t.now) v.items ≡ names_in_text text.now) }
 {
@@ -107,8 +99,7 @@ fn names_in_text<'a>(alloc: Global, text: &'a str) -> Result<Vec<&'a str>, Alloc
     text.split(',').collect(alloc)
 }
 
-/// The names of calls in the text of `--calls`, in order; `None` where the option isn't given. An empty list asks for
-/// all calls. `Memory` where an allocation is refused.
+/// The names of calls in the text of `--calls`; an empty list asks for all calls.
 fn calls_asked<'a>(alloc: Global, found: &ArgMatches<'a>) -> Result<Option<Vec<&'a str>>, Fault>
     ensures asked { IfOk result (λ o. option_map (λ v. map (λ t. t.now) v.items) o
         ≡ calls_asked (rows_of (found_of found.now))) }
@@ -120,23 +111,19 @@ fn calls_asked<'a>(alloc: Global, found: &ArgMatches<'a>) -> Result<Option<Vec<&
     }
 }
 
-/// Whether at least one of the sets has a call with this name.
 fn is_known_call(sets: &[Names], name: &str) -> bool
     ensures { result ≡ is_known_call sets.now name.now }
 {
     sets.iter().any(|names| names.number_of(name).is_some())
 }
 
-/// Whether for each of these names at least one of the sets has a call with it; different names may be in different
-/// sets. True where there are no names.
 fn are_all_known(sets: &[Names], names: &[&str]) -> bool
     ensures { result ≡ list_all (λ t. is_known_call sets.now t.now) names.now }
 {
     names.iter().all(|name| is_known_call(sets, name))
 }
 
-/// Whether each call that is asked for by its name is known, as by `are_all_known`. True where no call is asked for by
-/// its name: `calls` is `None` or an empty list, as `calls_asked` gives them.
+/// Whether each call that is asked for by its name is known. `calls` is as `calls_asked` gives it.
 fn are_known(sets: &[Names], calls: &Option<Vec<&str>>) -> bool
     ensures { result
         ≡ are_known sets.now (option_map (λ v. map (λ t. t.now) v.items) calls.now) }
@@ -147,18 +134,15 @@ fn are_known(sets: &[Names], calls: &Option<Vec<&str>>) -> bool
     }
 }
 
-/// The place, from 0, of the first of the comma-separated names in a text for which no set has a call; 0 also where a
-/// set has a call for each name.
+/// The place, from 0, of the first of the comma-separated names in a text for which no set has a call.
 fn unknown_place(sets: &[Names], text: &str) -> usize {
     text.split(',')
         .position(|name| !is_known_call(sets, name))
         .unwrap_or(0)
 }
 
-/// The names of calls in the text of `--calls`, as `calls_asked` gives them: `None` where the option isn't given, and
-/// an empty list where it asks for all calls. For each name, at least one of the sets has a call with it. `UnknownName`
-/// where for one of the names no set has a call: then the notes get the place of the first such name. `Memory` where
-/// an allocation is refused.
+/// The names of calls in the text of `--calls`, for each of which a set has a call; an empty list asks for all calls.
+/// Where one is unknown, the notes get the place of the first such name.
 pub fn known_calls<'a>(
     alloc: Global,
     found: &ArgMatches<'a>,
@@ -180,8 +164,7 @@ pub fn known_calls<'a>(
     Ok(calls)
 }
 
-/// The first of the comma-separated names in a text that can't be that of a call, or that stands there more than once;
-/// `None` where there is no such name, as in an empty text.
+/// The first of the comma-separated names in a text that can't be that of a call, or that stands there more than once.
 fn wrong_name(text: &str) -> Option<&str> {
     if text.is_empty() {
         return None;
@@ -189,11 +172,8 @@ fn wrong_name(text: &str) -> Option<&str> {
     text.split(',').find(|name| !is_name_once(text, name))
 }
 
-/// Adds the lines that say what is wrong with `--calls`. The caller has seen that `calls_fit` is false. Where `--names`
-/// gives no file of names, the line says so. Else it tells the first name in the text of `--calls` that can't be that
-/// of a call, or that stands there more than once. A name that can't be that of a call may be the path of a filter that
-/// `--calls` took as its text: so for such a name a further line says how to ask for all calls. An error where an
-/// allocation is refused; a part of the lines may stand in the text then.
+/// Adds the lines that say what is wrong with `--calls`. A name that can't be that of a call may be the path of a
+/// filter that `--calls` took as its text: so for such a name a further line says how to ask for all calls.
 pub(crate) fn push_wrong_calls(
     text: &mut String,
     found: &ArgMatches<'_>,
@@ -214,17 +194,13 @@ pub(crate) fn push_wrong_calls(
     )
 }
 
-/// Adds the line that says what is wrong with `--digest`. The caller has seen that `digest_fits` is false. An error
-/// where an allocation is refused; a part of the line may stand in the text then.
 pub(crate) fn push_wrong_digest(text: &mut String) -> Result<(), AllocError> {
     text.push_str(
         "error: --digest is that of all rows: give it without --names, --calls and --json\n",
     )
 }
 
-/// Adds the lines that say what is wrong with the options about the rows of a comparison: the word of `--only` names no
-/// relation, or else `--rows` is missing. The caller has seen that `rows_fit` is false, so one of the two is so. An
-/// error where an allocation is refused; a part of the lines may stand in the text then.
+/// Adds the lines that say what is wrong with the options about the rows of a comparison.
 pub(crate) fn push_wrong_rows(text: &mut String, found: &ArgMatches<'_>) -> Result<(), AllocError> {
     let only = found.get_str("only").unwrap_or("different");
     if is_relation(only) {

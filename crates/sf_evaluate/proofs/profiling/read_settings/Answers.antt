@@ -2,7 +2,7 @@ use Rattle.std.proofs.Common.{codes, inl, inr, refl, subst, sym}
 use Rattle.clap.specs.Words.{found_of, rows_of}
 use Rattle.sf_command_line.specs.Options.{ArePaths}
 use Rattle.sf_command_line.specs.OptionsLaws.{paths_found}
-use Rattle.sf_policy.specs.declared.fault.Fault.TheVariants.{Memory}
+use Rattle.sf_stack.specs.declared.fault.Fault.TheVariants.{Memory}
 use Rattle.sf_evaluate.specs.declared.fault.Fault.TheVariants.{Other}
 use Rattle.sf_evaluate.specs.Faults.{of_profile}
 use Rattle.sf_evaluate.specs.FilesLaws.{handed_on}

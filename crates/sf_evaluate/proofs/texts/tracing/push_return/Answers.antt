@@ -1,7 +1,7 @@
 use Rattle.std.proofs.Common.{string_bytes}
 use Rattle.std.specs.Fmt.{decimal}
 use Rattle.std.proofs.lemmas.Result.{on_ok_weaker}
-use Rattle.sf_policy.specs.Texts.{action_text}
+use Rattle.sf_stack.specs.Texts.{action_text}
 use Rattle.sf_evaluate.specs.Traces.{stands_text}
 use Rattle.sf_evaluate.proofs.TraceLemmas.{return_parts}
 use Rattle.sf_evaluate.proofs.texts.tracing.push_return.Goals as goal
