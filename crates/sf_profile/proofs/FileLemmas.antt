@@ -6,7 +6,7 @@ use Rattle.serde_json.specs.Data.{Data}
 use Rattle.sf_profile.specs.declared.fault.Fault.{Fault}
 use Rattle.sf_profile.specs.declared.fault.Fault.TheVariants as faults
 use Rattle.sf_profile.specs.declared.settings.Settings.{Settings}
-use Rattle.sf_profile.specs.Form.{form}
+use Rattle.sf_profile.specs.Form.{form, form_bytes}
 use Rattle.sf_profile.specs.Plans.{plan_of}
 use Rattle.sf_profile.specs.Configs.{profile_in}
 use Rattle.sf_profile.specs.Refusals.{profile_refusal, refusal_of}
@@ -15,10 +15,11 @@ use Rattle.sf_profile.specs.Notes.{AreNotesOf, AreNotesOfFile, AreUnknownIn, nam
 
 pub file_made : {V : Type 0} (r : Result V Fault) (items : V → List ℕ) (s : Settings) (file profile : Data)
     → profile_in file ≡ Some profile → IfOk r (λ v. profile_refusal s profile ≡ None)
+    → IfOk r (λ v. items v ≡ form_bytes (plan_of s profile))
     → IfOk r (λ v. IsFilterOf (items v) (plan_of s profile)) → IfOk r (λ v. MakesFilter s file (items v))
-file_made (Ok v) items s file profile e a m =
-    record { accepts = record { profile = profile; is_there = e; accepted = a }; filter = m }
-file_made (Err fault) items s file profile e a m = tt
+file_made (Ok v) items s file profile e a f m =
+    record { accepts = record { profile = profile; is_there = e; accepted = a }; is_form = f; filter = m }
+file_made (Err fault) items s file profile e a f m = tt
 
 pub file_refused : {V : Type 0} (r : Result V Fault) (s : Settings) (file profile : Data)
     → profile_in file ≡ Some profile

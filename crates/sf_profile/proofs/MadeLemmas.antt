@@ -1,11 +1,12 @@
 -- The bytes that are written are the profile's filter.
-use Rattle.std.proofs.Common.{◌≡◌, ℕ, ◌≤◌, List, true, length, map, subst, sym, arith}
+use Rattle.std.proofs.Common.{◌≡◌, ℕ, ◌*◌, ◌/◌, ◌≤◌, List, [], ◌∷◌, true, length, length-append, map, ap, ◌∙◌, refl, subst, sym, arith}
 use Rattle.std.proofs.lemmas.Bool.Decides.{nat_tests}
+use Rattle.std.proofs.lemmas.List.{length-map}
 use Rattle.sf_insn.specs.declared.raw.RawInsn.{RawInsn}
-use Rattle.sf_insn.specs.Spelling.{spelling, AreInsns}
+use Rattle.sf_insn.specs.Spelling.{insn_bytes, spelling, AreInsns}
 use Rattle.sf_check.specs.Programs.{Spells}
 use Rattle.sf_profile.specs.Data.{PlanData}
-use Rattle.sf_profile.specs.Form.{form, fits, raw_of}
+use Rattle.sf_profile.specs.Form.{form, fits, form_bytes, raw_of}
 use Rattle.sf_profile.specs.Filters.{IsFilterOf}
 use Rattle.sf_profile.specs.declared.instruction.Instruction.{Instruction}
 use Rattle.sf_profile.proofs.RunLemmas.{insn_of}
@@ -15,8 +16,23 @@ use Rattle.sf_profile.proofs.PlainLemmas.{form_plain}
 use Rattle.sf_profile.proofs.SpellingLemmas.{spells}
 use Rattle.sf_profile.proofs.FormLemmas.{form_answers}
 
-short : (code : List Instruction) → fits code ≡ true → length code ≤ 4096
-short code h = grind (arith, nat_tests)
+pub fitting : (code : List Instruction) → fits code ≡ true → length code ≤ 4096
+fitting code h = grind (arith, nat_tests)
+
+length_spelling : (raws : List RawInsn) → length (spelling raws) ≡ 8 * length raws
+length_spelling [] = refl
+length_spelling (r ∷ raws) =
+    let more = length_spelling raws in
+    let joined = length-append (insn_bytes r) (spelling raws) in
+    let eight : length (insn_bytes r) ≡ 8 = refl in
+    omega arith
+
+-- an instruction has eight bytes
+pub counted : (plan : PlanData) (bytes : List ℕ) → bytes ≡ form_bytes plan → length bytes / 8 ≡ length (form plan)
+counted plan bytes same =
+    let all = ap length same ∙ length_spelling (map raw_of (form plan)) in
+    let each = length-map (form plan) raw_of in
+    omega arith
 
 pub made : (plan : PlanData) (raws : List RawInsn) (bytes : List ℕ) → bytes ≡ spelling raws → AreInsns raws
     → raws ≡ map raw_of (form plan) → fits (form plan) ≡ true → IsFilterOf bytes plan
@@ -28,9 +44,9 @@ made plan raws bytes spelled fields same fit = record {
     spelled = spelled;
     read = subst (λ (r : List RawInsn). Spells r (map insn_of (form plan))) (sym same)
         (spells 0 (form plan) (form_leads plan));
-    lawful = form_lawful plan (short (form plan) fit) written;
+    lawful = form_lawful plan (fitting (form plan) fit) written;
   };
-  answers = λ d input. form_answers plan d (short (form plan) fit) written input;
+  answers = λ d input. form_answers plan d (fitting (form plan) fit) written input;
   plain = form_plain plan;
 }
   where

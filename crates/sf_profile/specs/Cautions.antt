@@ -17,6 +17,7 @@ use Rattle.sf_profile.specs.Meaning.{number_in}
 use Rattle.sf_profile.specs.Plans.{applies, comparison_of, plan_of}
 use Rattle.sf_profile.specs.Configs.{profile_in}
 use Rattle.sf_profile.specs.Refusals.{profile_refusal}
+use Rattle.sf_profile.specs.Form.{form_bytes}
 use Rattle.sf_profile.specs.Filters.{IsFilterOf, IsTree}
 
 -- ---- comparisons under a mask
@@ -65,6 +66,7 @@ pub record AreProgramOf (bytes : List ℕ) (programs : List (List Insn)) : Type 
 pub record HaveZeroErrors (s : Settings) (profile : Data) (numbers : List ℕ) : Type 0 where
   pub accepted : profile_refusal s profile ≡ None
   pub bytes : List ℕ
+  pub is_form : bytes ≡ form_bytes (plan_of s profile)
   pub filter : IsFilterOf bytes (plan_of s profile)
   pub programs : List (List Insn)
   pub are_program : AreProgramOf bytes programs

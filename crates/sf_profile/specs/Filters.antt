@@ -17,7 +17,7 @@ use Rattle.sf_profile.specs.declared.rules.Comparing.TheVariants.{MaskedEqual}
 use Rattle.sf_profile.specs.declared.rules.Comparison.{Comparison}
 use Rattle.sf_profile.specs.Data.{SetRulesData, PlanData, RuleData}
 use Rattle.sf_profile.specs.Meaning.{meaning}
-use Rattle.sf_profile.specs.Form.{form}
+use Rattle.sf_profile.specs.Form.{form, form_bytes}
 use Rattle.sf_profile.specs.declared.settings.Settings.{Settings}
 use Rattle.sf_profile.specs.Repeats.{last_rules, IsFaultOfRepeat}
 use Rattle.sf_profile.specs.Configs.{profile_in}
@@ -47,9 +47,10 @@ pub record Accepts (s : Settings) (file : Data) : Type 0 where
   pub is_there : profile_in file ≡ Some profile
   pub accepted : profile_refusal s profile ≡ None
 
--- a file has a profile that isn't refused, and the bytes are its filter
+-- a file has a profile that isn't refused, and the bytes are its filter, of which there is one
 pub record MakesFilter (s : Settings) (file : Data) (bytes : List ℕ) : Type 0 where
   pub accepts : Accepts s file
+  pub is_form : bytes ≡ form_bytes (plan_of s accepts.profile)
   pub filter : IsFilterOf bytes (plan_of s accepts.profile)
 
 -- a file has a profile that isn't refused, but its filter would be too long

@@ -1,10 +1,11 @@
 -- The form of the filter that is written. Nothing has to be believed of it: what it answers is proved to be the
 -- meaning.
-use Rattle.std.specs.Prelude.{ℕ, ◌+◌, ◌*◌, ◌/◌, ◌%◌, ◌^◌, Bool, true, false, ◌==◌, ◌&&◌, nat_lt, nat_le, max, fold, bit_and, if◌then◌else◌, List, [], ◌∷◌, ◌++◌, length, Option, Some, None}
+use Rattle.std.specs.Prelude.{ℕ, ◌+◌, ◌*◌, ◌/◌, ◌%◌, ◌^◌, Bool, true, false, ◌==◌, ◌&&◌, nat_lt, nat_le, max, fold, bit_and, if◌then◌else◌, List, [], ◌∷◌, ◌++◌, length, map, Option, Some, None}
 use Rattle.std.specs.List.{list_all, flat_map}
 use Rattle.sf_insn.specs.declared.raw.RawInsn.{RawInsn}
 use Rattle.sf_insn.specs.declared.ops.Test.{Test}
 use Rattle.sf_insn.specs.declared.ops.Test.TheVariants as tests
+use Rattle.sf_insn.specs.Spelling.{spelling}
 use Rattle.sf_profile.specs.declared.rules.CallSet.{CallSet}
 use Rattle.sf_profile.specs.declared.rules.CallSet.TheVariants.{X64, X32}
 use Rattle.sf_profile.specs.declared.rules.Comparing.{Comparing}
@@ -199,6 +200,10 @@ raw_of (Mask k) = record { code = 0x54; jt = 0; jf = 0; k = k }
 raw_of (Branch test k on_true on_false) = record { code = code_of test; jt = on_true; jf = on_false; k = k }
 raw_of (Skip k) = record { code = 0x05; jt = 0; jf = 0; k = k }
 raw_of (Return k) = record { code = 0x06; jt = 0; jf = 0; k = k }
+
+-- the bytes of the whole filter
+abbrev pub form_bytes : PlanData → List ℕ
+form_bytes plan = spelling (map raw_of (form plan))
 
 -- an instruction whose jumps have their widths
 abbrev pub is_short : Instruction → Bool

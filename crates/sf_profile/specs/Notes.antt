@@ -1,5 +1,5 @@
 -- What is told of a profile.
-use Rattle.std.specs.Prelude.{◌≡◌, ℕ, ◌+◌, ◌/◌, List, [], ◌∷◌, ◌++◌, codes, length, filter, fold, Some, None, if◌then◌else◌}
+use Rattle.std.specs.Prelude.{◌≡◌, ◌≤◌, ℕ, ◌+◌, List, [], ◌∷◌, ◌++◌, codes, length, filter, fold, Some, None, if◌then◌else◌}
 use Rattle.std.specs.List.{list_any, flat_map}
 use Rattle.std.specs.Str.{bytes_eq}
 use Rattle.std.specs.Fmt.{decimal}
@@ -15,7 +15,8 @@ use Rattle.sf_profile.specs.Known.{is_nowhere}
 use Rattle.sf_profile.specs.Plans.{applies, rule_names, response_at, sets_of, plan_of}
 use Rattle.sf_profile.specs.Configs.{profile_in}
 use Rattle.sf_profile.specs.Refusals.{profile_refusal}
-use Rattle.sf_profile.specs.Filters.{IsFilterOf, IsTree}
+use Rattle.sf_profile.specs.Form.{form}
+use Rattle.sf_profile.specs.Filters.{IsTree}
 
 -- the parts of a line one blank apart, and a line feed
 abbrev pub note_line : List (List ℕ) → List ℕ
@@ -108,12 +109,11 @@ notes_text s d size =
     ++ flat_map unknown_line (unknown_names s d)
     ++ instructions_line size
 
--- the notes of a profile's tree, with its filter
+-- the notes of a profile's tree, whose filter isn't too long
 pub record AreNotesOf (s : Settings) (profile : Data) (notes : List ℕ) : Type 0 where
   pub accepted : profile_refusal s profile ≡ None
-  pub filter : List ℕ
-  pub is_filter : IsFilterOf filter (plan_of s profile)
-  pub text : notes ≡ notes_text s profile (length filter / 8)
+  pub short : length (form (plan_of s profile)) ≤ 4096
+  pub text : notes ≡ notes_text s profile (length (form (plan_of s profile)))
 
 -- the notes of the profile in a file's tree
 pub record AreNotesOfFile (s : Settings) (file : Data) (notes : List ℕ) : Type 0 where

@@ -13,22 +13,21 @@ use crate::settings::Settings;
 use crate::tree::{at, items_at, text_of};
 use serde_json::Value;
 
-/// Whether at least one of the values is this text. A value that is no text counts as the empty one.
+/// Whether one of the values is this text. A value that is no text counts as the empty one.
 fn is_text_among(items: &[Value], text: &str) -> bool
     ensures { result ≡ list_any (λ v. bytes_eq text.now (text_in (view v))) items.now }
 {
     items.iter().any(|value| text == text_of(value))
 }
 
-/// The same as `is_text_among`. For the prover: its clause speaks of the texts of the values, as the definitions do.
+/// For the prover: `is_text_among`, said of the texts.
 fn has_text(items: &[Value], text: &str) -> bool
     ensures { result ≡ list_any (bytes_eq text.now) (map text_in (map view items.now)) }
 {
     is_text_among(items, text)
 }
 
-/// Whether a condition names the machine: the name that `arch_name_of_set` gives is among the condition's `arches`. The
-/// condition is `value`, the value of a rule's `includes` or `excludes`. False where `arches` is absent or no array.
+/// Whether the condition `value`, that of a rule's `includes` or `excludes`, names the machine.
 fn names_machine(settings: &Settings, value: &Value) -> bool
     ensures { result ≡ names_machine settings.now (view value.now) }
 {
@@ -38,37 +37,35 @@ fn names_machine(settings: &Settings, value: &Value) -> bool
     )
 }
 
-/// Whether a condition names no machine: its `arches` is absent, an empty array, or no array.
 fn names_none(value: &Value) -> bool
     ensures { result ≡ is_none (texts_at (codes "arches") (view value.now)) }
 {
     items_at(value, "arches").is_empty()
 }
 
-/// Whether the container has all capabilities that the values name. True where there are no values. A value that is no
-/// text counts as the empty name.
+/// Whether the container has all capabilities that the values name. A value that is no text counts as the empty name.
 fn has_each_cap(settings: &Settings, items: &[Value]) -> bool
     ensures { result ≡ list_all (λ v. has_cap settings.now (text_in (view v))) items.now }
 {
     items.iter().all(|value| settings.has_cap(text_of(value)))
 }
 
-/// The same as `has_each_cap`. For the prover: its clause speaks of the texts of the values, as the definitions do.
+/// For the prover: `has_each_cap`, said of the texts.
 fn has_caps(settings: &Settings, items: &[Value]) -> bool
     ensures { result ≡ list_all (has_cap settings.now) (map text_in (map view items.now)) }
 {
     has_each_cap(settings, items)
 }
 
-/// Whether the container has at least one of the capabilities that the values name. False where there are no values. A
-/// value that is no text counts as the empty name.
+/// Whether the container has one of the capabilities that the values name. A value that is no text counts as the empty
+/// name.
 fn has_some_cap(settings: &Settings, items: &[Value]) -> bool
     ensures { result ≡ list_any (λ v. has_cap settings.now (text_in (view v))) items.now }
 {
     items.iter().any(|value| settings.has_cap(text_of(value)))
 }
 
-/// The same as `has_some_cap`. For the prover: its clause speaks of the texts of the values, as the definitions do.
+/// For the prover: `has_some_cap`, said of the texts.
 fn has_a_cap(settings: &Settings, items: &[Value]) -> bool
     ensures { result ≡ list_any (has_cap settings.now) (map text_in (map view items.now)) }
 {
@@ -85,9 +82,7 @@ fn is_new_enough(kernel: Option<Version>, least: Option<Version>) -> bool
     }
 }
 
-/// Whether the kernel's version is the `minKernel` of the condition `value`, or newer. Where the condition has no
-/// `minKernel`, the result is `absent`. Where it has one, the result is false if the `minKernel` is no version, or the
-/// kernel's version isn't known.
+/// Whether the kernel's version is the `minKernel` of the condition `value`, or newer; `absent` where it has none.
 fn fits_kernel(absent: bool, settings: &Settings, value: &Value) -> bool
     ensures { result ≡ fits_kernel absent settings.now
         (at (codes "minKernel") (view value.now)) }
@@ -98,9 +93,8 @@ fn fits_kernel(absent: bool, settings: &Settings, value: &Value) -> bool
     }
 }
 
-/// Whether the `includes` of the rule `value` holds: it names the machine, or no machine; the container has all its
-/// capabilities; and the kernel's version is its `minKernel` or newer, or it has no `minKernel`. An absent `includes`
-/// holds.
+/// Whether the `includes` of a rule holds: it names the machine, or no machine; the container has all its capabilities;
+/// and the kernel's version is its `minKernel` or newer. An absent one holds.
 fn is_included(settings: &Settings, value: &Value) -> bool
     ensures { result ≡ is_included settings.now (at (codes "includes") (view value.now)) }
 {
@@ -112,8 +106,8 @@ fn is_included(settings: &Settings, value: &Value) -> bool
         && fits_kernel(true, settings, condition)
 }
 
-/// Whether the `excludes` of the rule `value` holds: it names the machine, or the container has one of its
-/// capabilities, or the kernel's version is its `minKernel` or newer. An absent `excludes` doesn't hold.
+/// Whether the `excludes` of a rule holds: it names the machine, or the container has one of its capabilities, or the
+/// kernel's version is its `minKernel` or newer. An absent one doesn't hold.
 fn is_excluded(settings: &Settings, value: &Value) -> bool
     ensures { result ≡ is_excluded settings.now (at (codes "excludes") (view value.now)) }
 {
@@ -125,8 +119,7 @@ fn is_excluded(settings: &Settings, value: &Value) -> bool
         || fits_kernel(false, settings, condition)
 }
 
-/// Whether the rule `value` applies to the machine, the container and the kernel: its `includes` holds, and its
-/// `excludes` doesn't.
+/// Whether a rule applies: its `includes` holds, and its `excludes` doesn't.
 pub(crate) fn applies(settings: &Settings, value: &Value) -> bool
     ensures { result ≡ applies settings.now (view value.now) }
 {

@@ -19,15 +19,13 @@ use crate::zeros::zeros_of_profile;
 use serde_json::Value;
 use std::alloc::{AllocError, Global};
 
-/// Whether a comparison looks only at the bits under a mask.
 fn is_masked(comparing: Comparing) -> bool
     ensures { result ≡ is_masked comparing }
 {
     matches!(comparing, Comparing::MaskedEqual)
 }
 
-/// Whether a comparison under a mask asks for a number with a bit outside the mask. That bit counts for nothing: only
-/// the bits under the mask are compared.
+/// Whether a comparison under a mask asks for a number with a bit outside the mask. That bit counts for nothing.
 fn is_loose(comparison: Comparison) -> bool
     ensures { result ≡ is_loose comparison }
 {
@@ -35,28 +33,25 @@ fn is_loose(comparison: Comparison) -> bool
         && comparison.value_two & comparison.value != comparison.value_two
 }
 
-/// Whether one of the comparisons that values describe is loose, as `is_loose` says.
 fn is_some_loose(items: &[Value]) -> bool
     ensures { result ≡ list_any (λ v. is_loose (comparison_of (view v))) items.now }
 {
     items.iter().any(|value| is_loose(comparison_of(value)))
 }
 
-/// The same as `is_some_loose`. For the prover: its clause speaks of the list of the values' JSON trees.
+/// For the prover: `is_some_loose`, said of their trees.
 fn has_loose(items: &[Value]) -> bool
     ensures { result ≡ list_any (λ v. is_loose (comparison_of v)) (map view items.now) }
 {
     is_some_loose(items)
 }
 
-/// Whether a rule applies and has a loose comparison, as `is_loose` says.
 fn has_loose_mask(settings: &Settings, value: &Value) -> bool
     ensures { result ≡ has_loose_mask settings.now (view value.now) }
 {
     applies(settings, value) && has_loose(items_at(value, "args"))
 }
 
-/// Adds the number if `wanted`; else nothing. An error where an allocation is refused.
 fn push_if(numbers: &mut Vec<usize>, wanted: bool, number: usize) -> Result<(), AllocError>
     ensures { OnOk result (numbers.new.items ≡ numbers.old.items ++ number_if wanted number) }
 {
@@ -66,8 +61,6 @@ fn push_if(numbers: &mut Vec<usize>, wanted: bool, number: usize) -> Result<(), 
     Ok(())
 }
 
-/// The numbers, from 1, of those of these rules of which `has_loose_mask` is true. An error where an allocation is
-/// refused.
 #[tactic(auto, using(crate::proofs::CautionLemmas::more_loose))]
 fn loose_rules(
     alloc: Global,
@@ -83,8 +76,7 @@ fn loose_rules(
     Ok(numbers)
 }
 
-/// The numbers, from 1, of those rules of the profile `value` of which `has_loose_mask` is true. `Memory` where an
-/// allocation is refused.
+/// The numbers, from 1, of those rules of the profile `value` of which `has_loose_mask` is true.
 fn loose_in_profile(alloc: Global, settings: &Settings, value: &Value) -> Result<Vec<usize>, Fault>
     ensures loose { IfOk result (λ v. v.items ≡ loose_masks settings.now (view value.now)) }
     ensures refused { IfErr result (λ e. e ≡ Fault.Memory) }
@@ -93,8 +85,6 @@ fn loose_in_profile(alloc: Global, settings: &Settings, value: &Value) -> Result
     Ok(numbers)
 }
 
-/// What `loose_in_profile` gives for the profile in a file's tree. `Key` where there is no profile; `Memory` where an
-/// allocation is refused.
 fn loose_in_file(alloc: Global, settings: &Settings, value: &Value) -> Result<Vec<usize>, Fault>
     ensures loose { IfOk result (λ v. IsInFile (λ p. v.items ≡ loose_masks settings.now p)
         (view value.now)) }
@@ -106,10 +96,9 @@ fn loose_in_file(alloc: Global, settings: &Settings, value: &Value) -> Result<Ve
     }
 }
 
-/// The numbers, from 1, of the rules of a profile that apply and have an `SCMP_CMP_MASKED_EQ` whose `valueTwo` has a
-/// bit outside its mask, which is `value`. The comparison doesn't ask for that bit. `bytes` are those of the profile's
-/// file. Refusals: `Syntax` as by `profile`; `Key` where a key comes twice, or there is no profile; `Memory` where an
-/// allocation is refused. Other faults of the profile aren't looked for.
+/// The numbers, from 1, of the rules that apply and have an `SCMP_CMP_MASKED_EQ` whose `valueTwo` has a bit outside its
+/// mask, which is `value`. Refusals: `Syntax`; `Key` where a key comes twice, or there is no profile. Other faults of
+/// the profile aren't looked for.
 pub fn loose_masks(alloc: Global, settings: &Settings, bytes: &[u8]) -> Result<Vec<usize>, Fault>
     ensures loose { IfOk result (λ v. IsInText (λ p. v.items ≡ loose_masks settings.now p)
         bytes.now) }
@@ -119,8 +108,6 @@ pub fn loose_masks(alloc: Global, settings: &Settings, bytes: &[u8]) -> Result<V
     loose_in_file(alloc, settings, &value)
 }
 
-/// What `zeros_of_profile` gives for the profile in a file's tree. `Key` where there is no profile; then what
-/// `zeros_of_profile` refuses.
 fn zeros_in_file(alloc: Global, settings: &Settings, value: &Value) -> Result<Vec<u32>, Fault>
     ensures zeros { IfOk result (λ v. IsInFile (λ p. HaveZeroErrors settings.now p v.items)
         (view value.now)) }
@@ -133,10 +120,8 @@ fn zeros_in_file(alloc: Global, settings: &Settings, value: &Value) -> Result<Ve
 }
 
 /// Numbers of calls that a profile answers by ERRNO 0: the call isn't made, and the program is told that it succeeded.
-/// Each is there once, and each is the number of an input that the profile's filter answers so. These inputs are found
-/// by trying what the rules suggest, so a number may be missing; but each call that a rule answers so, and each of a
-/// set's calls where the default does, is tried. `bytes` are those of the profile's file. The refusals are those of
-/// `profile`.
+/// They are found by trying what the rules suggest, so a number may be missing; but each call that a rule answers so,
+/// and each of a set's calls where the default does, is tried.
 pub fn zero_errors(alloc: Global, settings: &Settings, bytes: &[u8]) -> Result<Vec<u32>, Fault>
     ensures zeros { IfOk result (λ v. IsInText (λ p. HaveZeroErrors settings.now p v.items)
         bytes.now) }

@@ -1,4 +1,4 @@
-//! The code of comparisons. After an error a part of what was to be added may stand in the code; the callers drop it.
+//! The code of comparisons.
 
 ghost use Rattle.std.specs.Prelude.{◌≡◌, ◌++◌, ◌+◌, ◌<◌, ◌^◌, IfOk, OnOk, true, false};
 ghost use Rattle.sf_profile.specs.Form.{comparison_code, comparisons_code, equal_code, high, low, masked_code, order_code, test_code, wide_code};
@@ -18,19 +18,16 @@ struct Asked {
     value: u64,
     /// How many instructions behind the test's code are skipped where the test holds.
     on_true: usize,
-    /// How many of them are skipped where it doesn't.
     on_false: usize,
     ghost near: { (word < 15) × (on_true < 2 ^ 63) × (on_false < 2 ^ 63) },
 }
 
-/// The low half of a number.
 pub(crate) fn low(value: u64) -> u32
     ensures { result ≡ low value }
 {
     (value & 0xffff_ffff) as u32
 }
 
-/// The high half of a number.
 pub(crate) fn high(value: u64) -> u32
     ensures { result ≡ high value }
 {
@@ -53,8 +50,7 @@ pub(crate) fn word_of(argument: Argument) -> u8
 }
 
 /// Adds a test of 64 bits for equality: first of the high halves, then of the low ones. Where the high halves differ,
-/// the first branch also skips the rest of this code, which is two instructions (`+ 2`). An error where an allocation
-/// is refused.
+/// the first branch also skips the rest of this code, two instructions.
 fn push_equal(code: &mut Vec<Instruction>, asked: Asked) -> Result<(), AllocError>
     ensures { OnOk result (code.new.items ≡ code.old.items
         ++ equal_code asked.word asked.value asked.on_true asked.on_false) }
@@ -67,10 +63,8 @@ fn push_equal(code: &mut Vec<Instruction>, asked: Asked) -> Result<(), AllocErro
     ])
 }
 
-/// Adds a test of 64 bits for an order. It holds where the argument's high half is greater than the value's, and fails
-/// where it is smaller; where the high halves are equal, the low halves are compared by `test`, which is `Greater` or
-/// `GreaterOrEqual`. Where the high halves differ, a branch also skips the rest of this code: three instructions behind
-/// the first branch (`+ 3`), and two behind the second one (`+ 2`). An error where an allocation is refused.
+/// Adds a test of 64 bits for an order, `Greater` or `GreaterOrEqual`. The high halves decide; where they are equal,
+/// the low ones do. Where the high halves differ, a branch also skips the rest of this code.
 fn push_order(code: &mut Vec<Instruction>, test: Test, asked: Asked) -> Result<(), AllocError>
     ensures { OnOk result (code.new.items ≡ code.old.items
         ++ order_code test asked.word asked.value asked.on_true asked.on_false) }
@@ -84,8 +78,7 @@ fn push_order(code: &mut Vec<Instruction>, test: Test, asked: Asked) -> Result<(
     ])
 }
 
-/// Adds a test of 32 bits: the low half of the argument is compared by `test` with the low half of the value. An error
-/// where an allocation is refused.
+/// Adds a test of the low 32 bits.
 fn push_narrow(code: &mut Vec<Instruction>, test: Test, asked: Asked) -> Result<(), AllocError>
     ensures { OnOk result (code.new.items ≡ code.old.items
         ++ test_code false test asked.word asked.value asked.on_true asked.on_false) }
@@ -96,8 +89,7 @@ fn push_narrow(code: &mut Vec<Instruction>, test: Test, asked: Asked) -> Result<
     ])
 }
 
-/// Adds a test of 64 bits. `test` is never `AnyBit`: no comparison asks for a common bit. An error where an allocation
-/// is refused.
+/// Adds a test of 64 bits. `test` is never `AnyBit`: no comparison asks for a common bit.
 fn push_wide(code: &mut Vec<Instruction>, test: Test, asked: Asked) -> Result<(), AllocError>
     ensures { OnOk result (code.new.items ≡ code.old.items
         ++ wide_code test asked.word asked.value asked.on_true asked.on_false) }
@@ -108,8 +100,6 @@ fn push_wide(code: &mut Vec<Instruction>, test: Test, asked: Asked) -> Result<()
     }
 }
 
-/// Adds a test of 64 bits if `wide`, and else of the low 32. `test` is never `AnyBit`. An error where an allocation is
-/// refused.
 fn push_test(
     code: &mut Vec<Instruction>,
     wide: bool,
@@ -126,10 +116,8 @@ fn push_test(
     }
 }
 
-/// Adds a test whether an argument of 64 bits has the bits of `value_two` under the mask `asked.value`. Bits outside
-/// the mask may differ. Where the test holds, nothing is skipped: `asked.on_true` isn't used. Where the high halves
-/// differ under the mask, the first branch also skips the rest of this code, which is three instructions (`+ 3`). An
-/// error where an allocation is refused.
+/// Adds a test whether an argument of 64 bits has the bits of `value_two` under the mask `asked.value`. Where the test
+/// holds, nothing is skipped: `asked.on_true` isn't used.
 fn push_wide_mask(
     code: &mut Vec<Instruction>,
     asked: Asked,
@@ -154,9 +142,7 @@ fn push_wide_mask(
     ])
 }
 
-/// Adds a test whether the low half of an argument has the bits of `value_two` under the mask `asked.value`. Bits
-/// outside the mask may differ, and no high half is looked at. Where the test holds, nothing is skipped:
-/// `asked.on_true` isn't used. An error where an allocation is refused.
+/// The same for the low 32 bits.
 fn push_narrow_mask(
     code: &mut Vec<Instruction>,
     asked: Asked,
@@ -173,8 +159,6 @@ fn push_narrow_mask(
     ])
 }
 
-/// Adds the test under a mask of `push_wide_mask` if `wide`, and else that of `push_narrow_mask`. An error where an
-/// allocation is refused.
 fn push_mask(
     code: &mut Vec<Instruction>,
     wide: bool,
@@ -191,10 +175,9 @@ fn push_mask(
     }
 }
 
-/// Adds the code of a comparison: of 64 bits if `wide`, and else of the low 32. Where the comparison holds, the run
-/// goes on behind this code; where it doesn't, `after` instructions behind this code are skipped. There is no
-/// instruction that tests for `NotEqual`, `Less` or `LessOrEqual`: for these the contrary is tested, and the two skips
-/// change places. An error where an allocation is refused. The caller's condition: `after` is below 2^63.
+/// Adds the code of a comparison, of 64 bits or of the low 32. Where it doesn't hold, `after` instructions behind this
+/// code are skipped. No instruction tests for `NotEqual`, `Less` or `LessOrEqual`: for these the contrary is tested,
+/// and the two skips change places.
 fn push_comparison(
     code: &mut Vec<Instruction>,
     wide: bool,
@@ -230,10 +213,9 @@ fn push_comparison(
     }
 }
 
-/// The code of a rule's comparisons, of 64 bits if `wide`, and else of the low 32. Where one doesn't hold, the code of
-/// those behind it is skipped, and one instruction more: the return that the caller puts behind the comparisons. The
-/// function calls itself for the comparisons behind the first, since the length of their code says how far the first
-/// one skips. An error where an allocation is refused.
+/// The code of a rule's comparisons. Where one doesn't hold, the code of those behind it is skipped, and the return
+/// that the caller puts behind them. The length of the code behind a comparison says how far it skips, so this calls
+/// itself.
 pub(crate) fn comparisons_code(
     alloc: Global,
     wide: bool,

@@ -30,14 +30,12 @@ fn folded(letter: char) -> char
     letter.to_ascii_lowercase()
 }
 
-/// Whether a character and a byte, which is ASCII, differ at most in case.
 fn is_letter(letter: char, byte: u8) -> bool
     ensures { result ≡ (folded letter == to_ascii_lowercase byte) }
 {
     folded(letter) == char::from(byte.to_ascii_lowercase())
 }
 
-/// Whether a key has just these letters, in whatever case.
 fn has_letters(key: &str, letters: &[u8]) -> bool
     ensures { result ≡ is_taken_for key.now letters.now }
 {
@@ -61,14 +59,13 @@ pub(crate) fn is_taken_for(key: &str, known: &str) -> bool
     has_letters(key, known.as_bytes())
 }
 
-/// Whether Go takes a key for one of these.
 fn is_taken_for_one(key: &str, known: &[&str]) -> bool
     ensures { result ≡ list_any (λ k. is_taken_for key.now k.now) known.now }
 {
     known.iter().any(|k| is_taken_for(key, *k))
 }
 
-/// The same as `is_taken_for_one`. For the prover: its clause speaks of the list of the known keys' texts.
+/// For the prover: `is_taken_for_one`, said of the texts.
 fn is_taken_for_any(key: &str, known: &[&str]) -> bool
     ensures { result ≡ list_any (is_taken_for key.now) (map (λ k. k.now) known.now) }
 {
@@ -89,7 +86,6 @@ fn is_clear(key: &str, own: &str, others: &[&str]) -> bool
     key == own || !(has_zero(key) || is_taken_for(key, own) || is_taken_for_any(key, others))
 }
 
-/// Whether each key of an object is clear, as `is_clear` says.
 fn has_clear_keys(object: &Map<String, Value>, own: &str, others: &[&str]) -> bool
     ensures { result ≡ list_all (λ key. is_clear own.now (map (λ k. k.now) others.now)
         (string_bytes key)) (keys object.now) }
@@ -97,7 +93,7 @@ fn has_clear_keys(object: &Map<String, Value>, own: &str, others: &[&str]) -> bo
     object.keys().all(|key| is_clear(key.as_str(), own, others))
 }
 
-/// The same as `has_clear_keys`. For the prover: its clause speaks of the members of the object's tree.
+/// For the prover: `has_clear_keys`, said of the tree's members.
 fn keys_are_clear(object: &Map<String, Value>, own: &str, others: &[&str]) -> bool
     ensures { result ≡ all_keys (is_clear own.now (map (λ k. k.now) others.now))
         (members_view object.now.entries) }
@@ -105,7 +101,6 @@ fn keys_are_clear(object: &Map<String, Value>, own: &str, others: &[&str]) -> bo
     has_clear_keys(object, own, others)
 }
 
-/// Whether a value is an object, and each of its keys is clear, as `is_clear` says.
 fn is_clear_object(value: &Value, own: &str, others: &[&str]) -> bool
     ensures { result ≡ is_object_with (is_clear own.now (map (λ k. k.now) others.now))
         (view value.now) }
@@ -130,7 +125,6 @@ fn are_clear_annotations(value: &Value) -> bool
     is_clear_object(value, "", &[]) && is_absent(value, OTHER_FILTER)
 }
 
-/// Whether the annotations of a whole config.json are absent, or clear, as `are_clear_annotations` says.
 fn has_clear_annotations(value: &Value) -> bool
     ensures { result ≡ absent_or are_clear_annotations
         (at (codes "annotations") (view value.now)) }
@@ -148,28 +142,25 @@ fn is_oci_rule(value: &Value) -> bool
     is_absent(value, "name") && is_absent(value, "includes") && is_absent(value, "excludes")
 }
 
-/// Whether each rule is in OCI's form, as `is_oci_rule` says.
 fn are_each_oci_rules(items: &[Value]) -> bool
     ensures { result ≡ list_all (λ v. is_oci_rule (view v)) items.now }
 {
     items.iter().all(|value| is_oci_rule(value))
 }
 
-/// The same as `are_each_oci_rules`. For the prover: its clause speaks of the list of the values' JSON trees.
+/// For the prover: `are_each_oci_rules`, said of their trees.
 fn are_oci_rules(items: &[Value]) -> bool
     ensures { result ≡ list_all is_oci_rule (map view items.now) }
 {
     are_each_oci_rules(items)
 }
 
-/// Whether a profile is in OCI's form: neither it nor one of its rules has a key that only docker and podman know.
 fn is_oci_profile(value: &Value) -> bool
     ensures { result ≡ is_oci_profile (view value.now) }
 {
     is_absent(value, "archMap") && are_oci_rules(items_at(value, "syscalls"))
 }
 
-/// Whether `linux` of a whole config.json has no `seccomp`, or one in OCI's form, as `is_oci_profile` says.
 fn has_oci_profile(linux: &Value) -> bool
     ensures { result ≡ absent_or is_oci_profile (at (codes "seccomp") (view linux.now)) }
 {
@@ -179,9 +170,9 @@ fn has_oci_profile(linux: &Value) -> bool
     }
 }
 
-/// Whether all runtimes find the same `linux` in a whole config.json and the same `seccomp` in it, know each key of
-/// this, and find no key of a profile beside `linux`, and no other filter. Such keys are no unknown ones: podman reads
-/// a profile at the top, and Go takes keys for others that differ from them in case.
+/// Whether all runtimes find the same profile in a whole config.json, know each key of it, and find no key of a profile
+/// beside `linux`, and no other filter. podman reads a profile at the top, and Go takes keys for others that differ
+/// from them in case.
 fn is_clear_config(value: &Value, linux: &Value) -> bool
     ensures { result ≡ is_clear_config (view value.now) (view linux.now) }
 {
@@ -191,9 +182,8 @@ fn is_clear_config(value: &Value, linux: &Value) -> bool
         && has_oci_profile(linux)
 }
 
-/// The profile in a file's tree. Where there is a key `linux`, the file is a whole config.json, whose profile is at the
-/// key `seccomp` below `linux`; `None` where there is no `seccomp`, or not all runtimes would take this one, as
-/// `is_clear_config` says. Where there is no `linux`, the tree itself is the profile.
+/// The profile in a file's tree: that of a whole config.json, which has a key `linux`, unless runtimes would differ; or
+/// the tree itself.
 pub(crate) fn profile_in(value: &Value) -> Option<&Value>
     ensures { option_map (λ v. view v.now) result ≡ profile_in (view value.now) }
 {

@@ -143,28 +143,24 @@ const ERROR_NAMES: [(&str, u64); 134] = [
     ("EHWPOISON", 133),
 ];
 
-/// Whether the name and the number of an error are these.
 fn is_error(error: &(&str, u64), text: &str, number: u64) -> bool
     ensures { result ≡ (bytes_eq error.now.0.now text.now && (error.now.1 == number)) }
 {
     error.0 == text && error.1 == number
 }
 
-/// Whether one of these errors has this name and this number.
 fn has_error(errors: &[(&str, u64)], text: &str, number: u64) -> bool
     ensures { result ≡ list_any (λ e. bytes_eq e.0.now text.now && (e.1 == number)) errors.now }
 {
     errors.iter().any(|error| is_error(error, text, number))
 }
 
-/// Whether the text is the name of the error with this number.
 fn names_error(text: &str, number: u64) -> bool
     ensures { result ≡ is_error_name text.now (Some number) }
 {
     has_error(ERROR_NAMES.as_slice(), text, number)
 }
 
-/// Whether a number is given, and the text is the name of its error.
 pub(crate) fn is_error_name(text: &str, number: Option<u64>) -> bool
     ensures { result ≡ is_error_name text.now number }
 {
@@ -174,7 +170,6 @@ pub(crate) fn is_error_name(text: &str, number: Option<u64>) -> bool
     }
 }
 
-/// Whether the text is the name of an error.
 pub(crate) fn is_any_error_name(text: &str) -> bool {
     ERROR_NAMES.iter().any(|error| error.0 == text)
 }

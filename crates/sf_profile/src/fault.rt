@@ -1,5 +1,3 @@
-//! Why a profile is refused.
-
 ghost use Rattle.std.specs.Prelude.{◌≡◌};
 ghost use Rattle.sf_profile.specs.declared.fault.Fault.TheVariants.{Memory};
 ghost use Rattle.sf_profile.specs.Faults.{fault_number};
@@ -8,27 +6,22 @@ use std::alloc::{AllocError, AllocFailed};
 use thiserror::Error;
 
 /// Why a profile is refused. Rules are numbered from 1 in the order in which they stand. The text of a fault is its
-/// number and its name; where a rule is at fault, the name is without `Rule`, and the rule stands behind it.
+/// number and its name; where a rule is at fault, the rule stands behind it.
 #[derive(Clone, Copy, Debug, PartialEq, Eq, Error)]
 pub enum Fault {
-    /// The filter would have more than 4096 instructions.
     #[error("12 TooLong")]
     TooLong,
-    /// The file has no profile; or a key of the profile's head is unknown or missing, has a value of a wrong kind, or
-    /// doesn't go with another key.
+    /// There is no profile, or a key of its head is unknown or missing, or has a wrong value, or doesn't go with
+    /// another.
     #[error("41 Key")]
     Key,
-    /// A key of a rule is unknown or missing, has a value of a wrong kind, or doesn't go with another key; or the
-    /// rule asks for a kernel, and the kernel's version isn't given.
+    /// The same of a key of a rule; or the rule asks for a kernel, and the kernel's version isn't given.
     #[error("41 Key rule {rule}")]
     RuleKey { rule: usize },
-    /// The number of the default is outside its range.
     #[error("42 Range")]
     Range,
-    /// A number of a rule is outside its range.
     #[error("42 Range rule {rule}")]
     RuleRange { rule: usize },
-    /// The default is an unknown action.
     #[error("43 Actions")]
     Actions,
     /// A rule has an unknown action or comparison.
@@ -51,7 +44,6 @@ pub enum Fault {
     /// A set of calls isn't known, or its calls are given not at all, or more than once.
     #[error("49 Set")]
     Set,
-    /// Memory ran out.
     #[error("60 Memory")]
     Memory,
 }
@@ -78,7 +70,6 @@ impl Fault {
 impl From<AllocError> for Fault {
     ghost from_gives = { λ _ e. e ≡ Memory };
 
-    /// A refused allocation is the fault `Memory`.
     fn from(_e: AllocError) -> Fault {
         Fault::Memory
     }
@@ -87,7 +78,6 @@ impl From<AllocError> for Fault {
 impl<T: Drop> From<AllocFailed<T>> for Fault {
     ghost from_gives = { λ _ e. e ≡ Memory };
 
-    /// A refused allocation is the fault `Memory`. The value that should have been stored is dropped.
     fn from(_e: AllocFailed<T>) -> Fault {
         Fault::Memory
     }

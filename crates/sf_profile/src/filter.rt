@@ -1,8 +1,6 @@
-//! The bytes of the filter that a profile means.
-
-ghost use Rattle.std.specs.Prelude.{◌≡◌, ◌⊎◌, true, false, IfOk, IfErr};
+ghost use Rattle.std.specs.Prelude.{◌≡◌, ◌≤◌, ◌⊎◌, false, length, IfOk, IfErr};
 ghost use Rattle.sf_profile.specs.Filters.{IsFilterOf};
-ghost use Rattle.sf_profile.specs.Form.{fits, form};
+ghost use Rattle.sf_profile.specs.Form.{fits, form, form_bytes};
 
 use crate::fault::Fault;
 use crate::form::filter_code;
@@ -10,12 +8,12 @@ use crate::instruction::raws_of;
 use crate::rules::Plan;
 use std::alloc::Global;
 
-/// The filter of a profile's plan, as bytes. `TooLong` where it would have more than 4096 instructions, or a jump would
-/// skip more than the format can say; `Memory` where an allocation is refused.
-#[tactic(auto, using(crate::proofs::MadeLemmas::made))]
+/// The filter of a plan, as bytes.
+#[tactic(auto, using(crate::proofs::MadeLemmas::made, crate::proofs::MadeLemmas::fitting))]
 pub(crate) fn filter_of(alloc: Global, plan: &Plan) -> Result<Vec<u8>, Fault>
     ensures made { IfOk result (λ v. IsFilterOf v.items plan.now) }
-    ensures fits { IfOk result (λ v. fits (form plan.now) ≡ true) }
+    ensures is_form { IfOk result (λ v. v.items ≡ form_bytes plan.now) }
+    ensures short { IfOk result (λ v. length (form plan.now) ≤ 4096) }
     ensures refused { IfErr result (λ e. (e ≡ Fault.Memory)
         ⊎ ((e ≡ Fault.TooLong) × (fits (form plan.now) ≡ false))) }
 {

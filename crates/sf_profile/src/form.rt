@@ -1,5 +1,4 @@
-//! The filter that a profile means. After an error a part of what was to be added may stand in the code; the callers
-//! drop it.
+//! The filter that a profile means.
 
 ghost use Rattle.std.specs.Prelude.{◌≡◌, ◌++◌, ◌+◌, IfOk, OnOk};
 ghost use Rattle.std.specs.List.{flat_map};
@@ -16,7 +15,6 @@ use std::alloc::{AllocError, Global};
 /// it to the 64-bit calls.
 const NO_NUMBER: u32 = 0xffff_ffff;
 
-/// The least number of a call of x32.
 pub(crate) const LEAST_OF_X32: u32 = 0x4000_0000;
 
 /// The error number of a call that the kernel doesn't have.
@@ -25,9 +23,8 @@ const ENOSYS: u16 = 38;
 /// The places that `Reading::order` gives to rules, the least first.
 const PLACES: [u8; 8] = [0, 1, 2, 3, 4, 5, 6, 7];
 
-/// Adds the code of comparisons, and a return of `value` where all of them hold. Where one fails, the filter goes on
-/// behind the return: there the call's number is loaded into A again, for the next call's test. An error where an
-/// allocation is refused.
+/// Adds the code of comparisons, and a return of `value` where all hold. Behind the return the call's number is loaded
+/// into A again, for the next call's test.
 fn push_return(
     code: &mut Vec<Instruction>,
     comparisons: &[Instruction],
@@ -40,10 +37,8 @@ fn push_return(
     code.extend_from_slice(&[Instruction::Return(value), Instruction::Load(0)])
 }
 
-/// Adds the code for a call that is known by its number alone: it returns `value` if the call has this number and all
-/// comparisons hold. `comparisons` is their code. A has the call's number before this code, and behind it again; where
-/// there are no comparisons, A is never changed. What the branch adds to the length of the comparisons (`+ 1`) is the
-/// return, which it skips too. An error where an allocation is refused.
+/// Adds the code for a call that is known by its number alone: a return of `value` if all comparisons hold. A has the
+/// call's number before this code, and behind it again.
 fn push_direct(
     code: &mut Vec<Instruction>,
     comparisons: &[Instruction],
@@ -63,11 +58,8 @@ fn push_direct(
     push_return(code, comparisons, value)
 }
 
-/// Adds the code for a call that is made through another one, as `socket` through `socketcall`: it returns `value` if
-/// the call has this number, the low half of its first argument is `operation`, and all comparisons hold. `comparisons`
-/// is their code. A has the call's number before this code, and behind it again. What a branch adds to `size` are the
-/// other instructions that it skips, up to the one that loads the number again. An error where an allocation is
-/// refused.
+/// Adds the code for a call that is made through another one, as `socket` through `socketcall`, which the low half of
+/// its first argument, `operation`, tells. A has the call's number before this code, and behind it again.
 fn push_through(
     code: &mut Vec<Instruction>,
     comparisons: &[Instruction],
@@ -87,9 +79,6 @@ fn push_through(
     push_return(code, comparisons, value)
 }
 
-/// Adds the code for one call of a rule, known by its number alone or made through another call. It returns `value` if
-/// this is the call and all comparisons hold. `comparisons` is their code. A has the call's number before this code,
-/// and behind it again. An error where an allocation is refused.
 fn push_call(
     code: &mut Vec<Instruction>,
     comparisons: &[Instruction],
@@ -105,8 +94,6 @@ fn push_call(
     }
 }
 
-/// Adds the code for all calls of a rule, one after the other, as `push_call` adds it for each. A has the call's number
-/// before this code, and behind it again. An error where an allocation is refused.
 fn push_calls(
     code: &mut Vec<Instruction>,
     comparisons: &[Instruction],
@@ -122,9 +109,7 @@ fn push_calls(
     Ok(())
 }
 
-/// Adds the code of a rule: it returns the rule's response at each of the rule's calls where all its comparisons hold.
-/// If `wide`, arguments have 64 bits, and else 32. A has the call's number before this code, and behind it again. An
-/// error where an allocation is refused.
+/// Adds the code of a rule. If `wide`, arguments have 64 bits, and else 32.
 fn push_rule(
     alloc: Global,
     code: &mut Vec<Instruction>,
@@ -137,8 +122,6 @@ fn push_rule(
     push_calls(code, &comparisons, rule.response.value(), &rule.calls)
 }
 
-/// Adds the code of a rule, if `place` is the place that `Reading::order` gives to the rule; else nothing. `wide` and A
-/// are as in `push_rule`. An error where an allocation is refused.
 fn push_rule_at(
     alloc: Global,
     code: &mut Vec<Instruction>,
@@ -156,8 +139,6 @@ fn push_rule_at(
     Ok(())
 }
 
-/// Adds the code of the rules to which `Reading::order` gives this place, in the order of the rules. `wide` and A are
-/// as in `push_rule`. An error where an allocation is refused.
 fn push_round(
     alloc: Global,
     code: &mut Vec<Instruction>,
@@ -175,9 +156,8 @@ fn push_round(
     Ok(())
 }
 
-/// Adds the code of all rules, ordered by the places that `Reading::order` gives them, from 0 to 7. Rules of one place
-/// stay in their order. So the first code that returns is that of the rule that counts. `wide` and A are as in
-/// `push_rule`. An error where an allocation is refused.
+/// Adds the code of all rules, ordered by the places of `Reading::order`. So the first code that returns is that of the
+/// rule that counts.
 fn push_rounds(
     alloc: Global,
     code: &mut Vec<Instruction>,
@@ -205,7 +185,6 @@ fn above_calls(least: u64, calls: &[Call]) -> u64
     above
 }
 
-/// The least number that is above those of all calls of the rules; 0 where they have no call.
 fn above_rules(rules: &[Rule]) -> u64
     ensures { result ≡ above_rules rules.now }
 {
@@ -216,8 +195,7 @@ fn above_rules(rules: &[Rule]) -> u64
     above
 }
 
-/// Whether `Plan::newer` is heeded in a plan with this default. It isn't where the default lets calls through, or
-/// leaves them to a tracer: then newer calls get the default too.
+/// Whether `Plan::newer` is heeded: not where the default lets calls through, or leaves them to a tracer.
 fn refuses_newer(default: Response) -> bool
     ensures { result ≡ refuses_newer default }
 {
@@ -227,9 +205,8 @@ fn refuses_newer(default: Response) -> bool
     )
 }
 
-/// Adds the code by which calls whose number is at least `least` fail with ENOSYS. A has the call's number before this
-/// code, and behind it. Adds nothing where `least` has more than 32 bits, since no call has such a number. An error
-/// where an allocation is refused.
+/// Adds the code by which calls whose number is at least `least` fail with ENOSYS; none where `least` has more than 32
+/// bits.
 fn push_newer(code: &mut Vec<Instruction>, least: u64) -> Result<(), AllocError>
     ensures { OnOk result (code.new.items ≡ code.old.items ++ newer_code least) }
 {
@@ -242,9 +219,8 @@ fn push_newer(code: &mut Vec<Instruction>, least: u64) -> Result<(), AllocError>
     ])
 }
 
-/// Adds the code by which newer calls fail with ENOSYS if `asked`, and else nothing. Newer calls are those whose number
-/// is above the numbers of all calls of the rules; where the rules have no call, all calls are newer. A has the call's
-/// number before this code, and behind it. An error where an allocation is refused.
+/// Adds the code by which newer calls fail with ENOSYS if `asked`: those whose number is above those of all calls of
+/// the rules.
 fn push_newer_where(
     code: &mut Vec<Instruction>,
     asked: bool,
@@ -258,10 +234,8 @@ fn push_newer_where(
     Ok(())
 }
 
-/// The code for the inputs of a set. First the call's number is loaded into A; then comes the code for newer calls, if
-/// the plan asks for it (`Plan::newer`) and `refuses_newer` is true of the default; then the code of the rules, place
-/// after place; and at the end a return of the default. The code returns at every input. An error where an allocation
-/// is refused.
+/// The code for the inputs of a set: a load of the call's number into A, the code for newer calls, that of the rules,
+/// and a return of the default. It returns at every input.
 fn body_code(alloc: Global, plan: &Plan, part: &Part) -> Result<Vec<Instruction>, AllocError>
     ensures { IfOk result (λ v. v.items ≡ body_code plan.now part.now) }
 {
@@ -284,11 +258,9 @@ fn body_code(alloc: Global, plan: &Plan, part: &Part) -> Result<Vec<Instruction>
 }
 
 /// Adds code that skips `size` instructions where the input isn't of the set: it has another architecture, or on x86-64
-/// a number of the other set. On x86-64 numbers from `LEAST_OF_X32` up are those of x32, except `NO_NUMBER`. The caller
-/// puts the set's code, which has `size` instructions, right behind this code.
+/// a number of the other set. From `LEAST_OF_X32` up, numbers are those of x32, except `NO_NUMBER`.
 ///
-/// The skip is an instruction of its own, since a branch can't skip more than 255. The branches lead to this skip, or
-/// to the set's code right behind it. An error where an allocation is refused.
+/// The skip is an instruction of its own, since a branch can't skip more than 255.
 fn push_skip_unless_of_set(
     code: &mut Vec<Instruction>,
     set: CallSet,
@@ -321,8 +293,6 @@ fn push_skip_unless_of_set(
     }
 }
 
-/// Adds the code for a set: it returns at each input of the set, and at others the filter goes on behind it. An error
-/// where an allocation is refused.
 fn push_part(
     alloc: Global,
     code: &mut Vec<Instruction>,
@@ -336,8 +306,7 @@ fn push_part(
     code.extend_from_slice(&body)
 }
 
-/// The whole filter of a plan: the code of each set, in order, and at the end a return of 0, which kills the thread at
-/// an input of no set. An error where an allocation is refused.
+/// The whole filter of a plan. At its end a return of 0 kills the thread at an input of no set.
 pub(crate) fn filter_code(alloc: Global, plan: &Plan) -> Result<Vec<Instruction>, AllocError>
     ensures { IfOk result (λ v. v.items ≡ form plan.now) }
 {

@@ -8,23 +8,20 @@ use crate::fault::Fault;
 use sf_insn::{MOST_INSNS, RawInsn, Test};
 use std::alloc::Global;
 
-/// An instruction of a filter that is written.
 #[derive(Clone, Copy, Debug, PartialEq, Eq)]
 pub(crate) enum Instruction {
     /// A, the register that tests look at, becomes this word of the input, 0 to 15.
     Load(u8),
     /// A keeps only these bits.
     Mask(u32),
-    /// Tests A against a number. The two counts behind the number say how many instructions are skipped: the first one
-    /// where the test holds, and the second one where it doesn't.
+    /// Tests A against a number. The counts say how many instructions are skipped where the test holds, and where it
+    /// doesn't.
     Branch(Test, u32, usize, usize),
     /// Skips this many instructions.
     Skip(usize),
-    /// The filter returns the value.
     Return(u32),
 }
 
-/// The code of a test of A against a number, as it stands in a file.
 fn code_of(test: Test) -> u16
     ensures { result ≡ code_of test }
 {
@@ -36,7 +33,7 @@ fn code_of(test: Test) -> u16
     }
 }
 
-/// A test as it stands in a file; `None` where a jump is too far: it skips more than 255 instructions.
+/// A test as it stands in a file; `None` where it skips more than 255 instructions.
 fn raw_branch(test: Test, k: u32, on_true: usize, on_false: usize) -> Option<RawInsn>
     ensures { result ≡ (if nat_lt on_true (2 ^ 8) && nat_lt on_false (2 ^ 8)
         then Some (raw_of (Branch test k on_true on_false)) else None) }
@@ -49,7 +46,6 @@ fn raw_branch(test: Test, k: u32, on_true: usize, on_false: usize) -> Option<Raw
     })
 }
 
-/// An instruction with this code and this `k`; its `jt` and `jf`, which only branches use, are 0.
 fn raw_without_jumps(code: u16, k: u32) -> RawInsn
     ensures { result ≡ record { code = code; jt = 0; jf = 0; k = k } }
 {
@@ -61,9 +57,8 @@ fn raw_without_jumps(code: u16, k: u32) -> RawInsn
     }
 }
 
-/// An instruction as it stands in a file; `None` where a jump is too far: a branch skips more than 255 instructions, or
-/// a skip more than 32 bits can say. The codes are those of a load (0x20), an AND (0x54), a jump (0x05) and a return
-/// (0x06). A load names its word by the offset in bytes, which is four times the word's place.
+/// An instruction as it stands in a file: a load (0x20), an AND (0x54), a jump (0x05) or a return (0x06); `None` where
+/// a jump is too far. A load names its word by the offset in bytes.
 fn raw_of(instruction: Instruction) -> Option<RawInsn>
     ensures { result ≡ (if is_short instruction then Some (raw_of instruction) else None) }
 {
@@ -76,8 +71,7 @@ fn raw_of(instruction: Instruction) -> Option<RawInsn>
     }
 }
 
-/// Instructions as they stand in a file. `TooLong` where there are more than 4096, or a jump is too far; `Memory` where
-/// an allocation is refused.
+/// Instructions as they stand in a file. `TooLong` also where a jump is too far.
 pub(crate) fn raws_of(alloc: Global, code: &[Instruction]) -> Result<Vec<RawInsn>, Fault>
     ensures ok { IfOk result (λ v. (v.items ≡ map raw_of code.now) × (fits code.now ≡ true)) }
     ensures err { IfErr result (λ e. (e ≡ Fault.Memory)

@@ -17,7 +17,6 @@ use crate::tree::{
 };
 use serde_json::Value;
 
-/// The keys of a profile.
 pub(crate) const PROFILE_KEYS: [&str; 10] = [
     "defaultAction",
     "defaultErrnoRet",
@@ -31,49 +30,41 @@ pub(crate) const PROFILE_KEYS: [&str; 10] = [
     "syscalls",
 ];
 
-/// The keys of an entry of `archMap`.
 const MAP_KEYS: [&str; 2] = ["architecture", "subArchitectures"];
 
-/// The keys of a rule.
 pub(crate) const RULE_KEYS: [&str; 9] = [
     "names", "name", "action", "errnoRet", "errno", "args", "comment", "includes", "excludes",
 ];
 
-/// The keys of a comparison.
 const ARGUMENT_KEYS: [&str; 4] = ["index", "value", "valueTwo", "op"];
 
 /// The keys of what a rule includes or excludes.
 const CONDITION_KEYS: [&str; 3] = ["arches", "caps", "minKernel"];
 
-/// Whether a value is an object that has only keys of a profile.
 fn has_profile_keys(value: &Value) -> bool
     ensures { result ≡ is_object_of profile_keys (view value.now) }
 {
     has_only(value, PROFILE_KEYS.as_slice())
 }
 
-/// Whether a value is an object that has only keys of an entry of `archMap`.
 fn has_map_keys(value: &Value) -> bool
     ensures { result ≡ is_object_of map_keys (view value.now) }
 {
     has_only(value, MAP_KEYS.as_slice())
 }
 
-/// Whether a value is an object that has only keys of a rule.
 fn has_rule_keys(value: &Value) -> bool
     ensures { result ≡ is_object_of rule_keys (view value.now) }
 {
     has_only(value, RULE_KEYS.as_slice())
 }
 
-/// Whether a value is an object that has only keys of a comparison.
 fn has_argument_keys(value: &Value) -> bool
     ensures { result ≡ is_object_of argument_keys (view value.now) }
 {
     has_only(value, ARGUMENT_KEYS.as_slice())
 }
 
-/// Whether a value is an object that has only keys of what a rule includes or excludes.
 fn has_condition_keys(value: &Value) -> bool
     ensures { result ≡ is_object_of condition_keys (view value.now) }
 {
@@ -87,7 +78,7 @@ pub(crate) fn is_absent(value: &Value, key: &str) -> bool
     at(value, key).is_none()
 }
 
-/// The error number at a key; `None` where the key is absent, or its value is no whole number from 0 to 65535.
+/// The error number at a key, if it is a whole number from 0 to 65535.
 fn error_number_at(value: &Value, key: &str) -> Option<u64>
     ensures { result ≡ option_and_then (up_to 65535)
         (whole_where (at key.now (view value.now))) }
@@ -95,8 +86,8 @@ fn error_number_at(value: &Value, key: &str) -> Option<u64>
     up_to(65535, whole_at(value, key)?)
 }
 
-/// Whether the key `name` is absent, or has the name of the error whose number is at the key `number`. podman follows
-/// the name, and other runtimes the number.
+/// Whether the key `name` is absent, or has the name of the error at the key `number`. podman follows the name, and
+/// other runtimes the number.
 pub(crate) fn has_right_error_name(value: &Value, name: &str, number: &str) -> bool
     ensures { result ≡ has_right_error_name name.now number.now (view value.now) }
 {
@@ -106,8 +97,8 @@ pub(crate) fn has_right_error_name(value: &Value, name: &str, number: &str) -> b
     }
 }
 
-/// Whether a number may stand beside a response: ERRNO and TRACE take one. `None` is an unknown action. A number may
-/// stand beside it here, since `profile_refusal` and `rule_refusal` refuse unknown actions.
+/// Whether a number may stand beside a response: ERRNO and TRACE take one. It may beside `None`, an unknown action,
+/// since that is refused elsewhere.
 fn takes_number(response: Option<Response>) -> bool
     ensures { result ≡ takes_number response }
 {
@@ -117,22 +108,19 @@ fn takes_number(response: Option<Response>) -> bool
     }
 }
 
-/// Whether the key `number` is absent, or the action at the key `action` takes a number, as `takes_number` says.
 fn fits_action(value: &Value, action: &str, number: &str) -> bool
     ensures { result ≡ fits_action action.now number.now (view value.now) }
 {
     is_absent(value, number) || takes_number(response_named(text_at(value, action), 0))
 }
 
-/// Whether a value is a kernel's version, and the version of the kernel that the profile is read for is given, so that
-/// the two can be compared.
+/// Whether a value is a version, and that of the kernel is given, so that the two can be compared.
 fn is_comparable_kernel(settings: &Settings, value: &Value) -> bool
     ensures { result ≡ is_comparable_kernel settings.now (view value.now) }
 {
     settings.kernel.is_some() && version_of(text_of(value)).is_some()
 }
 
-/// Whether `minKernel` of a condition is absent, or a version that can be compared with the kernel's.
 fn has_kernel_or_none(settings: &Settings, value: &Value) -> bool
     ensures { result ≡ absent_or (is_comparable_kernel settings.now)
         (at (codes "minKernel") (view value.now)) }
@@ -143,8 +131,7 @@ fn has_kernel_or_none(settings: &Settings, value: &Value) -> bool
     }
 }
 
-/// Whether a value has the form of a condition, which is the value of a rule's `includes` or `excludes`. False also
-/// where it has a `minKernel`, and the kernel's version isn't given.
+/// Whether a value has the form of a condition, that of a rule's `includes` or `excludes`.
 fn is_condition(settings: &Settings, value: &Value) -> bool
     ensures { result ≡ is_condition settings.now (view value.now) }
 {
@@ -154,8 +141,6 @@ fn is_condition(settings: &Settings, value: &Value) -> bool
         && has_kernel_or_none(settings, value)
 }
 
-/// Whether a key is absent, or its value has the form of a condition, as `is_condition` says. The key is `includes` or
-/// `excludes`, and `value` is the rule.
 pub(crate) fn has_condition_or_none(settings: &Settings, value: &Value, key: &str) -> bool
     ensures { result ≡ absent_or (is_condition settings.now) (at key.now (view value.now)) }
 {
@@ -165,8 +150,7 @@ pub(crate) fn has_condition_or_none(settings: &Settings, value: &Value, key: &st
     }
 }
 
-/// Whether a value has the form of a comparison. Its numbers are whole numbers of 64 bits, with a sign or without, but
-/// may be outside their ranges, and its `op` may be unknown: `rule_refusal` looks at that.
+/// Whether a value has the form of a comparison. `rule_refusal` checks the ranges of its numbers, and its `op`.
 fn is_comparison(value: &Value) -> bool
     ensures { result ≡ is_comparison (view value.now) }
 {
@@ -177,21 +161,19 @@ fn is_comparison(value: &Value) -> bool
         && has_text(value, "op")
 }
 
-/// Whether each value has the form of a comparison, as `is_comparison` says.
 fn are_each_comparisons(items: &[Value]) -> bool
     ensures { result ≡ list_all (λ v. is_comparison (view v)) items.now }
 {
     items.iter().all(|value| is_comparison(value))
 }
 
-/// The same as `are_each_comparisons`. For the prover: its clause speaks of the list of the values' JSON trees.
+/// For the prover: `are_each_comparisons`, said of their trees.
 fn are_comparisons(items: &[Value]) -> bool
     ensures { result ≡ list_all is_comparison (items_in (items_view items.now)) }
 {
     are_each_comparisons(items)
 }
 
-/// Whether a value is an array, and each of its items has the form of a comparison, as `is_comparison` says.
 fn is_comparison_list(value: &Value) -> bool
     ensures { result ≡ is_list_of is_comparison (view value.now) }
 {
@@ -201,7 +183,6 @@ fn is_comparison_list(value: &Value) -> bool
     }
 }
 
-/// Whether the key `args` of a rule is absent, or has an array whose items all have the form of a comparison.
 pub(crate) fn has_comparisons(value: &Value) -> bool
     ensures { result ≡ absent_or (is_list_of is_comparison) (at (codes "args") (view value.now)) }
 {
@@ -219,10 +200,8 @@ pub(crate) fn is_named(value: &Value) -> bool
         || (has_text(value, "name") && is_absent(value, "names"))
 }
 
-/// Whether an action is well given: there is a text at the key `action`; at the key `number`, that of its error number,
-/// there is a whole number of 64 bits or nothing; the key `name` is absent, or has the name of this number; and
-/// `number` doesn't stand beside an action that takes none. The action may be unknown: `profile_refusal` and
-/// `rule_refusal` look at that.
+/// Whether an action, which may be unknown, is well given: a text at the key `action`, a whole number or nothing at the
+/// key `number`, the name of this error or nothing at the key `name`, and no `number` beside an action that takes none.
 pub(crate) fn has_action_fields(value: &Value, action: &str, number: &str, name: &str) -> bool
     ensures { result ≡ is_action_of_rule action.now number.now name.now (view value.now) }
 {
@@ -232,13 +211,8 @@ pub(crate) fn has_action_fields(value: &Value, action: &str, number: &str, name:
         && fits_action(value, action, number)
 }
 
-/// Whether a value has the form of a rule. It is an object that has only keys of a rule. It has either `names` or
-/// `name`, and its action is well given, as `has_action_fields` says. Its `args`, `includes` and `excludes` are absent
-/// or have the right form. False also where `includes` or `excludes` has a `minKernel`, and the kernel's version isn't
-/// given.
-///
-/// The value of `comment` isn't looked at. Nor is whether the names are right, the action and each `op` are known, and
-/// the numbers are in their ranges: `rule_refusal` looks at that.
+/// Whether a value has the form of a rule. `rule_refusal` checks the names, the action, each `op` and the ranges of
+/// numbers. The value of `comment` isn't looked at.
 pub(crate) fn is_rule(settings: &Settings, value: &Value) -> bool
     ensures { result ≡ is_rule settings.now (view value.now) }
 {
@@ -250,8 +224,7 @@ pub(crate) fn is_rule(settings: &Settings, value: &Value) -> bool
         && has_condition_or_none(settings, value, "excludes")
 }
 
-/// Whether a value has the form of an entry of `archMap`: an object with a text at `architecture`, an array of texts or
-/// nothing at `subArchitectures`, and no other key.
+/// Whether a value has the form of an entry of `archMap`.
 fn is_map_item(value: &Value) -> bool
     ensures { result ≡ is_map_item (view value.now) }
 {
@@ -260,21 +233,19 @@ fn is_map_item(value: &Value) -> bool
         && has_texts_or_none(value, "subArchitectures")
 }
 
-/// Whether each value has the form of an entry of `archMap`, as `is_map_item` says.
 fn are_each_map_items(items: &[Value]) -> bool
     ensures { result ≡ list_all (λ v. is_map_item (view v)) items.now }
 {
     items.iter().all(|value| is_map_item(value))
 }
 
-/// The same as `are_each_map_items`. For the prover: its clause speaks of the list of the values' JSON trees.
+/// For the prover: `are_each_map_items`, said of their trees.
 fn are_map_items(items: &[Value]) -> bool
     ensures { result ≡ list_all is_map_item (items_in (items_view items.now)) }
 {
     are_each_map_items(items)
 }
 
-/// Whether a value is an array, and each of its items has the form of an entry of `archMap`, as `is_map_item` says.
 fn is_map(value: &Value) -> bool
     ensures { result ≡ is_list_of is_map_item (view value.now) }
 {
@@ -284,7 +255,6 @@ fn is_map(value: &Value) -> bool
     }
 }
 
-/// Whether the key `archMap` is absent, or has an array whose items all have the form that `is_map_item` asks for.
 pub(crate) fn has_map(value: &Value) -> bool
     ensures { result ≡ absent_or (is_list_of is_map_item)
         (at (codes "archMap") (view value.now)) }
@@ -295,8 +265,7 @@ pub(crate) fn has_map(value: &Value) -> bool
     }
 }
 
-/// Whether the sets of calls are well given: at most one of `archMap` and `architectures` is there, and its value is of
-/// the right kind.
+/// Whether at most one of `archMap` and `architectures` is there, and its value is of the right kind.
 fn has_sets(value: &Value) -> bool
     ensures { result ≡ has_sets (view value.now) }
 {
@@ -305,7 +274,6 @@ fn has_sets(value: &Value) -> bool
         && has_map(value)
 }
 
-/// Whether the rules of a profile, at its key `syscalls`, are absent or an array.
 pub(crate) fn has_rules(value: &Value) -> bool
     ensures { result ≡ absent_or is_array (at (codes "syscalls") (view value.now)) }
 {
@@ -315,9 +283,8 @@ pub(crate) fn has_rules(value: &Value) -> bool
     }
 }
 
-/// Whether a value has the form of a profile: it is an object that has only keys of a profile, its default action and
-/// its sets of calls are well given, and its rules are an array or absent. What is in the array isn't looked at. Nor
-/// are the values of the other keys.
+/// Whether a value has the form of a profile. What is in the array of its rules isn't looked at, nor are values of keys
+/// without a meaning.
 pub(crate) fn is_profile(value: &Value) -> bool
     ensures { result ≡ is_profile (view value.now) }
 {

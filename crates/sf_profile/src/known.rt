@@ -15,7 +15,7 @@ use crate::settings::{Calls, Settings};
 use crate::tree::{at, items_at, text_of};
 use serde_json::Value;
 
-/// Whether at least one of the sets in `calls` has a call with this name. The profile need not be for this set.
+/// Whether one of the sets in `calls`, which the profile need not be for, has a call with this name.
 fn is_known(calls: &[Calls], name: &str) -> bool
     ensures { result ≡ list_any (λ (c : ACalls). is_some
         (number_where (Some c) name.now)) calls.now }
@@ -23,7 +23,6 @@ fn is_known(calls: &[Calls], name: &str) -> bool
     calls.iter().any(|one| one.number_of(name).is_some())
 }
 
-/// Whether none of the sets in `settings.calls` has a call with this name.
 pub(crate) fn is_unknown(settings: &Settings, name: &str) -> bool
     ensures { result ≡ is_unknown settings.now name.now }
 {
@@ -55,21 +54,19 @@ fn is_somewhere(settings: &Settings, value: &Value) -> bool
     !is_nowhere(settings, text_of(value))
 }
 
-/// Whether each value is the name of a call of some machine.
 fn is_each_somewhere(settings: &Settings, items: &[Value]) -> bool
     ensures { result ≡ list_all (λ v. is_somewhere settings.now (view v)) items.now }
 {
     items.iter().all(|value| is_somewhere(settings, value))
 }
 
-/// The same as `is_each_somewhere`. For the prover: its clause speaks of the list of the values' JSON trees.
+/// For the prover: `is_each_somewhere`, said of their trees.
 fn are_somewhere(settings: &Settings, items: &[Value]) -> bool
     ensures { result ≡ list_all (is_somewhere settings.now) (map view items.now) }
 {
     is_each_somewhere(settings, items)
 }
 
-/// Whether the key `name` of a rule is absent, or has the name of a call of some machine.
 fn has_known_name_or_none(settings: &Settings, value: &Value) -> bool
     ensures { result ≡ absent_or (is_somewhere settings.now)
         (at (codes "name") (view value.now)) }
@@ -80,15 +77,14 @@ fn has_known_name_or_none(settings: &Settings, value: &Value) -> bool
     }
 }
 
-/// Whether each name that a rule has, at its keys `names` and `name`, is that of a call of some machine.
 fn has_known_names(settings: &Settings, value: &Value) -> bool
     ensures { result ≡ has_known_names settings.now (view value.now) }
 {
     are_somewhere(settings, items_at(value, "names")) && has_known_name_or_none(settings, value)
 }
 
-/// Whether a rule may have its names. It may where `settings.skip_unknown` is true, where the rule doesn't apply, and
-/// where each name is that of a call of some machine.
+/// Whether a rule may have its names: `settings.skip_unknown` is true, the rule doesn't apply, or each name is that of
+/// a call of some machine.
 pub(crate) fn may_have_names(settings: &Settings, value: &Value) -> bool
     ensures { result ≡ may_have_names settings.now (view value.now) }
 {

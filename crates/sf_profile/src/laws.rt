@@ -1,4 +1,4 @@
-//! Laws of what a profile means, each the contract of a function that does nothing.
+//! Laws of what a profile means, for the prover: contracts of functions that do nothing.
 
 ghost use Rattle.std.specs.Prelude.{◌≡◌, ◌<◌, ◌≤◌, ℕ, All, List, Bool, true, false, None, Some, [], ◌&&◌, filter};
 ghost use Rattle.serde_json.specs.Data.{Data};
@@ -15,24 +15,24 @@ ghost use Rattle.sf_profile.specs.Meaning.{answer_of_response, is_newer, number_
 ghost use Rattle.sf_profile.specs.Plans.{applies, calls_named, through_calls};
 ghost use Rattle.sf_profile.specs.Settings.{is_same_set, number_of};
 
-/// A law for the prover: if a set has no number for a name, and the name's call isn't made through `socketcall` or
-/// `ipc` there either, then the name stands for no call of the set, and a rule says nothing by it.
+/// A name for which a set has no number, also not behind `socketcall` or `ipc`, stands for no call of the set, and a
+/// rule says nothing by it.
 pub fn unknown_names_say_nothing()
     ensures { (s : ASettings) (set : CallSet) (alone : Bool) (name : List ℕ) →
         number_of s set name ≡ None → through_calls (is_same_set set I386 && alone) name ≡ []
         → calls_named s set alone name ≡ [] }
 {}
 
-/// A law for the prover: asking for ENOSYS at newer calls (`Plan::newer`) changes nothing at other calls. A call is
-/// newer where its number is above those of all calls of the set's rules.
+/// Asking for ENOSYS at newer calls (`Plan::newer`) changes nothing at other calls. A call is newer where its number is
+/// above those of all calls of the set's rules.
 pub fn newer_changes_only_newer()
     ensures { (plan : PlanData) (d : Input) (part : SetRulesData) →
         is_newer (number_in d) part.rules ≡ false
         → response_in plan d part ≡ response_in (record plan { newer = false }) d part }
 {}
 
-/// A law for the prover: of the same rules, no reading picks one whose action has a higher precedence than that of the
-/// rule that `Strictest` picks, or a lower one than that of the rule that `Mildest` picks.
+/// Of the same rules, no reading picks one whose action has a higher precedence than that of `Strictest`, or a lower
+/// one than that of `Mildest`.
 pub fn readings_are_bounds()
     ensures { (reading : Reading) (rules : List RuleData) (a b c : RuleData) →
         pick Strictest rules ≡ Some a → pick reading rules ≡ Some b
@@ -41,22 +41,20 @@ pub fn readings_are_bounds()
         × (strictness b.response ≤ strictness c.response) }
 {}
 
-/// A law for the prover: where all rules that say something have one response, a rule that any reading picks has this
-/// response.
+/// Where all rules that say something have one response, a rule that any reading picks has this response.
 pub fn readings_agree_without_conflict()
     ensures { (reading : Reading) (rules : List RuleData) (response : Response) (a : RuleData) →
         All (λ (r : RuleData). r.response ≡ response) rules → pick reading rules ≡ Some a
         → a.response ≡ response }
 {}
 
-/// A law for the prover: whether a rule applies depends on its own text, the machine, the capabilities and the kernel,
-/// and on nothing else.
+/// Whether a rule applies depends on its own text, the machine, the capabilities and the kernel, and on nothing else.
 pub fn rules_apply_by_words()
     ensures { (s t : ASettings) (rule : Data) → s.machine ≡ t.machine → s.caps ≡ t.caps
         → s.kernel ≡ t.kernel → applies s rule ≡ applies t rule }
 {}
 
-/// A law for the prover: the order of the actions by `strictness` is that in which the kernel prefers them.
+/// The order of the actions by `strictness` is that in which the kernel prefers them.
 pub fn strictness_is_precedence()
     ensures { (a b : Response) → strictness a < strictness b
         → rank (action_number (answer_of_response a).action)

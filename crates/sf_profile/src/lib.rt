@@ -1,4 +1,7 @@
 //! What a JSON profile means, written as a filter: a program that answers each input as the profile says.
+//!
+//! Where memory runs out, functions fail with `Memory` or `AllocError`, and what they were to add may be there in part:
+//! their callers drop it.
 #![tactic(auto)]
 
 mod applying;

@@ -27,8 +27,7 @@ pub(crate) fn size_of_rule(value: &Value) -> usize
     items_at(value, "names").len() + 1
 }
 
-/// Whether a rule has at most 1,024 names and 64 comparisons, and counts for no more than `left`. A rule with `name` in
-/// place of `names` has one name.
+/// Whether a rule has at most 1,024 names and 64 comparisons, and counts for no more than `left`.
 pub(crate) fn has_few_parts(left: usize, value: &Value) -> bool
     ensures { result ≡ has_few_parts left (view value.now) }
 {
@@ -37,7 +36,7 @@ pub(crate) fn has_few_parts(left: usize, value: &Value) -> bool
         && size_of_rule(value) <= left
 }
 
-/// How many calls are left of `most` when those of the rules are taken away; `None` where the rules have more.
+/// How many calls are left of `most` without those of the rules.
 #[tactic(auto, using(crate::proofs::LimitLemmas::next_left))]
 pub(crate) fn calls_left(most: usize, rules: &[Rule]) -> Option<usize>
     ensures { result ≡ calls_left most rules.now }

@@ -5,8 +5,7 @@ ghost use Rattle.sf_profile.specs.Profiles.{after_point, arch_name_of_set, argum
 
 use crate::rules::{Argument, CallSet, Comparing, Response};
 
-/// The set of calls with this name, as a profile has it at `architectures` and in `archMap`; `None` where none of the
-/// five sets has it.
+/// The set of calls with this name, as a profile has it at `architectures` and in `archMap`.
 pub(crate) fn set_named(text: &str) -> Option<CallSet>
     ensures { result ≡ set_named text.now }
 {
@@ -54,8 +53,8 @@ pub(crate) fn arch_name_of_set(set: CallSet) -> &'static str
     }
 }
 
-/// The response that the name of an action in a profile stands for; `None` where no action has this name. `number`
-/// becomes the number of `Errno` and `Tracer`. Other responses have no number, and `number` is ignored.
+/// The response that the name of an action in a profile stands for. `number` becomes the number of `Errno` and
+/// `Tracer`.
 pub(crate) fn response_named(text: &str, number: u16) -> Option<Response>
     ensures { result ≡ response_named text.now number }
 {
@@ -89,7 +88,6 @@ pub(crate) fn response_named(text: &str, number: u16) -> Option<Response>
     None
 }
 
-/// The way of comparing that has this name in profiles; `None` where none has.
 pub(crate) fn comparing_named(text: &str) -> Option<Comparing>
     ensures { result ≡ comparing_named text.now }
 {
@@ -124,7 +122,6 @@ pub(crate) fn has_data(response: Response) -> bool
     matches!(response, Response::Errno(_) | Response::Tracer(_))
 }
 
-/// The number, if it is from 0 to `most`; `None` where it is less or greater.
 pub(crate) fn up_to(most: u64, number: i128) -> Option<u64>
     ensures { result ≡ up_to most number }
 {
@@ -132,7 +129,6 @@ pub(crate) fn up_to(most: u64, number: i128) -> Option<u64>
     if number <= most { Some(number) } else { None }
 }
 
-/// The number, or `absent` where no number is given; `None` where a number is given that isn't from 0 to `most`.
 pub(crate) fn up_to_or(absent: u64, most: u64, number: Option<i128>) -> Option<u64>
     ensures { result ≡ up_to_or absent most number }
 {
@@ -159,9 +155,7 @@ pub(crate) fn argument_numbered(index: u64) -> Argument
 /// A kernel's version.
 #[derive(Clone, Copy, Debug, PartialEq, Eq)]
 pub struct Version {
-    /// The number before the point.
     pub major: u32,
-    /// The number after it.
     pub minor: u32,
 }
 
@@ -170,15 +164,13 @@ pub struct Version {
 pub(crate) struct VersionRead {
     /// The number before the point; none where no point was read yet.
     pub(crate) major: Option<u32>,
-    /// The number that is made by the digits behind the point, or by all digits where no point was read yet; none where
-    /// there are no such digits.
+    /// The number of the digits behind the point, or of all digits where no point was read yet.
     pub(crate) digits: Option<u32>,
     /// Whether the text can't be a version; then the other fields have no meaning.
     pub(crate) wrong: bool,
 }
 
-/// `read` with one digit more. If the number would be greater than 9999, the digits stay as they were, and `wrong` is
-/// set. The caller's condition: the digit is 0 to 9.
+/// `read` with one digit more. A number above 9999 is wrong.
 fn with_digit(read: VersionRead, digit: u8) -> VersionRead
     requires { digit ≤ 9 }
     ensures { result ≡ with_digit read digit }
@@ -199,7 +191,6 @@ fn with_digit(read: VersionRead, digit: u8) -> VersionRead
     }
 }
 
-/// `read` with `wrong` set; its other fields are the same.
 fn wrong(read: VersionRead) -> VersionRead
     ensures { result ≡ record { major = read.major; digits = read.digits; wrong = true } }
 {
@@ -210,8 +201,7 @@ fn wrong(read: VersionRead) -> VersionRead
     }
 }
 
-/// `read` with a point behind it: `digits` becomes `major`, and is `None` until a digit follows. Where `digits` is
-/// `None`, or there is a `major` already, only `wrong` is set.
+/// `read` with a point behind it: `digits` becomes `major`.
 fn after_point(read: VersionRead) -> VersionRead
     ensures { result ≡ after_point read read.major read.digits }
 {
@@ -225,8 +215,6 @@ fn after_point(read: VersionRead) -> VersionRead
     }
 }
 
-/// `read` with one byte of the text more: a digit is added by `with_digit`, and a point by `after_point`. Any other
-/// byte sets `wrong`, since no version has it.
 fn version_step(read: VersionRead, byte: u8) -> VersionRead
     ensures { result ≡ version_step read byte }
 {
@@ -239,8 +227,8 @@ fn version_step(read: VersionRead, byte: u8) -> VersionRead
     wrong(read)
 }
 
-/// The version that a text is: two decimal numbers of at most 9999, with a point between them. `None` where the text is
-/// something else. Zeros may stand before a number.
+/// The version that a text is: two decimal numbers of at most 9999, with a point between them. Zeros may stand before a
+/// number.
 pub fn version_of(text: &str) -> Option<Version>
     ensures { result ≡ version_of text.now }
 {

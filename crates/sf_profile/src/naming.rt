@@ -52,7 +52,6 @@ const IPC_CALLS: [&str; 12] = [
     "shmctl",
 ];
 
-/// The first place of a name among `names`, counted from 0; `None` where it isn't among them.
 pub(crate) fn place_of(name: &str, names: &[&str]) -> Option<usize>
     ensures value { result ≡ place_from 0 name.now (map (λ n. n.now) names.now) }
     ensures small { IfSome result (λ n. n < length names.now) }
@@ -65,7 +64,6 @@ pub(crate) fn place_of(name: &str, names: &[&str]) -> Option<usize>
     None
 }
 
-/// The place of a name among the calls behind `socketcall`, counted from 0; `None` where it isn't among them.
 pub(crate) fn place_of_socket_call(name: &str) -> Option<usize>
     ensures value { result ≡ place_from 0 name.now socket_calls }
     ensures small { IfSome result (λ n. n < 20) }
@@ -73,7 +71,6 @@ pub(crate) fn place_of_socket_call(name: &str) -> Option<usize>
     place_of(name, SOCKET_CALLS.as_slice())
 }
 
-/// The place of a name among the calls behind `ipc`, counted from 0; `None` where it isn't among them.
 pub(crate) fn place_of_ipc_call(name: &str) -> Option<usize>
     ensures value { result ≡ place_from 0 name.now ipc_calls }
     ensures small { IfSome result (λ n. n < 12) }
@@ -81,8 +78,7 @@ pub(crate) fn place_of_ipc_call(name: &str) -> Option<usize>
     place_of(name, IPC_CALLS.as_slice())
 }
 
-/// Adds the call with this number, whose `operation` is `None`, since it doesn't go through another call. Adds nothing
-/// where `number` is `None`. An error where an allocation is refused.
+/// Adds the call with this number, if there is one; it doesn't go through another call.
 fn push_direct(calls: &mut Vec<Call>, number: Option<u32>) -> Result<(), AllocError>
     ensures { OnOk result (calls.new.items ≡ calls.old.items ++ direct_call number) }
 {
@@ -95,9 +91,8 @@ fn push_direct(calls: &mut Vec<Call>, number: Option<u32>) -> Result<(), AllocEr
     Ok(())
 }
 
-/// Adds the call with this name that goes through `socketcall`, which is number 102 of i386; nothing where the name
-/// isn't in `SOCKET_CALLS`. The call's `operation` is the name's place there, counted from 1. An error where an
-/// allocation is refused.
+/// Adds the call with this name that goes through `socketcall`, number 102 of i386, if one does. Its `operation` is the
+/// name's place, from 1.
 fn push_socket_call(calls: &mut Vec<Call>, name: &str) -> Result<(), AllocError>
     ensures { OnOk result (calls.new.items ≡ calls.old.items
         ++ socket_call (place_from 0 name.now socket_calls)) }
@@ -111,9 +106,8 @@ fn push_socket_call(calls: &mut Vec<Call>, name: &str) -> Result<(), AllocError>
     Ok(())
 }
 
-/// Adds the call with this name that goes through `ipc`, which is number 117 of i386; nothing where the name isn't in
-/// `IPC_CALLS`. The call's `operation` is 1 to 4, 11 to 14 or 21 to 24, in the order of `IPC_CALLS`. An error where an
-/// allocation is refused.
+/// Adds the call with this name that goes through `ipc`, number 117 of i386, if one does. Its `operation` is 1 to 4, 11
+/// to 14 or 21 to 24, in the order of `IPC_CALLS`.
 fn push_ipc_call(calls: &mut Vec<Call>, name: &str) -> Result<(), AllocError>
     ensures { OnOk result (calls.new.items ≡ calls.old.items
         ++ ipc_call (place_from 0 name.now ipc_calls)) }
@@ -128,9 +122,8 @@ fn push_ipc_call(calls: &mut Vec<Call>, name: &str) -> Result<(), AllocError>
     Ok(())
 }
 
-/// Adds what `push_socket_call` and `push_ipc_call` add for this name, if `has_them`; else nothing. Callers give true
-/// if the set is that of i386, and the rule compares nothing. (Where a call goes through `socketcall` or `ipc`, its
-/// arguments aren't where a rule's comparisons look.) An error where an allocation is refused.
+/// Adds the calls with this name behind `socketcall` and `ipc`, if `has_them`: on i386, if the rule compares nothing,
+/// since the arguments of such a call aren't where comparisons look.
 fn push_through(calls: &mut Vec<Call>, has_them: bool, name: &str) -> Result<(), AllocError>
     ensures { OnOk result (calls.new.items ≡ calls.old.items ++ through_calls has_them name.now) }
 {
@@ -144,14 +137,11 @@ fn push_through(calls: &mut Vec<Call>, has_them: bool, name: &str) -> Result<(),
 /// The set in which the names of a rule are looked up, and whether the rule compares nothing.
 #[derive(Clone, Copy, Debug)]
 pub(crate) struct Place {
-    /// The set.
     pub(crate) set: CallSet,
-    /// Whether the rule compares nothing.
     pub(crate) alone: bool,
 }
 
-/// Adds the calls that a name stands for in the set of `place`: the call with this name, if the set has one, and those
-/// that `push_through` adds. An error where an allocation is refused; some of them may have been added then.
+/// Adds the calls that a name stands for in the set of `place`.
 fn push_named(
     calls: &mut Vec<Call>,
     settings: &Settings,
@@ -165,9 +155,6 @@ fn push_named(
     push_through(calls, place.set.is_same(CallSet::I386) && place.alone, name)
 }
 
-/// Adds the calls that names stand for in the set of `place`, name after name. `items` are the names; a value that is
-/// no text counts as the empty name. An error where an allocation is refused; some of the calls may have been added
-/// then.
 fn push_all_named(
     calls: &mut Vec<Call>,
     settings: &Settings,
@@ -184,9 +171,6 @@ fn push_all_named(
     Ok(())
 }
 
-/// Adds the calls that the name at the key `name` of the rule `value` stands for in the set of `place`; nothing where
-/// the key is absent. A name that is no text counts as the empty name. An error where an allocation is refused; some of
-/// the calls may have been added then.
 fn push_one_name(
     calls: &mut Vec<Call>,
     settings: &Settings,
@@ -203,8 +187,7 @@ fn push_one_name(
     }
 }
 
-/// The calls that the names of the rule `value`, at its keys `names` and `name`, stand for in the set of `place`. An
-/// error where an allocation is refused.
+/// The calls that the names of the rule `value`, at its keys `names` and `name`, stand for in the set of `place`.
 pub(crate) fn calls_of(
     alloc: Global,
     settings: &Settings,

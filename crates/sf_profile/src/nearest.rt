@@ -7,7 +7,7 @@ use serde_json::Value;
 use std::alloc::{AllocError, Global};
 use strsim::damerau_levenshtein;
 
-/// The first name of the rule `value` that no machine has, as `is_nowhere` says; `None` where there is none.
+/// The first name of the rule `value` that no machine has, as `is_nowhere` says.
 pub(crate) fn nowhere_name<'a>(settings: &Settings, value: &'a Value) -> Option<&'a str> {
     for name in items_at(value, "names") {
         if is_nowhere(settings, text_of(name)) {
@@ -30,8 +30,6 @@ struct Near<'a> {
     distance: usize,
 }
 
-/// The nearest to `name` of what was found so far and of the names of these calls. An error where an allocation is
-/// refused.
 fn nearer<'a>(
     alloc: Global,
     found: Near<'a>,
@@ -51,8 +49,8 @@ fn nearer<'a>(
     Ok(found)
 }
 
-/// The name of a call of the given sets that is nearest to `name`, the first one of equally near ones; `None` where a
-/// third of the letters of `name` would have to be changed, or more. An error where an allocation is refused.
+/// The name of a call of the given sets that is nearest to `name`, if fewer than a third of its letters would have to
+/// be changed.
 pub(crate) fn nearest<'a>(
     alloc: Global,
     settings: &'a Settings,

@@ -33,7 +33,6 @@ const OTHER_NAMES: [&str; 22] = [
     "timerfd",
 ];
 
-/// The place of a name among the calls of other machines, counted from 0; `None` where it isn't among them.
 pub(crate) fn place_of_other(name: &str) -> Option<usize>
     ensures { result ≡ place_from 0 name.now other_names }
 {

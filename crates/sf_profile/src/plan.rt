@@ -23,8 +23,8 @@ use crate::tree::{items_at, text_at, text_of, whole_at};
 use serde_json::Value;
 use std::alloc::{AllocError, Global};
 
-/// The error number at a key. It is 1, which is EPERM, where there is no whole number at the key, and where the number
-/// isn't 0 to 65535. A profile with such a number is refused.
+/// The error number at a key. It is 1, which is EPERM, where there is none. A profile with another value there is
+/// refused.
 fn error_number(value: &Value, key: &str) -> u16
     ensures { result ≡ unwrap_or (up_to_or 1 65535
         (whole_where (at key.now (view value.now)))) 1 }
@@ -35,8 +35,8 @@ fn error_number(value: &Value, key: &str) -> u16
     }
 }
 
-/// The response of the action at the key `action`, with the number that `error_number` gives for the key `number`: 1
-/// where none is given. A missing or unknown action counts as `KillThread`; such a profile is refused.
+/// The response of the action at the key `action`, with the number at the key `number`. A missing or unknown action
+/// counts as `KillThread`; such a profile is refused.
 pub(crate) fn response_at(value: &Value, action: &str, number: &str) -> Response
     ensures { result ≡ response_at action.now number.now (view value.now) }
 {
@@ -45,8 +45,8 @@ pub(crate) fn response_at(value: &Value, action: &str, number: &str) -> Response
     )
 }
 
-/// The comparison that a value describes. A number that is absent or out of its range counts as 0, and a missing or
-/// unknown `op` as `Equal`. In a profile that isn't refused, `valueTwo` may be absent, and nothing else of this occurs.
+/// The comparison that a value describes. What is absent or wrong counts as 0, or as `Equal`; in a profile that isn't
+/// refused, only `valueTwo` may be absent.
 pub(crate) fn comparison_of(value: &Value) -> Comparison
     ensures { result ≡ comparison_of (view value.now) }
 {
@@ -58,7 +58,6 @@ pub(crate) fn comparison_of(value: &Value) -> Comparison
     }
 }
 
-/// The comparisons that values describe, in their order. An error where an allocation is refused.
 fn comparisons_of(alloc: Global, items: &[Value]) -> Result<Vec<Comparison>, AllocError>
     ensures { IfOk result (λ v. v.items ≡ map comparison_of (map view items.now)) }
 {
@@ -69,14 +68,12 @@ fn comparisons_of(alloc: Global, items: &[Value]) -> Result<Vec<Comparison>, All
     Ok(comparisons)
 }
 
-/// Whether one of the comparisons is of the same argument as this one.
 fn compares_same_argument(comparisons: &[Comparison], comparison: Comparison) -> bool
     ensures { result ≡ list_any (is_of_same comparison) comparisons.now }
 {
     comparisons.iter().any(|other| word_of(comparison.argument) == word_of(other.argument))
 }
 
-/// Whether some argument is compared more than once.
 fn compares_twice(comparisons: &[Comparison]) -> bool
     ensures { result ≡ compares_twice comparisons.now }
 {
@@ -88,8 +85,7 @@ fn compares_twice(comparisons: &[Comparison]) -> bool
     false
 }
 
-/// The rule that the profile's rule `value` makes in a set, with these comparisons. Callers give all comparisons of
-/// `value`, or one of them. An error where an allocation is refused.
+/// The rule that the profile's rule `value` makes in a set, with these comparisons.
 fn rule_of(
     alloc: Global,
     settings: &Settings,
@@ -111,7 +107,6 @@ fn rule_of(
     })
 }
 
-/// The rule of one comparison, with these calls. An error where an allocation is refused.
 fn rule_of_one(
     alloc: Global,
     calls: &[Call],
@@ -129,8 +124,6 @@ fn rule_of_one(
     })
 }
 
-/// A rule for each of these comparisons, with these calls: each rule has only its own comparison. An error where an
-/// allocation is refused.
 fn rules_of_each(
     alloc: Global,
     calls: &[Call],
@@ -147,8 +140,7 @@ fn rules_of_each(
     Ok(rules)
 }
 
-/// A rule for each of these comparisons, which are those of the profile's rule `value`: each rule has only its own
-/// comparison. The names of `value` are looked up once, for all of them. An error where an allocation is refused.
+/// A rule for each of these comparisons, of the profile's rule `value`, whose names are looked up once.
 #[tactic(auto, using(crate::proofs::PlanLemmas::each_rule))]
 fn alternatives_of(
     alloc: Global,
@@ -166,10 +158,9 @@ fn alternatives_of(
     rules_of_each(alloc, &calls, response, comparisons)
 }
 
-/// The rules that the profile's rule `value` makes in a set. `comparisons` are all comparisons of `value`. Usually
-/// `value` makes one rule with all of them. Where one argument is compared more than once, it makes a rule for each
-/// comparison, so that it is enough that one holds. Of more than six comparisons two are always of one of the six
-/// arguments, so `compares_twice` isn't asked then. An error where an allocation is refused.
+/// The rules that the profile's rule `value` makes in a set: usually one. Where one argument is compared more than
+/// once, it makes a rule for each comparison, so that it is enough that one holds. Of more than six comparisons two are
+/// always of one of the six arguments.
 fn rules_with(
     alloc: Global,
     settings: &Settings,
@@ -189,8 +180,6 @@ fn rules_with(
     Ok(rules)
 }
 
-/// The rules that the profile's rule `value` makes in a set, as `rules_with` gives them; none where the rule doesn't
-/// apply. An error where an allocation is refused.
 fn rules_of(
     alloc: Global,
     settings: &Settings,
@@ -206,8 +195,8 @@ fn rules_of(
     rules_with(alloc, settings, set, value, comparisons)
 }
 
-/// The rules that a profile's rules make in a set, in their order. `TooLong` where they have more than `MOST_CALLS`
-/// calls in all: no more than these calls and those of one rule are ever held. `Memory` where an allocation is refused.
+/// The rules that a profile's rules make in a set. `TooLong` where they have more than `MOST_CALLS` calls in all: no
+/// more than these calls and those of one rule are ever held.
 fn rules_in(
     alloc: Global,
     settings: &Settings,
@@ -233,8 +222,6 @@ fn rules_in(
     Ok(rules)
 }
 
-/// The part of the plan for one set: the set, and the rules that the profile's rules, at the key `syscalls` of the
-/// profile `value`, make in it. The refusals are those of `rules_in`.
 fn part_of(alloc: Global, settings: &Settings, value: &Value, set: CallSet) -> Result<Part, Fault>
     ensures made { IfOk result (λ p. p ≡ rules_of_set settings.now (view value.now) set) }
     ensures refused { IfErr result (λ e. (e ≡ Fault.Memory) ⊎ ((e ≡ Fault.TooLong)
@@ -246,15 +233,13 @@ fn part_of(alloc: Global, settings: &Settings, value: &Value, set: CallSet) -> R
     })
 }
 
-/// Whether a set is among these sets.
 fn has_set(sets: &[CallSet], set: CallSet) -> bool
     ensures { result ≡ list_any (is_same_set set) sets.now }
 {
     sets.iter().any(|other| set.is_same(*other))
 }
 
-/// Adds the set that `set_named` gives for this name, if it isn't there yet. Adds nothing where it gives none; a
-/// profile that is for a set with such a name is refused. An error where an allocation is refused.
+/// Adds the set that has this name, if it isn't there yet.
 fn push_set(sets: &mut Vec<CallSet>, name: &str) -> Result<(), AllocError>
     ensures { OnOk result (sets.new.items ≡ with_set sets.old.items (set_named name.now)) }
 {
@@ -270,8 +255,6 @@ fn push_set(sets: &mut Vec<CallSet>, name: &str) -> Result<(), AllocError>
     }
 }
 
-/// Adds the sets that have these names in profiles, as `push_set` does, so that each is there once. A value that is no
-/// text adds nothing. An error where an allocation is refused; some of the sets may have been added then.
 fn push_sets(sets: &mut Vec<CallSet>, items: &[Value]) -> Result<(), AllocError>
     ensures { OnOk result (sets.new.items
         ≡ fold (λ sets name. with_set sets (set_named name)) sets.old.items
@@ -283,8 +266,7 @@ fn push_sets(sets: &mut Vec<CallSet>, items: &[Value]) -> Result<(), AllocError>
     Ok(())
 }
 
-/// Adds the sets at `subArchitectures` of an entry of `archMap`, as `push_sets` does, if it is the machine's entry;
-/// else nothing. An error where an allocation is refused; some of the sets may have been added then.
+/// Adds the sets at `subArchitectures` of an entry of `archMap`, if it is the machine's entry.
 fn push_map_item(
     sets: &mut Vec<CallSet>,
     settings: &Settings,
@@ -300,8 +282,6 @@ fn push_map_item(
     Ok(())
 }
 
-/// Adds the sets at `subArchitectures` of those entries of `archMap` that are the machine's, as `push_sets` does. An
-/// error where an allocation is refused; some of the sets may have been added then.
 fn push_map_items(
     sets: &mut Vec<CallSet>,
     settings: &Settings,
@@ -318,7 +298,7 @@ fn push_map_items(
 }
 
 /// The sets that a profile is for, each once: the machine's own, then those at `architectures`, then those that the
-/// machine's entries of `archMap` list. An error where an allocation is refused.
+/// machine's entries of `archMap` list.
 #[tactic(auto, using(crate::proofs::PlanLemmas::fold_both))]
 pub(crate) fn sets_of(
     alloc: Global,
@@ -334,8 +314,6 @@ pub(crate) fn sets_of(
     Ok(sets)
 }
 
-/// The parts of the plan of the profile `value`, one for each of these sets, in their order. The refusals are those of
-/// `rules_in`.
 #[tactic(auto, using(crate::proofs::LimitLemmas::long_at))]
 fn parts_of(
     alloc: Global,
@@ -355,9 +333,8 @@ fn parts_of(
     Ok(parts)
 }
 
-/// The plan of the profile `value`: what the profile says, set by set. The caller has seen by `profile_refusal` that
-/// the profile isn't refused. `TooLong` where the filter of the plan would have more than 4096 instructions, as far as
-/// the number of its calls tells, before a plan of that size is made. `Memory` where an allocation is refused.
+/// The plan of a profile that isn't refused: what it says, set by set. `TooLong` as far as the number of its calls
+/// tells.
 #[tactic(auto, using(crate::proofs::LimitLemmas::plan_long))]
 pub(crate) fn plan_of(alloc: Global, settings: &Settings, value: &Value) -> Result<Plan, Fault>
     ensures made { IfOk result (λ p. p ≡ plan_of settings.now (view value.now)) }

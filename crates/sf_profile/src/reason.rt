@@ -1,5 +1,7 @@
 //! Why a profile is refused: which rule and which key, and what runtimes would do. It is for a person: contracts say
 //! nothing of it.
+//!
+//! The functions are called only for a profile, a rule or an action that is refused.
 
 use crate::config::{OTHER_FILTER, has_zero, is_taken_for, profile_in};
 use crate::errors::is_any_error_name;
@@ -26,12 +28,11 @@ struct Found<'a> {
     why: Option<Why>,
 }
 
-/// A key that is plainly at fault.
 fn plain<'a>(key: &'a str) -> Found<'a> {
     Found { key, why: None }
 }
 
-/// The known key for which Go takes another one; `None` where it takes it for none of them.
+/// The known key for which Go takes another one.
 fn case_of(key: &str, known: &[&'static str]) -> Option<Why> {
     for one in known {
         if is_taken_for(key, *one) {
@@ -41,8 +42,7 @@ fn case_of(key: &str, known: &[&'static str]) -> Option<Why> {
     None
 }
 
-/// The first key of an object that isn't among the known ones; `None` where all are. An object has its keys in the
-/// order of their bytes.
+/// The first key of an object that isn't among the known ones, in the order of their bytes.
 fn first_unknown<'a>(object: &'a Map<String, Value>, known: &[&'static str]) -> Option<Found<'a>> {
     for key in object.keys() {
         if !is_among(key.as_str(), known) {
@@ -55,7 +55,6 @@ fn first_unknown<'a>(object: &'a Map<String, Value>, known: &[&'static str]) -> 
     None
 }
 
-/// The first key of a value that isn't among the known ones; `None` where all are, or the value is no object.
 fn unknown_key<'a>(value: &'a Value, known: &[&'static str]) -> Option<Found<'a>> {
     match value {
         Value::Object(object) => first_unknown(object, known),
@@ -63,7 +62,6 @@ fn unknown_key<'a>(value: &'a Value, known: &[&'static str]) -> Option<Found<'a>
     }
 }
 
-/// Why an error's name is refused. The caller has seen that `has_right_error_name` is false with these keys.
 fn error_name_reason(value: &Value, name: &str, number: &str) -> Option<Why> {
     if is_absent(value, number) {
         return None;
@@ -75,9 +73,7 @@ fn error_name_reason(value: &Value, name: &str, number: &str) -> Option<Why> {
     })
 }
 
-/// Which key of an action is missing or wrongly given: `action` where there is no text at this key; `name` where it
-/// isn't the name of the error at `number`; else `number`. The three are the keys of the action, of its error number,
-/// and of the number's name. The caller has seen that `has_action_fields` is false with these keys.
+/// Which key of an action is missing or wrongly given.
 fn action_key<'a>(value: &Value, action: &'a str, number: &'a str, name: &'a str) -> Found<'a> {
     if !has_text(value, action) {
         return plain(action);
@@ -91,10 +87,8 @@ fn action_key<'a>(value: &Value, action: &'a str, number: &'a str, name: &'a str
     }
 }
 
-/// The key for which the profile `value` is refused with `Key`. The first key at fault counts, in this order: unknown
-/// keys; those of the default action, as `action_key` says; `syscalls`; `archMap`; `architectures`. Where `archMap` and
-/// `architectures` are both there, and `archMap` has the right form, it is `architectures`. Where `value` is no object,
-/// it is `defaultAction`. The caller has seen that `is_profile` is false.
+/// The key for which the profile `value` is refused with `Key`, the first in this order: unknown keys; those of the
+/// default action; `syscalls`; `archMap`; `architectures`.
 fn key_of_head(value: &Value) -> Found<'_> {
     if let Some(found) = unknown_key(value, PROFILE_KEYS.as_slice()) {
         return found;
@@ -112,10 +106,8 @@ fn key_of_head(value: &Value) -> Found<'_> {
     })
 }
 
-/// The key for which the rule `value` is refused with `RuleKey`. The first key at fault counts, in this order: unknown
-/// keys; `names` and `name`; those of the action, as `action_key` says; `args`; `includes`; `excludes`. Where `names`
-/// and `name` are at fault, it is `name` if this key is there, and else `names`. Where `value` is no object, it is
-/// `names`. The caller has seen that `is_rule` is false.
+/// The key for which the rule `value` is refused with `RuleKey`, the first in this order: unknown keys; `names` and
+/// `name`; those of the action; `args`; `includes`; `excludes`.
 fn key_of_rule<'a>(settings: &Settings, value: &'a Value) -> Found<'a> {
     if let Some(found) = unknown_key(value, RULE_KEYS.as_slice()) {
         return found;
@@ -140,9 +132,8 @@ fn key_of_rule<'a>(settings: &Settings, value: &'a Value) -> Found<'a> {
     })
 }
 
-/// The key for which a profile is refused with `Set`: the one at which its sets stand. `None` where the calls of the
-/// machine's own set aren't given exactly once: no key of the profile is at fault for that. The caller has seen that
-/// `profile_refusal` gives `Set`.
+/// The key at which a profile has its sets. `None` where the calls of the machine's own set aren't given exactly once:
+/// no key of the profile is at fault for that.
 fn key_of_sets(settings: &Settings, value: &Value) -> Option<&'static str> {
     if !settings.has_calls(settings.machine) {
         return None;
@@ -154,8 +145,7 @@ fn key_of_sets(settings: &Settings, value: &Value) -> Option<&'static str> {
     })
 }
 
-/// The key of a rule for which the rule is refused with this fault; `None` where the fault is that of no rule. The
-/// caller has seen that `rule_refusal` gives this fault for the rule `value`.
+/// The key of a rule for which the rule is refused with this fault.
 fn found_in_rule<'a>(settings: &Settings, value: &'a Value, fault: Fault) -> Option<Found<'a>> {
     match fault {
         Fault::RuleKey { .. } => Some(key_of_rule(settings, value)),
@@ -200,8 +190,7 @@ fn found_in_rule<'a>(settings: &Settings, value: &'a Value, fault: Fault) -> Opt
     }
 }
 
-/// The key of a profile's head, which is all but its rules, for which the profile is refused with this fault; `None`
-/// where no key of the head is at fault. The caller has seen that the profile is refused with this fault.
+/// The key of a profile's head, which is all but its rules, for which the profile is refused with this fault.
 fn found_in_head<'a>(settings: &Settings, value: &'a Value, fault: Fault) -> Option<Found<'a>> {
     match fault {
         Fault::Key => Some(key_of_head(value)),
@@ -212,7 +201,6 @@ fn found_in_head<'a>(settings: &Settings, value: &'a Value, fault: Fault) -> Opt
     }
 }
 
-/// The number of the rule that is refused, from 1; `None` where the fault is that of no rule.
 fn number_of_rule(fault: Fault) -> Option<usize> {
     match fault {
         Fault::RuleKey { rule }
@@ -225,9 +213,6 @@ fn number_of_rule(fault: Fault) -> Option<usize> {
     }
 }
 
-/// The key of a rule or of the head for which a profile is refused with this fault; `None` where no key is at fault, or
-/// where the fault names a rule that the profile hasn't. The caller has seen that the profile is refused with this
-/// fault.
 fn found_in_profile<'a>(settings: &Settings, value: &'a Value, fault: Fault) -> Option<Found<'a>> {
     match number_of_rule(fault) {
         Some(rule) => {
@@ -239,7 +224,7 @@ fn found_in_profile<'a>(settings: &Settings, value: &'a Value, fault: Fault) -> 
 }
 
 /// The first key of an object that isn't `own`, but that is one of the others, has a byte 0, or that Go takes for one
-/// of these keys; `None` where there is none. What is among the others stands beside `linux`.
+/// of these keys. What is among the others stands beside `linux`.
 fn first_unclear<'a>(
     object: &'a Map<String, Value>,
     own: &'static str,
@@ -267,7 +252,6 @@ fn first_unclear<'a>(
     None
 }
 
-/// What `first_unclear` gives for a value; `None` where it is no object.
 fn unclear_key<'a>(
     value: &'a Value,
     own: &'static str,
@@ -280,7 +264,7 @@ fn unclear_key<'a>(
 }
 
 /// The key for which the annotations of a whole config.json are refused: `annotations` where they are no object, then
-/// the first one with a byte 0, then that of a filter for crun. `None` where there is none.
+/// the first one with a byte 0, then that of a filter for crun.
 fn found_in_annotations(value: &Value) -> Option<Found<'_>> {
     let annotations = at(value, "annotations")?;
     if !annotations.is_object() {
@@ -296,7 +280,7 @@ fn found_in_annotations(value: &Value) -> Option<Found<'_>> {
     })
 }
 
-/// The first of these keys that a value has; `None` where it has none. They are keys that only docker and podman know.
+/// The first of these keys, which only docker and podman know, that a value has.
 fn docker_key(value: &Value, keys: &[&'static str]) -> Option<Found<'static>> {
     for key in keys {
         if !is_absent(value, *key) {
@@ -309,7 +293,6 @@ fn docker_key(value: &Value, keys: &[&'static str]) -> Option<Found<'static>> {
     None
 }
 
-/// The first key of a profile, or else of one of its rules, that only docker and podman know; `None` where it has none.
 fn found_in_oci(profile: &Value) -> Option<Found<'static>> {
     if let Some(found) = docker_key(profile, &["archMap"]) {
         return Some(found);
@@ -322,9 +305,9 @@ fn found_in_oci(profile: &Value) -> Option<Found<'static>> {
     None
 }
 
-/// The key for which no profile is taken from a whole config.json: the first one beside `linux`, then the first one in
-/// `linux`, that isn't clear; then one of the annotations; then `seccomp`, where it is missing; or else the first one
-/// in it that not all runtimes know. `None` where there is no `linux`.
+/// The key for which no profile is taken from a whole config.json: the first one that isn't clear beside `linux`, then
+/// in `linux`; then one of the annotations; then a missing `seccomp`; or else the first one in it that not all runtimes
+/// know.
 fn found_in_config(value: &Value) -> Option<Found<'_>> {
     if let Some(found) = unclear_key(value, "linux", PROFILE_KEYS.as_slice()) {
         return Some(found);
@@ -345,8 +328,6 @@ fn found_in_config(value: &Value) -> Option<Found<'_>> {
     }
 }
 
-/// The key for which the profile in a file's tree is refused with this fault; `None` where no key is at fault. The
-/// caller has seen that the profile is refused with this fault.
 fn found_in_file<'a>(settings: &Settings, value: &'a Value, fault: Fault) -> Option<Found<'a>> {
     match profile_in(value) {
         Some(profile) => found_in_profile(settings, profile, fault),
@@ -354,15 +335,13 @@ fn found_in_file<'a>(settings: &Settings, value: &'a Value, fault: Fault) -> Opt
     }
 }
 
-/// The rule for which the profile in a file's tree is refused with this fault; `None` where the fault is that of no
-/// rule. The caller has seen that the profile is refused with this fault.
 fn rule_in_file(value: &Value, fault: Fault) -> Option<&Value> {
     let place = number_of_rule(fault)?.checked_sub(1)?;
     items_at(profile_in(value)?, "syscalls").get(place)
 }
 
 /// Why the rule `value` is refused with `RuleUnknown`: the first of its names that no machine has, and the nearest one
-/// that a given set has. An error where an allocation is refused.
+/// that a given set has.
 fn unknown_reason(
     alloc: Global,
     settings: &Settings,
@@ -379,7 +358,6 @@ fn unknown_reason(
     Ok(Some(Why::Unknown { name, nearest }))
 }
 
-/// What is refused, with a copy of its key. An error where an allocation is refused.
 fn refused_by(
     alloc: Global,
     rule: Option<usize>,
@@ -399,9 +377,8 @@ fn refused_by(
     }
 }
 
-/// What the profile in a file is refused for: the number of the rule, the key, and why, each where it is known. An
-/// error where an allocation is refused. The caller's condition: `fault` is the one with which `profile` refused these
-/// bytes, with the same settings.
+/// What the profile in a file, which `profile` refused with this fault and these settings, is refused for: the number
+/// of the rule, the key, and why, each where it is known.
 pub fn refused(
     alloc: Global,
     settings: &Settings,

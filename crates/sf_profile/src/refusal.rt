@@ -18,28 +18,25 @@ use crate::tree::{at, items_at, text_at, text_of, whole_at};
 use serde_json::Value;
 use sf_names::is_call_name;
 
-/// Whether a value is a text that can be the name of a call: 1 to 64 letters, digits and `_`.
 fn is_name(value: &Value) -> bool
     ensures { result ≡ can_be_name (view value.now) }
 {
     is_call_name(text_of(value))
 }
 
-/// Whether each value can be the name of a call.
 fn are_each_names(items: &[Value]) -> bool
     ensures { result ≡ list_all (λ v. can_be_name (view v)) items.now }
 {
     items.iter().all(|value| is_name(value))
 }
 
-/// The same as `are_each_names`. For the prover: its clause speaks of the list of the values' JSON trees.
+/// For the prover: `are_each_names`, said of their trees.
 fn are_names(items: &[Value]) -> bool
     ensures { result ≡ list_all can_be_name (map view items.now) }
 {
     are_each_names(items)
 }
 
-/// Whether the key `name` of a rule is absent, or has a text that can be the name of a call.
 pub(crate) fn has_one_name_or_none(value: &Value) -> bool
     ensures { result ≡ absent_or can_be_name (at (codes "name") (view value.now)) }
 {
@@ -49,52 +46,46 @@ pub(crate) fn has_one_name_or_none(value: &Value) -> bool
     }
 }
 
-/// Whether each name that a rule has, at its keys `names` and `name`, can be the name of a call. True where it has
-/// none. A `names` that is no array counts as empty here; `is_rule` has refused such a rule before.
+/// Whether each name that a rule has can be the name of a call.
 fn has_right_names(value: &Value) -> bool
     ensures { result ≡ has_right_names (view value.now) }
 {
     are_names(items_at(value, "names")) && has_one_name_or_none(value)
 }
 
-/// Whether the text at the key `action` is the name of an action, as `response_named` says. False where there is no
-/// text.
+/// Whether the text at the key `action` is the name of an action.
 pub(crate) fn knows_action(value: &Value, action: &str) -> bool
     ensures { result ≡ knows_action action.now (view value.now) }
 {
     response_named(text_at(value, action), 0).is_some()
 }
 
-/// Whether the `op` of a comparison is known to `comparing_named`. False where there is no text at `op`.
 fn knows_comparison(value: &Value) -> bool
     ensures { result ≡ knows_comparison (view value.now) }
 {
     comparing_named(text_at(value, "op")).is_some()
 }
 
-/// Whether the `op` of each of these comparisons is known.
 fn know_each_comparison(items: &[Value]) -> bool
     ensures { result ≡ list_all (λ v. knows_comparison (view v)) items.now }
 {
     items.iter().all(|value| knows_comparison(value))
 }
 
-/// The same as `know_each_comparison`. For the prover: its clause speaks of the list of the values' JSON trees.
+/// For the prover: `know_each_comparison`, said of their trees.
 fn know_comparisons(items: &[Value]) -> bool
     ensures { result ≡ list_all knows_comparison (map view items.now) }
 {
     know_each_comparison(items)
 }
 
-/// Whether the action of a rule and the `op` of each of its comparisons are known.
 fn knows_action_and_ops(value: &Value) -> bool
     ensures { result ≡ knows_action_and_ops (view value.now) }
 {
     knows_action(value, "action") && know_comparisons(items_at(value, "args"))
 }
 
-/// Whether there is no error number at a key, or it is 0 to 65535. A value that is no whole number of 64 bits, with a
-/// sign or without, counts as none here. Callers have seen by `is_rule` or `is_profile` that there is no such value.
+/// Whether there is no error number at a key, or it is 0 to 65535.
 pub(crate) fn has_error_number_or_none(value: &Value, key: &str) -> bool
     ensures { result ≡ has_error_number_or_none key.now (view value.now) }
 {
@@ -102,8 +93,7 @@ pub(crate) fn has_error_number_or_none(value: &Value, key: &str) -> bool
 }
 
 /// Whether the numbers of a comparison are in their ranges: `index` is 0 to 5, and `value` and `valueTwo` have 64 bits
-/// without a sign. An absent number is in its range. A value that is no whole number of 64 bits, with a sign or
-/// without, counts as absent here; `is_rule` has refused such a value before.
+/// without a sign.
 fn has_argument_range(value: &Value) -> bool
     ensures { result ≡ has_argument_range (view value.now) }
 {
@@ -112,31 +102,27 @@ fn has_argument_range(value: &Value) -> bool
         && up_to_or(0, u64::MAX, whole_at(value, "valueTwo")).is_some()
 }
 
-/// Whether the numbers of all comparisons are in their ranges, as `has_argument_range` says.
 fn have_each_argument_range(items: &[Value]) -> bool
     ensures { result ≡ list_all (λ v. has_argument_range (view v)) items.now }
 {
     items.iter().all(|value| has_argument_range(value))
 }
 
-/// The same as `have_each_argument_range`. For the prover: its clause speaks of the list of the values' JSON trees.
+/// For the prover: `have_each_argument_range`, said of their trees.
 fn have_argument_ranges(items: &[Value]) -> bool
     ensures { result ≡ list_all has_argument_range (map view items.now) }
 {
     have_each_argument_range(items)
 }
 
-/// Whether the error number of a rule and the numbers of its comparisons are in their ranges. The caller has seen by
-/// `is_rule` that they are whole numbers.
 fn has_ranges(value: &Value) -> bool
     ensures { result ≡ has_ranges (view value.now) }
 {
     has_error_number_or_none(value, "errnoRet") && have_argument_ranges(items_at(value, "args"))
 }
 
-/// Why the rule `value` is refused; `None` where it isn't. `rule` is its number, from 1, for the fault, and `left` what
-/// it may count for, as `size_of_rule` counts. The faults are tried in this order: `RuleKey`, `RuleCount`, `RuleName`,
-/// `RuleUnknown`, `RuleActions`, `RuleRange`.
+/// Why the rule `value` is refused, if it is. `rule` is its number, from 1, and `left` what it may count for. The
+/// faults are tried in this order: `RuleKey`, `RuleCount`, `RuleName`, `RuleUnknown`, `RuleActions`, `RuleRange`.
 fn rule_refusal(settings: &Settings, rule: usize, left: usize, value: &Value) -> Option<Fault>
     ensures { result ≡ rule_refusal settings.now rule left (view value.now) }
 {
@@ -161,8 +147,6 @@ fn rule_refusal(settings: &Settings, rule: usize, left: usize, value: &Value) ->
     None
 }
 
-/// The fault of the first of these rules that `rule_refusal` refuses; `None` where it refuses none. Rules are numbered
-/// from 1.
 #[tactic(auto, using(crate::proofs::RuleTurns::next_rule))]
 fn rules_refusal(settings: &Settings, items: &[Value]) -> Option<Fault>
     ensures { result ≡ rules_refusal settings.now 1 8192 (map view items.now) }
@@ -178,7 +162,7 @@ fn rules_refusal(settings: &Settings, items: &[Value]) -> Option<Fault>
     None
 }
 
-/// Whether the calls of a set are given exactly once. False for `None`, which stands for an unknown set.
+/// Whether the calls of a set are given exactly once. `None` stands for an unknown set.
 fn knows_set(settings: &Settings, set: Option<CallSet>) -> bool
     ensures { result ≡ knows_set settings.now set }
 {
@@ -188,21 +172,19 @@ fn knows_set(settings: &Settings, set: Option<CallSet>) -> bool
     }
 }
 
-/// Whether a value names a set whose calls are given exactly once.
 fn names_given_set(settings: &Settings, value: &Value) -> bool
     ensures { result ≡ names_given_set settings.now (view value.now) }
 {
     knows_set(settings, set_named(text_of(value)))
 }
 
-/// Whether each value names a set whose calls are given exactly once.
 fn are_each_sets(settings: &Settings, items: &[Value]) -> bool
     ensures { result ≡ list_all (λ v. names_given_set settings.now (view v)) items.now }
 {
     items.iter().all(|value| names_given_set(settings, value))
 }
 
-/// The same as `are_each_sets`. For the prover: its clause speaks of the list of the values' JSON trees.
+/// For the prover: `are_each_sets`, said of their trees.
 fn are_sets(settings: &Settings, items: &[Value]) -> bool
     ensures { result ≡ list_all (names_given_set settings.now) (map view items.now) }
 {
@@ -216,15 +198,12 @@ pub(crate) fn is_own_item(settings: &Settings, value: &Value) -> bool
     text_at(value, "architecture") == name_of_set(settings.machine)
 }
 
-/// Whether an entry of `archMap` is another machine's, or all its `subArchitectures` are known sets whose calls are
-/// given exactly once.
 fn knows_sets_of_item(settings: &Settings, value: &Value) -> bool
     ensures { result ≡ knows_sets_of_item settings.now (view value.now) }
 {
     !is_own_item(settings, value) || are_sets(settings, items_at(value, "subArchitectures"))
 }
 
-/// Whether `knows_sets_of_item` is true of each of these entries of `archMap`.
 fn know_sets_of_each_item(settings: &Settings, items: &[Value]) -> bool
     ensures { result ≡ list_all (λ v. knows_sets_of_item settings.now (view v)) items.now }
 {
@@ -233,15 +212,15 @@ fn know_sets_of_each_item(settings: &Settings, items: &[Value]) -> bool
         .all(|value| knows_sets_of_item(settings, value))
 }
 
-/// The same as `know_sets_of_each_item`. For the prover: its clause speaks of the list of the values' JSON trees.
+/// For the prover: `know_sets_of_each_item`, said of their trees.
 fn know_sets_of_items(settings: &Settings, items: &[Value]) -> bool
     ensures { result ≡ list_all (knows_sets_of_item settings.now) (map view items.now) }
 {
     know_sets_of_each_item(settings, items)
 }
 
-/// Whether all sets that the profile is for are known and have their calls given exactly once: the machine's own, those
-/// at `architectures`, and those in the machine's entries of `archMap`. Entries of other machines aren't looked at.
+/// Whether all sets that the profile is for are known and have their calls given exactly once. Entries of `archMap` for
+/// other machines aren't looked at.
 fn knows_sets(settings: &Settings, value: &Value) -> bool
     ensures { result ≡ knows_sets settings.now (view value.now) }
 {
@@ -250,9 +229,8 @@ fn knows_sets(settings: &Settings, value: &Value) -> bool
         && know_sets_of_items(settings, items_at(value, "archMap"))
 }
 
-/// Why the profile `value` is refused; `None` where it isn't. The faults are tried in this order: for the head `Key`,
-/// `Actions` and `Range`; `Set` for the sets of calls; then those of `rule_refusal`, rule after rule. Whether the
-/// filter is too long isn't looked at here.
+/// Why the profile `value` is refused, if it is: for the head `Key`, `Actions` and `Range`; `Set`; then, rule after
+/// rule, as `rule_refusal` says. Whether the filter is too long isn't looked at here.
 pub(crate) fn profile_refusal(settings: &Settings, value: &Value) -> Option<Fault>
     ensures { result ≡ profile_refusal settings.now (view value.now) }
 {

@@ -7,8 +7,7 @@ use crate::repeats::{items_of, rules_below};
 use json::{Reader, Scratch, Token, Value};
 use std::alloc::{AllocError, Global};
 
-/// A key that comes twice among these; `None` where none does. The keys are sorted by it. An error where an allocation
-/// is refused.
+/// A key that comes twice among these, which are sorted by it.
 fn twice_among<'a>(keys: &mut Vec<&'a str>) -> Result<Option<&'a str>, AllocError> {
     keys.sort()?;
     for later in 1..keys.len() {
@@ -19,7 +18,6 @@ fn twice_among<'a>(keys: &mut Vec<&'a str>) -> Result<Option<&'a str>, AllocErro
     Ok(None)
 }
 
-/// Adds a key to the innermost object.
 fn push_key<'a>(open: &mut Vec<Vec<&'a str>>, key: &'a str) -> Result<(), AllocError> {
     if let Some(keys) = open.last_mut() {
         keys.push(key)?;
@@ -27,7 +25,7 @@ fn push_key<'a>(open: &mut Vec<Vec<&'a str>>, key: &'a str) -> Result<(), AllocE
     Ok(())
 }
 
-/// Takes the innermost object away, and gives a key that comes twice in it; `None` where none does.
+/// Takes the innermost object away, and gives a key that comes twice in it.
 fn close<'a>(open: &mut Vec<Vec<&'a str>>) -> Result<Option<&'a str>, AllocError> {
     match open.pop() {
         Some(mut keys) => twice_among(&mut keys),
@@ -35,7 +33,7 @@ fn close<'a>(open: &mut Vec<Vec<&'a str>>) -> Result<Option<&'a str>, AllocError
     }
 }
 
-/// A key that comes twice in an object of the text; `None` where none does.
+/// A key that comes twice in an object of the text.
 fn repeated_in<'a>(alloc: Global, reader: &mut Reader<'a>) -> Result<Option<&'a str>, AllocError> {
     // The keys of each object that the reader is in, the outermost first.
     let mut open = Vec::new(alloc);
@@ -55,7 +53,6 @@ fn repeated_in<'a>(alloc: Global, reader: &mut Reader<'a>) -> Result<Option<&'a 
     Ok(None)
 }
 
-/// A key that comes twice in an object of a JSON text; `None` where none does. An error where an allocation is refused.
 fn key_in_text(alloc: Global, text: &str) -> Result<Option<String>, AllocError> {
     let mut scratch = Scratch::new(alloc);
     let mut reader = Reader::new(text, &mut scratch)?;
@@ -65,7 +62,6 @@ fn key_in_text(alloc: Global, text: &str) -> Result<Option<String>, AllocError> 
     }
 }
 
-/// A key that comes twice in an object of a value; `None` where none does. An error where an allocation is refused.
 fn key_in_value(alloc: Global, value: &Value<'_>) -> Result<Option<String>, AllocError>
     requires { IsReadBack (value_view value.now) }
 {
@@ -76,8 +72,7 @@ fn key_in_value(alloc: Global, value: &Value<'_>) -> Result<Option<String>, Allo
     }
 }
 
-/// A key that comes twice in the first of these rules in which one does; `None` where none does. An error where an
-/// allocation is refused.
+/// A key that comes twice in the first of these rules in which one does.
 fn key_in_rules(alloc: Global, rules: &[Value<'_>]) -> Result<Option<String>, AllocError>
     requires { AreReadBack (items_view rules.now) }
 {
@@ -90,8 +85,7 @@ fn key_in_rules(alloc: Global, rules: &[Value<'_>]) -> Result<Option<String>, Al
     Ok(None)
 }
 
-/// A key that comes twice in the first rule in which one does, or else in another object of the text, whose document
-/// this is; `None` where none does. An error where an allocation is refused.
+/// A key that comes twice in the first rule in which one does, or else in another object of the document.
 fn key_in_document(
     alloc: Global,
     text: &str,
@@ -108,8 +102,7 @@ fn key_in_document(
     key_in_text(alloc, text)
 }
 
-/// The key that comes twice in a file that `tree_of` refuses for it; `None` where none does, or the bytes are no UTF-8.
-/// An error where an allocation is refused. The caller has seen that the bytes are JSON.
+/// The key that comes twice in a file that `tree_of` refuses for it.
 pub(crate) fn repeated_key(alloc: Global, bytes: &[u8]) -> Result<Option<String>, AllocError> {
     let Ok(text) = str::from_utf8(bytes) else {
         return Ok(None);

@@ -11,7 +11,7 @@ use crate::fault::Fault;
 use json::{Error, Scratch, Value};
 use std::alloc::{AllocError, Global};
 
-/// The last value that an object has at a key; `None` where it has none, or null.
+/// The last value that an object has at a key, unless it is null.
 fn last_at<'v, 'a>(value: &'v Value<'a>, key: &str) -> Option<&'v Value<'a>>
     ensures { option_map (λ v. value_view v.now) result ≡ last_at key.now
         (value_view value.now) }
@@ -31,7 +31,6 @@ fn profile_below<'v, 'a>(whole: &'v Value<'a>) -> Option<&'v Value<'a>>
     }
 }
 
-/// The items of a value that is an array; an empty slice where it is no array.
 pub(crate) fn items_of<'v, 'a>(value: &'v Value<'a>) -> &'v [Value<'a>]
     ensures { items_view result.now ≡ items_where (Some (value_view value.now)) }
 {
@@ -41,7 +40,7 @@ pub(crate) fn items_of<'v, 'a>(value: &'v Value<'a>) -> &'v [Value<'a>]
     }
 }
 
-/// The last value that a file has at the key of its profile's rules; `None` where it has none, or null.
+/// The last value that a file has at the key of its profile's rules, unless it is null.
 pub(crate) fn rules_below<'v, 'a>(whole: &'v Value<'a>) -> Option<&'v Value<'a>>
     ensures { option_map (λ v. value_view v.now) result
         ≡ option_and_then (last_at (codes "syscalls"))
@@ -50,8 +49,7 @@ pub(crate) fn rules_below<'v, 'a>(whole: &'v Value<'a>) -> Option<&'v Value<'a>>
     last_at(profile_below(whole)?, "syscalls")
 }
 
-/// Whether a key comes twice in an object of the text. An error where an allocation is refused. The caller has seen
-/// that the text is JSON.
+/// Whether a key comes twice in an object of the text.
 fn repeats_key(alloc: Global, text: &str) -> Result<bool, AllocError>
     ensures { IfOk result (λ b. MatchBool b
         (IsSomeAnd (document text.now) (λ whole. ¬ HasUniqueKeys whole))
@@ -66,8 +64,8 @@ fn repeats_key(alloc: Global, text: &str) -> Result<bool, AllocError>
     }
 }
 
-/// Whether a key comes twice in an object of the value. An error where an allocation is refused. The reader of JSON
-/// tells that only of a text, so the value is written.
+/// Whether a key comes twice in an object of the value. The reader of JSON tells that only of a text, so the value is
+/// written.
 fn value_repeats_key(alloc: Global, value: &Value<'_>) -> Result<bool, AllocError>
     requires { IsReadBack (value_view value.now) }
     ensures { IfOk result (λ b. MatchBool b (¬ HasUniqueKeys (value_view value.now))
@@ -82,7 +80,7 @@ fn value_repeats_key(alloc: Global, value: &Value<'_>) -> Result<bool, AllocErro
 }
 
 /// The fault of a profile with these rules, in which a key comes twice: `RuleKey` with the number of the first rule in
-/// which one does, or else `Key`. An error where an allocation is refused.
+/// which one does, or else `Key`.
 fn fault_of_rules(alloc: Global, items: &[Value<'_>]) -> Result<Fault, AllocError>
     requires { AreReadBack (items_view items.now) }
     ensures { IfOk result (λ e. IsFaultOfRepeat 1 (items_view items.now) e) }
@@ -95,8 +93,6 @@ fn fault_of_rules(alloc: Global, items: &[Value<'_>]) -> Result<Fault, AllocErro
     Ok(Fault::Key)
 }
 
-/// The fault of a document in which a key comes twice, as `fault_of_rules` says. An error where an allocation is
-/// refused.
 fn fault_of_document(alloc: Global, whole: &Value<'_>) -> Result<Fault, AllocError>
     requires { IsReadBack (value_view whole.now) }
     ensures { IfOk result (λ e. IsFaultOfRepeat 1 (last_rules (value_view whole.now)) e) }
@@ -107,8 +103,6 @@ fn fault_of_document(alloc: Global, whole: &Value<'_>) -> Result<Fault, AllocErr
     }
 }
 
-/// The fault of a text in which a key comes twice, as `fault_of_rules` says. An error where an allocation is refused.
-/// The caller has seen that the text is JSON.
 fn fault_of_repeat(alloc: Global, text: &str) -> Result<Fault, AllocError>
     ensures { IfOk result (λ e. IsSomeAnd (document text.now)
         (λ whole. IsFaultOfRepeat 1 (last_rules whole) e)) }
@@ -121,8 +115,7 @@ fn fault_of_repeat(alloc: Global, text: &str) -> Result<Fault, AllocError>
     }
 }
 
-/// Refuses a text in which an object has a key twice: with `RuleKey` where one of the rules has it, the first of which
-/// counts, and else with `Key`. `Memory` where an allocation is refused. The caller has seen that the text is JSON.
+/// Refuses a text in which an object has a key twice.
 pub(crate) fn refuse_repeats(alloc: Global, text: &str) -> Result<(), Fault>
     ensures unique { OnOk result (IsSomeAnd (document text.now) HasUniqueKeys) }
     ensures refused { IfErr result (λ e. (e ≡ Fault.Memory)

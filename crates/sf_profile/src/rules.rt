@@ -15,7 +15,6 @@ pub enum CallSet {
     X32,
     /// The calls of 32-bit x86.
     I386,
-    /// The calls of 64-bit Arm.
     Aarch64,
     /// The calls of 32-bit Arm.
     Arm,
@@ -41,30 +40,25 @@ pub enum Comparing {
     Equal,
     GreaterOrEqual,
     Greater,
-    /// Only the bits under a mask are compared. The mask is the first value, and what the bits have to be is the
-    /// second.
+    /// Only the bits under a mask, the first value, are compared. What they have to be is the second value.
     MaskedEqual,
 }
 
 /// A comparison of an argument.
 #[derive(Clone, Copy, Debug, PartialEq, Eq)]
 pub struct Comparison {
-    /// The argument that is compared.
     pub argument: Argument,
-    /// How it is compared.
     pub comparing: Comparing,
     /// The value that it is compared with; for `MaskedEqual` the mask.
     pub value: u64,
-    /// For `MaskedEqual` the value of the bits under the mask; else without a meaning.
+    /// For `MaskedEqual` the value of the bits under the mask.
     pub value_two: u64,
 }
 
 /// What becomes of a call.
 #[derive(Clone, Copy, Debug, PartialEq, Eq)]
 pub enum Response {
-    /// The process is killed.
     KillProcess,
-    /// The thread is killed.
     KillThread,
     /// The thread gets a SIGSYS.
     Trap,
@@ -74,9 +68,7 @@ pub enum Response {
     Notify,
     /// A tracer decides, and is given this number.
     Tracer(u16),
-    /// The call is made and logged.
     Log,
-    /// The call is made.
     Allow,
 }
 
@@ -85,19 +77,15 @@ pub enum Response {
 pub struct Call {
     /// The call's number, or that of socketcall or ipc where the call goes through one of these.
     pub number: u32,
-    /// Where the call goes through socketcall or ipc: the number in the first argument that stands for it. `None` where
-    /// the call is known by its number alone.
+    /// Where the call goes through socketcall or ipc: the number in the first argument that stands for it.
     pub operation: Option<u32>,
 }
 
 /// A rule in one set of calls: it gives its response to each of its calls for which all its comparisons hold.
 #[derive(Debug, Drop)]
 pub(crate) struct Rule {
-    /// The calls.
     pub(crate) calls: Vec<Call>,
-    /// The comparisons, all of which have to hold.
     pub(crate) comparisons: Vec<Comparison>,
-    /// What becomes of such a call.
     pub(crate) response: Response,
 }
 
@@ -116,7 +104,6 @@ impl Model for Rule {
 /// The rules of a set of calls.
 #[derive(Debug, Drop)]
 pub(crate) struct Part {
-    /// The set.
     pub(crate) set: CallSet,
     /// The rules that apply, in the profile's order. A rule of the profile may have become several.
     pub(crate) rules: Vec<Rule>,
@@ -144,14 +131,11 @@ pub enum Reading {
 /// A profile with the numbers of its calls.
 #[derive(Debug, Drop)]
 pub(crate) struct Plan {
-    /// The sets of calls that the profile is for.
     pub(crate) parts: Vec<Part>,
     /// What becomes of a call of these sets about which no rule says anything, unless it fails by `newer`.
     pub(crate) default: Response,
-    /// Which rule counts where several say something.
     pub(crate) reading: Reading,
-    /// Whether ENOSYS is asked for at calls that are newer than all calls of their set's rules. It is heeded only where
-    /// `refuses_newer` is true of the default.
+    /// Whether ENOSYS is asked for at calls that are newer than all calls of their set's rules (see `refuses_newer`).
     pub(crate) newer: bool,
 }
 
@@ -193,8 +177,8 @@ impl CallSet {
 }
 
 impl Response {
-    /// The value that a filter returns for the response: the action in the high 16 bits, and in the low ones the number
-    /// of `Errno` or `Tracer`, or 0 for another response.
+    /// The value that a filter returns for the response: the action in the high 16 bits, and its number, or 0, in the
+    /// low ones.
     pub(crate) fn value(self) -> u32
         ensures { result ≡ returned_value_of self }
     {
@@ -210,8 +194,8 @@ impl Response {
         }
     }
 
-    /// The place of the action in the order of precedence, the highest first: 0 for the one that the kernel prefers to
-    /// all others, up to 7.
+    /// The place of the action in the order of precedence: 0 for the one that the kernel prefers to all others, up to
+    /// 7.
     pub(crate) fn strictness(self) -> u8
         ensures { result ≡ strictness self }
     {

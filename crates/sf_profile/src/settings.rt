@@ -15,9 +15,7 @@ use sf_names::{Call, Names};
 /// The calls of a set, with their numbers.
 #[derive(Debug, Drop)]
 pub struct Calls {
-    /// The set that `set_of_names` gives for the names.
     set: CallSet,
-    /// The calls as a file of names gives them.
     names: Names,
 }
 
@@ -28,22 +26,19 @@ pub struct Settings {
     pub machine: CallSet,
     /// The capabilities that the container has.
     pub caps: Vec<String>,
-    /// The kernel's version, where it is known.
     pub kernel: Option<Version>,
     /// Which rule counts where several say something of one call.
     pub conflicts: Reading,
     /// Whether ENOSYS is asked for at calls that are newer than all that the rules that apply name. It isn't heeded
     /// where the default lets calls through, or leaves them to a tracer.
     pub newer: bool,
-    /// Whether names of calls that no machine has are passed over: no set in `calls` has them, nor has another machine.
-    /// Else a profile is refused for such a name.
+    /// Whether names of calls that no machine has are passed over; else a profile is refused for such a name.
     pub skip_unknown: bool,
-    /// The calls of sets. A profile is refused where those of a set that it needs aren't among them exactly once.
+    /// A profile is refused where the calls of a set that it needs aren't among these exactly once.
     pub calls: Vec<Calls>,
 }
 
 impl CallSet {
-    /// A number for the set, by which sets are compared.
     fn place(self) -> u8
         ensures { result ≡ set_place self }
     {
@@ -56,7 +51,6 @@ impl CallSet {
         }
     }
 
-    /// Whether two sets are the same.
     pub(crate) fn is_same(self, other: CallSet) -> bool
         ensures { result ≡ is_same_set self other }
     {
@@ -64,23 +58,19 @@ impl CallSet {
     }
 }
 
-/// How many of these are the calls of this set.
 fn count_of(calls: &[Calls], set: CallSet) -> usize
     ensures { result ≡ count_by (λ (c : ACalls). is_same_set c.set set) calls.now }
 {
     calls.iter().filter(|one| one.set.is_same(set)).count()
 }
 
-/// Whether some call has a number below `LEAST_OF_X32`.
 fn has_low_call(calls: &[Call]) -> bool
     ensures { result ≡ list_any is_low_call calls.now }
 {
     calls.iter().any(|call| call.number() < LEAST_OF_X32)
 }
 
-/// The set of calls of the architecture with this number; `None` where it is the architecture of none of the five sets.
-/// x86-64 has two sets: the result is `X64` if `low`, and else `X32`. Callers say by `low` whether some call has a
-/// number below `LEAST_OF_X32`.
+/// The set of calls of the architecture with this number: on x86-64 `X64` if `low`, and else `X32`.
 fn set_of_arch(low: bool, arch: u32) -> Option<CallSet>
     ensures { result ≡ set_of_arch low arch }
 {
@@ -93,9 +83,8 @@ fn set_of_arch(low: bool, arch: u32) -> Option<CallSet>
     }
 }
 
-/// The set whose calls these are, by their architecture and their numbers; `None` where the architecture is that of
-/// none of the five sets. For x86-64 it is `X32` where no call has a number below 2^30, and else `X64`. The set's name
-/// in `names` isn't looked at.
+/// The set whose calls these are, by their architecture and their numbers, not by the set's name. For x86-64 it is
+/// `X32` where no call has a number below 2^30, and else `X64`.
 pub fn set_of_names(names: &Names) -> Option<CallSet>
     ensures { result ≡ set_of_names names.now }
 {
@@ -103,7 +92,7 @@ pub fn set_of_names(names: &Names) -> Option<CallSet>
 }
 
 impl Calls {
-    /// These names as the calls of the set that `set_of_names` gives for them; `None` where it gives none.
+    /// These names as the calls of their set.
     pub fn of(names: Names) -> Option<Calls>
         ensures { result ≡ calls_of_names names }
     {
@@ -111,12 +100,11 @@ impl Calls {
         Some(Calls { set, names })
     }
 
-    /// The calls.
     pub(crate) fn calls(&self) -> &[Call] {
         self.names.calls()
     }
 
-    /// The number of the first call with this name; `None` where there is no such call.
+    /// The number of the first call with this name.
     pub(crate) fn number_of(&self, name: &str) -> Option<u32>
         ensures { result ≡ number_where (Some self.now) name.now }
     {
@@ -124,7 +112,6 @@ impl Calls {
     }
 }
 
-/// The first of these that are the calls of this set; `None` where none are.
 fn calls_of(calls: &[Calls], set: CallSet) -> Option<&Calls>
     ensures { option_map (λ c. c.now) result
         ≡ find (λ (c : ACalls). is_same_set c.set set) calls.now }
@@ -137,7 +124,6 @@ fn calls_of(calls: &[Calls], set: CallSet) -> Option<&Calls>
     None
 }
 
-/// Whether at least one of the texts is this one.
 fn has_text(texts: &[String], text: &str) -> bool
     ensures { result ≡ list_any (λ t. bytes_eq text.now (string_bytes t)) texts.now }
 {
@@ -152,8 +138,7 @@ impl Settings {
         count_of(&self.calls, set) == 1
     }
 
-    /// The number of the first call with this name among the calls of a set; `None` where the set has no such call, or
-    /// its calls aren't given. If its calls are given more than once, the first ones count.
+    /// The number of the first call with this name among the calls of a set.
     pub(crate) fn number_of(&self, set: CallSet, name: &str) -> Option<u32>
         ensures { result ≡ number_of self.now set name.now }
     {
@@ -163,7 +148,7 @@ impl Settings {
         }
     }
 
-    /// The calls of a set; none where they aren't given. If they are given more than once, the first ones count.
+    /// The calls of a set; none where they aren't given.
     pub(crate) fn calls_in(&self, set: CallSet) -> &[Call] {
         match calls_of(&self.calls, set) {
             Some(calls) => calls.calls(),
@@ -171,7 +156,6 @@ impl Settings {
         }
     }
 
-    /// Whether the container has the capability with this name.
     pub(crate) fn has_cap(&self, cap: &str) -> bool
         ensures { result ≡ has_cap self.now cap.now }
     {

@@ -19,7 +19,6 @@ use indexmap::IndexSet;
 use serde_json::Value;
 use std::alloc::{AllocError, Global};
 
-/// The name of a response's action in notes.
 fn response_name(response: Response) -> &'static str
     ensures { result.now ≡ response_name response }
 {
@@ -35,7 +34,7 @@ fn response_name(response: Response) -> &'static str
     }
 }
 
-/// The number that goes with a response: that of ERRNO or TRACE, and 0 for others, which have none.
+/// The number that goes with a response: that of ERRNO or TRACE, and 0 for others.
 fn response_data(response: Response) -> u16
     ensures { result ≡ response_data response }
 {
@@ -58,7 +57,6 @@ fn set_name_in_notes(set: CallSet) -> &'static str
     }
 }
 
-/// Adds a name, if it isn't there yet. An error where an allocation is refused.
 fn push_name<'a>(names: &mut IndexSet<&'a str>, name: &'a str) -> Result<(), AllocError>
     ensures { OnOk result (map (λ n. n.now) names.new.keys
         ≡ with_name (map (λ n. n.now) names.old.keys) name.now) }
@@ -67,8 +65,6 @@ fn push_name<'a>(names: &mut IndexSet<&'a str>, name: &'a str) -> Result<(), All
     Ok(())
 }
 
-/// Adds those of the names that aren't there yet, each once. A value that is no text counts as the empty name. An error
-/// where an allocation is refused; some of the names may have been added then.
 fn push_names<'a>(names: &mut IndexSet<&'a str>, items: &'a [Value]) -> Result<(), AllocError>
     ensures { OnOk result (map (λ n. n.now) names.new.keys
         ≡ fold with_name (map (λ n. n.now) names.old.keys) (map text_in (map view items.now))) }
@@ -79,8 +75,6 @@ fn push_names<'a>(names: &mut IndexSet<&'a str>, items: &'a [Value]) -> Result<(
     Ok(())
 }
 
-/// Adds the one name of the rule `value`, at its key `name`, if it isn't there yet; nothing where the key is absent. A
-/// value that is no text counts as the empty name. An error where an allocation is refused.
 fn push_one_name<'a>(names: &mut IndexSet<&'a str>, value: &'a Value) -> Result<(), AllocError>
     ensures { OnOk result (map (λ n. n.now) names.new.keys
         ≡ fold with_name (map (λ n. n.now) names.old.keys)
@@ -92,8 +86,6 @@ fn push_one_name<'a>(names: &mut IndexSet<&'a str>, value: &'a Value) -> Result<
     }
 }
 
-/// Adds the names of the rule `value` that aren't there yet, each once: first those at `names`, then the one at `name`.
-/// An error where an allocation is refused; some of the names may have been added then.
 #[tactic(auto, using(crate::proofs::PlanLemmas::fold_both))]
 fn push_names_of<'a>(names: &mut IndexSet<&'a str>, value: &'a Value) -> Result<(), AllocError>
     ensures { OnOk result (map (λ n. n.now) names.new.keys
@@ -103,8 +95,6 @@ fn push_names_of<'a>(names: &mut IndexSet<&'a str>, value: &'a Value) -> Result<
     push_one_name(names, value)
 }
 
-/// Adds the names of the rule `value` that aren't there yet, each once, if the rule applies; else nothing. An error
-/// where an allocation is refused; some of the names may have been added then.
 fn push_names_where<'a>(
     names: &mut IndexSet<&'a str>,
     settings: &Settings,
@@ -120,8 +110,7 @@ fn push_names_where<'a>(
     Ok(())
 }
 
-/// The set of the names of those rules of the profile `value` that apply, in the order of first mention. An error where
-/// an allocation is refused.
+/// The names of those rules that apply, in the order of first mention.
 #[tactic(auto, using(crate::proofs::PlanLemmas::fold_both))]
 fn applied_set<'a>(
     alloc: Global,
@@ -138,8 +127,6 @@ fn applied_set<'a>(
     Ok(names)
 }
 
-/// The names of those rules of the profile `value` that apply, each once, in the order of first mention. An error where
-/// an allocation is refused.
 fn applied_names<'a>(
     alloc: Global,
     settings: &Settings,
@@ -152,7 +139,6 @@ fn applied_names<'a>(
     Vec::from_slice(alloc, names.as_slice())
 }
 
-/// Those of the names that are unknown, as `is_unknown` says, in their order. An error where an allocation is refused.
 fn unknown_names<'a>(
     alloc: Global,
     settings: &Settings,
@@ -170,7 +156,6 @@ fn unknown_names<'a>(
     Ok(unknown)
 }
 
-/// Those of the names that are nowhere, as `is_nowhere` says, in their order. An error where an allocation is refused.
 fn nowhere_names<'a>(
     alloc: Global,
     settings: &Settings,
@@ -188,7 +173,6 @@ fn nowhere_names<'a>(
     Ok(nowhere)
 }
 
-/// How many of these rules apply.
 fn applied_count(settings: &Settings, items: &[Value]) -> usize
     ensures { result ≡ applied_count settings.now (map view items.now) }
 {
@@ -201,8 +185,7 @@ fn applied_count(settings: &Settings, items: &[Value]) -> usize
     count
 }
 
-/// Adds the line of the default response: `default`, its action's name, and the number that goes with it, 0 where it
-/// has none. An error where an allocation is refused; a part of the line may stand in the text then.
+/// Adds the line of the default response: `default`, its action's name, and the number that goes with it, or 0.
 fn push_default(text: &mut String, response: Response) -> Result<(), AllocError>
     ensures { OnOk result (string_bytes text.new ≡ string_bytes text.old
         ++ default_line response) }
@@ -212,8 +195,6 @@ fn push_default(text: &mut String, response: Response) -> Result<(), AllocError>
     write!(text, "default {name} {data}\n")
 }
 
-/// Adds the name of a set, as notes have it, with a blank before it. An error where an allocation is refused; a part
-/// of what is added may stand in the text then.
 fn push_set_words(text: &mut String, set: CallSet) -> Result<(), AllocError>
     ensures { OnOk result (string_bytes text.new ≡ string_bytes text.old ++ set_words set) }
 {
@@ -221,8 +202,6 @@ fn push_set_words(text: &mut String, set: CallSet) -> Result<(), AllocError>
     text.push_str(set_name_in_notes(set))
 }
 
-/// Adds the names of sets, as notes have them, with a blank before each. An error where an allocation is refused; a
-/// part of what is added may stand in the text then.
 fn push_sets_words(text: &mut String, sets: &[CallSet]) -> Result<(), AllocError>
     ensures { OnOk result (string_bytes text.new ≡ string_bytes text.old
         ++ flat_map set_words sets.now) }
@@ -233,8 +212,6 @@ fn push_sets_words(text: &mut String, sets: &[CallSet]) -> Result<(), AllocError
     Ok(())
 }
 
-/// Adds the line of the sets: `sets` and their names. An error where an allocation is refused; a part of the line may
-/// stand in the text then.
 fn push_sets(text: &mut String, sets: &[CallSet]) -> Result<(), AllocError>
     ensures { OnOk result (string_bytes text.new ≡ string_bytes text.old ++ sets_line sets.now) }
 {
@@ -243,9 +220,8 @@ fn push_sets(text: &mut String, sets: &[CallSet]) -> Result<(), AllocError>
     text.push_str("\n")
 }
 
-/// Adds the line of the counts: how many rules there are, how many of them apply, how many different names those that
-/// apply have, and how many of these names no file of names has. An error where an allocation is refused; a part of the
-/// line may stand in the text then.
+/// Adds the line of the counts: how many rules there are, how many of them apply, how many different names these have,
+/// and how many of these names no file of names has.
 fn push_counts(
     text: &mut String,
     rules: usize,
@@ -262,8 +238,6 @@ fn push_counts(
     )
 }
 
-/// Adds a line for a name that no file of names has: `unknown` and the name. An error where an allocation is refused; a
-/// part of the line may stand in the text then.
 fn push_unknown(text: &mut String, name: &str) -> Result<(), AllocError>
     ensures { OnOk result (string_bytes text.new ≡ string_bytes text.old
         ++ unknown_line name.now) }
@@ -271,8 +245,6 @@ fn push_unknown(text: &mut String, name: &str) -> Result<(), AllocError>
     write!(text, "unknown {name}\n")
 }
 
-/// Adds a line for each of these names, as `push_unknown` does. An error where an allocation is refused; a part of the
-/// lines may stand in the text then.
 fn push_all_unknown(text: &mut String, names: &[&str]) -> Result<(), AllocError>
     ensures { OnOk result (string_bytes text.new ≡ string_bytes text.old
         ++ flat_map unknown_line (map (λ n. n.now) names.now)) }
@@ -283,8 +255,6 @@ fn push_all_unknown(text: &mut String, names: &[&str]) -> Result<(), AllocError>
     Ok(())
 }
 
-/// Adds a name, with a blank before it. An error where an allocation is refused; a part of what is added may stand in
-/// the text then.
 fn push_word(text: &mut String, name: &str) -> Result<(), AllocError>
     ensures { OnOk result (string_bytes text.new ≡ string_bytes text.old ++ name_word name.now) }
 {
@@ -292,7 +262,6 @@ fn push_word(text: &mut String, name: &str) -> Result<(), AllocError>
     text.push_str(name)
 }
 
-/// A text of these names, with a blank before each. An error where an allocation is refused.
 fn words_of(alloc: Global, names: &[&str]) -> Result<String, AllocError>
     ensures { IfOk result (λ text. string_bytes text
         ≡ flat_map name_word (map (λ n. n.now) names.now)) }
@@ -304,8 +273,8 @@ fn words_of(alloc: Global, names: &[&str]) -> Result<String, AllocError>
     Ok(text)
 }
 
-/// The names that are nowhere, as `is_nowhere` says, of those rules of the profile `value` that apply: each once, in
-/// the order of first mention, with a blank before each. An error where an allocation is refused.
+/// The names of rules that apply which no machine has: each once, in the order of first mention, with a blank before
+/// each.
 pub(crate) fn nowhere_words(
     alloc: Global,
     settings: &Settings,
@@ -319,10 +288,8 @@ pub(crate) fn nowhere_words(
     words_of(alloc, &nowhere)
 }
 
-/// The notes on the profile `value`. Their lines are: the form of the notes (`seccomp_audit profile 1`), the default,
-/// the sets, the counts, one line for each name that no file of names has, and `total instructions` with `size`, which
-/// is how many instructions the filter has. The caller has seen that the profile isn't refused. An error where an
-/// allocation is refused.
+/// The notes on the profile `value`: the form of the notes (`seccomp_audit profile 1`), the default, the sets, the
+/// counts, a line for each name that no file of names has, and the number of instructions, `size`.
 pub(crate) fn notes_text(
     alloc: Global,
     settings: &Settings,

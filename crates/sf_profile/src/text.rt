@@ -10,7 +10,7 @@ use crate::repeats::refuse_repeats;
 use serde_json::Value;
 use std::alloc::Global;
 
-/// The tree of a text. Where an object has a key twice, the tree has the last value. Refusals: `Syntax` and `Memory`.
+/// The tree of a text. Where an object has a key twice, the tree has the last value.
 fn read_text(alloc: Global, text: &str) -> Result<Value, Fault>
     ensures tree { IfOk result (λ v. read text.now ≡ Some (view v)) }
     ensures refused { IfErr result (λ e. (e ≡ Fault.Memory)
@@ -28,8 +28,6 @@ fn read_text(alloc: Global, text: &str) -> Result<Value, Fault>
     }
 }
 
-/// The tree of a text in which no object has a key twice. Refusals: those of `read_text`, then those of
-/// `refuse_repeats`.
 fn tree_of_text(alloc: Global, text: &str) -> Result<Value, Fault>
     ensures tree { IfOk result (λ v. IsTree text.now (view v)) }
     ensures refused { IfErr result (λ e. HasNoTree text.now e) }
@@ -39,10 +37,7 @@ fn tree_of_text(alloc: Global, text: &str) -> Result<Value, Fault>
     Ok(value)
 }
 
-/// The tree of a file's bytes, in which no object has a key twice: runtimes differ in which of two they take. Refusals,
-/// tried in this order: `Syntax` where the bytes are no UTF-8, no JSON, nest deeper than 127, or have a number beyond a
-/// float's range or half a surrogate pair; `RuleKey` or `Key` where a key comes twice in an object, at any depth.
-/// `Memory` can come anywhere.
+/// The tree of a file's bytes, in which no object has a key twice: runtimes differ in which of two they take.
 pub(crate) fn tree_of(alloc: Global, bytes: &[u8]) -> Result<Value, Fault>
     ensures tree { IfOk result (λ v. IsTree bytes.now (view v)) }
     ensures refused { IfErr result (λ e. HasNoTree bytes.now e) }

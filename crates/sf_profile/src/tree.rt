@@ -9,8 +9,7 @@ ghost use Rattle.sf_profile.specs.Trees.{absent_or, at, is_object_of, is_list_of
 
 use serde_json::{Map, Value};
 
-/// The value at a key of an object; `None` where the key is absent, its value is null, or `value` is no object. So a
-/// key with null counts as absent, except where unknown keys are looked for.
+/// The value at a key of an object. A key with null counts as absent, except where unknown keys are looked for.
 pub(crate) fn at<'a>(value: &'a Value, key: &str) -> Option<&'a Value>
     ensures { option_map (λ v. view v.now) result ≡ at key.now (view value.now) }
 {
@@ -35,7 +34,6 @@ fn items_of(value: &Value) -> &[Value]
     }
 }
 
-/// The items of the array at a key; an empty slice where there is no array.
 pub(crate) fn items_at<'a>(value: &'a Value, key: &str) -> &'a [Value]
     ensures { map view result.now ≡ listed (at key.now (view value.now)) }
 {
@@ -45,7 +43,6 @@ pub(crate) fn items_at<'a>(value: &'a Value, key: &str) -> &'a [Value]
     }
 }
 
-/// The text that a value is; the empty text where it is no text.
 pub(crate) fn text_of(value: &Value) -> &str
     ensures { result.now ≡ text_in (view value.now) }
 {
@@ -62,29 +59,26 @@ pub(crate) fn text_at<'a>(value: &'a Value, key: &str) -> &'a str
     }
 }
 
-/// The whole number that a value is, if it fits 64 bits with a sign or without; else `None`. A number that is written
-/// with a point or an exponent is no whole number, nor is `-0`.
+/// The whole number that a value is, if it fits 64 bits with a sign or without. A number that is written with a point
+/// or an exponent is no whole number, nor is `-0`.
 fn whole_of(value: &Value) -> Option<i128>
     ensures { result ≡ whole_in (view value.now) }
 {
     value.as_number()?.as_i128()
 }
 
-/// The whole number at a key; `None` where there is none, as `whole_of` says.
 pub(crate) fn whole_at(value: &Value, key: &str) -> Option<i128>
     ensures { result ≡ whole_where (at key.now (view value.now)) }
 {
     whole_of(at(value, key)?)
 }
 
-/// Whether the text is one of these texts.
 pub(crate) fn is_among(text: &str, texts: &[&str]) -> bool
     ensures { result ≡ list_any (λ t. bytes_eq text.now t.now) texts.now }
 {
     texts.iter().any(|t| text == *t)
 }
 
-/// Whether each key of an object is among the known keys.
 fn has_only_keys(map: &Map<String, Value>, known: &[&str]) -> bool
     ensures { result ≡ list_all (λ key. list_any (λ k. bytes_eq (string_bytes key) k.now)
         known.now) (keys map.now) }
@@ -92,7 +86,7 @@ fn has_only_keys(map: &Map<String, Value>, known: &[&str]) -> bool
     map.keys().all(|key| is_among(key.as_str(), known))
 }
 
-/// The same as `has_only_keys`. For the prover: its clause speaks of the members of the object's tree.
+/// For the prover: `has_only_keys`, said of the tree's members.
 fn keys_are_among(object: &Map<String, Value>, known: &[&str]) -> bool
     ensures { result ≡ all_keys (λ key. list_any (bytes_eq key) (map (λ k. k.now) known.now))
         (members_view object.now.entries) }
@@ -100,7 +94,6 @@ fn keys_are_among(object: &Map<String, Value>, known: &[&str]) -> bool
     has_only_keys(object, known)
 }
 
-/// Whether a value is an object that has only these keys.
 pub(crate) fn has_only(value: &Value, known: &[&str]) -> bool
     ensures { result ≡ is_object_of (map (λ k. k.now) known.now) (view value.now) }
 {
@@ -110,21 +103,19 @@ pub(crate) fn has_only(value: &Value, known: &[&str]) -> bool
     }
 }
 
-/// Whether each value is a text.
 fn are_each_texts(items: &[Value]) -> bool
     ensures { result ≡ list_all (λ v. is_text (view v)) items.now }
 {
     items.iter().all(|value| value.is_string())
 }
 
-/// The same as `are_each_texts`. For the prover: its clause speaks of the list of the values' JSON trees.
+/// For the prover: `are_each_texts`, said of their trees.
 fn are_texts(items: &[Value]) -> bool
     ensures { result ≡ list_all is_text (items_in (items_view items.now)) }
 {
     are_each_texts(items)
 }
 
-/// Whether a value is an array of texts.
 fn is_text_list(value: &Value) -> bool
     ensures { result ≡ is_list_of is_text (view value.now) }
 {
@@ -134,7 +125,6 @@ fn is_text_list(value: &Value) -> bool
     }
 }
 
-/// Whether there is an array of texts at a key.
 pub(crate) fn has_texts(value: &Value, key: &str) -> bool
     ensures { result ≡ present (is_list_of is_text) (at key.now (view value.now)) }
 {
@@ -144,7 +134,6 @@ pub(crate) fn has_texts(value: &Value, key: &str) -> bool
     }
 }
 
-/// Whether a key is absent, or has an array of texts.
 pub(crate) fn has_texts_or_none(value: &Value, key: &str) -> bool
     ensures { result ≡ absent_or (is_list_of is_text) (at key.now (view value.now)) }
 {
@@ -154,7 +143,6 @@ pub(crate) fn has_texts_or_none(value: &Value, key: &str) -> bool
     }
 }
 
-/// Whether there is a text at a key.
 pub(crate) fn has_text(value: &Value, key: &str) -> bool
     ensures { result ≡ present is_text (at key.now (view value.now)) }
 {
@@ -164,7 +152,6 @@ pub(crate) fn has_text(value: &Value, key: &str) -> bool
     }
 }
 
-/// Whether there is a whole number of 64 bits at a key, with a sign or without.
 pub(crate) fn has_whole(value: &Value, key: &str) -> bool
     ensures { result ≡ present is_whole_number (at key.now (view value.now)) }
 {
@@ -174,7 +161,6 @@ pub(crate) fn has_whole(value: &Value, key: &str) -> bool
     }
 }
 
-/// Whether a key is absent, or has a whole number of 64 bits, with a sign or without.
 pub(crate) fn has_whole_or_none(value: &Value, key: &str) -> bool
     ensures { result ≡ absent_or is_whole_number (at key.now (view value.now)) }
 {

@@ -5,11 +5,10 @@ use std::fmt;
 /// What a profile is refused for.
 #[derive(Debug, Drop)]
 pub struct Refused {
-    /// The number of the rule, from 1; `None` where the fault is that of no rule.
+    /// The number of the rule, from 1, if the fault is that of one.
     pub rule: Option<usize>,
-    /// The key at fault, or the one that is missing; `None` where there is none.
+    /// The key at fault, or the one that is missing.
     pub key: Option<String>,
-    /// Why the key is refused, where that isn't plain.
     pub why: Option<Why>,
 }
 

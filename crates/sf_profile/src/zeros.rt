@@ -19,7 +19,6 @@ use sf_insn::{Input, decode};
 use sf_run::{Action, answer};
 use std::alloc::{AllocError, Global};
 
-/// A number for which the comparison holds, if there is one.
 fn number_for(comparison: Comparison) -> u64 {
     let value = comparison.value;
     match comparison.comparing {
@@ -31,7 +30,7 @@ fn number_for(comparison: Comparison) -> u64 {
 }
 
 /// The words of an input that is this call of this set, with arguments for which the comparisons hold, if there are
-/// such. An argument of which nothing is asked is 0.
+/// such.
 fn words_for(set: CallSet, call: Call, comparisons: &[Comparison]) -> [u32; 16] {
     let mut words = [0u32; 16];
     words[0] = call.number;
@@ -46,12 +45,11 @@ fn words_for(set: CallSet, call: Call, comparisons: &[Comparison]) -> [u32; 16] 
     words
 }
 
-/// Whether a response is ERRNO 0.
 fn is_zero(response: Response) -> bool {
     matches!(response, Response::Errno(0))
 }
 
-/// Adds the words of an input for each call of a rule that answers ERRNO 0. An error where an allocation is refused.
+/// Adds the words of an input for each call of a rule that answers ERRNO 0.
 fn push_of_rule(inputs: &mut Vec<[u32; 16]>, set: CallSet, rule: &Rule) -> Result<(), AllocError> {
     if !is_zero(rule.response) {
         return Ok(());
@@ -62,7 +60,6 @@ fn push_of_rule(inputs: &mut Vec<[u32; 16]>, set: CallSet, rule: &Rule) -> Resul
     Ok(())
 }
 
-/// Adds what `push_of_rule` adds for each rule of a set. An error where an allocation is refused.
 fn push_of_part(inputs: &mut Vec<[u32; 16]>, part: &Part) -> Result<(), AllocError> {
     for rule in &part.rules {
         push_of_rule(inputs, part.set, rule)?;
@@ -70,7 +67,6 @@ fn push_of_part(inputs: &mut Vec<[u32; 16]>, part: &Part) -> Result<(), AllocErr
     Ok(())
 }
 
-/// Adds the words of an input for each call of a set. An error where an allocation is refused.
 fn push_of_set(
     inputs: &mut Vec<[u32; 16]>,
     settings: &Settings,
@@ -88,7 +84,7 @@ fn push_of_set(
 }
 
 /// The words of inputs that the plan may answer by ERRNO 0: one for each call of each rule that does, and where the
-/// default does, one for each call of each set. An error where an allocation is refused.
+/// default does, one for each call of each set.
 fn suggestions(
     alloc: Global,
     settings: &Settings,
@@ -117,7 +113,6 @@ fn number_of_zero(stack: &Stack, words: [u32; 16]) -> Option<u32>
     }
 }
 
-/// Adds a number, if it isn't there yet. An error where an allocation is refused.
 fn push_once(numbers: &mut Vec<u32>, number: u32) -> Result<(), AllocError>
     ensures { OnOk result ((numbers.new.items ≡ numbers.old.items)
         ⊎ (numbers.new.items ≡ numbers.old.items ++ number ∷ [])) }
@@ -129,8 +124,6 @@ fn push_once(numbers: &mut Vec<u32>, number: u32) -> Result<(), AllocError>
     Ok(())
 }
 
-/// The numbers of those of the inputs that the stack answers by ERRNO 0, each once. An error where an allocation is
-/// refused.
 #[tactic(auto, using(crate::proofs::CautionLemmas::one_more))]
 fn zeros_among(alloc: Global, stack: &Stack, inputs: &[[u32; 16]]) -> Result<Vec<u32>, AllocError>
     ensures { IfOk result (λ v. All (AnswerZero stack.now) v.items) }
@@ -144,8 +137,7 @@ fn zeros_among(alloc: Global, stack: &Stack, inputs: &[[u32; 16]]) -> Result<Vec
     Ok(numbers)
 }
 
-/// The stack of one program that the bytes spell. The caller's condition: they are those of a filter that this crate
-/// has made. So there is an error only where an allocation is refused.
+/// The stack of one program, that of a filter that this crate has made.
 fn stack_of(alloc: Global, bytes: &[u8]) -> Result<Stack, AllocError>
     ensures { IfOk result (AreProgramOf bytes.now) }
 {
@@ -164,7 +156,7 @@ fn stack_of(alloc: Global, bytes: &[u8]) -> Result<Stack, AllocError>
 }
 
 /// Numbers of calls that the profile `value` answers by ERRNO 0, each once: those of the inputs that its plan suggests
-/// and its filter answers so. The refusals are those of `filter_of_profile`.
+/// and its filter answers so.
 pub(crate) fn zeros_of_profile(
     alloc: Global,
     settings: &Settings,
