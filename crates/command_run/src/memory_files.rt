@@ -2,7 +2,7 @@
 
 use crate::fragments::push_digits;
 use sf_evaluate::{Files, MOST_BYTES};
-use sf_policy::Fault;
+use sf_stack::Fault;
 use std::alloc::{AllocError, Global};
 use std::test::Fail;
 

@@ -2,6 +2,7 @@
 
 use sf_compare::compare;
 use sf_list::{list_changes, write_changes};
+use sf_stack::stacks_of;
 use std::alloc::Global;
 use std::test::Fail;
 
@@ -15,7 +16,8 @@ pub fn show_comparison<R: Print>(
     old: &[Vec<u8>],
     new: &[Vec<u8>],
 ) -> Result<(), Fail> {
-    let comparison = compare(alloc, NODES, old, new)?;
+    let (before, after) = stacks_of(alloc, old, new)?;
+    let comparison = compare(alloc, NODES, before, after)?;
     let changes = list_changes(alloc, NODES, &comparison, None, &[], &None)?;
     let mut text = Vec::new(alloc);
     write_changes(alloc, &comparison, &changes, &[], &mut text)?;

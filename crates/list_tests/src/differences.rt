@@ -6,6 +6,7 @@ use sf_compare::compare;
 use sf_insn::RawInsn;
 use sf_list::{list_changes, write_changes};
 use sf_relations::Relation;
+use sf_stack::stacks_of;
 use std::alloc::Global;
 use std::test::Fail;
 
@@ -23,7 +24,8 @@ fn changed_rows_with(
     older.push(bytes_of(alloc, old)?)?;
     let mut newer = Vec::new(alloc);
     newer.push(bytes_of(alloc, new)?)?;
-    let comparison = compare(alloc, 100000, older.as_slice(), newer.as_slice())?;
+    let (old, new) = stacks_of(alloc, older.as_slice(), newer.as_slice())?;
+    let comparison = compare(alloc, 100000, old, new)?;
     let changes = list_changes(alloc, 100000, &comparison, only, names.as_slice(), &None)?;
     let mut out: Vec<u8> = Vec::new(alloc);
     write_changes(alloc, &comparison, &changes, names.as_slice(), &mut out)?;

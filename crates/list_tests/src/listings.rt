@@ -4,7 +4,7 @@ use samples::{ALLOW, op, raw};
 use sf_insn::RawInsn;
 use sf_list::{digest_of, list, write_listing};
 use sf_names::Names;
-use sf_policy::Fault;
+use sf_stack::{Fault, stack_of};
 use std::alloc::Global;
 use std::test::Fail;
 
@@ -51,7 +51,8 @@ pub(crate) fn listing_text(
 ) -> Result<String, Fail> {
     let mut files = Vec::new(alloc);
     files.push(bytes_of(alloc, insns)?)?;
-    let listing = list(alloc, 100000, files.as_slice(), names, calls)?;
+    let stack = stack_of(alloc, files.as_slice())?;
+    let listing = list(alloc, 100000, stack, names, calls)?;
     let mut out: Vec<u8> = Vec::new(alloc);
     write_listing(alloc, &listing, names, &mut out)?;
     text_of(out)
@@ -119,7 +120,8 @@ fn a_word_against_a_word(rt: HostRuntime) -> Result<(), Fail> {
     let alloc = rt.alloc();
     let mut files = Vec::new(alloc);
     files.push(bytes_of(alloc, &words())?)?;
-    match list(alloc, 1000, files.as_slice(), &[], &None) {
+    let stack = stack_of(alloc, files.as_slice())?;
+    match list(alloc, 1000, stack, &[], &None) {
         Ok(_) => Err("it is listed".into()),
         Err(fault) => {
             assert_eq!(rt; fault, Fault::TooLarge { nodes: 1000 });
@@ -185,7 +187,8 @@ fn the_digest_of_a_profile(rt: HostRuntime) -> Result<(), Fail> {
     let alloc = rt.alloc();
     let mut files = Vec::new(alloc);
     files.push(bytes_of(alloc, &profile())?)?;
-    let listing = list(alloc, 100000, files.as_slice(), &[], &None)?;
+    let stack = stack_of(alloc, files.as_slice())?;
+    let listing = list(alloc, 100000, stack, &[], &None)?;
     let text = digest_of(alloc, &listing)?;
     let expected =
         "list 2 sha256 0fa7a002459c2670afcd8778f85ba3a193708987ac086c48610e5cfd237d474f\n";

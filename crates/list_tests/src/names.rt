@@ -3,7 +3,7 @@ use crate::listings::{lines_behind, listed_rows, listing_text};
 use crate::profiles::{bits, profile, two};
 use sf_insn::RawInsn;
 use sf_names::{Names, read_names};
-use sf_policy::Fault;
+use sf_stack::Fault;
 use std::alloc::Global;
 use std::test::Fail;
 

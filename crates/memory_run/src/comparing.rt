@@ -5,6 +5,7 @@ use crate::refused::Refused;
 use sf_compare::compare;
 use sf_list::{list_changes, write_changes};
 use sf_needed::{needed, write_needed};
+use sf_stack::{stack_of, stacks_of};
 use std::alloc::Global;
 
 /// The most nodes of diagrams: more than any of these stacks needs.
@@ -17,10 +18,11 @@ pub fn compare_files(alloc: Global, files: &[&[u8]], page: &mut Page) -> Result<
     push_filters(alloc, &mut old, files)?;
     let mut new = Vec::new(alloc);
     push_filters(alloc, &mut new, files.get(1..4).unwrap_or(files))?;
-    let comparison = compare(alloc, NODES, &old, &new)?;
+    let (before, after) = stacks_of(alloc, &old, &new)?;
+    let comparison = compare(alloc, NODES, before, after)?;
     let changes = list_changes(alloc, NODES, &comparison, None, &[], &None)?;
     write_changes(alloc, &comparison, &changes, &[], page)?;
-    let needs = needed(alloc, NODES, &old)?;
+    let needs = needed(alloc, NODES, stack_of(alloc, &old)?)?;
     write_needed(alloc, &needs, page)?;
     Ok(())
 }

@@ -4,6 +4,7 @@ use crate::auditing::{Page, push_filters};
 use crate::refused::Refused;
 use sf_list::{list, write_listing};
 use sf_names::read_names;
+use sf_stack::stack_of;
 use std::alloc::Global;
 
 /// A file of names that is one set.
@@ -22,7 +23,7 @@ pub fn list_files(alloc: Global, files: &[&[u8]], page: &mut Page) -> Result<(),
     push_filters(alloc, &mut filters, files)?;
     let mut names = read_names(alloc, NAMES)?;
     names.append(&mut read_names(alloc, SETS)?)?;
-    let listing = list(alloc, NODES, &filters, &names, &None)?;
+    let listing = list(alloc, NODES, stack_of(alloc, &filters)?, &names, &None)?;
     write_listing(alloc, &listing, &names, page)?;
     Ok(())
 }

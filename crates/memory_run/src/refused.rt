@@ -64,7 +64,7 @@ impl From<sf_profile::Fault> for Refused {
 
 impl From<sf_names::Fault> for Refused {
     fn from(fault: sf_names::Fault) -> Refused {
-        let number = sf_policy::Fault::from(fault).number();
+        let number = sf_stack::Fault::from(fault).number();
         Refused { number }
     }
 }
@@ -118,8 +118,8 @@ impl From<sf_crew::Fault> for Refused {
     }
 }
 
-impl From<sf_policy::Fault> for Refused {
-    fn from(fault: sf_policy::Fault) -> Refused {
+impl From<sf_stack::Fault> for Refused {
+    fn from(fault: sf_stack::Fault) -> Refused {
         let number = fault.number();
         Refused { number }
     }

@@ -2,11 +2,12 @@
 #![tactic(auto)]
 
 mod meter;
+mod version;
 
 use meter::Progress;
 use sf_command::{Means, command};
 use sf_evaluate::{Files, MOST_BYTES, tell_fault};
-use sf_policy::Fault;
+use sf_stack::Fault;
 use std::env::{Env, FillError};
 use std::fmt::InlineText;
 use std::fs::File;
@@ -14,6 +15,7 @@ use std::io::{ErrorKind, Read, Write};
 use std::process::ExitCode;
 use std::rt::Files as FileSystem;
 use std::{env, io, mem};
+use version::VERSION;
 
 /// The most bytes of a reason that are kept. A longer reason is cut.
 const REASON: usize = 256;
@@ -193,7 +195,7 @@ fn main(rt: HostRuntime) -> ExitCode {
         alloc: rt.alloc(),
         gate: &meter,
     };
-    let status = command(&means, &words, &mut disk, &mut out, &mut err);
+    let status = command(&means, VERSION, &words, &mut disk, &mut out, &mut err);
     // A value is dropped only where its type is `Drop`. That of `disk` isn't, so `disk` is taken apart.
     let Disk {
         rt: _,

@@ -1,12 +1,13 @@
 -- What `clap` says of words that don't fit the form of the command line.
 use Rattle.std.proofs.Common.{◌≡◌, ◌≢◌, ◌⊎◌, ◌≤◌, ◌∙◌, ap, codes, true, false, inl, inr, ℕ, Bool, List, [], Result, Ok, Err, arith, refl, subst, sym}
 use Rattle.std.specs.Prelude.{◌==◌, IfOk, Option, if◌then◌else◌, nat_lt}
+use Rattle.std.specs.Io.KnownBytes.{Appends}
 use Rattle.clap.specs.Words.{HasKind, IsAmong, Kinds, Row, Text, kind_of}
 use Rattle.clap.specs.declared.error.Error.{Error}
-use Rattle.clap.specs.declared.error.kind.ErrorKind.TheVariants.{OutOfMemory}
+use Rattle.clap.specs.declared.error.kind.ErrorKind.TheVariants.{DisplayVersion, OutOfMemory}
 use Rattle.sf_command_line.specs.CommandLine.{IsKnown, errors_at, subcommand_at}
 use Rattle.sf_command_line.specs.SubcommandLaws.{known_subcommand}
-use Rattle.sf_policy.specs.declared.fault.Fault.TheVariants.{TooLarge, TooManyRows, Write}
+use Rattle.sf_stack.specs.declared.fault.Fault.TheVariants.{TooLarge, TooManyRows, Write}
 use Rattle.sf_profile.specs.Faults.{fault_number as profile_number}
 use Rattle.sf_profile.specs.declared.fault.Fault.{Fault as ProfileFault}
 use Rattle.sf_profile.specs.declared.fault.Fault.TheVariants as profile_faults
@@ -19,12 +20,20 @@ use Rattle.sf_command.specs.Runs.{HasWrongWord, Helps, IsHelp, IsTooLarge, Refus
 use Rattle.sf_command.specs.Subcommands.{RunsAs}
 
 -- an answer to a call for help or for the version is what the words ask for
-pub helps : (words : List Text) (e : Error) (status : ℕ) (old new : Option Text) → HasKind (errors_at words) e
-    → IsHelp (kind_of e) × (status ≡ 0) × WritesText old new → Helps words status old new
-helps words e status old new (inr among) done =
-    record { kind = kind_of e; error = among; help = done.0; status_is = done.1; written = done.2 }
-helps words e status old new (inl memory) (inl help, status_is, written) = cc
-helps words e status old new (inl memory) (inr version, status_is, written) = cc
+pub helps : (version : Text) (words : List Text) (e : Error) (status : ℕ) (old new : Option Text)
+    → HasKind (errors_at words) e
+    → IsHelp (kind_of e) × (status ≡ 0) × WritesText old new × (kind_of e ≡ DisplayVersion → Appends old new version)
+    → Helps version words status old new
+helps version words e status old new (inr among) done = record {
+  kind = kind_of e;
+  error = among;
+  help = done.0;
+  status_is = done.1;
+  written = done.2;
+  line = done.3;
+}
+helps version words e status old new (inl memory) (inl help, status_is, written, line) = cc
+helps version words e status old new (inl memory) (inr shown, status_is, written, line) = cc
 
 -- where an error isn't refused memory, the words don't fit the form
 pub some_error : (words : List Text) (e : Error) → HasKind (errors_at words) e → kind_of e ≢ OutOfMemory

@@ -1,4 +1,3 @@
-pub mod KeptLemmas
 pub mod DiagramLemmas
 pub mod CommandLineLemmas
 pub mod ProfileLemmas

@@ -1,7 +1,7 @@
 -- What words ask for, and the names that they need.
 use Rattle.std.proofs.Common.{◌≡◌, ◌⊎◌, true, false, inl, inr, List, Option}
-use Rattle.sf_policy.specs.declared.fault.Fault.{Fault}
-use Rattle.sf_policy.specs.declared.fault.Fault.TheVariants.{Input as InputFault, Memory, UnknownName}
+use Rattle.sf_stack.specs.declared.fault.Fault.{Fault}
+use Rattle.sf_stack.specs.declared.fault.Fault.TheVariants.{Input as InputFault, Memory, UnknownName}
 use Rattle.sf_names.specs.Names.{NamesData}
 use Rattle.sf_evaluate.specs.Asking.{LacksName, numbers_fit}
 use Rattle.clap.specs.Words.{Row, Text}

@@ -6,7 +6,7 @@ use Rattle.sf_check.specs.declared.insn.Insn.{Insn}
 use Rattle.sf_check.specs.Programs.{SpellsProgram}
 use Rattle.sf_run.specs.Answers.{Answers}
 use Rattle.sf_run.specs.declared.action.Answer.{Answer}
-use Rattle.sf_policy.specs.Filters.{SpellPrograms}
+use Rattle.sf_stack.specs.Filters.{SpellPrograms, SpellStack}
 use Rattle.sf_profile.specs.Data.{PlanData}
 use Rattle.sf_profile.specs.Filters.{IsFilterOf}
 use Rattle.sf_profile.specs.Meaning.{meaning}
@@ -17,11 +17,10 @@ use Rattle.sf_relations.specs.declared.relation.Relation.TheVariants.{Looser}
 use Rattle.sf_compare.specs.Comparisons.{Compared, IsComparison, finding_of}
 
 pub kept : ((bytes : List ℕ) (a b : List Insn) → SpellsProgram bytes a → SpellsProgram bytes b → a ≡ b)
-    → (bytes : List ℕ) (plan : PlanData) (files : List (List ℕ)) (c : Compared) (d : Input) (a : Answer)
-    → IsFilterOf bytes plan → IsComparison (bytes ∷ []) files c → finding_of c.findings Looser ≡ None → IsInput d
-    → Answers c.new d a → AreRelated Looser (meaning plan d) a → ⊥
-kept one bytes plan files c d a filter comparison never input answers further =
-    by c.old refl comparison.old_stack.spelled
+    → (bytes : List ℕ) (plan : PlanData) (c : Compared) (d : Input) (a : Answer)
+    → IsFilterOf bytes plan → SpellStack (bytes ∷ []) c.old → IsComparison c → finding_of c.findings Looser ≡ None
+    → IsInput d → Answers c.new d a → AreRelated Looser (meaning plan d) a → ⊥
+kept one bytes plan c d a filter spelled comparison never input answers further = by c.old refl spelled.spelled
   where
     unchanged : IsUnchanged c.old c.new Looser
     unchanged = subst (λ (found : Option Example). IsFinding c.old c.new Looser found) never

@@ -1,28 +1,32 @@
 -- Why what is done with files is refused.
-use Rattle.std.proofs.Common.{◌≡◌, ◌⊎◌, inl, inr, ℕ, List, Option, Bor}
-use Rattle.sf_policy.specs.declared.fault.Fault.{Fault}
-use Rattle.sf_policy.specs.declared.fault.Fault.TheVariants.{Memory, Read, Write}
+use Rattle.std.proofs.Common.{◌≡◌, ◌⊎◌, ◌<◌, inl, inr, ℕ, List, Option, Bor, length}
+use Rattle.sf_stack.specs.declared.fault.Fault.{Fault}
+use Rattle.sf_check.specs.declared.insn.Insn.{Insn}
+use Rattle.sf_audit.specs.Audits.{IsWrongCount}
+use Rattle.sf_stack.specs.declared.fault.Fault.TheVariants.{Count, Memory, Write}
 use Rattle.sf_command.specs.Audits.{AskedData, IsAskedBy, IsRefusedFor, ReadData, RefusesAudit}
-use Rattle.sf_evaluate.specs.Files.{AreRead, HasUnknown}
-use Rattle.sf_evaluate.specs.FilesLaws.{still_unknown}
+use Rattle.sf_evaluate.specs.Files.{HoldStack}
 
--- where a filter file can't be read after the files that ask, the audit is refused
-pub unread_why : (before after : List ℕ → Option (List ℕ)) (asked : AskedData) (paths : List (Bor (List ℕ)))
-    (read : ReadData) (e : Fault) → ((p : List ℕ) → after p ≡ before p) → IsAskedBy before asked read
-    → ((e ≡ Read) × HasUnknown after paths) ⊎ (e ≡ Memory)
-    → RefusesAudit before asked paths e
-unread_why before after asked paths read e same asks (inl (is, left)) =
-    inr (inr (inr (read, asks, inl (is, still_unknown before after paths same left))))
-unread_why before after asked paths read e same asks (inr memory) = inr (inl memory)
+-- where there are no questions or too many, the audit of the stack is refused
+pub miscounted : (read : ReadData) (e : Fault) → (e ≡ Memory) ⊎ ((e ≡ Count) × IsWrongCount read.questions)
+    → (e ≡ Memory) ⊎ IsRefusedFor read e
+miscounted read e (inl memory) = inl memory
+miscounted read e (inr (count, wrong)) = inr (count, inl wrong)
 
--- where the audit of what the files hold is refused, that of the files is
+-- where the control has too many, it is too
+pub control_miscounted : (read : ReadData) (e : Fault) → (e ≡ Memory) ⊎ ((e ≡ Count) × (256 < length read.control))
+    → (e ≡ Memory) ⊎ IsRefusedFor read e
+control_miscounted read e (inl memory) = inl memory
+control_miscounted read e (inr (count, many)) = inr (count, inr many)
+
+-- where the audit of the stack is refused, that of the files is
 pub audit_why : (holds : List ℕ → Option (List ℕ)) (asked : AskedData) (paths : List (Bor (List ℕ)))
-    (read : ReadData) (files : List (List ℕ)) (e : Fault)
-    → IsAskedBy holds asked read → AreRead holds paths files → (e ≡ Memory) ⊎ IsRefusedFor files read e
+    (read : ReadData) (stack : List (List Insn)) (e : Fault)
+    → IsAskedBy holds asked read → HoldStack holds paths stack → (e ≡ Memory) ⊎ IsRefusedFor read e
     → RefusesAudit holds asked paths e
-audit_why holds asked paths read files e asks are_read (inl memory) = inr (inl memory)
-audit_why holds asked paths read files e asks are_read (inr why) =
-    inr (inr (inr (read, asks, inr (files, are_read, why))))
+audit_why holds asked paths read stack e asks held (inl memory) = inr (inl memory)
+audit_why holds asked paths read stack e asks held (inr why) =
+    inr (inr (inr (read, asks, inr (stack, held, why))))
 
 -- where a report isn't written, the audit is refused
 pub unwritten_audit : (holds : List ℕ → Option (List ℕ)) (asked : AskedData) (paths : List (Bor (List ℕ)))

@@ -9,15 +9,15 @@ use Rattle.sf_ask.specs.declared.verdict.Reply.{Reply}
 use Rattle.sf_ask.specs.declared.verdict.Reply.TheVariants.{Never, Allowed, Unsettled}
 use Rattle.sf_crew.specs.Sweeps.{AreRightReplies}
 use Rattle.sf_names.specs.Names.{NamesData}
-use Rattle.sf_policy.specs.declared.fault.Fault.{Fault}
-use Rattle.sf_policy.specs.declared.fault.Fault.TheVariants.{Count, Memory, Read as ReadFault, Write}
+use Rattle.sf_stack.specs.declared.fault.Fault.{Fault}
+use Rattle.sf_stack.specs.declared.fault.Fault.TheVariants.{Count, Memory, Write}
 use Rattle.sf_audit.specs.Outcomes.{Found}
-use Rattle.sf_audit.specs.Audits.{IsAudit, IsAuditRefusal}
+use Rattle.sf_audit.specs.Audits.{IsAuditOf, IsWrongCount}
 use Rattle.sf_audit.specs.Documents.{TellingData, audit_document}
 use Rattle.sf_audit.specs.Expectations.{ExpectedData, expected_text}
 use Rattle.sf_audit.specs.Reports.{report_text}
 use Rattle.sf_evaluate.specs.Expecting.{AreAcceptedIn, IsControl, RefusesAccepted, RefusesControl}
-use Rattle.sf_evaluate.specs.Files.{AreRead, HasUnknown}
+use Rattle.sf_evaluate.specs.Files.{HoldStack, RefusesFiles}
 use Rattle.sf_evaluate.specs.Origins.{HasOrigins}
 use Rattle.sf_evaluate.specs.Policies.{AreAsked, RefusesAsking}
 use Rattle.sf_evaluate.specs.Traces.{IsWhy}
@@ -99,17 +99,17 @@ abbrev pub HasRemarks : (why : Bool) → List NamesData → Found → List (List
 HasRemarks true names found remarks = AreRemarks names found.settled.stack found.replies remarks
 HasRemarks false names found remarks = remarks ≡ []
 
--- what was found of the stack of these files, and what was expected: right replies to the questions and to the control
-pub record IsFoundFor (files : List (List ℕ)) (read : ReadData) (budget : ℕ) (found : Found)
+-- what was found of this stack, and what was expected: right replies to the questions and to the control
+pub record IsFoundFor (stack : List (List Insn)) (read : ReadData) (budget : ℕ) (found : Found)
     (expected : ExpectedData) : Type 0 where
-  pub audit : IsAudit files read.questions budget found
+  pub audit : IsAuditOf stack read.questions budget found
   pub held : List Reply
   pub right : AreRightReplies found.settled read.control held
   pub expects : expected ≡ expected_of read held
 
--- `audit`: the files at the paths are read and audited by the questions that the files of the policies ask; what is
--- found is written, with remarks where they are asked for, in JSON with where each question stands, and with what isn't
--- as expected; the status tells of both
+-- `audit`: the files at the paths are read, and their stack is audited by the questions that the files of the policies
+-- ask; what is found is written, with remarks where they are asked for, in JSON with where each question stands, and
+-- with what isn't as expected; the status tells of both
 pub record AuditsFiles (holds : List ℕ → Option (List ℕ)) (asked : AskedData) (paths : List (Bor (List ℕ)))
     (names : List NamesData) (budget : ℕ) (regions why json : Bool) (status : ℕ) (old new : Option (List ℕ))
     : Type 0 where
@@ -117,11 +117,11 @@ pub record AuditsFiles (holds : List ℕ → Option (List ℕ)) (asked : AskedDa
   pub asked_by : IsAskedBy holds asked read
   pub origins : List Data
   pub placed : HasOrigins json holds asked.policies read.questions origins
-  pub files : List (List ℕ)
-  pub are_read : AreRead holds paths files
+  pub stack : List (List Insn)
+  pub held : HoldStack holds paths stack
   pub found : Found
   pub expected : ExpectedData
-  pub is_found : IsFoundFor files read budget found expected
+  pub is_found : IsFoundFor stack read budget found expected
   pub remarks : List (List ℕ)
   pub remarked : HasRemarks why names found remarks
   pub written : Appends old new (audit_output json (telling_of asked origins names regions remarks) expected found)
@@ -135,18 +135,15 @@ RefusesAsked holds asked fault =
     ⊎ ((questions : List QuestionData) × AreAsked holds asked.policies questions
     × RefusesAccepted holds asked.accept questions fault)
 
--- Why the audit of files is refused: the files make no stack or there are too many questions; or the control has too
--- many.
-abbrev pub IsRefusedFor : List (List ℕ) → ReadData → Fault → Type 0
-IsRefusedFor files read fault =
-    IsAuditRefusal files read.questions fault ⊎ ((fault ≡ Count) × (256 < length read.control))
+-- why the audit of a stack is refused: there are no questions or too many, or the control has too many
+abbrev pub IsRefusedFor : ReadData → Fault → Type 0
+IsRefusedFor read fault = (fault ≡ Count) × (IsWrongCount read.questions ⊎ (256 < length read.control))
 
--- Why an audit by what was read is refused: a filter file whose bytes aren't known can't be read; or all were read,
--- and the audit of what they hold is refused.
+-- why an audit by what was read is refused: the filter files are; or they make a stack, and its audit is refused
 abbrev pub RefusesAuditOf : (List ℕ → Option (List ℕ)) → List (Bor (List ℕ)) → ReadData → Fault → Type 0
 RefusesAuditOf holds paths read fault =
-    ((fault ≡ ReadFault) × HasUnknown holds paths)
-    ⊎ ((files : List (List ℕ)) × AreRead holds paths files × IsRefusedFor files read fault)
+    RefusesFiles holds paths fault
+    ⊎ ((stack : List (List Insn)) × HoldStack holds paths stack × IsRefusedFor read fault)
 
 -- Why an audit is refused: writing or memory failed; the files that it is asked by are refused; or these were read, and
 -- the audit by what they hold is refused.

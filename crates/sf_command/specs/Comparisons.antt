@@ -2,16 +2,14 @@
 use Rattle.std.specs.Prelude.{◌≡◌, ◌⊎◌, ℕ, Bool, true, false, List, Option}
 use Rattle.std.specs.Borrow.{Bor}
 use Rattle.std.specs.Io.KnownBytes.{Appends}
-use Rattle.sf_policy.specs.declared.fault.Fault.{Fault}
-use Rattle.sf_policy.specs.declared.fault.Fault.TheVariants.{Read}
+use Rattle.sf_stack.specs.declared.fault.Fault.{Fault}
 use Rattle.sf_names.specs.Names.{NamesData}
 use Rattle.sf_json.specs.Documents.{document_line}
 use Rattle.sf_relations.specs.declared.relation.Relation.{Relation}
 use Rattle.sf_compare.specs.Comparisons.{Compared, IsComparison, comparison_text, finding_of}
 use Rattle.sf_compare.specs.Documents.{comparison_document}
-use Rattle.sf_compare.specs.Faults.{IsRefusalOfBoth}
 use Rattle.sf_list.specs.Changes.{AreChanges, ChangedData, changed_document, changed_text}
-use Rattle.sf_evaluate.specs.Files.{AreRead, HasUnknown}
+use Rattle.sf_evaluate.specs.Files.{HoldStack, RefusesBoth}
 use Rattle.sf_command.specs.Diagrams.{FailsByRows}
 use Rattle.sf_command.specs.Status.{finding_status}
 
@@ -44,20 +42,13 @@ module _ (holds : List ℕ → Option (List ℕ)) (old_paths new_paths : List (B
   -- status is that of the relation that is asked for
   pub record ComparesFiles (sets : List NamesData) (asked : Relation) (rows json : Bool) (wanted : WantedData)
       (status : ℕ) (old new : Option (List ℕ)) : Type 0 where
-    pub olds : List (List ℕ)
-    pub news : List (List ℕ)
-    pub read_old : AreRead holds old_paths olds
-    pub read_new : AreRead holds new_paths news
     pub found : Compared
-    pub comparison : IsComparison olds news found
+    pub old_stack : HoldStack holds old_paths found.old
+    pub new_stack : HoldStack holds new_paths found.new
+    pub comparison : IsComparison found
     pub written : WritesCompared rows json sets wanted found old new
     pub status_is : status ≡ finding_status (finding_of found.findings asked)
 
-  -- Why a comparison is refused: a file whose bytes aren't known can't be read; the files of a stack make no lawful
-  -- one; or there would be too many rows, or it fails anyhow.
+  -- why a comparison is refused: the files are; or there would be too many rows, or it fails anyhow
   abbrev pub RefusesComparison : ℕ → Fault → Type 0
-  RefusesComparison nodes fault =
-      ((fault ≡ Read) × (HasUnknown holds old_paths ⊎ HasUnknown holds new_paths))
-      ⊎ ((olds news : List (List ℕ)) × AreRead holds old_paths olds × AreRead holds new_paths news
-      × IsRefusalOfBoth olds news fault)
-      ⊎ FailsByRows nodes fault
+  RefusesComparison nodes fault = RefusesBoth holds old_paths new_paths fault ⊎ FailsByRows nodes fault

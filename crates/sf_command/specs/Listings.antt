@@ -6,7 +6,7 @@ use Rattle.sf_names.specs.Names.{NamesData}
 use Rattle.sf_json.specs.Documents.{document_line}
 use Rattle.sf_list.specs.Listings.{IsListing, Listed, digest_line, listing_text}
 use Rattle.sf_list.specs.Documents.{listing_document}
-use Rattle.sf_evaluate.specs.Files.{AreRead}
+use Rattle.sf_evaluate.specs.Files.{HoldStack}
 use Rattle.sf_command.specs.declared.listing.ListingForm.{ListingForm}
 use Rattle.sf_command.specs.declared.listing.ListingForm.TheVariants.{Text, Json, Digest}
 
@@ -29,8 +29,7 @@ listing_output Digest sets found = digest_line found
 -- calls
 pub record ListsFiles (holds : List ℕ → Option (List ℕ)) (paths : List (Bor (List ℕ))) (sets : List NamesData)
     (calls : Option (List (List ℕ))) (form : ListingForm) (old new : Option (List ℕ)) : Type 0 where
-  pub files : List (List ℕ)
-  pub read : AreRead holds paths files
   pub found : Listed
-  pub listing : IsListing files sets (calls_in form calls) found
+  pub stack : HoldStack holds paths found.programs
+  pub listing : IsListing sets (calls_in form calls) found
   pub written : Appends old new (listing_output form sets found)

@@ -5,7 +5,7 @@ use Rattle.std.specs.Io.KnownBytes.{Appends}
 use Rattle.clap.specs.Words.{IsAmong, Row, Text}
 use Rattle.clap.specs.declared.error.kind.ErrorKind.{ErrorKind}
 use Rattle.clap.specs.declared.error.kind.ErrorKind.TheVariants.{DisplayHelp, DisplayVersion}
-use Rattle.sf_policy.specs.declared.fault.Fault.TheVariants.{Memory, TooLarge, TooManyRows, Write}
+use Rattle.sf_stack.specs.declared.fault.Fault.TheVariants.{Memory, TooLarge, TooManyRows, Write}
 use Rattle.sf_command_line.specs.CommandLine.{errors_at, subcommand_at}
 use Rattle.sf_evaluate.specs.Faults.{IsOther}
 use Rattle.sf_evaluate.specs.declared.fault.Fault.{Fault}
@@ -51,19 +51,21 @@ WritesText old new = (text : Text) × Appends old new text
 abbrev pub IsHelp : ErrorKind → Type 0
 IsHelp kind = (kind ≡ DisplayHelp) ⊎ (kind ≡ DisplayVersion)
 
--- the words ask for help or for the version, and some text was written
-pub record Helps (words : List Text) (status : ℕ) (old new : Option Text) : Type 0 where
+-- the words ask for help or for the version, and some text was written: for the version this line
+pub record Helps (version : Text) (words : List Text) (status : ℕ) (old new : Option Text) : Type 0 where
   pub kind : ErrorKind
   pub error : IsAmong kind (errors_at words)
   pub help : IsHelp kind
   pub status_is : status ≡ 0
   pub written : WritesText old new
+  pub line : kind ≡ DisplayVersion → Appends old new version
 
 -- What was done is what the words ask for: what their subcommand asks for, where they fit the form; or else help or the
--- version was written, which they ask for.
-abbrev pub DoesAsAsked : (Text → Option Text) → List Text → ℕ → Option Text → Option Text → Type 0
-DoesAsAsked holds words status old new =
-    ((errors_at words ≡ []) × RunsAs holds (subcommand_at words) status old new) ⊎ Helps words status old new
+-- version's line was written, which they ask for.
+abbrev pub DoesAsAsked : Text → (Text → Option Text) → List Text → ℕ → Option Text → Option Text → Type 0
+DoesAsAsked version holds words status old new =
+    ((errors_at words ≡ []) × RunsAs holds (subcommand_at words) status old new)
+    ⊎ Helps version words status old new
 
 -- why what the named subcommand asks for is refused
 abbrev pub RefusesAs : (Text → Option Text) → Option (Text × List Row) → Fault → Type 0

@@ -5,8 +5,8 @@ use Rattle.std.specs.Borrow.{Bor}
 use Rattle.clap.specs.Words.{Row, Text, first_of, one_of}
 use Rattle.sf_insn.specs.declared.input.Input.{Input}
 use Rattle.sf_names.specs.Names.{NamesData}
-use Rattle.sf_policy.specs.declared.fault.Fault.{Fault}
-use Rattle.sf_policy.specs.declared.fault.Fault.TheVariants.{Input as InputFault, UnknownName}
+use Rattle.sf_stack.specs.declared.fault.Fault.{Fault}
+use Rattle.sf_stack.specs.declared.fault.Fault.TheVariants.{Input as InputFault, UnknownName}
 use Rattle.sf_relations.specs.declared.relation.Relation.{Relation}
 use Rattle.sf_relations.specs.declared.relation.Relation.TheVariants.{Looser, Tighter, Different}
 use Rattle.sf_command_line.specs.Options.{ArePaths, IsOptionNumber, IsSwitch}

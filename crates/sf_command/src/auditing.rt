@@ -1,4 +1,4 @@
-//! The subcommand `audit`: reads the files that ask and the filter files, audits the stack and writes the report.
+//! The subcommand `audit`: reads the files that ask and the stack, audits it and writes the report.
 
 ghost use Rattle.std.specs.Prelude.{◌≡◌, ◌<◌, ◌≤◌, ◌⊎◌, ℕ, List, IfOk, IfErr, OnOk, length, map, string_bytes};
 ghost use Rattle.std.specs.Io.KnownBytes.{Appends};
@@ -6,22 +6,23 @@ ghost use Rattle.sf_audit.specs.Documents.{telling_data};
 ghost use Rattle.serde_json.specs.View.{view};
 ghost use Rattle.sf_crew.specs.Sweeps.{AreRightReplies};
 ghost use Rattle.sf_evaluate.specs.Origins.{HasOrigins};
-ghost use Rattle.sf_policy.specs.declared.fault.Fault.TheVariants.{Count as CountFault, Memory as MemoryFault, Write as WriteFault};
+ghost use Rattle.sf_stack.specs.declared.fault.Fault.TheVariants.{Count as CountFault, Memory as MemoryFault, Write as WriteFault};
 ghost use Rattle.sf_command.specs.Audits.{AreRemarks, AuditsFiles, HasRemarks, IsAskedBy, IsFoundFor, IsRefusedFor, IsRemark, RefusesAsked, RefusesAudit, audit_output, behind_text, is_expecting, read_data};
 
 use crate::means::Means;
 use crate::status::status_of_audit;
 use sf_ask::{Question, Reply};
 use sf_audit::{
-    Expected, Outcome, Telling, audit_document, reply_to, text_of_expected, write_report,
+    Expected, Outcome, Telling, audit_document, audit_stack, reply_to, text_of_expected,
+    write_report,
 };
 use sf_book::Settled;
 use sf_check::Stack;
 use sf_crew::Gate;
-use sf_evaluate::{Files, Notes, accepted_in, all_questions_in, control_in, read_all, why_text};
+use sf_evaluate::{Files, Notes, accepted_in, all_questions_in, control_in, read_stack, why_text};
 use sf_json::{Document, write_document};
 use sf_names::Names;
-use sf_policy::Fault;
+use sf_stack::Fault;
 use sf_stack_warnings::warnings_of_stack;
 use std::alloc::{AllocError, Global};
 use std::io::Write;
@@ -36,22 +37,18 @@ pub struct AuditTerms {
     pub budget: u32,
     /// The number of workers, 1 to 64.
     pub workers: u8,
-    /// Whether the report lists the settled regions.
     pub regions: bool,
     /// Whether the report says for each example why the stack answers so.
     pub why: bool,
-    /// Whether one JSON document is written in place of the report.
     pub json: bool,
 }
 
 /// The paths of the files that say what an audit is to ask, and which replies are expected.
 #[derive(Drop)]
 pub struct Asked<'m, 'a> {
-    /// The paths of the policy files.
     pub policies: &'m [&'a str],
-    /// The path of the policy file of the control, if there is one.
     pub control: Option<&'a str>,
-    /// The path of the file with the names of the questions that may be allowed, if there is one.
+    /// The file with the names of the questions that may be allowed.
     pub accept: Option<&'a str>,
 }
 
@@ -69,8 +66,6 @@ impl<'m, 'a> Model for Asked<'m, 'a> {
 }
 
 impl Asked<'_, '_> {
-    /// Whether the audit is to show what isn't as expected: a control is given, or a file of questions that may be
-    /// allowed.
     fn is_expecting(&self) -> bool
         ensures { result ≡ is_expecting self.now }
     {
@@ -81,36 +76,24 @@ impl Asked<'_, '_> {
 /// What an audit is asked for.
 #[derive(Drop)]
 pub struct AuditTask<'t, 'p, 'm, 'a> {
-    /// The files that ask, and those that say what is expected.
     pub asked: &'t Asked<'m, 'a>,
     /// The paths of the filter files, in order of installation.
     pub paths: &'p [&'a str],
-    /// Sets of calls, by which calls are named.
     pub names: &'t [Names],
-    /// How the audit is done, and what its report lists.
     pub terms: AuditTerms,
 }
 
 /// What the files of an `Asked` hold.
 #[derive(Drop)]
 struct AskedContents {
-    /// The questions of the policies.
     questions: Vec<Question>,
-    /// The questions of the control; none where no control is given.
+    /// None where no control is given.
     control: Vec<Question>,
-    /// The names of the questions that may be allowed.
     accepted: Vec<String>,
 }
 
-/// Reads the policy files by `all_questions_in`, then that of the control by `control_in`, and then the file of the
-/// questions that may be allowed by `accepted_in`. If `with_origins`, the second value says where each question of the
-/// policies stands, as `all_questions_in` gives it; else it is empty. The notes count each file that is read. They keep
-/// the bytes of the last policy or control that was read, and why it is refused, if it is.
-///
-/// The refusal is that of the first file that is refused: `Read` where it can't be read or is too long; `Syntax` where
-/// it isn't UTF-8; then, for a policy or the control, what `read_policy` of `sf_policy` refuses, and for the file of
-/// questions that may be allowed `Accepted`, where a line has two words or more, or a word that isn't the name of
-/// exactly one question of the policies. `Memory` can come anywhere.
+/// Reads the policy files, then that of the control, and then the file of the questions that may be allowed. The notes
+/// count the files. They keep the bytes of the last policy or control that was read, and why it is refused, if it is.
 fn read_questions<F: Files>(
     alloc: Global,
     asked: &Asked<'_, '_>,
@@ -135,9 +118,7 @@ fn read_questions<F: Files>(
     Ok((read, origins))
 }
 
-/// The replies to the questions of a control, in their order, by an exploration that has ended; an empty list where
-/// there are no questions. The gate sees each sheet of verdicts before it is entered. The caller's condition: 1 to 64
-/// workers. Refusals: `Count` where there are more than 256 questions. `Memory` can come anywhere.
+/// The replies to the questions of a control, which may be none.
 fn replies_to<R: Threads + Wait + Sync, G: Gate>(
     means: &Means<'_, '_, R, G>,
     settled: &Settled,
@@ -155,25 +136,16 @@ fn replies_to<R: Threads + Wait + Sync, G: Gate>(
     reply_to(means.rt, means.alloc, settled, control, workers, means.gate)
 }
 
-/// Audits the stack of these filters with the questions that were read, and finds by the same exploration the replies
-/// to the questions of the control. Gives the outcome, and an `Expected` of the control, its replies and the accepted
-/// names. Only the budget and the number of workers are taken from the terms.
-///
-/// The gate sees each work before it is committed, and each sheet of verdicts before it is entered. The caller's
-/// conditions: 1 to 64 workers, and a budget from 1 to 1,000,000. Refusals, tried in this order: what `stack_of`
-/// refuses, as a wrong filter or too many of them; `Count` where there are no questions or more than 256, or where the
-/// control has more than 256. `Memory` can come anywhere.
+/// Audits a stack with the questions that were read, and finds the replies to the control by the same exploration.
 fn audit_filters<R: Threads + Wait + Sync, G: Gate>(
     means: &Means<'_, '_, R, G>,
-    filters: &[Vec<u8>],
+    stack: Stack,
     read: AskedContents,
     terms: AuditTerms,
 ) -> Result<(Outcome, Expected), Fault>
     requires workers { (0 < terms.workers) × (terms.workers ≤ 64) }
-    ensures found { IfOk result (λ r. IsFoundFor (map (λ f. f.items) filters.now)
-        (read_data read) terms.budget r.0 r.1) }
-    ensures refused { IfErr result (λ e. (e ≡ MemoryFault)
-        ⊎ IsRefusedFor (map (λ f. f.items) filters.now) (read_data read) e) }
+    ensures found { IfOk result (λ r. IsFoundFor stack (read_data read) terms.budget r.0 r.1) }
+    ensures refused { IfErr result (λ e. (e ≡ MemoryFault) ⊎ IsRefusedFor (read_data read) e) }
 {
     let AskedContents {
         questions,
@@ -182,14 +154,13 @@ fn audit_filters<R: Threads + Wait + Sync, G: Gate>(
     } = read;
     let (rt, alloc, gate) = (means.rt, means.alloc, means.gate);
     let workers = usize::from(terms.workers);
-    let outcome = sf_audit::audit(rt, alloc, filters, questions, terms.budget, workers, gate)?;
+    let outcome = audit_stack(rt, alloc, stack, questions, terms.budget, workers, gate)?;
     let held = replies_to(means, outcome.settled(), &control, workers)?;
     let expected = Expected::of(control, held, accepted);
     Ok((outcome, expected))
 }
 
-/// The lines behind a report, which say what isn't as expected; empty where `telling` doesn't ask for them, or all is
-/// as expected. An error where an allocation is refused.
+/// The lines behind a report, which say what isn't as expected.
 fn lines_behind(
     alloc: Global,
     telling: &Telling<'_>,
@@ -206,8 +177,7 @@ fn lines_behind(
     }
 }
 
-/// Why the stack answers as it does to the example of a reply, in lines that use these names of calls; empty where the
-/// reply has no example. `Memory` where an allocation is refused.
+/// Why the stack answers as it does to the example of a reply.
 fn remark_of(alloc: Global, names: &[Names], stack: &Stack, reply: Reply) -> Result<String, Fault>
     ensures shown { IfOk result (λ text. IsRemark names.now stack.now reply
         (string_bytes text)) }
@@ -219,8 +189,6 @@ fn remark_of(alloc: Global, names: &[Names], stack: &Stack, reply: Reply) -> Res
     }
 }
 
-/// The remarks on these replies, in the same order, one for each, as `remark_of` gives it. `Memory` where an allocation
-/// is refused.
 fn remarks_of(
     alloc: Global,
     names: &[Names],
@@ -239,8 +207,6 @@ fn remarks_of(
     Ok(remarks)
 }
 
-/// The remarks on the replies of an audit, one for each, if `why`; else an empty list. `Memory` where an allocation is
-/// refused.
 fn remarks_if_asked(
     alloc: Global,
     why: bool,
@@ -257,10 +223,6 @@ fn remarks_if_asked(
     remarks_of(alloc, names, outcome.settled().stack(), outcome.replies())
 }
 
-/// Writes what an audit found: if `json` one JSON document, and else the report, with the lines of `lines_behind`
-/// behind it. `telling` says which parts of this are shown, and has the remarks; for the document it also has the names
-/// of calls and where each question stands. `Write` where writing fails (a beginning may be written then). `Memory`
-/// where an allocation is refused; nothing is written then.
 fn write_audit<O: Write>(
     alloc: Global,
     json: bool,
@@ -289,24 +251,10 @@ fn write_audit<O: Write>(
     )
 }
 
-/// Reads the files that ask and then the filter files, which are named in order of installation. Audits the stack of
-/// the filters, writes the report, and gives the exit status: 2 where the control doesn't hold; else 1 where an allowed
-/// question has a name that isn't an accepted one; else 2 where some question is unsettled; else 0. Where a control or
-/// a file of questions that may be allowed is given, the lines that say what isn't as expected stand behind the report.
-///
-/// The terms can ask for a line for each settled region; for lines under each allowed question that say why the stack
-/// answers its example as it does, with the names of the task; and for one JSON document in place of all that text. The
-/// notes count the files, and get the warnings. The gate sees each work before it is committed, and each sheet of
-/// verdicts before it is entered. At the end `files` takes over the outcome. The caller's conditions: 1 to 64 workers,
-/// and a budget from 1 to 1,000,000.
-///
-/// Refusals, tried in this order (`Fault` says when each comes): for each policy file and then for the control `Read`,
-/// `Syntax`, `Version`, `TopKey`, `Count`, or `Key`, `Name`, `Range`, `Mask` or `Actions` of a question; for the file
-/// of questions that may be allowed `Read`, `Syntax` or `Accepted`; `Read` where a filter file can't be read or is too
-/// long; `NoFilter`, `TooMany`, a fault of one filter (`Ragged` to `Scratch`) or `PathLength`; `Count` where there are
-/// no questions or more than 256, or where the control has more; `Write` where standard output can't be written (a
-/// beginning of the text may be written then). `Memory` can come anywhere. After any error but `Write` nothing is
-/// written.
+/// Reads the files that ask and then the stack, audits it, writes the report, and gives the exit status. Where it is
+/// said what is expected, the lines that say what isn't as expected stand behind the report. The notes count the files,
+/// and get the warnings. The gate sees each work before it is committed, and each sheet of verdicts before it is
+/// entered. At the end `files` takes over the outcome.
 pub fn audit<R: Threads + Wait + Sync, F: Files, G: Gate, O: Write>(
     means: &Means<'_, '_, R, G>,
     task: &AuditTask<'_, '_, '_, '_>,
@@ -326,9 +274,9 @@ pub fn audit<R: Threads + Wait + Sync, F: Files, G: Gate, O: Write>(
 {
     let (alloc, terms, names) = (means.alloc, task.terms, task.names);
     let (read, origins) = read_questions(alloc, task.asked, terms.json, files, notes)?;
-    let filters = read_all(alloc, task.paths, files, notes)?;
-    let (outcome, expected) = audit_filters(means, &filters, read, terms)?;
-    notes.warnings = warnings_of_stack(alloc, &filters, outcome.settled());
+    let stack = read_stack(alloc, task.paths, files, notes)?;
+    let (outcome, expected) = audit_filters(means, stack, read, terms)?;
+    notes.warnings = warnings_of_stack(alloc, outcome.settled());
     notes.warn_of_questions(outcome.questions(), names);
     let remarks = remarks_if_asked(alloc, terms.why, names, &outcome)?;
     let telling = Telling {

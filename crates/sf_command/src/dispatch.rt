@@ -1,7 +1,7 @@
 //! What the program does, from the words of its command line to its exit status.
 ghost use Rattle.std.specs.Prelude.{◌≡◌, ◌≤◌, ◌⊎◌, map, string_bytes, IfOk, IfErr};
 ghost use Rattle.clap.specs.Words.{found_of, rows_of, subcommand_rows_of};
-ghost use Rattle.sf_policy.specs.declared.fault.Fault.TheVariants.{Write as WriteFault};
+ghost use Rattle.sf_stack.specs.declared.fault.Fault.TheVariants.{Write as WriteFault};
 ghost use Rattle.sf_command.specs.Runs.{DoesAsAsked, HasWrongWord, IsTooLarge, RefusesAs, RefusesAsAsked, RefusesWords, meant_words, words_fit_for};
 ghost use Rattle.sf_command.specs.Subcommands.{RunsAs};
 ghost use Rattle.sf_command_line.specs.CommandLine.{IsKnown};
@@ -25,9 +25,7 @@ use std::sync::Wait;
 use std::thread::Threads;
 
 /// Whether the words of the subcommand with this name fit: each option but `--input` has a word of a form that it
-/// takes, and the options go together. Only the words of the five subcommands below are looked at, as the functions
-/// called here say.
-/// `true` for any other name, since `clap` has checked everything else. `run` asks this before any file is read.
+/// takes, and the options go together. `clap` has checked everything else. `run` asks this before any file is read.
 fn words_fit_for(name: &str, found: &ArgMatches<'_>) -> bool
     ensures { result ≡ words_fit_for name.now (rows_of (found_of found.now)) }
 {
@@ -41,13 +39,7 @@ fn words_fit_for(name: &str, found: &ArgMatches<'_>) -> bool
     }
 }
 
-/// Runs the subcommand that the command line names, and gives its exit status. The status is 4 where none of the seven
-/// subcommands is named, or where the subcommand's words don't fit, as `words_fit_for` and `profile` say; no file
-/// is read then, and nothing is written. Otherwise it is 0 to 2. The caller's condition: the notes have counted no file
-/// before.
-///
-/// The refusals are those of the subcommand: the fault of a file, a name or an input that is refused; `Read`, `Write`
-/// or `Memory`. The function that is called for it lists them. After any error but `Write` nothing is written.
+/// Runs the subcommand that the command line names, and gives its exit status.
 fn run<R: Threads + Wait + Sync, F: Files, M: Meter, O: Write>(
     means: &Means<'_, '_, R, M>,
     matches: &ArgMatches<'_>,
@@ -83,11 +75,10 @@ fn run<R: Threads + Wait + Sync, F: Files, M: Meter, O: Write>(
 /// to standard error, unless `--quiet` is given. Where the words of a subcommand don't fit, lines that say so are
 /// written there instead.
 ///
-/// Where `clap` gives no matches, as where help is asked for, `write_usage` writes a text and gives the status, 0 or 4.
-/// The fault is then `Write` or `Memory`; else it is that of `run`, or `Memory` from before a subcommand is run. After
-/// any fault but `Write` nothing is written to standard output. The caller's condition: the notes are new.
+/// Where `clap` gives no matches, as where help is asked for, `write_usage` writes a text.
 fn run_words<R: Threads + Wait + Sync, F: Files, M: Meter, O: Write, E: Write>(
     means: &Means<'_, '_, R, M>,
+    version: &str,
     words: &[String],
     files: &mut F,
     notes: &mut Notes,
@@ -95,7 +86,7 @@ fn run_words<R: Threads + Wait + Sync, F: Files, M: Meter, O: Write, E: Write>(
     err: &mut E,
 ) -> Result<u8, sf_evaluate::Fault>
     ensures status { IfOk result (λ s. (s ≤ 2) ⊎ (s ≡ 4)) }
-    ensures done { IfOk result (λ s. s ≤ 2 → DoesAsAsked (F.holds files.old)
+    ensures done { IfOk result (λ s. s ≤ 2 → DoesAsAsked version.now (F.holds files.old)
         (meant_words (map string_bytes words.now)) s (O.contents out.old) (O.contents out.new)) }
     ensures usage { IfOk result (λ s. s ≡ 4 → RefusesWords
         (meant_words (map string_bytes words.now))
@@ -116,15 +107,15 @@ fn run_words<R: Threads + Wait + Sync, F: Files, M: Meter, O: Write, E: Write>(
             }
             ran
         }
-        Err(error) => write_usage(alloc, &meant, &error, out, err),
+        Err(error) => write_usage(alloc, version, &meant, &error, out, err),
     }
 }
 
 /// Does what the words after the program's name ask for, and gives the exit status:
 ///
-/// - 0: done, also where help or the version is asked for. After an audit the control holds, and each question is
-///   never, or allowed with an accepted name. After a comparison the relation that is asked for is never. After
-///   `needed` each filter is needed.
+/// - 0: done, also where help is asked for, or the version, whose line is `version`. After an audit the control holds,
+///   and each question is never, or allowed with an accepted name. After a comparison the relation that is asked for is
+///   never. After `needed` each filter is needed.
 /// - 1: the control of an audit holds, but an allowed question has a name that isn't accepted; or the relation that is
 ///   asked for is found; or some filter is spare.
 /// - 2: the control of an audit doesn't hold; or nothing gives status 1, and some question is unsettled. Or `list`,
@@ -144,13 +135,14 @@ fn run_words<R: Threads + Wait + Sync, F: Files, M: Meter, O: Write, E: Write>(
 /// memory for them. It isn't looked at whether standard error can be written.
 pub fn command<R: Threads + Wait + Sync, F: Files, M: Meter, O: Write, E: Write>(
     means: &Means<'_, '_, R, M>,
+    version: &str,
     words: &[String],
     files: &mut F,
     out: &mut O,
     err: &mut E,
 ) -> u8
     ensures status { result ≤ 5 }
-    ensures done { result ≤ 2 → DoesAsAsked (F.holds files.old)
+    ensures done { result ≤ 2 → DoesAsAsked version.now (F.holds files.old)
         (meant_words (map string_bytes words.now)) result
         (O.contents out.old) (O.contents out.new)
         ⊎ ((result ≡ 2) × (out.new ≡ out.old)
@@ -165,7 +157,7 @@ pub fn command<R: Threads + Wait + Sync, F: Files, M: Meter, O: Write, E: Write>
         × ((e ≡ Other WriteFault) ⊎ (out.new ≡ out.old)) }
 {
     let mut notes = Notes::new(means.alloc);
-    match run_words(means, words, files, &mut notes, out, err) {
+    match run_words(means, version, words, files, &mut notes, out, err) {
         Ok(status) => status,
         Err(fault) => tell(means.alloc, &fault, &notes, err),
     }

@@ -10,15 +10,16 @@ ghost use Rattle.sf_profile.specs.Filters.{IsFilterOf};
 ghost use Rattle.sf_profile.specs.Meaning.{meaning};
 ghost use Rattle.sf_relations.specs.Relations.{AreRelated};
 ghost use Rattle.sf_relations.specs.declared.relation.Relation.TheVariants.{Looser};
+ghost use Rattle.sf_stack.specs.Filters.{SpellStack};
 ghost use Rattle.sf_compare.specs.Comparisons.{Compared, IsComparison, finding_of};
 
 use sf_check::laws::one_program_of_a_file;
 
-/// A law for the prover. Let the filter of a profile be compared, as the old stack, with other filters, and let
-/// *looser* be never. Then no input gets further under these filters than the profile lets it.
+/// Let the filter of a profile be compared, as the old stack, with other filters, and let *looser* be never. Then no
+/// input gets further under these filters than the profile lets it.
 pub fn never_looser_keeps_the_profile()
-    ensures { (bytes : List ℕ) (plan : PlanData) (files : List (List ℕ)) (c : Compared)
-        (d : Input) (a : Answer) → IsFilterOf bytes plan → IsComparison (bytes ∷ []) files c
+    ensures { (bytes : List ℕ) (plan : PlanData) (c : Compared) (d : Input) (a : Answer)
+        → IsFilterOf bytes plan → SpellStack (bytes ∷ []) c.old → IsComparison c
         → finding_of c.findings Looser ≡ None → IsInput d → Answers c.new d a
         → AreRelated Looser (meaning plan d) a → ⊥ }
 {

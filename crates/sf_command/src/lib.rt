@@ -1,4 +1,5 @@
-//! The command line of the program, from its words to its exit status, over traits for files and streams.
+//! The command line of the program, from its words to its exit status, over traits for files and streams. Memory may
+//! run out anywhere. After any error but a failed write nothing is written; after a failed one a beginning may be.
 #![tactic(auto)]
 
 mod auditing;

@@ -2,7 +2,7 @@
 
 use std::alloc::Global;
 
-/// What a run is done with: threads, memory and a gate.
+/// Threads, memory and a gate.
 #[derive(Drop)]
 pub struct Means<'r, 'g, R, G> {
     /// What starts threads.

@@ -1,7 +1,7 @@
 //! The subcommands that take filters: each reads its words from the matches, and does what they ask for.
 ghost use Rattle.std.specs.Prelude.{◌≡◌, ◌≢◌, ◌≤◌, ◌⊎◌, ℕ, List, Some, codes, IfOk, IfErr};
 ghost use Rattle.clap.specs.Words.{first_of, found_of, one_of, rows_of};
-ghost use Rattle.sf_policy.specs.declared.fault.Fault.TheVariants.{Write as WriteFault};
+ghost use Rattle.sf_stack.specs.declared.fault.Fault.TheVariants.{Write as WriteFault};
 ghost use Rattle.sf_command.specs.Audits.{AskedData, RefusesAudit};
 ghost use Rattle.sf_command.specs.Comparisons.{RefusesComparison};
 ghost use Rattle.sf_command.specs.Diagrams.{RefusesList, RefusesStack};
@@ -27,18 +27,14 @@ use sf_evaluate::{
     numbers_fit, read_all_names,
 };
 use sf_names::Names;
-use sf_policy::Fault;
 use sf_relations::Relation;
+use sf_stack::Fault;
 use std::alloc::Global;
 use std::io::Write;
 use std::sync::Wait;
 use std::thread::Threads;
 
-/// The sets of calls in the files that `--names` gives, file after file; an empty list where the option isn't given.
-/// The notes count the files, and the sets of each. The caller's condition: the notes have counted no file before.
-///
-/// The refusal is that of the first file that is refused: `Read`, `Syntax`, `NamesKey`, `NamesCount` or `NamesRange`
-/// (`Fault` says when each comes). `Memory` can come anywhere.
+/// The sets of calls in the files that `--names` gives, which the notes count.
 fn names_of<F: Files>(
     alloc: Global,
     found: &ArgMatches<'_>,
@@ -55,13 +51,10 @@ fn names_of<F: Files>(
     read_all_names(alloc, paths, files, notes)
 }
 
-/// The gate of an audit. Where `--progress` is given, it passes each call on to the meter, and the meter is given the
-/// budget here. Else the meter isn't called at all.
 fn watched<'a, M: Meter>(found: &ArgMatches<'_>, meter: &'a M) -> Watched<'a, M> {
     Watched::of(meter, wants_progress(found), budget_of(found))
 }
 
-/// A copy of these means in which `gate` stands in place of their gate.
 fn with_gate<'r, 'g, R, M, G>(means: &Means<'r, '_, R, M>, gate: &'g G) -> Means<'r, 'g, R, G> {
     Means {
         rt: means.rt,
@@ -70,11 +63,7 @@ fn with_gate<'r, 'g, R, M, G>(means: &Means<'r, '_, R, M>, gate: &'g G) -> Means
     }
 }
 
-/// Runs `audit` as the matches of the subcommand say, and gives the exit status that it gives, 0 to 2. The caller has
-/// seen by `words_fit_for` that the words fit, and the notes have counted no file before.
-///
-/// Refusals, tried in this order: `Read`, `Syntax`, `NamesKey`, `NamesCount` or `NamesRange` for a file of names; those
-/// of `audit`. `Memory` can come anywhere. After any error but `Write` nothing is written.
+/// Here and below the caller has seen by `words_fit_for` that the words fit, and the notes have counted no file before.
 fn run_audit<R: Threads + Wait + Sync, F: Files, M: Meter, O: Write>(
     means: &Means<'_, '_, R, M>,
     found: &ArgMatches<'_>,
@@ -116,10 +105,6 @@ fn run_audit<R: Threads + Wait + Sync, F: Files, M: Meter, O: Write>(
     audit(&with_gate(means, &gate), &task, files, notes, out)
 }
 
-/// Runs `check` on the filter files that the matches of the subcommand name. The exit status is 0.
-///
-/// Refusals, tried in this order: `Read` where a file can't be read or is too long; what `stack_of` refuses; `Write`
-/// where standard output can't be written. `Memory` can come anywhere. After any error but `Write` nothing is written.
 fn run_check<F: Files, O: Write>(
     alloc: Global,
     found: &ArgMatches<'_>,
@@ -142,15 +127,6 @@ fn run_check<F: Files, O: Write>(
     Ok(0)
 }
 
-/// Runs `eval` on the input that the words of the subcommand ask for, and on the filter files that they name. The
-/// caller has seen by `words_fit_for` that the words have the right form, and the notes have counted no file before.
-/// The exit status is 0.
-///
-/// Refusals, tried in this order: `Input` where `--input` spells no input, or a number is too wide, as `numbers_fit`
-/// says; `Read`, `Syntax`, `NamesKey`, `NamesCount` or `NamesRange` for a file of names; `UnknownName` where no set has
-/// the name behind `--arch`, or that set has no call with the name behind `--call`; `Read` where a filter file can't be
-/// read or is too long; what `stack_of` refuses; `Write` where standard output can't be written. `Memory` can come
-/// anywhere. After any error but `Write` nothing is written.
 fn run_eval<F: Files, O: Write>(
     alloc: Global,
     found: &ArgMatches<'_>,
@@ -185,7 +161,7 @@ fn run_eval<F: Files, O: Write>(
     Ok(0)
 }
 
-/// The relation that the exit status of a comparison is about: `Different` where `--same` is given, and else `Looser`.
+/// The relation that the exit status of a comparison is about.
 fn relation_of_status(found: &ArgMatches<'_>) -> Relation
     ensures { IsAskedRelation (one_of (codes "same") (rows_of (found_of found.now))) result }
 {
@@ -208,9 +184,7 @@ fn relation_named(word: &str) -> Relation
     }
 }
 
-/// The relation that `--only` names: only rows that have it are shown. `None` where the option isn't given: then all
-/// rows with a difference are shown. The caller has seen by `rows_fit` that the word is `looser`, `tighter` or
-/// `different`; any other would give `Different`.
+/// The relation that `--only` names; `None` where it isn't given: then all rows with a difference are shown.
 fn relation_of_rows(found: &ArgMatches<'_>) -> Option<Relation>
     ensures { result ≡ relation_of_rows (first_of (codes "only") (rows_of (found_of found.now))) }
 {
@@ -220,12 +194,6 @@ fn relation_of_rows(found: &ArgMatches<'_>) -> Option<Relation>
     }
 }
 
-/// Runs `compare` as the matches of the subcommand say, and gives the exit status that it gives, 0 or 1. The caller has
-/// seen by `words_fit_for` that the words fit, and the notes have counted no file before.
-///
-/// Refusals, tried in this order: `Read`, `Syntax`, `NamesKey`, `NamesCount` or `NamesRange` for a file of names;
-/// `UnknownName` where `--calls` names a call that no set has; those of `compare`. `Memory` can come anywhere. After
-/// any error but `Write` nothing is written.
 fn run_compare<F: Files, O: Write>(
     alloc: Global,
     found: &ArgMatches<'_>,
@@ -263,8 +231,7 @@ fn run_compare<F: Files, O: Write>(
     compare(alloc, &task, files, notes, out)
 }
 
-/// The form in which a stack is listed: a digest where `--digest` is given, else a document where `--json` is, else a
-/// text. The two don't come together, as `words_fit_for` has seen.
+/// `--digest` and `--json` don't come together, as `words_fit_for` has seen.
 fn form_of(found: &ArgMatches<'_>) -> ListingForm
     ensures { IsAskedForm (rows_of (found_of found.now)) result }
 {
@@ -278,12 +245,6 @@ fn form_of(found: &ArgMatches<'_>) -> ListingForm
     }
 }
 
-/// Runs `list` as the matches of the subcommand say. The exit status is 0. The caller has seen by `words_fit_for` that
-/// the words fit, and the notes have counted no file before.
-///
-/// Refusals, tried in this order: `Read`, `Syntax`, `NamesKey`, `NamesCount` or `NamesRange` for a file of names;
-/// `UnknownName` where `--calls` names a call that no set has; those of `list`. `Memory` can come anywhere. After any
-/// error but `Write` nothing is written.
 fn run_list<F: Files, O: Write>(
     alloc: Global,
     found: &ArgMatches<'_>,
@@ -314,8 +275,6 @@ fn run_list<F: Files, O: Write>(
     Ok(0)
 }
 
-/// Runs `needed` as the matches of the subcommand say, and gives the exit status that it gives, 0 or 1. The refusals
-/// are those of `needed`: `Read`, a fault of the filters, `TooLarge`, `Write` or `Memory`.
 fn run_needed<F: Files, O: Write>(
     alloc: Global,
     found: &ArgMatches<'_>,
@@ -336,12 +295,7 @@ fn run_needed<F: Files, O: Write>(
     needed(alloc, nodes_of(found), paths, json, files, notes, out)
 }
 
-/// Runs the subcommand with this name, one of the six that take filters, and gives its exit status, 0 to 2. For another
-/// name the status is 4: no file is read then, and nothing is written. The caller's conditions: the name isn't that of
-/// `profile`, the words fit by `words_fit_for`, and the notes have counted no file before.
-///
-/// The refusals are those of the subcommand; the function that is called for it lists them. After any error but `Write`
-/// nothing is written.
+/// Runs the subcommand with this name, one of the six that take filters, and gives its exit status.
 pub fn run_on_stack<R: Threads + Wait + Sync, F: Files, M: Meter, O: Write>(
     means: &Means<'_, '_, R, M>,
     name: &str,

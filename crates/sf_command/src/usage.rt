@@ -1,8 +1,9 @@
 //! The words as `clap` is to read them, and what is written where they ask for help, or are refused.
 
 ghost use Rattle.std.specs.Prelude.{◌≡◌, ◌≢◌, ◌<◌, ◌≤◌, ◌⊎◌, ◌++◌, length, map, string_bytes, true, IfOk, IfErr, OnOk};
+ghost use Rattle.std.specs.Io.KnownBytes.{Appends};
 ghost use Rattle.clap.specs.Words.{kind_of};
-ghost use Rattle.sf_policy.specs.declared.fault.Fault.TheVariants.{Memory as MemoryFault, Write as WriteFault};
+ghost use Rattle.sf_stack.specs.declared.fault.Fault.TheVariants.{Memory as MemoryFault, Write as WriteFault};
 ghost use Rattle.sf_evaluate.specs.declared.fault.Fault.TheVariants.{Other};
 ghost use Rattle.sf_command_line.specs.Terminal.{visible};
 ghost use Rattle.sf_command.specs.Runs.{IsHelp, WritesText, begins_with_help, meant_words};
@@ -13,7 +14,6 @@ use sf_evaluate::{Fault, print};
 use std::alloc::{AllocError, Global};
 use std::io::Write;
 
-/// The words as a terminal shows them, as `visible` makes them. An error where an allocation is refused.
 fn visible_words(alloc: Global, words: &[String]) -> Result<Vec<String>, AllocError>
     ensures { IfOk result (λ v. map string_bytes v.items
         ≡ map visible (map string_bytes words.now)) }
@@ -43,7 +43,6 @@ fn is_gone(word: &str) -> bool {
     GONE.iter().any(|gone| name == *gone)
 }
 
-/// Whether the words give `list`, `compare` or `needed` an option of `GONE`.
 fn ask_for_gone(words: &[String]) -> bool {
     match words.first() {
         Some(command) => {
@@ -56,7 +55,7 @@ fn ask_for_gone(words: &[String]) -> bool {
 
 /// Why `clap` refuses the words. It writes a word as it gets it, so it gets the words here as a terminal shows them. It
 /// refuses these too: no option, subcommand or number has a hidden character or a `\`. Were they not refused, the text
-/// would be empty. An error where an allocation is refused.
+/// would be empty.
 fn refusal_text(alloc: Global, words: &[String]) -> Result<String, AllocError> {
     let shown = visible_words(alloc, words)?;
     match command_form(alloc)?.try_get_matches_from(&shown) {
@@ -71,13 +70,12 @@ fn refusal_text(alloc: Global, words: &[String]) -> Result<String, AllocError> {
 }
 
 /// Writes what is said in place of matches of the words, for which `clap` gives `error`, and gives the exit status. The
-/// help or the version, where that was asked for, goes to standard output, and the status is 0. Otherwise the text of
+/// help, or `version` where that was asked for, goes to standard output, and the status is 0. Otherwise the text of
 /// `refusal_text` goes to standard error, with `INSTEAD` behind it where an option of `GONE` is given, and the status
-/// is 4, also where standard error can't be written. `Memory` where an allocation was refused, to `clap` or here;
-/// nothing is written then. `Write` where standard output can't be written (a beginning of the text may be written
-/// then).
+/// is 4, also where standard error can't be written.
 pub(crate) fn write_usage<O: Write, E: Write>(
     alloc: Global,
+    version: &str,
     words: &[String],
     error: &clap::Error,
     out: &mut O,
@@ -86,7 +84,9 @@ pub(crate) fn write_usage<O: Write, E: Write>(
     ensures status { IfOk result (λ s. (s ≤ 2) ⊎ (s ≡ 4)) }
     ensures help { IsHelp (kind_of error.now) → IfOk result (λ s. s ≡ 0) }
     ensures done { IfOk result (λ s. s ≤ 2 → IsHelp (kind_of error.now) × (s ≡ 0)
-        × WritesText (O.contents out.old) (O.contents out.new)) }
+        × WritesText (O.contents out.old) (O.contents out.new)
+        × (kind_of error.now ≡ ErrorKind.DisplayVersion
+        → Appends (O.contents out.old) (O.contents out.new) version.now)) }
     ensures refused { ¬ IsHelp (kind_of error.now) → IfOk result (λ s. s ≡ 4) }
     ensures usage { IfOk result (λ s. s ≡ 4 → (kind_of error.now ≢ ErrorKind.OutOfMemory)
         × (out.new ≡ out.old)) }
@@ -95,12 +95,16 @@ pub(crate) fn write_usage<O: Write, E: Write>(
     ensures quiet { IfErr result (λ e. (e ≡ Other WriteFault) ⊎ (out.new ≡ out.old)) }
 {
     if error.kind() == ErrorKind::OutOfMemory {
-        return Err(Fault::Other(sf_policy::Fault::Memory));
+        return Err(Fault::Other(sf_stack::Fault::Memory));
     }
     match error.kind() {
-        ErrorKind::DisplayHelp | ErrorKind::DisplayVersion => {
+        ErrorKind::DisplayHelp => {
             let text = error.to_string(alloc)?;
             print(&text, out)?;
+            Ok(0)
+        }
+        ErrorKind::DisplayVersion => {
+            print(version, out)?;
             Ok(0)
         }
         _ => {
@@ -114,8 +118,6 @@ pub(crate) fn write_usage<O: Write, E: Write>(
     }
 }
 
-/// Adds copies of these words to `all`, in order. An error where an allocation is refused; some of them may be added
-/// then.
 fn push_words(alloc: Global, all: &mut Vec<String>, words: &[String]) -> Result<(), AllocError>
     ensures { OnOk result (map string_bytes all.new.items
         ≡ map string_bytes all.old.items ++ map string_bytes words.now) }
@@ -126,7 +128,6 @@ fn push_words(alloc: Global, all: &mut Vec<String>, words: &[String]) -> Result<
     Ok(())
 }
 
-/// Whether the first word is `help`.
 fn begins_with_help(words: &[String]) -> bool
     ensures help { result ≡ begins_with_help (map string_bytes words.now) }
     ensures some { result ≡ true → 0 < length words.now }
@@ -138,8 +139,7 @@ fn begins_with_help(words: &[String]) -> bool
 }
 
 /// The words as `clap` is to read them. Where the first word is `help`, these are the words behind it and then
-/// `--help`, so that `help list` asks for what `list --help` asks for. Otherwise they are copies of all words. An error
-/// where an allocation is refused.
+/// `--help`, so that `help list` asks for what `list --help` asks for. Otherwise they are copies of all words.
 pub(crate) fn meant_words(alloc: Global, words: &[String]) -> Result<Vec<String>, AllocError>
     ensures { IfOk result (λ v. map string_bytes v.items
         ≡ meant_words (map string_bytes words.now)) }

@@ -1,6 +1,6 @@
-use Rattle.std.proofs.Common.{inl, inr}
 use Rattle.sf_evaluate.specs.FilesLaws.{handed_on}
-use Rattle.sf_command.proofs.KeptLemmas.{second_weaker}
+use Rattle.sf_command.specs.Audits.{read_data}
+use Rattle.sf_command.proofs.RefusalLemmas.{control_miscounted, miscounted}
 use Rattle.sf_command.proofs.auditing.audit_filters.Goals as goal
 
 pub returns-clause-found : goal.returns-clause-found
@@ -14,9 +14,9 @@ returns-clause-found g c = record {
 pub returns-in_err-outcome-clause-refused : goal.returns-in_err-outcome-clause-refused
 returns-in_err-outcome-clause-refused g c =
     handed_on _ c.from_residual.result c.in_err-outcome.field-0.0 c.from_residual.ensures.1
-    (second_weaker inl c.in_err-outcome.ensures.refused)
+    (miscounted (read_data c.args.read) _ c.in_err-outcome.ensures.refused)
 
 pub returns-in_err-held-clause-refused : goal.returns-in_err-held-clause-refused
 returns-in_err-held-clause-refused g c =
     handed_on _ c.from_residual-in_err-held.result c.in_err-held.field-0.0 c.from_residual-in_err-held.ensures.1
-    (second_weaker inr (rw c.deref.ensures.value at c.in_err-held.ensures.refused))
+    (control_miscounted (read_data c.args.read) _ (rw c.deref.ensures.value at c.in_err-held.ensures.refused))

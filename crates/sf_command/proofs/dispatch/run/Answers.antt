@@ -31,12 +31,7 @@ returns-in-profile-clause-usage g c = IfOk-weaker c.profile.result _ _
 
 pub returns-in-profile-clause-refused : goal.returns-in-profile-clause-refused
 returns-in-profile-clause-refused g c = IfErr-weaker c.profile.result _ _
-    (λ e why. inr (
-      (_, _),
-      joined _ _ _ _ _ c.in-Some.ensures.name c.in-Some.ensures.rows,
-      c.in-profile.is,
-      why,
-    ))
+    (λ e why. inr ((_, _), joined _ _ _ _ _ c.in-Some.ensures.name c.in-Some.ensures.rows, c.in-profile.is, why))
     c.profile.ensures.refused
 
 pub returns-then-not-words_fit_for-clause-usage : goal.returns-then-not-words_fit_for-clause-usage

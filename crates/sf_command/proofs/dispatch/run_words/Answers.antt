@@ -18,7 +18,7 @@ returns-clause-done g c =
     rw (← c.in_ok-meant.ensures, ← c.deref.ensures.value)
     (let failed = told_errors (λ (ks : Kinds). HasKind ks c.in-Err.error) _ _ c.in_ok-command_form.ensures
     c.in-Err.ensures.kinds in
-    IfOk-weaker c.write_usage.result _ _ (λ s done small. inr (helps _ c.in-Err.error s _ _ failed (done small)))
+    IfOk-weaker c.write_usage.result _ _ (λ s done small. inr (helps _ _ c.in-Err.error s _ _ failed (done small)))
     c.write_usage.ensures.done)
 
 pub returns-in-Ok-clause-usage : goal.returns-in-Ok-clause-usage
