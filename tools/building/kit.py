@@ -26,6 +26,12 @@ class Refused(Exception):
     """Why something can't be done, in one line, and what to do."""
 
 
+def kit_version():
+    """What `rt version` says; "" where there is no `rt` on the path."""
+    command = shutil.which("rt")
+    return subprocess.run([command, "version"], capture_output=True, text=True).stdout.strip() if command else ""
+
+
 def found():
     """The folder of the kit whose `rt` is on the path. Refused where there is none, or another one."""
     command = shutil.which("rt")
@@ -89,6 +95,9 @@ def known_costs():
 def sum_of_sources():
     """A sum of all that the program is made of."""
     whole = hashlib.sha256()
+    for name in ("crates.txt", "HANDLES"):
+        with open(os.path.join(ROOT, name), "rb") as file:
+            whole.update(repr((name, file.read())).encode())
     for crate in crates_below():
         for part in ("src", "specs", "proofs"):
             for at, folders, names in os.walk(os.path.join(ROOT, "crates", crate, part)):
@@ -99,10 +108,17 @@ def sum_of_sources():
     return whole.hexdigest()
 
 
+def made_of():
+    """What stands beside a program that is built now: the sum of its sources, and the kit."""
+    return f"{sum_of_sources()}\n{kit_version()}"
+
+
 def is_current(kind):
-    """Whether the program of a kind stands, and was built of the sources that stand now."""
+    """Whether the program of a kind stands, and was built of the sources that stand now, by the kit that is on the path, if
+    there is one."""
     try:
         with open(os.path.join(OUT, kind, "of")) as file:
-            return os.path.isfile(built(kind)) and file.read() == sum_of_sources()
+            sources, _, kit = file.read().partition("\n")
+        return os.path.isfile(built(kind)) and sources == sum_of_sources() and kit_version() in ("", kit)
     except OSError:
         return False

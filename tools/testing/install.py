@@ -16,7 +16,7 @@ import subprocess
 import sys
 import tempfile
 
-from building import installing
+from building import installing, mark
 from building.kit import PROGRAM, ROOT
 from testing import profiles
 
@@ -281,6 +281,24 @@ def try_release(room):
     del os.environ["CC"]
 
 
+def try_claims(room):
+    """Only a program that says that it is proved at the very commit is handed on."""
+    release, commit = releasing(), "0123456789abcdef" * 2 + "01234567"
+    release.is_current = lambda kind: True
+    release.built = lambda kind: os.path.join(room, "claims")
+    for kind, at, is_changed in (("proved", commit, False), ("proved", commit, True), ("proved", commit[::-1], False),
+                                 ("proved", "", False), ("unproved", commit, False)):
+        with open(release.built(kind), "w") as file:
+            file.write(f"#!/bin/sh\necho '{PROGRAM} 2.0.0 ({mark.claim(kind, at, is_changed)})'\n")
+        os.chmod(release.built(kind), 0o755)
+        try:
+            got = release.proved_program(commit)
+        except release.Refused as why:
+            got = str(why)
+        is_due = kind == "proved" and at == commit and not is_changed
+        tell(("isn't built of this commit" not in got) == is_due, f"release: {mark.claim(kind, at, is_changed)}", got)
+
+
 def try_removal(package, system):
     """Installs the package in a folder that looks as a system does, and removes it."""
     os.makedirs(f"{system}/var/lib/dpkg/updates")
@@ -300,6 +318,7 @@ def main():
         try_without_compiler(room)
         try_empty(room)
         try_replacing(room)
+        try_claims(room)
         if COMPILER:
             try_install(room)
         else:
