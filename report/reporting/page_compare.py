@@ -7,8 +7,8 @@ from .picture import Picture
 from .rows import rows_of
 
 WORDS = {
-    "looser": ("NEW lets nothing through that OLD doesn't.", "NEW lets through more than OLD"),
-    "tighter": ("NEW lets through all that OLD lets through.", "NEW doesn't let through all that OLD does"),
+    "looser": ("No call gets further under NEW than under OLD.", "Some call gets further under NEW than under OLD"),
+    "tighter": ("No call gets less far under NEW than under OLD.", "Some call gets less far under NEW than under OLD"),
     "different": ("Both give the same answer to each input.", "They answer some inputs differently"),
 }
 

@@ -6,6 +6,9 @@ from .documents import KINDS, Refused
 # What made a text, and how far that can be trusted.
 MADE_BY = "Made by seccomp_audit's report, outside the proofs, from what the program printed."
 
+# The version of the program that the report comes with.
+VERSION = "2.0.0"
+
 UNSETTLED = "no example was found, and no proof that there is none"
 
 

@@ -1,11 +1,13 @@
 """What code scanners read: SARIF 2.1.0, with a result for each question that is let through or unsettled."""
 import hashlib
 import json
+from collections import Counter
 from urllib.parse import quote
 
 from showing import visible
 
-from .phrases import MADE_BY, UNSETTLED, audits_of, call_of, control_of, not_complete, source_of
+from .documents import Refused
+from .phrases import MADE_BY, UNSETTLED, VERSION, audits_of, call_of, control_of, counted, not_complete, source_of
 
 SCHEMA = "https://docs.oasis-open.org/sarif/sarif/v2.1.0/errata01/os/schemas/sarif-schema-2.1.0.json"
 
@@ -38,31 +40,54 @@ def message_of(question, document, is_one_of_several):
     return plain(f"{said} This is said in {source_of(document)}." if is_one_of_several else said)
 
 
-def location_of(origin):
-    """Where a question stands, with its line where that is known."""
-    place = {"artifactLocation": {"uri": reference_of(origin["policy"])}}
-    if origin["line"] is not None:
-        place["region"] = {"startLine": origin["line"]}
+def location_of(path, line=None):
+    """A place in a file, with its line where that is known."""
+    place = {"artifactLocation": {"uri": reference_of(path)}}
+    if line is not None:
+        place["region"] = {"startLine": line}
     return {"physicalLocation": place}
 
 
-def fingerprint_of(question):
-    """A sum by which viewers know a result again: the same for the same question of the same policy."""
-    told = f"{question['origin']['policy']}\0{question['name']}"
-    return hashlib.sha256(told.encode("utf-8", "surrogatepass")).hexdigest()
+def sum_of(*told):
+    """A sum of what JSON can tell."""
+    return hashlib.sha256(json.dumps(told, sort_keys=True).encode()).hexdigest()
 
 
-def result_of(question, places, document, is_one_of_several):
-    """The result of a question. `places` has the place of each rule."""
-    name = visible(question["name"])
+def stack_of(document, filters):
+    """A sum of the stack that an audit is about: of the bytes of its filters where they are given, else of what the document
+    says of it. No path is in it."""
+    if filters:
+        return sum_of(*(hashlib.sha256(data).hexdigest() for data in filters))
+    replies = [(it["name"], it["reply"], it["example"]["bytes"] if it["example"] else "")
+               for it in document.value["questions"]]
+    return sum_of(document.value["stack"], sorted(replies))
+
+
+def fingerprints_of(document, filters):
+    """A sum for each question of an audit, by which viewers know a result again: the same for the same question about the
+    same stack. Of questions with one name each has its own."""
+    stack, seen, found = stack_of(document, filters), Counter(), []
+    for question in document.value["questions"]:
+        seen[question["name"]] += 1
+        found.append(sum_of(question["name"], seen[question["name"]], stack))
+    return found
+
+
+def result_of(question, fingerprint, rules, document, is_one_of_several, place):
+    """The result of a question. `rules` has the place of each rule. It is shown at a file of the checkout where `place` names
+    one, and else where the question stands."""
+    name, origin = visible(question["name"]), question["origin"]
+    asked = location_of(origin["policy"], origin["line"])
     result = {
         "ruleId": name,
-        "ruleIndex": places[name],
+        "ruleIndex": rules[name],
         "level": "error" if question["unexpected"] else "warning",
         "message": message_of(question, document, is_one_of_several),
-        "locations": [location_of(question["origin"])],
-        "partialFingerprints": {"policyAndQuestion/v1": fingerprint_of(question)},
+        "locations": [asked if place is None else location_of(place)],
+        "partialFingerprints": {"questionAndStack/v1": fingerprint},
     }
+    if place is not None:
+        result["relatedLocations"] = [asked]
     if question["example"]:
         result["properties"] = {"bytes": question["example"]["bytes"]}
     return result
@@ -100,17 +125,40 @@ def invocation_of(audits):
     return {"executionSuccessful": False, "toolExecutionNotifications": notifications}
 
 
-def text(documents, groups=None):
-    """SARIF of the audits among documents, all as one run. Refused where there is no audit, or a document of an unknown
-    kind."""
+def need_stack(audits, filters):
+    """Refused where filters are given that can't be the stack of the audit."""
+    if not filters:
+        return
+    if len(audits) > 1:
+        raise Refused("--filter tells the stack of one audit, and there are several")
+    due = audits[0].value["stack"]["filters"]
+    if len(filters) != due:
+        raise Refused(f"--filter: {source_of(audits[0])} is about {counted(due, 'filter', 'filters')}, and {len(filters)} are given")
+
+
+def need_place(place):
+    """Refused where a place is no path from the top of the checkout."""
+    if place is not None and (not place or place.startswith("/") or ".." in place.split("/")):
+        raise Refused(f"--place: {place!r:.80} is no path from the top of the checkout")
+
+
+def text(documents, groups=None, filters=(), place=None):
+    """SARIF of the audits among documents, all as one run. `filters` are the bytes of the filters of the only audit, or none;
+    `place` is a file of the checkout, or None. Refused where there is no audit, or a document of an unknown kind, or where
+    these can't be."""
     audits = audits_of(documents, "--sarif")
-    asked = [(question, document) for document in audits for question in document.value["questions"]]
-    found = [(question, document) for question, document in asked if is_result(question)]
-    rules = list(dict.fromkeys(visible(question["name"]) for question, _ in found))
-    places = {name: place for place, name in enumerate(rules)}
-    results = [result_of(question, places, document, len(audits) > 1) for question, document in found]
+    need_stack(audits, filters)
+    need_place(place)
+    asked = [(question, fingerprint, document) for document in audits
+             for question, fingerprint in zip(document.value["questions"], fingerprints_of(document, filters))]
+    found = [(question, fingerprint, document) for question, fingerprint, document in asked if is_result(question)]
+    rules = list(dict.fromkeys(visible(question["name"]) for question, _, _ in found))
+    numbers = {name: number for number, name in enumerate(rules)}
+    results = [result_of(question, fingerprint, numbers, document, len(audits) > 1, place)
+               for question, fingerprint, document in found]
     driver = {
         "name": "seccomp_audit",
+        "version": VERSION,
         "fullDescription": plain(MADE_BY),
         "rules": [rule_of(name, groups) for name in rules],
     }

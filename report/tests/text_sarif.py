@@ -158,10 +158,6 @@ def of_made():
     known, unknown = audit_of([question(1, "q")]), audit_of([question(1, "q", origin={"line": None, "policy": "p"})])
     place = results_in(sarif.text([unknown]))[0]["locations"][0]["physicalLocation"]
     yield "sarif: a line that isn't known isn't told", place == {"artifactLocation": {"uri": "p"}}, place
-    prints = [results_in(sarif.text([one]))[0]["partialFingerprints"]["policyAndQuestion/v1"] for one in
-              (known, audit_of([question(7, "q", "unsettled")]), audit_of([question(1, "r")]), unknown)]
-    is_well = prints[0] == prints[1] and len(set(prints)) == 3
-    yield "sarif: a fingerprint is of the policy and the name, and of nothing else", is_well, prints
     two = sarif.text([known, audit_of([question(1, "q")], "b.json")])
     said = [result["message"]["text"] for result in results_in(two)]
     is_told = [f"in {path}" in one for path, one in zip(("audit.json", "b.json"), said)]
@@ -171,8 +167,63 @@ def of_made():
     yield "sarif: never and accepted are no results", results_in(passed) == [] and passed.endswith("}\n"), passed[-50:]
 
 
+def prints_in(text):
+    return [result["partialFingerprints"]["questionAndStack/v1"] for result in results_in(text)]
+
+
+def of_fingerprints():
+    """By what a result is known again."""
+    one = audit_of([question(1, "q"), question(2, "r", "unsettled")])
+    elsewhere = audit_of([question(1, "q", origin={"line": None, "policy": "/p"}), question(2, "r", "unsettled")], "b.json")
+    yield "sarif: no path is in a fingerprint", prints_in(sarif.text([one])) == prints_in(sarif.text([elsewhere])), ""
+    prints = prints_in(sarif.text([one], None, [b"1"])) + prints_in(sarif.text([one], None, [b"2"]))
+    yield "sarif: a fingerprint is of the question and the stack", len(set(prints)) == 4, prints
+    later = audit_of([question(3, "p", "never"), question(9, "q"), question(4, "r")])
+    is_well = prints_in(sarif.text([later], None, [b"1"])) == prints[:2]
+    yield "sarif: with the filters it is of nothing else", is_well, prints
+    twice = prints_in(sarif.text([audit_of([question(1, "q"), question(2, "q")])]))
+    yield "sarif: two questions of one name have two", len(set(twice)) == 2, twice
+    services = [sarif.text([one], None, [b"filter of service %d" % number]) for number in range(200)]
+    prints = {it for text in services for it in prints_in(text)}
+    yield "sarif: 200 services have fingerprints of their own", len(prints) == 400, len(prints)
+    replies = [audit_of([question(1, "q"), question(2, f"of {number}", "never")]) for number in range(200)]
+    prints = {it for document in replies for it in prints_in(sarif.text([document]))}
+    yield "sarif: so have those of which the documents tell apart", len(prints) == 200, len(prints)
+
+
+def of_places():
+    """Where a result is shown."""
+    value = json.loads(sarif.text([audit_of([question(1, "q")])], None, (), "etc/my profile.json"))
+    yield "sarif: a file of the checkout fits the schema", misfits(value) == [], misfits(value)
+    result = value["runs"][0]["results"][0]
+    due = [{"physicalLocation": {"artifactLocation": {"uri": "etc/my%20profile.json"}}}]
+    yield "sarif: a file of the checkout is the place", result["locations"] == due, result
+    asked = result["relatedLocations"][0]["physicalLocation"]
+    is_well = asked == {"artifactLocation": {"uri": "policy.toml"}, "region": {"startLine": 11}}
+    yield "sarif: and the question stands beside it", is_well, asked
+    for path in ("", "/etc/profile.json", "../profile.json", "a/../../b"):
+        try:
+            got = sarif.text([audit_of([question(1, "q")])], None, (), path)
+        except Refused as refused:
+            got = refused
+        yield f"sarif: the place {path!r} is refused", isinstance(got, Refused), got
+
+
+def of_version(maker):
+    """Whether it is the version of the program."""
+    driver = json.loads(sarif.text([audit_of([])]))["runs"][0]["tool"]["driver"]
+    said = subprocess.run([maker.program, "--version"], capture_output=True, text=True).stdout.split()
+    yield "sarif: the driver has the program's version", said[:2] == [driver["name"], driver["version"]], (said, driver)
+
+
 def of_refusals():
-    """Whether documents of other kinds are refused."""
+    """Whether documents of other kinds are refused, and stacks that can't be that of an audit."""
+    for what, audits, filters in (("two filters for one", 1, [b"1", b"2"]), ("filters for two audits", 2, [b"1"])):
+        try:
+            got = sarif.text([audit_of([question(1, "q")])] * audits, None, filters)
+        except Refused as refused:
+            got = refused
+        yield f"sarif: {what}: refused", isinstance(got, Refused), got
     for what, documents in (("no audit", [Document("needed", {}, "n.json")]), ("nothing", []),
                             ("an unknown kind", [audit_of([]), Document("check", {}, "c.json")])):
         try:
@@ -186,4 +237,7 @@ def cases(maker):
     yield from of_real(maker)
     yield from of_open(maker)
     yield from of_made()
+    yield from of_fingerprints()
+    yield from of_places()
+    yield from of_version(maker)
     yield from of_refusals()
