@@ -1,11 +1,12 @@
-"""Runs the commands of the jobs in examples/ci, as a build does, on profiles that are fine, looser, tighter and missing.
+"""Runs the jobs in examples/ci, as a build does, on profiles that are fine, looser, tighter and missing.
 
     tools/test ci [PROGRAM]
 
-PROGRAM is the built seccomp_audit, crates/seccomp_audit/out/seccomp_audit if not given. The commands are those behind
-`run:` in github.yml, and below `script:` in gitlab.yml, but for the one that installs the package. A job stops at the
-first command that fails, and its status is that command's. The last line is `N passed, M failed`; where M isn't 0, the
-status is 1.
+PROGRAM is the built seccomp_audit, crates/seccomp_audit/out/seccomp_audit if not given. A step of github.yml runs where
+none failed before it, or where it says `always()`; the lines below `script:` in gitlab.yml run in one shell up to the
+first that fails, and those below `after_script:` in another one. The step that installs the package is left out, and a
+stand-in takes the place of filter_of_profile, which takes libseccomp. The last line is `N passed, M failed`; where M
+isn't 0, the status is 1.
 """
 import json
 import os
@@ -19,42 +20,72 @@ from collections import namedtuple
 from building.kit import ROOT
 
 POLICIES = "/usr/share/seccomp_audit/policies"
-MOST_LINES = 12
+INSTALLS = "apt-get"
+END = "--- the next one ---"
 
 # What the profile allowed when the baseline was kept, and what the team accepts of it.
 KNOWN = ["read", "write", "exit", "exit_group", "futex", "clone3"]
 ACCEPTED = "# what the service needs\nclone3 # the C library starts threads by it\n"
 
-# A case: the calls that the profile allows now (None: there is none), a file that is missing, the status that is due, the
-# lines that are due, and beginnings of lines that there may not be.
-Case = namedtuple("Case", "name calls missing status due never")
+# Makes a filter of a profile: of what a case says that libseccomp makes of it, if it does.
+STAND_IN = """#!/bin/sh
+for profile; do :; done
+test -e "$profile" || exit 1
+if test -e .made.json; then profile=.made.json; fi
+seccomp_audit profile --machine x86_64 $named "$profile"
+"""
+
+# A case: the calls that the profile allows now (None: there is none), those that the filter made of it does (None: the
+# same), a file that is missing; and of the audit, the change and the meaning each the status, a line that is due, and
+# the beginning of lines that there may not be.
+Case = namedtuple("Case", "name calls made missing audit change meaning")
+FINE = (0, None, "unexpected"), (0, "total changed 0", "looser found"), (0, "total changed 0", "looser found")
+UNREAD = (5, "error 50 Read", "total")
 CASES = [
-    Case("the same", KNOWN, None, 0, ["looser never", "tighter never", "total changed 0"],
-         ["unexpected", "accepted", "control", "error"]),
-    Case("looser, by a call that is asked about", [*KNOWN, "ptrace"], None, 1, ["unexpected ptrace"],
-         ["unexpected clone3", "accepted", "control", "looser"]),
-    Case("looser, by a call that nothing asks about", [*KNOWN, "getpid"], None, 1,
-         ["tighter never", "x86_64 getpid ERRNO 1 -> ALLOW 0", "total changed 1"],
-         ["unexpected", "accepted", "control", "looser never"]),
-    Case("tighter", KNOWN[:5], None, 0,
-         ["accepted clone3 never", "looser never", "x86_64 clone3 ALLOW 0 -> ERRNO 1", "total changed 1"],
-         ["unexpected", "control", "tighter never"]),
-    Case("too tight", KNOWN[1:], None, 2, ["control read never"], ["unexpected", "accepted", "looser"]),
-    Case("nothing allowed", [], None, 2, ["control read never", "control write never", "control exit-group never"],
-         ["unexpected", "looser"]),
-    Case("no filters", None, None, 5, ["error 50 Read"], ["looser"]),
-    Case("no list of what is accepted", KNOWN, "ci/accepted", 5, ["error 50 Read"], ["looser"]),
-    Case("no baseline", KNOWN, "ci/baseline", 5, ["error 50 Read"], ["looser"]),
+    Case("the same", KNOWN, None, None, *FINE),
+    Case("looser, by a call that is asked about", [*KNOWN, "ptrace"], None, None, (1, "unexpected ptrace", "unexpected clone3"),
+         (1, "x86_64 ptrace ERRNO 1 -> ALLOW 0", "looser never"), FINE[2]),
+    Case("looser, by a call that nothing asks about", [*KNOWN, "getpid"], None, None, FINE[0],
+         (1, "x86_64 getpid ERRNO 1 -> ALLOW 0", "looser never"), FINE[2]),
+    Case("what is made lets more through than the profile", KNOWN, [*KNOWN, "getpid"], None, FINE[0],
+         (1, "x86_64 getpid ERRNO 1 -> ALLOW 0", "looser never"), (1, "x86_64 getpid ERRNO 1 -> ALLOW 0", "looser never")),
+    Case("tighter", KNOWN[:5], None, None, (0, "accepted clone3 never", "unexpected"),
+         (0, "x86_64 clone3 ALLOW 0 -> ERRNO 1", "tighter never"), FINE[2]),
+    Case("too tight", KNOWN[1:], None, None, (2, "control read never", "unexpected"),
+         (0, "x86_64 read ALLOW 0 -> ERRNO 1", "looser found"), FINE[2]),
+    Case("nothing allowed", [], None, None, (2, "control exit-group never", "unexpected"),
+         (0, "x86_64 read ALLOW 0 -> ERRNO 1", "looser found"), FINE[2]),
+    Case("no filters", None, None, None, UNREAD, UNREAD, (5, "error 50 Read", "looser")),
+    Case("no list of what is accepted", KNOWN, None, "ci/accepted", UNREAD, *FINE[1:]),
+    Case("no baseline", KNOWN, None, "ci/baseline", FINE[0], UNREAD, FINE[2]),
 ]
 
 
-def commands_of(name):
-    """The commands of a job, without the one that installs."""
+def text_of(name):
+    """A job, with the folder of this repository for the one where the package has policies."""
     with open(os.path.join(ROOT, "examples/ci", name)) as file:
-        lines = file.read().splitlines()
-    found = [re.fullmatch(r"\s+- (?:run: )?(\w.* .*)", line) for line in lines]
-    commands = [line[1] for line in found if line and not line[1].startswith("uses:")]
-    return lines, [command for command in commands if "apt-get" not in command]
+        return file.read().replace(POLICIES, f"{ROOT}/policies")
+
+
+def variables_of(text):
+    """The variables that a job sets."""
+    return dict(re.findall(r"(?m)^ +(asked|named): (.*)$", text))
+
+
+def github_steps(text):
+    """The commands of each step, and whether it runs where one before it failed."""
+    steps = []
+    for part in re.split(r"(?m)^      - ", text)[1:]:
+        found = re.search(r"(?m)^ *run: (?:\|\n((?: {10}.*\n?)+)|(.*))", part)
+        if found and INSTALLS not in found[0]:
+            steps.append((re.sub(r"(?m)^ {10}", "", found[1] or found[2]), "if: always()" in part))
+    return steps
+
+
+def gitlab_lines(text, section):
+    """The lines of a section."""
+    found = re.search(rf"(?m)^  {section}:\n((?:    - .*\n)+)", text)
+    return re.findall(r"(?m)^    - (.*)$", found[1])
 
 
 def write_profile(path, calls):
@@ -65,7 +96,7 @@ def write_profile(path, calls):
 
 def make_filter(program, room, calls, target):
     """The filter of a profile, as a build would make it."""
-    profile = os.path.join(room, "of.json")
+    profile = os.path.join(room, ".of.json")
     write_profile(profile, calls)
     os.makedirs(os.path.dirname(target), exist_ok=True)
     with open(target, "wb") as file:
@@ -80,47 +111,90 @@ def make_room(program, room, case):
     with open(f"{room}/ci/accepted", "w") as file:
         file.write(ACCEPTED)
     if case.calls is not None:
+        made = case.calls if case.made is None else case.made
         write_profile(f"{room}/seccomp.json", case.calls)
-        make_filter(program, room, case.calls, f"{room}/filters/01.bpf")
+        write_profile(f"{room}/.made.json", made)
+        make_filter(program, room, made, f"{room}/filters/01.bpf")
     if case.missing == "ci/baseline":
         shutil.rmtree(f"{room}/ci/baseline")
         os.remove(f"{room}/ci/baseline.bpf")
     elif case.missing:
         os.remove(f"{room}/{case.missing}")
+    os.mkdir(f"{room}/.tools")
+    os.symlink(program, f"{room}/.tools/seccomp_audit")
+    os.symlink(f"{ROOT}/report/report", f"{room}/.tools/seccomp_audit_report")
+    with open(f"{room}/.tools/seccomp_audit_filter_of_profile", "w") as file:
+        file.write(STAND_IN)
+    os.chmod(f"{room}/.tools/seccomp_audit_filter_of_profile", 0o755)
 
 
-def run(program, room, commands):
-    """The status of a job, and all that it says."""
-    tools = f"{room}/.tools"
-    os.mkdir(tools)
-    os.symlink(program, f"{tools}/seccomp_audit")
-    environment = {**os.environ, "PATH": f"{tools}:{os.environ['PATH']}", "policies": f"{ROOT}/policies"}
-    words = ["bash", "-eo", "pipefail", "-c", "\n".join(commands)]
+def run(room, script, variables):
+    """The status of a script, and what it says."""
+    summary = {"GITHUB_STEP_SUMMARY": f"{room}/summary.md"}
+    environment = {**os.environ, **variables, **summary, "PATH": f"{room}/.tools:{os.environ['PATH']}"}
+    words = ["bash", "-eo", "pipefail", "-c", script]
     ran = subprocess.run(words, cwd=room, env=environment, stdin=subprocess.DEVNULL, capture_output=True, text=True)
-    return ran.returncode, (ran.stdout + ran.stderr).splitlines()
+    return ran.returncode, ran.stdout + ran.stderr
+
+
+def run_github(room, text):
+    """Whether the job failed, and of its three steps the status and what each says; None for one that didn't run."""
+    failed, ran = False, []
+    for script, is_always in github_steps(text):
+        status, said = run(room, script, variables_of(text)) if is_always or not failed else (None, "")
+        failed = failed or bool(status)
+        ran.append((status, said))
+    return failed, ran[1:4]
+
+
+def run_gitlab(room, text):
+    """The same of a job whose commands run in one shell: a command that fails says its status."""
+    lines = gitlab_lines(text, "script")
+    told = [re.sub(r"failed=\$\?$", "{ failed=$?; echo status $failed; }", line) for line in lines]
+    status, said = run(room, f"\necho '{END}'\n".join(["exec 2>&1", *told]), variables_of(text))
+    ran = []
+    for line, part in zip(lines, said.split(f"{END}\n")[1:]):
+        if re.match(r"seccomp_audit (audit|compare) ", line):
+            found = re.search(r"(?m)^status (\d)$", part)
+            ran.append((int(found[1]) if found else 0, part))
+    run(room, "\n".join(gitlab_lines(text, "after_script")), variables_of(text))
+    return status, ran
+
+
+def wrong_of(case, failed, ran):
+    """What is wrong with a job that ran."""
+    due = (case.audit, case.change, case.meaning)
+    if [status for status, _ in ran] != [status for status, _, _ in due]:
+        yield f"the statuses {[status for status, _ in ran]}"
+    if bool(failed) != any(status for status, _, _ in due):
+        yield f"the job ends with {failed}"
+    for (_, line, never), (_, said) in zip(due, ran):
+        lines = said.splitlines()
+        if line and line not in lines:
+            yield f"no line {line!r} in {said[-300:]!r}"
+        if any(it.startswith(never) for it in lines):
+            yield f"a line that begins with {never!r}"
+
+
+def wrong_summary(case, room):
+    """What is wrong with the summary: it has each part that there is."""
+    path = f"{room}/summary.md"
+    text = open(path).read() if os.path.exists(path) else ""
+    due = [] if case.calls is None else [title for title, (status, _, _) in
+                                         (("Questions about", case.audit), ("What changes from", case.change)) if status < 3]
+    return [f"the summary lacks {title!r}: {text[:300]!r}" for title in due if title not in text]
 
 
 def main():
     program = os.path.abspath(sys.argv[1] if len(sys.argv) > 1 else os.path.join(ROOT, "crates/seccomp_audit/out/seccomp_audit"))
     passed = failed = 0
-
-    def tell(well, what):
-        nonlocal passed, failed
-        passed, failed = passed + bool(well), failed + (not well)
-        if not well:
-            print(what)
-
-    for name, count in (("github.yml", 3), ("gitlab.yml", 2)):
-        lines, commands = commands_of(name)
-        tell(len(lines) <= MOST_LINES, f"{name}: has {len(lines)} lines: at most {MOST_LINES}")
-        tell(len(commands) == count and POLICIES in "".join(lines), f"{name}: has other commands: {commands}")
+    for name, runs in (("github.yml", run_github), ("gitlab.yml", run_gitlab)):
+        text = text_of(name)
         for case in CASES:
             with tempfile.TemporaryDirectory(prefix="ci-") as room:
                 make_room(program, room, case)
-                status, said = run(program, room, commands)
-            lacks = [line for line in case.due if line not in said]
-            wrong = [line for line in said if any(line.startswith(begin) for begin in case.never)]
-            well = status == case.status and not lacks and not wrong
-            tell(well, f"{name}: {case.name}: status {status} for {case.status}, lacks {lacks}, may not have {wrong}\n" + "\n".join(said))
+                wrong = [*wrong_of(case, *runs(room, text)), *wrong_summary(case, room)]
+            passed, failed = passed + (not wrong), failed + bool(wrong)
+            print("".join(f"{name}: {case.name}: {it}\n" for it in wrong), end="")
     print(f"{passed} passed, {failed} failed")
     return 1 if failed else 0
