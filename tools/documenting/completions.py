@@ -1,4 +1,8 @@
-"""Makes the completions of the command line for bash, zsh and fish, of what the program's `--help` says."""
+"""Makes the completions of the command line for bash, zsh and fish, of what the program's `--help` says.
+
+Some values are known too: words of which the help says all (`x86_64, i386, aarch64 or arm`), and what the installed
+policies have, which are looked for when a line is completed: their files, and names of calls and of their sets.
+"""
 import re
 from collections import namedtuple
 
@@ -10,6 +14,26 @@ HELP = "Print the help of a command"
 # An option of a subcommand: its name with the dashes, its value (None: it takes none), and what is said of it.
 Option = namedtuple("Option", "name value about")
 OPTION = re.compile(r"(?:-\w, +)?(--[\w-]+)(?: \[?<([\w.,]+)>\]?)?(?:\.\.\.)?  +(.*)")
+
+
+# All words that an option takes, at the end of what is said of it.
+WORDS = re.compile(r": (\w+(?:, \w+)* or \w+)(?: \[default: \w+\])?")
+
+# Options whose values stand in the installed policies, and what is looked for: names of sets, of calls, or files. A list
+# of calls is joined by commas.
+LOOKED_FOR = {"--arch": "sets", "--call": "calls", "--calls": "calls"}
+FILES = {"--policy": "policies", "--control": "controls", "--names": "names"}
+JOINED = ("--calls",)
+
+# How the lines of the file of names are read: those that name a set, and those that name a call.
+SETS = r"s/^\[\([a-z0-9_]*\)\]$/\1/p"
+CALLS = r"s/^\([a-z0-9_]*\) = [0-9]*$/\1/p"
+
+
+def words_of(option):
+    """All words that an option takes, where the help says them."""
+    found = WORDS.search(option.about)
+    return re.split(r", | or ", found[1]) if option.value and found else []
 
 
 def options_of(lines):
@@ -37,10 +61,53 @@ def bash(told, options):
     """For bash: names of options where a word begins with a dash, and else files, or first of all the subcommands."""
     whole = [option for some in options.values() for option in some]
     cases = "\n".join(f'        {command}) options="{" ".join(names(some))}" ;;' for command, some in options.items())
-    numbers = "|".join(sorted({option.name for option in whole if option.value not in (None, "FILE")}))
+    known = {option.name: words_of(option) for option in whole if words_of(option)}
+    numbers = "|".join(sorted({option.name for option in whole if option.value not in (None, "FILE")} - {*known, *LOOKED_FOR}))
+    words = "\n".join(f"""        {name})
+            mapfile -t COMPREPLY < <(compgen -W "{' '.join(some)}" -- "$word")
+            return ;;""" for name, some in sorted(known.items()))
+    joined = "|".join(JOINED)
+    named = "\n".join(f"""        {name}) COMPREPLY=($(compgen -W "$(_seccomp_audit_{what})" -- "$word")); return ;;"""
+                      for name, what in LOOKED_FOR.items() if name not in JOINED)
+    files = "\n".join(f"        {name}) installed=$(_seccomp_audit_installed {what}) ;;" for name, what in FILES.items())
     return f"""# Completions of seccomp_audit for bash, made by tools/documents.
 
+# The folder of the policies that come with the program: those that are installed beside it, or those of its checkout.
+_seccomp_audit_folder() {{
+    local program folder
+    program=$(type -P seccomp_audit) || return
+    for folder in "${{program%/*}}"/../share/seccomp_audit/policies "${{program%/*}}"/../../policies; do
+        if [[ -f $folder/names.toml ]]; then
+            (cd -- "$folder" && pwd)
+            return
+        fi
+    done
+}}
+
+# The names of all sets of calls, and those of all calls.
+_seccomp_audit_sets() {{
+    sed -n '{SETS}' "$(_seccomp_audit_folder)/names.toml" 2> /dev/null
+}}
+
+_seccomp_audit_calls() {{
+    sed -n '{CALLS}' "$(_seccomp_audit_folder)/names.toml" 2> /dev/null | sort -u
+}}
+
+# The files of a kind that come with the program.
+_seccomp_audit_installed() {{
+    local folder file
+    folder=$(_seccomp_audit_folder)
+    for file in "$folder"/*.toml; do
+        case $1:${{file##*/}} in
+            controls:control-*|names:names.toml) printf '%s\\n' "$file" ;;
+            policies:control-*|policies:names.toml|policies:groups.toml) ;;
+            policies:*.toml) [[ -f $file ]] && printf '%s\\n' "$file" ;;
+        esac
+    done
+}}
+
 _seccomp_audit() {{
+    local installed file front
     local word=${{COMP_WORDS[COMP_CWORD]}} before=${{COMP_WORDS[COMP_CWORD - 1]}} options="{' '.join(names(options_of(told.top['Options'])))}"
     case ${{COMP_WORDS[1]}} in
 {cases}
@@ -48,6 +115,15 @@ _seccomp_audit() {{
     COMPREPLY=()
     case $before in
         {numbers}) return ;;
+{words}
+{named}
+        {joined})
+            if [[ $word != -* ]]; then
+                front=${{word%"${{word##*,}}"}}
+                COMPREPLY=($(compgen -P "$front" -W "$(_seccomp_audit_calls)" -- "${{word##*,}}"))
+                return
+            fi ;;
+{files}
     esac
     if [[ $word == -* ]]; then
         mapfile -t COMPREPLY < <(compgen -W "$options" -- "$word")
@@ -56,6 +132,12 @@ _seccomp_audit() {{
 {bash_help(told, options)}    else
         compopt -o filenames 2> /dev/null
         mapfile -t COMPREPLY < <(compgen -f -- "$word")
+        # By their names alone, the files that come with the program.
+        if [[ $word != */* ]]; then
+            for file in $installed; do
+                if [[ ${{file##*/}} == "$word"* ]]; then COMPREPLY+=("$file"); fi
+            done
+        fi
     fi
 }}
 
@@ -68,12 +150,25 @@ def for_zsh(text):
     return re.sub(r"([][:])", r"\\\1", text).replace("'", "'\\''")
 
 
+def zsh_value(option):
+    """What `_arguments` is told of an option's value."""
+    if option.value is None:
+        return ""
+    if option.value == "FILE":
+        return f":file:_seccomp_audit_files {FILES[option.name]}" if option.name in FILES else ":file:_files"
+    if option.name in LOOKED_FOR:
+        # A list may be left out.
+        colon, several = ("::", "_sequence ") if option.name in JOINED else (":", "")
+        return f"{colon}{option.value}:{several}_seccomp_audit_{LOOKED_FOR[option.name]}"
+    words = words_of(option)
+    return f":{option.value}:({' '.join(words)})" if words else f":{option.value}: "
+
+
 def zsh(told, options):
     """For zsh, by its `_arguments`."""
-    files = {None: "", "FILE": ":file:_files"}
     parts = []
     for command, some in options.items():
-        lines = [f"'*{it.name}[{for_zsh(it.about)}]{files.get(it.value, f':{it.value}: ')}'" for it in some]
+        lines = [f"'*{it.name}[{for_zsh(it.about)}]{zsh_value(it)}'" for it in some]
         parts.append(f"        {command})\n            _arguments \\\n" + "".join(f"                {line} \\\n" for line in lines) + "                '*:file:_files' ;;")
     if told.has_help:
         parts.append("        help)\n            _describe -t commands command commands ;;")
@@ -83,6 +178,47 @@ def zsh(told, options):
     cases = "\n".join(parts)
     return f"""#compdef seccomp_audit
 # Completions of seccomp_audit for zsh, made by tools/documents.
+
+# The folder of the policies that come with the program: those that are installed beside it, or those of its checkout.
+_seccomp_audit_folder() {{
+    local program folder
+    program=$(whence -p seccomp_audit) || return
+    for folder in ${{program:h}}/../share/seccomp_audit/policies ${{program:h}}/../../policies; do
+        if [[ -f $folder/names.toml ]]; then
+            print -r -- ${{folder:a}}
+            return
+        fi
+    done
+}}
+
+# The names of all sets of calls, and those of all calls.
+_seccomp_audit_sets() {{
+    local -a found
+    found=(${{(f)"$(sed -n '{SETS}' $(_seccomp_audit_folder)/names.toml 2> /dev/null)"}})
+    compadd "$@" -a found
+}}
+
+_seccomp_audit_calls() {{
+    local -a found
+    found=(${{(fu)"$(sed -n '{CALLS}' $(_seccomp_audit_folder)/names.toml 2> /dev/null)"}})
+    compadd "$@" -a found
+}}
+
+# Files, and by their names alone those of a kind that come with the program.
+_seccomp_audit_files() {{
+    local file kind=$@[-1] folder=$(_seccomp_audit_folder)
+    local -a found
+    for file in $folder/*.toml(N); do
+        [[ ${{file:t}} == $PREFIX* ]] || continue
+        case $kind:${{file:t}} in
+            (controls:control-*|names:names.toml) found+=($file) ;;
+            (policies:control-*|policies:names.toml|policies:groups.toml) ;;
+            (policies:*) found+=($file) ;;
+        esac
+    done
+    compadd -U -f -a found
+    _files
+}}
 
 _seccomp_audit() {{
     local -a commands
@@ -114,9 +250,59 @@ def for_fish(text):
     return text.replace("\\", "\\\\").replace("'", "\\'")
 
 
+def fish_value(option):
+    """What `complete` is told of an option's value."""
+    if option.value is None:
+        return ""
+    if option.value == "FILE":
+        return " -r -F" + (f" -a '(__seccomp_audit_installed {FILES[option.name]})'" if option.name in FILES else "")
+    if option.name in LOOKED_FOR:
+        several = "__fish_complete_list , " * (option.name in JOINED)
+        return f" -x -a '({several}__seccomp_audit_{LOOKED_FOR[option.name]})'"
+    words = words_of(option)
+    return f" -x -a '{' '.join(words)}'" if words else " -x"
+
+
+# What completions for fish look up.
+FISH_FUNCTIONS = f"""
+# The folder of the policies that come with the program: those that are installed beside it, or those of its checkout.
+function __seccomp_audit_folder
+    set -l program (command -v seccomp_audit | string replace -r '[^/]*$' '')
+    for folder in {{$program}}../share/seccomp_audit/policies {{$program}}../../policies
+        if test -f $folder/names.toml
+            path resolve $folder 2> /dev/null; or realpath $folder
+            return
+        end
+    end
+end
+
+# The names of all sets of calls, and those of all calls.
+function __seccomp_audit_sets
+    sed -n '{SETS}' (__seccomp_audit_folder)/names.toml 2> /dev/null
+end
+
+function __seccomp_audit_calls
+    sed -n '{CALLS}' (__seccomp_audit_folder)/names.toml 2> /dev/null | sort -u
+end
+
+# The files of a kind that come with the program.
+function __seccomp_audit_installed
+    for file in (__seccomp_audit_folder)/*.toml
+        switch $argv[1]:(basename $file)
+            case 'controls:control-*' names:names.toml
+                echo $file
+            case 'policies:control-*' policies:names.toml policies:groups.toml
+            case 'policies:*'
+                echo $file
+        end
+    end
+end
+"""
+
+
 def fish(told, options):
     """For fish: a line for each subcommand and for each option."""
-    lines = ["# Completions of seccomp_audit for fish, made by tools/documents.", "", "complete -c seccomp_audit -f"]
+    lines = ["# Completions of seccomp_audit for fish, made by tools/documents.", FISH_FUNCTIONS, "complete -c seccomp_audit -f"]
     for it in options_of(told.top["Options"]):
         lines.append(f"complete -c seccomp_audit -n __fish_use_subcommand -l {it.name[2:]} -d '{for_fish(it.about)}'")
     for command, about in {**told.abouts, **{word: HELP for word in help_word(told)}}.items():
@@ -127,8 +313,7 @@ def fish(told, options):
         seen = f"complete -c seccomp_audit -n '__fish_seen_subcommand_from {command}'"
         lines.append(f"{seen} -F")
         for it in some:
-            value = {None: "", "FILE": " -r -F"}.get(it.value, " -x")
-            lines.append(f"{seen} -l {it.name[2:]}{value} -d '{for_fish(it.about)}'")
+            lines.append(f"{seen} -l {it.name[2:]}{fish_value(it)} -d '{for_fish(it.about)}'")
     return "\n".join(lines) + "\n"
 
 

@@ -27,7 +27,7 @@ class Help:
         def said(*words):
             return subprocess.run([program, *words], capture_output=True, text=True, check=True).stdout
 
-        self.name, self.version = said("--version").split()
+        self.name, self.version = said("--version").split()[:2]
         self.top = sections_of(said("--help"))
         lines = dict(re.split(r"  +", line, maxsplit=1) for line in self.top["Commands"])
         self.abouts = lines

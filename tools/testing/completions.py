@@ -18,9 +18,10 @@ import time
 from building.kit import ROOT
 
 FOLDER = os.path.join(ROOT, "docs/completions")
+INSTALLED = "share/seccomp_audit/policies"
 END = "all-was-typed"
 
-# What is typed before the tab, and what the line becomes.
+# What is typed before the tab, and what the line becomes; {installed} is the folder of the installed policies.
 CASES = [
     ("seccomp_audit au", "seccomp_audit audit"),
     ("seccomp_audit com", "seccomp_audit compare"),
@@ -49,6 +50,18 @@ CASES = [
     ("seccomp_audit pro", "seccomp_audit profile"),
     ("seccomp_audit profile --conf", "seccomp_audit profile --conflicts"),
     ("seccomp_audit profile --sk", "seccomp_audit profile --skip-unknown"),
+    ("seccomp_audit profile --machine aa", "seccomp_audit profile --machine aarch64"),
+    ("seccomp_audit profile --conflicts mi", "seccomp_audit profile --conflicts mildest"),
+    ("seccomp_audit compare --only ti", "seccomp_audit compare --only tighter"),
+    ("seccomp_audit eval --arch aa", "seccomp_audit eval --arch aarch64"),
+    ("seccomp_audit eval --call getpi", "seccomp_audit eval --call getpid"),
+    ("seccomp_audit list --calls io_uring_s", "seccomp_audit list --calls io_uring_setup"),
+    ("seccomp_audit list --calls getpid,io_uring_s", "seccomp_audit list --calls getpid,io_uring_setup"),
+    ("seccomp_audit list --calls --dig", "seccomp_audit list --calls --digest"),
+    ("seccomp_audit audit --policy x86", "seccomp_audit audit --policy {installed}/x86_64.toml"),
+    ("seccomp_audit audit --policy control-x8", "seccomp_audit audit --policy control-x8"),
+    ("seccomp_audit audit --control control-x8", "seccomp_audit audit --control {installed}/control-x86_64.toml"),
+    ("seccomp_audit audit --names names.t", "seccomp_audit audit --names {installed}/names.toml"),
 ]
 
 # How each shell is started, and which commands it gets first.
@@ -67,13 +80,18 @@ def said_until(terminal, word, seconds=20):
     return said.decode(errors="replace")
 
 
-def typed(shell, room):
+def environment_of(room, installed):
+    """What the shells run with: the program is on the path, and its policies are installed beside it."""
+    return {**os.environ, "TERM": "dumb", "HOME": room, "ZDOTDIR": room, "PATH": f"{installed}/bin:{os.environ['PATH']}"}
+
+
+def typed(shell, room, environment):
     """The lines that come of the cases in a shell at a terminal."""
     words, first = SHELLS[shell]
     child, terminal = pty.fork()
     if child == 0:
         os.chdir(room)
-        os.execvpe(words[0], words, {**os.environ, "TERM": "dumb", "HOME": room, "ZDOTDIR": room})
+        os.execvpe(words[0], words, environment)
     os.write(terminal, f"{first.format(folder=FOLDER)}; printf '%s-%s\\n' {END[:7]} {END[8:]}\n".encode())
     said_until(terminal, END)
     came = []
@@ -90,12 +108,13 @@ def typed(shell, room):
     return came
 
 
-def completed_by_fish(room):
+def completed_by_fish(room, environment):
     """The lines that fish makes of the cases: it prints the words that may come in place of the last one."""
     came = []
     for text, _ in CASES:
         script = f"source '{FOLDER}/seccomp_audit.fish'; complete -C '{text}'"
-        told = subprocess.run(["fish", "--no-config", "-c", script], cwd=room, capture_output=True, text=True, env={**os.environ, "HOME": room}).stdout
+        words = ["fish", "--no-config", "-c", script]
+        told = subprocess.run(words, cwd=room, capture_output=True, text=True, env=environment).stdout
         words = [line.split("\t")[0] for line in told.splitlines()]
         front, _, last = text.rpartition(" ")
         came.append(f"{front} {words[0]}" if len(words) == 1 else f"{front} {last}")
@@ -106,11 +125,16 @@ def main():
     shells = sys.argv[1:] or [name for name in ("bash", "zsh", "fish") if shutil.which(name)]
     passed = failed = 0
     for shell in shells:
-        with tempfile.TemporaryDirectory() as room:
+        with tempfile.TemporaryDirectory() as room, tempfile.TemporaryDirectory() as installed:
             for name in ("policy.toml", "filter.bpf", "names"):
                 open(os.path.join(room, name), "w").close()
-            came = completed_by_fish(room) if shell == "fish" else typed(shell, room)
-        for (text, wanted), line in zip(CASES, came):
+            shutil.copytree(os.path.join(ROOT, "policies"), os.path.join(installed, INSTALLED))
+            os.mkdir(os.path.join(installed, "bin"))
+            os.symlink("/bin/true", os.path.join(installed, "bin/seccomp_audit"))
+            environment = environment_of(room, installed)
+            came = completed_by_fish(room, environment) if shell == "fish" else typed(shell, room, environment)
+            cases = [(text, wanted.format(installed=f"{installed}/{INSTALLED}")) for text, wanted in CASES]
+        for (text, wanted), line in zip(cases, came):
             if line == wanted:
                 passed += 1
             else:
