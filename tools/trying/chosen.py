@@ -30,8 +30,8 @@ def in_turn():
     by_tree = lambda name: hashlib.sha256(tree + str(name).encode()).digest()
     room, left, chosen, known = MOST_IN_TURN, SECONDS, {}, known_costs()
     for crate in sorted(known, key=by_tree):
-        most = min(room, max(0, MOST - len(edits_in(crate, ALWAYS))))
-        some, needed = sorted(edits_in(crate, IN_TURN), key=lambda path: by_tree(path.name))[:most], TIMES * known[crate].seconds
+        some = sorted(edits_in(crate, IN_TURN), key=lambda path: by_tree(path.name))[: min(room, MOST)]
+        needed = TIMES * known[crate].seconds
         if some and needed <= left:
             room, left, chosen[crate] = room - len(some), left - needed, sorted(some)
     return chosen
