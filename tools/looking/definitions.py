@@ -14,9 +14,9 @@ lines. Definitions of std and of the kit's crates aren't counted, and no contrac
 The contracts of the first two lists are those that docs/PROOF.md names: in its section on the headline, and for the
 program in its table of what is proved, in the rows of the crates below. These lists leave out what the page names as
 promises beside theirs: each stands for itself, in a clause or in a field of a record, and takes nothing from the
-others. The third list has what is left out of both, and what the product as a library says; the fourth what the
-contracts of all that the crates hand out reach. What types keep (`ghost invariant`) stands apart. A definition counts
-in the first list that reaches it, with the lines of its comment and without blank ones.
+others. The third list has what is left out of both, and what the product as a library says. A definition counts in the
+first list that reaches it, with the lines of its comment and without blank ones. Of the rest the page only says how many
+definitions the other contracts reach, and how many only what types keep (`ghost invariant`).
 """
 import re
 import sys
@@ -29,8 +29,8 @@ from looking.tree import ROOT
 PAGE = "docs/DEFINITIONS.md"
 PROVED = "docs/PROOF.md"
 HEADLINE, PROGRAM, BESIDE = "The headline", "The program", "Exactness and refusals"
-CALLS, KEPT, REST = "Threads and facts", "What types keep", "The rest"
-LIBRARY, COMMAND = ("sf_names", "sf_policy", "sf_audit"), ("sf_evaluate", "sf_command")
+REST = "The rest"
+LIBRARY, COMMAND = ("sf_names", "sf_stack", "sf_policy", "sf_audit"), ("sf_evaluate", "sf_command")
 LEFT = "The first two lists leave to the third: "
 HEAD = ["| what it says | file | definitions | lines |", "|---|---|---|---|"]
 TYPES = "Types of the code that these speak of: "
@@ -90,26 +90,31 @@ class Lists(House):
         (headline, lost), (program, also_lost), (library, lost_too), (left, unknown) = (
             self.headline(), self.product(COMMAND), self.product(LIBRARY), self.left())
         order = [(HEADLINE, headline, left, lost), (PROGRAM, program, left, also_lost),
-                 (BESIDE, [*headline, *program, *library], [], lost_too + unknown), (CALLS, every, [], []), (KEPT, [], [], [])]
+                 (BESIDE, [*headline, *program, *library], [], lost_too + unknown)]
         before = set()
         for title, places, without, lost in order:
-            reached = self.definitions.reached(self.clauses(places) if places else kept, without) - before
+            reached = self.definitions.reached(self.clauses(places), without) - before
             told = self.told(reached, before, places if title in (HEADLINE, PROGRAM) else [])
             yield List(title, told, self.definitions.rows(reached, before), self.types(reached, before), lost)
             before |= reached
-        known = {one.file for one in before}
-        files = [f"`{file}`" for file in self.definitions.files if not is_law(file) and file not in known]
-        yield List(REST, wrapped(f"**{len(files)} files**: {', '.join(files)}."), {}, "", [])
+        calls = self.definitions.reached(self.clauses(every)) - before
+        types = self.definitions.reached(kept) - before - calls
+        told = f"{self.counted(calls)} are reached by the other public calls, and {self.counted(types)} only by what types keep"
+        yield List(REST, wrapped(f"{told}."), {}, "", [])
+
+    @staticmethod
+    def counted(reached):
+        """How many definitions, and where."""
+        lines, files = sum(one.lines for one in reached), len({one.file for one in reached})
+        return f"**{len(reached)} definitions, {lines:,} lines in {files} files**"
 
     @staticmethod
     def told(reached, before, places):
         """The line over a table."""
-        lines, files = sum(one.lines for one in reached), len({one.file for one in reached})
         comments = sum(one.comments for one in reached)
-        beside = f", beside the {sum(one.lines for one in before):,} lines above" if before else ""
+        besides = f", besides the {sum(one.lines for one in before):,} lines above" if before else ""
         sources = f". Reached from {', '.join(f'`{crate}::{name}`' for crate, name in places)}" if places else ""
-        counts = f"**{len(reached)} definitions, {lines:,} lines in {files} files**, {comments:,} of them comments"
-        return wrapped(f"{counts}{beside}{sources}.")
+        return wrapped(f"{Lists.counted(reached)}, {comments:,} of them comments{besides}{sources}.")
 
     def types(self, reached, before):
         """The line under a table: the types of the code that come in."""
@@ -168,7 +173,7 @@ def differences(page, part):
             yield f"{file} has {row.lines} lines, {row.told}, where the page says: {line}"
         else:
             yield f"{file} has no sentence" if not sentence else ""
-        if is_law(file) and part.title != KEPT:
+        if is_law(file):
             yield f"{file} is one of laws, and a contract reaches what it defines"
     paragraphs = "\n".join(page[at:end]).split("\n\n")
     for paragraph in filter(None, (part.told, part.types)):

@@ -2,10 +2,11 @@
 
     tools/look layout
 
-A line has at most 120 columns, except for `use` lines, texts in code, tables and what documents show; a source file has
-at most 500 lines. A folder below `proofs/` is that of a module, of a function in it, or of a method of a type in it, and
-other files there and in `specs/` stand in their `Lib.antt`. Laws hold no definition, and no crate imports from the `proofs/` of another. Names of edits
-differ in the three tiers, and each gate tries at most 70 edits. A crate has no other folders. Files are counted.
+A line has at most 120 columns, except for `use` and `#[tactic]` lines, texts in code, tables and what documents show; a source file has
+at most 500 lines. A folder below `proofs/` is that of a module, of a function in it, or of a method of a type in it, `proofs/MODULE.antt`
+names the lemmas of the module, and other files there and in `specs/` stand in their `Lib.antt`. Laws stand in
+`specs/laws/` and hold no definition, and no crate imports from the `proofs/` of another. Names of edits differ in the
+three tiers, and each gate tries at most 70 edits. A crate has no other folders. Files are counted.
 """
 import re
 import subprocess
@@ -17,7 +18,7 @@ from looking.tree import CRATES, ROOT, crates, shown, sources
 
 COLUMNS, LINES, MOST_EDITS = 120, 500, 70
 ROOMS = {"src", "specs", "proofs", *TIERS, "args", "stdin", "stdout", "status", "data", "out"}
-MAY_BE_WIDE = re.compile(r'\s*((pub |ghost )*use |\|)|.*"')
+MAY_BE_WIDE = re.compile(r'\s*((pub |ghost )*use |#\[tactic\(|\|)|.*"')
 
 
 def of_text(path, text):
@@ -42,14 +43,17 @@ def rooms_of(crate):
 def of_proofs(crate, rooms, path, text):
     """What is wrong with where a file of definitions or proofs stands."""
     yield from (f"imports from the proofs of {one}" for one in proofs_imported(text) - {crate.name} if (CRATES / one).is_dir())
-    yield "laws that hold a definition" if path.stem.endswith("Laws") and has_public_definition(text) else ""
-    folder = path.parent
-    if folder.parent != crate:
+    is_law, folder = path.stem.endswith("Laws") and path.is_relative_to(crate / "specs"), path.parent
+    yield "laws that hold a definition" if is_law and has_public_definition(text) else ""
+    yield "laws outside specs/laws" if is_law != (folder == crate / "specs/laws") else ""
+    if folder.parent != crate and not is_law:
         # A `+` stands before a call of the function in itself.
         room = (*folder.relative_to(crate).parts[1:-1], folder.name.lstrip("+"))
         yield "" if room in rooms else "the crate has no such module, function or method"
     elif path.name != "Lib.antt":
-        yield "" if path.stem in modules_in((folder / "Lib.antt").read_text()) else "isn't in Lib.antt"
+        names = folder / "Lib.antt" if folder.parent == crate else folder.with_suffix(".antt")
+        is_room = folder == crate / "proofs" and (path.stem,) in rooms
+        yield "" if is_room or path.stem in modules_in(names.read_text()) else f"isn't in {names.name}"
 
 
 def of_crates():

@@ -15,7 +15,7 @@ class Definitions:
 
     def __init__(self, crates):
         paths = [path for crate in crates for path in sorted((CRATES / crate / "specs").rglob("*.antt"))]
-        texts = {shown(path): path.read_text() for path in paths if path.name != "Lib.antt"}
+        texts = {shown(path): path.read_text() for path in paths if path.name not in ("Lib.antt", "laws.antt")}
         self.files = {file: definitions_in(text, file) for file, text in texts.items()}
         self.names = {file: {name: (file, name) for name in self.files[file]} | imported(texts[file]) for file in texts}
         self.declared = {file: types_imported(text) for file, text in texts.items()}
