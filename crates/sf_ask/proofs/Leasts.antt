@@ -7,7 +7,7 @@ use Rattle.sf_sym.specs.Pool.{ArePlainNodes}
 use Rattle.sf_sym.specs.declared.pool.Node.{Node}
 use Rattle.sf_dom.specs.Known.{Admits}
 use Rattle.sf_dom.specs.Facts.{FactsView, Agrees, Covers, known_at}
-use Rattle.sf_dom.specs.FactsLaws.{agreeing-word, low-left, words-agree}
+use Rattle.sf_dom.specs.laws.FactsLaws.{agreeing-word, low-left, words-agree}
 use Rattle.sf_piece.specs.Pieces.{PieceData, is_member}
 use Rattle.sf_piece.specs.PlainPieces.{IsPlainPiece}
 use Rattle.sf_ask.specs.Trying.{IsLeastInput}

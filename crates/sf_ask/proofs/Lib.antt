@@ -1,9 +1,5 @@
-pub mod BitLemmas
 pub mod Words
 pub mod Confinements
 pub mod Leasts
 pub mod Searching
 pub mod OneVerdict
-pub mod OneReply
-pub mod SheetLemmas
-pub mod ProbeLemmas

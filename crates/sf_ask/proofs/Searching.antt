@@ -10,7 +10,7 @@ use Rattle.sf_insn.specs.Inputs.{IsInput}
 use Rattle.sf_sym.specs.declared.pool.Node.{Node}
 use Rattle.sf_sym.specs.declared.pool.Cond.{Cond}
 use Rattle.sf_dom.specs.Facts.{FactsView, Agrees, AreConfined}
-use Rattle.sf_run.specs.AnswerLaws.{one}
+use Rattle.sf_run.specs.laws.AnswerLaws.{one}
 use Rattle.sf_book.specs.Books.{BookData, RegionData, IsRightRegion}
 use Rattle.sf_ask.specs.declared.verdict.Verdict.{Verdict}
 use Rattle.sf_ask.specs.declared.verdict.Verdict.TheVariants.{Clear, Hit, Doubt}

@@ -9,7 +9,7 @@ use Rattle.sf_insn.specs.declared.input.Input.{Input}
 use Rattle.sf_insn.specs.Inputs.{IsInput}
 use Rattle.sf_sym.specs.declared.pool.Node.{Node}
 use Rattle.sf_dom.specs.Facts.{FactsView, Covers, known_at, AreNarrower, AreConfined, ConfinesWord, HasIn, LiesIn, KeepsOnly, NoInput}
-use Rattle.sf_dom.specs.FactsLaws.{narrower-admits, agreeing-word, some-input, some-such}
+use Rattle.sf_dom.specs.laws.FactsLaws.{narrower-admits, agreeing-word, some-input, some-such}
 use Rattle.sf_question.specs.QuestionData.{QuestionData, range_at, mask_at, is_whole}
 use Rattle.sf_question.specs.Breaking.{IsNumberOf, IsInQuestion}
 use Rattle.sf_ask.specs.Searches.{IsInWordRange, HasMaskBits, IsInBefore, IsOutside}

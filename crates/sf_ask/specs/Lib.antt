@@ -1,13 +1,10 @@
 pub mod QuestionBits
-pub mod QuestionBitsLaws
 pub mod Trying
 pub mod Judging
 pub mod OneResult
-pub mod OneResultLaws
 pub mod Verdicts
 pub mod Members
-pub mod MemberLaws
 pub mod Searches
 pub mod Probing
 pub mod Sheets
-pub mod SheetLaws
+pub mod laws

@@ -23,24 +23,24 @@ pub use Rattle.sf_insn.specs.declared.ops.BinOp.{BinOp}
 pub use Rattle.sf_insn.specs.declared.ops.BinOp.TheVariants.{Add, Div, Mul, Sub}
 pub use Rattle.sf_insn.specs.declared.ops.Test.{Test}
 pub use Rattle.sf_insn.specs.declared.ops.Test.TheVariants.{AnyBit, Equal}
-pub use Rattle.sf_check.specs.ContainsLaws.{contains_cons, contains_here, contains_nil, contains_there}
+pub use Rattle.sf_check.specs.laws.ContainsLaws.{contains_cons, contains_here, contains_nil, contains_there}
 pub use Rattle.sf_check.specs.Insns.{successors}
-pub use Rattle.sf_check.specs.ProgramLaws.{below_in, successors_inside}
+pub use Rattle.sf_check.specs.laws.ProgramLaws.{below_in, successors_inside}
 pub use Rattle.sf_check.specs.Programs.{IsAt, IsLawfulProgram}
 pub use Rattle.sf_check.specs.declared.insn.Insn.{Insn}
 pub use Rattle.sf_check.specs.declared.insn.Operand.{Operand}
-pub use Rattle.sf_run.specs.AnswerLaws.{answer_more, answer_none, number-action_of, one}
+pub use Rattle.sf_run.specs.laws.AnswerLaws.{answer_more, answer_none, number-action_of, one}
 pub use Rattle.sf_run.specs.Answers.{Answers, IsAnswer, action_bits, action_number, data_bits, folded_answer, rank}
 pub use Rattle.sf_run.specs.Machine.{Outcome, Progress, State, goes, insn_progress, load_progress, operand_of, operation_progress, outcome_from, return_of, returns, returns_of, start, store_progress, stuck}
 pub use Rattle.sf_run.specs.Reachable.{put}
-pub use Rattle.sf_run.specs.RunLaws.{ends_from, option_map_some, safe_start, step_is, value_is}
+pub use Rattle.sf_run.specs.laws.RunLaws.{ends_from, option_map_some, safe_start, step_is, value_is}
 pub use Rattle.sf_run.specs.declared.action.Answer.{Answer}
 pub use Rattle.sf_diagram.specs.Choices.{IsChosen, chosen_of}
-pub use Rattle.sf_diagram.specs.KeepLaws.{keeps_both, keeps_more}
+pub use Rattle.sf_diagram.specs.laws.KeepLaws.{keeps_both, keeps_more}
 pub use Rattle.sf_diagram.specs.Merges.{IsMerged}
 pub use Rattle.sf_diagram.specs.Operations.{folded_of}
 pub use Rattle.sf_diagram.specs.Stores.{KeepsStore, KeepsTrees, tree_at}
-pub use Rattle.sf_diagram.specs.TreeLaws.{value_from}
+pub use Rattle.sf_diagram.specs.laws.TreeLaws.{value_from}
 pub use Rattle.sf_diagram.specs.Trees.{Bits, Fork, IsOrderedFrom, IsOrderedTree, Leaf, Tree, value}
 pub use Rattle.sf_diagram.specs.declared.operation.Operation.TheVariants.{Fold}
 pub use Rattle.sf_behaviour.specs.Answering.{HasAnswers, IsBehaviour, answer_with}

@@ -2,7 +2,7 @@
 use Rattle.sf_behaviour.proofs.Common.{◌≡◌, ℕ, ◌<◌, ◌^◌, List, length, length-set, replicate, Option, Some, None, refl, sym, ap, ap₂, ◌∙◌, inl, inr, arith, slice_index, slice_set, same_Some, get_or-set_same, get_or-set_other, cases_eq, apply, negation_of, Operand, Tree, Bits, KeepsTrees, State, input_by, A, X, IsRegister, with_register, next_with, Known, known_word, held_in, IsInputWord, IsKnowledge, IsLess, source_number, operand_in, source_in, word_value, IsWord, Word, Source, set-get_or, operand_of, Fits, Held, Negation, Result}
 use Rattle.sf_check.specs.declared.insn.Operand.TheVariants.{Constant as Fixed, X as OfX}
 use Rattle.sf_behaviour.specs.declared.effects.Source.TheVariants.{Constant, Word as InputWord}
-use Rattle.sf_behaviour.proofs.WordLemmas.{set-each, word-kept, word-small, number-kept}
+use Rattle.sf_behaviour.proofs.words.WordLemmas.{set-each, word-kept, word-small, number-kept}
 use Rattle.sf_behaviour.proofs.VariableLemmas.{with-register-own, with-register-other, none-there, number-after, number-elsewhere}
 
 -- a register has the word that was set

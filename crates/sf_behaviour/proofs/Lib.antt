@@ -1,13 +1,6 @@
-pub mod AnswerLemmas
 pub mod BitLemmas
 pub mod Common
-pub mod EffectLemmas
-pub mod ForwardLemmas
 pub mod KnowledgeLemmas
-pub mod QuotientLemmas
-pub mod ReplacingLemmas
 pub mod ShiftLemmas
-pub mod StepsLemmas
 pub mod TellLemmas
 pub mod VariableLemmas
-pub mod WordLemmas

@@ -1,6 +1,6 @@
 -- Words whose bits are moved, and their products, bit by bit.
 use Rattle.sf_behaviour.proofs.Common.{◌≡◌, ℕ, zero, suc, ◌+◌, ◌-◌, ◌*◌, ◌/◌, ◌%◌, ◌<◌, ◌≤◌, ◌^◌, List, length, refl, sym, ap, ◌∙◌, inl, inr, arith, slice_index, bit_at, cases_lt, lt-ltb, le-ltb, pow_pos, pow-add, bit_at-lt, bit_at_cat_low, apply, Tree, Bits, chosen_of, IsTruthOf, IsWordOf, moved, pow-le-pow_right, div-add-mod', mul-mod_first, shr-shr, shr_le, bit_at-zero, bit_at_above, bit_at_cat_high, shift_of, shifted_by, Direction, Left, Right, add-mod, mod-mod, Mul}
-use Rattle.sf_behaviour.proofs.WordLemmas.{bit-of, number-small, truth-of-same, word-made}
+use Rattle.sf_behaviour.proofs.words.WordLemmas.{bit-of, number-small, truth-of-same, word-made}
 use Rattle.sf_behaviour.proofs.BitLemmas.{low-all, low-more, low-none}
 
 -- ---- bits of shifted numbers

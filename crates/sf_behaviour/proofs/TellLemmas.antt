@@ -1,7 +1,7 @@
 -- What a diagram tells of the runs from a place, by what the diagrams of the places behind tell.
 use Rattle.sf_behaviour.proofs.Common.{◌≡◌, ℕ, zero, suc, ◌+◌, ◌<◌, ◌==◌, ◌^◌, Bool, true, false, List, [], length, Option, Some, None, refl, sym, ap, ap₂, subst, ◌∙◌, arith, ◌&&◌, slice_set, if◌then◌else◌, same_Some, Input, Test, passes, Insn, Operand, IsLawfulProgram, Tree, Bits, value, tree_at, KeepsTrees, State, start, return_of, input_by, A, X, IsRegister, next_with, with_register, Known, known_word, held_in, IsInputWord, IsKnowledge, IsLess, divides, source_number, operand_in, source_in, set_progress, effect_progress, IsEffectOf, Tells, IsReplaced, word_value, IsDiagramOf, Effect, Tests, Source, Word, IsSome, IsAt, Progress, goes, returns, stuck, operand_of, insn_progress, Outcome, outcome_from, put, option_map_some, step_is, safe_start, ends_from, value_is, Fits, return_progress, unmet, IsSetTo}
 use Rattle.sf_run.specs.Machine.{run_for}
-use Rattle.sf_behaviour.proofs.ReplacingLemmas.{less-if, replaced-value}
+use Rattle.sf_behaviour.proofs.replacing.ReplacingLemmas.{less-if, replaced-value}
 use Rattle.sf_behaviour.proofs.VariableLemmas.{with-register-input, start-number, start-there}
 use Rattle.sf_behaviour.proofs.KnowledgeLemmas.{fits-set, fits-less, fits-kept, operand-in, source-in, knowledge-less, set-knowledge}
 

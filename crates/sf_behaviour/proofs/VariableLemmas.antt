@@ -2,7 +2,7 @@
 use Rattle.sf_behaviour.proofs.Common.{same_from_bits_below, ◌≡◌, ℕ, zero, suc, ◌<◌, List, length, length-set, replicate, Option, Some, None, refl, sym, ap, ◌∙◌, inl, inr, arith, slice_set, cases_lt, get_or-set_same, get_or-set_other, same_Some, State, start, IsRegister, register_number, next_with, slice_index_or, get_or_past, registers_of, ◌+◌, ◌-◌, ◌*◌, ◌/◌, ◌%◌, ◌≤◌, ◌==◌, ◌^◌, Bool, true, false, [], ◌∷◌, ap₂, subst, map, slice_index, if◌then◌else◌, bit_at, pow-suc, cases_eq, eq-eqb, ne_eqb, bit_at-lt, bit_at_cat_low, Input, Tree, Leaf, Fork, Bits, IsOrderedFrom, tree_at, input_by, register_by, with_register, IsTruthOf, range_with_len, get_or-map-range_with_len, IsOrderedTree, input_first, input_number, register_first, register_bit, length-map, agree_below_at, eqb-true, same_number_lists, length-range_with_len, IsInput, places_of_words, words_in_order, input_bits}
 use Rattle.sf_behaviour.specs.InputBits.{number_by}
 use Rattle.sf_behaviour.proofs.BitLemmas.{bit-if, if-small, literal-truth}
-use Rattle.sf_behaviour.proofs.WordLemmas.{top-bit}
+use Rattle.sf_behaviour.proofs.words.WordLemmas.{top-bit}
 
 module _ {B : Type 0} where
   -- what stands in a list stands within it

@@ -17,7 +17,7 @@ use Rattle.std.proofs.lemmas.Map.Keys.{IsDistinct-from_sorted}
 use Rattle.std.proofs.lemmas.Map.Made.{lookup-map_values}
 use Rattle.std.proofs.lemmas.Option.{slice_get-get_or}
 use Rattle.std.proofs.lemmas.List.Elements.{All-head, All-tail}
-use Rattle.sf_run.specs.FeasibleLaws.{names_exact}
+use Rattle.sf_run.specs.laws.FeasibleLaws.{names_exact}
 use Rattle.sf_piece.specs.Pieces.{PieceData}
 use Rattle.sf_book.specs.Books.{OutstandingData}
 use Rattle.sf_book.specs.Changes.{outstanding_at, with_lease, with_lease_at}

@@ -4,7 +4,7 @@ use Rattle.std.proofs.lemmas.List.Sums.{sum_by-cons, sum_by-append}
 use Rattle.std.proofs.lemmas.List.Sorted.{sum_by-IsPermutation, IsPermutation-refl, IsPermutation-sym, IsPermutation-trans, IsPermutation-cons, IsPermutation-middle}
 use Rattle.std.specs.List.Sorted.{IsPermutation}
 use Rattle.sf_piece.specs.Pieces.{is_prefix}
-use Rattle.sf_book.specs.PartitionLaws.{prefix-refl}
+use Rattle.sf_book.specs.laws.PartitionLaws.{prefix-refl}
 use Rattle.sf_book.specs.PrefixCounts.{bit}
 
 -- each element stands as often in both lists: whatever the elements weigh, both lists have the same weight

@@ -10,16 +10,16 @@ use Rattle.std.specs.Ordering.{bool_cmp}
 use Rattle.std.specs.Cmp.Lexicographic.{slice_cmp}
 use Rattle.std.specs.declared.cmp.Ordering.TheVariants.{Less}
 use Rattle.sf_run.specs.Feasible.{AreInNameOrder}
-use Rattle.sf_run.specs.FeasibleLaws.{before_one_way}
+use Rattle.sf_run.specs.laws.FeasibleLaws.{before_one_way}
 use Rattle.sf_check.specs.declared.insn.Insn.{Insn}
 use Rattle.sf_run.specs.declared.action.Answer.{Answer}
 use Rattle.sf_piece.specs.Pieces.{PieceData, StepData, Split, Settled, Empty}
 use Rattle.sf_piece.specs.Execution.{HasStep}
 use Rattle.sf_piece.specs.OneExecution.{IsExecutionOne}
 use Rattle.sf_book.specs.Books.{RegionData, OutstandingData, BookData, IsSettled}
-use Rattle.sf_book.specs.NameOrderLaws.{strictly_in_order}
-use Rattle.sf_book.specs.PartitionLaws.{some_there, sum_by-map}
-use Rattle.sf_book.specs.ExactLaws.{at_place}
+use Rattle.sf_book.specs.laws.NameOrderLaws.{strictly_in_order}
+use Rattle.sf_book.specs.laws.PartitionLaws.{some_there, sum_by-map}
+use Rattle.sf_book.specs.laws.ExactLaws.{at_place}
 use Rattle.sf_book.specs.PrefixCounts.{bit, prefix_bit}
 use Rattle.sf_book.proofs.NameLists.{HaveSameElements, weighed, permuted, weighs-none, is-name, own-name, the-name}
 use Rattle.sf_book.specs.Unfoldings.{Unfolding, Outstanding, Region, Emptied, Fork, IsFringe, IsRegionOf, HaveOneOutcome, top_of, IsPieceOf, IsUnfolding, outstanding_in, emptied_in, regions_in, forks_in}

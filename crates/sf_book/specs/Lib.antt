@@ -1,14 +1,10 @@
 pub mod Numbers
 pub mod Books
 pub mod Changes
-pub mod ChangesLaws
 pub mod OutstandingMaps
 pub mod Partition
 pub mod PrefixCounts
-pub mod PartitionLaws
-pub mod NameOrderLaws
 pub mod Exact
-pub mod ExactLaws
 pub mod Unfoldings
 pub mod PlainBooks
-pub mod PlainLaws
+pub mod laws

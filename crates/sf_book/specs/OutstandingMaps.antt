@@ -9,7 +9,7 @@ use Rattle.std.specs.BTreeMap.{is_at}
 use Rattle.std.specs.Map.{lookup, keys_of}
 use Rattle.std.specs.List.Sorted.{IsStrictlySortedBy}
 use Rattle.std.specs.Option.{option_map_or}
-use Rattle.sf_run.specs.FeasibleLaws.{names_total}
+use Rattle.sf_run.specs.laws.FeasibleLaws.{names_total}
 use Rattle.sf_piece.specs.Pieces.{PieceData}
 use Rattle.sf_book.specs.Books.{OutstandingData}
 use Rattle.sf_book.specs.Changes.{outstanding_at, with_lease_at, IsFirstFree}

@@ -115,7 +115,7 @@ impl Book {
     }
 
     /// The counts of the book.
-    #[tactic(auto, using(crate::specs::PartitionLaws::lies_in_one, crate::specs::PartitionLaws::none_begins_another))]
+    #[tactic(auto, using(crate::specs::laws::PartitionLaws::lies_in_one, crate::specs::laws::PartitionLaws::none_begins_another))]
     pub fn counts(&self) -> Counts
         ensures counts { result ≡ counts_of self.now }
         ensures lawful { IsLawfulBook self.now }

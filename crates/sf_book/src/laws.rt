@@ -13,14 +13,14 @@ ghost use Rattle.sf_book.specs.Partition.{parts_of, names_of, LiesInOne, NoneBeg
 use sf_piece::laws::execution_has_one_result;
 
 /// For the prover: each input lies in exactly one outstanding piece or settled region of a lawful book.
-#[tactic(auto, using(crate::specs::PartitionLaws::lies_in_one))]
+#[tactic(auto, using(crate::specs::laws::PartitionLaws::lies_in_one))]
 pub fn each_input_lies_in_one()
     ensures { (b : BookData) → IsLawfulBook b → (d : Input) → IsInput d
         → LiesInOne (parts_of b) d }
 {}
 
 /// For the prover: in a lawful book no name is the beginning of another one.
-#[tactic(auto, using(crate::specs::PartitionLaws::none_begins_another))]
+#[tactic(auto, using(crate::specs::laws::PartitionLaws::none_begins_another))]
 pub fn no_name_begins_another()
     ensures { (b : BookData) → IsLawfulBook b → NoneBeginsAnother (names_of b) }
 {}

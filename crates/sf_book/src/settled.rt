@@ -124,7 +124,7 @@ impl Settled {
     }
 
     /// The counts of the book when it was closed.
-    #[tactic(auto, using(crate::specs::PartitionLaws::lies_in_one, crate::specs::PartitionLaws::none_begins_another))]
+    #[tactic(auto, using(crate::specs::laws::PartitionLaws::lies_in_one, crate::specs::laws::PartitionLaws::none_begins_another))]
     pub fn counts(&self) -> Counts
         ensures counts { result ≡ counts_of self.now }
         ensures lawful { IsSettled self.now }

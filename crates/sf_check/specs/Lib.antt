@@ -7,6 +7,4 @@ pub mod Refusals
 pub mod Masks
 pub mod Stacks
 pub mod Numbers
-pub mod ContainsLaws
-pub mod ProgramLaws
-pub mod PathLengthLaws
+pub mod laws

@@ -1,2 +1,1 @@
 pub mod CommandLineLemmas
-pub mod TerminalLemmas

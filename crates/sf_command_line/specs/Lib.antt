@@ -1,6 +1,4 @@
 pub mod CommandLine
-pub mod CommandLineLaws
-pub mod SubcommandLaws
 pub mod Options
-pub mod OptionsLaws
 pub mod Terminal
+pub mod laws

@@ -11,7 +11,7 @@ use Rattle.sf_book.specs.Books.{OutstandingData, BookData, IsLawfulBook, IsOutst
 use Rattle.sf_book.specs.Changes.{outstanding_at, with_lease_at, with_lease, without, CommitsAs, Leases, MayCommit, Refuses}
 use Rattle.sf_book.specs.declared.fault.Fault.{Fault}
 use Rattle.sf_book.specs.declared.fault.Fault.TheVariants.{Foreign, Stale, Spent, Memory}
-use Rattle.sf_book.specs.ChangesLaws.{all_at, leased_at}
+use Rattle.sf_book.specs.laws.ChangesLaws.{all_at, leased_at}
 use Rattle.sf_book.specs.declared.book.Lease.{Lease}
 use Rattle.sf_crew.specs.Explorations.{IsExhausted, IsFree, MayWork, TakesTurn}
 

@@ -11,14 +11,14 @@ pub use Rattle.std.proofs.lemmas.Result.{err_from_is_err_and}
 pub use Rattle.std.specs.Prelude.{All, if◌then◌else◌, ◌||◌}
 pub use Rattle.sf_diagram.specs.Choices.{chosen_of}
 pub use Rattle.sf_diagram.specs.Index.{IsInBuckets, bucket_of, nodes_of}
-pub use Rattle.sf_diagram.specs.KeepLaws.{keeps_more}
+pub use Rattle.sf_diagram.specs.laws.KeepLaws.{keeps_more}
 pub use Rattle.sf_diagram.specs.LeastInputs.{IsLeastNonzero}
 pub use Rattle.sf_diagram.specs.Nodes.{IsStore, OperandsBelow, stored_node, tree_of, trees_after, trees_of}
 pub use Rattle.sf_diagram.specs.Operations.{merged_of}
 pub use Rattle.sf_diagram.specs.Remembered.{IsRemembered, IsSound}
 pub use Rattle.sf_diagram.specs.Stores.{AreCanonical, HasNoRoom, IsLawfulStore, IsSpentFor, KeepsTrees, Stands, StoreData, tree_at}
 pub use Rattle.sf_diagram.specs.Tasks.{AreBelow, AreDivided, AreFrom, IsParted, top_variable, wanted, weight}
-pub use Rattle.sf_diagram.specs.TreeLaws.{value_from}
+pub use Rattle.sf_diagram.specs.laws.TreeLaws.{value_from}
 pub use Rattle.sf_diagram.specs.Trees.{Bits, Fork, HasValues, IsJoined, IsOrderedFrom, IsOrderedTree, IsReducedTree, Leaf, Tree, bits_with, value}
 pub use Rattle.sf_diagram.specs.declared.index.Interned.{Interned}
 pub use Rattle.sf_diagram.specs.declared.index.Node.{Node}

@@ -10,5 +10,4 @@ pub mod LeastInputs
 pub mod Index
 pub mod Remembered
 pub mod Numbers
-pub mod KeepLaws
-pub mod TreeLaws
+pub mod laws

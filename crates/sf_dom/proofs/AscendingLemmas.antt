@@ -14,7 +14,7 @@ use Rattle.std.specs.Ordering.{nat_cmp}
 use Rattle.std.specs.Prelude.{Contains, slice_index, MatchOption, Result, Ok, Err, IfOk, bit_or}
 use Rattle.std.specs.Result.{result_ok}
 use Rattle.sf_dom.specs.Ascending.{AreAscending, set_of}
-use Rattle.sf_dom.specs.FactsLaws.{none-has}
+use Rattle.sf_dom.specs.laws.FactsLaws.{none-has}
 use Rattle.sf_dom.specs.Known.{Has}
 
 -- a number that isn't at the place where it would stand is nowhere in the list

@@ -5,14 +5,14 @@ use Rattle.std.proofs.lemmas.List.{get_or-set_same, get_or-set_other, length-set
 use Rattle.std.specs.Prelude.{slice_index, Some, None}
 use Rattle.sf_insn.specs.declared.input.Input.{Input}
 use Rattle.sf_sym.specs.Pool.{IsCondBelow, node_at, value_of}
-use Rattle.sf_sym.specs.ValueLaws.{passes-met, value-constant}
+use Rattle.sf_sym.specs.laws.ValueLaws.{passes-met, value-constant}
 use Rattle.sf_sym.specs.declared.pool.Cond.{Cond}
 use Rattle.sf_sym.specs.declared.pool.Node.{Node}
 use Rattle.sf_sym.specs.declared.pool.Node.TheVariants.{Const, Word, Bin, Neg}
 use Rattle.sf_dom.specs.declared.known.Known.{Known}
 use Rattle.sf_dom.specs.Known.{Has, Admits, IsNarrower, IsDecided, known_of}
 use Rattle.sf_dom.specs.Facts.{known_at, excluded_of, FactsView, AgreesWith, Agrees, Covers, KeepsInputs, KeepsOnly, NoInput, HasIn, ConfinesWord, IsPlainCondition, IsWordOrConst, DecidesTest}
-use Rattle.sf_dom.specs.FactsLaws.{narrower-admits, some-such, value-word, decided-admits, closed-consistent, constant-known}
+use Rattle.sf_dom.specs.laws.FactsLaws.{narrower-admits, some-such, value-word, decided-admits, closed-consistent, constant-known}
 use Rattle.sf_dom.specs.Learning.{assumed_of, with_pair, AreExcludedBy, ConditionGives, LearnsBy, CantLearn, MoreGives, TakesInBy, CantTakeInBy}
 use Rattle.sf_dom.specs.Propagation.{IsNarrowed, TestGives, Meets, Learns}
 use Rattle.sf_dom.specs.Rules.{met}

@@ -7,7 +7,7 @@ use Rattle.std.proofs.lemmas.Nat.{shr_split, shr-shr, and_le_l, or_disjoint, or_
 use Rattle.std.proofs.lemmas.Nat.Bits.{bit_at_and, bit_at_or, bit_at_xor, bit_at-lt, same_from_bits, bit_at_above, bit_at_cat_low, bit_at_cat_high, bit_at-zero, bit_at_mask_below, bit_at_ones_above}
 use Rattle.std.proofs.Math.Nat.{div-eq_of_lt, div-mul-le_self}
 use Rattle.sf_dom.specs.Known.{HasBits, AreBitsOf}
-use Rattle.sf_dom.specs.FactsLaws.{bit_at-complement}
+use Rattle.sf_dom.specs.laws.FactsLaws.{bit_at-complement}
 
 -- one bit of each transfer function, by the numbers 0 and 1
 and_zero : (a b za zb : ℕ) → za + a ≤ 1 → zb + b ≤ 1 → max za zb + min a b ≤ 1

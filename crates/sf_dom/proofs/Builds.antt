@@ -9,7 +9,7 @@ use Rattle.sf_sym.specs.Pool.{IsPool, IsCondBelow}
 use Rattle.sf_sym.specs.declared.pool.Cond.{Cond}
 use Rattle.sf_sym.specs.declared.pool.Node.{Node}
 use Rattle.sf_dom.specs.Facts.{FactsView, Covers, Agrees, IsPlainCondition}
-use Rattle.sf_dom.specs.FactsLaws.{some-input}
+use Rattle.sf_dom.specs.laws.FactsLaws.{some-input}
 use Rattle.sf_dom.specs.Learning.{StartsBy, LearnsBy, CantLearn, LearnAll, AreBuiltBy, CantBeBuilt}
 use Rattle.sf_dom.specs.Propagation.{Meets, AllMet, AreFactsOf}
 use Rattle.sf_dom.proofs.Assumed.{learns-rest, learns-keeps, learns-only, cant-learn}

@@ -11,7 +11,7 @@ use Rattle.sf_dom.specs.declared.known.Known.{Known}
 use Rattle.sf_dom.specs.Known.{Has, HasBits, IsNarrower, known_of}
 use Rattle.sf_dom.specs.Reduction.{AreApart, IsLeadingMask}
 use Rattle.sf_dom.specs.Rules.{IsClosed, IsClosedWord, HasNone}
-use Rattle.sf_dom.specs.FactsLaws.{bit_at-complement}
+use Rattle.sf_dom.specs.laws.FactsLaws.{bit_at-complement}
 use Rattle.sf_dom.proofs.Reductions.{AreApart-and}
 use Rattle.sf_dom.proofs.Bits.{div_mono, bits-le, join-bits, ones-le, zeros-le}
 

@@ -8,7 +8,7 @@ use Rattle.sf_insn.specs.declared.ops.BinOp.{BinOp}
 use Rattle.sf_insn.specs.declared.ops.BinOp.TheVariants.{Add, Sub, Mul, Div, Or, And, Lsh, Rsh, Xor}
 use Rattle.sf_sym.specs.Pool.{IsPool, OperandsBelow, node_at, node_value, values_of, value_of, constant_number}
 use Rattle.sf_sym.specs.Operands.{IsSwappable, one_constant, constant_operand_of}
-use Rattle.sf_sym.specs.ValueLaws.{value-node, value-constant, constant_number-is}
+use Rattle.sf_sym.specs.laws.ValueLaws.{value-node, value-constant, constant_number-is}
 use Rattle.sf_sym.specs.declared.pool.Node.{Node}
 use Rattle.sf_sym.specs.declared.pool.Node.TheVariants.{Const, Word, Bin, Neg}
 use Rattle.sf_dom.proofs.Passes.{operands-below}

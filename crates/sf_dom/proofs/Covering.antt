@@ -17,8 +17,8 @@ use Rattle.sf_dom.specs.GoingBack.{GoingBackGives}
 use Rattle.sf_dom.specs.SoundRules.{KeepsDecided, AreDecidedOperands}
 use Rattle.sf_dom.proofs.BackLaws.{back-still}
 use Rattle.sf_dom.proofs.Bits.{bits-le}
-use Rattle.sf_dom.specs.FactsLaws.{closed-consistent}
-use Rattle.sf_dom.proofs.ForwardLemmas.{or-forced, and-forced, xor-forced}
+use Rattle.sf_dom.specs.laws.FactsLaws.{closed-consistent}
+use Rattle.sf_dom.proofs.forward.ForwardLemmas.{or-forced, and-forced, xor-forced}
 use Rattle.sf_dom.proofs.Passes.{operands-below, one-number}
 use Rattle.sf_dom.proofs.RuleLemmas.{add-sure, sub-sure, negate-some, negate-zero}
 

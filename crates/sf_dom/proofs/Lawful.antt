@@ -15,7 +15,7 @@ use Rattle.sf_dom.specs.Rules.{met, IsClosed, IsClosedAt, IsReduction, Reduction
 use Rattle.sf_dom.specs.Passes.{AreClosed}
 use Rattle.sf_dom.specs.GoingBack.{WritingGives}
 use Rattle.sf_dom.proofs.Bits.{join-bits}
-use Rattle.sf_dom.proofs.Propagations.{closed-set}
+use Rattle.sf_dom.proofs.propagation.Propagations.{closed-set}
 use Rattle.sf_dom.proofs.Reductions.{IsNarrower-trans, IsNarrower-refl}
 use Rattle.sf_dom.proofs.RuleLaws.{number-narrows, narrows-number, number-closed}
 use Rattle.sf_dom.proofs.Then.{then-some, then-if}

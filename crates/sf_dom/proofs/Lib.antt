@@ -1,14 +1,9 @@
 pub mod Bits
 pub mod Reductions
-pub mod ForwardLemmas
-pub mod KeptNodes
 pub mod Steps
-pub mod Propagations
-pub mod NextFitting
 pub mod CommonBits
 pub mod Sampled
 pub mod Assumed
-pub mod Confined
 pub mod AscendingLemmas
 pub mod RuleLemmas
 pub mod ClosedLemmas
@@ -25,9 +20,3 @@ pub mod ConditionSteps
 pub mod Excluding
 pub mod Covering
 pub mod NewNodes
-pub mod OneResult
-pub mod Monotone
-pub mod Forcing
-pub mod Carried
-pub mod Forced
-pub mod ForcedTests

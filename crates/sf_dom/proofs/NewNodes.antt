@@ -11,19 +11,19 @@ use Rattle.sf_insn.specs.declared.ops.BinOp.TheVariants.{Add, Sub, Mul, Div, Or,
 use Rattle.sf_insn.specs.Inputs.{IsInput}
 use Rattle.sf_insn.specs.declared.input.Input.{Input}
 use Rattle.sf_sym.specs.Pool.{IsPool, OperandsBelow, node_at, node_value, values_of, value_of}
-use Rattle.sf_sym.specs.ValueLaws.{value-node}
+use Rattle.sf_sym.specs.laws.ValueLaws.{value-node}
 use Rattle.sf_sym.specs.declared.pool.Node.{Node}
 use Rattle.sf_sym.specs.declared.pool.Node.TheVariants.{Const, Word, Bin, Neg}
 use Rattle.sf_dom.specs.declared.known.Known.{Known}
 use Rattle.sf_dom.specs.Known.{Has, Admits}
 use Rattle.sf_dom.specs.Facts.{known_at, numbers_at, excluded_of, AgreesWith}
-use Rattle.sf_dom.specs.FactsLaws.{none-has}
+use Rattle.sf_dom.specs.laws.FactsLaws.{none-has}
 use Rattle.sf_dom.specs.Passes.{IsAtRest, AreTakenIn, TakingInGives}
 use Rattle.sf_dom.specs.Rules.{forward_node, IsClosed, IsReduction, ReductionGives}
 use Rattle.sf_dom.proofs.Lawful.{reduction-holds}
 use Rattle.sf_dom.proofs.PassLaws.{follows}
 use Rattle.sf_dom.proofs.Passes.{operands-below}
-use Rattle.sf_dom.proofs.Propagations.{word-below, taken-older}
+use Rattle.sf_dom.proofs.propagation.Propagations.{word-below, taken-older}
 
 -- no number is excluded, or all words are known already
 abbrev pub AreWordsKnown : List Known → List ℕ → Type 0

@@ -11,7 +11,7 @@ use Rattle.sf_insn.specs.declared.input.Input.{Input}
 use Rattle.sf_insn.specs.declared.ops.BinOp.{BinOp}
 use Rattle.sf_insn.specs.declared.ops.BinOp.TheVariants.{Add, Sub, Mul, Div, Or, And, Lsh, Rsh, Xor}
 use Rattle.sf_sym.specs.Pool.{IsPool, OperandsBelow, node_at, node_value, values_of, value_of}
-use Rattle.sf_sym.specs.ValueLaws.{value-node}
+use Rattle.sf_sym.specs.laws.ValueLaws.{value-node}
 use Rattle.sf_sym.specs.declared.pool.Node.{Node}
 use Rattle.sf_sym.specs.declared.pool.Node.TheVariants.{Const, Word, Bin, Neg}
 use Rattle.sf_dom.specs.declared.known.Known.{Known}
@@ -20,7 +20,7 @@ use Rattle.sf_dom.specs.Facts.{known_at, AgreesWith}
 use Rattle.sf_dom.specs.Rules.{between, full, moved_left, moved_right, met, forward_known, forward_negated, forward_node, IsClosed}
 use Rattle.sf_dom.specs.Passes.{IsPassedAt, PassGives, IsAtRest, AreClosed}
 use Rattle.sf_dom.specs.Propagation.{IsNarrowed}
-use Rattle.sf_dom.specs.FactsLaws.{constant-admits}
+use Rattle.sf_dom.specs.laws.FactsLaws.{constant-admits}
 use Rattle.sf_dom.proofs.Lawful.{IsLawful, AnyInput, met-admits, closed-zeros, closed-ones, kept-at, reduction-holds, value-fits}
 use Rattle.sf_dom.proofs.Passes.{operands-below, met-left, met-right}
 use Rattle.sf_dom.proofs.Reductions.{IsNarrower-trans}

@@ -7,11 +7,11 @@ use Rattle.std.proofs.lemmas.Nat.Bits.{bit_at_or, bit_at-zero}
 use Rattle.sf_sym.specs.Pool.{IsPool, OperandsBelow, node_at}
 use Rattle.sf_sym.specs.declared.pool.Node.{Node}
 use Rattle.sf_sym.specs.declared.pool.Node.TheVariants.{Const, Word, Bin, Neg}
-use Rattle.sf_sym.specs.ValueLaws.{OperandsBelow-at}
+use Rattle.sf_sym.specs.laws.ValueLaws.{OperandsBelow-at}
 use Rattle.sf_dom.specs.declared.known.Known.{Known}
 use Rattle.sf_dom.specs.Known.{Has, IsNarrower, IsConsistent, IsDecided, is_decided, known_of}
 use Rattle.sf_dom.specs.Reading.{known_at, numbers_at}
-use Rattle.sf_dom.specs.FactsLaws.{closed-consistent}
+use Rattle.sf_dom.specs.laws.FactsLaws.{closed-consistent}
 use Rattle.sf_dom.specs.Rules.{met, forward_node, IsClosed, IsClosedAt, IsReduction, HasNoReduction, IsWidest, HasNone}
 use Rattle.sf_dom.specs.Passes.{IsPassedAt, IsPass, IsAtRest, are_all_decided, IsFixedAt, AreFixed}
 use Rattle.sf_dom.proofs.Reductions.{IsNarrower-trans, IsNarrower-refl}

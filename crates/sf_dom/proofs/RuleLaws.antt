@@ -13,10 +13,10 @@ use Rattle.sf_insn.specs.Words.{apply, negation_of}
 use Rattle.sf_dom.specs.declared.known.Known.{Known}
 use Rattle.sf_dom.specs.Known.{Has, Admits, Leaves, IsNarrower, known_of}
 use Rattle.sf_dom.specs.Reading.{numbers_at}
-use Rattle.sf_dom.specs.FactsLaws.{bit_at-complement, constant-admits}
+use Rattle.sf_dom.specs.laws.FactsLaws.{bit_at-complement, constant-admits}
 use Rattle.sf_dom.specs.Rules.{between, full, forward_known, forward_negated, moved_left, IsClosed, IsClosedAt, IsClosedWord, IsWidest, HasNone}
 use Rattle.sf_dom.proofs.Bits.{bits-le}
-use Rattle.sf_dom.proofs.ForwardLemmas.{mul_mono, div_between, quotient, or-admits, and-admits, xor-admits, shl-fits as shl-fits-admits, shl-top, shr-admits}
+use Rattle.sf_dom.proofs.forward.ForwardLemmas.{mul_mono, div_between, quotient, or-admits, and-admits, xor-admits, shl-fits as shl-fits-admits, shl-top, shr-admits}
 use Rattle.sf_dom.proofs.RuleLemmas.{add-sure, add-full, sub-sure, sub-full, mul-fits, mul-full, div-some, div-none, negate-some, negate-zero, negate-full, shl-fits, shl-full, shr-all, left-decided, left-full, right-decided, right-full}
 use Rattle.sf_dom.proofs.ClosedLemmas.{closed-number}
 use Rattle.sf_dom.proofs.Reductions.{IsNarrower-refl}

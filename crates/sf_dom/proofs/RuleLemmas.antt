@@ -9,7 +9,7 @@ use Rattle.sf_insn.specs.declared.ops.BinOp.TheVariants.{Add, Sub, Mul, Div, Lsh
 use Rattle.sf_dom.specs.declared.known.Known.{Known}
 use Rattle.sf_dom.specs.Known.{known_of}
 use Rattle.sf_dom.specs.Rules.{between, full, forward_known, forward_negated, moved_left, moved_right}
-use Rattle.sf_dom.proofs.ForwardLemmas.{mul_mono, low_mask, high_mask}
+use Rattle.sf_dom.proofs.forward.ForwardLemmas.{mul_mono, low_mask, high_mask}
 
 -- a sum that never wraps, or always does
 pub add-sure : (a b : Known) → a.low ≤ a.high → b.low ≤ b.high → a.high < 2 ^ 32 → b.high < 2 ^ 32

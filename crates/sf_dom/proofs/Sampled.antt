@@ -6,19 +6,19 @@ use Rattle.std.specs.Prelude.{slice_index, Option, Some, None, MatchOption, repl
 use Rattle.sf_insn.specs.Inputs.{IsInput}
 use Rattle.sf_insn.specs.declared.input.Input.{Input}
 use Rattle.sf_sym.specs.Pool.{IsPool, node_at, value_of, ArePlainNodes, Extends}
-use Rattle.sf_sym.specs.ValueLaws.{value-older}
+use Rattle.sf_sym.specs.laws.ValueLaws.{value-older}
 use Rattle.sf_sym.specs.declared.pool.Node.{Node}
 use Rattle.sf_sym.specs.declared.pool.Node.TheVariants.{Const, Word, Bin, Neg}
 use Rattle.sf_dom.specs.declared.known.Known.{Known}
 use Rattle.sf_dom.specs.Known.{Has, Admits, IsDecided, IsNarrower}
 use Rattle.sf_dom.specs.Facts.{FactsView, known_at, numbers_at, excluded_of, AgreesWith, AreFacts, Agrees, Covers, TakesIn, NoneAgrees}
-use Rattle.sf_dom.specs.FactsLaws.{narrower-admits, sampled, words-agree, value-word, closed-consistent, constant-known, covers-facts}
+use Rattle.sf_dom.specs.laws.FactsLaws.{narrower-admits, sampled, words-agree, value-word, closed-consistent, constant-known, covers-facts}
 use Rattle.sf_dom.specs.Learning.{GrowsBy, CantGrow}
 use Rattle.sf_dom.specs.Passes.{IsAtRest, AreTakenIn, TakingInGives}
 use Rattle.sf_dom.specs.Propagation.{AllNarrower, KeepsFixed}
 use Rattle.sf_dom.proofs.NewNodes.{taking-sound, taken-rest}
 use Rattle.sf_dom.proofs.Passes.{operands-below, forward-same}
-use Rattle.sf_dom.proofs.Propagations.{taken-older, taken-consistent}
+use Rattle.sf_dom.proofs.propagation.Propagations.{taken-older, taken-consistent}
 
 -- The number of a node where only one is left: where there is one, where there is none, and how the ends say which.
 pub decided-some : (o : Option ℕ) (k : Known) (n : ℕ) → MatchOption o (¬ IsDecided k) (λ m. IsDecided k × (m ≡ k.low))

@@ -12,10 +12,10 @@ use Rattle.sf_dom.specs.Rules.{met, forward_node, IsReduction}
 use Rattle.sf_dom.specs.Passes.{IsPassedAt, AreClosed, AreFixed}
 use Rattle.sf_dom.specs.Nodes.{NodesView, IsLaidOut}
 use Rattle.sf_dom.specs.Propagation.{AreClosedWords, IsNarrowed, AreConsistentOperands}
-use Rattle.sf_dom.specs.FactsLaws.{closed-consistent}
+use Rattle.sf_dom.specs.laws.FactsLaws.{closed-consistent}
 use Rattle.sf_dom.proofs.Lawful.{narrowed-refl, narrowed-trans, narrowed-set}
 use Rattle.sf_dom.proofs.Passes.{operands-below, met-left, forward-same, fixed-narrower, passed-same, rest-passed}
-use Rattle.sf_dom.proofs.Propagations.{unlisted-rest, words-rest, variable-before, consistent-operands}
+use Rattle.sf_dom.proofs.propagation.Propagations.{unlisted-rest, words-rest, variable-before, consistent-operands}
 use Rattle.sf_dom.proofs.Reductions.{IsNarrower-trans}
 
 -- a forward pass has gone through the variables before a rank

@@ -17,7 +17,7 @@ use Rattle.sf_dom.specs.Known.{Admits, IsDecided}
 use Rattle.sf_dom.specs.Facts.{IsPlainTest}
 use Rattle.sf_dom.specs.Propagation.{TestGives}
 use Rattle.sf_dom.specs.Rules.{assumed, past, past_low, more_than, less_than, at_least, at_most, nothing, some_of, none_of, where_decided, IsClosed}
-use Rattle.sf_dom.specs.FactsLaws.{closed-consistent}
+use Rattle.sf_dom.specs.laws.FactsLaws.{closed-consistent}
 use Rattle.sf_dom.proofs.CommonBits.{no-common, common-open, and-zero, common-bits, common-none, common-some, common-decided, open-one, lowest-place}
 use Rattle.sf_dom.proofs.Lawful.{met-admits, closed-zeros}
 

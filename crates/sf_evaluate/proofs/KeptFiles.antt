@@ -5,10 +5,10 @@ use Rattle.sf_check.specs.declared.insn.Insn.{Insn}
 use Rattle.sf_stack.specs.declared.fault.Fault.{Fault}
 use Rattle.sf_stack.specs.declared.fault.Fault.TheVariants as faults
 use Rattle.sf_stack.specs.Filters.{SpellStack, IsFirstRefusal}
-use Rattle.sf_stack.specs.FiltersLaws.{as_many}
+use Rattle.sf_stack.specs.laws.FiltersLaws.{as_many}
 use Rattle.sf_stack.specs.TwoStacks.{IsRefusalOfBoth}
 use Rattle.sf_evaluate.specs.Files.{AreKeptFiles, HasUnknown, HoldStack, RefusesBoth, RefusesFiles}
-use Rattle.sf_evaluate.specs.FilesLaws.{still_unknown}
+use Rattle.sf_evaluate.specs.laws.FilesLaws.{still_unknown}
 
 -- files that spell a lawful stack are at most 64
 pub stack_is_few : (files : List (List ℕ)) (programs : List (List Insn)) → SpellStack files programs

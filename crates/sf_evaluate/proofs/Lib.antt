@@ -1,16 +1,4 @@
 pub mod Pairing
-pub mod PolicyLemmas
 pub mod KeptFiles
 pub mod KeptLemmas
 pub mod TraceLemmas
-pub mod ListingLemmas
-pub mod OneText
-pub mod NamingLemmas
-pub mod SetLemmas
-pub mod WordLemmas
-pub mod ProfilingLemmas
-pub mod AskingLemmas
-pub mod WantedLemmas
-pub mod DocumentLemmas
-pub mod AskedLemmas
-pub mod OriginLemmas

@@ -1,6 +1,5 @@
 pub mod Pairs
 pub mod Files
-pub mod FilesLaws
 pub mod Names
 pub mod Policies
 pub mod Expecting
@@ -16,3 +15,4 @@ pub mod Wanted
 pub mod CheckDocuments
 pub mod TraceDocuments
 pub mod Origins
+pub mod laws

@@ -118,7 +118,7 @@ impl Document {
 }
 
 /// The values of documents. For the prover: none of them has a float.
-#[tactic(auto, using(crate::proofs::DocumentLemmas::no_float_behind))]
+#[tactic(auto, using(crate::proofs::document::DocumentLemmas::no_float_behind))]
 fn values_of(alloc: Global, documents: Vec<Document>) -> Result<Vec<Value>, AllocError>
     ensures same { IfOk result (λ vs. vs.items ≡ documents.items) }
     ensures no_float { IfOk result (λ vs. items_have_float (items_view vs.items) ≡ false) }
@@ -167,7 +167,7 @@ impl Fields {
     }
 
     /// These fields and one more, which replaces a field that has the same key already.
-    #[tactic(auto, using(crate::proofs::DocumentLemmas::no_float_among))]
+    #[tactic(auto, using(crate::proofs::document::DocumentLemmas::no_float_among))]
     pub fn with(self, key: &str, document: Document) -> Result<Fields, AllocError>
         ensures { IfOk result (λ f. view f ≡ with_field key.now (view document) (view self)) }
     {

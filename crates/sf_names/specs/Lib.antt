@@ -1,4 +1,3 @@
 pub mod Names
-pub mod NamesLaws
 pub mod Joined
-pub mod JoinedLaws
+pub mod laws

@@ -1,6 +1,1 @@
-pub mod WordLemmas
-pub mod RunLemmas
-pub mod PartLemmas
 pub mod WayLemmas
-pub mod RowLemmas
-pub mod StoredLemmas

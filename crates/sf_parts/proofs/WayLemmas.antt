@@ -11,8 +11,8 @@ use Rattle.sf_diagram.specs.Trees.{Tree, Leaf, Fork, IsOrderedFrom}
 use Rattle.sf_parts.specs.Words.{behind, test_count}
 use Rattle.sf_parts.specs.Runs.{mask_in, runs_in}
 use Rattle.sf_parts.specs.Parts.{PartData, form_has, span_part, joined_parts, with_bit, ways_from, parts_in}
-use Rattle.sf_parts.proofs.WordLemmas.{behind-outside}
-use Rattle.sf_parts.proofs.PartLemmas.{LeadsTo, HasNumber, holders, AreParts, in-span, runs-listed-right}
+use Rattle.sf_parts.proofs.word.WordLemmas.{behind-outside}
+use Rattle.sf_parts.proofs.parts.PartLemmas.{LeadsTo, HasNumber, holders, AreParts, in-span, runs-listed-right}
 
 -- ---- one bit more
 

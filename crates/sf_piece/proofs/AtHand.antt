@@ -13,10 +13,10 @@ use Rattle.sf_check.specs.Programs.{IsAt}
 use Rattle.sf_check.specs.Stacks.{IsLawfulStack}
 use Rattle.sf_run.specs.Machine.{start}
 use Rattle.sf_run.specs.Answers.{IsAnswer}
-use Rattle.sf_run.specs.AnswerLaws.{answer_none}
+use Rattle.sf_run.specs.laws.AnswerLaws.{answer_none}
 use Rattle.sf_run.specs.Routes.{IsWholeRoute}
-use Rattle.sf_run.specs.RunLaws.{load_is_set}
-use Rattle.sf_run.specs.TraceLaws.{newest_first}
+use Rattle.sf_run.specs.laws.RunLaws.{load_is_set}
+use Rattle.sf_run.specs.laws.TraceLaws.{newest_first}
 use Rattle.sf_sym.specs.declared.pool.Node.{Node}
 use Rattle.sf_sym.specs.declared.pool.NodeId.{NodeId}
 use Rattle.sf_sym.specs.Pool.{IsPool, value_of}

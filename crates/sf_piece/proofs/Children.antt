@@ -14,10 +14,10 @@ use Rattle.sf_check.specs.declared.insn.Insn.TheVariants.{Alu, Branch, ReturnA}
 use Rattle.sf_check.specs.declared.insn.Operand.{Operand}
 use Rattle.sf_check.specs.declared.insn.Operand.TheVariants.{Constant, X}
 use Rattle.sf_check.specs.Programs.{IsLawfulProgram}
-use Rattle.sf_check.specs.ProgramLaws.{successors_inside}
+use Rattle.sf_check.specs.laws.ProgramLaws.{successors_inside}
 use Rattle.sf_run.specs.Machine.{bits, trace_of, insn_progress}
 use Rattle.sf_run.specs.Routes.{IsWay, returns_at, goes_on, AreWays, IsWholeRoute, IsRoute}
-use Rattle.sf_run.specs.CompletionLaws.{some_way}
+use Rattle.sf_run.specs.laws.CompletionLaws.{some_way}
 use Rattle.sf_sym.specs.declared.pool.Node.{Node}
 use Rattle.sf_sym.specs.declared.pool.Cond.{Cond}
 use Rattle.sf_sym.specs.Pool.{is_met, same, IsCondBelow}

@@ -10,7 +10,7 @@ use Rattle.sf_sym.specs.declared.pool.Node.{Node}
 use Rattle.sf_sym.specs.declared.pool.NodeId.{NodeId}
 use Rattle.sf_sym.specs.declared.pool.Cond.{Cond}
 use Rattle.sf_sym.specs.Pool.{value_of, is_met, IsCondBelow}
-use Rattle.sf_sym.specs.ValueLaws.{value-older}
+use Rattle.sf_sym.specs.laws.ValueLaws.{value-older}
 use Rattle.sf_piece.specs.declared.machine.SymbolicMachine.{SymbolicMachine}
 use Rattle.sf_piece.specs.SymbolicRun.{concrete_state, AreNodesBelow}
 

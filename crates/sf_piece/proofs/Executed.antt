@@ -14,7 +14,7 @@ use Rattle.sf_sym.specs.declared.pool.NodeId.{NodeId}
 use Rattle.sf_sym.specs.Pool.{node_at}
 use Rattle.sf_dom.specs.Backward.{IsPropagatedBack}
 use Rattle.sf_dom.specs.Facts.{known_at}
-use Rattle.sf_dom.specs.FactsLaws.{closed-consistent, constant-known}
+use Rattle.sf_dom.specs.laws.FactsLaws.{closed-consistent, constant-known}
 use Rattle.sf_dom.specs.Rules.{IsClosedAt, number_known}
 use Rattle.sf_dom.specs.SoundRules.{ForcedIsLearnt}
 use Rattle.sf_dom.specs.Telling.{IsForcedBy}

@@ -11,7 +11,7 @@ use Rattle.sf_sym.specs.declared.pool.NodeId.{NodeId}
 use Rattle.sf_sym.specs.declared.pool.Cond.{Cond}
 use Rattle.sf_sym.specs.declared.pool.Node.TheVariants.{Const}
 use Rattle.sf_sym.specs.Pool.{node_at, IsPool, value_of, values_of, node_value, IsCondBelow}
-use Rattle.sf_sym.specs.ValueLaws.{value-older}
+use Rattle.sf_sym.specs.laws.ValueLaws.{value-older}
 use Rattle.sf_dom.specs.Facts.{FactsView, TakesIn, NoneAgrees}
 use Rattle.sf_piece.specs.declared.machine.SymbolicMachine.{SymbolicMachine}
 use Rattle.sf_piece.specs.Pieces.{PieceData, is_member, HasNoMember}

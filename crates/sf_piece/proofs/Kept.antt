@@ -14,16 +14,16 @@ use Rattle.sf_check.specs.declared.insn.Insn.TheVariants.{Alu, ReturnConstant, R
 use Rattle.sf_check.specs.declared.insn.Operand.TheVariants.{X}
 use Rattle.sf_check.specs.Insns.{successors, stored_by}
 use Rattle.sf_check.specs.Programs.{IsAt, IsLawfulProgram, Stores}
-use Rattle.sf_check.specs.ContainsLaws.{contains_here, any_cons}
-use Rattle.sf_check.specs.ProgramLaws.{successors_inside, below_in}
+use Rattle.sf_check.specs.laws.ContainsLaws.{contains_here, any_cons}
+use Rattle.sf_check.specs.laws.ProgramLaws.{successors_inside, below_in}
 use Rattle.sf_run.specs.Machine.{State, Progress, goes, returns, bits, insn_progress, step, trace_of}
-use Rattle.sf_run.specs.RunLaws.{safe_next, step_is}
+use Rattle.sf_run.specs.laws.RunLaws.{safe_next, step_is}
 use Rattle.sf_run.specs.Reachable.{IsReachable}
-use Rattle.sf_run.specs.TraceLaws.{may_go}
+use Rattle.sf_run.specs.laws.TraceLaws.{may_go}
 use Rattle.sf_sym.specs.declared.pool.Cond.{Cond}
 use Rattle.sf_sym.specs.declared.pool.NodeId.{NodeId}
 use Rattle.sf_sym.specs.Pool.{value_of, IsCondBelow}
-use Rattle.sf_sym.specs.SizeLaws.{value-small}
+use Rattle.sf_sym.specs.laws.SizeLaws.{value-small}
 use Rattle.sf_dom.specs.Facts.{FactsView, Covers, Agrees}
 use Rattle.sf_piece.specs.declared.machine.SymbolicMachine.{SymbolicMachine}
 use Rattle.sf_piece.specs.Machines.{after_return}

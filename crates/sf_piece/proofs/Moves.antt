@@ -9,9 +9,9 @@ use Rattle.sf_check.specs.Programs.{IsAt, IsLawfulProgram}
 use Rattle.sf_run.specs.declared.action.Answer.{Answer}
 use Rattle.sf_run.specs.Machine.{State, goes, returns, start, insn_progress, step, Outcome, run_for, outcome_of, met_by, return_of}
 use Rattle.sf_run.specs.Answers.{IsAnswer}
-use Rattle.sf_run.specs.AnswerLaws.{answer_more}
+use Rattle.sf_run.specs.laws.AnswerLaws.{answer_more}
 use Rattle.sf_run.specs.Routes.{MayMeet, returns_at, goes_on, AreWays, IsWholeRoute}
-use Rattle.sf_run.specs.RunLaws.{safe_start, run_more, run_ends, run_same, lawful_ends}
+use Rattle.sf_run.specs.laws.RunLaws.{safe_start, run_more, run_ends, run_same, lawful_ends}
 use Rattle.sf_run.specs.Reachable.{IsReachable}
 use Rattle.sf_sym.specs.declared.pool.Cond.{Cond}
 use Rattle.sf_sym.specs.declared.pool.Node.{Node}

@@ -16,7 +16,7 @@ use Rattle.sf_sym.specs.Pool.{IsPool}
 use Rattle.sf_dom.specs.Facts.{FactsView}
 use Rattle.sf_dom.specs.Learning.{CantLearn, GrowsBy, CantGrow}
 use Rattle.sf_dom.specs.SoundRules.{HaveOneResult}
-use Rattle.sf_dom.specs.ThenLaws.{then-one}
+use Rattle.sf_dom.specs.laws.ThenLaws.{then-one}
 use Rattle.sf_piece.specs.declared.machine.SymbolicMachine.{SymbolicMachine}
 use Rattle.sf_piece.specs.Pieces.{PieceData}
 use Rattle.sf_piece.specs.Execution.{IsPutIn, IsGiven, Gets, GetsOperand, piece_with_a, piece_with_x, LoadsA, LoadsX, Computes, query, HasQuery, with_sense, AfterTruthValue, CanLearn, LeavesOnly, IsSide, IsNamedOn}

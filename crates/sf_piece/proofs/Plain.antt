@@ -25,7 +25,7 @@ use Rattle.sf_sym.specs.declared.pool.Cond.{Cond}
 use Rattle.sf_sym.specs.Pool.{IsPool, ArePlainNodes, OperandsBelow, folded_node, node_at, IsCondBelow}
 use Rattle.sf_dom.specs.Facts.{FactsView, Agrees, KeepsOnly, TakesIn, IsWordOrConst, IsPlainTest}
 use Rattle.sf_dom.specs.Propagation.{Meets}
-use Rattle.sf_dom.specs.FactsLaws.{some-input}
+use Rattle.sf_dom.specs.laws.FactsLaws.{some-input}
 use Rattle.sf_dom.specs.Facts.{IsPlainCondition}
 use Rattle.sf_piece.specs.declared.machine.SymbolicMachine.{SymbolicMachine}
 use Rattle.sf_piece.specs.Pieces.{PieceData, is_member, HasNoMember, IsRightAnswer}

@@ -15,9 +15,9 @@ use Rattle.sf_check.specs.declared.insn.Insn.TheVariants.{Alu, Branch, ReturnA}
 use Rattle.sf_check.specs.declared.insn.Operand.{Operand}
 use Rattle.sf_check.specs.declared.insn.Operand.TheVariants.{X}
 use Rattle.sf_check.specs.Programs.{IsAt}
-use Rattle.sf_check.specs.ContainsLaws.{contains_here, contains_there}
+use Rattle.sf_check.specs.laws.ContainsLaws.{contains_here, contains_there}
 use Rattle.sf_run.specs.Machine.{State, Progress, goes, returns, stuck, insn_progress, outcome_from, run_for, operand_of, test_progress, met_by, return_of, trace_of}
-use Rattle.sf_run.specs.RunLaws.{step_is, ends_from, option_map_some}
+use Rattle.sf_run.specs.laws.RunLaws.{step_is, ends_from, option_map_some}
 use Rattle.sf_run.specs.Reachable.{put}
 use Rattle.sf_sym.specs.declared.pool.Cond.{Cond}
 use Rattle.sf_sym.specs.Pool.{value_of, is_met}

@@ -11,7 +11,7 @@ use Rattle.sf_check.specs.declared.insn.Insn.TheVariants.{LoadScratch, LoadXScra
 use Rattle.sf_check.specs.declared.insn.Operand.{Operand}
 use Rattle.sf_check.specs.declared.insn.Operand.TheVariants.{Constant, X}
 use Rattle.sf_check.specs.Stacks.{IsLawfulStack}
-use Rattle.sf_run.specs.RouteLaws.{route_is_short}
+use Rattle.sf_run.specs.laws.RouteLaws.{route_is_short}
 use Rattle.sf_sym.specs.declared.pool.Cond.{Cond}
 use Rattle.sf_piece.specs.declared.machine.SymbolicMachine.{SymbolicMachine}
 use Rattle.sf_piece.specs.Pieces.{PieceData, IsTrulyNamed}

@@ -1,5 +1,1 @@
-pub mod TreeLemmas
-pub mod ActionLemmas
-pub mod EntryLemmas
 pub mod NeverSyntax
-pub mod AcceptedLemmas

@@ -47,7 +47,7 @@ fn are_tables(items: &[Value]) -> bool
     items.iter().all(|value| value.is_table())
 }
 
-#[tactic(auto, using(crate::proofs::TreeLemmas::tables_view, crate::proofs::TreeLemmas::no_tables_view))]
+#[tactic(auto, using(crate::proofs::policy::words::TreeLemmas::tables_view, crate::proofs::policy::words::TreeLemmas::no_tables_view))]
 fn tables_in(value: &Value) -> Option<&[Value]>
     ensures { option_map (λ vs. map (λ v. table_or_empty (view v)) vs.now) result
         ≡ tables_of_value (view value.now) }

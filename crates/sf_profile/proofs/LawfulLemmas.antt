@@ -7,7 +7,7 @@ use Rattle.sf_insn.specs.Spelling.{IsInsn, AreInsns}
 use Rattle.sf_check.specs.declared.insn.Insn.{Insn}
 use Rattle.sf_check.specs.Insns.{targets, loaded_by, IsInRange, IsReturn}
 use Rattle.sf_check.specs.Programs.{IsAt, AllBelow, IsLawfulProgram}
-use Rattle.sf_run.specs.RunLaws.{option_map_some}
+use Rattle.sf_run.specs.laws.RunLaws.{option_map_some}
 use Rattle.sf_profile.specs.declared.instruction.Instruction.{Instruction}
 use Rattle.sf_profile.specs.declared.instruction.Instruction.TheVariants.{Load, Mask, Branch, Skip, Return}
 use Rattle.sf_profile.specs.Data.{PlanData}

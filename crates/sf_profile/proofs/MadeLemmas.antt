@@ -14,7 +14,7 @@ use Rattle.sf_profile.proofs.JumpLemmas.{form_leads}
 use Rattle.sf_profile.proofs.LawfulLemmas.{form_lawful}
 use Rattle.sf_profile.proofs.PlainLemmas.{form_plain}
 use Rattle.sf_profile.proofs.SpellingLemmas.{spells}
-use Rattle.sf_profile.proofs.FormLemmas.{form_answers}
+use Rattle.sf_profile.proofs.form.FormLemmas.{form_answers}
 
 pub fitting : (code : List Instruction) → fits code ≡ true → length code ≤ 4096
 fitting code h = grind (arith, nat_tests)

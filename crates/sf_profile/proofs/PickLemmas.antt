@@ -11,7 +11,7 @@ use Rattle.sf_profile.specs.declared.rules.Response.TheVariants.{KillProcess, Ki
 use Rattle.sf_profile.specs.Data.{RuleData}
 use Rattle.sf_profile.specs.Meaning.{strictness, comparing_last, order, preferred, pick}
 use Rattle.sf_profile.specs.Form.{places}
-use Rattle.sf_profile.proofs.RuleLemmas.{first_at, first_in, or_next}
+use Rattle.sf_profile.proofs.rules.RuleLemmas.{first_at, first_in, or_next}
 
 -- so many numbers, one after the other
 abbrev counted : ℕ → ℕ → List ℕ

@@ -10,7 +10,7 @@ use Rattle.sf_check.specs.declared.insn.Insn.TheVariants as insns
 use Rattle.sf_check.specs.declared.insn.Operand.TheVariants.{Constant}
 use Rattle.sf_check.specs.Programs.{IsAt, IsLawfulProgram}
 use Rattle.sf_run.specs.Machine.{State, goes, insn_progress, run_for, return_of}
-use Rattle.sf_run.specs.RunLaws.{run_more, run_ends, value_is}
+use Rattle.sf_run.specs.laws.RunLaws.{run_more, run_ends, value_is}
 use Rattle.sf_profile.specs.declared.instruction.Instruction.{Instruction}
 use Rattle.sf_profile.specs.declared.instruction.Instruction.TheVariants.{Load, Mask, Branch, Skip, Return}
 use Rattle.sf_profile.proofs.Returns.{returned}

@@ -61,7 +61,7 @@ fn push_if(numbers: &mut Vec<usize>, wanted: bool, number: usize) -> Result<(), 
     Ok(())
 }
 
-#[tactic(auto, using(crate::proofs::CautionLemmas::more_loose))]
+#[tactic(auto, using(crate::proofs::cautions::CautionLemmas::more_loose))]
 fn loose_rules(
     alloc: Global,
     settings: &Settings,

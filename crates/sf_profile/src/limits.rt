@@ -37,7 +37,7 @@ pub(crate) fn has_few_parts(left: usize, value: &Value) -> bool
 }
 
 /// How many calls are left of `most` without those of the rules.
-#[tactic(auto, using(crate::proofs::LimitLemmas::next_left))]
+#[tactic(auto, using(crate::proofs::limits::LimitLemmas::next_left))]
 pub(crate) fn calls_left(most: usize, rules: &[Rule]) -> Option<usize>
     ensures { result ≡ calls_left most rules.now }
 {

@@ -141,7 +141,7 @@ fn rules_of_each(
 }
 
 /// A rule for each of these comparisons, of the profile's rule `value`, whose names are looked up once.
-#[tactic(auto, using(crate::proofs::PlanLemmas::each_rule))]
+#[tactic(auto, using(crate::proofs::plan::PlanLemmas::each_rule))]
 fn alternatives_of(
     alloc: Global,
     settings: &Settings,
@@ -299,7 +299,7 @@ fn push_map_items(
 
 /// The sets that a profile is for, each once: the machine's own, then those at `architectures`, then those that the
 /// machine's entries of `archMap` list.
-#[tactic(auto, using(crate::proofs::PlanLemmas::fold_both))]
+#[tactic(auto, using(crate::proofs::plan::PlanLemmas::fold_both))]
 pub(crate) fn sets_of(
     alloc: Global,
     settings: &Settings,
@@ -314,7 +314,7 @@ pub(crate) fn sets_of(
     Ok(sets)
 }
 
-#[tactic(auto, using(crate::proofs::LimitLemmas::long_at))]
+#[tactic(auto, using(crate::proofs::limits::LimitLemmas::long_at))]
 fn parts_of(
     alloc: Global,
     settings: &Settings,
@@ -335,7 +335,7 @@ fn parts_of(
 
 /// The plan of a profile that isn't refused: what it says, set by set. `TooLong` as far as the number of its calls
 /// tells.
-#[tactic(auto, using(crate::proofs::LimitLemmas::plan_long))]
+#[tactic(auto, using(crate::proofs::limits::LimitLemmas::plan_long))]
 pub(crate) fn plan_of(alloc: Global, settings: &Settings, value: &Value) -> Result<Plan, Fault>
     ensures made { IfOk result (λ p. p ≡ plan_of settings.now (view value.now)) }
     ensures refused { IfErr result (λ e. (e ≡ Fault.Memory) ⊎ ((e ≡ Fault.TooLong)

@@ -86,7 +86,7 @@ fn push_one_name<'a>(names: &mut IndexSet<&'a str>, value: &'a Value) -> Result<
     }
 }
 
-#[tactic(auto, using(crate::proofs::PlanLemmas::fold_both))]
+#[tactic(auto, using(crate::proofs::plan::PlanLemmas::fold_both))]
 fn push_names_of<'a>(names: &mut IndexSet<&'a str>, value: &'a Value) -> Result<(), AllocError>
     ensures { OnOk result (map (λ n. n.now) names.new.keys
         ≡ fold with_name (map (λ n. n.now) names.old.keys) (rule_names (view value.now))) }
@@ -111,7 +111,7 @@ fn push_names_where<'a>(
 }
 
 /// The names of those rules that apply, in the order of first mention.
-#[tactic(auto, using(crate::proofs::PlanLemmas::fold_both))]
+#[tactic(auto, using(crate::proofs::plan::PlanLemmas::fold_both))]
 fn applied_set<'a>(
     alloc: Global,
     settings: &Settings,

@@ -101,7 +101,7 @@ fn suggestions(
 }
 
 /// The number of the call that these words are, if the stack answers ERRNO 0 to them.
-#[tactic(auto, using(crate::proofs::CautionLemmas::zero_found))]
+#[tactic(auto, using(crate::proofs::cautions::CautionLemmas::zero_found))]
 fn number_of_zero(stack: &Stack, words: [u32; 16]) -> Option<u32>
     ensures { IfSome result (AnswerZero stack.now) }
 {
@@ -124,7 +124,7 @@ fn push_once(numbers: &mut Vec<u32>, number: u32) -> Result<(), AllocError>
     Ok(())
 }
 
-#[tactic(auto, using(crate::proofs::CautionLemmas::one_more))]
+#[tactic(auto, using(crate::proofs::cautions::CautionLemmas::one_more))]
 fn zeros_among(alloc: Global, stack: &Stack, inputs: &[[u32; 16]]) -> Result<Vec<u32>, AllocError>
     ensures { IfOk result (λ v. All (AnswerZero stack.now) v.items) }
 {

@@ -1,3 +1,1 @@
 pub mod OrderLemmas
-pub mod FindingLemmas
-pub mod PartLemmas

@@ -8,7 +8,7 @@ use Rattle.sf_insn.specs.Inputs.{IsInput}
 use Rattle.sf_diagram.specs.Trees.{Bits}
 use Rattle.sf_diagram.specs.LeastInputs.{IsEarlierInput}
 use Rattle.sf_behaviour.specs.InputBits.{number_by, places_of_words, words_in_order, input_by, input_bits}
-use Rattle.sf_relations.specs.InputLaws.{input-word, same-input}
+use Rattle.sf_relations.specs.laws.InputLaws.{input-word, same-input}
 use Rattle.sf_relations.specs.Order.{bit_in_order, ComesBefore}
 
 -- ---- a word by its variables

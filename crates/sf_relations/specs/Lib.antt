@@ -1,10 +1,8 @@
 pub mod Relations
 pub mod Numbers
-pub mod NumberLaws
 pub mod Order
-pub mod InputLaws
 pub mod Changes
 pub mod Comparing
 pub mod Parts
 pub mod Needs
-pub mod KeepLaws
+pub mod laws

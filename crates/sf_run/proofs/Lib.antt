@@ -1,4 +1,3 @@
 pub mod MeetingLemmas
 pub mod Steps
 pub mod WalkLemmas
-pub mod WordLemmas

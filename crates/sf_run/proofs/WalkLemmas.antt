@@ -14,7 +14,7 @@ use Rattle.sf_check.specs.declared.insn.Operand.TheVariants.{Constant, X}
 use Rattle.sf_check.specs.Programs.{IsAt}
 use Rattle.sf_run.specs.Code.{met_at}
 use Rattle.sf_run.specs.Machine.{State, Outcome, Progress, goes, returns, stuck, bits, start, step, insn_progress, outcome_from, run_for, outcome_of, return_of, met_by}
-use Rattle.sf_run.specs.RunLaws.{option_map_some, step_is}
+use Rattle.sf_run.specs.laws.RunLaws.{option_map_some, step_is}
 use Rattle.sf_run.specs.Walks.{CourseData, after, course, meeting_at, meeting_in, onward, truths, walk_for, walk_of, word_after, word_behind}
 use Rattle.sf_run.specs.declared.walking.Meeting.{Meeting}
 use Rattle.sf_run.proofs.MeetingLemmas.{goes_meets, returns_meets}

@@ -3,14 +3,8 @@ pub mod Answers
 pub mod Code
 pub mod Walks
 pub mod Feasible
-pub mod InputLaws
-pub mod FeasibleLaws
 pub mod Numbers
 pub mod Reachable
-pub mod RunLaws
 pub mod Routes
-pub mod RouteLaws
-pub mod TraceLaws
-pub mod CompletionLaws
 pub mod Examples
-pub mod AnswerLaws
+pub mod laws

@@ -16,7 +16,7 @@ use Rattle.sf_stack.specs.declared.fault.Fault.{Fault}
 use Rattle.sf_stack.specs.declared.fault.Fault.TheVariants as faults
 use Rattle.sf_stack.specs.FaultPlaces.{check_fault}
 use Rattle.sf_stack.specs.Filters.{SpellPrograms, SpellStack, SpellsFault, SpellLongPath, IsRefusalOf, AreFew, IsFileRefusal, IsFirstRefusal}
-use Rattle.sf_stack.specs.FiltersLaws.{as_many}
+use Rattle.sf_stack.specs.laws.FiltersLaws.{as_many}
 
 abbrev pub OneSpelling : Type 0
 OneSpelling = (a b : List RawInsn) → AreInsns a → AreInsns b → spelling a ≡ spelling b → a ≡ b

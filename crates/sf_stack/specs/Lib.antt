@@ -1,9 +1,8 @@
 pub mod Faults
 pub mod FaultPlaces
 pub mod Filters
-pub mod FiltersLaws
 pub mod TwoStacks
 pub mod Texts
-pub mod TextLaws
 pub mod Equal
 pub mod Reaching
+pub mod laws

@@ -1,5 +1,4 @@
 pub mod Pool
 pub mod Index
-pub mod ValueLaws
-pub mod SizeLaws
 pub mod Operands
+pub mod laws

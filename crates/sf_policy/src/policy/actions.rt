@@ -55,7 +55,7 @@ fn has_text(items: &[Value], name: &str) -> bool
     items.iter().any(|value| text_of(value) == name)
 }
 
-#[tactic(auto, using(crate::proofs::ActionLemmas::are_actions_view))]
+#[tactic(auto, using(crate::proofs::policy::actions::ActionLemmas::are_actions_view))]
 fn are_actions(items: &[Value]) -> bool
     ensures { result ≡ are_actions (map (λ v. text_or_empty (view v)) items.now) }
 {
@@ -63,7 +63,7 @@ fn are_actions(items: &[Value]) -> bool
 }
 
 /// The set of the actions that texts name; empty where one of them names no action.
-#[tactic(auto, using(crate::proofs::ActionLemmas::is_named_view))]
+#[tactic(auto, using(crate::proofs::policy::actions::ActionLemmas::is_named_view))]
 fn set_from(items: &[Value]) -> ActionSet
     ensures { result ≡ encoded_set (map (λ v. text_or_empty (view v)) items.now) }
 {
@@ -83,7 +83,7 @@ fn set_from(items: &[Value]) -> ActionSet
     }
 }
 
-#[tactic(auto, using(crate::proofs::TreeLemmas::texts_view, crate::proofs::TreeLemmas::no_texts_view))]
+#[tactic(auto, using(crate::proofs::policy::words::TreeLemmas::texts_view, crate::proofs::policy::words::TreeLemmas::no_texts_view))]
 fn set_in(value: &Value) -> Option<ActionSet>
     ensures { result ≡ option_map encoded_set (texts_of_value (view value.now)) }
 {

@@ -66,14 +66,14 @@ fn has_only_keys(table: &Table, known: &[&str]) -> bool
     table.keys().all(|key| is_among(key.as_str(), known))
 }
 
-#[tactic(auto, using(crate::proofs::TreeLemmas::has_only_question_keys))]
+#[tactic(auto, using(crate::proofs::policy::words::TreeLemmas::has_only_question_keys))]
 pub(crate) fn has_question_keys(table: &Table) -> bool
     ensures { result ≡ has_only question_keys (table_view table.now) }
 {
     has_only_keys(table, QUESTION_KEYS.as_slice())
 }
 
-#[tactic(auto, using(crate::proofs::TreeLemmas::has_only_view))]
+#[tactic(auto, using(crate::proofs::policy::words::TreeLemmas::has_only_view))]
 pub(crate) fn has_top_keys(table: &Table) -> bool
     ensures { result ≡ has_only top_keys (table_view table.now) }
 {
@@ -81,7 +81,7 @@ pub(crate) fn has_top_keys(table: &Table) -> bool
 }
 
 /// Whether a table, the value of a word in a question, has only the keys `mask`, `value`, `low` and `high`.
-#[tactic(auto, using(crate::proofs::TreeLemmas::has_only_view))]
+#[tactic(auto, using(crate::proofs::policy::words::TreeLemmas::has_only_view))]
 pub(crate) fn has_mask_keys(table: &Table) -> bool
     ensures { result ≡ has_only mask_keys (table_view table.now) }
 {

@@ -61,7 +61,7 @@ fn question_of_parts(
 
 /// The question of a table, whose number, from 1, is for the fault. `Key` comes before what `question_of_parts`
 /// refuses.
-#[tactic(auto, using(crate::proofs::EntryLemmas::table_due))]
+#[tactic(auto, using(crate::proofs::policy::questions::EntryLemmas::table_due))]
 pub(super) fn question_of_table(
     alloc: Global,
     version: Version,

@@ -42,7 +42,7 @@ fn range_entry(low: i64, high: i64) -> WordEntry
     }
 }
 
-#[tactic(auto, using(crate::proofs::TreeLemmas::short_array, crate::proofs::TreeLemmas::long_array))]
+#[tactic(auto, using(crate::proofs::policy::words::TreeLemmas::short_array, crate::proofs::policy::words::TreeLemmas::long_array))]
 fn array_entry(items: &[Value]) -> Option<WordEntry>
     ensures { result ≡ entry_of_array (items_view items.now) }
 {

@@ -1,7 +1,7 @@
 use Rattle.std.proofs.Common.{◌≡◌, List, All, subst}
 use Rattle.sf_crew.specs.declared.board.Seat.{Seat}
 use Rattle.sf_crew.specs.Boards.{IsNewSeat}
-use Rattle.crew_tests.proofs.Ends.{last_of, others_of}
+use Rattle.crew_tests.proofs.board.Ends.{last_of, others_of}
 use Rattle.crew_tests.proofs.board.two_of.Goals as goal
 
 pub returns : goal.returns

@@ -1,5 +1,5 @@
 use Rattle.sf_crew.specs.Benches.{owner_view, thief_view}
-use Rattle.crew_tests.proofs.Twos.{whole_of_two, two_kept}
+use Rattle.crew_tests.proofs.stealing.Twos.{whole_of_two, two_kept}
 use Rattle.crew_tests.proofs.stealing.get_and_join.Goals as goal
 
 pub returns : goal.returns

@@ -1,4 +1,4 @@
-use Rattle.sf_ask.proofs.BitLemmas.{bits-more}
+use Rattle.sf_ask.proofs.bits.BitLemmas.{bits-more}
 use Rattle.sf_ask.proofs.bits.set_bit.Goals as goal
 
 pub returns : goal.returns

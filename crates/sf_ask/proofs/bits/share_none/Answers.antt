@@ -1,5 +1,5 @@
 use Rattle.std.proofs.Common.{arith}
-use Rattle.sf_ask.proofs.BitLemmas.{apart}
+use Rattle.sf_ask.proofs.bits.BitLemmas.{apart}
 use Rattle.sf_ask.proofs.bits.share_none.Goals as goal
 
 pub returns : goal.returns

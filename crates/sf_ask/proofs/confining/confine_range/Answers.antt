@@ -1,6 +1,6 @@
 use Rattle.std.proofs.lemmas.Grind.{common_steps}
 use Rattle.std.proofs.Common.{arith, sym, ◌∙◌}
-use Rattle.sf_dom.specs.LearningLaws.{confined-by}
+use Rattle.sf_dom.specs.laws.LearningLaws.{confined-by}
 use Rattle.sf_ask.proofs.Words.{mapped-ok, range-stays}
 use Rattle.sf_ask.proofs.Confinements.{range-rule}
 use Rattle.sf_ask.proofs.confining.confine_range.Goals as goal

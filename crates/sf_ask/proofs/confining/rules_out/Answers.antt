@@ -1,5 +1,5 @@
 use Rattle.std.proofs.Common.{sym, ◌∙◌}
-use Rattle.sf_ask.proofs.ProbeLemmas.{rules-out-at}
+use Rattle.sf_ask.proofs.probe.ProbeLemmas.{rules-out-at}
 use Rattle.sf_ask.proofs.confining.rules_out.Goals as goal
 
 pub returns-then-misses : goal.returns-then-misses

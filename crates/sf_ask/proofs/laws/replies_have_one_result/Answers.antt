@@ -1,4 +1,4 @@
-use Rattle.sf_ask.proofs.OneReply.{one-reply}
+use Rattle.sf_ask.proofs.laws.OneReply.{one-reply}
 use Rattle.sf_ask.proofs.laws.replies_have_one_result.Goals as goal
 
 pub returns : goal.returns

@@ -5,7 +5,7 @@ use Rattle.sf_dom.specs.Facts.{known_at}
 use Rattle.sf_ask.specs.Probing.{IsProbeIn, IsRuledOutIfAsked, has_one_call}
 use Rattle.sf_ask.specs.QuestionBits.{has_bit}
 use Rattle.sf_ask.specs.declared.probe.Probe.{Probe}
-use Rattle.sf_ask.proofs.ProbeLemmas.{call-misses}
+use Rattle.sf_ask.proofs.probe.ProbeLemmas.{call-misses}
 use Rattle.sf_ask.proofs.probing.questions_left.Goals as goal
 
 pub add_questions_left-requires-2-clause-probes : goal.add_questions_left-requires-2-clause-probes

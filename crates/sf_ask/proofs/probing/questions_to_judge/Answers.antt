@@ -1,5 +1,5 @@
 use Rattle.std.proofs.Common.{arith}
-use Rattle.sf_ask.proofs.SheetLemmas.{clear-if-asked}
+use Rattle.sf_ask.proofs.sheet.SheetLemmas.{clear-if-asked}
 use Rattle.sf_ask.proofs.probing.questions_to_judge.Goals as goal
 
 pub returns : goal.returns

@@ -1,6 +1,6 @@
 use Rattle.std.proofs.Common.{length, refl}
 use Rattle.std.proofs.lemmas.Option.{slice_get_read}
-use Rattle.sf_ask.proofs.SheetLemmas.{judged-right}
+use Rattle.sf_ask.proofs.sheet.SheetLemmas.{judged-right}
 use Rattle.sf_ask.proofs.sheet.verdict_on.Goals as goal
 
 pub returns-clause-right : goal.returns-clause-right

@@ -1,5 +1,5 @@
 use Rattle.std.proofs.lemmas.Result.{IfErr-weaker, IfOk-weaker}
-use Rattle.sf_audit.proofs.AuditLemmas.{audit_of_files, refusal_of_files}
+use Rattle.sf_audit.proofs.auditing.AuditLemmas.{audit_of_files, refusal_of_files}
 use Rattle.sf_audit.proofs.auditing.audit.Goals as goal
 
 pub returns-clause-found : goal.returns-clause-found

@@ -2,7 +2,7 @@ use Rattle.std.proofs.Common.{◌∙◌, rules, string_bytes, tests}
 use Rattle.std.proofs.lemmas.Iterator.{YieldsList-from_slice}
 use Rattle.std.proofs.lemmas.Iterator.Search.{any_from_yields_List}
 use Rattle.std.specs.Str.{bytes_eq}
-use Rattle.sf_audit.proofs.ExpectedLemmas.{any_seen}
+use Rattle.sf_audit.proofs.expecting.ExpectedLemmas.{any_seen}
 use Rattle.sf_audit.proofs.expecting.is_accepted.Goals as goal
 
 pub returns : goal.returns

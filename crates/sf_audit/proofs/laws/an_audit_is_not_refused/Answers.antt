@@ -1,4 +1,4 @@
-use Rattle.sf_audit.proofs.Exclusive.{audited_not_refused}
+use Rattle.sf_audit.proofs.laws.Exclusive.{audited_not_refused}
 use Rattle.sf_audit.proofs.laws.an_audit_is_not_refused.Goals as goal
 
 pub returns : goal.returns

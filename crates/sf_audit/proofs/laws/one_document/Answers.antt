@@ -1,4 +1,4 @@
-use Rattle.sf_audit.proofs.OneReport.{same_document}
+use Rattle.sf_audit.proofs.laws.OneReport.{same_document}
 use Rattle.sf_audit.proofs.laws.one_document.Goals as goal
 
 pub returns : goal.returns

@@ -1,4 +1,4 @@
-use Rattle.sf_audit.proofs.OneReport.{same_report}
+use Rattle.sf_audit.proofs.laws.OneReport.{same_report}
 use Rattle.sf_audit.proofs.laws.one_report.Goals as goal
 
 pub returns : goal.returns

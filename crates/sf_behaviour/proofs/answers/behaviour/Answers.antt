@@ -1,5 +1,5 @@
 use Rattle.sf_behaviour.proofs.Common.{subst, sym, Tree, IsAnswer, answer_none, answer_with, value, [], ◌∷◌, ◌++◌, arith, keeps_more, common_steps}
-use Rattle.sf_behaviour.proofs.AnswerLemmas.{fold-more}
+use Rattle.sf_behaviour.proofs.answers.AnswerLemmas.{fold-more}
 use Rattle.sf_behaviour.proofs.answers.behaviour.Goals as goal
 
 pub loop-program-init : goal.loop-program-init

@@ -1,5 +1,5 @@
 use Rattle.sf_behaviour.proofs.Common.{◌≡◌, List, map, Insn, KeepsStore, HasAnswers}
-use Rattle.sf_behaviour.proofs.AnswerLemmas.{returns_on}
+use Rattle.sf_behaviour.proofs.answers.AnswerLemmas.{returns_on}
 use Rattle.sf_behaviour.proofs.answers.behaviour.Given as goal
 
 abbrev pub invariant-loop-program : goal.invariant-loop-program

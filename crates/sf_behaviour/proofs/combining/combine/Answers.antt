@@ -1,5 +1,5 @@
 use Rattle.sf_behaviour.proofs.Common.{◌∙◌, ap₂, bit_at, combined, sym, arith, keeps_more, word_value}
-use Rattle.sf_behaviour.proofs.WordLemmas.{begun-more, bit-now, truth-of-same, word-made, word-small}
+use Rattle.sf_behaviour.proofs.words.WordLemmas.{begun-more, bit-now, truth-of-same, word-made, word-small}
 use Rattle.sf_behaviour.proofs.BitLemmas.{bitwise-kept, combined-bit, combined-kept, combined-small}
 use Rattle.sf_behaviour.proofs.combining.combine.Goals as goal
 

@@ -1,5 +1,5 @@
 use Rattle.sf_behaviour.proofs.Common.{◌≡◌, ◌+◌, ◌*◌, ◌^◌, arith, rules, value, tree_at, keeps_more, word_value}
-use Rattle.sf_behaviour.proofs.WordLemmas.{begun-above, bit-now, word-made, word-of-same, word-small}
+use Rattle.sf_behaviour.proofs.words.WordLemmas.{begun-above, bit-now, word-made, word-of-same, word-small}
 use Rattle.sf_behaviour.proofs.BitLemmas.{more-small, leaf-truth, less-all, less-step}
 use Rattle.sf_behaviour.proofs.differences.difference.Goals as goal
 

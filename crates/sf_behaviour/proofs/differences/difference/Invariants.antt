@@ -1,5 +1,5 @@
 use Rattle.sf_behaviour.proofs.Common.{◌≡◌, ℕ, ◌+◌, ◌*◌, ◌%◌, ◌<◌, ◌^◌, Bits, value, tree_at, KeepsStore, word_value, IsTruth}
-use Rattle.sf_behaviour.proofs.WordLemmas.{IsBegun}
+use Rattle.sf_behaviour.proofs.words.WordLemmas.{IsBegun}
 use Rattle.sf_behaviour.proofs.differences.difference.Given as goal
 
 abbrev pub invariant-loop-i : goal.invariant-loop-i

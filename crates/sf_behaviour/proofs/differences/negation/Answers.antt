@@ -1,5 +1,5 @@
 use Rattle.sf_behaviour.proofs.Common.{arith, apply, Sub}
-use Rattle.sf_behaviour.proofs.WordLemmas.{number-now, word-by, word-of-same}
+use Rattle.sf_behaviour.proofs.words.WordLemmas.{number-now, word-by, word-of-same}
 use Rattle.sf_behaviour.proofs.differences.negation.Goals as goal
 
 -- 0 less a word is minus the word

@@ -1,5 +1,5 @@
 use Rattle.sf_behaviour.proofs.Common.{arith, apply, Sub}
-use Rattle.sf_behaviour.proofs.WordLemmas.{number-now, word-by, word-of-same, word-small}
+use Rattle.sf_behaviour.proofs.words.WordLemmas.{number-now, word-by, word-of-same, word-small}
 use Rattle.sf_behaviour.proofs.differences.sum.Goals as goal
 
 -- less minus b is plus b

@@ -1,5 +1,5 @@
 use Rattle.sf_behaviour.proofs.Common.{◌<◌, refl, arith, A, X}
-use Rattle.sf_behaviour.proofs.EffectLemmas.{alu-does, load-does, store-does}
+use Rattle.sf_behaviour.proofs.effects.EffectLemmas.{alu-does, load-does, store-does}
 use Rattle.sf_behaviour.proofs.effects.effect_of.Goals as goal
 
 pub returns-in-Alu : goal.returns-in-Alu

@@ -1,5 +1,5 @@
 use Rattle.sf_behaviour.proofs.Common.{sym}
-use Rattle.sf_behaviour.proofs.WordLemmas.{own-number}
+use Rattle.sf_behaviour.proofs.words.WordLemmas.{own-number}
 use Rattle.sf_behaviour.proofs.effects.held_word.Goals as goal
 
 pub returns-in-Some-clause-word : goal.returns-in-Some-clause-word

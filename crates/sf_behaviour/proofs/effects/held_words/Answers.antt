@@ -1,4 +1,4 @@
-use Rattle.sf_behaviour.proofs.WordLemmas.{word-of-kept, word-of-same}
+use Rattle.sf_behaviour.proofs.words.WordLemmas.{word-of-kept, word-of-same}
 use Rattle.sf_behaviour.proofs.KnowledgeLemmas.{knowledge-kept, operand-kept}
 use Rattle.sf_behaviour.proofs.effects.held_words.Goals as goal
 

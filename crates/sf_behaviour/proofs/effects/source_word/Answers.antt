@@ -1,5 +1,5 @@
 use Rattle.sf_behaviour.proofs.Common.{apply, negation_of}
-use Rattle.sf_behaviour.proofs.WordLemmas.{word-by}
+use Rattle.sf_behaviour.proofs.words.WordLemmas.{word-by}
 use Rattle.sf_behaviour.proofs.effects.source_word.Goals as goal
 
 pub returns-in_ok-negation-in-Negation-clause-word : goal.returns-in_ok-negation-in-Negation-clause-word

@@ -1,5 +1,5 @@
 use Rattle.sf_behaviour.proofs.Common.{refl, contains_nil}
-use Rattle.sf_behaviour.proofs.ForwardLemmas.{carried-more}
+use Rattle.sf_behaviour.proofs.forward.ForwardLemmas.{carried-more}
 use Rattle.sf_behaviour.proofs.forward.carry.Goals as goal
 
 pub returns-in-Returns : goal.returns-in-Returns

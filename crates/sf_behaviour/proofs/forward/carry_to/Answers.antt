@@ -1,8 +1,8 @@
 use Rattle.sf_behaviour.proofs.Common.{◌≡◌, ◌∙◌, ◌<◌, ℕ, Option, Some, None, ap, length, length-set, refl, subst, arith, get_or_default, get_or-set_same, same_Some, Known, known_of, IsKnowledge, IsMet, slice_set, unwrap_or}
-use Rattle.sf_behaviour.proofs.WordLemmas.{set-each}
+use Rattle.sf_behaviour.proofs.words.WordLemmas.{set-each}
 use Rattle.sf_behaviour.proofs.KnowledgeLemmas.{knowledge-less}
-use Rattle.sf_behaviour.proofs.StepsLemmas.{one-place}
-use Rattle.sf_behaviour.proofs.ForwardLemmas.{met-less}
+use Rattle.sf_behaviour.proofs.steps.StepsLemmas.{one-place}
+use Rattle.sf_behaviour.proofs.forward.ForwardLemmas.{met-less}
 use Rattle.sf_behaviour.proofs.forward.carry_to.Goals as goal
 
 pub returns-then-place-len : goal.returns-then-place-len

@@ -1,8 +1,8 @@
 use Rattle.sf_behaviour.proofs.Common.{inl, inr, [], ◌∷◌, ◌++◌, List, Insn, ap₂, map-append, take_more, slice_get-get_or, ◌≡◌, ◌∙◌, ◌<◌, ap, length, unwrap_or, Option, Some, None, replicate, refl, sym, arith, rules, keeps_more, Step, Known, known_of, length-append, length-replicate, get_or-replicate, get_or_default, take_all}
 use Rattle.sf_behaviour.proofs.VariableLemmas.{none-there}
 use Rattle.sf_behaviour.proofs.KnowledgeLemmas.{knowledge-kept}
-use Rattle.sf_behaviour.proofs.StepsLemmas.{after-knowledge, at-push}
-use Rattle.sf_behaviour.proofs.ForwardLemmas.{AreZero, met-knowledge, met-less, steps-more, zero-kept, zero-made}
+use Rattle.sf_behaviour.proofs.steps.StepsLemmas.{after-knowledge, at-push}
+use Rattle.sf_behaviour.proofs.forward.ForwardLemmas.{AreZero, met-knowledge, met-less, steps-more, zero-kept, zero-made}
 use Rattle.sf_behaviour.proofs.forward.forward_steps.Goals as goal
 
 pub loop-i-init : goal.loop-i-init

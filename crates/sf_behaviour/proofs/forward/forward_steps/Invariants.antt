@@ -1,5 +1,5 @@
 use Rattle.sf_behaviour.proofs.Common.{◌≡◌, None, length, KeepsStore, known_of, insns_of, AreKnown, AreSteps, take}
-use Rattle.sf_behaviour.proofs.ForwardLemmas.{AreMet, AreZero}
+use Rattle.sf_behaviour.proofs.forward.ForwardLemmas.{AreMet, AreZero}
 use Rattle.sf_behaviour.proofs.forward.forward_steps.Given as goal
 
 abbrev pub invariant-loop-i : goal.invariant-loop-i

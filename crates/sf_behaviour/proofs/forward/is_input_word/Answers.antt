@@ -1,5 +1,5 @@
 use Rattle.sf_behaviour.proofs.Common.{arith, below_more}
-use Rattle.sf_behaviour.proofs.ForwardLemmas.{input-word}
+use Rattle.sf_behaviour.proofs.forward.ForwardLemmas.{input-word}
 use Rattle.sf_behaviour.proofs.forward.is_input_word.Goals as goal
 
 pub is_of_input-requires : goal.is_of_input-requires

@@ -1,5 +1,5 @@
 use Rattle.sf_behaviour.proofs.Common.{refl, sym}
-use Rattle.sf_behaviour.proofs.WordLemmas.{word-of-same}
+use Rattle.sf_behaviour.proofs.words.WordLemmas.{word-of-same}
 use Rattle.sf_behaviour.proofs.KnowledgeLemmas.{source-kept}
 use Rattle.sf_behaviour.proofs.forward.known_after.Goals as goal
 

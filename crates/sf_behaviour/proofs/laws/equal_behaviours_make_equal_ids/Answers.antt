@@ -1,4 +1,4 @@
-use Rattle.sf_behaviour.proofs.AnswerLemmas.{same-values}
+use Rattle.sf_behaviour.proofs.answers.AnswerLemmas.{same-values}
 use Rattle.sf_behaviour.proofs.laws.equal_behaviours_make_equal_ids.Goals as goal
 
 pub returns : goal.returns

@@ -1,5 +1,5 @@
 use Rattle.sf_behaviour.proofs.Common.{arith, insns_of}
-use Rattle.sf_behaviour.proofs.StepsLemmas.{after-knowledge, next-inside, next-tells, this-step}
+use Rattle.sf_behaviour.proofs.steps.StepsLemmas.{after-knowledge, next-inside, next-tells, this-step}
 use Rattle.sf_behaviour.proofs.places.diagram_behind.Goals as goal
 
 pub step_at-step-requires : goal.step_at-step-requires

@@ -1,7 +1,7 @@
 use Rattle.sf_behaviour.proofs.Common.{◌+◌, [], ◌∷◌, arith, keeps_more, insns_of, set_progress, source_number, contains_there}
-use Rattle.sf_behaviour.proofs.EffectLemmas.{chosen-diagram}
+use Rattle.sf_behaviour.proofs.effects.EffectLemmas.{chosen-diagram}
 use Rattle.sf_behaviour.proofs.KnowledgeLemmas.{knowledge-kept}
-use Rattle.sf_behaviour.proofs.StepsLemmas.{first-place, next-of, place-kept, place-step, same-tells, this-step, after-knowledge, after-same, effect-is, step-kept}
+use Rattle.sf_behaviour.proofs.steps.StepsLemmas.{first-place, next-of, place-kept, place-step, same-tells, this-step, after-knowledge, after-same, effect-is, step-kept}
 use Rattle.sf_behaviour.proofs.TellLemmas.{follows-guard, follows-return, follows-set, follows-skip, follows-test, tells-kept}
 use Rattle.sf_behaviour.proofs.places.diagram_of_place.Goals as goal
 

@@ -1,5 +1,5 @@
 use Rattle.sf_behaviour.proofs.Common.{ext_get_or, sym, ◌≡◌, ◌∙◌, ℕ, refl, subst, length-set, arith, None, Option, keeps_more, Known, known_word, Tells, Word}
-use Rattle.sf_behaviour.proofs.WordLemmas.{set-each}
+use Rattle.sf_behaviour.proofs.words.WordLemmas.{set-each}
 use Rattle.sf_behaviour.proofs.KnowledgeLemmas.{knowledge-kept, set-less}
 use Rattle.sf_behaviour.proofs.places.learn.Goals as goal
 

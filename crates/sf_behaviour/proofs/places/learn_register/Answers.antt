@@ -1,5 +1,5 @@
 use Rattle.sf_behaviour.proofs.Common.{sym, ap, ◌∙◌, Option, slice_set, word_value, Word}
-use Rattle.sf_behaviour.proofs.WordLemmas.{own-number}
+use Rattle.sf_behaviour.proofs.words.WordLemmas.{own-number}
 use Rattle.sf_behaviour.proofs.KnowledgeLemmas.{set-same}
 use Rattle.sf_behaviour.proofs.TellLemmas.{tells-more-known}
 use Rattle.sf_behaviour.proofs.places.learn_register.Goals as goal

@@ -1,5 +1,5 @@
 use Rattle.sf_behaviour.proofs.Common.{source_in}
-use Rattle.sf_behaviour.proofs.WordLemmas.{number-small}
+use Rattle.sf_behaviour.proofs.words.WordLemmas.{number-small}
 use Rattle.sf_behaviour.proofs.places.set_diagram.Goals as goal
 
 pub returns-clause-replaced : goal.returns-clause-replaced

@@ -1,5 +1,5 @@
 use Rattle.sf_behaviour.proofs.Common.{◌∙◌, refl, arith}
-use Rattle.sf_behaviour.proofs.WordLemmas.{word-small}
+use Rattle.sf_behaviour.proofs.words.WordLemmas.{word-small}
 use Rattle.sf_behaviour.proofs.places.source_diagram.Goals as goal
 
 pub returns-in_ok-leaf-in-Constant-clause-values : goal.returns-in_ok-leaf-in-Constant-clause-values

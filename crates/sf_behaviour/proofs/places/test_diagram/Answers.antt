@@ -1,5 +1,5 @@
 use Rattle.sf_behaviour.proofs.Common.{ℕ, ap₂, if◌then◌else◌, passes}
-use Rattle.sf_behaviour.proofs.WordLemmas.{truth-of-same}
+use Rattle.sf_behaviour.proofs.words.WordLemmas.{truth-of-same}
 use Rattle.sf_behaviour.proofs.places.test_diagram.Goals as goal
 
 pub returns-clause-truth : goal.returns-clause-truth

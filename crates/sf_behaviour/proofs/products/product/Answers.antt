@@ -1,5 +1,5 @@
 use Rattle.sf_behaviour.proofs.Common.{◌≡◌, arith, apply, keeps_more, word_value, Add}
-use Rattle.sf_behaviour.proofs.WordLemmas.{bit-chosen, none-bit, number-now, truth-kept, word-by, word-of-kept, word-of-same, word-small}
+use Rattle.sf_behaviour.proofs.words.WordLemmas.{bit-chosen, none-bit, number-now, truth-kept, word-by, word-of-kept, word-of-same, word-small}
 use Rattle.sf_behaviour.proofs.ShiftLemmas.{product-begun, product-step, product-made}
 use Rattle.sf_behaviour.proofs.products.product.Goals as goal
 

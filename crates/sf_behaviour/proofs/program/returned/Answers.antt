@@ -1,5 +1,5 @@
 use Rattle.sf_behaviour.proofs.Common.{slice_get_within, List, ap, rules, slice_set, ◌≡◌, ◌-◌, ◌+◌, ◌∙◌, ℕ, length, sym, subst, arith, IsLawfulProgram, keeps_more, TellFrom, length-replicate}
-use Rattle.sf_behaviour.proofs.StepsLemmas.{first-tells, from-more, program-diagram, steps-kept, steps-some}
+use Rattle.sf_behaviour.proofs.steps.StepsLemmas.{first-tells, from-more, program-diagram, steps-kept, steps-some}
 use Rattle.sf_behaviour.proofs.program.returned.Goals as goal
 
 pub forward_steps-requires : goal.forward_steps-requires

@@ -1,6 +1,6 @@
 use Rattle.sf_behaviour.proofs.Common.{ℕ, ◌+◌, ◌-◌, ◌*◌, ◌%◌, ◌^◌, sym, ap, ap₂, ◌∙◌, if◌then◌else◌, pow_pos, apply, Bits, value, tree_at, chosen_of, word_value, nat_le, Sub, keeps_both}
-use Rattle.sf_behaviour.proofs.WordLemmas.{own-number, truth-kept, value-kept, word-by, word-kept, word-of-kept, word-small}
-use Rattle.sf_behaviour.proofs.QuotientLemmas.{digit-of}
+use Rattle.sf_behaviour.proofs.words.WordLemmas.{own-number, truth-kept, value-kept, word-by, word-kept, word-of-kept, word-small}
+use Rattle.sf_behaviour.proofs.quotients.QuotientLemmas.{digit-of}
 use Rattle.sf_behaviour.proofs.quotients.divide_bit.Goals as goal
 
 pub test_words-requires-clause-a : goal.test_words-requires-clause-a

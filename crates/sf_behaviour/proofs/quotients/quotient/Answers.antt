@@ -1,6 +1,6 @@
 use Rattle.sf_behaviour.proofs.Common.{◌≡◌, ◌+◌, ◌-◌, ◌*◌, ◌/◌, ◌<◌, ◌≤◌, ◌^◌, ◌==◌, ℕ, ap₂, sym, ◌∙◌, arith, bit_at, div-le_self, if◌then◌else◌, keeps_more, mod-eq_of_lt, same_from_bits_below, chosen_of, Bits, value, tree_at, word_value}
-use Rattle.sf_behaviour.proofs.WordLemmas.{bit-of-word, none-bit, number-kept, number-now, set-each, value-kept, word-by, word-kept, word-of-kept, word-of-same, word-set, word-small}
-use Rattle.sf_behaviour.proofs.QuotientLemmas.{digit-more, quotient-made}
+use Rattle.sf_behaviour.proofs.words.WordLemmas.{bit-of-word, none-bit, number-kept, number-now, set-each, value-kept, word-by, word-kept, word-of-kept, word-of-same, word-set, word-small}
+use Rattle.sf_behaviour.proofs.quotients.QuotientLemmas.{digit-more, quotient-made}
 use Rattle.sf_behaviour.proofs.quotients.quotient.Goals as goal
 
 pub loop-i-init : goal.loop-i-init

@@ -1,6 +1,6 @@
 use Rattle.sf_behaviour.proofs.Common.{ℕ, ap}
 use Rattle.sf_behaviour.specs.InputBits.{number_by}
-use Rattle.sf_behaviour.proofs.WordLemmas.{word-of-same}
+use Rattle.sf_behaviour.proofs.words.WordLemmas.{word-of-same}
 use Rattle.sf_behaviour.proofs.registers.register_word.Goals as goal
 
 pub returns-clause-word : goal.returns-clause-word

@@ -1,6 +1,6 @@
 use Rattle.sf_behaviour.proofs.Common.{value_from, with_register, ◌<◌, ℕ, refl, sym, word_value, arith, Bits, tree_at, IsReplaced, IsWordOf, keeps_both}
-use Rattle.sf_behaviour.proofs.WordLemmas.{word-kept, word-of-back, word-of-kept}
-use Rattle.sf_behaviour.proofs.ReplacingLemmas.{replaced-kept, replaced-made, all-kept, all-put}
+use Rattle.sf_behaviour.proofs.words.WordLemmas.{word-kept, word-of-back, word-of-kept}
+use Rattle.sf_behaviour.proofs.replacing.ReplacingLemmas.{replaced-kept, replaced-made, all-kept, all-put}
 use Rattle.sf_behaviour.proofs.VariableLemmas.{ordered-from, with-other}
 use Rattle.sf_behaviour.proofs.replacing.+replace_in.Goals as goal
 use Rattle.sf_behaviour.proofs.replacing.+replace_in.Goals.{In_ok-new}

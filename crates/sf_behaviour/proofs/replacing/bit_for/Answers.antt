@@ -1,5 +1,5 @@
 use Rattle.sf_behaviour.proofs.Common.{Bool, ap, sym, ◌∙◌, bit_at, bit_at-lt, if◌then◌else◌}
-use Rattle.sf_behaviour.proofs.WordLemmas.{bit-of, truth-of-same}
+use Rattle.sf_behaviour.proofs.words.WordLemmas.{bit-of, truth-of-same}
 use Rattle.sf_behaviour.proofs.BitLemmas.{bit-if, literal-truth}
 use Rattle.sf_behaviour.proofs.VariableLemmas.{with-other, with-own}
 use Rattle.sf_behaviour.proofs.replacing.bit_for.Goals as goal

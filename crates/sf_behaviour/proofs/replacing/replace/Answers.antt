@@ -1,4 +1,4 @@
-use Rattle.sf_behaviour.proofs.ReplacingLemmas.{none-made}
+use Rattle.sf_behaviour.proofs.replacing.ReplacingLemmas.{none-made}
 use Rattle.sf_behaviour.proofs.replacing.replace.Goals as goal
 
 pub replace_in-requires-clause-made : goal.replace_in-requires-clause-made

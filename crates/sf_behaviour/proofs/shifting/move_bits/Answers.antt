@@ -1,5 +1,5 @@
 use Rattle.sf_behaviour.proofs.Common.{◌≡◌, ℕ, ◌∙◌, length-set, arith, moved}
-use Rattle.sf_behaviour.proofs.WordLemmas.{set-each}
+use Rattle.sf_behaviour.proofs.words.WordLemmas.{set-each}
 use Rattle.sf_behaviour.proofs.ShiftLemmas.{moved-word}
 use Rattle.sf_behaviour.proofs.shifting.move_bits.Goals as goal
 

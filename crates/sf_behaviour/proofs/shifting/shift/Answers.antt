@@ -1,5 +1,5 @@
 use Rattle.sf_behaviour.proofs.Common.{pow-add, ◌≡◌, arith, keeps_more, word_value}
-use Rattle.sf_behaviour.proofs.WordLemmas.{bit-chosen, number-now, truth-kept, truth-of-kept, word-of-same, word-small}
+use Rattle.sf_behaviour.proofs.words.WordLemmas.{bit-chosen, number-now, truth-kept, truth-of-kept, word-of-same, word-small}
 use Rattle.sf_behaviour.proofs.BitLemmas.{leaf-truth}
 use Rattle.sf_behaviour.proofs.ShiftLemmas.{few-places, shift-begun, shift-step, shift-made}
 use Rattle.sf_behaviour.proofs.shifting.shift.Goals as goal

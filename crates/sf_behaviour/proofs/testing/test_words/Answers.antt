@@ -1,5 +1,5 @@
 use Rattle.sf_behaviour.proofs.Common.{ℕ, ap, ◌∙◌, bit_at, tested_bits, tree_at, value, ◌≡◌, ap₂, arith, rules, keeps_more, word_value, IsTruthOf}
-use Rattle.sf_behaviour.proofs.WordLemmas.{bit-now, truth-of-same, word-small}
+use Rattle.sf_behaviour.proofs.words.WordLemmas.{bit-now, truth-of-same, word-small}
 use Rattle.sf_behaviour.proofs.BitLemmas.{low-all, low-none, test-more, truth_of}
 use Rattle.sf_behaviour.proofs.testing.test_words.Goals as goal
 

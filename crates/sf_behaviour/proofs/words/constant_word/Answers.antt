@@ -1,5 +1,5 @@
 use Rattle.sf_behaviour.proofs.Common.{arith, keeps_more, bit_at, bit_at-lt}
-use Rattle.sf_behaviour.proofs.WordLemmas.{begun-more, word-made}
+use Rattle.sf_behaviour.proofs.words.WordLemmas.{begun-more, word-made}
 use Rattle.sf_behaviour.proofs.BitLemmas.{leaf-truth}
 use Rattle.sf_behaviour.proofs.words.constant_word.Goals as goal
 

@@ -1,5 +1,5 @@
 use Rattle.sf_behaviour.proofs.Common.{KeepsStore}
-use Rattle.sf_behaviour.proofs.WordLemmas.{IsBegun}
+use Rattle.sf_behaviour.proofs.words.WordLemmas.{IsBegun}
 use Rattle.sf_behaviour.proofs.words.constant_word.Given as goal
 
 abbrev pub invariant-loop-i : goal.invariant-loop-i

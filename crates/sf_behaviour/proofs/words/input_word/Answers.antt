@@ -1,6 +1,6 @@
 use Rattle.sf_behaviour.proofs.Common.{◌∙◌, ℕ, ap, sym}
 use Rattle.sf_behaviour.specs.InputBits.{number_by}
-use Rattle.sf_behaviour.proofs.WordLemmas.{word-of-same}
+use Rattle.sf_behaviour.proofs.words.WordLemmas.{word-of-same}
 use Rattle.sf_behaviour.proofs.VariableLemmas.{input-word}
 use Rattle.sf_behaviour.proofs.words.input_word.Goals as goal
 

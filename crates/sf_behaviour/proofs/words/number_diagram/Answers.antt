@@ -1,6 +1,6 @@
 use Rattle.sf_behaviour.proofs.Common.{◌≡◌, ◌+◌, ◌-◌, ◌∙◌, arith, keeps_more, word_value}
-use Rattle.sf_behaviour.proofs.WordLemmas.{bit-now, word-small}
-use Rattle.sf_behaviour.proofs.AnswerLemmas.{number-more}
+use Rattle.sf_behaviour.proofs.words.WordLemmas.{bit-now, word-small}
+use Rattle.sf_behaviour.proofs.answers.AnswerLemmas.{number-more}
 use Rattle.sf_behaviour.proofs.words.number_diagram.Goals as goal
 
 pub loop-i-init : goal.loop-i-init

@@ -1,5 +1,5 @@
 use Rattle.sf_behaviour.proofs.Common.{◌-◌, ◌≤◌, mul-le-mul, arith, keeps_more}
-use Rattle.sf_behaviour.proofs.WordLemmas.{begun-more, word-made}
+use Rattle.sf_behaviour.proofs.words.WordLemmas.{begun-more, word-made}
 use Rattle.sf_behaviour.proofs.VariableLemmas.{number_by-small, variable-truth}
 use Rattle.sf_behaviour.proofs.words.variable_word.Goals as goal
 

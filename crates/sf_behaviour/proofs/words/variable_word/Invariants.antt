@@ -1,6 +1,6 @@
 use Rattle.sf_behaviour.proofs.Common.{KeepsStore}
 use Rattle.sf_behaviour.specs.InputBits.{number_by}
-use Rattle.sf_behaviour.proofs.WordLemmas.{IsBegun}
+use Rattle.sf_behaviour.proofs.words.WordLemmas.{IsBegun}
 use Rattle.sf_behaviour.proofs.words.variable_word.Given as goal
 
 abbrev pub invariant-loop-i : goal.invariant-loop-i

@@ -1,6 +1,6 @@
 use Rattle.std.proofs.lemmas.Grind.{common_steps}
 use Rattle.std.proofs.Common.{arith}
-use Rattle.sf_blocks.proofs.OrderLemmas.{by_lengths}
+use Rattle.sf_blocks.proofs.shared.OrderLemmas.{by_lengths}
 use Rattle.sf_blocks.proofs.shared.order_of.Goals as goal
 
 pub returns : goal.returns

@@ -1,7 +1,7 @@
 use Rattle.std.proofs.Common.{◌≡◌, length, ap, ◌∙◌, refl}
 use Rattle.std.proofs.lemmas.List.Elements.{All-push}
 use Rattle.std.specs.Arc.{arc_slice_items}
-use Rattle.sf_blocks.specs.BlockLaws.{joined-push, joined-same, AreWide-same}
+use Rattle.sf_blocks.specs.laws.BlockLaws.{joined-push, joined-same, AreWide-same}
 use Rattle.sf_blocks.proofs.shared.with_block.Goals as goal
 
 pub returns-clause-full : goal.returns-clause-full

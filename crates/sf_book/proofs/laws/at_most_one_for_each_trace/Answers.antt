@@ -1,5 +1,5 @@
-use Rattle.sf_book.specs.ExactLaws.{one_for_each_trace}
-use Rattle.sf_book.specs.PlainLaws.{plain_has_members}
+use Rattle.sf_book.specs.laws.ExactLaws.{one_for_each_trace}
+use Rattle.sf_book.specs.laws.PlainLaws.{plain_has_members}
 use Rattle.sf_book.proofs.laws.at_most_one_for_each_trace.Goals as goal
 
 pub returns : goal.returns

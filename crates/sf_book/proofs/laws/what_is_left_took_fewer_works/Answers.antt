@@ -1,5 +1,5 @@
-use Rattle.sf_book.specs.ExactLaws.{left_unworked}
-use Rattle.sf_book.specs.PlainLaws.{plain_has_members}
+use Rattle.sf_book.specs.laws.ExactLaws.{left_unworked}
+use Rattle.sf_book.specs.laws.PlainLaws.{plain_has_members}
 use Rattle.sf_book.proofs.laws.what_is_left_took_fewer_works.Goals as goal
 
 pub returns : goal.returns

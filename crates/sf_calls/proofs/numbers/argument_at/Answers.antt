@@ -1,5 +1,5 @@
 use Rattle.std.proofs.lemmas.Bool.{and_parts}
-use Rattle.sf_calls.proofs.NumberLemmas.{part_read}
+use Rattle.sf_calls.proofs.numbers.NumberLemmas.{part_read}
 use Rattle.sf_calls.specs.Numbers.{comma_parts}
 use Rattle.sf_calls.proofs.numbers.argument_at.Goals as goal
 

@@ -1,5 +1,5 @@
 use Rattle.std.proofs.Common.{rules, tests}
-use Rattle.sf_calls.proofs.NumberLemmas.{number_read}
+use Rattle.sf_calls.proofs.numbers.NumberLemmas.{number_read}
 use Rattle.sf_calls.proofs.numbers.number_from.Goals as goal
 
 pub returns : goal.returns

@@ -7,10 +7,10 @@ use Rattle.sf_check.specs.declared.insn.Insn.{Insn}
 use Rattle.sf_check.specs.declared.read.Unreadable.TheVariants.{UnknownCode, BadField}
 use Rattle.sf_check.specs.Codes.{insn_of}
 use Rattle.sf_check.specs.Programs.{EndsInReturn, IsSetAt, IsUnsetAt}
-use Rattle.sf_check.specs.ProgramLaws.{successors_inside}
-use Rattle.sf_check.proofs.Reading.{read_more, all_spelled, all_fine, lawful, size_is}
+use Rattle.sf_check.specs.laws.ProgramLaws.{successors_inside}
+use Rattle.sf_check.proofs.checker.Reading.{read_more, all_spelled, all_fine, lawful, size_is}
 use Rattle.sf_check.specs.EqualTests.{LeadInside}
-use Rattle.sf_check.proofs.EqualLemmas.{tests_inside}
+use Rattle.sf_check.proofs.equals.EqualLemmas.{tests_inside}
 use Rattle.sf_check.proofs.checker.check.Goals as goal
 
 no_raw : RawInsn

@@ -1,5 +1,5 @@
 use Rattle.std.proofs.Common.{arith}
-use Rattle.sf_check.proofs.EqualLemmas.{none_by_key, found_by_key}
+use Rattle.sf_check.proofs.equals.EqualLemmas.{none_by_key, found_by_key}
 use Rattle.sf_check.proofs.equals.find_test_or_last.Goals as goal
 
 pub returns-then-found-keys : goal.returns-then-found-keys

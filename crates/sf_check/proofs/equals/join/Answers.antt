@@ -1,5 +1,5 @@
 use Rattle.std.proofs.Common.{arith}
-use Rattle.sf_check.proofs.EqualLemmas.{joined_one}
+use Rattle.sf_check.proofs.equals.EqualLemmas.{joined_one}
 use Rattle.sf_check.proofs.equals.join.Goals as goal
 
 pub returns-then-chains-next : goal.returns-then-chains-next

@@ -1,7 +1,7 @@
 use Rattle.std.proofs.Common.{arith}
 use Rattle.std.proofs.lemmas.Grind.{common_steps}
 use Rattle.std.proofs.lemmas.Option.{slice_get-get_or}
-use Rattle.sf_check.proofs.EqualLemmas.{test_here}
+use Rattle.sf_check.proofs.equals.EqualLemmas.{test_here}
 use Rattle.sf_check.proofs.equals.join_all.Goals as goal
 
 pub join-requires-clause-inside : goal.join-requires-clause-inside

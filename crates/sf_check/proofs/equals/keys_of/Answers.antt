@@ -3,7 +3,7 @@ use Rattle.std.specs.Prelude.{slice_index}
 use Rattle.std.proofs.lemmas.Option.{slice_get-get_or}
 use Rattle.std.proofs.lemmas.List.Sorted.{IsNonDecreasingBy-from_sort}
 use Rattle.sf_check.specs.EqualTests.{test_key}
-use Rattle.sf_check.proofs.EqualLemmas.{Gathered, gathered_test, gathered_other, gathered_all, test_here}
+use Rattle.sf_check.proofs.equals.EqualLemmas.{Gathered, gathered_test, gathered_other, gathered_all, test_here}
 use Rattle.sf_check.proofs.equals.keys_of.Goals.{in-Some+in_ok-push, in_default}
 use Rattle.sf_check.proofs.equals.keys_of.Goals as goal
 

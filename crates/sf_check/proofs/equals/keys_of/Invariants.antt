@@ -1,4 +1,4 @@
-use Rattle.sf_check.proofs.EqualLemmas.{Gathered}
+use Rattle.sf_check.proofs.equals.EqualLemmas.{Gathered}
 use Rattle.sf_check.proofs.equals.keys_of.Given as goal
 
 abbrev pub invariant-loop-place : goal.invariant-loop-place

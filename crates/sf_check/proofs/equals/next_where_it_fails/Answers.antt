@@ -1,7 +1,7 @@
 use Rattle.std.proofs.lemmas.Grind.{common_steps}
 use Rattle.std.proofs.Common.{arith}
 use Rattle.std.proofs.lemmas.Option.{slice_get-get_or}
-use Rattle.sf_check.proofs.EqualLemmas.{none_here, test_here, only_number}
+use Rattle.sf_check.proofs.equals.EqualLemmas.{none_here, test_here, only_number}
 use Rattle.sf_check.proofs.equals.next_where_it_fails.Goals as goal
 
 pub returns-in_default-clause-none : goal.returns-in_default-clause-none

@@ -3,7 +3,7 @@ use Rattle.std.proofs.lemmas.Grind.{common_steps}
 use Rattle.std.proofs.lemmas.Bool.{cases_eq}
 use Rattle.std.proofs.lemmas.Option.{slice_get_read, slice_get_within, same_Some}
 use Rattle.sf_check.specs.Programs.{IsLawfulProgram}
-use Rattle.sf_check.specs.PathLengthLaws.{path_length-sum}
+use Rattle.sf_check.specs.laws.PathLengthLaws.{path_length-sum}
 use Rattle.sf_check.proofs.stack.path_length.Goals as goal
 
 pub loop-program-preserved : goal.loop-program-preserved

@@ -3,7 +3,7 @@ use Rattle.std.proofs.Math.Path.{fun_ext}
 use Rattle.serde_json.specs.View.{view}
 use Rattle.sf_command.specs.Audits.{read_data}
 use Rattle.sf_command.proofs.RefusalLemmas.{audit_why, unwritten_audit, without_second}
-use Rattle.sf_evaluate.specs.FilesLaws.{handed_on}
+use Rattle.sf_evaluate.specs.laws.FilesLaws.{handed_on}
 use Rattle.sf_command.proofs.auditing.audit.Goals as goal
 
 pub returns-clause-written : goal.returns-clause-written

@@ -1,4 +1,4 @@
-use Rattle.sf_evaluate.specs.FilesLaws.{handed_on}
+use Rattle.sf_evaluate.specs.laws.FilesLaws.{handed_on}
 use Rattle.sf_command.specs.Audits.{read_data}
 use Rattle.sf_command.proofs.RefusalLemmas.{control_miscounted, miscounted}
 use Rattle.sf_command.proofs.auditing.audit_filters.Goals as goal

@@ -1,6 +1,6 @@
 use Rattle.std.proofs.Common.{inl, inr}
 use Rattle.std.proofs.Math.Path.{fun_ext}
-use Rattle.sf_evaluate.specs.FilesLaws.{handed_on}
+use Rattle.sf_evaluate.specs.laws.FilesLaws.{handed_on}
 use Rattle.sf_command.proofs.auditing.read_questions.Goals as goal
 
 pub returns-clause-read : goal.returns-clause-read

@@ -1,5 +1,5 @@
 use Rattle.std.proofs.Common.{arith, string_bytes}
-use Rattle.sf_command.proofs.RemarkLemmas.{more_remarks}
+use Rattle.sf_command.proofs.auditing.RemarkLemmas.{more_remarks}
 use Rattle.sf_command.proofs.auditing.remarks_of.Goals as goal
 
 pub loop-reply-preserved : goal.loop-reply-preserved

@@ -1,7 +1,7 @@
 use Rattle.std.proofs.Common.{inl, inr}
 use Rattle.sf_command.proofs.DiagramLemmas.{unwritten_rows}
 use Rattle.sf_command.proofs.RefusalLemmas.{without_second}
-use Rattle.sf_evaluate.specs.FilesLaws.{handed_on}
+use Rattle.sf_evaluate.specs.laws.FilesLaws.{handed_on}
 use Rattle.sf_command.proofs.comparing.compare.Goals as goal
 
 pub returns-clause-written : goal.returns-clause-written

@@ -1,4 +1,4 @@
-use Rattle.sf_command.proofs.ProfileLemmas.{kept}
+use Rattle.sf_command.proofs.laws.ProfileLemmas.{kept}
 use Rattle.sf_command.proofs.laws.never_looser_keeps_the_profile.Goals as goal
 
 pub returns : goal.returns

@@ -1,6 +1,6 @@
 use Rattle.std.proofs.Common.{◌∙◌, false, inl, inr, sym, true}
 use Rattle.std.proofs.lemmas.Result.{IfErr-weaker, on_ok_weaker}
-use Rattle.sf_evaluate.specs.FilesLaws.{handed_on}
+use Rattle.sf_evaluate.specs.laws.FilesLaws.{handed_on}
 use Rattle.sf_command.proofs.DiagramLemmas.{list_why, lists}
 use Rattle.sf_command.proofs.listing.list.Goals as goal
 

@@ -1,6 +1,6 @@
 use Rattle.std.proofs.Common.{inr}
 use Rattle.std.proofs.lemmas.Result.{IfErr-weaker, on_ok_weaker}
-use Rattle.sf_evaluate.specs.FilesLaws.{handed_on}
+use Rattle.sf_evaluate.specs.laws.FilesLaws.{handed_on}
 use Rattle.sf_command.proofs.DiagramLemmas.{fails_to_write, rows_fail}
 use Rattle.sf_command.proofs.listing.list_stack.Goals as goal
 

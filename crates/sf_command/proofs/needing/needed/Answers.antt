@@ -1,5 +1,5 @@
 use Rattle.std.proofs.Common.{inl, inr}
-use Rattle.sf_evaluate.specs.FilesLaws.{handed_on}
+use Rattle.sf_evaluate.specs.laws.FilesLaws.{handed_on}
 use Rattle.sf_command.proofs.DiagramLemmas.{fails_to_write}
 use Rattle.sf_command.proofs.needing.needed.Goals as goal
 

@@ -2,7 +2,7 @@ use Rattle.std.proofs.Common.{codes, refl, inr}
 use Rattle.std.proofs.Math.Path.{fun_ext}
 use Rattle.std.proofs.lemmas.Result.{IfErr-weaker, IfOk-weaker}
 use Rattle.clap.specs.Words.{found_of}
-use Rattle.sf_command_line.specs.OptionsLaws.{paths_found}
+use Rattle.sf_command_line.specs.laws.OptionsLaws.{paths_found}
 use Rattle.sf_command.proofs.subcommands.run_compare.Goals as goal
 
 pub returns-clause-done : goal.returns-clause-done

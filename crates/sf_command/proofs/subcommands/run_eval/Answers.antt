@@ -1,10 +1,10 @@
 use Rattle.std.proofs.Math.Path.{fun_ext}
 use Rattle.std.proofs.Common.{codes, refl, inr}
 use Rattle.clap.specs.Words.{found_of}
-use Rattle.sf_command_line.specs.OptionsLaws.{paths_found}
+use Rattle.sf_command_line.specs.laws.OptionsLaws.{paths_found}
 use Rattle.sf_command.proofs.RefusalLemmas.{without_third}
-use Rattle.sf_command.proofs.NamingLemmas.{asked_why}
-use Rattle.sf_evaluate.specs.FilesLaws.{handed_on}
+use Rattle.sf_command.proofs.subcommands.NamingLemmas.{asked_why}
+use Rattle.sf_evaluate.specs.laws.FilesLaws.{handed_on}
 use Rattle.sf_command.proofs.subcommands.run_eval.Goals as goal
 
 pub returns-clause-done : goal.returns-clause-done

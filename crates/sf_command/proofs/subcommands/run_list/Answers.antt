@@ -1,9 +1,9 @@
 use Rattle.std.proofs.Common.{codes, refl, inr}
 use Rattle.std.proofs.Math.Path.{fun_ext}
 use Rattle.clap.specs.Words.{found_of}
-use Rattle.sf_command_line.specs.OptionsLaws.{paths_found}
-use Rattle.sf_command.proofs.NamingLemmas.{calls_refused}
-use Rattle.sf_evaluate.specs.FilesLaws.{handed_on}
+use Rattle.sf_command_line.specs.laws.OptionsLaws.{paths_found}
+use Rattle.sf_command.proofs.subcommands.NamingLemmas.{calls_refused}
+use Rattle.sf_evaluate.specs.laws.FilesLaws.{handed_on}
 use Rattle.sf_command.proofs.subcommands.run_list.Goals as goal
 
 pub returns-clause-done : goal.returns-clause-done

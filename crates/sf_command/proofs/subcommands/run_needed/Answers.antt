@@ -1,7 +1,7 @@
 use Rattle.std.proofs.Common.{codes, refl}
 use Rattle.std.proofs.lemmas.Result.{IfErr-weaker, IfOk-weaker}
 use Rattle.clap.specs.Words.{found_of}
-use Rattle.sf_command_line.specs.OptionsLaws.{paths_found}
+use Rattle.sf_command_line.specs.laws.OptionsLaws.{paths_found}
 use Rattle.sf_command.proofs.subcommands.run_needed.Goals as goal
 
 pub returns-clause-done : goal.returns-clause-done

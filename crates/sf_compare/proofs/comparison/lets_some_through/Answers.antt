@@ -1,8 +1,8 @@
 use Rattle.std.proofs.Common.{◌↔◌, Bool, arith, subst, sym}
 use Rattle.std.specs.Prelude.{IsTrue}
-use Rattle.sf_relations.specs.KeepLaws.{behaviour_kept}
+use Rattle.sf_relations.specs.laws.KeepLaws.{behaviour_kept}
 use Rattle.sf_compare.specs.Comparisons.{LetsSomeThrough}
-use Rattle.sf_compare.proofs.PassingLemmas.{refusing, refusing-behaviour, some_through}
+use Rattle.sf_compare.proofs.comparison.PassingLemmas.{refusing, refusing-behaviour, some_through}
 use Rattle.sf_compare.proofs.comparison.lets_some_through.Goals as goal
 
 pub least_example-requires-clause-before : goal.least_example-requires-clause-before

@@ -1,4 +1,4 @@
-use Rattle.sf_compare.proofs.ComparisonLemmas.{one-comparison}
+use Rattle.sf_compare.proofs.comparison.ComparisonLemmas.{one-comparison}
 use Rattle.sf_compare.proofs.laws.one_comparison.Goals as goal
 
 pub returns : goal.returns

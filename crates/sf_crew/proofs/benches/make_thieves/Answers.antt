@@ -3,7 +3,7 @@ use Rattle.sf_crew.specs.declared.benches.history.HandleView.{HandleView}
 use Rattle.sf_crew.specs.declared.benches.handles.Thief.{Thief}
 use Rattle.sf_crew.specs.History.{new_view}
 use Rattle.sf_crew.specs.Benches.{IsOnBench, thief_view}
-use Rattle.sf_crew.proofs.NewThieves.{one_thief_more, one_more_on}
+use Rattle.sf_crew.proofs.benches.NewThieves.{one_thief_more, one_more_on}
 use Rattle.sf_crew.proofs.benches.make_thieves.Goals as goal
 
 pub loop-given-preserved : goal.loop-given-preserved

@@ -1,4 +1,4 @@
-use Rattle.sf_crew.proofs.GetLemmas.{shared_out}
+use Rattle.sf_crew.proofs.laws.GetLemmas.{shared_out}
 use Rattle.sf_crew.proofs.laws.handles_share_what_was_put.Goals as goal
 
 pub returns : goal.returns

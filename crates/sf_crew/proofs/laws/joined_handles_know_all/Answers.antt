@@ -1,4 +1,4 @@
-use Rattle.sf_crew.proofs.GetLemmas.{all_known}
+use Rattle.sf_crew.proofs.laws.GetLemmas.{all_known}
 use Rattle.sf_crew.proofs.laws.joined_handles_know_all.Goals as goal
 
 pub returns : goal.returns

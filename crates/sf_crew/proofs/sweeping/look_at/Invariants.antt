@@ -3,7 +3,7 @@ use Rattle.sf_ask.specs.QuestionBits.{bit_of}
 use Rattle.sf_crew.specs.BoardSteps.{with_notes}
 use Rattle.sf_crew.specs.Views.{Noted}
 use Rattle.sf_crew.specs.Boards.{seat_view, IsSeatOf}
-use Rattle.sf_crew.proofs.Skips.{HasLowerHit}
+use Rattle.sf_crew.proofs.sweeping.Skips.{HasLowerHit}
 use Rattle.sf_crew.proofs.sweeping.look_at.Given as goal
 
 abbrev pub invariant-loop-word : goal.invariant-loop-word

@@ -5,7 +5,7 @@ use Rattle.std.proofs.lemmas.Nat.Bits.{bit_at-trailing_zeros}
 use Rattle.sf_crew.specs.declared.board.view.View.{View}
 use Rattle.sf_crew.specs.BoardSteps.{with_notes}
 use Rattle.sf_crew.specs.Boards.{seat_view}
-use Rattle.sf_crew.proofs.Skips.{skips_more, skips_none, skips_still}
+use Rattle.sf_crew.proofs.sweeping.Skips.{skips_more, skips_none, skips_still}
 use Rattle.sf_crew.proofs.sweeping.look_at_word.Goals.{then-has_lower_hit, else-has_lower_hit}
 use Rattle.sf_crew.proofs.sweeping.look_at_word.Goals as goal
 

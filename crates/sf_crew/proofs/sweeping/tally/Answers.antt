@@ -2,7 +2,7 @@ use Rattle.std.proofs.Common.{List, All, subst, ◌≡◌, ◌+◌, vec_len, sym
 use Rattle.sf_crew.specs.declared.board.view.View.{View}
 use Rattle.sf_crew.specs.Boards.{about, seat_view, IsNewSeat}
 use Rattle.sf_crew.specs.declared.board.Seat.{Seat}
-use Rattle.sf_crew.proofs.FullLemmas.{full_tally, last_of}
+use Rattle.sf_crew.proofs.sweeping.FullLemmas.{full_tally, last_of}
 use Rattle.sf_crew.proofs.sweeping.tally.Goals as goal
 
 pub returns-clause-ok : goal.returns-clause-ok

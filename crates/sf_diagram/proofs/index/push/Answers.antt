@@ -1,5 +1,5 @@
 use Rattle.sf_diagram.proofs.Common.{common_steps, ◌≡◌, ◌<◌, ◌+◌, length, get_or, arith, refl, bucket_of, Interned}
-use Rattle.sf_diagram.proofs.IndexLemmas.{IsInBuckets-push}
+use Rattle.sf_diagram.proofs.index.IndexLemmas.{IsInBuckets-push}
 use Rattle.sf_diagram.proofs.index.push.Goals as goal
 
 pub returns-clause-indexed : goal.returns-clause-indexed

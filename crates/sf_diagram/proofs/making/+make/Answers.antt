@@ -1,5 +1,5 @@
 use Rattle.sf_diagram.proofs.Common.{ℕ, suc, true, false, Err, sym, ap, length, arith, err_from_is_err_and, Tree, Leaf, IsJoined, tree_at, KeepsTrees, keeps_more, wanted, HasValues}
-use Rattle.sf_diagram.proofs.TaskLemmas.{below-more, wanted-keeps, made-ordered, joined-values}
+use Rattle.sf_diagram.proofs.task.TaskLemmas.{below-more, wanted-keeps, made-ordered, joined-values}
 use Rattle.sf_diagram.proofs.SpentLemmas.{side-spent, tree-spent, fork-spent}
 use Rattle.sf_diagram.proofs.making.+make.Goals as goal
 use Rattle.sf_diagram.proofs.making.+make.Goals.{In_ok-high}

@@ -1,5 +1,5 @@
 use Rattle.sf_diagram.proofs.Common.{◌≡◌, ◌+◌, ◌<◌, ap, inl, inr, arith, cases_eq, tree_at, chosen_of, top_variable}
-use Rattle.sf_diagram.proofs.TaskLemmas.{rule-divided}
+use Rattle.sf_diagram.proofs.task.TaskLemmas.{rule-divided}
 use Rattle.sf_diagram.proofs.making.choice_step.Goals as goal
 
 pub returns-clause-step : goal.returns-clause-step

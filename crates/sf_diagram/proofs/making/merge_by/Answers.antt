@@ -1,5 +1,5 @@
 use Rattle.sf_diagram.proofs.Common.{◌+◌, ◌<◌, inl, inr, arith, cases_lt, tree_at, merged_of, top_variable}
-use Rattle.sf_diagram.proofs.TaskLemmas.{rule-divided}
+use Rattle.sf_diagram.proofs.task.TaskLemmas.{rule-divided}
 use Rattle.sf_diagram.proofs.making.merge_by.Goals as goal
 
 pub returns : goal.returns

@@ -1,5 +1,5 @@
 use Rattle.sf_diagram.proofs.Common.{ℕ, suc, ap, ◌∙◌, arith, Leaf, Fork, IsOrderedTree, tree_at}
-use Rattle.sf_diagram.proofs.LeastLemmas.{least-leaf, least-lower, least-higher, above-push}
+use Rattle.sf_diagram.proofs.reading.LeastLemmas.{least-leaf, least-lower, least-higher, above-push}
 use Rattle.sf_diagram.proofs.reading.+least_of.Goals as goal
 use Rattle.sf_diagram.proofs.reading.+least_of.Goals.{In-Choice}
 

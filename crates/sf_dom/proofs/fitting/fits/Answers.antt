@@ -1,5 +1,5 @@
 use Rattle.std.proofs.lemmas.Bool.{eqb-true}
-use Rattle.sf_dom.proofs.NextFitting.{HasBits-fits}
+use Rattle.sf_dom.proofs.fitting.NextFitting.{HasBits-fits}
 use Rattle.sf_dom.proofs.fitting.fits.Goals as goal
 
 pub returns-then-n-zeros-eq0 : goal.returns-then-n-zeros-eq0

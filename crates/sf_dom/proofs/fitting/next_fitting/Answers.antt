@@ -1,4 +1,4 @@
-use Rattle.sf_dom.proofs.NextFitting.{next}
+use Rattle.sf_dom.proofs.fitting.NextFitting.{next}
 use Rattle.sf_dom.proofs.fitting.next_fitting.Goals as goal
 
 pub returns-clause-above : goal.returns-clause-above

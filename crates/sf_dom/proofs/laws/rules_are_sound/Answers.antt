@@ -1,8 +1,8 @@
 use Rattle.sf_dom.proofs.Assumed.{learns, cant-learn}
 use Rattle.sf_dom.proofs.Builds.{built-facts, none-meets-all}
-use Rattle.sf_dom.proofs.Confined.{confines-range, cant-confine-range, confines-masked, cant-confine-masked}
+use Rattle.sf_dom.proofs.laws.Confined.{confines-range, cant-confine-range, confines-masked, cant-confine-masked}
 use Rattle.sf_dom.proofs.Covering.{covers-resting, known-back, results-decided}
-use Rattle.sf_dom.proofs.Forced.{forced-holds}
+use Rattle.sf_dom.proofs.laws.Forced.{forced-holds}
 use Rattle.sf_dom.proofs.Sampled.{grown-takes-in, none-agreed}
 use Rattle.sf_dom.proofs.RuleLaws.{forward-sound, negate-sound, reduction-sound, reduction-none, word-sound, word-none-sound, one-reduction}
 use Rattle.sf_dom.specs.Rules.{IsClosed, IsClosedWord}

@@ -1,4 +1,4 @@
-use Rattle.sf_dom.proofs.OneResult.{starts-one, learns-one, learns-none, grows-one, grows-none, confines-one, confines-none}
+use Rattle.sf_dom.proofs.laws.OneResult.{starts-one, learns-one, learns-none, grows-one, grows-none, confines-one, confines-none}
 use Rattle.sf_dom.proofs.laws.rules_have_one_result.Goals as goal
 
 pub returns : goal.returns

@@ -6,9 +6,9 @@ use Rattle.std.proofs.lemmas.List.{length_push, take-append-le}
 use Rattle.sf_sym.specs.Pool.{node_at}
 use Rattle.sf_dom.specs.Propagation.{AreConsistent}
 use Rattle.sf_dom.specs.Rules.{forward_node}
-use Rattle.sf_dom.specs.FactsLaws.{closed-consistent}
+use Rattle.sf_dom.specs.laws.FactsLaws.{closed-consistent}
 use Rattle.sf_dom.proofs.Passes.{one-number, operands-below}
-use Rattle.sf_dom.proofs.Propagations.{fixed-push, listed-push, ruled-push, consistent-operands, taken-consistent}
+use Rattle.sf_dom.proofs.propagation.Propagations.{fixed-push, listed-push, ruled-push, consistent-operands, taken-consistent}
 use Rattle.sf_dom.proofs.propagation.append.Goals.{then-fixed, else-fixed}
 use Rattle.sf_dom.proofs.propagation.append.Goals as goal
 

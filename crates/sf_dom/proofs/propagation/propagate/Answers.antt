@@ -1,6 +1,6 @@
 use Rattle.std.proofs.Common.{◌<◌, length, arith, refl, ap}
 use Rattle.std.specs.Prelude.{slice_index}
-use Rattle.sf_dom.proofs.Propagations.{variable-before, OperandsBelow-more}
+use Rattle.sf_dom.proofs.propagation.Propagations.{variable-before, OperandsBelow-more}
 use Rattle.sf_dom.proofs.Steps.{through-words, through-step, pass-met}
 use Rattle.sf_dom.proofs.propagation.propagate.Goals as goal
 

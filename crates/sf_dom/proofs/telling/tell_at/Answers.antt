@@ -1,7 +1,7 @@
 use Rattle.std.specs.Prelude.{Some}
-use Rattle.sf_sym.specs.ValueLaws.{word-place}
+use Rattle.sf_sym.specs.laws.ValueLaws.{word-place}
 use Rattle.sf_dom.specs.Facts.{known_at}
-use Rattle.sf_dom.proofs.Forcing.{forced-at, excluded-node}
+use Rattle.sf_dom.proofs.telling.Forcing.{forced-at, excluded-node}
 use Rattle.sf_dom.proofs.telling.tell_at.Goals as goal
 
 pub returns-in-Some-clause-rule : goal.returns-in-Some-clause-rule

@@ -1,4 +1,4 @@
-use Rattle.sf_dom.proofs.Forcing.{at-least-true, at-least-false}
+use Rattle.sf_dom.proofs.telling.Forcing.{at-least-true, at-least-false}
 use Rattle.sf_dom.proofs.telling.tell_at_least.Goals as goal
 
 pub returns-then-number-known-clause-rule : goal.returns-then-number-known-clause-rule

@@ -3,7 +3,7 @@ use Rattle.std.proofs.Common.{not, ap, ◌∙◌, arith, eq-eqb}
 use Rattle.std.proofs.lemmas.Bool.{ne_eqb}
 use Rattle.std.specs.Prelude.{bit_and}
 use Rattle.sf_dom.proofs.CommonBits.{common-known, common-open, none-open, and-zero}
-use Rattle.sf_dom.proofs.Forcing.{common-true, common-false}
+use Rattle.sf_dom.proofs.telling.Forcing.{common-true, common-false}
 use Rattle.sf_dom.proofs.telling.tell_common.Goals as goal
 
 pub returns-then-known-number-ne0-clause-told : goal.returns-then-known-number-ne0-clause-told

@@ -4,7 +4,7 @@ use Rattle.sf_insn.specs.declared.ops.Test.TheVariants.{Equal}
 use Rattle.sf_dom.specs.declared.known.Known.{Known}
 use Rattle.sf_dom.specs.Telling.{IsOpen}
 use Rattle.sf_dom.proofs.TestLaws.{differs-gives, equal-gives}
-use Rattle.sf_dom.proofs.Forcing.{equal-apart, equal-one}
+use Rattle.sf_dom.proofs.telling.Forcing.{equal-apart, equal-one}
 use Rattle.sf_dom.proofs.telling.tell_equal.Goals as goal
 
 -- a number that passes, and one that fails

@@ -1,4 +1,4 @@
-use Rattle.sf_dom.proofs.Forcing.{greater-true, greater-false}
+use Rattle.sf_dom.proofs.telling.Forcing.{greater-true, greater-false}
 use Rattle.sf_dom.proofs.telling.tell_greater.Goals as goal
 
 pub returns-then-number-known-clause-rule : goal.returns-then-number-known-clause-rule

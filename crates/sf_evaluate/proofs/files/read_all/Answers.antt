@@ -2,7 +2,7 @@ use Rattle.std.proofs.Common.{◌≡◌, List, [], ℕ, Bor, arith, length, map,
 use Rattle.std.proofs.lemmas.Option.{slice_get-get_or}
 use Rattle.std.proofs.lemmas.List.{length-map, map-append}
 use Rattle.sf_evaluate.proofs.KeptLemmas.{all_kept, none_more_kept, one_kept, read_why}
-use Rattle.sf_evaluate.specs.FilesLaws.{handed_on}
+use Rattle.sf_evaluate.specs.laws.FilesLaws.{handed_on}
 use Rattle.sf_evaluate.proofs.files.read_all.Goals as goal
 use Rattle.sf_evaluate.proofs.files.read_all.Goals.{then-len-le-MOST_PROGRAMS+in_ok-push, else-len-le-MOST_PROGRAMS}
 

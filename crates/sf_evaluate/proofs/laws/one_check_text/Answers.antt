@@ -1,4 +1,4 @@
-use Rattle.sf_evaluate.proofs.OneText.{one_text}
+use Rattle.sf_evaluate.proofs.laws.OneText.{one_text}
 use Rattle.sf_evaluate.proofs.laws.one_check_text.Goals as goal
 
 pub returns : goal.returns

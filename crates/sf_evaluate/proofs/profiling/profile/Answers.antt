@@ -1,4 +1,4 @@
-use Rattle.sf_evaluate.proofs.ProfilingLemmas.{profile_refused, profile_written}
+use Rattle.sf_evaluate.proofs.profiling.ProfilingLemmas.{profile_refused, profile_written}
 use Rattle.sf_evaluate.proofs.profiling.profile.Goals as goal
 
 pub returns-in-Ok-clause-done : goal.returns-in-Ok-clause-done

@@ -1,13 +1,13 @@
 use Rattle.std.proofs.Common.{codes, inl, inr, refl, subst, sym}
 use Rattle.clap.specs.Words.{found_of, rows_of}
 use Rattle.sf_command_line.specs.Options.{ArePaths}
-use Rattle.sf_command_line.specs.OptionsLaws.{paths_found}
+use Rattle.sf_command_line.specs.laws.OptionsLaws.{paths_found}
 use Rattle.sf_stack.specs.declared.fault.Fault.TheVariants.{Memory}
 use Rattle.sf_evaluate.specs.declared.fault.Fault.TheVariants.{Other}
 use Rattle.sf_evaluate.specs.Faults.{of_profile}
-use Rattle.sf_evaluate.specs.FilesLaws.{handed_on}
+use Rattle.sf_evaluate.specs.laws.FilesLaws.{handed_on}
 use Rattle.sf_evaluate.specs.Profiles.{AreCallsOf}
-use Rattle.sf_evaluate.proofs.ProfilingLemmas.{calling_why}
+use Rattle.sf_evaluate.proofs.profiling.ProfilingLemmas.{calling_why}
 use Rattle.sf_evaluate.proofs.profiling.read_settings.Goals as goal
 
 pub returns-in_err-names-clause-refused : goal.returns-in_err-names-clause-refused

@@ -1,7 +1,7 @@
 use Rattle.std.proofs.Common.{◌+◌, [], drop, append-nil, refl, sym, subst}
 use Rattle.std.proofs.lemmas.List.{drop_all}
 use Rattle.sf_evaluate.specs.Texts.{AreFilterLines}
-use Rattle.sf_evaluate.proofs.ListingLemmas.{one_filter_listed}
+use Rattle.sf_evaluate.proofs.document.listing.ListingLemmas.{one_filter_listed}
 use Rattle.sf_evaluate.proofs.texts.push_filters.Goals as goal
 
 pub loop-i-preserved : goal.loop-i-preserved

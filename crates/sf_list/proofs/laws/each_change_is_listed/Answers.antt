@@ -3,7 +3,7 @@ use Rattle.std.specs.Prelude.{Contains, count_by}
 use Rattle.sf_rows.specs.declared.subject.Subject.TheVariants as subject
 use Rattle.sf_rows.specs.Rows.{after_of, before_of, lies_in}
 use Rattle.sf_rows.specs.Shown.{ShownData}
-use Rattle.sf_list.proofs.ListingLemmas.{none-where-hidden, one-where-shown}
+use Rattle.sf_list.proofs.listing.ListingLemmas.{none-where-hidden, one-where-shown}
 use Rattle.sf_list.proofs.laws.each_change_is_listed.Goals as goal
 
 pub returns-clause-none : goal.returns-clause-none

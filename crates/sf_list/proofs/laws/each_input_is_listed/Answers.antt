@@ -4,7 +4,7 @@ use Rattle.sf_behaviour.specs.Answering.{answer_with}
 use Rattle.sf_rows.specs.declared.subject.Subject.TheVariants as subject
 use Rattle.sf_rows.specs.Rows.{lies_in}
 use Rattle.sf_rows.specs.Shown.{ShownData}
-use Rattle.sf_list.proofs.ListingLemmas.{one-where-shown}
+use Rattle.sf_list.proofs.listing.ListingLemmas.{one-where-shown}
 use Rattle.sf_list.proofs.laws.each_input_is_listed.Goals as goal
 
 pub returns-clause-one : goal.returns-clause-one

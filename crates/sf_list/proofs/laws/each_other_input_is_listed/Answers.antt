@@ -5,7 +5,7 @@ use Rattle.sf_parts.specs.Rows.{RowData}
 use Rattle.sf_rows.specs.declared.subject.Subject.TheVariants as subject
 use Rattle.sf_rows.specs.Trees.{is_named_call}
 use Rattle.sf_rows.specs.Rows.{lies_in, tree_word}
-use Rattle.sf_list.proofs.ListingLemmas.{one-where-shown}
+use Rattle.sf_list.proofs.listing.ListingLemmas.{one-where-shown}
 use Rattle.sf_list.proofs.laws.each_other_input_is_listed.Goals as goal
 
 pub returns-clause-one : goal.returns-clause-one

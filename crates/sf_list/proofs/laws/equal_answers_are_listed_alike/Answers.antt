@@ -2,7 +2,7 @@ use Rattle.std.proofs.Common.{subst}
 use Rattle.sf_diagram.specs.Trees.{Tree}
 use Rattle.sf_rows.specs.declared.subject.Subject.TheVariants as subject
 use Rattle.sf_rows.specs.Shown.{IsShown}
-use Rattle.sf_list.proofs.ListingLemmas.{digested-alike, told-alike}
+use Rattle.sf_list.proofs.listing.ListingLemmas.{digested-alike, told-alike}
 use Rattle.sf_list.proofs.laws.equal_answers_are_listed_alike.Goals as goal
 
 pub returns-clause-shown : goal.returns-clause-shown

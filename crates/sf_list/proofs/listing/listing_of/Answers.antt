@@ -1,4 +1,4 @@
-use Rattle.sf_rows.specs.TreeLaws.{answers_tree}
+use Rattle.sf_rows.specs.laws.TreeLaws.{answers_tree}
 use Rattle.sf_diagram.specs.Stores.{tree_at}
 use Rattle.sf_list.proofs.listing.listing_of.Goals as goal
 

@@ -1,5 +1,5 @@
 use Rattle.std.proofs.Common.{refl}
-use Rattle.sf_names.proofs.JoinLemmas.{added_to, are_few}
+use Rattle.sf_names.proofs.joining.JoinLemmas.{added_to, are_few}
 use Rattle.sf_names.proofs.joining.join_set.Goals as goal
 
 pub returns-clause-joined : goal.returns-clause-joined

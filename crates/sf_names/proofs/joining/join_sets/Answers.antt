@@ -1,5 +1,5 @@
 use Rattle.std.proofs.Common.{subst}
-use Rattle.sf_names.proofs.JoinLemmas.{JoinedSoFar, one_joined}
+use Rattle.sf_names.proofs.joining.JoinLemmas.{JoinedSoFar, one_joined}
 use Rattle.sf_names.proofs.joining.join_sets.Goals as goal
 
 pub loop-names-preserved : goal.loop-names-preserved

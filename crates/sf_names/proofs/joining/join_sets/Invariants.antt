@@ -1,5 +1,5 @@
 use Rattle.std.specs.Vec.Iter.{into_iter_items}
-use Rattle.sf_names.proofs.JoinLemmas.{JoinedSoFar}
+use Rattle.sf_names.proofs.joining.JoinLemmas.{JoinedSoFar}
 use Rattle.sf_names.proofs.joining.join_sets.Given as goal
 
 abbrev pub invariant-loop-names : goal.invariant-loop-names

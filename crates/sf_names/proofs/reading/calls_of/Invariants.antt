@@ -1,7 +1,7 @@
 use Rattle.std.proofs.Common.{◌≡◌}
 use Rattle.toml.specs.View.{members_view, table_view}
 use Rattle.sf_names.specs.Names.{calls_of}
-use Rattle.sf_names.proofs.SetLemmas.{with_calls}
+use Rattle.sf_names.proofs.reading.SetLemmas.{with_calls}
 use Rattle.sf_names.proofs.reading.calls_of.Given as goal
 
 abbrev pub invariant-loop-name : goal.invariant-loop-name

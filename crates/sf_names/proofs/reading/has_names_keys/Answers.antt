@@ -1,5 +1,5 @@
 use Rattle.std.proofs.Common.{◌∙◌, sym}
-use Rattle.sf_names.proofs.SetLemmas.{keys_view}
+use Rattle.sf_names.proofs.reading.SetLemmas.{keys_view}
 use Rattle.sf_names.proofs.reading.has_names_keys.Goals as goal
 
 pub returns : goal.returns

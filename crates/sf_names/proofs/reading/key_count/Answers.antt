@@ -1,5 +1,5 @@
 use Rattle.std.proofs.Common.{◌∙◌, sym}
-use Rattle.sf_names.proofs.SetLemmas.{count_view}
+use Rattle.sf_names.proofs.reading.SetLemmas.{count_view}
 use Rattle.sf_names.proofs.reading.key_count.Goals as goal
 
 pub returns : goal.returns

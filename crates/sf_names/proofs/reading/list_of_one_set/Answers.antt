@@ -1,6 +1,6 @@
 use Rattle.std.proofs.Common.{arith}
 use Rattle.std.proofs.lemmas.Grind.{common_steps}
-use Rattle.sf_names.proofs.SetLemmas.{alone}
+use Rattle.sf_names.proofs.reading.SetLemmas.{alone}
 use Rattle.sf_names.proofs.reading.list_of_one_set.Goals as goal
 
 pub returns : goal.returns

@@ -1,6 +1,6 @@
 use Rattle.std.proofs.Common.{arith}
 use Rattle.std.proofs.lemmas.Grind.{common_steps}
-use Rattle.sf_names.proofs.NeverSyntax.{no_syntax}
+use Rattle.sf_names.proofs.reading.NeverSyntax.{no_syntax}
 use Rattle.sf_names.proofs.reading.read_names.Goals as goal
 
 pub returns-in-Ok-clause-syntax : goal.returns-in-Ok-clause-syntax

@@ -1,6 +1,6 @@
 use Rattle.std.proofs.Common.{arith}
 use Rattle.std.proofs.lemmas.Grind.{common_steps}
-use Rattle.sf_names.proofs.SetLemmas.{one_set_more}
+use Rattle.sf_names.proofs.reading.SetLemmas.{one_set_more}
 use Rattle.sf_names.proofs.reading.sets_of.Goals as goal
 
 pub loop-set-preserved : goal.loop-set-preserved

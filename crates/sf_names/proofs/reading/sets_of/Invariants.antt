@@ -1,6 +1,6 @@
 use Rattle.toml.specs.View.{members_view, table_view}
 use Rattle.sf_names.specs.Names.{sets_of_table}
-use Rattle.sf_names.proofs.SetLemmas.{SetsSoFar}
+use Rattle.sf_names.proofs.reading.SetLemmas.{SetsSoFar}
 use Rattle.sf_names.proofs.reading.sets_of.Given as goal
 
 abbrev pub invariant-loop-set : goal.invariant-loop-set

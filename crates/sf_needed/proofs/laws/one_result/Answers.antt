@@ -1,4 +1,4 @@
-use Rattle.sf_needed.proofs.OneLemmas.{one-result}
+use Rattle.sf_needed.proofs.laws.OneLemmas.{one-result}
 use Rattle.sf_needed.proofs.laws.one_result.Goals as goal
 
 pub returns : goal.returns

@@ -1,7 +1,7 @@
 use Rattle.std.proofs.Common.{[], true, ◌∙◌}
 use Rattle.sf_diagram.specs.Trees.{value}
 use Rattle.sf_parts.specs.Rows.{rows_under}
-use Rattle.sf_parts.proofs.RowLemmas.{rows-count, rows-right, shown-once}
+use Rattle.sf_parts.proofs.rows.RowLemmas.{rows-count, rows-right, shown-once}
 use Rattle.sf_parts.proofs.laws.each_input_is_in_one_row.Goals as goal
 
 pub returns : goal.returns

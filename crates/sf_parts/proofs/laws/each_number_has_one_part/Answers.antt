@@ -2,7 +2,7 @@ use Rattle.std.proofs.Common.{◌≡◌, ℕ, List, [], ◌∷◌, refl, ap, ◌
 use Rattle.std.specs.Prelude.{◌+◌, count_by, if◌then◌else◌}
 use Rattle.std.proofs.lemmas.List.Sums.{sum_by-cons}
 use Rattle.sf_parts.specs.Parts.{PartData, form_has, parts_in}
-use Rattle.sf_parts.proofs.PartLemmas.{holders}
+use Rattle.sf_parts.proofs.parts.PartLemmas.{holders}
 use Rattle.sf_parts.proofs.WayLemmas.{parts_in-right}
 use Rattle.sf_parts.proofs.laws.each_number_has_one_part.Goals as goal
 

@@ -1,4 +1,4 @@
-use Rattle.sf_parts.proofs.WordLemmas.{value-behind}
+use Rattle.sf_parts.proofs.word.WordLemmas.{value-behind}
 use Rattle.sf_parts.proofs.WayLemmas.{parts_in-right}
 use Rattle.sf_parts.proofs.laws.parts_lead_on.Goals as goal
 

@@ -2,7 +2,7 @@ use Rattle.std.proofs.Common.{ℕ, [], ◌==◌, ◌∙◌}
 use Rattle.std.specs.Prelude.{not}
 use Rattle.sf_diagram.specs.Trees.{value}
 use Rattle.sf_parts.specs.Rows.{rows_under}
-use Rattle.sf_parts.proofs.RowLemmas.{hits-count, rows-right, shown-never}
+use Rattle.sf_parts.proofs.rows.RowLemmas.{hits-count, rows-right, shown-never}
 use Rattle.sf_parts.proofs.laws.rows_have_the_number.Goals as goal
 
 pub returns : goal.returns

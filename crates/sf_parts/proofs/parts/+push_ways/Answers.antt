@@ -2,7 +2,7 @@ use Rattle.std.proofs.Common.{List, map, refl, sym, ap, ◌++◌, ◌∙◌, ari
 use Rattle.sf_diagram.specs.Stores.{tree_at}
 use Rattle.sf_parts.specs.Parts.{PartData, span_part}
 use Rattle.sf_parts.specs.Stored.{StoredPart, part_seen}
-use Rattle.sf_parts.proofs.StoredLemmas.{parts-kept, parts-push, ways-outside, ways-made}
+use Rattle.sf_parts.proofs.parts.StoredLemmas.{parts-kept, parts-push, ways-outside, ways-made}
 use Rattle.sf_parts.proofs.parts.+push_ways.Goals as goal
 
 pub returns-in-None-clause-kept : goal.returns-in-None-clause-kept

@@ -1,5 +1,5 @@
 use Rattle.std.proofs.Common.{arith}
-use Rattle.sf_parts.proofs.StoredLemmas.{apart-more}
+use Rattle.sf_parts.proofs.parts.StoredLemmas.{apart-more}
 use Rattle.sf_parts.proofs.parts.apart_parts.Goals as goal
 
 pub loop-run-preserved : goal.loop-run-preserved

@@ -1,5 +1,5 @@
 use Rattle.std.proofs.Common.{arith}
-use Rattle.sf_parts.proofs.StoredLemmas.{known-more, known-none}
+use Rattle.sf_parts.proofs.parts.StoredLemmas.{known-more, known-none}
 use Rattle.sf_parts.proofs.parts.behinds_of.Goals as goal
 
 pub loop-run-preserved : goal.loop-run-preserved

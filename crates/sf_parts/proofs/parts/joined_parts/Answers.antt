@@ -1,6 +1,6 @@
 use Rattle.std.proofs.Common.{map}
 use Rattle.sf_parts.specs.Stored.{run_seen}
-use Rattle.sf_parts.proofs.StoredLemmas.{joined-by}
+use Rattle.sf_parts.proofs.parts.StoredLemmas.{joined-by}
 use Rattle.sf_parts.proofs.parts.joined_parts.Goals as goal
 
 pub returns-clause-parts : goal.returns-clause-parts

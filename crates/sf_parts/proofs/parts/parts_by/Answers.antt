@@ -3,7 +3,7 @@ use Rattle.std.proofs.lemmas.List.{take_all}
 use Rattle.sf_diagram.specs.Stores.{tree_at}
 use Rattle.sf_parts.specs.Parts.{part_in}
 use Rattle.sf_parts.specs.Stored.{run_seen}
-use Rattle.sf_parts.proofs.StoredLemmas.{parts-kept, parts-push, part-more}
+use Rattle.sf_parts.proofs.parts.StoredLemmas.{parts-kept, parts-push, part-more}
 use Rattle.sf_parts.proofs.parts.parts_by.Goals as goal
 
 pub loop-behind-preserved : goal.loop-behind-preserved

@@ -5,8 +5,8 @@ use Rattle.sf_parts.specs.Runs.{mask_for}
 use Rattle.sf_parts.specs.Stored.{part_seen}
 use Rattle.sf_parts.specs.declared.runs.Run.{Run}
 use Rattle.sf_parts.specs.declared.word.TheConstants.{TESTS}
-use Rattle.sf_parts.proofs.RunLemmas.{runs_in-some}
-use Rattle.sf_parts.proofs.StoredLemmas.{by-ways, by-runs}
+use Rattle.sf_parts.proofs.runs.RunLemmas.{runs_in-some}
+use Rattle.sf_parts.proofs.parts.StoredLemmas.{by-ways, by-runs}
 use Rattle.sf_parts.proofs.parts.parts_of.Goals as goal
 
 pub runs_of-requires-clause-masked : goal.runs_of-requires-clause-masked

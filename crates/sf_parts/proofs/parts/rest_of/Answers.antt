@@ -1,5 +1,5 @@
 use Rattle.std.proofs.Common.{arith}
-use Rattle.sf_parts.proofs.StoredLemmas.{rest-first, rest-more, rest-none}
+use Rattle.sf_parts.proofs.parts.StoredLemmas.{rest-first, rest-more, rest-none}
 use Rattle.sf_parts.proofs.parts.rest_of.Goals as goal
 
 pub loop-run-init : goal.loop-run-init

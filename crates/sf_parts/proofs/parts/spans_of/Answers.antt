@@ -1,5 +1,5 @@
 use Rattle.std.proofs.Common.{arith}
-use Rattle.sf_parts.proofs.StoredLemmas.{spans-more}
+use Rattle.sf_parts.proofs.parts.StoredLemmas.{spans-more}
 use Rattle.sf_parts.proofs.parts.spans_of.Goals as goal
 
 pub loop-run-preserved : goal.loop-run-preserved

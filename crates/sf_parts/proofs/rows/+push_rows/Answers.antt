@@ -5,10 +5,10 @@ use Rattle.sf_diagram.specs.Stores.{tree_at}
 use Rattle.sf_parts.specs.Parts.{parts_in}
 use Rattle.sf_parts.specs.Rows.{ConditionData, RowData}
 use Rattle.sf_parts.specs.Stored.{StoredPart, part_seen}
-use Rattle.sf_parts.proofs.RowLemmas.{rows-leaf, rows-none, rows-outside, rows-all, rows-step, conditions-back, leaf-over, outside-over, crowded-here, step-over}
+use Rattle.sf_parts.proofs.rows.RowLemmas.{rows-leaf, rows-none, rows-outside, rows-all, rows-step, conditions-back, leaf-over, outside-over, crowded-here, step-over}
 use Rattle.sf_parts.specs.declared.rows.TheConstants.{ROWS}
 use Rattle.sf_parts.specs.declared.word.TheConstants.{TESTS}
-use Rattle.sf_parts.proofs.RunLemmas.{err-more}
+use Rattle.sf_parts.proofs.runs.RunLemmas.{err-more}
 use Rattle.sf_parts.proofs.rows.+push_rows.Goals as goal
 
 pub returns-in-Number-clause-rows : goal.returns-in-Number-clause-rows

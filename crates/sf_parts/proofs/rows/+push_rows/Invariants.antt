@@ -2,7 +2,7 @@ use Rattle.std.proofs.Common.{◌≡◌, ◌-◌, ◌++◌, ◌==◌, take}
 use Rattle.std.specs.List.{flat_map}
 use Rattle.sf_diagram.specs.Stores.{tree_at}
 use Rattle.sf_parts.specs.Parts.{parts_in}
-use Rattle.sf_parts.proofs.RowLemmas.{rows_behind}
+use Rattle.sf_parts.proofs.rows.RowLemmas.{rows_behind}
 use Rattle.sf_parts.proofs.rows.+push_rows.Given as goal
 
 abbrev pub decreases-push_rows : goal.decreases-push_rows

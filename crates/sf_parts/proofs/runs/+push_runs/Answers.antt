@@ -4,7 +4,7 @@ use Rattle.std.proofs.lemmas.Nat.{pow_pos}
 use Rattle.sf_diagram.specs.Stores.{tree_at}
 use Rattle.sf_parts.specs.Runs.{RunData, with_run}
 use Rattle.sf_parts.specs.Stored.{runs_seen}
-use Rattle.sf_parts.proofs.RunLemmas.{runs-none, runs-outside, runs-skip, runs-more, runs-made, runs-higher, err-more, power}
+use Rattle.sf_parts.proofs.runs.RunLemmas.{runs-none, runs-outside, runs-skip, runs-more, runs-made, runs-higher, err-more, power}
 use Rattle.sf_parts.proofs.runs.+push_runs.Goals as goal
 
 pub returns-then-block-eq0-clause-runs : goal.returns-then-block-eq0-clause-runs

@@ -2,7 +2,7 @@ use Rattle.std.proofs.Common.{Some, ◌<◌, ◌++◌, ◌∷◌, [], List, leng
 use Rattle.std.proofs.lemmas.Result.{on_ok_weaker}
 use Rattle.std.proofs.lemmas.List.Elements.{All-pop}
 use Rattle.sf_parts.specs.declared.runs.Run.{Run}
-use Rattle.sf_parts.proofs.RunLemmas.{push-joined, push-apart}
+use Rattle.sf_parts.proofs.runs.RunLemmas.{push-joined, push-apart}
 use Rattle.sf_parts.proofs.runs.push_run.Goals as goal
 
 pub returns-then-next-run-clause-runs : goal.returns-then-next-run-clause-runs

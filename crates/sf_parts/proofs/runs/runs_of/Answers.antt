@@ -1,5 +1,5 @@
 use Rattle.sf_diagram.specs.Stores.{tree_at}
-use Rattle.sf_parts.proofs.RunLemmas.{option-more, few-listed, runs-over}
+use Rattle.sf_parts.proofs.runs.RunLemmas.{option-more, few-listed, runs-over}
 use Rattle.sf_parts.proofs.runs.runs_of.Goals as goal
 
 pub returns-in-Err-Spent-clause-runs : goal.returns-in-Err-Spent-clause-runs

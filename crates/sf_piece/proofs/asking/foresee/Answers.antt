@@ -2,7 +2,7 @@ use Rattle.std.proofs.Common.{ℕ, subst}
 use Rattle.std.specs.Prelude.{IfSome}
 use Rattle.sf_dom.specs.Backward.{IsPropagatedBack}
 use Rattle.sf_dom.specs.Facts.{known_at}
-use Rattle.sf_dom.specs.LearningLaws.{told-by}
+use Rattle.sf_dom.specs.laws.LearningLaws.{told-by}
 use Rattle.sf_dom.specs.Rules.{IsClosedAt}
 use Rattle.sf_dom.specs.Telling.{IsForcedBy}
 use Rattle.sf_piece.specs.Pieces.{PieceData}

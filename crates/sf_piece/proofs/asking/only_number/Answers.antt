@@ -1,6 +1,6 @@
 use Rattle.std.proofs.Common.{refl}
 use Rattle.sf_dom.specs.Facts.{known_at}
-use Rattle.sf_dom.specs.FactsLaws.{closed-consistent}
+use Rattle.sf_dom.specs.laws.FactsLaws.{closed-consistent}
 use Rattle.sf_piece.proofs.Foretold.{decided_number}
 use Rattle.sf_piece.proofs.asking.only_number.Goals as goal
 

@@ -1,5 +1,5 @@
 use Rattle.std.proofs.Common.{arith}
-use Rattle.sf_piece.proofs.Spelled.{with_run}
+use Rattle.sf_piece.proofs.name.Spelled.{with_run}
 use Rattle.sf_piece.proofs.name.add_runs.Goals as goal
 
 pub loop-place-preserved : goal.loop-place-preserved

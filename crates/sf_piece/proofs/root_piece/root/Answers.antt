@@ -1,7 +1,7 @@
 use Rattle.std.proofs.Common.{refl}
 use Rattle.sf_piece.proofs.Lawful.{lawful_first}
 use Rattle.sf_piece.proofs.AtHand.{first_root}
-use Rattle.sf_piece.proofs.FirstPiece.{first_rule, first_reached}
+use Rattle.sf_piece.proofs.root_piece.FirstPiece.{first_rule, first_reached}
 use Rattle.sf_piece.proofs.root_piece.root.Goals as goal
 
 pub invariant_of-new : goal.invariant_of-new

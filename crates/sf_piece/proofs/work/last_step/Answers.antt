@@ -1,6 +1,6 @@
 use Rattle.std.proofs.Common.{refl}
 use Rattle.sf_piece.proofs.Joined.{on_same, on_trans}
-use Rattle.sf_piece.proofs.Advanced.{gone_more}
+use Rattle.sf_piece.proofs.work.Advanced.{gone_more}
 use Rattle.sf_piece.proofs.Tidy.{tidy_on}
 use Rattle.sf_piece.proofs.work.last_step.Goals as goal
 

@@ -1,6 +1,6 @@
 use Rattle.sf_piece.proofs.Joined.{split_work, settled_work, empty_work}
 use Rattle.sf_piece.proofs.OnePiece.{sides_reached}
-use Rattle.sf_piece.proofs.Advanced.{split_step, settled_step, empty_step}
+use Rattle.sf_piece.proofs.work.Advanced.{split_step, settled_step, empty_step}
 use Rattle.sf_piece.proofs.work.step_of.Goals as goal
 
 pub invariant_of-new : goal.invariant_of-new

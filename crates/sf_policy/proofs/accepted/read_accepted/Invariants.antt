@@ -1,5 +1,5 @@
 use Rattle.std.proofs.Common.{map, string_bytes, take}
-use Rattle.sf_policy.proofs.AcceptedLemmas.{ReadSoFar}
+use Rattle.sf_policy.proofs.accepted.AcceptedLemmas.{ReadSoFar}
 use Rattle.sf_policy.proofs.accepted.read_accepted.Given as goal
 
 abbrev pub invariant-loop-place : goal.invariant-loop-place

@@ -1,6 +1,6 @@
 use Rattle.std.proofs.Common.{◌∙◌, sym}
 use Rattle.sf_profile.specs.Settings.{has_cap}
-use Rattle.sf_profile.proofs.PlanLemmas.{all_texts}
+use Rattle.sf_profile.proofs.plan.PlanLemmas.{all_texts}
 use Rattle.sf_profile.proofs.applying.has_caps.Goals as goal
 
 pub returns : goal.returns

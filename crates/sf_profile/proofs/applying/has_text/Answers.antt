@@ -1,6 +1,6 @@
 use Rattle.std.proofs.Common.{◌∙◌, sym}
 use Rattle.std.specs.Str.{bytes_eq}
-use Rattle.sf_profile.proofs.PlanLemmas.{any_texts}
+use Rattle.sf_profile.proofs.plan.PlanLemmas.{any_texts}
 use Rattle.sf_profile.proofs.applying.has_text.Goals as goal
 
 pub returns : goal.returns

@@ -1,7 +1,7 @@
 use Rattle.std.proofs.Common.{◌∙◌, sym}
 use Rattle.sf_profile.specs.Cautions.{is_loose}
 use Rattle.sf_profile.specs.Plans.{comparison_of}
-use Rattle.sf_profile.proofs.CautionLemmas.{any_map}
+use Rattle.sf_profile.proofs.cautions.CautionLemmas.{any_map}
 use Rattle.sf_profile.proofs.cautions.has_loose.Goals as goal
 
 pub returns : goal.returns

@@ -1,7 +1,7 @@
 use Rattle.std.proofs.Common.{◌≡◌, sym}
 use Rattle.serde_json.specs.View.{view}
 use Rattle.sf_profile.specs.Cautions.{loose_masks}
-use Rattle.sf_profile.proofs.CautionLemmas.{file_holds}
+use Rattle.sf_profile.proofs.cautions.CautionLemmas.{file_holds}
 use Rattle.sf_profile.proofs.cautions.loose_in_file.Goals as goal
 
 pub returns-in-Some-clause-loose : goal.returns-in-Some-clause-loose

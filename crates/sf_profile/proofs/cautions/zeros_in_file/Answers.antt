@@ -1,8 +1,8 @@
 use Rattle.std.proofs.Common.{sym}
 use Rattle.serde_json.specs.View.{view}
 use Rattle.sf_profile.specs.Cautions.{HaveZeroErrors}
-use Rattle.sf_profile.proofs.CautionLemmas.{file_holds}
-use Rattle.sf_profile.proofs.FileLemmas.{file_refused}
+use Rattle.sf_profile.proofs.cautions.CautionLemmas.{file_holds}
+use Rattle.sf_profile.proofs.file.FileLemmas.{file_refused}
 use Rattle.sf_profile.proofs.cautions.zeros_in_file.Goals as goal
 
 pub returns-in-Some-clause-zeros : goal.returns-in-Some-clause-zeros

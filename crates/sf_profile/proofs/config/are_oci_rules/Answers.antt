@@ -1,6 +1,6 @@
 use Rattle.std.proofs.Common.{◌∙◌, sym}
 use Rattle.sf_profile.specs.Configs.{is_oci_rule}
-use Rattle.sf_profile.proofs.TreeLemmas.{all_map}
+use Rattle.sf_profile.proofs.tree.TreeLemmas.{all_map}
 use Rattle.sf_profile.proofs.config.are_oci_rules.Goals as goal
 
 pub returns : goal.returns

@@ -1,6 +1,6 @@
 use Rattle.std.proofs.Common.{◌≡◌, ◌≤◌, length, drop}
 use Rattle.std.specs.Str.{chars}
-use Rattle.sf_profile.proofs.ConfigLemmas.{AreSameSoFar}
+use Rattle.sf_profile.proofs.config.ConfigLemmas.{AreSameSoFar}
 use Rattle.sf_profile.proofs.config.has_letters.Given as goal
 
 abbrev pub invariant-loop-letter : goal.invariant-loop-letter

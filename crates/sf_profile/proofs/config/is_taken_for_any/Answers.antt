@@ -1,6 +1,6 @@
 use Rattle.std.proofs.Common.{List, ℕ, Bor, ◌∙◌, sym}
 use Rattle.sf_profile.specs.Configs.{is_taken_for}
-use Rattle.sf_profile.proofs.TreeLemmas.{any_map}
+use Rattle.sf_profile.proofs.tree.TreeLemmas.{any_map}
 use Rattle.sf_profile.proofs.config.is_taken_for_any.Goals as goal
 
 pub returns : goal.returns

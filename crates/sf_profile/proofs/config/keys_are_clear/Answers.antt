@@ -1,6 +1,6 @@
 use Rattle.std.proofs.Common.{List, ℕ, Bor, map, ◌∙◌, sym}
 use Rattle.sf_profile.specs.Configs.{is_clear}
-use Rattle.sf_profile.proofs.TreeLemmas.{keys_view}
+use Rattle.sf_profile.proofs.tree.TreeLemmas.{keys_view}
 use Rattle.sf_profile.proofs.config.keys_are_clear.Goals as goal
 
 pub returns : goal.returns

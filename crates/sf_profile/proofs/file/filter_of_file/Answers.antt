@@ -1,6 +1,6 @@
 use Rattle.std.proofs.Common.{sym}
 use Rattle.serde_json.specs.View.{view}
-use Rattle.sf_profile.proofs.FileLemmas.{file_made, file_refused}
+use Rattle.sf_profile.proofs.file.FileLemmas.{file_made, file_refused}
 use Rattle.sf_profile.proofs.file.filter_of_file.Goals as goal
 
 pub returns-in-Some-clause-made : goal.returns-in-Some-clause-made

@@ -1,6 +1,6 @@
 use Rattle.std.proofs.Common.{sym, string_bytes}
 use Rattle.serde_json.specs.View.{view}
-use Rattle.sf_profile.proofs.FileLemmas.{file_refused, file_told}
+use Rattle.sf_profile.proofs.file.FileLemmas.{file_refused, file_told}
 use Rattle.sf_profile.proofs.file.notes_of_file.Goals as goal
 
 pub returns-in-Some-clause-notes : goal.returns-in-Some-clause-notes

@@ -1,6 +1,6 @@
 use Rattle.std.proofs.Common.{sym, string_bytes}
 use Rattle.serde_json.specs.View.{view}
-use Rattle.sf_profile.proofs.FileLemmas.{file_unknown}
+use Rattle.sf_profile.proofs.file.FileLemmas.{file_unknown}
 use Rattle.sf_profile.proofs.file.unknown_in_file.Goals as goal
 
 pub returns-in-Some-clause-words : goal.returns-in-Some-clause-words

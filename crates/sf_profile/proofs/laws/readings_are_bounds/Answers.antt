@@ -1,4 +1,4 @@
-use Rattle.sf_profile.proofs.LawLemmas.{bounds}
+use Rattle.sf_profile.proofs.laws.LawLemmas.{bounds}
 use Rattle.sf_profile.proofs.laws.readings_are_bounds.Goals as goal
 
 pub returns : goal.returns

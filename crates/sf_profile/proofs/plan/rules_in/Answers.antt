@@ -3,7 +3,7 @@ use Rattle.std.proofs.lemmas.Grind.{common_steps}
 use Rattle.serde_json.specs.View.{view}
 use Rattle.sf_profile.specs.Limits.{calls_left}
 use Rattle.sf_profile.specs.Plans.{rules_of}
-use Rattle.sf_profile.proofs.LimitLemmas.{onward, over}
+use Rattle.sf_profile.proofs.limits.LimitLemmas.{onward, over}
 use Rattle.sf_profile.proofs.plan.rules_in.Goals as goal
 
 pub returns-in_default-clause-refused : goal.returns-in_default-clause-refused

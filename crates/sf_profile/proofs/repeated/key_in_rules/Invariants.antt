@@ -1,5 +1,5 @@
 use Rattle.sf_profile.specs.Repeats.{AreReadBack}
-use Rattle.sf_profile.proofs.RepeatLemmas.{from}
+use Rattle.sf_profile.proofs.repeats.RepeatLemmas.{from}
 use Rattle.sf_profile.proofs.repeated.key_in_rules.Given as goal
 
 abbrev pub invariant-loop-rule : goal.invariant-loop-rule

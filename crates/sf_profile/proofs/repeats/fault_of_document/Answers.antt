@@ -3,7 +3,7 @@ use Rattle.std.specs.Prelude.{IfOk}
 use Rattle.json.specs.Value.{value_view}
 use Rattle.sf_profile.specs.declared.fault.Fault.TheVariants as faults
 use Rattle.sf_profile.specs.Repeats.{AreReadBack, IsFaultOfRepeat, items_where}
-use Rattle.sf_profile.proofs.RepeatLemmas.{rules_read_back}
+use Rattle.sf_profile.proofs.repeats.RepeatLemmas.{rules_read_back}
 use Rattle.sf_profile.proofs.repeats.fault_of_document.Goals as goal
 
 pub fault_of_rules-requires : goal.fault_of_rules-requires

@@ -1,5 +1,5 @@
 use Rattle.json.specs.Value.{value_view}
-use Rattle.sf_profile.proofs.RepeatLemmas.{fault_of_text}
+use Rattle.sf_profile.proofs.repeats.RepeatLemmas.{fault_of_text}
 use Rattle.sf_profile.proofs.repeats.fault_of_repeat.Goals as goal
 
 pub fault_of_document-requires : goal.fault_of_document-requires

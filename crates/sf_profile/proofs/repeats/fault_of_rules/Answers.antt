@@ -4,7 +4,7 @@ use Rattle.json.specs.Strict.{HasUniqueKeys}
 use Rattle.json.specs.Value.{value_view}
 use Rattle.sf_profile.specs.declared.fault.Fault.TheVariants as faults
 use Rattle.sf_profile.specs.Repeats.{IsReadBack}
-use Rattle.sf_profile.proofs.RepeatLemmas.{read_back_here, fault_here, fault_later}
+use Rattle.sf_profile.proofs.repeats.RepeatLemmas.{read_back_here, fault_here, fault_later}
 use Rattle.sf_profile.proofs.repeats.fault_of_rules.Goals as goal
 
 pub value_repeats_key-requires : goal.value_repeats_key-requires

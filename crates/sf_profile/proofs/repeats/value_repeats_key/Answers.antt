@@ -1,6 +1,6 @@
 use Rattle.std.proofs.Common.{◌∙◌}
 use Rattle.json.specs.Value.{value_view}
-use Rattle.sf_profile.proofs.RepeatLemmas.{told_of_value}
+use Rattle.sf_profile.proofs.repeats.RepeatLemmas.{told_of_value}
 use Rattle.sf_profile.proofs.repeats.value_repeats_key.Goals as goal
 
 pub returns-in-Ok : goal.returns-in-Ok

@@ -1,5 +1,5 @@
 use Rattle.std.proofs.Common.{ap, map, ◌∙◌}
-use Rattle.sf_profile.proofs.NoteLemmas.{insert_name}
+use Rattle.sf_profile.proofs.telling.NoteLemmas.{insert_name}
 use Rattle.sf_profile.proofs.telling.push_name.Goals as goal
 
 pub returns : goal.returns

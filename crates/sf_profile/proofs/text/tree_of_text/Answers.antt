@@ -1,6 +1,6 @@
 use Rattle.std.proofs.lemmas.Result.{err_from_is_err_and}
 use Rattle.serde_json.specs.View.{view}
-use Rattle.sf_profile.proofs.TextLemmas.{none_read, none_unique}
+use Rattle.sf_profile.proofs.text.TextLemmas.{none_read, none_unique}
 use Rattle.sf_profile.proofs.text.tree_of_text.Goals as goal
 
 pub returns-in_err-value-clause-refused : goal.returns-in_err-value-clause-refused

@@ -1,6 +1,6 @@
 use Rattle.sf_diagram.specs.Trees.{bits_with}
 use Rattle.sf_diagram.specs.Stores.{tree_at}
-use Rattle.sf_relations.proofs.FindingLemmas.{example-back, unchanged, least-change}
+use Rattle.sf_relations.proofs.findings.FindingLemmas.{example-back, unchanged, least-change}
 use Rattle.sf_relations.proofs.examples.least_example.Goals as goal
 
 pub returns-in_default-clause-found : goal.returns-in_default-clause-found

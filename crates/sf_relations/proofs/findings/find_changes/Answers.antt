@@ -1,5 +1,5 @@
-use Rattle.sf_diagram.specs.KeepLaws.{keeps_more}
-use Rattle.sf_relations.specs.KeepLaws.{behaviour_kept}
+use Rattle.sf_diagram.specs.laws.KeepLaws.{keeps_more}
+use Rattle.sf_relations.specs.laws.KeepLaws.{behaviour_kept}
 use Rattle.sf_relations.proofs.findings.find_changes.Goals as goal
 
 pub returns-clause-found : goal.returns-clause-found

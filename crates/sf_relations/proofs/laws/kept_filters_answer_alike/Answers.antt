@@ -1,4 +1,4 @@
-use Rattle.sf_relations.proofs.FindingLemmas.{kept-all-alike}
+use Rattle.sf_relations.proofs.findings.FindingLemmas.{kept-all-alike}
 use Rattle.sf_relations.proofs.laws.kept_filters_answer_alike.Goals as goal
 
 pub returns : goal.returns

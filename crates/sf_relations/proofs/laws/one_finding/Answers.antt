@@ -1,4 +1,4 @@
-use Rattle.sf_relations.proofs.FindingLemmas.{one-finding}
+use Rattle.sf_relations.proofs.findings.FindingLemmas.{one-finding}
 use Rattle.sf_relations.proofs.laws.one_finding.Goals as goal
 
 pub returns : goal.returns

@@ -1,5 +1,5 @@
 use Rattle.std.proofs.Common.{length}
-use Rattle.sf_relations.proofs.FindingLemmas.{one-kept}
+use Rattle.sf_relations.proofs.findings.FindingLemmas.{one-kept}
 use Rattle.sf_relations.proofs.laws.one_list_of_kept_filters.Goals as goal
 
 pub returns : goal.returns

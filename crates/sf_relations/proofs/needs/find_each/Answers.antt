@@ -2,13 +2,13 @@ use Rattle.std.proofs.Common.{◌≡◌, ℕ, suc, List, [], ◌∷◌, Option, 
 use Rattle.std.specs.Prelude.{remove, slice_index, slice_index_or}
 use Rattle.std.proofs.lemmas.List.{take_more}
 use Rattle.sf_check.specs.declared.insn.Insn.{Insn}
-use Rattle.sf_diagram.specs.KeepLaws.{keeps_more}
+use Rattle.sf_diagram.specs.laws.KeepLaws.{keeps_more}
 use Rattle.sf_behaviour.specs.Answering.{IsBehaviour}
 use Rattle.sf_relations.specs.declared.relation.Relation.TheVariants.{Looser}
 use Rattle.sf_relations.specs.declared.examples.Example.{Example}
 use Rattle.sf_relations.specs.Changes.{IsFinding}
-use Rattle.sf_relations.specs.KeepLaws.{behaviour_kept}
-use Rattle.sf_relations.proofs.PartLemmas.{count-pushed, of-all, of-behind, of-none, of-one, parts-kept, pushed}
+use Rattle.sf_relations.specs.laws.KeepLaws.{behaviour_kept}
+use Rattle.sf_relations.proofs.parts.PartLemmas.{count-pushed, of-all, of-behind, of-none, of-one, parts-kept, pushed}
 use Rattle.sf_relations.proofs.needs.find_each.Goals as goal
 
 pub loop-place-init : goal.loop-place-init

@@ -2,12 +2,12 @@ use Rattle.std.proofs.Common.{◌≡◌, ◌+◌, ◌-◌, ◌<◌, ℕ, suc, Li
 use Rattle.std.specs.Prelude.{All, slice_index, slice_index_or}
 use Rattle.std.proofs.lemmas.List.Elements.{All-nil, All-push, All-weaker}
 use Rattle.sf_check.specs.declared.insn.Insn.{Insn}
-use Rattle.sf_diagram.specs.KeepLaws.{keeps_more}
+use Rattle.sf_diagram.specs.laws.KeepLaws.{keeps_more}
 use Rattle.sf_behaviour.specs.Answering.{IsBehaviour}
 use Rattle.sf_relations.specs.Needs.{AreKeptUpTo, AnswerTheSame, drops, keeps, filters_at, left_without}
-use Rattle.sf_relations.specs.KeepLaws.{behaviour_kept}
-use Rattle.sf_relations.proofs.FindingLemmas.{alike, filters-more, kept-more}
-use Rattle.sf_relations.proofs.PartLemmas.{of-all, of-behind, of-none, of-one, parts-kept}
+use Rattle.sf_relations.specs.laws.KeepLaws.{behaviour_kept}
+use Rattle.sf_relations.proofs.findings.FindingLemmas.{alike, filters-more, kept-more}
+use Rattle.sf_relations.proofs.parts.PartLemmas.{of-all, of-behind, of-none, of-one, parts-kept}
 use Rattle.sf_relations.proofs.needs.keep_each.Goals as goal
 
 pub loop-place-init : goal.loop-place-init

@@ -1,5 +1,5 @@
 use Rattle.std.proofs.Common.{length}
-use Rattle.sf_relations.proofs.PartLemmas.{parts-kept}
+use Rattle.sf_relations.proofs.parts.PartLemmas.{parts-kept}
 use Rattle.sf_relations.proofs.needs.needed.Goals as goal
 
 pub find_each-requires : goal.find_each-requires

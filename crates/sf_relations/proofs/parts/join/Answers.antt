@@ -1,4 +1,4 @@
-use Rattle.sf_relations.proofs.PartLemmas.{behaviours-joined}
+use Rattle.sf_relations.proofs.parts.PartLemmas.{behaviours-joined}
 use Rattle.sf_relations.proofs.parts.join.Goals as goal
 
 pub returns-clause-joined : goal.returns-clause-joined

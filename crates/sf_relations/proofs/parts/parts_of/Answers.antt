@@ -2,11 +2,11 @@ use Rattle.std.proofs.Common.{◌≡◌, ◌+◌, ◌-◌, ℕ, List, [], ◌∷
 use Rattle.std.specs.Prelude.{slice_index_or}
 use Rattle.std.proofs.lemmas.List.{drop_all}
 use Rattle.sf_check.specs.declared.insn.Insn.{Insn}
-use Rattle.sf_diagram.specs.KeepLaws.{keeps_more}
+use Rattle.sf_diagram.specs.laws.KeepLaws.{keeps_more}
 use Rattle.sf_behaviour.specs.Answering.{IsBehaviour}
 use Rattle.sf_relations.specs.Parts.{AreParts}
-use Rattle.sf_relations.specs.KeepLaws.{behaviour_kept}
-use Rattle.sf_relations.proofs.PartLemmas.{parts-begun, parts-more, one-program, one-more-last}
+use Rattle.sf_relations.specs.laws.KeepLaws.{behaviour_kept}
+use Rattle.sf_relations.proofs.parts.PartLemmas.{parts-begun, parts-more, one-program, one-more-last}
 use Rattle.sf_relations.proofs.parts.parts_of.Goals as goal
 
 pub loop-i-init : goal.loop-i-init

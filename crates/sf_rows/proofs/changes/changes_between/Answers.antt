@@ -6,7 +6,7 @@ use Rattle.sf_diagram.specs.declared.operation.Operation.{Operation}
 use Rattle.sf_relations.specs.Numbers.{operation_of}
 use Rattle.sf_relations.specs.declared.relation.Relation.{Relation}
 use Rattle.sf_rows.specs.Trees.{change_number}
-use Rattle.sf_rows.proofs.OtherLemmas.{chosen-diagram, chosen-some, diagram-kept, diagram-same, leaf-diagram}
+use Rattle.sf_rows.proofs.others.OtherLemmas.{chosen-diagram, chosen-some, diagram-kept, diagram-same, leaf-diagram}
 use Rattle.sf_rows.proofs.changes.changes_between.Goals as goal
 
 pub returns-in-None-clause-values : goal.returns-in-None-clause-values

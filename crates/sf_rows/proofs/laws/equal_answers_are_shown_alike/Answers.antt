@@ -1,5 +1,5 @@
 use Rattle.sf_rows.proofs.RowLemmas.{one-answers-tree}
-use Rattle.sf_rows.proofs.OtherLemmas.{shown-once}
+use Rattle.sf_rows.proofs.others.OtherLemmas.{shown-once}
 use Rattle.sf_rows.proofs.laws.equal_answers_are_shown_alike.Goals as goal
 
 pub returns-clause-tree : goal.returns-clause-tree

@@ -2,7 +2,7 @@ use Rattle.std.proofs.Common.{ℕ, ◌<◌, ◌^◌, List, [], ◌∷◌, ◌∙
 use Rattle.std.specs.Prelude.{All, if◌then◌else◌}
 use Rattle.std.specs.List.{list_any}
 use Rattle.sf_names.specs.Names.{CallData}
-use Rattle.sf_rows.proofs.OtherLemmas.{agrees, calls-step, chosen-diagram, diagram-kept, diagram-same, leaf-diagram}
+use Rattle.sf_rows.proofs.others.OtherLemmas.{agrees, calls-step, chosen-diagram, diagram-kept, diagram-same, leaf-diagram}
 use Rattle.sf_rows.proofs.others.calls_of.Goals as goal
 
 pub returns-clause-values : goal.returns-clause-values

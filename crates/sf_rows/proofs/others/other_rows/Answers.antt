@@ -1,7 +1,7 @@
 use Rattle.std.proofs.Common.{ℕ, ◌∙◌, ap, sym}
 use Rattle.sf_diagram.specs.Stores.{tree_at}
 use Rattle.sf_rows.specs.Trees.{unnamed_number}
-use Rattle.sf_rows.proofs.OtherLemmas.{others-all, others-none}
+use Rattle.sf_rows.proofs.others.OtherLemmas.{others-all, others-none}
 use Rattle.sf_rows.proofs.others.other_rows.Goals as goal
 
 pub returns-then-not-is_empty-clause-rows : goal.returns-then-not-is_empty-clause-rows

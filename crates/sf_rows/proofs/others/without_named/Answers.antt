@@ -4,7 +4,7 @@ use Rattle.sf_diagram.specs.Trees.{Bits, value}
 use Rattle.sf_diagram.specs.Stores.{tree_at}
 use Rattle.sf_parts.specs.Words.{word_number}
 use Rattle.sf_rows.specs.Trees.{is_named_call}
-use Rattle.sf_rows.proofs.OtherLemmas.{chosen-diagram, diagram-kept, diagram-same, flag-chosen, leaf-diagram}
+use Rattle.sf_rows.proofs.others.OtherLemmas.{chosen-diagram, diagram-kept, diagram-same, flag-chosen, leaf-diagram}
 use Rattle.sf_rows.proofs.others.without_named.Goals as goal
 
 pub returns-clause-values : goal.returns-clause-values

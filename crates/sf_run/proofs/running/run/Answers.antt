@@ -2,7 +2,7 @@ use Rattle.std.proofs.Common.{arith, ◌∙◌, suc, List, ◌++◌, ap}
 use Rattle.sf_check.specs.declared.insn.Insn.{Insn}
 use Rattle.sf_run.specs.Machine.{return_of}
 use Rattle.sf_run.specs.Code.{state_of}
-use Rattle.sf_run.specs.RunLaws.{safe_start, value_is}
+use Rattle.sf_run.specs.laws.RunLaws.{safe_start, value_is}
 use Rattle.sf_run.proofs.Steps.{lent_lawful, at_hand, goes_on, goes_out}
 use Rattle.sf_run.proofs.running.run.Goals as goal
 

@@ -2,7 +2,7 @@ use Rattle.std.proofs.Common.{arith, ◌∙◌, suc, List, ◌++◌, ap}
 use Rattle.sf_check.specs.declared.insn.Insn.{Insn}
 use Rattle.sf_run.specs.Machine.{met_by}
 use Rattle.sf_run.specs.Code.{state_of}
-use Rattle.sf_run.specs.RunLaws.{safe_start, met_is}
+use Rattle.sf_run.specs.laws.RunLaws.{safe_start, met_is}
 use Rattle.sf_run.proofs.Steps.{lent_lawful, at_hand, goes_on, goes_out}
 use Rattle.sf_run.proofs.MeetingLemmas.{met_goes_on, met_ends}
 use Rattle.sf_run.proofs.tracing.push_program.Goals as goal

@@ -1,7 +1,7 @@
 use Rattle.std.proofs.Common.{arith}
 use Rattle.std.proofs.lemmas.Grind.{common_steps}
 use Rattle.std.proofs.lemmas.Result.{err_from_is_err_and}
-use Rattle.sf_stack.proofs.FilterLemmas.{one_more_file, one_file_refused}
+use Rattle.sf_stack.proofs.filters.FilterLemmas.{one_more_file, one_file_refused}
 use Rattle.sf_stack.proofs.filters.programs_of.Goals as goal
 
 pub returns-in_err-program-clause-refused : goal.returns-in_err-program-clause-refused

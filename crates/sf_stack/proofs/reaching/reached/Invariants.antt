@@ -1,4 +1,4 @@
-use Rattle.sf_stack.proofs.ReachingLemmas.{Passes}
+use Rattle.sf_stack.proofs.reaching.ReachingLemmas.{Passes}
 use Rattle.sf_stack.proofs.reaching.reached.Given as goal
 
 abbrev pub invariant-loop-place : goal.invariant-loop-place

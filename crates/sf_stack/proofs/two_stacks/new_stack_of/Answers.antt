@@ -1,4 +1,4 @@
-use Rattle.sf_stack.proofs.TwoStackLemmas.{new-refused, numbers-fit}
+use Rattle.sf_stack.proofs.two_stacks.TwoStackLemmas.{new-refused, numbers-fit}
 use Rattle.sf_stack.proofs.two_stacks.new_stack_of.Goals as goal
 
 pub counted_on-requires : goal.counted_on-requires

@@ -1,4 +1,4 @@
-use Rattle.sf_stack_warnings.proofs.ZeroErrorLemmas.{none_added, one_added}
+use Rattle.sf_stack_warnings.proofs.errno.ZeroErrorLemmas.{none_added, one_added}
 use Rattle.sf_stack_warnings.proofs.errno.add_number_at.Goals as goal
 
 pub returns-in_default : goal.returns-in_default

@@ -1,6 +1,6 @@
 use Rattle.std.proofs.Common.{sym, ◌∙◌}
 use Rattle.std.proofs.lemmas.Bool.{false≢true}
-use Rattle.sf_stack_warnings.proofs.ZeroErrorLemmas.{number_found, otherwise_at}
+use Rattle.sf_stack_warnings.proofs.errno.ZeroErrorLemmas.{number_found, otherwise_at}
 use Rattle.sf_stack_warnings.proofs.errno.number_at.Goals as goal
 
 pub returns-then-not-is_zero_error-clause-plain : goal.returns-then-not-is_zero_error-clause-plain

@@ -1,6 +1,6 @@
 use Rattle.std.proofs.Common.{refl, inl, inr}
 use Rattle.sf_stack_warnings.specs.Adding.{IsAddedOnce}
-use Rattle.sf_stack_warnings.proofs.ZeroErrorLemmas.{same_after}
+use Rattle.sf_stack_warnings.proofs.errno.ZeroErrorLemmas.{same_after}
 use Rattle.sf_stack_warnings.proofs.errno.push_once.Goals as goal
 
 -- the number was there

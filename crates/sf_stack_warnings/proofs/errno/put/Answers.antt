@@ -1,4 +1,4 @@
-use Rattle.sf_stack_warnings.proofs.ZeroErrorLemmas.{is_new, put_one}
+use Rattle.sf_stack_warnings.proofs.errno.ZeroErrorLemmas.{is_new, put_one}
 use Rattle.sf_stack_warnings.proofs.errno.put.Goals as goal
 
 pub returns-clause-is_new : goal.returns-clause-is_new

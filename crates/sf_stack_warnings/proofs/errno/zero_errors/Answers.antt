@@ -1,6 +1,6 @@
 use Rattle.std.proofs.Common.{◌≡◌, ℕ, length, subst, arith}
 use Rattle.sf_stack_warnings.specs.ZeroErrors.{AreZeroErrors, LeaveNoneOut}
-use Rattle.sf_stack_warnings.proofs.ZeroErrorLemmas.{first_added}
+use Rattle.sf_stack_warnings.proofs.errno.ZeroErrorLemmas.{first_added}
 use Rattle.sf_stack_warnings.proofs.errno.zero_errors.Goals as goal
 
 pub loop-place-init : goal.loop-place-init

@@ -1,5 +1,5 @@
 use Rattle.std.proofs.Common.{◌≡◌, [], arith}
-use Rattle.sf_stack_warnings.proofs.PassingLemmas.{none_left, none_passes, one_passes, passes_none}
+use Rattle.sf_stack_warnings.proofs.passing.PassingLemmas.{none_left, none_passes, one_passes, passes_none}
 use Rattle.sf_stack_warnings.proofs.passing.lets_none_through.Goals as goal
 
 pub returns-then-may_let_through-clause-found : goal.returns-then-may_let_through-clause-found

@@ -2,7 +2,7 @@ use Rattle.std.proofs.Common.{◌≡◌, ◌<◌, ◌+◌, length, get_or, arith
 use Rattle.std.proofs.lemmas.List.{length_push}
 use Rattle.sf_sym.specs.Index.{hash_of}
 use Rattle.sf_sym.specs.declared.index.Interned.{Interned}
-use Rattle.sf_sym.proofs.IndexLemmas.{IsIndexed-push}
+use Rattle.sf_sym.proofs.index.IndexLemmas.{IsIndexed-push}
 use Rattle.sf_sym.proofs.index.add.Goals as goal
 
 pub returns-clause-indexed : goal.returns-clause-indexed

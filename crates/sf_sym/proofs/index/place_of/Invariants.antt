@@ -1,5 +1,5 @@
 use Rattle.sf_sym.specs.Index.{nodes_of}
-use Rattle.sf_sym.proofs.IndexLemmas.{IsSearched}
+use Rattle.sf_sym.proofs.index.IndexLemmas.{IsSearched}
 use Rattle.sf_sym.proofs.index.place_of.Given as goal
 
 abbrev pub invariant-loop-next : goal.invariant-loop-next

@@ -5,9 +5,9 @@ use Rattle.std.proofs.Math.Facts.{Fits-lt-pow}
 use Rattle.std.proofs.lemmas.Nat.{and_assoc}
 use Rattle.sf_sym.specs.Operands.{IsMaskedWord}
 use Rattle.sf_sym.specs.Pool.{node_at, value_of, IsComputed}
-use Rattle.sf_sym.specs.SizeLaws.{value-small}
-use Rattle.sf_sym.specs.ValueLaws.{value-node}
-use Rattle.sf_sym.proofs.MaskLemmas.{all-bits, and-more, ands_above, ands_below, ands_end, whole-word}
+use Rattle.sf_sym.specs.laws.SizeLaws.{value-small}
+use Rattle.sf_sym.specs.laws.ValueLaws.{value-node}
+use Rattle.sf_sym.proofs.masks.MaskLemmas.{all-bits, and-more, ands_above, ands_below, ands_end, whole-word}
 use Rattle.sf_sym.proofs.masks.masked_word.Goals as goal
 
 pub loop-op-init : goal.loop-op-init

@@ -1,6 +1,6 @@
 use Rattle.std.proofs.Common.{arith}
-use Rattle.sf_sym.specs.ValueLaws.{constant_number-is}
-use Rattle.sf_sym.proofs.OperandLemmas.{value-left, value-right}
+use Rattle.sf_sym.specs.laws.ValueLaws.{constant_number-is}
+use Rattle.sf_sym.proofs.operands.OperandLemmas.{value-left, value-right}
 use Rattle.sf_sym.proofs.operands.constant_operand.Goals as goal
 
 pub returns-in-None-Some-clause-value : goal.returns-in-None-Some-clause-value

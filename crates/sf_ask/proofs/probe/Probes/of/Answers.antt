@@ -1,5 +1,5 @@
 use Rattle.std.proofs.Common.{length}
-use Rattle.sf_ask.proofs.ProbeLemmas.{probes-ordered}
+use Rattle.sf_ask.proofs.probe.ProbeLemmas.{probes-ordered}
 use Rattle.sf_ask.proofs.probe.Probes.of.Goals as goal
 
 pub returns-clause-ok : goal.returns-clause-ok

@@ -3,7 +3,7 @@ use Rattle.std.proofs.Common.{◌<◌, Option, length, map, sym, subst, ◌∙�
 use Rattle.std.proofs.lemmas.List.{length-map}
 use Rattle.sf_ask.specs.declared.verdict.Verdict.{Verdict}
 use Rattle.sf_ask.specs.Sheets.{IsRightWhereGiven}
-use Rattle.sf_ask.proofs.SheetLemmas.{first-at}
+use Rattle.sf_ask.proofs.sheet.SheetLemmas.{first-at}
 use Rattle.sf_ask.proofs.sheet.Sheet.verdict.Goals as goal
 
 pub returns-in-None-clause-value : goal.returns-in-None-clause-value

@@ -1,4 +1,4 @@
-use Rattle.sf_audit.proofs.RegionDocuments.{one_more_region}
+use Rattle.sf_audit.proofs.document.regions.RegionDocuments.{one_more_region}
 use Rattle.sf_audit.proofs.document.regions.region_documents.Goals as goal
 
 pub loop-i-preserved : goal.loop-i-preserved

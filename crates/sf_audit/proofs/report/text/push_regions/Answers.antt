@@ -1,4 +1,4 @@
-use Rattle.sf_audit.proofs.RegionLines.{one_more_region}
+use Rattle.sf_audit.proofs.report.text.RegionLines.{one_more_region}
 use Rattle.sf_audit.proofs.report.text.push_regions.Goals as goal
 
 pub loop-i-preserved : goal.loop-i-preserved

@@ -5,8 +5,8 @@ use Rattle.std.specs.Cmp.Lexicographic.{slice_cmp}
 use Rattle.std.specs.Ordering.{ordering_then, nat_cmp}
 use Rattle.sf_blocks.specs.Blocks.{AreWideBy}
 use Rattle.std.proofs.lemmas.List.Elements.{All-map}
-use Rattle.sf_blocks.proofs.MapLemmas.{get_or-map_at, length-map_of}
-use Rattle.sf_blocks.proofs.OrderLemmas.{from, from-first, by_blocks, decided, undecided, at_end}
+use Rattle.sf_blocks.proofs.shared.MapLemmas.{get_or-map_at, length-map_of}
+use Rattle.sf_blocks.proofs.shared.OrderLemmas.{from, from-first, by_blocks, decided, undecided, at_end}
 use Rattle.sf_blocks.proofs.shared.SharedList.order.Given.{Over}
 use Rattle.sf_blocks.proofs.shared.SharedList.order.Goals.{After-is_ne, After-is_ne-2}
 use Rattle.sf_blocks.proofs.shared.SharedList.order.Goals as goal

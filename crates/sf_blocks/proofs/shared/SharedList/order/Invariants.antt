@@ -1,7 +1,7 @@
 use Rattle.std.proofs.Common.{◌≡◌, map}
 use Rattle.std.specs.Arc.{arc_slice_items}
 use Rattle.std.specs.Cmp.Lexicographic.{slice_cmp}
-use Rattle.sf_blocks.proofs.OrderLemmas.{from}
+use Rattle.sf_blocks.proofs.shared.OrderLemmas.{from}
 use Rattle.sf_blocks.proofs.shared.SharedList.order.Given as goal
 
 abbrev pub invariant-loop-place : goal.invariant-loop-place

@@ -1,5 +1,5 @@
 use Rattle.std.proofs.lemmas.Result.{IfOk-weaker}
-use Rattle.sf_book.proofs.Kept.{memory_refuses}
+use Rattle.sf_book.proofs.book.Kept.{memory_refuses}
 use Rattle.sf_book.proofs.book.Book.commit_of_stack.Goals as goal
 
 pub returns-clause-ok : goal.returns-clause-ok

@@ -1,5 +1,5 @@
 use Rattle.std.proofs.Common.{refl, true}
-use Rattle.sf_book.proofs.Plain.{marks_book}
+use Rattle.sf_book.proofs.book.Plain.{marks_book}
 use Rattle.sf_book.specs.Changes.{with_lease_at}
 use Rattle.sf_book.proofs.book.Book.lease.Goals as goal
 

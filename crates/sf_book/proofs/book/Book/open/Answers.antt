@@ -1,4 +1,4 @@
-use Rattle.sf_book.proofs.Plain.{fresh_book}
+use Rattle.sf_book.proofs.book.Plain.{fresh_book}
 use Rattle.sf_book.proofs.book.Book.open.Goals as goal
 
 pub invariant_of-book : goal.invariant_of-book

@@ -1,5 +1,5 @@
 use Rattle.std.proofs.Common.{refl, false}
-use Rattle.sf_book.proofs.Plain.{marks_book}
+use Rattle.sf_book.proofs.book.Plain.{marks_book}
 use Rattle.sf_book.specs.Changes.{with_lease}
 use Rattle.sf_book.proofs.book.Book.recall.Goals as goal
 

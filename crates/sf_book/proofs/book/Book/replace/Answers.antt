@@ -2,8 +2,8 @@ use Rattle.std.proofs.Common.{◌≡◌, ap, sym, ◌∙◌, arith}
 use Rattle.sf_piece.specs.Pieces.{Split, Settled, Empty}
 use Rattle.sf_piece.specs.declared.work.Step.{Step}
 use Rattle.sf_piece.specs.Steps.{step_data, name_after}
-use Rattle.sf_book.proofs.Kept.{low_id, child_names, children_differ}
-use Rattle.sf_book.proofs.Plain.{split_book, split_commits, answer_book, empty_book}
+use Rattle.sf_book.proofs.book.Kept.{low_id, child_names, children_differ}
+use Rattle.sf_book.proofs.book.Plain.{split_book, split_commits, answer_book, empty_book}
 use Rattle.sf_book.proofs.book.Book.replace.Goals as goal
 
 pub split-requires-clause-ids : goal.split-requires-clause-ids

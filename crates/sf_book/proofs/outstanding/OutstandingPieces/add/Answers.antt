@@ -1,5 +1,5 @@
 use Rattle.std.proofs.Common.{◌∙◌, refl}
-use Rattle.sf_book.proofs.OutstandingLists.{is_added, added_ids, added_maps, added_view, put_back}
+use Rattle.sf_book.proofs.outstanding.OutstandingLists.{is_added, added_ids, added_maps, added_view, put_back}
 use Rattle.sf_book.proofs.outstanding.OutstandingPieces.add.Goals as goal
 
 pub invariant_of-self-in-Ok : goal.invariant_of-self-in-Ok

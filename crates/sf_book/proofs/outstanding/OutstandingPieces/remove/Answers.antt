@@ -1,7 +1,7 @@
 use Rattle.std.proofs.lemmas.Grind.{common_steps}
 use Rattle.std.proofs.Common.{arith, sym, ◌∙◌}
 use Rattle.sf_book.proofs.MapLemmas.{entry_at_is}
-use Rattle.sf_book.proofs.OutstandingLists.{taken_maps, taken_view, without_none}
+use Rattle.sf_book.proofs.outstanding.OutstandingLists.{taken_maps, taken_view, without_none}
 use Rattle.sf_book.proofs.outstanding.OutstandingPieces.remove.Goals as goal
 
 pub invariant_of-self : goal.invariant_of-self

@@ -1,4 +1,4 @@
-use Rattle.sf_book.proofs.OutstandingLists.{without_last}
+use Rattle.sf_book.proofs.outstanding.OutstandingLists.{without_last}
 use Rattle.sf_book.proofs.outstanding.OutstandingPieces.split.Goals as goal
 
 pub returns-in-Err-clause-err : goal.returns-in-Err-clause-err

@@ -1,6 +1,6 @@
 use Rattle.std.proofs.Common.{arith}
 use Rattle.std.proofs.lemmas.Grind.{common_steps}
-use Rattle.sf_check.proofs.EqualLemmas.{skipped_to}
+use Rattle.sf_check.proofs.equals.EqualLemmas.{skipped_to}
 use Rattle.sf_check.proofs.equals.EqualTests.skip_in_chain.Goals as goal
 
 pub steps_between-requires-clause-forward : goal.steps_between-requires-clause-forward

@@ -1,5 +1,5 @@
 use Rattle.std.proofs.Common.{refl, arith}
-use Rattle.sf_check.proofs.EqualLemmas.{skipped_one_more}
+use Rattle.sf_check.proofs.equals.EqualLemmas.{skipped_one_more}
 use Rattle.sf_check.proofs.equals.EqualTests.skip_others.Goals as goal
 
 pub skip_in_chain-more-requires-clause-inside : goal.skip_in_chain-more-requires-clause-inside

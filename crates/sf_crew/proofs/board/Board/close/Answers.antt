@@ -5,7 +5,7 @@ use Rattle.std.specs.Mem.Slots.{slots_items}
 use Rattle.sf_crew.specs.LeastWords.{LeastIs}
 use Rattle.sf_crew.specs.Views.{questions_of, count_of_regions}
 use Rattle.sf_crew.specs.Boards.{about}
-use Rattle.sf_crew.proofs.Closings.{close_right, elem_index, four_words}
+use Rattle.sf_crew.proofs.board.closing.Closings.{close_right, elem_index, four_words}
 use Rattle.sf_crew.proofs.board.Board.close.Goals as goal
 
 pub returns : goal.returns

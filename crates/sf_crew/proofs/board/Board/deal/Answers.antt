@@ -1,5 +1,5 @@
 use Rattle.std.proofs.Common.{◌≡◌, ◌+◌, ◌-◌, ap, arith}
-use Rattle.sf_crew.proofs.Joins.{splits}
+use Rattle.sf_crew.proofs.board.Joins.{splits}
 use Rattle.sf_crew.proofs.board.Board.deal.Goals as goal
 
 pub split_seat-other-requires : goal.split_seat-other-requires

@@ -1,6 +1,6 @@
 use Rattle.std.proofs.Common.{◌≡◌, sym, ◌∙◌, arith}
-use Rattle.sf_crew.proofs.Draws.{draws}
-use Rattle.sf_crew.proofs.Moves.{not_above}
+use Rattle.sf_crew.proofs.board.Draws.{draws}
+use Rattle.sf_crew.proofs.board.Moves.{not_above}
 use Rattle.sf_crew.proofs.board.Board.draw.Goals as goal
 
 pub fetch_add-found-requires : goal.fetch_add-found-requires

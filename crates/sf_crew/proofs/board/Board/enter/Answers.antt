@@ -5,8 +5,8 @@ use Rattle.sf_crew.specs.Views.{entered_sheet, Covered}
 use Rattle.sf_crew.specs.BoardSteps.{view_of}
 use Rattle.sf_crew.specs.EnteredSheets.{AreDoubts}
 use Rattle.sf_crew.specs.Boards.{about}
-use Rattle.sf_crew.proofs.Moves.{enters}
-use Rattle.sf_crew.proofs.Sheets.{covers, marked_view}
+use Rattle.sf_crew.proofs.board.Moves.{enters}
+use Rattle.sf_crew.proofs.board.Sheets.{covers, marked_view}
 use Rattle.sf_crew.proofs.board.Board.enter.Goals as goal
 
 pub fetch_add-requires : goal.fetch_add-requires

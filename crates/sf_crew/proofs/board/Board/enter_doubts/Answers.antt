@@ -5,8 +5,8 @@ use Rattle.sf_crew.specs.Views.{questions_of}
 use Rattle.sf_crew.specs.BoardSteps.{with_marks, view_with_mark}
 use Rattle.sf_crew.specs.EnteredSheets.{MarksDoubts}
 use Rattle.sf_crew.specs.Boards.{about}
-use Rattle.sf_crew.proofs.Sheets.{marks_same, marks_more}
-use Rattle.sf_crew.proofs.Moves.{marks}
+use Rattle.sf_crew.proofs.board.Sheets.{marks_same, marks_more}
+use Rattle.sf_crew.proofs.board.Moves.{marks}
 use Rattle.sf_crew.proofs.board.Board.enter_doubts.Goals.{then-is_doubt, else-is_doubt}
 use Rattle.sf_crew.proofs.board.Board.enter_doubts.Goals as goal
 

@@ -4,8 +4,8 @@ use Rattle.sf_question.specs.QuestionData.{QuestionData}
 use Rattle.sf_ask.specs.Sheets.{HasHit}
 use Rattle.sf_crew.specs.Views.{questions_of, count_of_regions}
 use Rattle.sf_crew.specs.Boards.{about}
-use Rattle.sf_ask.specs.SheetLaws.{hit-given}
-use Rattle.sf_crew.proofs.Moves.{hits_at}
+use Rattle.sf_ask.specs.laws.SheetLaws.{hit-given}
+use Rattle.sf_crew.proofs.board.Moves.{hits_at}
 use Rattle.sf_crew.proofs.board.Board.enter_hits.Goals as goal
 
 pub fetch_min-requires : goal.fetch_min-requires

@@ -1,5 +1,5 @@
 use Rattle.std.proofs.Common.{arith}
-use Rattle.sf_crew.proofs.Moves.{looks_at}
+use Rattle.sf_crew.proofs.board.Moves.{looks_at}
 use Rattle.sf_crew.proofs.board.Board.look.Goals as goal
 
 pub load-found-requires : goal.load-found-requires

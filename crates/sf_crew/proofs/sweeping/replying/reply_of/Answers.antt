@@ -2,7 +2,7 @@ use Rattle.std.proofs.Common.{ℕ, ◌<◌, ◌==◌, Bool, refl, sym, arith}
 use Rattle.sf_ask.specs.QuestionBits.{bit_of}
 use Rattle.sf_crew.specs.Sweeps.{IsUnbroken}
 use Rattle.sf_question.specs.QuestionData.{QuestionData}
-use Rattle.sf_crew.proofs.Replies.{below_none, below_place, hit_again, place_there, question_there, reply_allowed, still_unbroken, tally_doubtful, tally_plain, tally_unbroken}
+use Rattle.sf_crew.proofs.sweeping.replying.Replies.{below_none, below_place, hit_again, place_there, question_there, reply_allowed, still_unbroken, tally_doubtful, tally_plain, tally_unbroken}
 use Rattle.sf_crew.proofs.sweeping.replying.reply_of.Goals as goal
 
 pub reply_without_hit-requires-clause-unbroken : goal.reply_without_hit-requires-clause-unbroken

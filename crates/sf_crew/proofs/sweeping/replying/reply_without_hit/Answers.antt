@@ -1,5 +1,5 @@
 use Rattle.std.proofs.Common.{true≢false, sym, ◌∙◌, inr, arith}
-use Rattle.sf_crew.proofs.Replies.{reply_never, reply_unsettled}
+use Rattle.sf_crew.proofs.sweeping.replying.Replies.{reply_never, reply_unsettled}
 use Rattle.sf_crew.proofs.sweeping.replying.reply_without_hit.Goals as goal
 
 pub returns-then-doubt : goal.returns-then-doubt

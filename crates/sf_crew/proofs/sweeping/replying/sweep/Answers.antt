@@ -1,7 +1,7 @@
 use Rattle.std.proofs.Common.{◌≡◌, ℕ, ◌+◌, List, [], ◌∷◌, ◌++◌, length, length-append, Some, slice_get, sym, ap, ◌∙◌, subst, arith}
 use Rattle.sf_ask.specs.declared.verdict.Reply.{Reply}
 use Rattle.sf_crew.specs.Sweeps.{IsRightReplyAt}
-use Rattle.sf_crew.proofs.Replies.{replies_more}
+use Rattle.sf_crew.proofs.sweeping.replying.Replies.{replies_more}
 use Rattle.sf_crew.proofs.sweeping.replying.sweep.Goals as goal
 
 pub loop-q-preserved : goal.loop-q-preserved

@@ -1,6 +1,6 @@
 use Rattle.std.proofs.Common.{rules}
 use Rattle.sf_crew.specs.Explorations.{IsExplorationOf}
-use Rattle.sf_crew.proofs.ExactExplorations.{exact_end}
+use Rattle.sf_crew.proofs.workers.exploring.ExactExplorations.{exact_end}
 use Rattle.sf_crew.proofs.workers.exploring.finish_book.Goals as goal
 
 pub returns-clause-plain : goal.returns-clause-plain

@@ -1,5 +1,5 @@
 use Rattle.sf_diagram.proofs.Common.{◌++◌, ◌∷◌, [], length, refl, sym, ap, ◌∙◌, arith, length_push, get_or_push, err_from_is_err_and, Leaf, IsOrderedTree, IsReducedTree, OperandsBelow, tree_of, trees_of, IsSound}
-use Rattle.sf_diagram.proofs.NodeLemmas.{trees_of-push, keeps_push, tree-absent, sound-push, lawful-store}
+use Rattle.sf_diagram.proofs.store.NodeLemmas.{trees_of-push, keeps_push, tree-absent, sound-push, lawful-store}
 use Rattle.sf_diagram.proofs.store.Store.intern.Goals as goal
 use Rattle.sf_diagram.proofs.store.Store.intern.Goals.{In_ok-add}
 

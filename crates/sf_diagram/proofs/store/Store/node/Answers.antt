@@ -1,5 +1,5 @@
 use Rattle.sf_diagram.proofs.Common.{◌<◌, length, sym, ap, ◌∙◌, arith, tree_of, trees_of}
-use Rattle.sf_diagram.proofs.NodeLemmas.{lawful-store}
+use Rattle.sf_diagram.proofs.store.NodeLemmas.{lawful-store}
 use Rattle.sf_diagram.proofs.store.Store.node.Goals as goal
 
 pub returns-clause-tree : goal.returns-clause-tree

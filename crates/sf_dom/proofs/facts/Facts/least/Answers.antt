@@ -1,6 +1,6 @@
 use Rattle.std.proofs.Common.{arith}
 use Rattle.sf_dom.specs.Facts.{Agrees}
-use Rattle.sf_dom.specs.FactsLaws.{agreeing-word, covers-facts, sampled, words-agree}
+use Rattle.sf_dom.specs.laws.FactsLaws.{agreeing-word, covers-facts, sampled, words-agree}
 use Rattle.sf_dom.proofs.facts.Facts.least.Goals as goal
 
 pub returns-clause-lower : goal.returns-clause-lower

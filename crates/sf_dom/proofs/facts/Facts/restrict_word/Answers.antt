@@ -1,5 +1,5 @@
 use Rattle.std.proofs.Common.{arith, refl}
-use Rattle.sf_dom.specs.FactsLaws.{covers-facts}
+use Rattle.sf_dom.specs.laws.FactsLaws.{covers-facts}
 use Rattle.sf_dom.proofs.Assumed.{confines-covers}
 use Rattle.sf_dom.proofs.facts.Facts.restrict_word.Goals as goal
 

@@ -1,4 +1,4 @@
-use Rattle.sf_dom.specs.FactsLaws.{covers-facts}
+use Rattle.sf_dom.specs.laws.FactsLaws.{covers-facts}
 use Rattle.sf_dom.proofs.Assumed.{learns-covers}
 use Rattle.sf_dom.proofs.facts.Facts.with_cond.Goals as goal
 

@@ -4,7 +4,7 @@ use Rattle.std.specs.Arc.{arc_value}
 use Rattle.sf_dom.specs.declared.variables.Variable.{Variable}
 use Rattle.sf_dom.specs.Known.{known_of}
 use Rattle.sf_dom.specs.Nodes.{slot_known}
-use Rattle.sf_dom.proofs.KeptNodes.{IsVariable, known-slot, variable-here}
+use Rattle.sf_dom.proofs.nodes.KeptNodes.{IsVariable, known-slot, variable-here}
 use Rattle.sf_dom.proofs.nodes.Nodes.get.Goals as goal
 
 -- the node is a variable

@@ -1,7 +1,7 @@
 use Rattle.std.proofs.lemmas.Grind.{common_steps}
 use Rattle.std.proofs.Common.{◌≡◌, length, arith}
 use Rattle.std.specs.Arc.{arc_value}
-use Rattle.sf_dom.proofs.KeptNodes.{variables-fit, kept-number, known-variable, kept-variable, places-variable}
+use Rattle.sf_dom.proofs.nodes.KeptNodes.{variables-fit, kept-number, known-variable, kept-variable, places-variable}
 use Rattle.sf_dom.proofs.nodes.Nodes.push.Goals as goal
 
 pub overflow_cast-rank : goal.overflow_cast-rank

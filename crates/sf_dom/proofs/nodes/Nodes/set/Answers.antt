@@ -1,6 +1,6 @@
 use Rattle.std.proofs.Common.{arith}
 use Rattle.std.specs.Arc.{arc_value}
-use Rattle.sf_dom.proofs.KeptNodes.{variable-here, places-length}
+use Rattle.sf_dom.proofs.nodes.KeptNodes.{variable-here, places-length}
 use Rattle.sf_dom.proofs.nodes.Nodes.set.Goals as goal
 
 pub set_variable-requires : goal.set_variable-requires

@@ -1,5 +1,5 @@
 use Rattle.std.proofs.Common.{◌≡◌, ◌||◌, ◌∙◌, suc, ◌-◌, ◌+◌, length, arith}
-use Rattle.sf_evaluate.proofs.DocumentLemmas.{one_more_filter}
+use Rattle.sf_evaluate.proofs.document.DocumentLemmas.{one_more_filter}
 use Rattle.sf_evaluate.proofs.TraceLemmas.{program_at}
 use Rattle.sf_evaluate.proofs.document.answering.filter_documents.Goals.{then-stood, else-stood}
 use Rattle.sf_evaluate.proofs.document.answering.filter_documents.Goals as goal

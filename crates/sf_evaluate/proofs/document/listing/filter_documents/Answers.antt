@@ -4,7 +4,7 @@ use Rattle.std.proofs.lemmas.Option.{get_or_from_slice_get}
 use Rattle.serde_json.specs.Data.{Data}
 use Rattle.serde_json.specs.View.{view}
 use Rattle.sf_evaluate.specs.CheckDocuments.{IsFilterAt, IsFilterDocument}
-use Rattle.sf_evaluate.proofs.DocumentLemmas.{one_pushed}
+use Rattle.sf_evaluate.proofs.document.DocumentLemmas.{one_pushed}
 use Rattle.sf_evaluate.proofs.document.listing.filter_documents.Goals as goal
 
 pub loop-i-preserved : goal.loop-i-preserved

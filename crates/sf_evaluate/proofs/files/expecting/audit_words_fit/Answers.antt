@@ -4,7 +4,7 @@ use Rattle.std.specs.Prelude.{option_map}
 use Rattle.std.specs.Str.{bytes_eq}
 use Rattle.clap.specs.Words.{first_of, found_of, rows_of}
 use Rattle.sf_command_line.specs.Options.{ArePaths, paths_of}
-use Rattle.sf_command_line.specs.OptionsLaws.{paths_found}
+use Rattle.sf_command_line.specs.laws.OptionsLaws.{paths_found}
 use Rattle.sf_evaluate.specs.Expecting.{is_other_policy}
 use Rattle.sf_evaluate.proofs.files.expecting.audit_words_fit.Goals as goal
 

@@ -1,7 +1,7 @@
 use Rattle.std.proofs.Common.{arith, List, [], ℕ, Bor, refl}
 use Rattle.std.proofs.lemmas.Option.{slice_get-get_or}
-use Rattle.sf_evaluate.proofs.SetLemmas.{all_named, naming_why, named_why, one_named}
-use Rattle.sf_evaluate.specs.FilesLaws.{handed_on}
+use Rattle.sf_evaluate.proofs.files.naming.SetLemmas.{all_named, naming_why, named_why, one_named}
+use Rattle.sf_evaluate.specs.laws.FilesLaws.{handed_on}
 use Rattle.sf_stack.specs.Faults.{of_names}
 use Rattle.sf_evaluate.proofs.files.naming.read_all_names.Goals as goal
 

@@ -1,4 +1,4 @@
-use Rattle.sf_evaluate.proofs.SetLemmas.{NamedSoFar}
+use Rattle.sf_evaluate.proofs.files.naming.SetLemmas.{NamedSoFar}
 use Rattle.sf_evaluate.proofs.files.naming.read_all_names.Given as goal
 
 abbrev pub invariant-loop-path : goal.invariant-loop-path

@@ -1,4 +1,4 @@
-use Rattle.sf_evaluate.proofs.OriginLemmas.{one_origin}
+use Rattle.sf_evaluate.proofs.files.origins.OriginLemmas.{one_origin}
 use Rattle.sf_evaluate.proofs.files.origins.push_origins.Goals as goal
 
 pub loop-place-preserved : goal.loop-place-preserved

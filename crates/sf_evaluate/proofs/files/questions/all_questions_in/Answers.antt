@@ -1,7 +1,7 @@
 use Rattle.std.proofs.Common.{◌≡◌, ◌∙◌, arith, length, List, [], ℕ, Bor, sym, true≢false}
 use Rattle.std.proofs.lemmas.Option.{slice_get-get_or}
-use Rattle.sf_evaluate.proofs.AskedLemmas.{all_asked, all_told, asking_why, one_asked, one_placed}
-use Rattle.sf_evaluate.specs.FilesLaws.{handed_on}
+use Rattle.sf_evaluate.proofs.files.questions.AskedLemmas.{all_asked, all_told, asking_why, one_asked, one_placed}
+use Rattle.sf_evaluate.specs.laws.FilesLaws.{handed_on}
 use Rattle.sf_evaluate.proofs.files.questions.all_questions_in.Goals as goal
 use Rattle.sf_evaluate.proofs.files.questions.all_questions_in.Goals.{then-with_origins+in_ok-push_origins, else-with_origins}
 

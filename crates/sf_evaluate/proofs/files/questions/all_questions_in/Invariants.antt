@@ -1,6 +1,6 @@
 use Rattle.std.proofs.Common.{◌≡◌, [], true, false, map}
 use Rattle.serde_json.specs.View.{view}
-use Rattle.sf_evaluate.proofs.AskedLemmas.{AskedSoFar, PlacedSoFar}
+use Rattle.sf_evaluate.proofs.files.questions.AskedLemmas.{AskedSoFar, PlacedSoFar}
 use Rattle.sf_evaluate.proofs.files.questions.all_questions_in.Given as goal
 
 abbrev pub invariant-loop-path : goal.invariant-loop-path

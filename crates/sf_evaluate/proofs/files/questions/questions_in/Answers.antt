@@ -1,6 +1,6 @@
 use Rattle.std.proofs.Common.{◌≡◌, ◌∙◌, inl, inr, refl, sym}
 use Rattle.sf_policy.specs.Faults.{without_place}
-use Rattle.sf_evaluate.proofs.PolicyLemmas.{policy_asked}
+use Rattle.sf_evaluate.proofs.files.questions.PolicyLemmas.{policy_asked}
 use Rattle.sf_evaluate.proofs.files.questions.questions_in.Goals as goal
 
 pub returns-in-Ok-clause-asked : goal.returns-in-Ok-clause-asked

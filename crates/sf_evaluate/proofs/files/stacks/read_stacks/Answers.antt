@@ -1,5 +1,5 @@
 use Rattle.std.proofs.lemmas.Result.{IfErr-weaker, IfOk-weaker}
-use Rattle.sf_evaluate.specs.FilesLaws.{handed_on, kept_same}
+use Rattle.sf_evaluate.specs.laws.FilesLaws.{handed_on, kept_same}
 use Rattle.sf_evaluate.proofs.KeptFiles.{both_why, kept_stack, unread_new}
 use Rattle.sf_evaluate.proofs.files.stacks.read_stacks.Goals as goal
 

@@ -1,6 +1,6 @@
 use Rattle.std.proofs.Common.{string_bytes}
 use Rattle.std.proofs.lemmas.Result.{on_ok_weaker}
-use Rattle.sf_stack.specs.TextLaws.{added_three}
+use Rattle.sf_stack.specs.laws.TextLaws.{added_three}
 use Rattle.sf_evaluate.specs.Traces.{call_text, first_arguments, last_arguments}
 use Rattle.sf_evaluate.proofs.texts.tracing.push_fields.Goals as goal
 

@@ -1,4 +1,4 @@
-use Rattle.sf_stack.specs.TextLaws.{added_two}
+use Rattle.sf_stack.specs.laws.TextLaws.{added_two}
 use Rattle.sf_evaluate.proofs.texts.why.push_filter.Goals as goal
 
 pub returns-clause-added : goal.returns-clause-added

@@ -1,5 +1,5 @@
 use Rattle.std.proofs.lemmas.Result.{on_ok_weaker}
-use Rattle.sf_stack.specs.TextLaws.{added_two}
+use Rattle.sf_stack.specs.laws.TextLaws.{added_two}
 use Rattle.sf_evaluate.proofs.texts.why.push_returned.Goals as goal
 
 pub returns : goal.returns

@@ -2,9 +2,9 @@ use Rattle.std.proofs.Common.{◌∙◌, ap, codes, refl}
 use Rattle.std.specs.List.{list_all}
 use Rattle.clap.specs.Words.{found_of, rows_of}
 use Rattle.sf_command_line.specs.Options.{ArePaths}
-use Rattle.sf_command_line.specs.OptionsLaws.{paths_found}
+use Rattle.sf_command_line.specs.laws.OptionsLaws.{paths_found}
 use Rattle.sf_evaluate.specs.Profiles.{is_capability}
-use Rattle.sf_evaluate.proofs.WordLemmas.{all_now}
+use Rattle.sf_evaluate.proofs.words.WordLemmas.{all_now}
 use Rattle.sf_evaluate.proofs.words.settings.caps_fit.Goals as goal
 
 pub returns : goal.returns

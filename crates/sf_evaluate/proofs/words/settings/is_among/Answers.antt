@@ -1,6 +1,6 @@
 use Rattle.std.proofs.Common.{◌∙◌}
 use Rattle.std.specs.Str.{bytes_eq}
-use Rattle.sf_evaluate.proofs.WordLemmas.{any_now}
+use Rattle.sf_evaluate.proofs.words.WordLemmas.{any_now}
 use Rattle.sf_evaluate.proofs.words.settings.is_among.Goals as goal
 
 pub returns : goal.returns

@@ -1,6 +1,6 @@
 use Rattle.std.proofs.Common.{◌∙◌}
 use Rattle.sf_evaluate.specs.Wanted.{is_known_call}
-use Rattle.sf_evaluate.proofs.WordLemmas.{all_now}
+use Rattle.sf_evaluate.proofs.words.WordLemmas.{all_now}
 use Rattle.sf_evaluate.proofs.words.wanted.are_known.Goals as goal
 
 pub returns-in-Some : goal.returns-in-Some

@@ -3,7 +3,7 @@ use Rattle.std.proofs.lemmas.Iterator.Search.{all_from_yields_List}
 use Rattle.std.proofs.lemmas.Iterator.Splits.{YieldsList-from_str_split}
 use Rattle.sf_calls.specs.Numbers.{comma_parts}
 use Rattle.sf_evaluate.specs.Wanted.{is_wanted_once}
-use Rattle.sf_evaluate.proofs.WantedLemmas.{names_there}
+use Rattle.sf_evaluate.proofs.words.wanted.WantedLemmas.{names_there}
 use Rattle.sf_evaluate.proofs.words.wanted.are_names.Goals as goal
 
 pub returns-else-is_empty : goal.returns-else-is_empty

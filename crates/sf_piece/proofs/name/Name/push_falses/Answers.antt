@@ -1,6 +1,6 @@
 use Rattle.std.proofs.Common.{length, ap, arith}
 use Rattle.std.proofs.lemmas.Grind.{common_steps}
-use Rattle.sf_piece.proofs.Spelled.{falses_more, rest_within}
+use Rattle.sf_piece.proofs.name.Spelled.{falses_more, rest_within}
 use Rattle.sf_piece.proofs.name.Name.push_falses.Goals as goal
 
 pub overflow_add-self : goal.overflow_add-self

@@ -1,6 +1,6 @@
 use Rattle.std.proofs.lemmas.Grind.{common_steps}
 use Rattle.std.proofs.Common.{arith}
-use Rattle.sf_policy.proofs.TreeLemmas.{one_more_read, not_read}
+use Rattle.sf_policy.proofs.policy.words.TreeLemmas.{one_more_read, not_read}
 use Rattle.sf_policy.proofs.policy.words.entries_at.Goals as goal
 
 pub returns-in_err-words : goal.returns-in_err-words

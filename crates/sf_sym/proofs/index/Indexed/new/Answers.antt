@@ -1,5 +1,5 @@
 use Rattle.std.proofs.Common.{◌≡◌, replicate}
-use Rattle.sf_sym.proofs.IndexLemmas.{IsIndexed-none}
+use Rattle.sf_sym.proofs.index.IndexLemmas.{IsIndexed-none}
 use Rattle.sf_sym.proofs.index.Indexed.new.Goals as goal
 
 pub invariant_of-result : goal.invariant_of-result

@@ -1,7 +1,7 @@
 use Rattle.std.proofs.Common.{◌≡◌, ◌+◌, arith, ap, length, ◌<◌, ◌∙◌, sym}
 use Rattle.std.specs.Arc.{arc_value}
 use Rattle.sf_sym.specs.Pool.{node_at}
-use Rattle.sf_sym.specs.ValueLaws.{OperandsBelow-at}
+use Rattle.sf_sym.specs.laws.ValueLaws.{OperandsBelow-at}
 use Rattle.sf_sym.proofs.pool.Pool.node_at.Goals as goal
 
 pub returns-clause-operands : goal.returns-clause-operands

@@ -1,8 +1,8 @@
 use Rattle.std.proofs.lemmas.Grind.{common_steps}
 use Rattle.std.proofs.Common.{◌≡◌, length, arith, ap, refl, ◌∙◌}
 use Rattle.std.specs.Arc.{arc_value}
-use Rattle.sf_sym.specs.ValueLaws.{ArePlainNodes-push, value-node, value-older, value-pushed}
-use Rattle.sf_sym.proofs.Folds.{folded_node-value, pushed-lawful}
+use Rattle.sf_sym.specs.laws.ValueLaws.{ArePlainNodes-push, value-node, value-older, value-pushed}
+use Rattle.sf_sym.proofs.pool.Folds.{folded_node-value, pushed-lawful}
 use Rattle.sf_sym.specs.Pool.{folded_node}
 use Rattle.sf_sym.proofs.pool.Pool.push.Goals as goal
 

@@ -1,5 +1,5 @@
 use Rattle.sf_crew.proofs.Histories.{learns}
-use Rattle.sf_crew.proofs.JoinedHandles.{merges}
+use Rattle.sf_crew.proofs.benches.handles.JoinedHandles.{merges}
 use Rattle.sf_crew.proofs.benches.handles.Owner.join.Goals as goal
 
 pub absorb-requires-clause-rule : goal.absorb-requires-clause-rule

@@ -1,0 +1,4 @@
+pub mod MemberLaws
+pub mod OneResultLaws
+pub mod QuestionBitsLaws
+pub mod SheetLaws

@@ -1,6 +1,0 @@
-pub mod ExpectedLemmas
-pub mod RegionLines
-pub mod Exclusive
-pub mod AuditLemmas
-pub mod OneReport
-pub mod RegionDocuments

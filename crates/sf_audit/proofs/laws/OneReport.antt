@@ -1,0 +1,112 @@
+-- Audits of one stack that end with nothing outstanding have one report, and one document.
+use Rattle.std.proofs.Common.{◌≡◌, ℕ, ◌+◌, ◌<◌, Bool, List, [], ◌∷◌, ◌++◌, length, get_or, sym, ◌∙◌, subst, arith}
+use Rattle.std.specs.Prelude.{codes, if◌then◌else◌}
+use Rattle.std.proofs.lemmas.List.{same_lists}
+use Rattle.std.proofs.lemmas.Option.{same_Some, slice_get-get_or}
+use Rattle.serde_json.specs.Data.{Data, null, string}
+use Rattle.sf_check.specs.declared.insn.Insn.{Insn}
+use Rattle.sf_check.specs.Stacks.{path_length}
+use Rattle.sf_run.specs.declared.counts.Counts.{Counts}
+use Rattle.sf_book.specs.Books.{BookData, counts_of}
+use Rattle.sf_book.specs.Unfoldings.{ExplorationsHaveOneResult}
+use Rattle.sf_question.specs.QuestionData.{QuestionData}
+use Rattle.sf_ask.specs.declared.verdict.Reply.{Reply}
+use Rattle.sf_ask.specs.Judging.{HasReply}
+use Rattle.sf_ask.specs.OneResult.{HaveOneReply, IsWholeFringe}
+use Rattle.sf_ask.specs.laws.OneResultLaws.{same_counts}
+use Rattle.sf_crew.specs.Sweeps.{IsRightReplyAt, AreRightReplies}
+use Rattle.sf_audit.specs.Audits.{IsAudit}
+use Rattle.sf_audit.specs.Outcomes.{Found}
+use Rattle.sf_json.specs.Documents.{count, counts_document, fields, list_of, sizes_document}
+use Rattle.sf_stack.specs.Texts.{counts_line}
+use Rattle.sf_audit.specs.Reports.{size_line, region_lines, title_line, question_lines, totals_line, report_text}
+use Rattle.sf_audit.specs.Expectations.{ExpectedData}
+use Rattle.sf_audit.specs.Documents.{TellingData, region_documents, question_documents, shown_expected, totals_document, audit_document}
+
+-- what an audit that left nothing outstanding explored
+pub whole : (files : List (List ℕ)) (questions : List QuestionData) (n : ℕ) (o : Found) → IsAudit files questions n o
+    → o.settled.outstanding ≡ [] → IsWholeFringe o.settled
+whole files questions n o f none =
+    record { settled = f.found.end.settled; fringe = f.found.end.fringe; none_left = none }
+
+-- ---- the same replies
+
+same_replies : HaveOneReply → (b c : BookData) → IsWholeFringe b → IsWholeFringe c → b.stack ≡ c.stack
+    → (qs : List QuestionData) (xs ys : List Reply) → AreRightReplies b qs xs → AreRightReplies c qs ys → xs ≡ ys
+same_replies one b c h k stack qs xs ys f g =
+    same_lists xs ys (f.count ∙ sym g.count) (λ k' d less.
+    let less' : k' < length ys = let e = f.count in let e' = g.count in omega arith in
+    let p : IsRightReplyAt b qs k' (get_or xs k' d) = f.each k' (get_or xs k' d) (slice_get-get_or xs k' d less) in
+    let r : IsRightReplyAt c qs k' (get_or ys k' d) = g.each k' (get_or ys k' d) (slice_get-get_or ys k' d less') in
+    let asked : r.question ≡ p.question = same_Some r.question p.question (sym r.asked ∙ p.asked) in
+    one b c p.question (get_or xs k' d) (get_or ys k' d) h k stack p.replies.rule
+    (subst (λ (a : QuestionData). HasReply c a (get_or ys k' d)) asked r.replies.rule))
+
+-- ---- the same findings
+
+-- two audits found the same
+record IsFoundTwice (o p : Found) : Type 0 where
+  stack : o.settled.stack ≡ p.settled.stack
+  questions : o.questions ≡ p.questions
+  replies : o.replies ≡ p.replies
+  counts : counts_of o.settled ≡ counts_of p.settled
+  regions : o.settled.regions ≡ p.settled.regions
+
+found_twice : ExplorationsHaveOneResult → HaveOneReply → (files others : List (List ℕ)) (questions : List QuestionData)
+    (m n : ℕ) (o p : Found) → IsAudit files questions m o → IsAudit others questions n p
+    → o.settled.stack ≡ p.settled.stack → o.settled.outstanding ≡ [] → p.settled.outstanding ≡ [] → IsFoundTwice o p
+found_twice explored reply files others questions m n o p f g stack none none' =
+    let h = whole files questions m o f none in
+    let k = whole others questions n p g none' in
+    let one = explored o.settled p.settled h.settled k.settled h.fringe k.fringe stack none none' in
+    let asked : o.questions ≡ p.questions = f.found.questions ∙ sym g.found.questions in
+    let theirs : AreRightReplies p.settled o.questions p.replies =
+    subst (λ (qs : List QuestionData). AreRightReplies p.settled qs p.replies) (sym asked) g.found.replies in
+    record {
+      stack = stack;
+      questions = asked;
+      replies = same_replies reply o.settled p.settled h k stack o.questions o.replies p.replies f.found.replies theirs;
+      counts = same_counts o.settled p.settled one none none';
+      regions = one.regions;
+    }
+
+-- ---- the same report
+
+abbrev head : List (List Insn) → ℕ → Counts → List ℕ
+head stack questions counts = title_line ++ (size_line (length stack) (path_length stack) questions
+    ++ counts_line counts)
+
+pub same_report : ExplorationsHaveOneResult → HaveOneReply → (files others : List (List ℕ))
+    (questions : List QuestionData) (m n : ℕ) (o p : Found)
+    → IsAudit files questions m o → IsAudit others questions n p → o.settled.stack ≡ p.settled.stack
+    → o.settled.outstanding ≡ [] → p.settled.outstanding ≡ [] → (shown : Bool) (remarks : List (List ℕ))
+    → report_text o shown remarks ≡ report_text p shown remarks
+same_report explored reply files others questions m n o p f g stack none none' shown remarks =
+    let same = found_twice explored reply files others questions m n o p f g stack none none' in
+    λ j. head (same.stack j) (length (same.questions j)) (same.counts j)
+    ++ (question_lines 0 (same.questions j) (same.replies j) remarks
+    ++ ((if shown then region_lines 1 (same.regions j) else []) ++ totals_line (same.replies j)))
+
+-- ---- the same document
+
+abbrev document : TellingData → ExpectedData → List (List Insn) → List QuestionData → List Reply → Counts
+    → List Data → Data
+document t e stack questions replies counts regions = fields (
+    (codes "counts", counts_document counts)
+    ∷ (codes "expected", shown_expected t.is_expecting e)
+    ∷ (codes "questions", list_of (question_documents t e 0 questions replies))
+    ∷ (codes "regions", if t.regions then list_of regions else null)
+    ∷ (codes "seccomp_audit", string (codes "audit"))
+    ∷ (codes "stack", sizes_document stack)
+    ∷ (codes "totals", totals_document replies)
+    ∷ (codes "version", count 1) ∷ [])
+
+pub same_document : ExplorationsHaveOneResult → HaveOneReply → (files others : List (List ℕ))
+    (questions : List QuestionData) (m n : ℕ) (o p : Found)
+    → IsAudit files questions m o → IsAudit others questions n p → o.settled.stack ≡ p.settled.stack
+    → o.settled.outstanding ≡ [] → p.settled.outstanding ≡ [] → (t : TellingData) (e : ExpectedData)
+    → audit_document t e o ≡ audit_document t e p
+same_document explored reply files others questions m n o p f g stack none none' t e =
+    let same = found_twice explored reply files others questions m n o p f g stack none none' in
+    λ j. document t e (same.stack j) (same.questions j) (same.replies j) (same.counts j)
+    (region_documents 1 (same.regions j))

@@ -1,0 +1,5 @@
+pub mod Growing
+pub mod Kept
+pub mod Lawful
+pub mod Names
+pub mod Plain

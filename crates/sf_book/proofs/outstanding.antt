@@ -1,0 +1,2 @@
+pub mod OutstandingLeases
+pub mod OutstandingLists

@@ -1,0 +1,5 @@
+pub mod ChangesLaws
+pub mod ExactLaws
+pub mod NameOrderLaws
+pub mod PartitionLaws
+pub mod PlainLaws

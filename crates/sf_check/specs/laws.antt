@@ -1,0 +1,3 @@
+pub mod ContainsLaws
+pub mod PathLengthLaws
+pub mod ProgramLaws

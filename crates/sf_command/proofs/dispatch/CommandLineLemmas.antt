@@ -1,0 +1,123 @@
+-- What `clap` says of words that don't fit the form of the command line.
+use Rattle.std.proofs.Common.{◌≡◌, ◌≢◌, ◌⊎◌, ◌≤◌, ◌∙◌, ap, codes, true, false, inl, inr, ℕ, Bool, List, [], Result, Ok, Err, arith, refl, subst, sym}
+use Rattle.std.specs.Prelude.{◌==◌, IfOk, Option, if◌then◌else◌, nat_lt}
+use Rattle.std.specs.Io.KnownBytes.{Appends}
+use Rattle.clap.specs.Words.{HasKind, IsAmong, Kinds, Row, Text, kind_of}
+use Rattle.clap.specs.declared.error.Error.{Error}
+use Rattle.clap.specs.declared.error.kind.ErrorKind.TheVariants.{DisplayVersion, OutOfMemory}
+use Rattle.sf_command_line.specs.CommandLine.{IsKnown, errors_at, subcommand_at}
+use Rattle.sf_command_line.specs.laws.SubcommandLaws.{known_subcommand}
+use Rattle.sf_stack.specs.declared.fault.Fault.TheVariants.{TooLarge, TooManyRows, Write}
+use Rattle.sf_profile.specs.Faults.{fault_number as profile_number}
+use Rattle.sf_profile.specs.declared.fault.Fault.{Fault as ProfileFault}
+use Rattle.sf_profile.specs.declared.fault.Fault.TheVariants as profile_faults
+use Rattle.sf_evaluate.specs.Faults.{fault_number}
+use Rattle.sf_evaluate.specs.Status.{fault_status}
+use Rattle.sf_evaluate.specs.declared.fault.Fault.{Fault}
+use Rattle.sf_evaluate.specs.declared.fault.Fault.TheVariants.{Other, Profile}
+use Rattle.sf_evaluate.specs.Profiles.{profile_words_fit}
+use Rattle.sf_command.specs.Runs.{HasWrongWord, Helps, IsHelp, IsTooLarge, RefusesAs, RefusesAsAsked, RefusesWords, WritesText, words_fit_for}
+use Rattle.sf_command.specs.Subcommands.{RunsAs}
+
+-- an answer to a call for help or for the version is what the words ask for
+pub helps : (version : Text) (words : List Text) (e : Error) (status : ℕ) (old new : Option Text)
+    → HasKind (errors_at words) e
+    → IsHelp (kind_of e) × (status ≡ 0) × WritesText old new × (kind_of e ≡ DisplayVersion → Appends old new version)
+    → Helps version words status old new
+helps version words e status old new (inr among) done = record {
+  kind = kind_of e;
+  error = among;
+  help = done.0;
+  status_is = done.1;
+  written = done.2;
+  line = done.3;
+}
+helps version words e status old new (inl memory) (inl help, status_is, written, line) = cc
+helps version words e status old new (inl memory) (inr shown, status_is, written, line) = cc
+
+-- where an error isn't refused memory, the words don't fit the form
+pub some_error : (words : List Text) (e : Error) → HasKind (errors_at words) e → kind_of e ≢ OutOfMemory
+    → ¬ (errors_at words ≡ [])
+some_error words e (inl memory) other none = other memory
+some_error words e (inr among) other none = subst (λ (ks : Kinds). IsAmong (kind_of e) ks) none among
+
+-- words for which `profile` or `eval` ended with status 4, or for which no subcommand is known, are refused
+pub refused_words : (words : List Text) (named : Option (Text × List Row)) → named ≡ subcommand_at words
+    → (¬ IsKnown named) ⊎ HasWrongWord named → RefusesWords words
+refused_words words named entered (inl unknown) = inl (λ fits.
+    let (found, at, known) = known_subcommand words fits in unknown (found, entered ∙ at, known))
+refused_words words named entered (inr (found, at, wrong)) = inr (found, sym entered ∙ at, wrong)
+
+-- a run of `profile` or `eval` that ended with another status than 4 did what it says
+pub profile_ran : (W : Type 0) (r : Result ℕ Fault) → IfOk r (λ s. (s ≡ 0) ⊎ (s ≡ 4)) → IfOk r (λ s. s ≡ 0 → W)
+    → IfOk r (λ s. s ≤ 2 → (s ≡ 0) × W)
+profile_ran W (Ok s) (inl zero) done = λ small. (zero, done zero)
+profile_ran W (Ok s) (inr four) done = λ small. absurd (omega (arith, four, small))
+profile_ran W (Err e) status done = tt
+
+-- words of `profile` that don't fit are words that don't fit their subcommand
+pub profile_words : (name : Text) (rows : List Row) → name ≡ codes "profile" → profile_words_fit rows ≡ false
+    → words_fit_for name rows ≡ false
+profile_words name rows is wrong = rw is wrong
+
+-- what was done as a subcommand asks for, was done as the words ask for that name it
+pub done_as : (holds : Text → Option Text) (found named : Option (Text × List Row)) (status : ℕ)
+    (old new : Option Text) → named ≡ found → RunsAs holds found status old new → RunsAs holds named status old new
+done_as holds found named status old new is done = subst (λ n. RunsAs holds n status old new) (sym is) done
+
+-- what is refused for a subcommand, is refused for the words that name it
+pub refused_as : (holds : Text → Option Text) (found named : Option (Text × List Row)) (e : Fault) → named ≡ found
+    → RefusesAs holds found e → RefusesAs holds named e
+refused_as holds found named e is why = subst (λ n. RefusesAs holds n e) (sym is) why
+
+-- no fault has the status of a command line that is refused
+pub no_usage : (number : ℕ) → fault_status number ≡ 4 → ⊥
+no_usage number four = by (number == 32) (nat_lt number 50) four
+  where
+    by : (large low : Bool) → ◌≡◌ {A = ℕ} (if large then 2 else if low then 3 else 5) 4 → ⊥
+    by true low same = omega (arith, same)
+    by false true same = omega (arith, same)
+    by false false same = omega (arith, same)
+
+-- no refusal of a profile has a status up to 2
+profile_status : (refusal : ProfileFault) → fault_status (profile_number refusal) ≤ 2 → ⊥
+profile_status profile_faults.Memory small = omega (arith, small)
+profile_status refusal small = omega (arith, small)
+
+-- too many nodes or rows are the only faults with a status up to 2
+only_too_large : (e : Fault) → fault_status (fault_number e) ≤ 2
+    → ((nodes : ℕ) × (e ≡ Other (TooLarge nodes))) ⊎ (e ≡ Other TooManyRows)
+only_too_large (Profile refusal) small = absurd (profile_status refusal small)
+only_too_large (Other (TooLarge nodes)) small = inl (nodes, refl)
+only_too_large (Other TooManyRows) small = inr refl
+only_too_large (Other fault) small = absurd (omega (arith, small))
+
+-- nothing is written of too many nodes
+not_written : {Same : Type 0} (e : Fault) (nodes : ℕ) → e ≡ Other (TooLarge nodes) → (e ≡ Other Write) ⊎ Same → Same
+not_written e nodes large (inl write) = cc
+not_written e nodes large (inr same) = same
+
+-- nor of too many rows
+no_row_written : {Same : Type 0} (e : Fault) → e ≡ Other TooManyRows → (e ≡ Other Write) ⊎ Same → Same
+no_row_written e rows (inl write) = cc
+no_row_written e rows (inr same) = same
+
+-- where the status of a fault is at most 2, nodes or rows are too many, and nothing was written
+pub too_large : (holds : Text → Option Text) (words : List Text) (e : Fault) (status : ℕ) (Same : Type 0)
+    → RefusesAsAsked holds words e → status ≡ fault_status (fault_number e) → (e ≡ Other Write) ⊎ Same → status ≤ 2
+    → (status ≡ 2) × Same × IsTooLarge holds words
+too_large holds words e status Same why is quiet small =
+    by (only_too_large e (subst (λ (s : ℕ). s ≤ 2) is small))
+  where
+    by : ((nodes : ℕ) × (e ≡ Other (TooLarge nodes))) ⊎ (e ≡ Other TooManyRows)
+        → (status ≡ 2) × Same × IsTooLarge holds words
+    by (inl (nodes, large)) = (
+      is ∙ ap (λ (f : Fault). fault_status (fault_number f)) large,
+      not_written e nodes large quiet,
+      inl (nodes, subst (λ (f : Fault). RefusesAsAsked holds words f) large why),
+    )
+    by (inr rows) = (
+      is ∙ ap (λ (f : Fault). fault_status (fault_number f)) rows,
+      no_row_written e rows quiet,
+      inr (subst (λ (f : Fault). RefusesAsAsked holds words f) rows why),
+    )

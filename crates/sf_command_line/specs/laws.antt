@@ -1,0 +1,3 @@
+pub mod CommandLineLaws
+pub mod OptionsLaws
+pub mod SubcommandLaws

@@ -1,3 +1,0 @@
-pub mod ComparisonLemmas
-pub mod UserLemmas
-pub mod PassingLemmas

@@ -1,0 +1,2 @@
+pub mod ComparisonLemmas
+pub mod PassingLemmas

@@ -1,0 +1,5 @@
+pub mod Draws
+pub mod Joins
+pub mod Moves
+pub mod OneView
+pub mod Sheets

@@ -1,0 +1,2 @@
+pub mod FullLemmas
+pub mod Skips

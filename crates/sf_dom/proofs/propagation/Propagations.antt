@@ -1,0 +1,238 @@
+-- Nodes that a forward pass need not go through, and newer nodes that are taken in.
+use Rattle.std.proofs.Common.{◌≡◌, ◌≢◌, ℕ, Bool, true, false, ◌-◌, ◌<◌, ◌≤◌, ◌+◌, List, [], ◌∷◌, ◌++◌, length, set, take, zero, suc, arith, refl, sym, ap, ◌∙◌, ◌⊎◌, inl, inr}
+use Rattle.std.proofs.lemmas.Bool.{cases_lt, cases_eq}
+use Rattle.std.proofs.lemmas.List.{get_or-set_same, get_or-set_other, get_or_append_left, get_or_push, length_push, get_or-take}
+use Rattle.std.specs.Prelude.{slice_index, ◌&&◌, if◌then◌else◌}
+use Rattle.sf_sym.specs.Pool.{IsPool, OperandsBelow, node_at}
+use Rattle.sf_sym.specs.declared.pool.Node.{Node}
+use Rattle.sf_sym.specs.declared.pool.Node.TheVariants.{Const, Word, Bin, Neg}
+use Rattle.sf_dom.specs.declared.known.Known.{Known}
+use Rattle.sf_dom.specs.Known.{IsNarrower, IsConsistent, IsDecided, is_decided, known_of}
+use Rattle.sf_dom.specs.Nodes.{NodesView, IsLaidOut}
+use Rattle.sf_dom.specs.Propagation.{AreConsistentOperands, AreClosedWords}
+use Rattle.sf_dom.specs.Rules.{forward_node, IsClosedAt, IsReduction}
+use Rattle.sf_dom.specs.Passes.{IsAtRest, AreClosed, AreFixed, are_all_decided, variables_to, IsFixedAt, IsVariableAt}
+use Rattle.sf_dom.specs.Facts.{known_at}
+use Rattle.sf_dom.specs.laws.FactsLaws.{closed-consistent}
+use Rattle.sf_dom.proofs.Passes.{operands-below, forward-same, fixed-rest, word-rest, fixed-same, decided-same, decided-as}
+use Rattle.sf_dom.proofs.Reductions.{IsNarrower-refl}
+use Rattle.sf_dom.proofs.RuleLaws.{one-reduction}
+
+pub word-below : (k : ℕ) (n : Node) → OperandsBelow k n → (i : ℕ) → n ≡ Word i → i < 16
+word-below k n o i e = rw e at o
+
+pub OperandsBelow-more : (k m : ℕ) (n : Node) → k ≤ m → OperandsBelow k n → OperandsBelow m n
+OperandsBelow-more k m (Const c) l o = o
+OperandsBelow-more k m (Word i) l o = o
+OperandsBelow-more k m (Bin op a b) l o = let x = o.0 in let y = o.1 in (omega arith, omega arith)
+OperandsBelow-more k m (Neg a) l o = omega arith
+
+pub consistent-operands : (ks : List Known) (k : ℕ) (n : Node) → OperandsBelow k n
+    → ((j : ℕ) → j < k → IsConsistent (known_at ks j)) → AreConsistentOperands ks n
+consistent-operands ks k (Const c) o h = tt
+consistent-operands ks k (Word i) o h = tt
+consistent-operands ks k (Bin op a b) o h = (h a.0 o.0, h b.0 o.1)
+consistent-operands ks k (Neg a) o h = h a.0 o
+
+-- a node that has one number from the start is at rest
+pub unlisted-rest : (n : NodesView) (ex : List ℕ) (ns : List Node) (k : ℕ) → AreClosed n.known ns → IsLaidOut n
+    → AreFixed n.variables n.known ns → k < length n.known
+    → ((j : ℕ) → j < length n.variables → slice_index n.variables j ≢ k) → IsAtRest n.known ex ns k
+unlisted-rest n ex ns k closed laid fixed l none =
+    let count = closed.count in
+    let number : (16 ≤ k) × IsDecided (known_at n.known k) = elim (laid.rest k l) [
+      | inl v ↦ absurd (none v.0 v.1 v.2)
+      | inr d ↦ d
+    ] in
+    elim (fixed k (omega arith)) [
+      | inl v ↦ absurd (none v.0 v.1 v.2)
+      | inr f ↦ fixed-rest n.known ex ns k (closed-consistent (known_at n.known k)
+          (closed.each k (omega arith))) number.0
+          number.1 f
+    ]
+
+-- a variable stands before all later ones
+pub variable-before : (n : NodesView) (r j k : ℕ) → IsLaidOut n → r ≤ j → j < length n.variables
+    → k < slice_index n.variables r → k < slice_index n.variables j
+variable-before n r j k laid b l h = search (arith, cases_eq)
+
+-- the first variables are the words
+words-first : (n : NodesView) (m j : ℕ) → IsLaidOut n → 16 ≤ length n.known → m ≤ 16 → j < m
+    → j < length n.variables → slice_index n.variables j ≤ j
+words-first n zero j laid l b lt lj = absurd (omega arith)
+words-first n (suc m) j laid l b lt lj = elim (cases_lt j m) [
+  | inl s ↦ words-first n m j laid l (omega arith) s lj
+  | inr g ↦ elim (laid.rest j (omega arith)) [
+    | inl o ↦ elim (cases_lt o.0 j) [
+      | inl s ↦ absurd (omega (arith, words-first n m o.0 laid l (omega arith) (omega arith) o.1, o.2))
+      | inr q ↦ elim (cases_eq o.0 j) [
+        | inl same ↦ omega (arith, rw same at o.2)
+        | inr ne ↦ omega (arith, laid.rising j o.0 (omega arith) o.1, o.2)
+      ]
+    ]
+    | inr o ↦ absurd (omega (arith, o.0))
+  ]
+]
+
+-- where nothing more follows for the words, what stands before each variable past them is at rest
+pub words-rest : (n : NodesView) (ex : List ℕ) (ns : List Node) → IsPool ns → AreClosed n.known ns → IsLaidOut n
+    → AreFixed n.variables n.known ns → AreClosedWords n.known ex → (k : ℕ) → k < length n.known
+    → ((j : ℕ) → 16 ≤ j → j < length n.variables → k < slice_index n.variables j) → IsAtRest n.known ex ns k
+words-rest n ex ns p closed laid fixed words k l before =
+    let sixteen = p.words in
+    let count = closed.count in
+    elim (cases_lt k 16) [
+      | inl b ↦ word-rest n.known ex ns k p b (words k b)
+      | inr g ↦ unlisted-rest n ex ns k closed laid fixed l (λ j lj e. elim (cases_lt j 16) [
+        | inl s ↦ absurd (omega (arith, words-first n 16 j laid (omega arith) (omega arith) s lj, e))
+        | inr b ↦ absurd (omega (arith, before j b lj, e))
+      ])
+    ]
+
+-- where nothing more follows for a node that is written, nothing more follows for a word for which nothing did
+pub closed-set : (ks : List Known) (ex : List ℕ) (i : ℕ) (next : Known)
+    → i < length ks → IsClosedAt ex i next → (w : ℕ) → IsClosedAt ex w (known_at ks w)
+    → IsClosedAt ex w (known_at (set ks i next) w)
+closed-set ks ex i next l closed w h = elim (cases_eq w i) [
+  | inl e ↦ rw (e, get_or-set_same ks i next (known_of 0 0 0 0) l) closed
+  | inr ne ↦ rw (get_or-set_other ks i w next (known_of 0 0 0 0) ne) h
+]
+
+-- a place stays among those of the variables
+more-variables : (places : List ℕ) (i k : ℕ) → IsVariableAt places k → IsVariableAt (places ++ i ∷ []) k
+more-variables places i k v = (
+  v.0,
+  omega (arith, v.1, length_push places i),
+  get_or_append_left places (i ∷ []) 0 v.0 v.1 ∙ v.2,
+)
+
+-- a node that is added is a variable, or no more can become known of it
+pub fixed-push : (places more : List ℕ) (ks : List Known) (ns : List Node) (i : ℕ) (settled : Bool) (r next : Known)
+    → IsPool ns → length ks ≡ i → i < length ns
+    → ((k : ℕ) → k < i → IsVariableAt places k ⊎ IsFixedAt ks ns k)
+    → r ≡ forward_node ks (node_at ns i) → IsNarrower r next
+    → (settled ≡ true → are_all_decided ks (node_at ns i) ≡ true)
+    → more ≡ (if settled then places else places ++ length ks ∷ []) → (k : ℕ) → k < i + 1
+    → IsVariableAt more k ⊎ IsFixedAt (ks ++ next ∷ []) ns k
+fixed-push places more ks ns i settled r next p len l older is narrower told made k lk =
+    let pushed = by settled refl made in
+    let same : (j : ℕ) → j < i → known_at (ks ++ next ∷ []) j ≡ known_at ks j
+    = λ j b. get_or_append_left ks (next ∷ []) (known_of 0 0 0 0) j (omega arith) in
+    elim (cases_lt k i) [
+      | inl b ↦ elim (older k b) [
+        | inl v ↦ inl (elim pushed [ inl q ↦ rw q.1 v | inr q ↦ rw q (more-variables places (length ks) k v) ])
+        | inr f ↦ inr (fixed-same ks (ks ++ next ∷ []) ns k p (omega arith) (λ j c d. same j (omega arith))
+            (rw (same k b) (IsNarrower-refl (known_at ks k))) f)
+      ]
+      | inr g ↦
+          let e : k ≡ i = omega arith in
+          elim pushed [
+            | inl q ↦
+                let lower = operands-below ns i p l in
+                let t = decided-same ks (ks ++ next ∷ []) i (node_at ns i) lower (λ j c d. same j c) (told q.0) in
+                inr (rw e (record {
+                  operands = t.0;
+                  still = rw (t.1, get_or_push ks next (known_of 0 0 0 0) i len, ← is) narrower;
+                }))
+            | inr q ↦ inl (rw q (
+              length places,
+              omega (arith, length_push places (length ks)),
+              get_or_push places (length ks) 0 (length places) refl ∙ len ∙ sym e,
+            ))
+          ]
+    ]
+  where
+    by : (b : Bool) → settled ≡ b → more ≡ (if b then places else places ++ length ks ∷ [])
+        → ((settled ≡ true) × (more ≡ places)) ⊎ (more ≡ places ++ length ks ∷ [])
+    by true e m = inl (e, m)
+    by false e m = inr m
+
+-- so it is in the list of the variables
+pub listed-push : (vs places more : List ℕ) (ks : List Known) (ns : List Node) (from i : ℕ) (settled : Bool)
+    (next : Known) → IsPool ns → length ks ≡ i → i < length ns → from ≤ i
+    → settled ≡ (are_all_decided ks (node_at ns i) && is_decided next) → places ≡ variables_to vs ks ns from (i - from)
+    → more ≡ (if settled then places else places ++ length ks ∷ [])
+    → more ≡ variables_to vs (ks ++ next ∷ []) ns from (i + 1 - from)
+listed-push vs places more ks ns from i settled next p len l le told was made =
+    let one : suc (i - from) ≡ i + 1 - from = omega arith in
+    let at : from + (i - from) ≡ i = omega arith in
+    let now : List ℕ = variables_to vs (ks ++ next ∷ []) ns from (i - from) in
+    made ∙ ap (λ xs. if settled then xs else xs ++ length ks ∷ []) (was ∙ sym (older (i - from) (omega arith)))
+    ∙ ap (λ m. if settled then now else now ++ m ∷ []) len ∙ sym (last (i - from) at)
+    ∙ ap (λ m. variables_to vs (ks ++ next ∷ []) ns from m) one
+  where
+    none : Known
+    none = known_of 0 0 0 0
+
+    same : (k : ℕ) → k < i → known_at (ks ++ next ∷ []) k ≡ known_at ks k
+    same k b = get_or_append_left ks (next ∷ []) none k (omega (arith, len))
+
+    operands : (k : ℕ) → k ≤ i
+        → are_all_decided (ks ++ next ∷ []) (node_at ns k) ≡ are_all_decided ks (node_at ns k)
+    operands k b = decided-as ks (ks ++ next ∷ []) k (node_at ns k) (operands-below ns k p (omega (arith, l, b)))
+        (λ j c. same j (omega (arith, b, c)))
+
+    older : (n : ℕ) → from + n ≤ i → variables_to vs (ks ++ next ∷ []) ns from n ≡ variables_to vs ks ns from n
+    older zero b = refl
+    older (suc n) b = rw (operands (from + n) (omega arith), same (from + n) (omega arith), older n (omega arith)) refl
+
+    last : (n : ℕ) → from + n ≡ i → variables_to vs (ks ++ next ∷ []) ns from (suc n)
+        ≡ (if settled then variables_to vs (ks ++ next ∷ []) ns from n
+        else variables_to vs (ks ++ next ∷ []) ns from n ++ i ∷ [])
+    last n e = rw (e, operands i (omega arith), get_or_push ks next none i len, ← told) refl
+
+-- what is left of a node that is added is what follows from its operands, reduced, and so it is for those before it
+pub ruled-push : (ks : List Known) (ex : List ℕ) (ns : List Node) (from i : ℕ) (r next : Known) → IsPool ns
+    → length ks ≡ i → i < length ns
+    → ((k : ℕ) → from ≤ k → k < i → IsReduction ex k (forward_node ks (node_at ns k)) (known_at ks k))
+    → r ≡ forward_node ks (node_at ns i) → IsReduction ex i r next
+    → (k : ℕ) → from ≤ k → k < i + 1
+    → IsReduction ex k (forward_node (ks ++ next ∷ []) (node_at ns k)) (known_at (ks ++ next ∷ []) k)
+ruled-push ks ex ns from i r next p len l older is reduction k fk lk =
+    let none : Known = known_of 0 0 0 0 in
+    let same : (j : ℕ) → j < i → known_at (ks ++ next ∷ []) j ≡ known_at ks j
+    = λ j b. get_or_append_left ks (next ∷ []) none j (omega arith) in
+    let lower = operands-below ns k p (omega arith) in
+    let follows = forward-same (ks ++ next ∷ []) ks k (node_at ns k) lower (λ j b. same j (omega arith)) in
+    elim (cases_lt k i) [
+      | inl b ↦ rw (follows, same k b) (older k fk b)
+      | inr g ↦
+          let e : k ≡ i = omega arith in
+          rw (follows, e, get_or_push ks next none i len, ← is) reduction
+    ]
+
+-- an older node stays as it was
+pub taken-older : (old xs : List Known) (k : ℕ) → take (length old) xs ≡ old → k < length old
+    → known_at old k ≡ known_at xs k
+taken-older old xs k t l = ap (λ ys. known_at ys k) (sym t) ∙ get_or-take (length old) xs k (known_of 0 0 0 0) l
+
+-- what is known is consistent where newer nodes are taken in
+pub taken-consistent : (old ks : List Known) (ex : List ℕ) (ns : List Node) (i : ℕ) → take (length old) ks ≡ old
+    → ((k : ℕ) → k < length old → IsConsistent (known_at old k))
+    → ((k : ℕ) → length old ≤ k → k < i → IsReduction ex k (forward_node ks (node_at ns k)) (known_at ks k))
+    → (k : ℕ) → k < i → IsConsistent (known_at ks k)
+taken-consistent old ks ex ns i kept consistent ruled k l = elim (cases_lt k (length old)) [
+  | inl b ↦ rw (taken-older old ks k kept b) at (consistent k b)
+  | inr g ↦ closed-consistent (known_at ks k) (ruled k g l).is.known
+]
+
+-- newer nodes are taken in in one way at most
+pub same-taken : (old a b : List Known) (ex : List ℕ) (ns : List Node) (i : ℕ) → IsPool ns → i ≤ length ns
+    → take (length old) a ≡ old → take (length old) b ≡ old
+    → ((k : ℕ) → length old ≤ k → k < i → IsReduction ex k (forward_node a (node_at ns k)) (known_at a k))
+    → ((k : ℕ) → length old ≤ k → k < i → IsReduction ex k (forward_node b (node_at ns k)) (known_at b k))
+    → (m : ℕ) → m ≤ i → (k : ℕ) → k < m → known_at a k ≡ known_at b k
+same-taken old a b ex ns i p l ta tb ha hb zero lm k lk = absurd (omega arith)
+same-taken old a b ex ns i p l ta tb ha hb (suc m) lm k lk =
+    let before = same-taken old a b ex ns i p l ta tb ha hb m (omega arith) in
+    elim (cases_lt k m) [
+      | inl s ↦ before k s
+      | inr o ↦ elim (cases_lt k (length old)) [
+        | inl e ↦ sym (taken-older old a k ta e) ∙ taken-older old b k tb e
+        | inr g ↦
+            let older = forward-same a b k (node_at ns k) (operands-below ns k p (omega arith))
+            (λ j s. before j (omega arith)) in
+            one-reduction (IsClosedAt ex k) (forward_node b (node_at ns k)) (known_at a k) (known_at b k)
+            (rw older at (ha k g (omega arith))) (hb k g (omega arith))
+      ]
+    ]

@@ -1,0 +1,3 @@
+pub mod FactsLaws
+pub mod LearningLaws
+pub mod ThenLaws

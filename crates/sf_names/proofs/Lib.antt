@@ -1,3 +1,0 @@
-pub mod JoinLemmas
-pub mod NeverSyntax
-pub mod SetLemmas

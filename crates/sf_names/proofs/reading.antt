@@ -1,0 +1,2 @@
+pub mod NeverSyntax
+pub mod SetLemmas

@@ -1,0 +1,2 @@
+pub mod JoinedLaws
+pub mod NamesLaws

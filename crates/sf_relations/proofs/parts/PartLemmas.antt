@@ -1,0 +1,257 @@
+-- The answers of older filters and newer ones, joined; and the diagrams of the answers of parts of a stack.
+use Rattle.std.proofs.Common.{◌≡◌, ℕ, ◌<◌, ◌≤◌, ◌^◌, Bool, true, false, List, [], ◌∷◌, ◌++◌, length, map, refl, sym, ap, ap₂, subst, ◌∙◌, inl, inr, arith, suc, ◌+◌, ◌-◌, take, drop}
+use Rattle.std.specs.Prelude.{nat_lt, reverse, if◌then◌else◌, slice_index, slice_index_or}
+use Rattle.std.proofs.lemmas.Bool.{cases_lt, cond_both, lt-ltb, le-ltb, cases_eq}
+use Rattle.std.proofs.lemmas.List.{append-nil, append_assoc, map-append, reverse-append, drop_all, drop_more, get_or_append_left, get_or_push, length_push}
+use Rattle.std.proofs.lemmas.List.Elements.{All-head}
+use Rattle.sf_insn.specs.declared.input.Input.{Input}
+use Rattle.sf_check.specs.declared.insn.Insn.{Insn}
+use Rattle.sf_run.specs.declared.action.Action.TheVariants.{Allow}
+use Rattle.sf_run.specs.declared.action.Answer.{Answer}
+use Rattle.sf_run.specs.Answers.{IsAnswer, action_bits, action_number, rank, folded_answer}
+use Rattle.sf_run.specs.laws.AnswerLaws.{answer_more, answer_none, number-action_of, one}
+use Rattle.sf_run.specs.Machine.{return_of, returns_of}
+use Rattle.sf_diagram.specs.Trees.{Tree, value}
+use Rattle.sf_diagram.specs.Stores.{tree_at, KeepsTrees}
+use Rattle.sf_diagram.specs.Operations.{folded_of}
+use Rattle.sf_diagram.specs.Merges.{IsMerged}
+use Rattle.sf_diagram.specs.declared.operation.Operation.TheVariants.{Fold}
+use Rattle.sf_behaviour.specs.InputBits.{input_by}
+use Rattle.sf_behaviour.specs.Answering.{answer_with, IsBehaviour}
+use Rattle.sf_relations.specs.Parts.{AreParts}
+use Rattle.sf_relations.specs.laws.KeepLaws.{behaviour_kept}
+
+-- ---- of two the lower one by f, the first one where neither is
+
+module _ {X : Type 0} where
+  abbrev pub lower_of : (X → ℕ) → X → X → X
+  lower_of f n o = if nat_lt (f o) (f n) then o else n
+
+  lower-assoc : (f : X → ℕ) (a b c : X) → lower_of f (lower_of f a b) c ≡ lower_of f a (lower_of f b c)
+  lower-assoc f a b c = elim (cases_lt (f b) (f a)) [
+    | inl ba ↦ elim (cases_lt (f c) (f b)) [
+      | inl cb ↦
+          let ca : f c < f a = omega arith in
+          rw (lt-ltb (f b) (f a) ba, lt-ltb (f c) (f b) cb, lt-ltb (f c) (f a) ca) refl
+      | inr bc ↦ rw (lt-ltb (f b) (f a) ba, le-ltb (f c) (f b) bc, lt-ltb (f b) (f a) ba) refl
+    ]
+    | inr ab ↦ elim (cases_lt (f c) (f b)) [
+      | inl cb ↦ rw (le-ltb (f b) (f a) ab, lt-ltb (f c) (f b) cb) refl
+      | inr bc ↦
+          let ac : f a ≤ f c = omega arith in
+          rw (le-ltb (f b) (f a) ab, le-ltb (f c) (f b) bc, le-ltb (f c) (f a) ac, le-ltb (f b) (f a) ab) refl
+    ]
+  ]
+
+  lower-first : (f : X → ℕ) (n o : X) → f n ≤ f o → lower_of f n o ≡ n
+  lower-first f n o l = rw (le-ltb (f o) (f n) l) refl
+
+-- ---- answers
+
+abbrev rank_of : Answer → ℕ
+rank_of a = rank (action_number a.action)
+
+-- the answer of newer filters and that of older ones make the answer of all
+abbrev joined_answer : Answer → Answer → Answer
+joined_answer newer older = lower_of rank_of newer older
+
+abbrev allowed : Answer
+allowed = record { action = Allow; info = 0 }
+
+-- one more value is folded in as its answer is joined
+folded-joined : (a : Answer) (n : ℕ) → folded_answer a n ≡ joined_answer a (answer_with n)
+folded-joined a n =
+    sym (ap (λ (k : ℕ). if nat_lt (rank k) (rank (action_number a.action)) then answer_with n else a)
+    (number-action_of (action_bits n)))
+
+-- the answer with more values, one after the other
+abbrev folded_all : Answer → List ℕ → Answer
+folded_all a [] = a
+folded_all a (n ∷ ns) = folded_all (folded_answer a n) ns
+
+answer-all : (vs ns : List ℕ) (a : Answer) → IsAnswer vs a → IsAnswer (vs ++ ns) (folded_all a ns)
+answer-all vs [] a h = subst (λ (ms : List ℕ). IsAnswer ms a) (sym (append-nil vs)) h
+answer-all vs (n ∷ ns) a h =
+    subst (λ (ms : List ℕ). IsAnswer ms (folded_all (folded_answer a n) ns)) (append_assoc vs (n ∷ []) ns)
+    (answer-all (vs ++ n ∷ []) ns (folded_answer a n) (answer_more vs a n h))
+
+folded-behind : (ns : List ℕ) (a c : Answer) → folded_all (joined_answer a c) ns ≡ joined_answer a (folded_all c ns)
+folded-behind [] a c = refl
+folded-behind (n ∷ ns) a c =
+    let one_more : folded_answer (joined_answer a c) n ≡ joined_answer a (folded_answer c n)
+    = folded-joined (joined_answer a c) n ∙ lower-assoc rank_of a c (answer_with n)
+    ∙ ap (λ (x : Answer). joined_answer a x) (sym (folded-joined c n)) in
+    ap (λ (x : Answer). folded_all x ns) one_more ∙ folded-behind ns a (folded_answer c n)
+
+-- older values and newer ones together have the answer that joins theirs
+joined-answers : (vs ns : List ℕ) (a b : Answer) → IsAnswer vs a → IsAnswer ns b
+    → IsAnswer (vs ++ ns) (joined_answer a b)
+joined-answers vs ns a b h k =
+    let low : rank_of a ≤ rank_of allowed
+    = All-head (λ (n : ℕ). rank (action_number a.action) ≤ rank n) 0x7fff0000 (map action_bits vs) h.lowest in
+    let begun : a ≡ joined_answer a allowed = sym (lower-first rank_of a allowed low) in
+    let b_is : folded_all allowed ns ≡ b
+    = one ns (folded_all allowed ns) b (answer-all [] ns allowed answer_none) k in
+    let same : folded_all a ns ≡ joined_answer a b
+    = ap (λ (x : Answer). folded_all x ns) begun ∙ folded-behind ns a allowed
+    ∙ ap (λ (x : Answer). joined_answer a x) b_is in
+    subst (λ (x : Answer). IsAnswer (vs ++ ns) x) same (answer-all vs ns a h)
+
+returns-joined : (older newer : List (List Insn)) (d : Input)
+    → returns_of (older ++ newer) d ≡ returns_of newer d ++ returns_of older d
+returns-joined older newer d =
+    ap (λ (ps : List (List Insn)). map (λ (p : List Insn). return_of p d) ps) (reverse-append older newer)
+    ∙ map-append (λ (p : List Insn). return_of p d) (reverse newer) (reverse older)
+
+-- ---- diagrams of answers
+
+with-if : (b : Bool) (m n : ℕ) → answer_with (if b then m else n) ≡ (if b then answer_with m else answer_with n)
+with-if true m n = refl
+with-if false m n = refl
+
+folded-with : (newer older : ℕ) → answer_with (folded_of newer older)
+    ≡ joined_answer (answer_with newer) (answer_with older)
+folded-with newer older =
+    with-if (nat_lt (rank (action_bits older)) (rank (action_bits newer))) older newer
+    ∙ sym (ap₂ (λ (j k : ℕ). if nat_lt (rank j) (rank k) then answer_with older else answer_with newer)
+    (number-action_of (action_bits older)) (number-action_of (action_bits newer)))
+
+pub behaviours-joined : (ts us : List Tree) (first last : List (List Insn)) (older newer id : ℕ) → id < length us
+    → IsMerged Fold (tree_at ts newer) (tree_at ts older) (tree_at us id) → IsBehaviour first ts older
+    → IsBehaviour last ts newer → IsBehaviour (first ++ last) us id
+behaviours-joined ts us first last older newer id within merged hf hl = record {
+  within = within;
+  small = λ bits.
+      let m : ℕ = value (tree_at ts newer) bits in
+      let n : ℕ = value (tree_at ts older) bits in
+      subst (λ (k : ℕ). k < 2 ^ 32) (sym (merged.values bits))
+      (cond_both (nat_lt (rank (action_bits n)) (rank (action_bits m))) n m (λ (k : ℕ). k < 2 ^ 32)
+      (λ _. hf.small bits) (λ _. hl.small bits));
+  answers = λ bits.
+      let m : ℕ = value (tree_at ts newer) bits in
+      let n : ℕ = value (tree_at ts older) bits in
+      let d : Input = input_by bits in
+      subst (λ (a : Answer). IsAnswer (returns_of (first ++ last) d) a)
+      (sym (ap answer_with (merged.values bits) ∙ folded-with m n))
+      (subst (λ (vs : List ℕ). IsAnswer vs (joined_answer (answer_with m) (answer_with n)))
+      (sym (returns-joined first last d))
+      (joined-answers (returns_of last d) (returns_of first d) (answer_with m) (answer_with n) (hl.answers bits)
+      (hf.answers bits)));
+}
+
+-- ---- a list with one element more
+
+module _ {X : Type 0} where
+  pub pushed : (P : ℕ → X → Type 0) (xs ys : List X) (x d : X) (n : ℕ) → length xs ≡ n
+      → ((k : ℕ) → k < n → P k (slice_index_or xs k d)) → P n x → ys ≡ xs ++ x ∷ []
+      → (k : ℕ) → k < n + 1 → P k (slice_index_or ys k d)
+  pushed P xs ys x d n long before here e k l = elim (cases_eq k n) [
+    | inl at ↦
+        let is : slice_index_or ys k d ≡ x
+        = ap (λ (zs : List X). slice_index_or zs k d) e ∙ get_or_push xs x d k (omega (arith, long)) in
+        subst (λ (y : X). P k y) (sym is) (subst (λ (m : ℕ). P m x) (sym at) here)
+    | inr ne ↦
+        let is : slice_index_or ys k d ≡ slice_index_or xs k d
+        = ap (λ (zs : List X). slice_index_or zs k d) e
+        ∙ get_or_append_left xs (x ∷ []) d k (omega (arith, long)) in
+        subst (λ (y : X). P k y) (sym is) (before k (omega arith))
+  ]
+
+  pub count-pushed : (xs ys : List X) (x : X) (n : ℕ) → length xs ≡ n → ys ≡ xs ++ x ∷ [] → length ys ≡ n + 1
+  count-pushed xs ys x n long e = ap length e ∙ length_push xs x ∙ ap (λ (m : ℕ). m + 1) long
+
+-- ---- parts
+
+abbrev newest : List (List Insn) → ℕ → List Insn
+newest programs k = slice_index_or programs (length programs - 1 - k) []
+
+abbrev last_programs : List (List Insn) → ℕ → List (List Insn)
+last_programs programs k = drop (length programs - k) programs
+
+pub parts-kept : (ts us : List Tree) (programs : List (List Insn)) (many : ℕ) (alone last : List ℕ) → KeepsTrees ts us
+    → AreParts ts programs many alone last → AreParts us programs many alone last
+parts-kept ts us programs many alone last k h = record {
+  alone_count = h.alone_count;
+  last_count = h.last_count;
+  each_alone = λ n l. behaviour_kept ts us (newest programs n ∷ []) (slice_index alone n) k (h.each_alone n l);
+  each_last = λ n l. behaviour_kept ts us (last_programs programs n) (slice_index last n) k (h.each_last n l);
+}
+
+-- no filter
+pub parts-begun : (ts : List Tree) (programs : List (List Insn)) (alone nothing last : List ℕ) (id : ℕ)
+    → IsBehaviour [] ts id → alone ≡ [] → nothing ≡ [] → last ≡ nothing ++ id ∷ [] → AreParts ts programs 0 alone last
+parts-begun ts programs alone nothing last id h none empty e = record {
+  alone_count = ap length none;
+  last_count = count-pushed nothing last id 0 (ap length empty) e;
+  each_alone = λ n l. absurd (omega arith);
+  each_last = pushed (λ (k i : ℕ). IsBehaviour (last_programs programs k) ts i) nothing last id 0 0 (ap length empty)
+      (λ k l. absurd (omega arith))
+      (subst (λ (ps : List (List Insn)). IsBehaviour ps ts id)
+      (sym (drop_all (length programs - 0) programs (omega arith))) h) e;
+}
+
+-- one filter more
+pub parts-more : (ts us : List Tree) (programs : List (List Insn)) (i one joined : ℕ)
+    (alone last more_alone more_last : List ℕ) → KeepsTrees ts us → AreParts ts programs i alone last
+    → IsBehaviour (newest programs i ∷ []) us one → IsBehaviour (last_programs programs (i + 1)) us joined
+    → more_alone ≡ alone ++ one ∷ [] → more_last ≡ last ++ joined ∷ []
+    → AreParts us programs (i + 1) more_alone more_last
+parts-more ts us programs i one joined alone last more_alone more_last k h of_one of_last e f =
+    let kept : AreParts us programs i alone last = parts-kept ts us programs i alone last k h in
+    record {
+      alone_count = count-pushed alone more_alone one i h.alone_count e;
+      last_count = count-pushed last more_last joined (i + 1) h.last_count f;
+      each_alone = pushed (λ (n id : ℕ). IsBehaviour (newest programs n ∷ []) us id) alone more_alone one 0 i
+          h.alone_count kept.each_alone of_one e;
+      each_last = pushed (λ (n id : ℕ). IsBehaviour (last_programs programs n) us id) last more_last joined 0 (i + 1)
+          h.last_count kept.each_last of_last f;
+    }
+
+-- the program at a place, cut out
+pub one-program : (programs : List (List Insn)) (place : ℕ) → place < length programs
+    → take (place + 1 - place) (drop place programs) ≡ slice_index_or programs place [] ∷ []
+one-program programs place l =
+    let only : place + 1 - place ≡ 1 = omega arith in
+    ap₂ (λ (n : ℕ) (ps : List (List Insn)). take n ps) only (drop_more programs place [] l)
+
+-- the last programs with the next older one
+pub one-more-last : (programs : List (List Insn)) (i : ℕ) → i < length programs
+    → (newest programs i ∷ []) ++ last_programs programs i ≡ last_programs programs (i + 1)
+one-more-last programs i l =
+    let at : length programs - 1 - i ≡ length programs - (i + 1) = omega arith in
+    let behind : length programs - (i + 1) + 1 ≡ length programs - i = omega arith in
+    ap₂ (λ (m n : ℕ). slice_index_or programs m [] ∷ drop n programs) at (sym behind)
+    ∙ sym (drop_more programs (length programs - (i + 1)) [] (omega arith))
+
+-- ---- parts by the place of a filter
+
+pub of-none : (ts : List Tree) (programs : List (List Insn)) (alone last : List ℕ)
+    → AreParts ts programs (length programs) alone last → IsBehaviour [] ts (slice_index last 0)
+of-none ts programs alone last h =
+    subst (λ (ps : List (List Insn)). IsBehaviour ps ts (slice_index last 0))
+    (drop_all (length programs - 0) programs (omega arith)) (h.each_last 0 (omega arith))
+
+pub of-all : (ts : List Tree) (programs : List (List Insn)) (alone last : List ℕ)
+    → AreParts ts programs (length programs) alone last
+    → IsBehaviour programs ts (slice_index last (length programs))
+of-all ts programs alone last h =
+    let none : length programs - length programs ≡ 0 = omega arith in
+    subst (λ (n : ℕ). IsBehaviour (drop n programs) ts (slice_index last (length programs))) none
+    (h.each_last (length programs) (omega arith))
+
+pub of-one : (ts : List Tree) (programs : List (List Insn)) (alone last : List ℕ) (place : ℕ)
+    → AreParts ts programs (length programs) alone last → place < length programs
+    → IsBehaviour (slice_index_or programs place [] ∷ []) ts (slice_index alone (length programs - 1 - place))
+of-one ts programs alone last place h l =
+    let at : length programs - 1 - (length programs - 1 - place) ≡ place = omega arith in
+    subst (λ (n : ℕ). IsBehaviour (slice_index_or programs n [] ∷ []) ts
+    (slice_index alone (length programs - 1 - place))) at
+    (h.each_alone (length programs - 1 - place) (omega arith))
+
+pub of-behind : (ts : List Tree) (programs : List (List Insn)) (alone last : List ℕ) (place : ℕ)
+    → AreParts ts programs (length programs) alone last → place < length programs
+    → IsBehaviour (drop (suc place) programs) ts (slice_index last (length programs - 1 - place))
+of-behind ts programs alone last place h l =
+    let at : length programs - (length programs - 1 - place) ≡ suc place = omega arith in
+    subst (λ (n : ℕ). IsBehaviour (drop n programs) ts (slice_index last (length programs - 1 - place))) at
+    (h.each_last (length programs - 1 - place) (omega arith))

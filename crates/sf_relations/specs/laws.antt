@@ -1,0 +1,3 @@
+pub mod InputLaws
+pub mod KeepLaws
+pub mod NumberLaws

@@ -1,0 +1,302 @@
+-- Diagrams of the inputs of named calls; the rows beside those of named calls; and that what is shown of a tree is one.
+use Rattle.std.proofs.Common.{◌≡◌, ℕ, zero, suc, ◌+◌, ◌-◌, ◌*◌, ◌%◌, ◌^◌, ◌<◌, ◌==◌, Bool, true, false, List, [], ◌∷◌, length, map, refl, sym, ap, ap₂, subst, ◌∙◌, inl, inr, arith, lit<, ◌≢◌, Some, None}
+use Rattle.std.specs.Prelude.{◌&&◌, ◌||◌, All, filter, not, if◌then◌else◌, Contains, Option, count_by}
+use Rattle.std.specs.Int.{bit_at}
+use Rattle.std.specs.List.{list_any}
+use Rattle.std.specs.Borrow.{Bor}
+use Rattle.std.proofs.lemmas.Bool.{cases_eq, cond-true, cond-false, eq-eqb, eqb-true, ne_eqb}
+use Rattle.std.proofs.lemmas.List.Elements.{All-head, All-tail}
+use Rattle.std.proofs.lemmas.Nat.{mod_below, pow_pos}
+use Rattle.std.proofs.lemmas.Nat.Bits.{bit_at-lt}
+use Rattle.sf_insn.specs.declared.input.Input.{Input}
+use Rattle.sf_insn.specs.Inputs.{IsInput}
+use Rattle.sf_diagram.specs.Trees.{Tree, Leaf, Fork, Bits, value}
+use Rattle.sf_diagram.specs.Stores.{KeepsTrees, tree_at}
+use Rattle.sf_diagram.specs.Choices.{IsChosen, chosen_of}
+use Rattle.sf_behaviour.specs.Words.{IsDiagramOf}
+use Rattle.sf_behaviour.specs.InputBits.{input_bits}
+use Rattle.sf_parts.specs.Words.{low_number}
+use Rattle.sf_parts.specs.laws.WordLaws.{low-more, low-small}
+use Rattle.sf_parts.specs.Rows.{RowData}
+use Rattle.sf_names.specs.Names.{CallData, NamesData}
+use Rattle.sf_rows.specs.Trees.{is_call_number, IsTreeOf, is_named_call, unnamed_number}
+use Rattle.sf_rows.specs.declared.subject.Subject.{Subject}
+use Rattle.sf_rows.specs.Rows.{rows_of, hidden_number, tree_word}
+use Rattle.sf_rows.specs.Shown.{AreOthers, CallRowData, IsShown, ShownData}
+use Rattle.sf_rows.proofs.RowLemmas.{AreOneTree, none-counted, one-tree-of, word-is}
+
+-- ---- diagrams by their values
+
+pub diagram-kept : (ts us : List Tree) (id : ℕ) (f : Bits → ℕ) → KeepsTrees ts us → IsDiagramOf ts id f
+    → IsDiagramOf us id f
+diagram-kept ts us id f k h = record {
+  within = omega (arith, k.longer, h.within);
+  values = λ bits. ap (λ (t : Tree). value t bits) (k.same id h.within) ∙ h.values bits;
+}
+
+pub diagram-same : (ts : List Tree) (id : ℕ) (f g : Bits → ℕ) → IsDiagramOf ts id f → ((bits : Bits) → f bits ≡ g bits)
+    → IsDiagramOf ts id g
+diagram-same ts id f g h same = record { within = h.within; values = λ bits. h.values bits ∙ same bits }
+
+pub leaf-diagram : (ts : List Tree) (id n : ℕ) → id < length ts → tree_at ts id ≡ Leaf n
+    → IsDiagramOf ts id (λ bits. n)
+leaf-diagram ts id n l e = record { within = l; values = λ bits. ap (λ (t : Tree). value t bits) e }
+
+pub literal-diagram : (ts : List Tree) (id v : ℕ) → id < length ts → tree_at ts id ≡ Fork v (Leaf 0) (Leaf 1)
+    → IsDiagramOf ts id (λ bits. if bits v then 1 else 0)
+literal-diagram ts id v l e = record { within = l; values = λ bits. ap (λ (t : Tree). value t bits) e }
+
+-- a diagram that chooses between two others
+pub chosen-diagram : (ts us : List Tree) (test taken other id : ℕ) (f g h : Bits → ℕ) → IsDiagramOf ts test f
+    → IsDiagramOf ts taken g → IsDiagramOf ts other h → id < length us
+    → IsChosen (tree_at ts test) (tree_at ts taken) (tree_at ts other) (tree_at us id)
+    → IsDiagramOf us id (λ bits. chosen_of (f bits) (g bits) (h bits))
+chosen-diagram ts us test taken other id f g h df dg dh l chosen = record {
+  within = l;
+  values = λ bits. chosen.values bits
+      ∙ ap (λ (x : ℕ). chosen_of x (value (tree_at ts taken) bits) (value (tree_at ts other) bits)) (df.values bits)
+      ∙ ap₂ (λ (y z : ℕ). chosen_of (f bits) y z) (dg.values bits) (dh.values bits);
+}
+
+-- ---- numbers by their bits
+
+digits-same : (x y w r s : ℕ) → x < 2 → y < 2 → r < w → s < w
+    → (x * w + r == y * w + s) ≡ ((x == y) && (r == s))
+digits-same zero zero w r s lx ly lr ls = elim (cases_eq r s) [
+  | inl e ↦ eq-eqb (0 * w + r) (0 * w + s) (omega arith) ∙ sym (eq-eqb r s e)
+  | inr ne ↦ ne_eqb (0 * w + r) (0 * w + s) (λ h. ne (omega arith)) ∙ sym (ne_eqb r s ne)
+]
+digits-same (suc zero) (suc zero) w r s lx ly lr ls = elim (cases_eq r s) [
+  | inl e ↦ eq-eqb (1 * w + r) (1 * w + s) (omega arith) ∙ sym (eq-eqb r s e)
+  | inr ne ↦ ne_eqb (1 * w + r) (1 * w + s) (λ h. ne (omega arith)) ∙ sym (ne_eqb r s ne)
+]
+digits-same zero (suc zero) w r s lx ly lr ls = ne_eqb (0 * w + r) (1 * w + s) (λ h. absurd (omega arith))
+digits-same (suc zero) zero w r s lx ly lr ls = ne_eqb (1 * w + r) (0 * w + s) (λ h. absurd (omega arith))
+digits-same (suc (suc x)) y w r s lx ly lr ls = absurd (omega arith)
+digits-same zero (suc (suc y)) w r s lx ly lr ls = absurd (omega arith)
+digits-same (suc zero) (suc (suc y)) w r s lx ly lr ls = absurd (omega arith)
+
+-- 1 for true, 0 for false
+abbrev pub flag : Bool → ℕ
+flag b = if b then 1 else 0
+
+flag-small : (b : Bool) → (if b then 1 else 0) < 2
+flag-small true = lit< tt
+flag-small false = lit< tt
+
+-- a number has the lowest bits of a word
+abbrev pub agrees : ℕ → ℕ → Bits → ℕ → Bool
+agrees word n bits m = m % 2 ^ n == low_number word n bits
+
+-- one more bit agrees
+agrees-more : (word n : ℕ) (bits : Bits) (m : ℕ) → agrees word (suc n) bits m
+    ≡ ((bit_at m n == (if bits (32 * word + (31 - n)) then 1 else 0)) && agrees word n bits m)
+unfolding low_number
+agrees-more word n bits m =
+    ap (λ (x : ℕ). x == (if bits (32 * word + (31 - n)) then 1 else 0) * 2 ^ n + low_number word n bits)
+    (sym (low-more m n))
+    ∙ digits-same (bit_at m n) (if bits (32 * word + (31 - n)) then 1 else 0) (2 ^ n) (m % 2 ^ n)
+    (low_number word n bits) (bit_at-lt m n) (flag-small (bits (32 * word + (31 - n))))
+    (mod_below m (2 ^ n) (pow_pos n)) (low-small word n bits)
+
+-- ---- some number of a list
+
+any-same : {X : Type 0} (p q : X → Bool) → ((x : X) → p x ≡ q x) → (xs : List X) → list_any p xs ≡ list_any q xs
+any-same p q same [] = refl
+any-same p q same (x ∷ xs) = ap₂ (λ (a b : Bool). a || b) (same x) (any-same p q same xs)
+
+any-filter : (p q : ℕ → Bool) (xs : List ℕ) → list_any (λ x. p x && q x) xs ≡ list_any q (filter p xs)
+any-filter p q [] = refl
+any-filter p q (x ∷ xs) = by (p x) (any-filter p q xs)
+  where
+    by : (b : Bool) → list_any (λ y. p y && q y) xs ≡ list_any q (filter p xs)
+        → ((b && q x) || list_any (λ y. p y && q y) xs) ≡ list_any q (if b then x ∷ filter p xs else filter p xs)
+    by true more = ap (λ (c : Bool). q x || c) more
+    by false more = more
+
+bit-not : (b : ℕ) → b < 2 → (b == 0) ≡ not (b == 1)
+bit-not zero l = refl
+bit-not (suc zero) l = refl
+bit-not (suc (suc b)) l = absurd (omega arith)
+
+abbrev has_bit : ℕ → ℕ → Bool
+has_bit n m = bit_at m n == 1
+
+any-set : (word n : ℕ) (bits : Bits) (xs : List ℕ) → bits (32 * word + (31 - n)) ≡ true
+    → list_any (agrees word (suc n) bits) xs ≡ list_any (agrees word n bits) (filter (has_bit n) xs)
+any-set word n bits xs set =
+    any-same (agrees word (suc n) bits) (λ m. has_bit n m && agrees word n bits m)
+    (λ m. agrees-more word n bits m
+    ∙ ap (λ (x : ℕ). (bit_at m n == x) && agrees word n bits m) (cond-true (bits (32 * word + (31 - n))) 1 0 set)) xs
+    ∙ any-filter (has_bit n) (agrees word n bits) xs
+
+any-unset : (word n : ℕ) (bits : Bits) (xs : List ℕ) → bits (32 * word + (31 - n)) ≡ false
+    → list_any (agrees word (suc n) bits) xs
+    ≡ list_any (agrees word n bits) (filter (λ m. not (has_bit n m)) xs)
+any-unset word n bits xs unset =
+    any-same (agrees word (suc n) bits) (λ m. not (has_bit n m) && agrees word n bits m)
+    (λ m. agrees-more word n bits m
+    ∙ ap (λ (x : ℕ). (bit_at m n == x) && agrees word n bits m) (cond-false (bits (32 * word + (31 - n))) 1 0 unset)
+    ∙ ap (λ (b : Bool). b && agrees word n bits m) (bit-not (bit_at m n) (bit_at-lt m n))) xs
+    ∙ any-filter (λ m. not (has_bit n m)) (agrees word n bits) xs
+
+-- the numbers with a bit, or those without it, by the bit of the word
+pub one-of-step : (word n k v : ℕ) (bits : Bits) (xs set unset : List ℕ) → set ≡ filter (λ m. bit_at m n == 1) xs
+    → unset ≡ filter (λ m. not (bit_at m n == 1)) xs → v ≡ 32 * word + (31 - n) → k ≡ suc n
+    → chosen_of (if bits v then 1 else 0) (if list_any (agrees word n bits) set then 1 else 0)
+    (if list_any (agrees word n bits) unset then 1 else 0)
+    ≡ (if list_any (agrees word k bits) xs then 1 else 0)
+one-of-step word n k v bits xs set unset s u e f =
+    ap₂ (λ (a b : List ℕ). chosen_of (if bits v then 1 else 0) (if list_any (agrees word n bits) a then 1 else 0)
+    (if list_any (agrees word n bits) b then 1 else 0)) s u
+    ∙ ap (λ (w : ℕ). chosen_of (if bits w then 1 else 0)
+    (if list_any (agrees word n bits) (filter (has_bit n) xs) then 1 else 0)
+    (if list_any (agrees word n bits) (filter (λ m. not (has_bit n m)) xs) then 1 else 0)) e
+    ∙ by (bits (32 * word + (31 - n))) refl
+    ∙ ap (λ (j : ℕ). if list_any (agrees word j bits) xs then 1 else 0) (sym f)
+  where
+    by : (b : Bool) → bits (32 * word + (31 - n)) ≡ b → chosen_of (if b then 1 else 0)
+        (if list_any (agrees word n bits) (filter (has_bit n) xs) then 1 else 0)
+        (if list_any (agrees word n bits) (filter (λ m. not (has_bit n m)) xs) then 1 else 0)
+        ≡ (if list_any (agrees word (suc n) bits) xs then 1 else 0)
+    by true set = ap (λ (x : Bool). if x then 1 else 0) (sym (any-set word n bits xs set))
+    by false unset = ap (λ (x : Bool). if x then 1 else 0) (sym (any-unset word n bits xs unset))
+
+-- where no bit is left, each number is one
+pub one-of-all : (word k : ℕ) (bits : Bits) (xs : List ℕ) → k ≡ 0 → (length xs == 0) ≡ false
+    → list_any (agrees word k bits) xs ≡ true
+unfolding low_number
+one-of-all word k bits [] e some = absurd (cc)
+one-of-all word k bits (x ∷ xs) e some =
+    let zero_left : x % 2 ^ 0 ≡ 0 = omega arith in
+    ap (λ (j : ℕ). list_any (agrees word j bits) (x ∷ xs)) e
+    ∙ ap (λ (b : Bool). b || list_any (agrees word 0 bits) xs) (eq-eqb (x % 2 ^ 0) 0 zero_left)
+
+-- of no number, none is one
+pub one-of-none : (word k : ℕ) (bits : Bits) (xs : List ℕ) → (length xs == 0) ≡ true
+    → list_any (agrees word k bits) xs ≡ false
+one-of-none word k bits [] none = refl
+one-of-none word k bits (x ∷ xs) none =
+    let empty : length (x ∷ xs) ≡ 0 = eqb-true (length (x ∷ xs)) 0 none in
+    absurd (omega arith)
+
+-- ---- calls of sets
+
+any-small : (word : ℕ) (bits : Bits) (calls : List CallData)
+    → All (λ (n : ℕ). n < 2 ^ 32) (map (λ (c : CallData). c.number) calls)
+    → list_any (agrees word 32 bits) (map (λ (c : CallData). c.number) calls)
+    ≡ list_any (is_call_number (low_number word 32 bits)) calls
+any-small word bits [] small = refl
+any-small word bits (c ∷ calls) small =
+    let numbers = map (λ (x : CallData). x.number) calls in
+    let fits : c.number % 2 ^ 32 ≡ c.number
+    = omega (arith, All-head (λ (n : ℕ). n < 2 ^ 32) c.number numbers small) in
+    ap₂ (λ (m : ℕ) (b : Bool). (m == low_number word 32 bits) || b) fits
+    (any-small word bits calls (All-tail (λ (n : ℕ). n < 2 ^ 32) c.number numbers small))
+
+or-none : (b : Bool) → (b || false) ≡ b
+or-none true = refl
+or-none false = refl
+
+both-flags : (a b : Bool) → chosen_of (if a then 1 else 0) (if b then 1 else 0) 0 ≡ (if a && b then 1 else 0)
+both-flags true b = refl
+both-flags false b = refl
+
+-- the architecture is that of a set, and the number that of one of its calls
+pub calls-step : (given arch : ℕ) (calls : List CallData) (numbers : List ℕ) (bits : Bits) → given < 2 ^ 32
+    → given ≡ arch → numbers ≡ map (λ (c : CallData). c.number) calls → All (λ (n : ℕ). n < 2 ^ 32) numbers
+    → chosen_of (if list_any (agrees 18 32 bits) (given ∷ []) then 1 else 0)
+    (if list_any (agrees 19 32 bits) numbers then 1 else 0) 0
+    ≡ (if (arch == low_number 18 32 bits) && list_any (is_call_number (low_number 19 32 bits)) calls then 1 else 0)
+calls-step given arch calls numbers bits fits is are small =
+    let whole : given % 2 ^ 32 ≡ arch = omega arith in
+    both-flags (list_any (agrees 18 32 bits) (given ∷ [])) (list_any (agrees 19 32 bits) numbers)
+    ∙ ap₂ (λ (a b : Bool). if a && b then 1 else 0)
+    (or-none (agrees 18 32 bits given) ∙ ap (λ (m : ℕ). m == low_number 18 32 bits) whole)
+    (ap (list_any (agrees 19 32 bits)) are
+    ∙ any-small 19 bits calls (subst (λ (ns : List ℕ). All (λ (n : ℕ). n < 2 ^ 32) ns) are small))
+
+pub named-step : (a b c : Bool) → c ≡ (b || a)
+    → chosen_of (if a then 1 else 0) 1 (if b then 1 else 0) ≡ (if c then 1 else 0)
+named-step a b c e = by a b ∙ ap (λ (x : Bool). if x then 1 else 0) (sym e)
+  where
+    by : (a b : Bool) → chosen_of (if a then 1 else 0) 1 (if b then 1 else 0) ≡ (if b || a then 1 else 0)
+    by true true = refl
+    by true false = refl
+    by false true = refl
+    by false false = refl
+
+pub flag-chosen : (a : Bool) (x y : ℕ) → chosen_of (if a then 1 else 0) x y ≡ (if a then x else y)
+flag-chosen true x y = refl
+flag-chosen false x y = refl
+
+-- ---- inputs beside those of named calls
+
+-- what a tree without named calls says of an input
+pub unnamed-on : (sets : List NamesData) (hidden : ℕ) (t : Tree) (d : Input) → IsInput d
+    → unnamed_number sets hidden t (input_bits d)
+    ≡ (if is_named_call sets (tree_word d 18) (tree_word d 19) then hidden else value t (input_bits d))
+unnamed-on sets hidden t d input =
+    ap₂ (λ (m n : ℕ). if is_named_call sets m n then hidden else value t (input_bits d)) (word-is d 18 input)
+    (word-is d 19 input)
+
+abbrev counted : Bool → ℕ
+counted b = if b then 0 else 1
+
+pub other-count : (named : Bool) (v hidden w : ℕ) → v ≡ (if named then hidden else w)
+    → counted (v == hidden) ≡ (if named then 0 else counted (w == hidden))
+other-count true v hidden w e = cond-true (v == hidden) 0 1 (eq-eqb v hidden e)
+other-count false v hidden w e = ap (λ (n : ℕ). counted (n == hidden)) e
+
+pub other-number : (named : Bool) (v hidden w : ℕ) → v ≡ (if named then hidden else w) → v ≢ hidden → v ≡ w
+other-number true v hidden w e other = absurd (other e)
+other-number false v hidden w e other = e
+
+-- where a row has an input, the tree hasn't the number that no row shows
+pub not-hidden : (p : RowData → Bool) (rows : List RowData) (r : RowData) (v hidden : ℕ)
+    → count_by p rows ≡ (if v == hidden then 0 else 1) → Contains rows r → p r ≡ true → v ≢ hidden
+not-hidden p rows r v hidden count there lies e =
+    let none : count_by p rows ≡ 0 = count ∙ cond-true (v == hidden) 0 1 (eq-eqb v hidden e) in
+    let no : p r ≡ false = none-counted p rows r none there in
+    absurd (cc)
+
+-- ---- rows beside those of calls
+
+pub others-none : (ws : List (Bor (List ℕ))) (s : Subject) (t : Tree) (sets : List NamesData) (rows : List RowData)
+    → (length ws == 0) ≡ false → rows ≡ [] → AreOthers (map (λ w. w.now) ws) s t sets rows
+others-none [] s t sets rows some e = absurd (cc)
+others-none (w ∷ ws) s t sets rows some e = e
+
+pub others-all : (ws : List (Bor (List ℕ))) (s : Subject) (t rest : Tree) (sets : List NamesData) (rows : List RowData)
+    → (length ws == 0) ≡ true → IsTreeOf (unnamed_number sets (hidden_number s) t) rest → rows ≡ rows_of s rest
+    → AreOthers (map (λ w. w.now) ws) s t sets rows
+others-all [] s t rest sets rows none is e = (rest, is, e)
+others-all (w ∷ ws) s t rest sets rows none is e =
+    let empty : length (w ∷ ws) ≡ 0 = eqb-true (length (w ∷ ws)) 0 none in
+    absurd (omega arith)
+
+-- ---- what is shown
+
+same-shown : (x y : ShownData) → x.calls ≡ y.calls → x.rows ≡ y.rows → x ≡ y
+same-shown x y calls rows =
+    ap₂ (λ (c : Option (List CallRowData)) (r : List RowData). let z : ShownData = record { calls = c; rows = r } in z)
+    calls rows
+
+pub shown-once : (calls : Option (List (List ℕ))) (s : Subject) (t : Tree) (sets : List NamesData) (x y : ShownData)
+    → AreOneTree → IsShown calls s t sets x → IsShown calls s t sets y → x ≡ y
+shown-once None s t sets x y trees first second = first ∙ sym second
+shown-once (Some []) s t sets x y trees first second =
+    same-shown x y (first.0 ∙ sym second.0)
+    (first.1.2
+    ∙ ap (rows_of s) (one-tree-of (unnamed_number sets (hidden_number s) t) first.1.0 second.1.0 trees
+    first.1.1 second.1.1)
+    ∙ sym second.1.2)
+shown-once (Some (w ∷ ws)) s t sets x y trees first second =
+    same-shown x y (first.0 ∙ sym second.0) (first.1 ∙ sym second.1)
+
+-- ---- what changes
+
+-- the second number where the first isn't 0
+pub chosen-some : (n p : ℕ) → chosen_of n p 0 ≡ (if n == 0 then 0 else p)
+chosen-some zero p = refl
+chosen-some (suc n) p = sym (cond-false (suc n == 0) 0 p (ne_eqb (suc n) 0 (λ e. absurd (omega (arith, e)))))

@@ -1,0 +1,7 @@
+pub mod AnswerLaws
+pub mod CompletionLaws
+pub mod FeasibleLaws
+pub mod InputLaws
+pub mod RouteLaws
+pub mod RunLaws
+pub mod TraceLaws

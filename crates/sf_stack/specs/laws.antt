@@ -1,0 +1,2 @@
+pub mod FiltersLaws
+pub mod TextLaws

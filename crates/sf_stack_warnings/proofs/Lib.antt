@@ -1,2 +1,0 @@
-pub mod PassingLemmas
-pub mod ZeroErrorLemmas

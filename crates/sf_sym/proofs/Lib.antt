@@ -1,4 +1,0 @@
-pub mod Folds
-pub mod IndexLemmas
-pub mod MaskLemmas
-pub mod OperandLemmas

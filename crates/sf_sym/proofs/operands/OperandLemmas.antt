@@ -1,0 +1,37 @@
+-- The value of an operation on a node and a constant.
+use Rattle.std.proofs.Common.{◌≡◌, ℕ, ◌<◌, List, length, arith}
+use Rattle.std.proofs.lemmas.Nat.{or_comm, and_comm, xor_comm}
+use Rattle.sf_insn.specs.Words.{apply}
+use Rattle.sf_insn.specs.declared.input.Input.{Input}
+use Rattle.sf_insn.specs.declared.ops.BinOp.{BinOp}
+use Rattle.sf_insn.specs.declared.ops.BinOp.TheVariants.{Add, Sub, Mul, Div, Or, And, Lsh, Rsh, Xor}
+use Rattle.sf_sym.specs.Pool.{IsPool, node_at, value_of}
+use Rattle.sf_sym.specs.Operands.{IsSwappable}
+use Rattle.sf_sym.specs.laws.ValueLaws.{value-node, value-constant}
+use Rattle.sf_sym.specs.declared.pool.Node.{Node}
+use Rattle.sf_sym.specs.declared.pool.NodeId.{NodeId}
+use Rattle.sf_sym.specs.declared.pool.Node.TheVariants.{Const, Bin}
+
+-- operands are swapped
+pub apply-swap : (op : BinOp) (a b : ℕ) → IsSwappable op → apply op a b ≡ apply op b a
+apply-swap Add a b s = elim s [ ]
+apply-swap Sub a b s = elim s [ ]
+apply-swap Mul a b s = elim s [ ]
+apply-swap Div a b s = elim s [ ]
+apply-swap Or a b s = or_comm a b
+apply-swap And a b s = and_comm a b
+apply-swap Lsh a b s = elim s [ ]
+apply-swap Rsh a b s = elim s [ ]
+apply-swap Xor a b s = xor_comm a b
+
+-- the value of a node whose second operand is a constant
+pub value-right : (ns : List Node) (d : Input) (i : ℕ) (op : BinOp) (a b : NodeId) (c : ℕ) → IsPool ns → i < length ns
+    → b.0 < length ns
+    → node_at ns i ≡ Bin op a b → node_at ns b.0 ≡ Const c → value_of ns d i ≡ apply op (value_of ns d a.0) c
+value-right ns d i op a b c p l lb e k = search (arith, value-node, value-constant)
+
+-- the value of a node whose first operand is a constant
+pub value-left : (ns : List Node) (d : Input) (i : ℕ) (op : BinOp) (a b : NodeId) (c : ℕ) → IsPool ns → i < length ns
+    → a.0 < length ns → IsSwappable op
+    → node_at ns i ≡ Bin op a b → node_at ns a.0 ≡ Const c → value_of ns d i ≡ apply op (value_of ns d b.0) c
+value-left ns d i op a b c p l la s e k = search (arith, value-node, apply-swap, value-constant)
