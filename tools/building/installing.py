@@ -1,10 +1,9 @@
 """What goes with the program when it is installed, and where it goes."""
 import os
-import shutil
 import subprocess
 import tempfile
 
-from building.kit import PROGRAM, ROOT, Refused
+from building.kit import PROGRAM, ROOT, Refused, replace
 
 # What is copied beside the program: from where in the repository, and to where below PREFIX. {doc} is the folder of pages.
 FILES = [
@@ -54,17 +53,10 @@ def make_folders(folder):
 
 
 def copy(source, target, mode):
-    """Copies a file: beside the target first, which it then replaces. So each is whole at any time, and may run."""
+    """Copies a file, which replaces the one before at once."""
     make_folders(os.path.dirname(target))
-    number, beside = tempfile.mkstemp(dir=os.path.dirname(target), prefix=f".{os.path.basename(target)}.")
-    try:
-        with open(source, "rb") as file, os.fdopen(number, "wb") as out:
-            shutil.copyfileobj(file, out)
-            os.fchmod(out.fileno(), mode)
-        os.replace(beside, target)
-    except BaseException:
-        os.remove(beside)
-        raise
+    with open(source, "rb") as file:
+        replace(target, file.read(), mode)
 
 
 def is_compiled(sources, options, made):

@@ -6,6 +6,7 @@ import os
 import shutil
 import subprocess
 import sys
+import tempfile
 from collections import namedtuple
 
 ROOT = os.path.dirname(os.path.dirname(os.path.dirname(os.path.abspath(__file__))))
@@ -45,11 +46,11 @@ def found():
     return os.path.dirname(os.path.dirname(os.path.realpath(command)))
 
 
-def loaded(kit, name):
-    """A Python file of the kit, as a module: `rtlib.py`, which knows crates, or `rt`, which is the gate."""
+def loaded(path):
+    """A script in Python, as a module: `rt` of the kit, which is the gate, or one of this repository."""
     sys.dont_write_bytecode = True
-    path = os.path.join(kit, "bin", name)
-    spec = importlib.util.spec_from_loader(name.partition(".")[0], importlib.machinery.SourceFileLoader(name, path))
+    name = os.path.basename(path)
+    spec = importlib.util.spec_from_loader(name, importlib.machinery.SourceFileLoader(name, path))
     module = importlib.util.module_from_spec(spec)
     sys.modules[spec.name] = module
     spec.loader.exec_module(module)
@@ -66,10 +67,42 @@ def shown(path):
     return os.path.relpath(path, ROOT) if path.startswith(ROOT + os.sep) else path
 
 
+def text_of(path):
+    """The text of a file, by its path from the repository's top, or the whole one."""
+    with open(os.path.join(ROOT, path), encoding="utf-8") as file:
+        return file.read()
+
+
+def write(path, text):
+    """Writes a file, whose path is meant so too."""
+    with open(os.path.join(ROOT, path), "w", encoding="utf-8") as file:
+        file.write(text)
+
+
+def write_script(path, text):
+    """Writes a file that can be run."""
+    write(path, text)
+    os.chmod(path, 0o755)
+
+
+def replace(path, data, mode, check=lambda made: None):
+    """Puts these bytes in a file's place: beside it first, where `check` may look at them. So it is whole at any time, and
+    may run meanwhile."""
+    number, beside = tempfile.mkstemp(dir=os.path.dirname(path), prefix=f".{os.path.basename(path)}.")
+    try:
+        with os.fdopen(number, "wb") as file:
+            file.write(data)
+        os.chmod(beside, mode)
+        check(beside)
+        os.replace(beside, path)
+    except BaseException:
+        os.remove(beside)
+        raise
+
+
 def libraries_of_crates():
     """Each crate of the repository, with the libraries that it uses."""
-    with open(os.path.join(ROOT, "crates.txt")) as file:
-        lines = [line.split(":") for line in file if ":" in line and not line.startswith("#")]
+    lines = [line.split(":") for line in text_of("crates.txt").splitlines() if ":" in line and not line.startswith("#")]
     return {crate.strip(): words.split() for crate, words in lines}
 
 
@@ -87,8 +120,7 @@ def crates_below(name=PROGRAM):
 
 def known_costs():
     """What each crate's proof is known to cost, by .ci/costs."""
-    with open(KNOWN_COSTS) as file:
-        rows = [line.split() for line in file if line.strip() and not line.startswith("#")]
+    rows = [line.split() for line in text_of(KNOWN_COSTS).splitlines() if line.strip() and not line.startswith("#")]
     return {crate: Cost(*map(int, numbers)) for crate, *numbers in rows}
 
 
@@ -117,8 +149,7 @@ def is_current(kind):
     """Whether the program of a kind stands, and was built of the sources that stand now, by the kit that is on the path, if
     there is one."""
     try:
-        with open(os.path.join(OUT, kind, "of")) as file:
-            sources, _, kit = file.read().partition("\n")
+        sources, _, kit = text_of(f"out/{kind}/of").partition("\n")
         return os.path.isfile(built(kind)) and sources == sum_of_sources() and kit_version() in ("", kit)
     except OSError:
         return False

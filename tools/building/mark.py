@@ -7,9 +7,8 @@ the finished file, so that no source changes with a commit.
 import os
 import re
 import subprocess
-import tempfile
 
-from building.kit import PROGRAM, ROOT, Refused
+from building.kit import PROGRAM, ROOT, Refused, replace
 
 # The line, and how many bytes stand between its parentheses.
 ROOM = 32
@@ -58,16 +57,11 @@ def put(program, kind):
     """Lets a program say what it is, of the commit that stands now. The file is whole at any time. Refused where it then
     says something else."""
     told = claim(kind, *commit_of())
+
+    def check(made):
+        if not version_of(made).endswith(f" ({told})"):
+            raise Refused(f"the marked program says `{version_of(made)}`, and not `({told})`")
+
     with open(program, "rb") as file:
         data = marked(file.read(), told)
-    number, beside = tempfile.mkstemp(dir=os.path.dirname(program), prefix=f".{PROGRAM}.")
-    try:
-        with os.fdopen(number, "wb") as file:
-            file.write(data)
-        os.chmod(beside, os.stat(program).st_mode & 0o777)
-        if not version_of(beside).endswith(f" ({told})"):
-            raise Refused(f"the marked program says `{version_of(beside)}`, and not `({told})`")
-        os.replace(beside, program)
-    except BaseException:
-        os.remove(beside)
-        raise
+    replace(program, data, os.stat(program).st_mode & 0o777, check)

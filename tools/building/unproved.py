@@ -10,7 +10,7 @@ import shutil
 import signal
 import subprocess
 
-from building.kit import Refused
+from building.kit import Refused, text_of, write_script
 
 # The commands that run.
 RUNNING = set()
@@ -23,18 +23,11 @@ esac
 exec '{compiler}' "$@"
 """
 
-
 # What stands in the place of the prover, which `rt try` asks beside for hints: that would take as long again.
 PROVES_NOTHING = "#!/bin/sh\nexit 1\n"
 
 # What the copy has of its own in each folder of the kit.
 APART = {"": ("bin", "toolchain"), "bin/": ("rt", "rtlib.py", "rattle"), "toolchain/": ("bin",), "toolchain/bin/": ("clang",)}
-
-
-def write_script(path, text):
-    with open(path, "w") as file:
-        file.write(text)
-    os.chmod(path, 0o755)
 
 
 def kit_that_keeps(kit, room):
@@ -91,8 +84,7 @@ def make(kit, crate, room, tests=False):
     _, said = said_by(words, cwd=crate, env={**os.environ, "TMPDIR": room})
     if not os.path.isfile(f"{room}/words"):
         raise Refused(f"`rt try` made no program of {os.path.basename(crate)}:\n{said}")
-    with open(f"{room}/words") as file:
-        words = [{"-O0": "-O1"}.get(word, word) for word in file.read().splitlines() if word != "-fsanitize=address"]
+    words = [{"-O0": "-O1"}.get(word, word) for word in text_of(f"{room}/words").splitlines() if word != "-fsanitize=address"]
     run([f"{kit}/toolchain/bin/clang", *words], "to compile the program", cwd=room)
     program = f"{room}/{os.path.basename(crate)}"
     link(kit, f"{room}/module.o", program)
