@@ -13,11 +13,11 @@ import os
 import re
 import shutil
 import subprocess
-import sys
 import tempfile
 from collections import namedtuple
 
-from building.kit import ROOT
+from building.kit import ROOT, text_of, write, write_script
+from testing.told import finish, given_program, tell
 
 POLICIES = "/usr/share/seccomp_audit/policies"
 INSTALLS = "apt-get"
@@ -61,12 +61,6 @@ CASES = [
 ]
 
 
-def text_of(name):
-    """A job, with the folder of this repository for the one where the package has policies."""
-    with open(os.path.join(ROOT, "examples/ci", name)) as file:
-        return file.read().replace(POLICIES, f"{ROOT}/policies")
-
-
 def variables_of(text):
     """The variables that a job sets."""
     return dict(re.findall(r"(?m)^ +(asked|named): (.*)$", text))
@@ -90,8 +84,7 @@ def gitlab_lines(text, section):
 
 def write_profile(path, calls):
     profile = {"defaultAction": "SCMP_ACT_ERRNO", "syscalls": [{"names": calls, "action": "SCMP_ACT_ALLOW"}] if calls else []}
-    with open(path, "w") as file:
-        json.dump(profile, file)
+    write(path, json.dumps(profile))
 
 
 def make_filter(program, room, calls, target):
@@ -108,8 +101,7 @@ def make_room(program, room, case):
     """What the repository of a team has: its baseline, what it accepts, and the profile or the filters of a build."""
     make_filter(program, room, KNOWN, f"{room}/ci/baseline.bpf")
     make_filter(program, room, KNOWN, f"{room}/ci/baseline/01.bpf")
-    with open(f"{room}/ci/accepted", "w") as file:
-        file.write(ACCEPTED)
+    write(f"{room}/ci/accepted", ACCEPTED)
     if case.calls is not None:
         made = case.calls if case.made is None else case.made
         write_profile(f"{room}/seccomp.json", case.calls)
@@ -123,9 +115,7 @@ def make_room(program, room, case):
     os.mkdir(f"{room}/.tools")
     os.symlink(program, f"{room}/.tools/seccomp_audit")
     os.symlink(f"{ROOT}/report/report", f"{room}/.tools/seccomp_audit_report")
-    with open(f"{room}/.tools/seccomp_audit_filter_of_profile", "w") as file:
-        file.write(STAND_IN)
-    os.chmod(f"{room}/.tools/seccomp_audit_filter_of_profile", 0o755)
+    write_script(f"{room}/.tools/seccomp_audit_filter_of_profile", STAND_IN)
 
 
 def run(room, script, variables):
@@ -179,22 +169,19 @@ def wrong_of(case, failed, ran):
 def wrong_summary(case, room):
     """What is wrong with the summary: it has each part that there is."""
     path = f"{room}/summary.md"
-    text = open(path).read() if os.path.exists(path) else ""
-    due = [] if case.calls is None else [title for title, (status, _, _) in
-                                         (("Questions about", case.audit), ("What changes from", case.change)) if status < 3]
-    return [f"the summary lacks {title!r}: {text[:300]!r}" for title in due if title not in text]
+    text = text_of(path) if os.path.exists(path) else ""
+    for title, (due, _, _) in (("Questions about", case.audit), ("What changes from", case.change)):
+        if case.calls is not None and due < 3 and title not in text:
+            yield f"the summary lacks {title!r}: {text[:300]!r}"
 
 
 def main():
-    program = os.path.abspath(sys.argv[1] if len(sys.argv) > 1 else os.path.join(ROOT, "crates/seccomp_audit/out/seccomp_audit"))
-    passed = failed = 0
     for name, runs in (("github.yml", run_github), ("gitlab.yml", run_gitlab)):
-        text = text_of(name)
+        # The folder of this repository for the one where the package has policies.
+        text = text_of(f"examples/ci/{name}").replace(POLICIES, f"{ROOT}/policies")
         for case in CASES:
             with tempfile.TemporaryDirectory(prefix="ci-") as room:
-                make_room(program, room, case)
+                make_room(given_program(), room, case)
                 wrong = [*wrong_of(case, *runs(room, text)), *wrong_summary(case, room)]
-            passed, failed = passed + (not wrong), failed + bool(wrong)
-            print("".join(f"{name}: {case.name}: {it}\n" for it in wrong), end="")
-    print(f"{passed} passed, {failed} failed")
-    return 1 if failed else 0
+            tell(not wrong, f"{name}: {case.name}", f"\n{name}: {case.name}: ".join(wrong))
+    return finish()

@@ -9,14 +9,11 @@ import os
 import re
 import shutil
 import subprocess
-import sys
 import tempfile
 
 from building import mark
-from building.kit import PROGRAM, ROOT, Refused, built
-
-BUILT = os.path.join(ROOT, "crates", PROGRAM, "out", PROGRAM)
-SOURCE = os.path.join(ROOT, "crates", PROGRAM, "src/version.rt")
+from building.kit import PROGRAM, built, text_of, write, write_script
+from testing import told
 
 COMMIT = "0123456789abcdef" * 4
 
@@ -37,8 +34,7 @@ def claims():
         got = mark.claim(kind, commit, is_changed)
         is_well = got == due and len(got) == mark.ROOM and got.startswith("proved") == (kind == "proved")
         yield f"claim: {kind} {commit} {is_changed}", is_well, got
-    with open(SOURCE) as file:
-        found = re.findall(r'"(.*)\\n"', file.read())
+    found = re.findall(r'"(.*)\\n"', text_of(f"crates/{PROGRAM}/src/version.rt"))
     is_well = len(found) == 1 and mark.LINE.fullmatch(f"{found[0]}\n".encode()) and "(not proved, of an unknown commit)" in found[0]
     yield "the sources vouch for nothing", is_well, found
 
@@ -46,16 +42,16 @@ def claims():
 def marks(program, room):
     """What copies of the program say when they are marked."""
     is_proved = os.path.realpath(program) == os.path.realpath(built("proved"))
-    told = mark.version_of(program)
-    yield "the program says what it is", (" (not proved, " in told) != is_proved, told
+    says = mark.version_of(program)
+    yield "the program says what it is", (" (not proved, " in says) != is_proved, says
     with open(program, "rb") as file:
         data = file.read()
     copy = os.path.join(room, "copy")
     shutil.copy(program, copy)
     for kind in ("proved", "unproved", "proved", "unproved"):
         mark.put(copy, kind)
-        told, due = mark.version_of(copy), mark.claim(kind, *mark.commit_of())
-        yield f"a copy that is marked as {kind}", told.split(" (")[1:] == [f"{due})"], told
+        says, due = mark.version_of(copy), mark.claim(kind, *mark.commit_of())
+        yield f"a copy that is marked as {kind}", says.split(" (")[1:] == [f"{due})"], says
         yield f"a copy that is marked as {kind}: nothing else", os.path.getsize(copy) == len(data), os.path.getsize(copy)
     is_well = mark.marked(data, mark.claim("unproved", "", False)) == mark.marked(open(copy, "rb").read(), "not proved, of an unknown commit")
     yield "a mark changes nothing but the mark", is_well, ""
@@ -67,17 +63,10 @@ def refusals(room):
     line = "seccomp_audit 2.0.0 (not proved, of an unknown commit)"
     for what, text in (("no place", "exec true"), ("a shorter place", f"echo '{line.replace('an ', '')}'"),
                        ("a place that isn't shown", f"true '{line}\n'; echo '{line[:-1]}!)'")):
-        path = os.path.join(room, "stand-in")
-        with open(path, "w") as file:
-            file.write(f"#!/bin/sh\n{text}\n")
-        os.chmod(path, 0o755)
-        try:
-            mark.put(path, "proved")
-            got = "it isn't refused"
-        except Refused as why:
-            got = str(why)
-        is_same = open(path).read() == f"#!/bin/sh\n{text}\n" and os.listdir(room) == ["stand-in"]
-        yield f"{what}: it is refused", is_same and got != "it isn't refused", got
+        path, script = os.path.join(room, "stand-in"), f"#!/bin/sh\n{text}\n"
+        write_script(path, script)
+        got = told.refusal(mark.put, path, "proved")
+        yield f"{what}: it is refused", got and text_of(path) == script and os.listdir(room) == ["stand-in"], got
 
 
 def commits(room):
@@ -86,24 +75,25 @@ def commits(room):
         who = ["-c", "user.name=A", "-c", "user.email=a@example.org"]
         return subprocess.run(["git", "-C", room, *who, *words], capture_output=True, text=True, check=True).stdout.strip()
 
-    yield "no repository: no commit", mark.commit_of(room) == ("", False), mark.commit_of(room)
+    def case(what, due, folder=room):
+        got = mark.commit_of(folder)
+        return what, got == due, got
+
+    yield case("no repository: no commit", ("", False))
     git("init", "-q")
-    yield "no commit yet", mark.commit_of(room) == ("", False), mark.commit_of(room)
-    with open(f"{room}/file", "w") as file:
-        file.write("1\n")
+    yield case("no commit yet", ("", False))
+    write(f"{room}/file", "1\n")
     git("add", "file")
     git("commit", "-qm", "one")
     head = git("rev-parse", "HEAD")
-    yield "a commit", mark.commit_of(room) == (head, False), mark.commit_of(room)
+    yield case("a commit", (head, False))
     os.mkdir(f"{room}/below")
-    yield "a folder in a repository of others", mark.commit_of(f"{room}/below") == ("", False), mark.commit_of(f"{room}/below")
-    with open(f"{room}/more", "w") as file:
-        file.write("2\n")
-    yield "a file that git doesn't know", mark.commit_of(room) == (head, True), mark.commit_of(room)
+    yield case("a folder in a repository of others", ("", False), f"{room}/below")
+    write(f"{room}/more", "2\n")
+    yield case("a file that git doesn't know", (head, True))
     os.remove(f"{room}/more")
-    with open(f"{room}/file", "w") as file:
-        file.write("2\n")
-    yield "a file that changed", mark.commit_of(room) == (head, True), mark.commit_of(room)
+    write(f"{room}/file", "2\n")
+    yield case("a file that changed", (head, True))
 
 
 def cases(program):
@@ -114,11 +104,6 @@ def cases(program):
 
 
 def main():
-    program = os.path.abspath(sys.argv[1]) if sys.argv[1:] else BUILT
-    passed = failed = 0
-    for what, is_well, got in cases(program):
-        passed, failed = passed + bool(is_well), failed + (not is_well)
-        if not is_well:
-            print(f"{what}: {got}")
-    print(f"{passed} passed, {failed} failed")
-    return 1 if failed else 0
+    for what, is_well, got in cases(told.given_program()):
+        told.tell(is_well, what, got)
+    return told.finish()

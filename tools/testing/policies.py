@@ -8,10 +8,10 @@ Each call of x86-64 has a question, or docs/POLICIES.md says why it has none. It
 Each case that fails gets a line. The last line is `N passed, M failed`; where M isn't 0, the status is 1.
 """
 import re
-import sys
 import tomllib
 
-from building.kit import ROOT
+from building.kit import text_of
+from testing.told import finish, tell
 
 SETS = ("x86_64", "i386", "x32", "aarch64", "arm")
 X32_BIT = 0x40000000
@@ -31,11 +31,6 @@ def spans_of(number):
     if isinstance(number, dict):
         return [(it, it) for it in range(number["low"], number["high"] + 1) if it & number["mask"] == number["value"]]
     return [tuple(number) if isinstance(number, list) else (number, number)]
-
-
-def text_of(path):
-    with open(f"{ROOT}/{path}", encoding="utf-8") as file:
-        return file.read()
 
 
 def table_of(path):
@@ -148,14 +143,6 @@ def of_calls(policies):
 
 def main():
     policies = [Policy(name) for name in SETS]
-    passed = failed = 0
     for what, is_well, got in [*of_names(policies), *of_numbers(policies), *of_calls(policies)]:
-        passed, failed = passed + bool(is_well), failed + (not is_well)
-        if not is_well:
-            print(f"{what}: {str(got)[:300]}")
-    print(f"{passed} passed, {failed} failed")
-    return 1 if failed or not passed else 0
-
-
-if __name__ == "__main__":
-    sys.exit(main())
+        tell(is_well, what, str(got)[:300])
+    return finish()

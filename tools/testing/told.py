@@ -1,0 +1,37 @@
+"""What tests share: the program that they try, and the counts of what passes and what doesn't."""
+import os
+import sys
+
+from building.kit import PROGRAM, ROOT, Refused
+
+BUILT = os.path.join(ROOT, "crates", PROGRAM, "out", PROGRAM)
+
+passed = failed = 0
+
+
+def given_program():
+    """The program that the command line names, or the built one."""
+    return os.path.abspath(sys.argv[1] if sys.argv[1:] else BUILT)
+
+
+def tell(is_well, what, got=""):
+    """Counts a case, and says what came where it isn't well."""
+    global passed, failed
+    passed, failed = passed + bool(is_well), failed + (not is_well)
+    if not is_well:
+        print(f"{what}: {got}")
+
+
+def finish():
+    """Prints the counts. Gives the status of the test."""
+    print(f"{passed} passed, {failed} failed")
+    return 1 if failed or not passed else 0
+
+
+def refusal(call, *words):
+    """Why a call is refused; "" where it isn't."""
+    try:
+        call(*words)
+    except Refused as why:
+        return str(why)
+    return ""
