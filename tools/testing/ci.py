@@ -131,9 +131,8 @@ def run_github(room, text):
     """Whether the job failed, and of its three steps the status and what each says; None for one that didn't run."""
     failed, ran = False, []
     for script, is_always in github_steps(text):
-        status, said = run(room, script, variables_of(text)) if is_always or not failed else (None, "")
-        failed = failed or bool(status)
-        ran.append((status, said))
+        ran.append(run(room, script, variables_of(text)) if is_always or not failed else (None, ""))
+        failed = failed or bool(ran[-1][0])
     return failed, ran[1:4]
 
 

@@ -16,6 +16,7 @@ import tempfile
 import time
 
 from building.kit import ROOT
+from testing.told import finish, tell
 
 FOLDER = os.path.join(ROOT, "docs/completions")
 INSTALLED = "share/seccomp_audit/policies"
@@ -123,7 +124,6 @@ def completed_by_fish(room, environment):
 
 def main():
     shells = sys.argv[1:] or [name for name in ("bash", "zsh", "fish") if shutil.which(name)]
-    passed = failed = 0
     for shell in shells:
         with tempfile.TemporaryDirectory() as room, tempfile.TemporaryDirectory() as installed:
             for name in ("policy.toml", "filter.bpf", "names"):
@@ -135,11 +135,6 @@ def main():
             came = completed_by_fish(room, environment) if shell == "fish" else typed(shell, room, environment)
             cases = [(text, wanted.format(installed=f"{installed}/{INSTALLED}")) for text, wanted in CASES]
         for (text, wanted), line in zip(cases, came):
-            if line == wanted:
-                passed += 1
-            else:
-                failed += 1
-                print(f"{shell}: `{text}` and a tab become `{line}`, and not `{wanted}`")
+            tell(line == wanted, shell, f"`{text}` and a tab become `{line}`, and not `{wanted}`")
     print(f"tried in {', '.join(shells)}")
-    print(f"{passed} passed, {failed} failed")
-    return 1 if failed or not shells else 0
+    return finish()

@@ -17,12 +17,11 @@ import os
 import re
 import shutil
 import subprocess
-import sys
 import tempfile
 
-from building.kit import ROOT
+from building.kit import ROOT, write
+from testing.told import BUILT
 
-BUILT = os.path.join(ROOT, "crates/seccomp_audit/out/seccomp_audit")
 COUNTER = ["valgrind", "--tool=cachegrind", "--cache-sim=no", "--cachegrind-out-file=/dev/null"]
 MOST_TIMES = 2.5
 X86_64 = 0xC000003E
@@ -93,8 +92,7 @@ class Counted:
     def __init__(self, program, folder):
         self.program, self.folder = program, folder
         self.names = os.path.join(folder, "names.toml")
-        with open(self.names, "w") as file:
-            file.write(NAMES)
+        write(self.names, NAMES)
 
     def words_of(self, subcommand, path):
         if subcommand == "list":
@@ -104,8 +102,7 @@ class Counted:
     def count(self, kind, size):
         """How the program ends, and how many instructions it takes."""
         path = os.path.join(self.folder, f"{KINDS.index(kind)}-{size}")
-        with open(path, "w") as file:
-            file.write(kind.make(size))
+        write(path, kind.make(size))
         words = [*COUNTER, self.program, *self.words_of(kind.subcommand, path)]
         ran = subprocess.run(words, stdin=subprocess.DEVNULL, capture_output=True)
         found = re.search(rb"I\s+refs:\s+([\d,]+)", ran.stderr)
@@ -137,7 +134,3 @@ def main():
                 print(f"{kind.name}: {millions}; statuses {first} and {second} for {kind.status}")
     print(f"{len(KINDS) - failed} passed, {failed} failed")
     return 1 if failed else 0
-
-
-if __name__ == "__main__":
-    sys.exit(main())

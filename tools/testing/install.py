@@ -7,8 +7,6 @@ that is installed. Cases that need a C compiler, or dpkg and objdump, are
 left out where these aren't there, and a line says so. The last line is `N passed, M failed`; where M isn't 0, the
 status is 1.
 """
-import importlib.machinery
-import importlib.util
 import json
 import os
 import shutil
@@ -17,8 +15,9 @@ import sys
 import tempfile
 
 from building import installing, mark
-from building.kit import PROGRAM, ROOT
+from building.kit import PROGRAM, ROOT, loaded, text_of, write, write_script
 from testing import profiles
+from testing.told import finish, refusal, tell
 
 HELPERS = ["seccomp_audit_filter_of_profile", "seccomp_audit_kernel_agrees", "seccomp_audit_read_filters", "seccomp_audit_report"]
 BY_HEADERS = ["seccomp_audit_call_names", "seccomp_audit_policy_numbers"]
@@ -56,15 +55,6 @@ DOCUMENT = json.dumps({
     "total": {"rows": 0},
 }) + "\n"
 
-passed = failed = 0
-
-
-def tell(well, what, got=""):
-    global passed, failed
-    passed, failed = passed + bool(well), failed + (not well)
-    if not well:
-        print(f"{what}: {got}")
-
 
 def files_below(folder):
     """The files below a folder, without the policies."""
@@ -83,9 +73,7 @@ def said(*words):
 def stand_in(room):
     """A program that says what `eval` says of the input that is tried."""
     path = os.path.join(room, "stand-in")
-    with open(path, "w") as file:
-        file.write("#!/bin/sh\necho ERRNO 1\n")
-    os.chmod(path, 0o755)
+    write_script(path, "#!/bin/sh\necho ERRNO 1\n")
     return path
 
 
@@ -140,11 +128,9 @@ def try_by_headers(prefix, room):
     names, numbers = (f"{prefix}/bin/{name}" for name in BY_HEADERS)
     headers = os.path.join(room, "usr/include/x86_64-linux-gnu/asm")
     os.makedirs(headers)
-    with open(f"{headers}/unistd_64.h", "w") as file:
-        file.write("#define __NR_getpid 39\n")
+    write(f"{headers}/unistd_64.h", "#define __NR_getpid 39\n")
     policy = os.path.join(room, "policy.toml")
-    with open(policy, "w") as file:
-        file.write('[[question]]\nname = "a"\narch = 0xC000003E\nnr = 39  # getpid\n[[question]]\nnr = 1  # \x9b2J\n')
+    write(policy, '[[question]]\nname = "a"\narch = 0xC000003E\nnr = 39  # getpid\n[[question]]\nnr = 1  # \x9b2J\n')
     ran = said(numbers, "--root", room, policy)
     well = "\n1 checked, 0 not found, 1 wrong\n" in ran.stdout and "no expression: \\u009b2J" in ran.stdout
     tell(well, BY_HEADERS[1], ran)
@@ -152,8 +138,7 @@ def try_by_headers(prefix, room):
     well = f"{installing.POLICIES}/x86_64.toml" in ran.stdout and not ran.stderr
     tell(well, f"{BY_HEADERS[1]} on the ready policies", ran.stderr)
     ran = said(names, "--root", room, own)
-    with open(f"{own}.toml") as file:
-        text = file.read()
+    text = text_of(f"{own}.toml")
     tell(ran.returncode == 0 and text.endswith("[x86_64.calls]\ngetpid = 39\n"), BY_HEADERS[0], (ran, text))
     ran = said(names, "--root", room, "--check")
     tell(ran.returncode == 0 and ran.stdout.endswith("1 names compared, 0 wrong\n"), f"{BY_HEADERS[0]} --check", ran)
@@ -210,11 +195,7 @@ def try_links(room, program):
         os.makedirs(victim) if kind == "a folder" else open(victim, "w").close()
         os.makedirs(os.path.dirname(f"{prefix}/{place}"))
         os.symlink(victim, f"{prefix}/{place}")
-        try:
-            installing.install(program, prefix)
-            got = "it isn't refused"
-        except installing.Refused as why:
-            got = str(why)
+        got = refusal(installing.install, program, prefix)
         untouched = not os.listdir(victim) if kind == "a folder" else not os.path.getsize(victim)
         well = f"{prefix}/{place} is a link, to {victim}" in got and untouched and not os.path.exists(f"{prefix}/bin")
         tell(well, f"install: a link at the place of {kind}", got)
@@ -242,17 +223,9 @@ def try_without_compiler(room):
     del os.environ["CC"]
 
 
-def releasing():
-    """tools/release, as a module."""
-    loader = importlib.machinery.SourceFileLoader("release", os.path.join(ROOT, "tools/release"))
-    module = importlib.util.module_from_spec(importlib.util.spec_from_loader("release", loader))
-    loader.exec_module(module)
-    return module
-
-
 def try_release(room):
     """The package has all, `dpkg -r` leaves nothing, the same bytes come twice, and no compiler means no release."""
-    release = releasing()
+    release = loaded(f"{ROOT}/tools/release")
     release.built = lambda kind: "/bin/true"  # a program by which objdump finds a version of the C library
     date, texts = 1_000_000_000, {"NOTICES": "notices\n", "PROVED": "proved\n"}
     made = []
@@ -273,30 +246,23 @@ def try_release(room):
     tell("Recommends: python3\n" in control and "python3" not in control.replace("Recommends: python3", ""), "release: control", control)
     try_removal(package, os.path.join(room, "system"))
     os.environ["CC"] = "/nowhere/cc"
-    try:
-        release.install_whole(os.path.join(room, "lacking"))
-        tell(False, "release: without a compiler", "isn't refused")
-    except release.Refused as why:
-        tell("read_filters" in str(why), "release: without a compiler", why)
+    got = refusal(release.install_whole, os.path.join(room, "lacking"))
+    tell("read_filters" in got, "release: without a compiler", got)
     del os.environ["CC"]
 
 
 def try_claims(room):
     """Only a program that says that it is proved at the very commit is handed on."""
-    release, commit = releasing(), "0123456789abcdef" * 2 + "01234567"
+    release, commit = loaded(f"{ROOT}/tools/release"), "0123456789abcdef" * 2 + "01234567"
     release.is_current = lambda kind: True
     release.built = lambda kind: os.path.join(room, "claims")
     for kind, at, is_changed in (("proved", commit, False), ("proved", commit, True), ("proved", commit[::-1], False),
                                  ("proved", "", False), ("unproved", commit, False)):
-        with open(release.built(kind), "w") as file:
-            file.write(f"#!/bin/sh\necho '{PROGRAM} 2.0.0 ({mark.claim(kind, at, is_changed)})'\n")
-        os.chmod(release.built(kind), 0o755)
-        try:
-            got = release.proved_program(commit)
-        except release.Refused as why:
-            got = str(why)
+        claim = mark.claim(kind, at, is_changed)
+        write_script(release.built(kind), f"#!/bin/sh\necho '{PROGRAM} 2.0.0 ({claim})'\n")
+        got = refusal(release.proved_program, commit)
         is_due = kind == "proved" and at == commit and not is_changed
-        tell(("isn't built of this commit" not in got) == is_due, f"release: {mark.claim(kind, at, is_changed)}", got)
+        tell(("isn't built of this commit" not in got) == is_due, f"release: {claim}", got)
 
 
 def try_removal(package, system):
@@ -327,5 +293,4 @@ def main():
             try_release(room)
         else:
             print("left out: the package, which takes a C compiler, dpkg and objdump")
-    print(f"{passed} passed, {failed} failed")
-    return 1 if failed else 0
+    return finish()

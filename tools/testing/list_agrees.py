@@ -20,6 +20,7 @@ status is 1 where M isn't 0 or N is.
 import argparse
 import hashlib
 import os
+import pathlib
 import random
 import re
 import struct
@@ -123,13 +124,11 @@ def digits_of(words):
 
 
 def digits_in(path):
-    with open(path, "rb") as file:
-        return file.read().hex()
+    return pathlib.Path(path).read_bytes().hex()
 
 
 def code_of(path):
-    with open(path, "rb") as file:
-        text = file.read()
+    text = pathlib.Path(path).read_bytes()
     return [constant for _, _, _, constant in struct.iter_unpack("<HBBI", text[: len(text) // 8 * 8])]
 
 
@@ -160,10 +159,12 @@ def answer_of(program, digits, paths):
     return "".join(run(program, "eval", "--input", digits, *paths)[1:]).strip()
 
 
-def is_too_large(ran):
-    """Whether the program says that a stack is too large, and nothing else."""
+def without_rows(ran, plain, statuses):
+    """What differs, how many inputs agree, and whether a stack is too large, where a run gives no rows; None where it does."""
     status, text, said = ran
-    return status == 2 and not text and TOO_LARGE.fullmatch(said)
+    if status == 2 and not text and TOO_LARGE.fullmatch(said):
+        return ["whole words are too large"] if plain else [], 0, True
+    return None if status in statuses and not said else ([f"status {status}: {said.strip()}"], 0, False)
 
 
 def rows_in(lines, names, last):
@@ -195,12 +196,9 @@ def strays(rows, outcome, rng, count, paths):
 def of_list(program, paths, rng, count, plain, named):
     """What differs for the list of a stack, how many inputs agree, and whether it is too large."""
     ran = run(program, "list", "--quiet", *paths, *(("--calls", "--names", named) if named else ()))
-    if is_too_large(ran):
-        return ["whole words are too large"] if plain else [], 0, True
-    status, text, said = ran
-    if status or said:
-        return [f"status {status}: {said.strip()}"], 0, False
-    lines, names = text.split("\n")[2:-1], sets_of(named) if named else {}
+    if found := without_rows(ran, plain, [0]):
+        return found
+    lines, names = ran[1].split("\n")[2:-1], sets_of(named) if named else {}
     lined, wrong = rows_in(lines, names, "total lines" if named else "total rows")
     wrong += [] if named else digest_faults(program, paths, lines[:-1])
     # Two names of one call have the same lines.
@@ -212,12 +210,9 @@ def of_list(program, paths, rng, count, plain, named):
 def of_comparison(program, old, new, rng, count, plain):
     """The same for the rows in which two stacks differ."""
     ran = run(program, "compare", "--quiet", "--rows", "--old", *old, "--new", *new)
-    if is_too_large(ran):
-        return ["whole words are too large"] if plain else [], 0, True
-    status, text, said = ran
-    if status not in (0, 1) or said:
-        return [f"status {status}: {said.strip()}"], 0, False
-    lines = text.split("\n")
+    if found := without_rows(ran, plain, [0, 1]):
+        return found
+    lines = ran[1].split("\n")
     begin = next(n for n, line in enumerate(lines) if line.startswith("different ")) + 1
     rows, wrong = rows_in(lines[begin:-1], {}, "total changed")
 
@@ -281,8 +276,7 @@ def some_stack(rng, plain, folder, name):
     """The paths of a stack of one filter, or now and then of two."""
     paths = [os.path.join(folder, f"{name}{i}") for i in range(rng.choice((1, 1, 1, 2)))]
     for path in paths:
-        with open(path, "wb") as file:
-            file.write(some_program(rng, plain))
+        pathlib.Path(path).write_bytes(some_program(rng, plain))
     return paths
 
 

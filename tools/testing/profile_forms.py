@@ -10,17 +10,14 @@ calls that no file of names has. `tools/test runtimes` says what runtimes make o
 Each difference gets a line. The last line is `N passed, M failed`; the status is 1 where M isn't 0.
 """
 import concurrent.futures
-import importlib.machinery
-import importlib.util
 import os
 import re
 import subprocess
-import sys
 
-from building.kit import ROOT
+from building.kit import ROOT, loaded
 from testing import profile_texts
+from testing.told import finish, given_program, tell
 
-BUILT = os.path.join(ROOT, "crates/seccomp_audit/out/seccomp_audit")
 OPTIONS = ["--machine", "x86_64", "--names", f"{ROOT}/policies/names.toml", "--kernel", "6.1"]
 # The faults that aren't of the form: of a name, and of a set of calls.
 OF_NAMES = re.compile("error 4[49] ")
@@ -33,14 +30,6 @@ MEANT = {
     "known to some: an unknown key of a rule": "the same",
     "text: deep": "`profile` reads up to 127 levels; Python, runc and crun read more",
 }
-
-
-def tool():
-    """helpers/filter_of_profile, as a module."""
-    loader = importlib.machinery.SourceFileLoader("filter_of_profile", os.path.join(ROOT, "helpers/filter_of_profile"))
-    module = importlib.util.module_from_spec(importlib.util.spec_from_loader("filter_of_profile", loader))
-    loader.exec_module(module)
-    return module
 
 
 def refused_by_tool(module, text):
@@ -79,14 +68,8 @@ def case(module, program, name, text, due):
 
 
 def main():
-    program, module = os.path.abspath(sys.argv[1] if sys.argv[1:] else BUILT), tool()
+    program, module = given_program(), loaded(f"{ROOT}/helpers/filter_of_profile")
     with concurrent.futures.ThreadPoolExecutor(os.cpu_count()) as pool:
-        found = [*pool.map(lambda one: case(module, program, *one), texts())]
-    wrong = [line for line in found if line]
-    print(*wrong, sep="\n", end="\n" if wrong else "")
-    print(f"{len(found) - len(wrong)} passed, {len(wrong)} failed")
-    return 1 if wrong else 0
-
-
-if __name__ == "__main__":
-    sys.exit(main())
+        for wrong in pool.map(lambda one: case(module, program, *one), texts()):
+            tell(wrong is None, wrong)
+    return finish()

@@ -4,7 +4,7 @@ import os
 import shutil
 import subprocess
 
-from building.kit import ROOT
+from building.kit import ROOT, text_of, write, write_script
 
 # A rule, a profile with it, one that refuses all but a call, and one that is a whole config.json.
 RULE = {"names": ["ptrace"], "action": "SCMP_ACT_ERRNO", "errnoRet": 1}
@@ -106,8 +106,7 @@ int seccomp_export_bpf(void *filter, int file)
 def ran(program, room, value, **how):
     """What the tool says of a file."""
     path = os.path.join(room, "profile.json")
-    with open(path, "w", encoding="utf-8") as file:
-        file.write(value if isinstance(value, str) else json.dumps(value))
+    write(path, value if isinstance(value, str) else json.dumps(value))
     words = [program, "--machine", "x86_64", path]
     try:
         return subprocess.run(words, capture_output=True, timeout=60, **how)
@@ -120,17 +119,13 @@ def endless_cases(program, room):
     compiler = shutil.which(os.environ.get("CC") or "cc")
     if not compiler:
         return
-    with open(program) as file:
-        text = file.read()
+    text = text_of(program)
     yield "it waits for 10 s", "\nSECONDS = 10\n" in text, ""
     short = os.path.join(room, "short")
-    with open(short, "w") as file:
-        file.write(text.replace("\nSECONDS = 10\n", "\nSECONDS = 3\n"))
-    os.chmod(short, 0o755)
+    write_script(short, text.replace("\nSECONDS = 10\n", "\nSECONDS = 3\n"))
     shutil.copy(os.path.join(ROOT, "helpers/showing.py"), room)
     source = os.path.join(room, "endless.c")
-    with open(source, "w") as file:
-        file.write(ENDLESS)
+    write(source, ENDLESS)
     subprocess.run([compiler, "-shared", "-fPIC", "-O1", "-o", f"{room}/libseccomp.so.2", source], check=True)
     environment = {**os.environ, "LD_LIBRARY_PATH": room}
     for what, value, said in (

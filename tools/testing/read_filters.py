@@ -15,7 +15,8 @@ import sys
 import tempfile
 import time
 
-from building.kit import ROOT
+from building.kit import ROOT, text_of, write
+from testing.told import finish, tell
 
 SOURCE, ONE_THREAD, WAITING = (
     os.path.join(ROOT, name) for name in ("helpers/read_filters.c", "helpers/read_thread.c", "tools/testing/waiting.c"))
@@ -85,15 +86,6 @@ time.sleep(1000)
 MOST = 60
 CAP_SYS_ADMIN, DROP_FROM_BOUNDS = 21, 24
 
-passed = failed = 0
-
-
-def tell(well, what, got):
-    global passed, failed
-    passed, failed = passed + bool(well), failed + (not well)
-    if not well:
-        print(f"{what}: {got}")
-
 
 def said(*words, **how):
     """How a command ends, or None where it doesn't end in time."""
@@ -117,8 +109,7 @@ def bytes_below(folder):
 
 
 def try_groups(room):
-    with open(os.path.join(room, "groups.c"), "w") as file:
-        file.write(GROUPS)
+    write(os.path.join(room, "groups.c"), GROUPS)
     groups = compiled(room, "groups", os.path.join(room, "groups.c"), ONE_THREAD)
     here = os.path.join(room, "grouped")
     os.mkdir(here)
@@ -141,8 +132,7 @@ def started(first, *paths):
 
 def status_of(thread):
     """A thread's state, as a letter, and who traces it."""
-    with open(f"/proc/{thread}/status") as file:
-        lines = dict(line.rstrip("\n").split(":\t", 1) for line in file)
+    lines = dict(line.split(":\t", 1) for line in text_of(f"/proc/{thread}/status").splitlines())
     return lines["State"][0], lines["TracerPid"]
 
 
@@ -164,8 +154,7 @@ def comes(condition):
 
 def is_in(thread, call):
     """Whether a thread waits in a call."""
-    with open(f"/proc/{thread}/syscall") as file:
-        return file.read().split()[0] == call
+    return text_of(f"/proc/{thread}/syscall").split()[0] == call
 
 
 def waiting(program, *kinds):
@@ -303,16 +292,14 @@ def try_ended(reader, room):
     here = os.path.join(room, "ended")
     os.mkdir(here)
     try:
-        while open(f"/proc/{child.pid}/task/{child.pid}/stat").read().rpartition(")")[2].split()[0] != "Z":
-            pass
+        comes(lambda: status_of(child.pid)[0] == "Z")
         ran = said(reader, "--all-threads", str(child.pid), cwd=here)
         wanted = f"thread-{numbers[1]}: 1 filters, of threads {numbers[1]}\n"
         tell(ran.returncode == 0 and ran.stdout == wanted, "a process without its first thread", ran)
     finally:
         child.kill()
     # It isn't waited for, so that it is there still.
-    while open(f"/proc/{child.pid}/stat").read().rpartition(")")[2].split()[0] != "Z" or len(os.listdir(f"/proc/{child.pid}/task")) > 1:
-        pass
+    comes(lambda: status_of(child.pid)[0] == "Z" and len(os.listdir(f"/proc/{child.pid}/task")) == 1)
     ran = said(reader, "--all-threads", str(child.pid), cwd=here)
     tell(ran.returncode == 1 and ran.stdout == "" and ran.stderr == "no thread runs\n", "a process that has ended", ran)
     child.wait()
@@ -350,5 +337,4 @@ def main():
                 try_states(reader, waits, room)
                 try_rights(reader, room)
                 try_ended(reader, room)
-    print(f"{passed} passed, {failed} failed")
-    return 1 if failed or not passed else 0
+    return finish()

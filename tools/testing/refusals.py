@@ -1,5 +1,6 @@
 """Runs of programs that are refused memory and threads, and whether each is right."""
 import os
+import pathlib
 import re
 import struct
 import subprocess
@@ -62,16 +63,14 @@ class Sweep:
     def run(self, words, refusals=None, program=None):
         """A run under these refusals, of the program or another one; None where it hangs."""
         counts = os.path.join(self.folder, f"counts_{threading.get_ident()}")
-        with open(counts, "wb") as file:
-            file.write(bytes(32))
+        pathlib.Path(counts).write_bytes(bytes(32))
         env = {"LD_PRELOAD": self.library, "REFUSE_COUNTS": counts, **{name: str(n) for name, n in (refusals or {}).items()}}
         command = [program or self.program, *words]
         try:
             ran = subprocess.run(command, capture_output=True, env=env, cwd=self.folder, timeout=SECONDS, check=False)
         except subprocess.TimeoutExpired:
             return None
-        with open(counts, "rb") as file:
-            return Ran((ran.returncode, ran.stdout, ran.stderr), *struct.unpack("<4q", file.read()))
+        return Ran((ran.returncode, ran.stdout, ran.stderr), *struct.unpack("<4q", pathlib.Path(counts).read_bytes()))
 
     def case(self, words, wanted=None, whole=None):
         """A command line that has to end so, or else as it ends where nothing is refused."""

@@ -23,13 +23,12 @@ import re
 import shutil
 import struct
 import subprocess
-import sys
 import tempfile
 
 from building.kit import ROOT
 from testing import containers, profile_texts
+from testing.told import BUILT
 
-BUILT = os.path.join(ROOT, "crates/seccomp_audit/out/seccomp_audit")
 SOURCE = pathlib.Path(__file__).parent / "probe.c"
 FLAGS = "-Wall -Wextra -Werror -O1 -static -nostdlib -ffreestanding -fno-stack-protector".split()
 
@@ -207,7 +206,3 @@ def main():
         print(f"{text}: {count}")
     print(f"{len(found) - len(failed)} passed, {len(failed)} failed")
     return 1 if failed else 0
-
-
-if __name__ == "__main__":
-    sys.exit(main())

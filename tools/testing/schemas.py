@@ -19,6 +19,8 @@ import sys
 import tempfile
 from concurrent.futures import ThreadPoolExecutor
 
+from testing.told import finish, given_program, tell
+
 ROOT = pathlib.Path(__file__).resolve().parent.parent.parent
 sys.path.append(str(ROOT / "report"))
 from reporting.schema import faults  # noqa: E402
@@ -28,7 +30,6 @@ try:
 except ImportError:
     jsonschema = None
 
-BUILT = ROOT / "crates/seccomp_audit/out/seccomp_audit"
 SCHEMAS = {path.name.removesuffix(".schema.json"): json.loads(path.read_text()) for path in (ROOT / "docs/schema").iterdir()}
 NAMED = ["--names", "policies/names.toml"]
 CALLS = ["--calls", "ioctl,execve", *NAMED]
@@ -108,7 +109,7 @@ def wrong(program, name, words):
 
 
 def main():
-    program = str(pathlib.Path(sys.argv[1]).resolve() if sys.argv[1:] else BUILT)
+    program = given_program()
     with tempfile.TemporaryDirectory() as room, ThreadPoolExecutor(len(os.sched_getaffinity(0))) as pool:
         changed = pathlib.Path(room) / "changed.bpf"
         # 59 is execve on x86-64: the changed filter asks for its neighbour.
@@ -117,8 +118,5 @@ def main():
         results = [(" ".join(words), found) for (_, words), found in zip(lines, pool.map(lambda line: list(wrong(program, *line)), lines))]
     results += [(f"crates/command_run/stdout, {place}", list(misfits(name, document))) for place, name, document in written()]
     for what, found in results:
-        print("".join(f"{what}: {one}\n" for one in found), end="")
-    failed = sum(bool(found) for _, found in results)
-    passed = len(results) - failed
-    print(f"{passed} passed, {failed} failed")
-    return 1 if failed or not passed else 0
+        tell(not found, what, f"\n{what}: ".join(found))
+    return finish()

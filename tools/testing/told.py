@@ -14,12 +14,12 @@ def given_program():
     return os.path.abspath(sys.argv[1] if sys.argv[1:] else BUILT)
 
 
-def tell(is_well, what, got=""):
+def tell(is_well, what, *got):
     """Counts a case, and says what came where it isn't well."""
     global passed, failed
     passed, failed = passed + bool(is_well), failed + (not is_well)
     if not is_well:
-        print(f"{what}: {got}")
+        print(what, *got, sep=": ")
 
 
 def finish():

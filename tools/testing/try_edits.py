@@ -8,6 +8,7 @@ where M isn't 0, the status is 1.
 import pathlib
 import tempfile
 
+from testing.told import finish, tell
 from trying.chosen import MOST, MOST_IN_TURN, in_turn
 from trying.edits import BadEdit, Functions, changed, edit_of, rounds_of
 from trying.prover import judged
@@ -104,7 +105,6 @@ def results(crate):
 
 def main():
     with tempfile.TemporaryDirectory() as folder:
-        found = list(results(room_of(folder)))
-    failed = [what for what, is_well in found if not is_well]
-    print("".join(f"{what}\n" for what in failed) + f"{len(found) - len(failed)} passed, {len(failed)} failed")
-    return bool(failed)
+        for what, is_well in results(room_of(folder)):
+            tell(is_well, what)
+    return finish()
