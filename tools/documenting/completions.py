@@ -8,13 +8,9 @@ from collections import namedtuple
 
 from documenting.help_text import Help
 
-# What is said of `help`, which the help doesn't list.
-HELP = "Print the help of a command"
-
 # An option of a subcommand: its name with the dashes, its value (None: it takes none), and what is said of it.
 Option = namedtuple("Option", "name value about")
 OPTION = re.compile(r"(?:-\w, +)?(--[\w-]+)(?: \[?<([\w.,]+)>\]?)?(?:\.\.\.)?  +(.*)")
-
 
 # All words that an option takes, at the end of what is said of it.
 WORDS = re.compile(r": (\w+(?:, \w+)* or \w+)(?: \[default: \w+\])?")
@@ -22,8 +18,8 @@ WORDS = re.compile(r": (\w+(?:, \w+)* or \w+)(?: \[default: \w+\])?")
 # Options whose values stand in the installed policies, and what is looked for: names of sets, of calls, or files. A list
 # of calls is joined by commas.
 LOOKED_FOR = {"--arch": "sets", "--call": "calls", "--calls": "calls"}
+LIST = "--calls"
 FILES = {"--policy": "policies", "--control": "controls", "--names": "names"}
-JOINED = ("--calls",)
 
 # How the lines of the file of names are read: those that name a set, and those that name a call.
 SETS = r"s/^\[\([a-z0-9_]*\)\]$/\1/p"
@@ -40,35 +36,21 @@ def options_of(lines):
     return [Option(*OPTION.fullmatch(line).groups()) for line in lines]
 
 
-def names(options, value=None):
-    """The names of options: of those with this kind of value, where one is given."""
-    return [option.name for option in options if value is None or option.value in value]
-
-
-def help_word(told):
-    """The word `help`, where the program takes it."""
-    return ["help"] if told.has_help else []
-
-
-def bash_help(told, options):
-    """The lines that complete the word behind `help`."""
-    return f"""    elif [[ ${{COMP_WORDS[1]}} == help ]]; then
-        mapfile -t COMPREPLY < <(compgen -W "{' '.join(options)}" -- "$word")
-""" if told.has_help else ""
+def names(options):
+    return " ".join(option.name for option in options)
 
 
 def bash(told, options):
     """For bash: names of options where a word begins with a dash, and else files, or first of all the subcommands."""
     whole = [option for some in options.values() for option in some]
-    cases = "\n".join(f'        {command}) options="{" ".join(names(some))}" ;;' for command, some in options.items())
+    cases = "\n".join(f'        {command}) options="{names(some)}" ;;' for command, some in options.items())
     known = {option.name: words_of(option) for option in whole if words_of(option)}
     numbers = "|".join(sorted({option.name for option in whole if option.value not in (None, "FILE")} - {*known, *LOOKED_FOR}))
     words = "\n".join(f"""        {name})
             mapfile -t COMPREPLY < <(compgen -W "{' '.join(some)}" -- "$word")
             return ;;""" for name, some in sorted(known.items()))
-    joined = "|".join(JOINED)
     named = "\n".join(f"""        {name}) COMPREPLY=($(compgen -W "$(_seccomp_audit_{what})" -- "$word")); return ;;"""
-                      for name, what in LOOKED_FOR.items() if name not in JOINED)
+                      for name, what in LOOKED_FOR.items() if name != LIST)
     files = "\n".join(f"        {name}) installed=$(_seccomp_audit_installed {what}) ;;" for name, what in FILES.items())
     return f"""# Completions of seccomp_audit for bash, made by tools/documents.
 
@@ -108,7 +90,7 @@ _seccomp_audit_installed() {{
 
 _seccomp_audit() {{
     local installed file front
-    local word=${{COMP_WORDS[COMP_CWORD]}} before=${{COMP_WORDS[COMP_CWORD - 1]}} options="{' '.join(names(options_of(told.top['Options'])))}"
+    local word=${{COMP_WORDS[COMP_CWORD]}} before=${{COMP_WORDS[COMP_CWORD - 1]}} options="{names(options_of(told.top['Options']))}"
     case ${{COMP_WORDS[1]}} in
 {cases}
     esac
@@ -117,7 +99,7 @@ _seccomp_audit() {{
         {numbers}) return ;;
 {words}
 {named}
-        {joined})
+        {LIST})
             if [[ $word != -* ]]; then
                 front=${{word%"${{word##*,}}"}}
                 COMPREPLY=($(compgen -P "$front" -W "$(_seccomp_audit_calls)" -- "${{word##*,}}"))
@@ -128,8 +110,10 @@ _seccomp_audit() {{
     if [[ $word == -* ]]; then
         mapfile -t COMPREPLY < <(compgen -W "$options" -- "$word")
     elif ((COMP_CWORD == 1)); then
-        mapfile -t COMPREPLY < <(compgen -W "{' '.join([*options, *help_word(told)])}" -- "$word")
-{bash_help(told, options)}    else
+        mapfile -t COMPREPLY < <(compgen -W "{' '.join(told.abouts)}" -- "$word")
+    elif [[ ${{COMP_WORDS[1]}} == help ]]; then
+        mapfile -t COMPREPLY < <(compgen -W "{' '.join(options)}" -- "$word")
+    else
         compopt -o filenames 2> /dev/null
         mapfile -t COMPREPLY < <(compgen -f -- "$word")
         # By their names alone, the files that come with the program.
@@ -158,7 +142,7 @@ def zsh_value(option):
         return f":file:_seccomp_audit_files {FILES[option.name]}" if option.name in FILES else ":file:_files"
     if option.name in LOOKED_FOR:
         # A list may be left out.
-        colon, several = ("::", "_sequence ") if option.name in JOINED else (":", "")
+        colon, several = ("::", "_sequence ") if option.name == LIST else (":", "")
         return f"{colon}{option.value}:{several}_seccomp_audit_{LOOKED_FOR[option.name]}"
     words = words_of(option)
     return f":{option.value}:({' '.join(words)})" if words else f":{option.value}: "
@@ -170,10 +154,7 @@ def zsh(told, options):
     for command, some in options.items():
         lines = [f"'*{it.name}[{for_zsh(it.about)}]{zsh_value(it)}'" for it in some]
         parts.append(f"        {command})\n            _arguments \\\n" + "".join(f"                {line} \\\n" for line in lines) + "                '*:file:_files' ;;")
-    if told.has_help:
-        parts.append("        help)\n            _describe -t commands command commands ;;")
-    known = {**told.abouts, **{word: HELP for word in help_word(told)}}
-    abouts = "\n".join(f"        '{command}:{for_zsh(about)}'" for command, about in known.items())
+    abouts = "\n".join(f"        '{command}:{for_zsh(about)}'" for command, about in told.abouts.items())
     top = " ".join(f"'{it.name}[{for_zsh(it.about)}]'" for it in options_of(told.top["Options"]))
     cases = "\n".join(parts)
     return f"""#compdef seccomp_audit
@@ -234,6 +215,8 @@ _seccomp_audit() {{
     ((CURRENT--))
     case $words[1] in
 {cases}
+        help)
+            _describe -t commands command commands ;;
     esac
 }}
 
@@ -257,7 +240,7 @@ def fish_value(option):
     if option.value == "FILE":
         return " -r -F" + (f" -a '(__seccomp_audit_installed {FILES[option.name]})'" if option.name in FILES else "")
     if option.name in LOOKED_FOR:
-        several = "__fish_complete_list , " * (option.name in JOINED)
+        several = "__fish_complete_list , " * (option.name == LIST)
         return f" -x -a '({several}__seccomp_audit_{LOOKED_FOR[option.name]})'"
     words = words_of(option)
     return f" -x -a '{' '.join(words)}'" if words else " -x"
@@ -305,10 +288,9 @@ def fish(told, options):
     lines = ["# Completions of seccomp_audit for fish, made by tools/documents.", FISH_FUNCTIONS, "complete -c seccomp_audit -f"]
     for it in options_of(told.top["Options"]):
         lines.append(f"complete -c seccomp_audit -n __fish_use_subcommand -l {it.name[2:]} -d '{for_fish(it.about)}'")
-    for command, about in {**told.abouts, **{word: HELP for word in help_word(told)}}.items():
+    for command, about in told.abouts.items():
         lines.append(f"complete -c seccomp_audit -n __fish_use_subcommand -a {command} -d '{for_fish(about)}'")
-    if told.has_help:
-        lines.append(f"complete -c seccomp_audit -n '__fish_seen_subcommand_from help' -a '{' '.join(options)}'")
+    lines.append(f"complete -c seccomp_audit -n '__fish_seen_subcommand_from help' -a '{' '.join(options)}'")
     for command, some in options.items():
         seen = f"complete -c seccomp_audit -n '__fish_seen_subcommand_from {command}'"
         lines.append(f"{seen} -F")

@@ -29,8 +29,8 @@ class Help:
 
         self.name, self.version = said("--version").split()[:2]
         self.top = sections_of(said("--help"))
-        lines = dict(re.split(r"  +", line, maxsplit=1) for line in self.top["Commands"])
-        self.abouts = lines
-        self.commands = {command: sections_of(said(command, "--help")) for command in lines}
-        # Whether `help COMMAND` is a way to the help of a subcommand: then it is one that takes no options.
-        self.has_help = any("help COMMAND" in line for line in self.top.get("end", []))
+        self.abouts = dict(re.split(r"  +", line, maxsplit=1) for line in self.top["Commands"])
+        self.commands = {command: sections_of(said(command, "--help")) for command in self.abouts}
+        # `help COMMAND` isn't among the subcommands, and takes no options.
+        if any("help COMMAND" in line for line in self.top.get("end", [])):
+            self.abouts["help"] = "Print the help of a command"
