@@ -1,10 +1,7 @@
 """Tests and programs of the crates: which crates have some, and what a program must write."""
 import itertools
-import pathlib
 import subprocess
 import tempfile
-
-CRATES = pathlib.Path(__file__).resolve().parent.parent.parent / "crates"
 
 
 def has_tests(crate):

@@ -15,8 +15,9 @@ import tempfile
 from concurrent.futures import ThreadPoolExecutor, as_completed
 
 from building.kit import PROGRAM, Refused, built, found
-from building.programs import CRATES, has_tests, is_program, why_wrong
+from building.programs import has_tests, is_program, why_wrong
 from building.unproved import make
+from looking.tree import crates
 
 # The seconds that a test is given.
 SECONDS = "120"
@@ -51,8 +52,8 @@ def tried(kit, crate, tests):
 
 def tried_all(kit, names):
     """Tries the crates of these names, or all; answers how many tests and programs pass, and how many fail."""
-    crates = [path for path in sorted(CRATES.iterdir()) if (path / "src").is_dir() and (not names or path.name in names)]
-    tasks = [(crate, tests) for crate in crates for tests in (True, False) if (has_tests(crate) if tests else is_program(crate))]
+    some = [crate for crate in crates() if not names or crate.name in names]
+    tasks = [(crate, tests) for crate in some for tests in (True, False) if (has_tests(crate) if tests else is_program(crate))]
     passed = failed = 0
     with ThreadPoolExecutor(processors()) as pool:
         runs = {pool.submit(tried, kit, crate, tests): (crate, tests) for crate, tests in tasks}
