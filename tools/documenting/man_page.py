@@ -1,9 +1,8 @@
 """Makes the man page of what the program and docs/REFERENCE.md say: `--help`, of each subcommand too, and the table of
 faults. Its examples, files and environment stand in man_examples.py."""
-import os
 import re
 
-from building.kit import ROOT
+from building.kit import text_of
 from documenting.help_text import Help
 from documenting.man_examples import ENVIRONMENT, EXAMPLES, FILES, WHERE
 
@@ -32,8 +31,7 @@ def plain(text):
 
 def faults():
     """The table of faults."""
-    with open(os.path.join(ROOT, "docs/REFERENCE.md"), encoding="utf-8") as file:
-        rows = [found.groups() for found in map(FAULT.fullmatch, file.read().splitlines()) if found]
+    rows = [found.groups() for found in map(FAULT.fullmatch, text_of("docs/REFERENCE.md").splitlines()) if found]
     out = []
     for number, name, what, where, remedy in rows:
         text = f"{plain(what)}{f' ({plain(where)})' if where.strip() else ''}: {plain(remedy)}"

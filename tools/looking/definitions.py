@@ -23,8 +23,8 @@ import sys
 import textwrap
 from collections import namedtuple
 
+from building.kit import text_of, write
 from looking.reach import House
-from looking.tree import ROOT
 
 PAGE = "docs/DEFINITIONS.md"
 PROVED = "docs/PROOF.md"
@@ -42,10 +42,6 @@ WIDTH = 120
 # A list of the page: its title, the line over its rows, these by their files, the line under them, and what
 # docs/PROOF.md misnames.
 List = namedtuple("List", "title told rows types lost")
-
-
-def text_of(path):
-    return (ROOT / path).read_text()
 
 
 def wrapped(text):
@@ -201,7 +197,7 @@ def look(words):
         return None
     lines, parts = text_of(PAGE).splitlines(), list(house.lists())
     if words:
-        (ROOT / PAGE).write_text(written(lines, parts))
+        write(PAGE, written(lines, parts))
         lines = text_of(PAGE).splitlines()
     found = [f"{PAGE}: {part.title}: {one}" if one else "" for part in parts for one in differences(lines, part)]
     failed = [one for one in found if one]
