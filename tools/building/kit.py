@@ -126,17 +126,15 @@ def known_costs():
 
 def sum_of_sources():
     """A sum of all that the program is made of."""
-    whole = hashlib.sha256()
-    for name in ("crates.txt", "HANDLES"):
-        with open(os.path.join(ROOT, name), "rb") as file:
-            whole.update(repr((name, file.read())).encode())
+    whole, paths = hashlib.sha256(), [os.path.join(ROOT, name) for name in ("crates.txt", "HANDLES")]
     for crate in crates_below():
         for part in ("src", "specs", "proofs"):
             for at, folders, names in os.walk(os.path.join(ROOT, "crates", crate, part)):
                 folders.sort()
-                for path in (os.path.join(at, name) for name in sorted(names)):
-                    with open(path, "rb") as file:
-                        whole.update(repr((os.path.relpath(path, ROOT), file.read())).encode())
+                paths += [os.path.join(at, name) for name in sorted(names)]
+    for path in paths:
+        with open(path, "rb") as file:
+            whole.update(repr((os.path.relpath(path, ROOT), file.read())).encode())
     return whole.hexdigest()
 
 
