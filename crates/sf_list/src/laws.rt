@@ -1,4 +1,4 @@
-//! Laws of listings and of changes, each the contract of a function that does nothing.
+//! Laws of listings and of changes, each the contract of a function that does nothing, or only calls other laws.
 
 ghost use Rattle.std.specs.Prelude.{◌≡◌, ℕ, List, [], Option, Some, None, Contains, count_by, if◌then◌else◌, true};
 ghost use Rattle.sf_insn.specs.declared.input.Input.{Input};
