@@ -1,4 +1,4 @@
-//! Laws of the definitions, each the contract of a function that does nothing.
+//! Laws of the definitions, each the contract of a function that does nothing, or only calls other laws.
 
 ghost use Rattle.std.specs.Prelude.{◌≡◌, ℕ, List};
 ghost use Rattle.sf_insn.specs.declared.input.Input.{Input};

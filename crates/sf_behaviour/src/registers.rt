@@ -21,7 +21,7 @@ pub(crate) const X: Register = 1;
 pub(crate) const SCRATCH: Register = 2;
 
 /// The variable of the register's highest bit. Two registers have 64 variables together, in turns.
-pub(crate) fn highest_bit(register: Register) -> u16
+pub(crate) fn first_variable_of(register: Register) -> u16
     requires { IsRegister register }
     ensures is { result ≡ register_first register }
     ensures small { result < 16384 }
@@ -37,5 +37,5 @@ pub(crate) fn register_word(store: &mut Store, register: Register) -> Result<Wor
     ensures keeps { KeepsStore store.old store.new }
     ensures spent { IfErr result (λ e. e ≡ Fault.Spent → IsFull store.new) }
 {
-    Ok(variable_word(store, highest_bit(register), 2)?)
+    Ok(variable_word(store, first_variable_of(register), 2)?)
 }

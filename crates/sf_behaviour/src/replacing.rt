@@ -7,7 +7,7 @@ ghost use Rattle.sf_behaviour.specs.Words.{IsTruthOf, IsWord, IsWordOf};
 ghost use Rattle.sf_behaviour.specs.Registers.{register_bit, with_register, IsRegister};
 ghost use Rattle.sf_behaviour.specs.Replacing.{IsReplaced, AreReplaced};
 
-use crate::registers::{Register, highest_bit};
+use crate::registers::{Register, first_variable_of};
 use crate::words::Word;
 use sf_diagram::{Fault, Id, Node, Store, choose};
 use std::alloc::Global;
@@ -31,7 +31,7 @@ fn first_past(register: Register) -> u16
     requires { IsRegister register }
     ensures { (w : ℕ) → result ≤ w → register_bit register w ≡ None }
 {
-    highest_bit(register) + 64
+    first_variable_of(register) + 64
 }
 
 /// The diagram that is 1 where a variable is true once the word stands in the place of the register, else 0.

@@ -1,24 +1,9 @@
 ghost use Rattle.std.specs.Prelude.{◌≡◌, ◌<◌};
 ghost use Rattle.sf_diagram.specs.Trees.{bits_with};
-ghost use Rattle.sf_behaviour.specs.InputBits.{number_by, input_first, input_by};
+ghost use Rattle.sf_behaviour.specs.InputBits.{number_by, input_by};
 
+use sf_behaviour::first_variable;
 use sf_insn::Input;
-
-/// Where each word of an input stands in the order of the variables: architecture, number of the call, arguments,
-/// instruction pointer, of two halves the upper one first.
-const PLACES: [u16; 16] = [1, 0, 15, 14, 3, 2, 5, 4, 7, 6, 9, 8, 11, 10, 13, 12];
-
-/// The variables of registers stand before those of an input.
-const REGISTER_BITS: u16 = 18 * 32;
-
-/// The variable of the highest bit of a word of an input.
-fn first_variable(word: usize) -> u16
-    requires { word < 16 }
-    ensures is { result ≡ input_first word }
-    ensures small { result < 16384 }
-{
-    REGISTER_BITS + 32 * PLACES[word]
-}
 
 fn is_true(variables: &[u16], variable: u16) -> bool
     ensures { result ≡ bits_with variables.now variable }

@@ -1,4 +1,4 @@
-//! Laws of the definitions: contracts of functions that do nothing else.
+//! Laws of the definitions, each the contract of a function that does nothing, or only calls other laws.
 
 ghost use Rattle.std.specs.Prelude.{◌≡◌, ℕ, List, Option, length};
 ghost use Rattle.sf_check.specs.declared.insn.Insn.{Insn};
