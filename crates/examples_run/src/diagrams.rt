@@ -32,7 +32,7 @@ fn variables_of(alloc: Global, input: &Input) -> Result<Vec<u16>, AllocError> {
     Ok(variables)
 }
 
-/// The answer that a diagram has for an input. The caller's condition: it is there.
+/// The answer that a diagram has for an input.
 fn answer_by(alloc: Global, store: &Store, id: Id, input: &Input) -> Result<Answer, AllocError>
     requires { id < length store.now.trees }
 {

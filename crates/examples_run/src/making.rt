@@ -66,7 +66,7 @@ fn store_insn(numbers: &mut Numbers) -> RawInsn {
     }
 }
 
-/// A test that skips so many instructions on one of its sides. The caller's condition: those are fewer than 256.
+/// A test that skips so many instructions on one of its sides.
 fn test(numbers: &mut Numbers, count: u32) -> RawInsn
     requires { count < 256 }
 {
@@ -78,7 +78,7 @@ fn test(numbers: &mut Numbers, count: u32) -> RawInsn
     }
 }
 
-/// A step of three instructions, with so many steps behind it. The caller's condition: those are fewer than 80.
+/// A step of three instructions, with so many steps behind it.
 fn random_step(numbers: &mut Numbers, behind: u32) -> [RawInsn; 3]
     requires { behind < 80 }
 {

@@ -24,7 +24,7 @@ impl Numbers {
         n
     }
 
-    /// The next number, modulo a limit. The caller's condition: that isn't 0.
+    /// The next number, modulo a limit.
     pub fn below(&mut self, limit: u32) -> u32
         requires { 0 < limit }
         ensures { result < limit }

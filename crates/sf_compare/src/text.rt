@@ -106,15 +106,10 @@ pub fn write_comparison<W: Write>(
     comparison: &Comparison,
     out: &mut W,
 ) -> Result<(), Fault>
-    // The text is written, where the writer's bytes are known.
     ensures written { OnOk result (Appends (W.contents out.old) (W.contents out.new)
         (comparison_text comparison.now)) }
-
-    // After an error a beginning of the text is written.
     ensures begun { OnErr result (AppendsFront (W.contents out.old) (W.contents out.new)
         (comparison_text comparison.now)) }
-
-    // The only errors are that writing failed, or that memory ran out: then nothing was written.
     ensures refused { IfErr result (λ e. (e ≡ WriteFault)
         ⊎ ((e ≡ MemoryFault) × (out.new ≡ out.old))) }
 {

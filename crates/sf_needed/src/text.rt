@@ -114,15 +114,10 @@ pub fn write_needed<W: Write>(
     needs: &NeededFilters,
     out: &mut W,
 ) -> Result<(), Fault>
-    // The text is written, where the writer's bytes are known.
     ensures written { OnOk result (Appends (W.contents out.old) (W.contents out.new)
         (needs_text needs.now)) }
-
-    // After an error a beginning of the text is written.
     ensures begun { OnErr result (AppendsFront (W.contents out.old) (W.contents out.new)
         (needs_text needs.now)) }
-
-    // The only errors are that writing failed, or that memory ran out: then nothing was written.
     ensures refused { IfErr result (λ e. (e ≡ WriteFault)
         ⊎ ((e ≡ MemoryFault) × (out.new ≡ out.old))) }
 {
