@@ -5,7 +5,7 @@ use Rattle.std.specs.List.{All}
 use Rattle.std.proofs.lemmas.Bool.{eqb-true}
 use Rattle.std.proofs.lemmas.Bool.Decides.{nat_tests}
 use Rattle.std.specs.Arc.{arc_value}
-use Rattle.std.proofs.lemmas.List.Elements.{All-head, All-tail, All-cons, All-nil, All-map}
+use Rattle.std.proofs.lemmas.List.Elements.{All-head, All-tail, All-append, All-cons, All-nil, All-map, All-weaker}
 use Rattle.sf_piece.specs.Pieces.{PieceData, StepData, WorkData, Split, Settled, Empty}
 use Rattle.sf_book.specs.Books.{OutstandingData, BookData, IsLawfulBook, IsOutstanding}
 use Rattle.sf_book.specs.Changes.{outstanding_at, with_lease_at, with_lease, without, CommitsAs, Leases, MayCommit, Refuses}
@@ -117,18 +117,16 @@ given_back e = let same : (e.id == e.id) ≡ true = grind (arith, nat_tests) in 
 children_free : (es : List OutstandingData) (i j : ℕ) (f t : PieceData) → IsFree es
     → IsFree (map (with_lease_at j false) (map (with_lease_at i false)
     (es ++ record { id = i; piece = f; leased = true } ∷ record { id = j; piece = t; leased = true } ∷ [])))
-children_free [] i j f t free =
-    let F : OutstandingData = with_lease_at i false (record { id = i; piece = f; leased = true }) in
-    let T : OutstandingData = with_lease_at i false (record { id = j; piece = t; leased = true }) in
-    let first : F.leased ≡ false = given_back (record { id = i; piece = f; leased = true }) in
-    All-cons Free (with_lease_at j false F) (with_lease_at j false T ∷ []) (marked_free j F first)
-    (All-cons Free (with_lease_at j false T) [] (given_back T) (All-nil Free))
-children_free (e ∷ es) i j f t free =
-    let E : OutstandingData = with_lease_at i false e in
-    let R = map (with_lease_at j false) (map (with_lease_at i false)
-    (es ++ record { id = i; piece = f; leased = true } ∷ record { id = j; piece = t; leased = true } ∷ [])) in
-    All-cons Free (with_lease_at j false E) R (marked_free j E (marked_free i e (All-head Free e es free)))
-    (children_free es i j f t (All-tail Free e es free))
+children_free es i j f t free =
+    let F : OutstandingData = record { id = i; piece = f; leased = true } in
+    let T : OutstandingData = record { id = j; piece = t; leased = true } in
+    let Q : OutstandingData → Type 0 = λ e. Free (with_lease_at j false (with_lease_at i false e)) in
+    All-map Free (with_lease_at j false) (map (with_lease_at i false) (es ++ F ∷ T ∷ []))
+    (All-map (λ (e : OutstandingData). Free (with_lease_at j false e)) (with_lease_at i false) (es ++ F ∷ T ∷ [])
+    (All-append Q es (F ∷ T ∷ [])
+    (All-weaker Free Q (λ e h. marked_free j (with_lease_at i false e) (marked_free i e h)) es free)
+    (All-cons Q F (T ∷ []) (marked_free j (with_lease_at i false F) (given_back F))
+    (All-cons Q T [] (given_back (with_lease_at i false T)) (All-nil Q)))))
 
 pub split_turn : (b c : BookData) (x : Lease) (i j : ℕ) (p : PieceData) (n : List Bool) (s : StepData) → MayWork b x
     → CommitsAs b x.id p n s (Some (i, j)) c

@@ -1,10 +1,11 @@
 -- Each step of a handle keeps the rule of the bench.
-use Rattle.std.proofs.Common.{◌≡◌, ◌≢◌, ℕ, zero, suc, ◌+◌, ◌-◌, ◌<◌, ◌≤◌, ◌⊎◌, min, List, [], ◌∷◌, ◌++◌, All, get_or, length, drop, set, slice_get, Option, Some, None, MatchOption, Result, Ok, Err, MatchResult, sym, refl, ap, ◌∙◌, subst, inl, inr, ⊎_elim, append_assoc, append-nil, length-append, length-drop, length-set, add-one, arith}
+use Rattle.std.proofs.Common.{◌≡◌, ◌≢◌, ℕ, zero, suc, ◌+◌, ◌-◌, ◌<◌, ◌≤◌, min, List, [], ◌∷◌, ◌++◌, All, get_or, length, drop, set, slice_get, Option, Some, None, MatchOption, Result, Ok, Err, MatchResult, sym, refl, ap, ◌∙◌, subst, inl, inr, append_assoc, append-nil, length-append, length-drop, length-set, add-one, arith}
 use mathlib.Core.Option.{some, some-injective, some-ne-none}
 use lib.ListN.{get_elem?}
-use Rattle.std.proofs.lemmas.List.{length-map}
-use Rattle.std.proofs.lemmas.List.Elements.{All-nil, All-push}
+use Rattle.std.proofs.lemmas.List.{length-map, drop-append-le}
+use Rattle.std.proofs.lemmas.List.Elements.{All-nil, All-cons, All-push}
 use Rattle.atomic_table.proofs.Lists.{at_set}
+use Rattle.crossbeam_deque.proofs.Phases.{at_lt}
 use Rattle.crossbeam_deque.specs.Tasks.{Pushes, Takes, Finds, FindsFew, Forks, Learns}
 use Rattle.crossbeam_deque.specs.Steals.{MatchSteal}
 use Rattle.crossbeam_deque.specs.declared.steal.Steal.{Steal}
@@ -25,21 +26,13 @@ module _ {T : Type 0} where
   abbrev pub AllByHandlesBelow : ℕ → List (Event T) → Type 0
   AllByHandlesBelow n es = All (λ (e : Event T). handle_of e < n) es
 
-  below_more : (i j : ℕ) (h : List (Event T)) → i ≤ j → AllByHandlesBelow i h → AllByHandlesBelow j h
-  below_more i j h le below = λ k d there. let lt : handle_of (get_or h k d) < i = below k d there in omega arith
-
   below_notby : (i : ℕ) (h : List (Event T)) → AllByHandlesBelow i h → NotBy i h
   below_notby i h below = λ k d there is. let lt : handle_of (get_or h k d) < i = below k d there in omega arith
 
-  puts_put : (h : List (Event T)) (x : T) → put_items (h ++ Put x ∷ []) ≡ put_items h ++ x ∷ []
-  puts_put [] x = refl
-  puts_put (Put y ∷ h) x = ap (λ (l : List T). y ∷ l) (puts_put h x)
-  puts_put (Got i ∷ h) x = puts_put h x
-
-  puts_got : (h : List (Event T)) (i : ℕ) → put_items (h ++ Got i ∷ []) ≡ put_items h
-  puts_got [] i = refl
-  puts_got (Put y ∷ h) i = ap (λ (l : List T). y ∷ l) (puts_got h i)
-  puts_got (Got j ∷ h) i = puts_got h i
+  pub puts_append : (a b : List (Event T)) → put_items (a ++ b) ≡ put_items a ++ put_items b
+  puts_append [] b = refl
+  puts_append (Put x ∷ a) b = ap (λ (l : List T). x ∷ l) (puts_append a b)
+  puts_append (Got i ∷ a) b = puts_append a b
 
   gots_put : (h : List (Event T)) (x : T) → got_count (h ++ Put x ∷ []) ≡ got_count h
   gots_put [] x = refl
@@ -68,11 +61,6 @@ module _ {T : Type 0} where
   lawful_le p g (Put y ∷ h) le l = let r = lawful_le (p + 1) g h (omega arith) l in omega arith
   lawful_le p g (Got i ∷ h) le l = let lt = l.0 in let r = lawful_le p (g + 1) h (omega arith) l.1 in omega arith
 
-  drop_snoc : (l : List T) (n : ℕ) (x : T) → n ≤ length l → drop n (l ++ x ∷ []) ≡ drop n l ++ x ∷ []
-  drop_snoc l zero x h = refl
-  drop_snoc [] (suc n) x h = absurd (omega arith)
-  drop_snoc (y ∷ l) (suc n) x h = drop_snoc l n x (omega arith)
-
   dropped : (l : List T) (n : ℕ) (x : T) (xs : List T) → drop n l ≡ x ∷ xs → (slice_get l n ≡ Some x)
       × (drop (suc n) l ≡ xs) × (n < length l)
   dropped [] zero x xs e = absurd (cc)
@@ -80,21 +68,28 @@ module _ {T : Type 0} where
   dropped (y ∷ l) zero x xs e = (ap (λ (z : T). Some z) (cc), cc, omega arith)
   dropped (y ∷ l) (suc n) x xs e = let r = dropped l n x xs e in (r.0, r.1, (let lt = r.2 in omega arith))
 
-  -- a view stands at a place that there is
-  pub at_below : (views : List (HandleView T)) (port : ℕ) (v : HandleView T) → get_elem? views port ≡ some v
-      → port < length views
-  at_below [] port v e = absurd (some-ne-none v (sym e))
-  at_below (x ∷ l) zero v e = omega arith
-  at_below (x ∷ l) (suc n) v e = let r = at_below l n v e in omega arith
+  -- a fact of every view in its place, where one view changes
+  pub set_each : (P : ℕ → HandleView T → Type 0) (views : List (HandleView T)) (port : ℕ) (w : HandleView T) → P port w
+      → ((j : ℕ) (u : HandleView T) → j ≢ port → get_elem? views j ≡ some u → P j u) → (j : ℕ) (u : HandleView T)
+      → get_elem? (set views port w) j ≡ some u → P j u
+  set_each P views port w mine others j u there = elim (at_set views port j w u there) [
+    | inl x ↦ subst (λ (y : ℕ × HandleView T). P y.0 y.1) (λ i. (sym x.0 i, x.1 i)) mine
+    | inr x ↦ others j u x.0 x.1
+  ]
 
-  at_end : (l : List (HandleView T)) (a b : HandleView T) (j : ℕ) → get_elem? (l ++ a ∷ []) j ≡ some b
-      → (get_elem? l j ≡ some b)
-      ⊎ ((j ≡ length l) × (a ≡ b))
-  at_end [] a b zero e = inr (refl, some-injective a b e)
-  at_end [] a b (suc j) e = absurd (some-ne-none b (sym e))
-  at_end (x ∷ xs) a b zero e = inl e
-  at_end (x ∷ xs) a b (suc j) e = ⊎_elim (λ (y : get_elem? xs j ≡ some b). inl y)
-      (λ (y : (j ≡ length xs) × (a ≡ b)). inr (ap suc y.0, y.1)) (at_end xs a b j e)
+  -- and where one comes to them
+  snoc_each : (P : ℕ → HandleView T → Type 0) (views : List (HandleView T)) (w : HandleView T)
+      → ((j : ℕ) (u : HandleView T) → get_elem? views j ≡ some u → P j u) → P (length views) w → (j : ℕ)
+      (u : HandleView T) → get_elem? (views ++ w ∷ []) j ≡ some u → P j u
+  snoc_each P [] w all mine zero u e = subst (P 0) (some-injective w u e) mine
+  snoc_each P [] w all mine (suc j) u e = absurd (some-ne-none u (sym e))
+  snoc_each P (x ∷ views) w all mine zero u e = all 0 u e
+  snoc_each P (x ∷ views) w all mine (suc j) u e =
+      snoc_each (λ n. P (suc n)) views w (λ n y at. all (suc n) y at) mine j u e
+
+  -- only the owner, at the place 0, has made handles, and it has made n
+  abbrev pub IsMaker : ℕ → ℕ → HandleView T → Type 0
+  IsMaker n port v = 0 < v.made → (port ≡ 0) × (v.made ≡ n)
 
   -- ---- one more event
 
@@ -107,17 +102,14 @@ module _ {T : Type 0} where
     All-push (λ (y : Event T). handle_of y ≢ e.number) f.0 s f.2 other,
   )
 
-  -- so do the ends that lie elsewhere
-  fit_more : (home : ℕ → ℕ) (port j : ℕ) (h : List (Event T)) (s : Event T) (es : List (End T))
-      → home (handle_of s) ≡ port
-      → j ≢ port → AreAt home j es → FitEnds h es → FitEnds (h ++ s ∷ []) es
-  fit_more home port j h s [] is other at f = tt
-  fit_more home port j h s (e ∷ es) is other at f = (
-    fits_more h s e (λ (same : handle_of s ≡ e.number). other (sym at.0 ∙ ap home (sym same) ∙ is)) f.0,
-    fit_more home port j h s es is other at.1 f.1,
-  )
+  -- ends that lie elsewhere are of other handles than the one whose own end lies here
+  pub not_here : (home : ℕ → ℕ) (port other : ℕ) (es : List (End T)) → home port ≡ port → other ≢ port
+      → AreAt home other es → All (λ (o : End T). o.number ≢ port) es
+  not_here home port other [] here ne at = All-nil (λ (o : End T). o.number ≢ port)
+  not_here home port other (e ∷ es) here ne at = All-cons (λ (o : End T). o.number ≢ port) e es
+      (λ (is : e.number ≡ port). ne (sym at.0 ∙ ap home is ∙ here)) (not_here home port other es here ne at.1)
 
-  -- and the ends that were joined into the handle that makes the step
+  -- so do ends of other handles
   fit_others : (port : ℕ) (h : List (Event T)) (s : Event T) (es : List (End T)) → handle_of s ≡ port
       → All (λ (o : End T). o.number ≢ port) es → FitEnds h es → FitEnds (h ++ s ∷ []) es
   fit_others port h s [] is apart f = tt
@@ -155,25 +147,18 @@ module _ {T : Type 0} where
         left = left;
         ports = subst (λ n. AllByHandlesBelow n h) (sym long)
             (All-push (λ (y : Event T). handle_of y < length views) k.history e k.ports
-            (let lt = at_below views port v at in omega arith));
+            (let lt = at_lt views port v at in omega arith));
         fresh = λ i le. k.fresh i (omega arith);
-        each = λ j u there. ⊎_elim
-            (λ (x : (j ≡ port) × (w ≡ u)). subst (λ (y : ℕ × HandleView T). Sits h k.home y.0 y.1)
-            (λ i. (sym x.0 i, x.1 i))
-            (own_sits k.home port k.history e v.made v.ends mine (k.each port v at)))
-            (λ (x : (j ≢ port) × (get_elem? views j ≡ some u)). let f = k.each j u x.1 in record {
-              fits = fit_more k.home port j k.history e u.ends (ap k.home mine ∙ mineat) x.0 f.at f.fits;
+        each = set_each (Sits h k.home) views port w
+            (own_sits k.home port k.history e v.made v.ends mine (k.each port v at))
+            (λ j u other there. let f = k.each j u there in record {
+              fits = fit_others port k.history e u.ends mine (not_here k.home port j u.ends mineat other f.at) f.fits;
               at = f.at;
               own = f.own;
-            })
-            (at_set views port j w u there);
-        all_made = λ j u there some_made. ⊎_elim
-            (λ (x : (j ≡ port) × (w ≡ u)).
-            let made : u.made ≡ v.made = ap (λ (y : HandleView T). y.made) (sym x.1) in
-            let old = k.all_made port v at (omega arith) in (x.0 ∙ old.0, made ∙ old.1 ∙ sym long))
-            (λ (x : (j ≢ port) × (get_elem? views j ≡ some u)). let old = k.all_made j u x.1 some_made in
-            (old.0, old.1 ∙ sym long))
-            (at_set views port j w u there);
+            });
+        all_made = set_each (IsMaker (length (set views port w))) views port w
+            (λ some_made. let old = k.all_made port v at some_made in (old.0, old.1 ∙ sym long))
+            (λ j u other there some_made. let old = k.all_made j u there some_made in (old.0, old.1 ∙ sym long));
       }
 
   -- a handle's own end has the number of the handle, and lies in its view
@@ -198,8 +183,9 @@ module _ {T : Type 0} where
       let own = own_at k.home port h v.made v.ends live (k.each port v at) in (
         view_after v (h ++ Put x ∷ []),
         grown items (items ++ x ∷ []) views port v (Put x) k at (sym zeroth) own.1 (lawful_put 0 0 h x k.lawful)
-            (ap (λ (l : List T). l ++ x ∷ []) k.left ∙ sym (drop_snoc (put_items h) (got_count h) x (omega arith))
-            ∙ (λ i. drop (sym (gots_put h x) i) (sym (puts_put h x) i))),
+            (ap (λ (l : List T). l ++ x ∷ []) k.left
+            ∙ sym (drop-append-le (got_count h) (put_items h) (x ∷ []) (omega arith))
+            ∙ (λ i. drop (sym (gots_put h x) i) (sym (puts_append h (Put x ∷ [])) i))),
         λ y e. let same : x ≡ y = cc (e) in (
           h,
           moment items views port v k at,
@@ -207,19 +193,17 @@ module _ {T : Type 0} where
         ),
       )
 
-  takes_one : (port : ℕ) (v : HandleView T) (xs items : List T) (views : List (HandleView T)) → 0 < length v.ends
-      → 0 < length xs → length xs < 2
-      → BenchKept (xs ++ items) views → get_elem? views port ≡ some v → (w : HandleView T)
-      × BenchKept items (set views port w)
-      × GetsAll v xs w
-  takes_one port v [] items views live some_one one k at = absurd (omega arith)
-  takes_one port v (x ∷ []) items views live some_one one k at =
+  pub takes : (port : ℕ) (v : HandleView T) → 0 < length v.ends → Takes BenchKept port v 1 (GetsAll v)
+  takes port v live [] items views some_one one k at = absurd (omega arith)
+  takes port v live (x ∷ []) items views some_one one k at =
       let h : List (Event T) = k.history in let d = dropped (put_items h) (got_count h) x items (sym k.left) in
+      let puts : put_items (h ++ Got port ∷ []) ≡ put_items h =
+      puts_append h (Got port ∷ []) ∙ append-nil (put_items h) in
       let own = own_at k.home port h v.made v.ends live (k.each port v at) in (
         view_after v (h ++ Got port ∷ []),
         grown (x ∷ items) items views port v (Got port) k at refl own.1
             (lawful_got 0 0 h port k.lawful (let lt = d.2 in omega arith))
-            (sym d.1 ∙ (λ i. drop ((sym (gots_got h port ∙ add-one (got_count h))) i) (sym (puts_got h port) i))),
+            (sym d.1 ∙ (λ i. drop ((sym (gots_got h port ∙ add-one (got_count h))) i) (sym puts i))),
         λ y e. let same : x ≡ y = cc (e) in (
           h,
           moment (x ∷ items) views port v k at,
@@ -227,10 +211,7 @@ module _ {T : Type 0} where
           ap (λ j. view_after v (h ++ Got j ∷ [])) (sym own.0),
         ),
       )
-  takes_one port v (x ∷ y ∷ xs) items views live some_one one k at = absurd (omega arith)
-
-  pub takes : (port : ℕ) (v : HandleView T) → 0 < length v.ends → Takes BenchKept port v 1 (GetsAll v)
-  takes port v live xs items views some_one one k at = takes_one port v xs items views live some_one one k at
+  takes port v live (x ∷ y ∷ xs) items views some_one one k at = absurd (omega arith)
 
   all_got : (port : ℕ) (v : HandleView T) (items : List T) (views : List (HandleView T)) → length items ≡ 0
       → BenchKept items views
@@ -267,50 +248,25 @@ module _ {T : Type 0} where
         home = k.home;
         lawful = k.lawful;
         left = k.left;
-        ports = subst (λ n. AllByHandlesBelow n h) (sym more)
-            (below_more (length views) (length views + 1) h (omega arith) k.ports);
+        ports = λ i d there. let lt : handle_of (get_or h i d) < length views = k.ports i d there in omega arith;
         fresh = λ i le. k.fresh i (omega arith);
-        each = λ j u there. ⊎_elim
-            (λ (x : get_elem? vs j ≡ some u). ⊎_elim
-            (λ (y : (j ≡ port) × (l ≡ u)). subst (λ (z : ℕ × HandleView T). Sits h k.home z.0 z.1)
-            (λ i. (sym y.0 i, y.1 i)) (record { fits = mine.fits; at = mine.at; own = mine.own }))
-            (λ (y : (j ≢ port) × (get_elem? views j ≡ some u)). k.each j u y.1) (at_set views port j l u x))
-            (λ (x : (j ≡ length vs) × (r ≡ u)). subst (λ (z : ℕ × HandleView T). Sits h k.home z.0 z.1)
-            (λ i. (sym x.0 i, x.1 i)) (record {
+        each = snoc_each (Sits h k.home) vs r (set_each (Sits h k.home) views port l
+            (record { fits = mine.fits; at = mine.at; own = mine.own }) (λ j u other there. k.each j u there)) (record {
               fits = (
                 (h, refl, below_notby v.made h (subst (λ n. AllByHandlesBelow n h) (sym made) k.ports)),
                 tt,
               );
               at = (k.fresh v.made (omega arith) ∙ made ∙ sym long, tt);
               own = (made ∙ sym long, All-nil (λ (o : End T). o.number ≢ length vs));
-            }))
-            (at_end vs r u j there);
-        all_made = λ j u there some_made. ⊎_elim
-            (λ (x : get_elem? vs j ≡ some u). ⊎_elim
-            (λ (y : (j ≡ port) × (l ≡ u)). let is : u.made ≡ v.made + 1 = ap (λ (z : HandleView T). z.made) (sym y.1) in
-            (y.0 ∙ m.0, omega arith))
-            (λ (y : (j ≢ port) × (get_elem? views j ≡ some u)). let old = k.all_made j u y.1 some_made in
-            absurd (y.0 (old.0 ∙ sym m.0))) (at_set views port j l u x))
-            (λ (x : (j ≡ length vs) × (r ≡ u)).
-            let none : u.made ≡ 0 = ap (λ (z : HandleView T). z.made) (sym x.1) in absurd (omega arith))
-            (at_end vs r u j there);
+            });
+        all_made = snoc_each (IsMaker (length (vs ++ r ∷ []))) vs r
+            (set_each (IsMaker (length (vs ++ r ∷ []))) views port l
+            (λ _. let is : l.made ≡ v.made + 1 = refl in (m.0, omega arith))
+            (λ j u other there some_made. absurd (other ((k.all_made j u there some_made).0 ∙ sym m.0))))
+            (λ some_made. absurd (let none : r.made ≡ 0 = refl in omega arith));
       }
 
   -- ---- what the bodies need
-
-  opened_at : (port : ℕ) (v : HandleView T) → get_elem? (new_view 0 1 ∷ []) port ≡ some v → Sits [] (λ i. i) port v
-  opened_at zero v at = subst (λ (u : HandleView T). Sits [] (λ i. i) 0 u)
-      (some-injective (new_view 0 1) v at) (record {
-        fits = (([], refl, All-nil (λ (y : Event T). handle_of y ≢ 0)), tt);
-        at = (refl, tt);
-        own = (refl, All-nil (λ (o : End T). o.number ≢ 0));
-      })
-  opened_at (suc port) v at = absurd (some-ne-none v (sym at))
-
-  opened_made : (port : ℕ) (v : HandleView T) → get_elem? (new_view 0 1 ∷ []) port ≡ some v
-      → (port ≡ 0) × (v.made ≡ 1)
-  opened_made zero v at = (refl, ap (λ (u : HandleView T). u.made) (sym (some-injective (new_view 0 1) v at)))
-  opened_made (suc port) v at = absurd (some-ne-none v (sym at))
 
   pub opened : BenchKept {T = T} [] (new_view 0 1 ∷ [])
   opened = record {
@@ -320,8 +276,13 @@ module _ {T : Type 0} where
     left = refl;
     ports = All-nil (λ (e : Event T). handle_of e < 1);
     fresh = λ i le. refl;
-    each = λ port v at. opened_at port v at;
-    all_made = λ port v at some_made. opened_made port v at;
+    each = snoc_each (Sits [] (λ i. i)) [] (new_view 0 1) (λ j u none. absurd (some-ne-none u (sym none))) (record {
+      fits = (([], refl, All-nil (λ (y : Event T). handle_of y ≢ 0)), tt);
+      at = (refl, tt);
+      own = (refl, All-nil (λ (o : End T). o.number ≢ 0));
+    });
+    all_made = snoc_each (IsMaker 1) [] (new_view 0 1) (λ j u none. absurd (some-ne-none u (sym none)))
+        (λ _. (refl, refl));
   }
 
   numbers_own : (es : List (End T)) (h : List (Event T)) → numbers_of (with_own es h) ≡ numbers_of es
@@ -340,28 +301,23 @@ module _ {T : Type 0} where
     numbers = ap (λ (u : HandleView T). numbers_of u.ends) is;
   }
 
-  keeps_got : (v w : HandleView T) (x : T) → GetsAll v (x ∷ []) w → KeepsHandles v w
-  keeps_got v w x gets = let g = gets x refl in keeps_after v w (g.0 ++ Got (own_number v.ends) ∷ []) g.3
-
-  keeps_put : (v w : HandleView T) (x : T) → PutsAll v (x ∷ []) w → KeepsHandles v w
-  keeps_put v w x puts = let p = puts x refl in keeps_after v w (p.0 ++ Put x ∷ []) p.2
-
   -- a put, a take and a steal keep the handles, whatever becomes of them
   pub put_keeps : (v w : HandleView T) (x : T) (X A B C : Type 0) (done : Result X T)
       → MatchResult done (λ _. PutsAll v (x ∷ []) w × A) (λ y. (y ≡ x) × (w ≡ v) × B × C) → KeepsHandles v w
-  put_keeps v w x X A B C (Ok _) h = keeps_put v w x h.0
+  put_keeps v w x X A B C (Ok _) h = let p = h.0 x refl in keeps_after v w (p.0 ++ Put x ∷ []) p.2
   put_keeps v w x X A B C (Err y) h = keeps_same v w h.1
 
   pub take_keeps : (v w : HandleView T) (found : Option T)
       → MatchOption found ((w ≡ v) × AllGot v) (λ x. GetsAll v (x ∷ []) w) → KeepsHandles v w
   take_keeps v w None h = keeps_same v w h.0
-  take_keeps v w (Some x) h = keeps_got v w x h
+  take_keeps v w (Some x) h = let g = h x refl in keeps_after v w (g.0 ++ Got (own_number v.ends) ∷ []) g.3
 
   pub steal_keeps : (v w : HandleView T) (P : Type 0) (found : Steal T)
       → MatchSteal found ((w ≡ v) × AllGot v) ((w ≡ v) × P) (λ x. GetsAll v (x ∷ []) w) → KeepsHandles v w
   steal_keeps v w P Empty h = keeps_same v w h.0
   steal_keeps v w P Retry h = keeps_same v w h.0
-  steal_keeps v w P (Success x) h = keeps_got v w x h
+  steal_keeps v w P (Success x) h = let g = h x refl in
+      keeps_after v w (g.0 ++ Got (own_number v.ends) ∷ []) g.3
 
   -- a view that has an end keeps one
   pub live_kept : (v w : HandleView T) → 0 < length v.ends → KeepsHandles v w → 0 < length w.ends

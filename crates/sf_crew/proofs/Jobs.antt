@@ -1,12 +1,13 @@
 -- The jobs of one view among all.
 use Rattle.std.proofs.lemmas.Grind.{common_steps}
-use Rattle.std.proofs.Common.{◌≡◌, ℕ, ◌≤◌, min, List, length, arith}
+use Rattle.std.proofs.Common.{◌≡◌, ℕ, ◌≤◌, min, List, length, ap, ◌∙◌, arith}
 use mathlib.Core.Option.{some}
 use lib.ListN.{get_elem?}
 use Rattle.sf_crew.specs.declared.board.view.BoardKey.{BoardKey}
 use Rattle.sf_crew.specs.declared.board.view.View.{View}
 use Rattle.sf_crew.specs.Views.{count_of_regions, jobs, once_below}
 use Rattle.sf_crew.specs.BoardRule.{Sound, Kept}
+use Rattle.sf_crew.specs.BoardSteps.{HasAllJobs}
 use Rattle.sf_crew.proofs.Totals.{times, total_at, total_only}
 
 pub jobs_once : (k : BoardKey) (n e : ℕ) (d least : ℕ → ℕ) (views : List View) (port : ℕ) (v : View)
@@ -19,16 +20,15 @@ idle_jobs : (k : BoardKey) (n : ℕ) (least : ℕ → ℕ) (x : ℕ) (u : View) 
     → times x (jobs u) ≡ 0
 idle_jobs k n least x u h none = grind (arith, common_steps)
 
-pub jobs_all : (k : BoardKey) (n e : ℕ) (d least : ℕ → ℕ) (views : List View) (port : ℕ) (v : View)
-    → get_elem? views port ≡ some v → Kept k n e d least views → v.joined_seats ≡ k.seats → (x : ℕ)
-    → times x (jobs v) ≡ once_below x (min n (count_of_regions k))
-jobs_all k n e d least views port v at h whole x = search (arith, total_only, idle_jobs)
-
 idle_count : (k : BoardKey) (n : ℕ) (least : ℕ → ℕ) (u : View) → Sound k n least u → u.joined_seats ≡ 0
     → length (jobs u) ≡ 0
 idle_count k n least u h none = grind (arith, common_steps)
 
-pub count_all : (k : BoardKey) (n e : ℕ) (d least : ℕ → ℕ) (views : List View) (port : ℕ) (v : View)
-    → get_elem? views port ≡ some v → Kept k n e d least views → v.joined_seats ≡ k.seats
-    → length (jobs v) ≡ min n (count_of_regions k)
-count_all k n e d least views port v at h whole = search (arith, total_only, idle_count)
+-- where the word of the next job is past the last one, and all seats are joined in a view, it has each job
+pub all_jobs : (k : BoardKey) (n e : ℕ) (d least : ℕ → ℕ) (views : List View) (port : ℕ) (v : View)
+    → get_elem? views port ≡ some v → Kept k n e d least views → count_of_regions k ≤ n → HasAllJobs k v
+all_jobs k n e d least views port v at h past = λ whole. (
+  (let count : length (jobs v) ≡ min n (count_of_regions k) = search (arith, total_only, idle_count) in omega arith),
+  λ x. (let all : times x (jobs v) ≡ once_below x (min n (count_of_regions k)) =
+      search (arith, total_only, idle_jobs) in all ∙ ap (once_below x) (omega arith)),
+)

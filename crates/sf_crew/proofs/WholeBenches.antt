@@ -1,10 +1,13 @@
 -- Where all handles are joined there is just one history.
 use Rattle.std.proofs.Common.{◌≡◌, ◌≢◌, ℕ, zero, suc, ◌+◌, ◌<◌, ◌⊎◌, List, [], ◌∷◌, ◌++◌, Any, Contains, get_or, length, Option, Some, None, MatchOption, sym, refl, ap, ◌∙◌, subst, inl, inr, ⊎_elim, append_assoc, append-nil, length-append, arith}
+use Rattle.std.proofs.lemmas.List.{nil_from_length, same_from_push}
+use Rattle.std.proofs.lemmas.List.Elements.{All-pop}
 use Rattle.std.proofs.lemmas.Option.{slice_get_past}
+use Rattle.crossbeam_deque.proofs.Shelves.{last_of_some}
 use Rattle.sf_crew.specs.declared.benches.history.Event.{Event}
 use Rattle.sf_crew.specs.declared.benches.history.End.{End}
 use Rattle.sf_crew.specs.declared.benches.history.HandleView.{HandleView}
-use Rattle.sf_crew.specs.History.{handle_of, put_items, got_count, first_left, FitsEnd, FitEnds, HasHistory, numbers_of, GetsFirst, AllGot, IsWhole, IsKnownFirst}
+use Rattle.sf_crew.specs.History.{handle_of, put_items, got_count, first_left, FitsEnd, FitEnds, HasHistory, numbers_of, AllGot, IsWhole, IsKnownFirst}
 use Rattle.sf_crew.specs.BenchRule.{GetsAll}
 
 module _ {T : Type 0} where
@@ -14,14 +17,7 @@ module _ {T : Type 0} where
 
   last_of : (h : List (Event T)) → (h ≡ []) ⊎ HasLast h
   last_of [] = inl refl
-  last_of (e ∷ h) = ⊎_elim
-      (λ (x : h ≡ []). inr ([], e, ap (λ (l : List (Event T)). e ∷ l) x))
-      (λ (x : HasLast h). inr (e ∷ x.0, x.1, ap (λ (l : List (Event T)). e ∷ l) x.2)) (last_of h)
-
-  -- the element at the last place of a list with an end put on
-  at_last : (a : List (Event T)) (s d : Event T) → get_or (a ++ s ∷ []) (length a) d ≡ s
-  at_last [] s d = refl
-  at_last (e ∷ a) s d = at_last a s d
+  last_of (e ∷ h) = inr (last_of_some (e ∷ h) (omega arith))
 
   -- an end that is joined fits
   pub fits_at : (h : List (Event T)) (es : List (End T)) (k : ℕ) (e : End T) → k < length es → get_or es k e ≡ e
@@ -41,14 +37,6 @@ module _ {T : Type 0} where
   pub joined_end : (es : List (End T)) (i : ℕ) → Contains (numbers_of es) i → Any (λ (e : End T). e.number ≡ i) es
   joined_end es i there = let r = end_at es i there.0 there.1 there.2 in (there.0, r.0, r.1, r.2, r.3)
 
-  same_last : (a b : List (Event T)) (s t : Event T) → a ++ s ∷ [] ≡ b ++ t ∷ [] → s ≡ t
-  same_last [] [] s t e = cc
-  same_last [] (y ∷ b) s t e = let l = ap (λ (z : List (Event T)). length z) e in
-      let m = length-append b (t ∷ []) in absurd (omega arith)
-  same_last (x ∷ a) [] s t e = let l = ap (λ (z : List (Event T)). length z) e in
-      let m = length-append a (s ∷ []) in absurd (omega arith)
-  same_last (x ∷ a) (y ∷ b) s t e = same_last a b s t (cc)
-
   -- the end whose handle made the last step knows the whole history
   knows_all : (a : List (Event T)) (s : Event T) (e : End T) → handle_of s ≡ e.number → FitsEnd (a ++ s ∷ []) e
       → a ++ s ∷ [] ≡ e.events
@@ -57,12 +45,10 @@ module _ {T : Type 0} where
       (λ (x : HasLast f.0).
       let whole : a ++ s ∷ [] ≡ (e.events ++ x.0) ++ x.1 ∷ [] =
       f.1 ∙ ap (λ (l : List (Event T)). e.events ++ l) x.2 ∙ sym (append_assoc e.events x.0 (x.1 ∷ [])) in
-      let same : s ≡ x.1 = same_last a (e.events ++ x.0) s x.1 whole in
-      let long = length-append x.0 (x.1 ∷ []) in
-      let len : length f.0 ≡ length (x.0 ++ x.1 ∷ []) = ap (λ (l : List (Event T)). length l) x.2 in
-      let other : handle_of (get_or f.0 (length x.0) x.1) ≢ e.number = f.2 (length x.0) x.1 (omega arith) in
-      absurd (other (ap (λ (l : List (Event T)). handle_of (get_or l (length x.0) x.1)) x.2
-      ∙ ap (λ (y : Event T). handle_of y) (at_last x.0 x.1 x.1 ∙ sym same) ∙ by)))
+      let same : s ≡ x.1 = (same_from_push a (e.events ++ x.0) s x.1 whole).1 in
+      let other : handle_of x.1 ≢ e.number =
+      (All-pop (λ (y : Event T). handle_of y ≢ e.number) f.0 x.0 (Some x.1) x.2 f.2).1 in
+      absurd (other (ap (λ (y : Event T). handle_of y) (sym same) ∙ by)))
       (last_of f.0)
 
   -- each history that fits all ends begins each other such history
@@ -71,12 +57,8 @@ module _ {T : Type 0} where
   begins v h k whole p q = ⊎_elim
       (λ (x : h ≡ []). (k, ap (λ (l : List (Event T)). l ++ k) (sym x)))
       (λ (x : HasLast h).
-      let long = length-append x.0 (x.1 ∷ []) in
-      let len : length h ≡ length (x.0 ++ x.1 ∷ []) = ap (λ (l : List (Event T)). length l) x.2 in
-      let below : handle_of (get_or h (length x.0) x.1) < v.made = p.made whole.0 (length x.0) x.1 (omega arith) in
-      let is : get_or h (length x.0) x.1 ≡ x.1 =
-      ap (λ (l : List (Event T)). get_or l (length x.0) x.1) x.2 ∙ at_last x.0 x.1 x.1 in
-      let lt : handle_of x.1 < v.made = subst (λ (y : Event T). handle_of y < v.made) is below in
+      let lt : handle_of x.1 < v.made =
+      (All-pop (λ (y : Event T). handle_of y < v.made) h x.0 (Some x.1) x.2 (p.made whole.0)).1 in
       let j = joined_end v.ends (handle_of x.1) (whole.1 (handle_of x.1) lt) in
       let ph : FitsEnd h j.1 = fits_at h v.ends j.0 j.1 j.2 j.3 p.ends in
       let qk : FitsEnd k j.1 = fits_at k v.ends j.0 j.1 j.2 j.3 q.ends in
@@ -91,23 +73,14 @@ module _ {T : Type 0} where
       let a = begins v h k whole p q in let b = begins v k h whole q p in
       let la : length k ≡ length h + length a.0 = ap (λ (l : List (Event T)). length l) a.1 ∙ length-append h a.0 in
       let lb : length h ≡ length k + length b.0 = ap (λ (l : List (Event T)). length l) b.1 ∙ length-append k b.0 in
-      ⊎_elim
-      (λ (x : a.0 ≡ []). sym (a.1 ∙ ap (λ (l : List (Event T)). h ++ l) x ∙ append-nil h))
-      (λ (x : HasLast a.0). let lx : length a.0 ≡ length (x.0 ++ x.1 ∷ []) =
-      ap (λ (l : List (Event T)). length l) x.2 in
-      let m = length-append x.0 (x.1 ∷ []) in absurd (omega arith))
-      (last_of a.0)
-
-  none_first : (v : HandleView T) → IsWhole v → AllGot v → IsKnownFirst v None
-  none_first v whole all h fits =
-      let same : all.0 ≡ h = pinned v all.0 h whole all.1 fits in let full = all.2 in
-      sym (slice_get_past (put_items all.0) (got_count all.0) (omega arith)) ∙ ap first_left same
-
-  some_first : (v w : HandleView T) (x : T) → IsWhole v → GetsFirst v x w → IsKnownFirst v (Some x)
-  some_first v w x whole g h fits = let same : g.0 ≡ h = pinned v g.0 h whole g.1 fits in sym g.2 ∙ ap first_left same
+      let none : a.0 ≡ [] = nil_from_length a.0 (omega arith) in
+      sym (a.1 ∙ ap (λ (l : List (Event T)). h ++ l) none ∙ append-nil h)
 
   -- what a take finds where all handles are joined
   pub known_first : (v w : HandleView T) (found : Option T) → IsWhole v
       → MatchOption found ((w ≡ v) × AllGot v) (λ x. GetsAll v (x ∷ []) w) → IsKnownFirst v found
-  known_first v w None whole h = none_first v whole h.1
-  known_first v w (Some x) whole h = some_first v w x whole (h x refl)
+  known_first v w None whole h k fits =
+      let all = h.1 in let same : all.0 ≡ k = pinned v all.0 k whole all.1 fits in let full = all.2 in
+      sym (slice_get_past (put_items all.0) (got_count all.0) (omega arith)) ∙ ap first_left same
+  known_first v w (Some x) whole h k fits = let g = h x refl in
+      let same : g.0 ≡ k = pinned v g.0 k whole g.1 fits in sym g.2 ∙ ap first_left same

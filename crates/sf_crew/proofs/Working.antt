@@ -1,14 +1,15 @@
 -- What a worker's turn does to the handles of benches.
 use Rattle.std.proofs.lemmas.Grind.{common_steps}
-use Rattle.std.proofs.Common.{◌≡◌, ◌⊎◌, ⊎_elim, ℕ, zero, suc, ◌<◌, List, [], ◌∷◌, arith, get_or, set, slice_get, length, Some, refl, ap}
+use Rattle.std.proofs.Common.{◌≡◌, ◌⊎◌, ⊎_elim, ℕ, ◌<◌, List, arith, get_or, set, slice_get, length, Some, ap, ◌∙◌}
 use Rattle.std.specs.Arc.{arc_value}
-use Rattle.std.proofs.lemmas.Option.{same_Some}
+use Rattle.std.specs.Option.{option_map}
+use Rattle.std.proofs.lemmas.Option.{some_pair_parts, slice_get-map, slice_get-get_or}
 use Rattle.std.proofs.lemmas.List.{map-set}
 use Rattle.std.proofs.Math.Seq.{map-set_same}
 use Rattle.crossbeam_deque.specs.Steals.{MatchSteal}
 use Rattle.crossbeam_deque.specs.declared.steal.Steal.{Steal}
 use Rattle.crossbeam_deque.specs.declared.steal.Steal.TheVariants as steal
-use Rattle.sf_piece.specs.Pieces.{PieceData, StepData, Split, Settled, Empty, children_of}
+use Rattle.sf_piece.specs.Pieces.{StepData, Split, Settled, Empty, children_of}
 use Rattle.sf_book.specs.declared.book.Lease.{Lease}
 use Rattle.sf_crew.specs.declared.benches.history.HandleView.{HandleView}
 use Rattle.sf_crew.specs.declared.benches.handles.Thief.{Thief}
@@ -20,10 +21,8 @@ use Rattle.sf_crew.specs.Workers.{thief_views, GetsOne, PutsOrNot, PutsChildren}
 pub both_put : (s : StepData) (x y : Lease) (v u w : HandleView Lease)
     → Some (arc_value x.piece, arc_value y.piece) ≡ children_of s
     → PutsOrNot v x u → PutsOrNot u y w → PutsChildren v s w
-both_put (Split f t) x y v u w e a b =
-    let same : (arc_value x.piece, arc_value y.piece) ≡ (f, t) =
-    same_Some (arc_value x.piece, arc_value y.piece) (f, t) e in
-    (u, (x, ap (λ (q : PieceData × PieceData). q.0) same, a), (y, ap (λ (q : PieceData × PieceData). q.1) same, b))
+both_put (Split f t) x y v u w e a b = let same = some_pair_parts (arc_value x.piece) f (arc_value y.piece) t e in
+    (u, (x, same.0, a), (y, same.1, b))
 both_put (Settled z) x y v u w e a b = absurd cc
 both_put Empty x y v u w e a b = absurd cc
 
@@ -41,9 +40,7 @@ none_stolen ts i t d same = map-set_same thief_view ts i t d same
 
 slice_get_map : (ts : List (Thief Lease)) (i : ℕ) (d : Thief Lease) → i < length ts
     → slice_get (thief_views ts) i ≡ Some (thief_view (get_or ts i d))
-slice_get_map [] i d lt = absurd (omega arith)
-slice_get_map (t ∷ ts) zero d lt = refl
-slice_get_map (t ∷ ts) (suc i) d lt = slice_get_map ts i d (omega arith)
+slice_get_map ts i d lt = slice_get-map thief_view ts i ∙ ap (option_map thief_view) (slice_get-get_or ts i d lt)
 
 -- one thief got a lease, and the others did nothing
 pub one_stolen : (ts : List (Thief Lease)) (i : ℕ) (t d : Thief Lease) (x : Lease) → i < length ts

@@ -11,25 +11,12 @@ use Rattle.sf_crew.specs.declared.board.view.View.{View}
 use Rattle.sf_crew.specs.Views.{questions_of, count_of_regions, jobs, owed_jobs, once_below}
 use Rattle.sf_crew.specs.BoardRule.{Sound, Kept, BoardKept, least_in, doubts_in}
 use Rattle.sf_crew.specs.BoardSteps.{view_with_job, view_without_job, HasAllJobs, Draws}
-use Rattle.sf_crew.proofs.Jobs.{jobs_all, count_all}
+use Rattle.sf_crew.proofs.Jobs.{all_jobs}
 use Rattle.sf_crew.proofs.Totals.{times, times_cons, total_set, total_at, total_le, every_set}
 use Rattle.sf_crew.proofs.board.OneView.{one_view, same_marks, later, in_words}
 
 below_next : (x n : ℕ) → once_below x (n + 1) ≡ once_below x n + (if x == n then 1 else 0)
 below_next x n = grind (arith, nat_tests)
-
--- the word of the next job changes, and the rule stays
-put_next : (k : BoardKey) (words : List ℕ) (n : ℕ) (views : List View) → length words ≡ length (questions_of k) + 6
-    → Kept k n (slice_index words 1) (doubts_in words) (least_in words) views
-    → (length (set words 0 n) ≡ length (questions_of k) + 6)
-    × Kept k (slice_index (set words 0 n) 0) (slice_index (set words 0 n) 1) (doubts_in (set words 0 n))
-    (least_in (set words 0 n)) views
-put_next k words n views long h =
-    in_words k (set words 0 n) n (slice_index words 1) (doubts_in words) (least_in words) views
-    (length-set words 0 n ∙ long) (get_or-set_same words 0 n 0 (omega arith))
-    (get_or-set_other words 0 1 n 0 (λ e. omega arith))
-    (λ w few. get_or-set_other words 0 (w + 2) n 0 (λ e. omega arith))
-    (λ q. get_or-set_other words 0 (q + 6) n 0 (λ e. omega arith)) h
 
 draw_kept : (k : BoardKey) (n e : ℕ) (d least : ℕ → ℕ) (views : List View) (port : ℕ) (v : View)
     → n < count_of_regions k
@@ -125,13 +112,7 @@ draw_step k words views id v free fresh part small long h at (yes past) =
           (set views id (view_without_job v))) e
           (pass_kept k n _ _ _ views id v past fresh part at h),
       (λ below. absurd (omega arith)),
-      (λ _. (
-        refl,
-        λ whole. (
-          count_all k n _ _ _ views id v at h whole ∙ omega arith,
-          λ x. jobs_all k n _ _ _ views id v at h whole x ∙ ap (once_below x) (omega arith),
-        ),
-      )),
+      (λ _. (refl, all_jobs k n _ _ _ views id v at h past)),
     )
 draw_step k words views id v free fresh part small long h at (no not_past) =
     let n = slice_index words 0 in let below : n < count_of_regions k = lt_of_not-le not_past in
@@ -159,4 +140,14 @@ draws k slots id me is free fresh part small s h homes at fits =
     × (length (jobs v) < count_of_regions j)
     × (t.0 ≡ view_with_job v n)) × (count_of_regions j ≤ n → (t.0 ≡ view_without_job v) × HasAllJobs j t.0)) =
     search arith in
-    (t.0, keeps, tt, put_next k s.words _ _ h.0 t.1, (told, refl))
+    let m : ℕ = (n + 1) % 18446744073709551616 in let long : length s.words ≡ length (questions_of k) + 6 = h.0 in (
+      t.0,
+      keeps,
+      tt,
+      in_words k (set s.words 0 m) m (slice_index s.words 1) (doubts_in s.words) (least_in s.words) (set s.views id t.0)
+          (length-set s.words 0 m ∙ long) (get_or-set_same s.words 0 m 0 (omega arith))
+          (get_or-set_other s.words 0 1 m 0 (λ e. omega arith))
+          (λ w few. get_or-set_other s.words 0 (w + 2) m 0 (λ e. omega arith))
+          (λ q. get_or-set_other s.words 0 (q + 6) m 0 (λ e. omega arith)) t.1,
+      (told, refl),
+    )

@@ -1,14 +1,15 @@
 -- What a seat knows of its jobs, and how seats are split and joined.
 use Rattle.std.proofs.lemmas.Grind.{common_steps}
-use Rattle.std.proofs.Common.{◌≡◌, ◌≢◌, ℕ, zero, suc, ◌+◌, ◌<◌, ◌≤◌, ◌⊎◌, min, max, List, [], ◌∷◌, ◌++◌, sum_by, map, length, set, slice_index, Some, None, IfSome, sym, refl, ap, ◌∙◌, subst, inl, inr, ⊎_elim, length-append, lt_of_not-le, arith}
+use Rattle.std.proofs.Common.{◌≡◌, ◌≢◌, ℕ, ◌+◌, ◌<◌, ◌≤◌, ◌⊎◌, min, max, List, [], ◌∷◌, ◌++◌, sum_by, map, length, set, slice_index, Some, None, IfSome, sym, refl, ap, ◌∙◌, subst, inl, inr, ⊎_elim, length-append, lt_of_not-le, arith}
 use Rattle.std.proofs.lemmas.Bool.Decides.{nat_tests}
 use Rattle.std.proofs.lemmas.List.{set-get_or, length-map, map-append}
 use Rattle.std.proofs.lemmas.List.Elements.{All-nil, All-append}
 use Rattle.std.proofs.lemmas.List.Sums.{sum_by_push}
-use mathlib.Core.Option.{some, some-ne-none}
+use mathlib.Core.Option.{some}
 use lib.ListN.{get_elem?}
 use Rattle.atomic_table.specs.Table.{Me, Allows, Splits, Joins, keeps}
-use Rattle.atomic_table.proofs.Lists.{set_else, set_again}
+use Rattle.atomic_table.proofs.Lists.{set_else, set_again, set_here}
+use Rattle.crossbeam_deque.proofs.Phases.{at_lt}
 use Rattle.sf_crew.specs.declared.board.view.BoardKey.{BoardKey}
 use Rattle.sf_crew.specs.declared.board.view.View.{View}
 use Rattle.sf_crew.specs.declared.board.view.EnteredSheet.{EnteredSheet}
@@ -19,7 +20,7 @@ use Rattle.sf_crew.specs.BoardSteps.{idle_view, kept_view, shared_view, joined_v
 use Rattle.sf_crew.proofs.Doubts.{has_doubt_append}
 use Rattle.sf_crew.proofs.Totals.{times, total_set, top_set, top_at, top_snoc, top_change, times_append, every_set, every_snoc}
 use Rattle.sf_crew.proofs.board.Moves.{noted_more}
-use Rattle.sf_crew.proofs.Jobs.{jobs_once, jobs_all, count_all}
+use Rattle.sf_crew.proofs.Jobs.{jobs_once, all_jobs}
 
 once_at_most : (x n : ℕ) → once_below x n ≤ 1
 once_at_most x n = grind (arith, nat_tests)
@@ -32,10 +33,7 @@ glances k slots id me is s h homes at fits =
     let stay : set s.views id v ≡ s.views = set_again s.views id v at in
     let all : IfSome v.about (λ j. 0 < v.exhausted_seats → HasAllJobs j v) =
     subst (λ o. IfSome o (λ j. 0 < v.exhausted_seats → HasAllJobs j v)) (sym is)
-    (λ past whole. let end = ((h.1).each id v at).past past in (
-      count_all k n _ _ _ s.views id v at h.1 whole ∙ omega arith,
-      λ x. jobs_all k n _ _ _ s.views id v at h.1 whole x ∙ ap (once_below x) (omega arith),
-    )) in (
+    (λ past. all_jobs k n _ _ _ s.views id v at h.1 (((h.1).each id v at).past past)) in (
       v,
       keeps,
       tt,
@@ -120,12 +118,6 @@ total_both : (f : View → ℕ) (views : List View) (i j : ℕ) (v w b z : View)
     → get_elem? (set views i b) j ≡ some w → sum_by f (set (set views i b) j z) + f v + f w ≡ sum_by f views + f b + f z
 total_both f views i j v w b z apart at at' = grind (arith, common_steps, total_set)
 
-long_enough : (views : List View) (i : ℕ) (v b : View) → get_elem? views i ≡ some v
-    → get_elem? (set views i b) i ≡ some b
-long_enough [] i v b e = absurd (some-ne-none v (sym e))
-long_enough (x ∷ xs) zero v b e = refl
-long_enough (x ∷ xs) (suc i) v b e = long_enough xs i v b e
-
 -- the greatest value stays where b has the greater one of both views, and z has 0
 top_both : (f : View → ℕ) (views : List View) (i j : ℕ) (v w b z : View) → j ≢ i → get_elem? views i ≡ some v
     → get_elem? (set views i b) j ≡ some w → f b ≡ max (f v) (f w) → f z ≡ 0
@@ -135,7 +127,7 @@ top_both f views i j v w b z apart at at' joined none =
     let s = top_set f views i v b at (omega arith) in
     let t = top_change f (set views i b) j w z at' in
     let there : get_elem? (set (set views i b) j z) i ≡ some b =
-    set_else (set views i b) j i z (λ e. apart (sym e)) ∙ long_enough views i v b at in
+    set_else (set views i b) j i z (λ e. apart (sym e)) ∙ set_here views i b (at_lt views i v at) in
     let most = top_at f (set (set views i b) j z) i b there in
     let mine = top_at f views i v at in let theirs = top_at f views j w was in
     omega arith

@@ -1,7 +1,6 @@
 -- Each step of a seat keeps the rule of its board.
-use Rattle.std.proofs.Common.{◌≡◌, ◌≢◌, ℕ, false, ◌+◌, ◌-◌, ◌*◌, ◌/◌, ◌%◌, ◌^◌, ◌<◌, ◌≤◌, nat_lt, min, max, bit_or, List, [], ◌∷◌, ◌++◌, All, sum_by, map, length, set, slice_index, Some, IfSome, sym, refl, ap, ◌∙◌, subst, inr, ⊎_elim, length-set, length-append, lt_of_not-le, arith}
+use Rattle.std.proofs.Common.{◌≡◌, ◌≢◌, ℕ, ◌+◌, ◌-◌, ◌*◌, ◌/◌, ◌%◌, ◌^◌, ◌<◌, ◌≤◌, min, max, bit_or, List, [], ◌∷◌, ◌++◌, All, sum_by, map, length, set, slice_index, Some, IfSome, sym, refl, ap, ◌∙◌, subst, inr, ⊎_elim, length-set, length-append, lt_of_not-le, arith}
 use Rattle.std.specs.Int.{bit_at}
-use Rattle.std.proofs.lemmas.Bool.Decides.{nat_tests}
 use Rattle.std.proofs.lemmas.List.{get_or-set_same, get_or-set_other, set-get_or, length-map}
 use Rattle.std.proofs.lemmas.List.Elements.{All-cons}
 use mathlib.Core.Option.{some}
@@ -20,9 +19,6 @@ use Rattle.sf_crew.specs.BoardSteps.{with_notes, view_with_note, view_with_mark,
 use Rattle.sf_crew.proofs.Doubts.{has_same, has_other, has_most, has_doubt_most, question_is, bit_set, bit_kept, bit_most}
 use Rattle.sf_crew.proofs.Totals.{total_set, total_le, top_set, top_kept}
 use Rattle.sf_crew.proofs.board.OneView.{one_view, marks_and_notes, same_marks, later, in_words}
-
-pub not_above : (n : ℕ) → nat_lt 0 n ≡ false → n ≡ 0
-not_above n h = grind (arith, nat_tests)
 
 pub noted_more : (k : BoardKey) (ns ms : List Note) (es : List EnteredSheet) → ((q r : ℕ) → Noted ns q r → Noted ms q r)
     → All (Covered k ns) es → All (Covered k ms) es
@@ -48,7 +44,7 @@ renoted k n e d least less views port v ns at down right noted more h = let mine
     }) h
 
 pub looks : (k : BoardKey) (slots id q : ℕ) (me : Me ℕ View) → me.0.about ≡ Some k → q < length (questions_of k)
-    → Allows (BoardKept k) slots id me (q + 6) (λ n. n) (λ n w. Looks me.0 q n w.0 × (w.1 ≡ me.1))
+    → Allows (BoardKept k) slots id me (q + 6) (λ n. n) (λ n w. Looks me.0 (q + 6 - 6) n w.0 × (w.1 ≡ me.1))
 looks k slots id q me is there s h homes at fits =
     let v : View = me.0 in let n : ℕ = slice_index s.words (q + 6) in let w : View = view_with_note v q n in
     let same : set s.words (q + 6) n ≡ s.words = set-get_or s.words (q + 6) 0 in
@@ -64,14 +60,19 @@ looks k slots id q me is there s h homes at fits =
       subst (λ ws. BoardKept k (record { words = ws; homes = s.homes; views = set s.views id w }))
           (sym same) (h.0, kept),
       (
-        (refl, (λ r x. mine.noted q r x), subst (λ o. IfSome o (λ j. RightPlace j q n)) (sym is) ((h.1).right q there)),
+        let at_word : q ≡ q + 6 - 6 = omega arith in subst (λ p. Looks v p n w) at_word (
+          refl,
+          (λ r x. mine.noted q r x),
+          subst (λ o. IfSome o (λ j. RightPlace j q n)) (sym is) ((h.1).right q there),
+        ),
         refl,
       ),
     )
 
 pub hits : (k : BoardKey) (slots id q j : ℕ) (me : Me ℕ View) → q < length (questions_of k) → j < count_of_regions k
     → HasHit (regions_of k) (questions_of k) j q
-    → Allows (BoardKept k) slots id me (q + 6) (λ n. min n j) (λ n w. (w.0 ≡ view_with_note me.0 q j) × (w.1 ≡ me.1))
+    → Allows (BoardKept k) slots id me (q + 6) (λ n. min n j)
+    (λ n w. (w.0 ≡ view_with_note me.0 (q + 6 - 6) j) × (w.1 ≡ me.1))
 hits k slots id q j me there below breaks s h homes at fits =
     let v : View = me.0 in let n : ℕ = slice_index s.words (q + 6) in let m : ℕ = min n j in
     let w : View = view_with_note v q j in
@@ -107,7 +108,7 @@ hits k slots id q j me there below breaks s h homes at fits =
           (get_or-set_other s.words (q + 6) 0 m 0 (λ e. omega arith))
           (get_or-set_other s.words (q + 6) 1 m 0 (λ e. omega arith))
           (λ x few. get_or-set_other s.words (q + 6) (x + 2) m 0 (λ e. omega arith)) (λ p. refl) kept,
-      (refl, refl),
+      ((let at_word : q ≡ q + 6 - 6 = omega arith in ap (λ p. view_with_note v p j) at_word), refl),
     )
 
 -- where one question more is marked, and its bit is set, the bits stay right
@@ -161,18 +162,6 @@ marks k slots q j id me owing few s h homes at fits =
       ((λ p word mask. ap (view_with_mark v) (question_is q p word mask)), refl),
     )
 
-put_entered : (k : BoardKey) (words : List ℕ) (d : ℕ) (views : List View) → length words ≡ length (questions_of k) + 6
-    → Kept k (slice_index words 0) d (doubts_in words) (least_in words) views
-    → (length (set words 1 d) ≡ length (questions_of k) + 6)
-    × Kept k (slice_index (set words 1 d) 0) (slice_index (set words 1 d) 1) (doubts_in (set words 1 d))
-    (least_in (set words 1 d)) views
-put_entered k words d views long h =
-    in_words k (set words 1 d) (slice_index words 0) d (doubts_in words) (least_in words) views
-    (length-set words 1 d ∙ long) (get_or-set_other words 1 0 d 0 (λ e. omega arith))
-    (get_or-set_same words 1 d 0 (omega arith))
-    (λ w few. get_or-set_other words 1 (w + 2) d 0 (λ e. omega arith))
-    (λ q. get_or-set_other words 1 (q + 6) d 0 (λ e. omega arith)) h
-
 enter_kept : (k : BoardKey) (n e j : ℕ) (d least : ℕ → ℕ) (views : List View) (port : ℕ) (v : View) → v.owes ≡ Some j
     → 0 < v.joined_seats → Covered k v.notes (entered_sheet j v.marked) → get_elem? views port ≡ some v
     → Kept k n e d least views
@@ -214,28 +203,17 @@ pub enters : (k : BoardKey) (slots id j : ℕ) (me : Me ℕ View) → me.0.owes 
     (λ n w. ((i : ℕ) → me.0.owes ≡ Some i → w.0 ≡ view_with_sheet me.0 i) × (w.1 ≡ me.1))
 enters k slots id j me owing part small covered s h homes at fits =
     let e : ℕ = slice_index s.words 1 in let few = entries_few k _ e j _ _ s.views id me.0 owing at h.1 in
-    let same : e + 1 ≡ (e + 1) % 18446744073709551616 = omega arith in (
-      view_with_sheet me.0 j,
+    let d : ℕ = (e + 1) % 18446744073709551616 in let same : e + 1 ≡ d = omega arith in
+    let long : length s.words ≡ length (questions_of k) + 6 = h.0 in let w : View = view_with_sheet me.0 j in (
+      w,
       keeps,
       tt,
-      put_entered k s.words _ _ h.0 (subst (λ x. Kept k (slice_index s.words 0) x (doubts_in s.words) (least_in s.words)
-          (set s.views id (view_with_sheet me.0 j))) same
+      in_words k (set s.words 1 d) (slice_index s.words 0) d (doubts_in s.words) (least_in s.words) (set s.views id w)
+          (length-set s.words 1 d ∙ long) (get_or-set_other s.words 1 0 d 0 (λ e. omega arith))
+          (get_or-set_same s.words 1 d 0 (omega arith))
+          (λ x few. get_or-set_other s.words 1 (x + 2) d 0 (λ e. omega arith))
+          (λ q. get_or-set_other s.words 1 (q + 6) d 0 (λ e. omega arith))
+          (subst (λ x. Kept k (slice_index s.words 0) x (doubts_in s.words) (least_in s.words) (set s.views id w)) same
           (enter_kept k _ e j _ _ s.views id me.0 owing part covered at h.1)),
       ((λ i is. ap (view_with_sheet me.0) (cc (owing, is))), refl),
     )
-
--- `looks` with the place of the question's word, as the steps have it
-pub looks_at : (k : BoardKey) (slots id q : ℕ) (me : Me ℕ View) → me.0.about ≡ Some k → q < length (questions_of k)
-    → Allows (BoardKept k) slots id me (q + 6) (λ n. n) (λ n w. Looks me.0 (q + 6 - 6) n w.0 × (w.1 ≡ me.1))
-looks_at k slots id q me is there = let e : q ≡ q + 6 - 6 = omega arith in
-    subst (λ p. Allows (BoardKept k) slots id me (q + 6) (λ n. n) (λ n w. Looks me.0 p n w.0 × (w.1 ≡ me.1))) e
-    (looks k slots id q me is there)
-
-pub hits_at : (k : BoardKey) (slots id q j : ℕ) (me : Me ℕ View) → q < length (questions_of k) → j < count_of_regions k
-    → HasHit (regions_of k) (questions_of k) j q
-    → Allows (BoardKept k) slots id me (q + 6) (λ n. min n j) (λ n w.
-    (w.0 ≡ view_with_note me.0 (q + 6 - 6) j) × (w.1 ≡ me.1))
-hits_at k slots id q j me there below breaks = let e : q ≡ q + 6 - 6 = omega arith in
-    subst (λ p. Allows (BoardKept k) slots id me (q + 6) (λ n. min n j) (λ n w. (w.0 ≡ view_with_note me.0 p j)
-    × (w.1 ≡ me.1)))
-    e (hits k slots id q j me there below breaks)

@@ -38,9 +38,6 @@ doubt_right s qs r q (Some Clear) h is = absurd (cc)
 doubt_right s qs r q (Some (Hit d)) h is = absurd (cc)
 doubt_right s qs r q (Some Doubt) h is = h
 
-abbrev Subject : Type 0
-Subject = BookData × List QuestionData
-
 pub covers : (k : BoardKey) (v : View) (s : SheetData) (ds : List ℕ) (ns : List Note) → IsSheetFor k v s
     → IsRightSheet s
     → NotesHits s.verdicts s.job (length s.questions) v.notes ns → AreDoubts s ds
@@ -55,7 +52,8 @@ covers k v s ds ns f right notes marks =
           (λ y. ⊎_elim (λ (z : is_skipped (verdict_at s.verdicts q) ≡ true). let low = f.skips q lt z in
           inl (low.0, notes.more q low.0 low.1, (let lt = low.2 in omega arith)))
           (λ (z : IsRightOn s.settled s.questions s.job q Clear).
-          inr (inl (subst (λ (y : Subject). IsRightOn y.0 y.1 s.job q Clear) (λ i. (f.regions i, f.questions i)) z)))
+          inr (inl (subst (λ (y : BookData × List QuestionData). IsRightOn y.0 y.1 s.job q Clear)
+          (λ i. (f.regions i, f.questions i)) z)))
           y) x)
           (verdict_cases s.settled s.questions s.job q (verdict_at s.verdicts q) (right.right q there)));
       doubts = search (arith, doubt_right);

@@ -1,13 +1,14 @@
 -- Which handle of a bench got which item.
 use Rattle.std.proofs.Common.{◌≡◌, ◌≢◌, ℕ, zero, suc, ◌+◌, ◌<◌, ◌≤◌, true, List, [], ◌∷◌, ◌++◌, All, Any, length, Some, None, is_some, IsSome, slice_get, sym, refl, ap, ◌∙◌, subst, append_assoc, arith}
 use Rattle.std.proofs.lemmas.List.Elements.{All-nil, All-cons, All-tail}
+use Rattle.std.proofs.lemmas.Option.{same_Some}
 use Rattle.sf_crew.specs.declared.benches.history.Event.{Event}
 use Rattle.sf_crew.specs.declared.benches.history.Event.TheVariants.{Put, Got}
 use Rattle.sf_crew.specs.declared.benches.history.End.{End}
 use Rattle.sf_crew.specs.declared.benches.history.HandleView.{HandleView}
 use Rattle.sf_crew.specs.History.{handle_of, put_items, got_count, first_left, IsLawfulFrom, IsLawfulHistory, FitsEnd, FitEnds, HasHistory, IsWhole}
 use Rattle.sf_crew.specs.Gets.{getter, IsSharedOut, IsAllKnown}
-use Rattle.sf_crew.proofs.Histories.{NotBy, AllByHandlesBelow, lawful_le}
+use Rattle.sf_crew.proofs.Histories.{NotBy, puts_append, lawful_le}
 use Rattle.sf_crew.proofs.WholeBenches.{fits_at, joined_end, pinned}
 
 module _ {T : Type 0} where
@@ -32,18 +33,19 @@ module _ {T : Type 0} where
   getter_more (Got j ∷ a) b zero i e = e
   getter_more (Got j ∷ a) b (suc k) i e = getter_more a b k i e
 
-  -- a handle gets nothing by steps of others
-  not_getter : (b : List (Event T)) (k n : ℕ) → NotBy n b → getter b k ≡ Some n → ⊥
-  not_getter [] k n not e = absurd (cc)
-  not_getter (Put x ∷ b) k n not e =
-      not_getter b k n (All-tail (λ (s : Event T). handle_of s ≢ n) (Put x) b not) e
-  not_getter (Got j ∷ b) zero n not e = not 0 (Got j) (omega arith) (cc)
-  not_getter (Got j ∷ b) (suc k) n not e =
-      not_getter b k n (All-tail (λ (s : Event T). handle_of s ≢ n) (Got j) b not) e
+  -- what holds of the handle of each step holds of a getter
+  getter_is : (P : ℕ → Type 0) (h : List (Event T)) (k i : ℕ) → All (λ (s : Event T). P (handle_of s)) h
+      → getter h k ≡ Some i → P i
+  getter_is P [] k i all e = absurd (cc)
+  getter_is P (Put x ∷ h) k i all e =
+      getter_is P h k i (All-tail (λ (s : Event T). P (handle_of s)) (Put x) h all) e
+  getter_is P (Got j ∷ h) zero i all e = subst P (same_Some j i e) (all 0 (Got j) (omega arith))
+  getter_is P (Got j ∷ h) (suc k) i all e =
+      getter_is P h k i (All-tail (λ (s : Event T). P (handle_of s)) (Got j) h all) e
 
   -- what a handle got, it got by its own last step or before
   getter_own : (a b : List (Event T)) (k n : ℕ) → NotBy n b → getter (a ++ b) k ≡ Some n → getter a k ≡ Some n
-  getter_own [] b k n not e = absurd (not_getter b k n not e)
+  getter_own [] b k n not e = absurd (getter_is (λ j. j ≢ n) b k n not e refl)
   getter_own (Put x ∷ a) b k n not e = getter_own a b k n not e
   getter_own (Got j ∷ a) b zero n not e = e
   getter_own (Got j ∷ a) b (suc k) n not e = getter_own a b k n not e
@@ -54,21 +56,6 @@ module _ {T : Type 0} where
   getter_at (Put x ∷ a) b i = getter_at a b i
   getter_at (Got j ∷ a) b i = let n : 1 + got_count a ≡ suc (got_count a) = omega arith in
       ap (λ k. getter (Got j ∷ (a ++ Got i ∷ b)) k) n ∙ getter_at a b i
-
-  -- a getter is one of the handles
-  getter_made : (h : List (Event T)) (k i n : ℕ) → AllByHandlesBelow n h → getter h k ≡ Some i → i < n
-  getter_made [] k i n below e = absurd (cc)
-  getter_made (Put x ∷ h) k i n below e =
-      getter_made h k i n (All-tail (λ (s : Event T). handle_of s < n) (Put x) h below) e
-  getter_made (Got j ∷ h) zero i n below e = let lt : j < n = below 0 (Got j) (omega arith) in
-      let same : j ≡ i = cc in omega arith
-  getter_made (Got j ∷ h) (suc k) i n below e =
-      getter_made h k i n (All-tail (λ (s : Event T). handle_of s < n) (Got j) h below) e
-
-  puts_append : (a b : List (Event T)) → put_items (a ++ b) ≡ put_items a ++ put_items b
-  puts_append [] b = refl
-  puts_append (Put x ∷ a) b = ap (λ (l : List T). x ∷ l) (puts_append a b)
-  puts_append (Got i ∷ a) b = puts_append a b
 
   -- at a lawful get something is left
   left_at : (p g : ℕ) (a b : List (Event T)) (i : ℕ) → IsLawfulFrom p g (a ++ Got i ∷ b)
@@ -93,27 +80,10 @@ module _ {T : Type 0} where
   each_end P h [] each f = All-nil P
   each_end P h (e ∷ es) each f = All-cons P e es (each e f.0) (each_end P h es each f.1)
 
-  known_get : (h : List (Event T)) (e : End T) → FitsEnd h e → (k i : ℕ) → getter e.events k ≡ Some i
-      → getter h k ≡ Some i
-  known_get h e f k i got = ap (λ (l : List (Event T)). getter l k) f.1 ∙ getter_more e.events f.0 k i got
-
   own_get : (h : List (Event T)) (e : End T) → FitsEnd h e → (k : ℕ) → getter h k ≡ Some e.number
       → getter e.events k ≡ Some e.number
   own_get h e f k got = getter_own e.events f.0 k e.number f.2
       (sym (ap (λ (l : List (Event T)). getter l k) f.1) ∙ got)
-
-  item_get : (h : List (Event T)) (e : End T) → IsLawfulHistory h → FitsEnd h e → (a b : List (Event T)) (i : ℕ)
-      → e.events ≡ a ++ Got i ∷ b
-      → (getter h (got_count a) ≡ Some i) × (slice_get (put_items h) (got_count a) ≡ first_left a)
-  item_get h e lawful f a b i is =
-      let whole : h ≡ a ++ Got i ∷ (b ++ f.0) =
-      f.1 ∙ ap (λ (l : List (Event T)). l ++ f.0) is ∙ append_assoc a (Got i ∷ b) f.0 in
-      let left = left_at 0 0 a (b ++ f.0) i (subst (λ (l : List (Event T)). IsLawfulHistory l) whole lawful) in (
-        ap (λ (l : List (Event T)). getter l (got_count a)) whole ∙ getter_at a (b ++ f.0) i,
-        ap (λ (l : List (Event T)). slice_get (put_items l) (got_count a)) whole
-            ∙ ap (λ (l : List T). slice_get l (got_count a)) (puts_append a (Got i ∷ (b ++ f.0)))
-            ∙ slice_get_left (put_items a) (put_items (Got i ∷ (b ++ f.0))) (got_count a) (omega arith),
-      )
 
   got_le : (h : List (Event T)) → IsLawfulHistory h → got_count h ≤ length (put_items h)
   got_le h lawful = let le = lawful_le 0 0 h (omega arith) lawful in omega arith
@@ -126,12 +96,20 @@ module _ {T : Type 0} where
       (λ (is : IsSome (getter h k)). below_got h k is),
     );
     known = each_end (λ (e : End T). (k i : ℕ) → getter e.events k ≡ Some i → getter h k ≡ Some i) h v.ends
-        (λ e f. known_get h e f) has.ends;
+        (λ e f k i got. ap (λ (l : List (Event T)). getter l k) f.1 ∙ getter_more e.events f.0 k i got) has.ends;
     own = each_end (λ (e : End T). (k : ℕ) → getter h k ≡ Some e.number → getter e.events k ≡ Some e.number) h v.ends
         (λ e f. own_get h e f) has.ends;
     items = each_end (λ (e : End T). (a b : List (Event T)) (i : ℕ) → e.events ≡ a ++ Got i ∷ b
         → (getter h (got_count a) ≡ Some i) × (slice_get (put_items h) (got_count a) ≡ first_left a)) h v.ends
-        (λ e f. item_get h e has.lawful f) has.ends;
+        (λ e f a b i is.
+        let whole : h ≡ a ++ Got i ∷ (b ++ f.0) =
+        f.1 ∙ ap (λ (l : List (Event T)). l ++ f.0) is ∙ append_assoc a (Got i ∷ b) f.0 in
+        let left = left_at 0 0 a (b ++ f.0) i (subst (λ (l : List (Event T)). IsLawfulHistory l) whole has.lawful) in (
+          ap (λ (l : List (Event T)). getter l (got_count a)) whole ∙ getter_at a (b ++ f.0) i,
+          ap (λ (l : List (Event T)). slice_get (put_items l) (got_count a)) whole
+              ∙ ap (λ (l : List T). slice_get l (got_count a)) (puts_append a (Got i ∷ (b ++ f.0)))
+              ∙ slice_get_left (put_items a) (put_items (Got i ∷ (b ++ f.0))) (got_count a) (omega arith),
+        )) has.ends;
   }
 
   -- the end of a handle that is joined knows what the handle got
@@ -139,7 +117,7 @@ module _ {T : Type 0} where
       → Any (λ (e : End T). getter e.events k ≡ Some e.number) v.ends
   one_got v h whole has k lt =
       let got = getter_below h k lt in
-      let made : got.0 < v.made = getter_made h k got.0 v.made (has.made whole.0) got.1 in
+      let made : got.0 < v.made = getter_is (λ j. j < v.made) h k got.0 (has.made whole.0) got.1 in
       let j = joined_end v.ends got.0 (whole.1 got.0 made) in (
         j.0,
         j.1,

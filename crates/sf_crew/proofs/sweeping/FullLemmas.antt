@@ -1,5 +1,5 @@
 -- The tally of all regions is full.
-use Rattle.std.proofs.Common.{◌≡◌, ◌≢◌, ℕ, suc, ◌<◌, ◌≤◌, inl, inr, All, ◌==◌, if◌then◌else◌, List, [], ◌∷◌, ◌++◌, get_or, map, length, Some, None, IfSome, sym, ap, ◌∙◌, subst, ⊎_elim, arith}
+use Rattle.std.proofs.Common.{◌≡◌, ◌≢◌, ℕ, suc, ◌<◌, ◌≤◌, inl, inr, All, ◌==◌, if◌then◌else◌, List, [], ◌∷◌, get_or, map, length, Some, None, IfSome, sym, ap, ◌∙◌, subst, ⊎_elim, arith}
 use Rattle.std.proofs.lemmas.Bool.Decides.{nat_tests}
 use Rattle.std.proofs.lemmas.List.{length-map}
 use Rattle.std.proofs.lemmas.List.Elements.{All-cons, All-nil}
@@ -95,7 +95,3 @@ full_tally s qs k v t right is free whole past knows regions questions few =
       past = right.past whole;
       counted = right.all_counted whole ∙ count;
     } in subst (λ (y : BookData × List QuestionData). IsFullTally y.0 y.1 t) (λ i. (regions i, questions i)) here
-
-pub last_of : {X : Type 0} (P : X → Type 0) (xs : List X) (x : X) → All P (xs ++ x ∷ []) → P x
-last_of P [] x h = h 0 x (omega arith)
-last_of P (y ∷ xs) x h = last_of P xs x (λ k d lt. h (suc k) d (omega arith))

@@ -1,17 +1,18 @@
 -- A thief that joins its owner keeps the rule of the bench.
 use Rattle.std.proofs.lemmas.Bool.Decides.{nat_tests}
-use Rattle.std.proofs.Common.{◌≡◌, ◌≢◌, ℕ, zero, suc, ◌<◌, List, [], ◌∷◌, ◌++◌, All, get_or, length, set, ◌==◌, if◌then◌else◌, sym, ap, ◌∙◌, subst, ⊎_elim, length-set, arith}
+use Rattle.std.proofs.Common.{◌≡◌, ◌≢◌, ℕ, ◌<◌, List, [], ◌∷◌, ◌++◌, length, set, ◌==◌, if◌then◌else◌, sym, refl, ap, ◌∙◌, subst, ⊎_elim, length-set, arith}
 use mathlib.Core.Option.{some}
 use lib.ListN.{get_elem?}
-use Rattle.std.proofs.lemmas.List.Elements.{All-nil, All-append}
+use Rattle.std.proofs.lemmas.List.Elements.{All-append}
 use Rattle.atomic_table.proofs.Lists.{at_set}
+use Rattle.crossbeam_deque.proofs.Phases.{at_lt}
 use Rattle.crossbeam_deque.specs.Tasks.{Merges}
 use Rattle.sf_crew.specs.declared.benches.history.Event.{Event}
 use Rattle.sf_crew.specs.declared.benches.history.End.{End}
 use Rattle.sf_crew.specs.declared.benches.history.HandleView.{HandleView}
 use Rattle.sf_crew.specs.History.{handle_view, FitEnds, view_of_both}
 use Rattle.sf_crew.specs.BenchRule.{AreAt, Sits, BenchKept, spent_view}
-use Rattle.sf_crew.proofs.Histories.{AllByHandlesBelow, at_below}
+use Rattle.sf_crew.proofs.Histories.{AllByHandlesBelow, IsMaker, set_each, not_here}
 
 -- what lay at the place `from` lies at `to` now
 abbrev rehomed : (ℕ → ℕ) → ℕ → ℕ → ℕ → ℕ
@@ -49,21 +50,6 @@ module _ {T : Type 0} where
   at_moved home from to [] a = tt
   at_moved home from to (e ∷ es) a = (rehomed_moved home from to e.number a.0, at_moved home from to es a.1)
 
-  -- ends that lie elsewhere are of other handles than the one whose own end lies here
-  not_here_at : (home : ℕ → ℕ) (port other : ℕ) (es : List (End T)) → home port ≡ port → other ≢ port
-      → AreAt home other es
-      → (k : ℕ) (d : End T) → k < length es → (get_or es k d).number ≢ port
-  not_here_at home port other [] here ne a k d there is = omega arith
-  not_here_at home port other (e ∷ es) here ne a zero d there is = ne (sym a.0 ∙ ap home is ∙ here)
-  not_here_at home port other (e ∷ es) here ne a (suc k) d there is =
-      not_here_at home port other es here ne a.1 k d (omega arith) is
-
-  not_here : (home : ℕ → ℕ) (port other : ℕ) (es : List (End T)) → home port ≡ port → other ≢ port → AreAt home other es
-      → All (λ (o : End T). o.number ≢ port) es
-  not_here home port other [] here ne a = All-nil (λ (o : End T). o.number ≢ port)
-  not_here home port other (e ∷ es) here ne a =
-      λ k d there is. not_here_at home port other (e ∷ es) here ne a k d there is
-
   -- the view of both has the ends of both, its own first
   both_sit : (home : ℕ → ℕ) (port other : ℕ) (h : List (Event T)) (n m : ℕ) (es fs : List (End T)) → 0 < length es
       → other ≢ port → Sits h home port (handle_view n es) → Sits h home other (handle_view m fs)
@@ -81,49 +67,37 @@ module _ {T : Type 0} where
     );
   }
 
-  -- the view of a third handle stays as it was
-  other_sits : (home : ℕ → ℕ) (from to j : ℕ) (h : List (Event T)) (u : HandleView T) → j ≢ from → Sits h home j u
-      → Sits h (rehomed home from to) j u
-  other_sits home from to j h u ne s = record { fits = s.fits; at = at_same home from to j u.ends ne s.at; own = s.own }
-
   pub merges : (port : ℕ) (v : HandleView T) (other : ℕ) (w : HandleView T) → 0 < length v.ends
       → Merges BenchKept port v other w (view_of_both v w) spent_view
   merges port v other w live items views k at ne there =
       let b : HandleView T = view_of_both v w in let vs : List (HandleView T) = set views port b in
       let long : length (set vs other spent_view) ≡ length views =
       length-set vs other spent_view ∙ length-set views port b in
+      let homes : ℕ → ℕ = rehomed k.home other port in
       let others : get_elem? views other ≡ some w = ⊎_elim
       (λ (x : (other ≡ port) × (b ≡ w)). absurd (ne x.0))
       (λ (x : (other ≢ port) × (get_elem? views other ≡ some w)). x.1) (at_set views port other b w there) in
-      let there_below : other < length views = at_below views other w others in
+      let there_below : other < length views = at_lt views other w others in
       record {
         history = k.history;
-        home = rehomed k.home other port;
+        home = homes;
         lawful = k.lawful;
         left = k.left;
         ports = subst (λ n. AllByHandlesBelow n k.history) (sym long) k.ports;
         fresh = λ i le. let is : k.home i ≡ i = k.fresh i (omega arith) in
             rehomed_same k.home other port i (λ (x : k.home i ≡ other). omega arith) ∙ is;
-        each = λ j u here. ⊎_elim
-            (λ (x : (j ≡ other) × (spent_view ≡ u)).
-            subst (λ (y : HandleView T). Sits k.history (rehomed k.home other port) j y)
-            x.1 (record { fits = tt; at = tt; own = tt }))
-            (λ (x : (j ≢ other) × (get_elem? vs j ≡ some u)). ⊎_elim
-            (λ (y : (j ≡ port) × (b ≡ u)). subst (λ (z : ℕ × HandleView T).
-            Sits k.history (rehomed k.home other port) z.0 z.1)
-            (λ i. (sym y.0 i, y.1 i))
-            (both_sit k.home port other k.history v.made w.made v.ends w.ends live ne (k.each port v at)
-            (k.each other w others)))
-            (λ (y : (j ≢ port) × (get_elem? views j ≡ some u)). other_sits k.home other port j k.history u x.0
-            (k.each j u y.1)) (at_set views port j b u x.1))
-            (at_set vs other j spent_view u here);
-        all_made = λ j u here some_made. ⊎_elim
-            (λ (x : (j ≡ other) × (spent_view ≡ u)).
-            let none : u.made ≡ 0 = ap (λ (y : HandleView T). y.made) (sym x.1) in absurd (omega arith))
-            (λ (x : (j ≢ other) × (get_elem? vs j ≡ some u)). ⊎_elim
-            (λ (y : (j ≡ port) × (b ≡ u)). let made : u.made ≡ v.made = ap (λ (z : HandleView T). z.made) (sym y.1) in
-            let old = k.all_made port v at (omega arith) in (y.0 ∙ old.0, made ∙ old.1 ∙ sym long))
-            (λ (y : (j ≢ port) × (get_elem? views j ≡ some u)). let old = k.all_made j u y.1 some_made in
-            (old.0, old.1 ∙ sym long)) (at_set views port j b u x.1))
-            (at_set vs other j spent_view u here);
+        each = set_each (Sits k.history homes) vs other spent_view (record { fits = tt; at = tt; own = tt })
+            (λ j u apart here. set_each (λ i y. i ≢ other → Sits k.history homes i y) views port b
+            (λ _. both_sit k.home port other k.history v.made w.made v.ends w.ends live ne (k.each port v at)
+            (k.each other w others))
+            (λ i y _ lies elsewhere. let s = k.each i y lies in record {
+              fits = s.fits;
+              at = at_same k.home other port i y.ends elsewhere s.at;
+              own = s.own;
+            }) j u here apart);
+        all_made = set_each (IsMaker (length (set vs other spent_view))) vs other spent_view
+            (λ some_made. absurd (let none : (spent_view {T = T}).made ≡ 0 = refl in omega arith))
+            (λ j u _ here. set_each (IsMaker (length (set vs other spent_view))) views port b
+            (λ some_made. let old = k.all_made port v at some_made in (old.0, old.1 ∙ sym long))
+            (λ i y _ lies some_made. let old = k.all_made i y lies some_made in (old.0, old.1 ∙ sym long)) j u here);
       }

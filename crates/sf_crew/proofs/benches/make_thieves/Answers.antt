@@ -1,9 +1,10 @@
-use Rattle.std.proofs.Common.{◌≡◌, ◌+◌, List, All, length, length-append, sym, ap, ◌∙◌, subst, arith}
+use Rattle.std.proofs.Common.{◌≡◌, ◌+◌, length, length-append, sym, ap, ◌∙◌, arith}
+use Rattle.std.proofs.lemmas.List.Elements.{All-push, All-same}
 use Rattle.sf_crew.specs.declared.benches.history.HandleView.{HandleView}
 use Rattle.sf_crew.specs.declared.benches.handles.Thief.{Thief}
 use Rattle.sf_crew.specs.History.{new_view}
 use Rattle.sf_crew.specs.Benches.{IsOnBench, thief_view}
-use Rattle.sf_crew.proofs.benches.NewThieves.{one_thief_more, one_more_on}
+use Rattle.sf_crew.proofs.benches.NewThieves.{one_thief_more}
 use Rattle.sf_crew.proofs.benches.make_thieves.Goals as goal
 
 pub loop-given-preserved : goal.loop-given-preserved
@@ -17,9 +18,8 @@ loop-given-preserved g c =
       count = omega (arith, c.in_ok-push.ensures.len, i.count);
       long = search (arith, length-append);
       thieves = search (arith, one_thief_more);
-      one = subst (λ (ts : List (Thief g.row.T.Denot)).
-          All (λ (t : Thief g.row.T.Denot). IsOnBench c.add_thief.new.self t) ts)
-          (sym c.in_ok-push.ensures.items)
-          (one_more_on c.loop-given.owner c.add_thief.new.self c.loop-given.new_thieves.items c.in_ok-thief.thief
-          c.in_ok-thief.ensures.one.1 c.in_ok-thief.ensures.one.0 i.one);
+      one = All-same (λ (t : Thief g.row.T.Denot). IsOnBench c.add_thief.new.self t) _ _ c.in_ok-push.ensures.items
+          (All-push (λ (t : Thief g.row.T.Denot). IsOnBench c.add_thief.new.self t) c.loop-given.new_thieves.items
+          c.in_ok-thief.thief (λ k d there. i.one k d there ∙ sym c.in_ok-thief.ensures.one.1)
+          c.in_ok-thief.ensures.one.0);
     }

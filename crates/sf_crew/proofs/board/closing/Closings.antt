@@ -2,7 +2,7 @@
 use Rattle.std.proofs.Common.{◌≡◌, ◌≢◌, ℕ, zero, suc, ◌+◌, ◌<◌, ◌≤◌, ◌/◌, ◌%◌, min, List, [], ◌∷◌, All, sum_by, length, get_or, set, slice_index, slice_get, Option, Some, None, sym, refl, ap, ◌∙◌, inl, inr, ⊎_elim, length-append, arith}
 use Rattle.std.specs.Int.{bit_at}
 use Rattle.std.proofs.lemmas.Bool.Decides.{nat_tests}
-use Rattle.std.proofs.lemmas.List.{length-map}
+use Rattle.std.proofs.lemmas.List.{length-map, nil_from_length}
 use Rattle.std.proofs.lemmas.Option.{slice_get_within}
 use mathlib.Core.Option.{some, some-injective, some-ne-none}
 use lib.ListN.{get_elem?, replicate}
@@ -25,10 +25,6 @@ use Rattle.sf_crew.proofs.Jobs.{jobs_once}
 
 once_up : (x n p : ℕ) → n ≤ p → once_below x n ≤ once_below x p
 once_up x n p h = grind (arith, nat_tests)
-
-times_none : (x : ℕ) (xs : List ℕ) → length xs ≡ 0 → times x xs ≡ 0
-times_none x [] h = refl
-times_none x (y ∷ ys) h = absurd (omega arith)
 
 -- the doubts of each sheet are doubts of the list
 has_doubt_at : (q : ℕ) (es : List EnteredSheet) (i : ℕ) (d : EnteredSheet) → i < length es
@@ -112,9 +108,9 @@ close_right k s id v t few h at unmarked doubts entered least =
           (let a = total_at (λ u. length (jobs u)) s.views id v at in let b = kept.drawn_count in
           let whole : sum_by (λ u. length (jobs u)) s.views ≡ length (jobs v) = omega arith in
           let only = total_only (λ u. length (jobs u)) (λ u. times x (jobs u)) s.views id v
-          (λ j u there none. times_none x (jobs u) none) at whole in
+          (λ j u there none. ap (times x) (nil_from_length (jobs u) none)) at whole in
           let p = parted x in let none : times x (owed_jobs v.owes) ≡ 0 =
-          times_none x (owed_jobs v.owes) (omega arith) in
+          ap (times x) (nil_from_length (owed_jobs v.owes) (omega arith)) in
           let d = kept.drawn x in let e : once_below x (min n (count_of_regions k))
           ≡ once_below x (count_of_regions k) =
           ap (once_below x) (omega arith) in omega arith);
@@ -123,15 +119,12 @@ close_right k s id v t few h at unmarked doubts entered least =
       all_counted = search (arith, total_only);
     }
 
-abbrev pub nones : ℕ → List (Option ℕ)
-nones n = replicate n None
-
-none_there : (n q r : ℕ) → slice_get (nones n) q ≡ Some (Some r) → ⊥
+none_there : (n q r : ℕ) → slice_get (replicate n None) q ≡ Some (Some r) → ⊥
 none_there zero q r e = absurd (cc)
 none_there (suc n) zero r e = absurd (cc)
 none_there (suc n) (suc q) r e = none_there n q r e
 
-pub least_start : (words : List ℕ) (n k : ℕ) → LeastIs words n 0 (nones k)
+pub least_start : (words : List ℕ) (n k : ℕ) → LeastIs words n 0 (replicate k None)
 least_start words n k = ((λ q r e. absurd (none_there k q r e)), λ q lt. absurd (omega arith))
 
 set_get : (l : List (Option ℕ)) (i : ℕ) (x : Option ℕ) → i < length l → slice_get (set l i x) i ≡ Some x

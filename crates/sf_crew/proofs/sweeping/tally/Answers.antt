@@ -1,8 +1,9 @@
-use Rattle.std.proofs.Common.{List, All, subst, ◌≡◌, ◌+◌, vec_len, sym, ap, ◌∙◌, arith, rules}
+use Rattle.std.proofs.Common.{◌≡◌, Some, ◌+◌, vec_len, sym, ap, ◌∙◌, arith, rules}
+use Rattle.std.proofs.lemmas.List.Elements.{All-pop}
 use Rattle.sf_crew.specs.declared.board.view.View.{View}
 use Rattle.sf_crew.specs.Boards.{about, seat_view, IsNewSeat}
 use Rattle.sf_crew.specs.declared.board.Seat.{Seat}
-use Rattle.sf_crew.proofs.sweeping.FullLemmas.{full_tally, last_of}
+use Rattle.sf_crew.proofs.sweeping.FullLemmas.{full_tally}
 use Rattle.sf_crew.proofs.sweeping.tally.Goals as goal
 
 pub returns-clause-ok : goal.returns-clause-ok
@@ -10,9 +11,8 @@ returns-clause-ok g c =
     let j = c.in-Some-join_all.ensures in let new = c.in_ok-board.ensures in
     let v : View = seat_view c.in-Some-join_all.all in
     let mine : IsNewSeat c.in_ok-board.board c.in-Some.mine =
-    last_of (λ (s : Seat). IsNewSeat c.in_ok-board.board s) _ _
-    (subst (λ (l : List Seat). All (λ (s : Seat). IsNewSeat c.in_ok-board.board s) l)
-    c.in-Some.ensures.items new.seats.1) in
+    (All-pop (λ (s : Seat). IsNewSeat c.in_ok-board.board s) _ _ (Some c.in-Some.mine) c.in-Some.ensures.items
+    new.seats.1).1 in
     let one : (seat_view c.in-Some.mine).joined_seats ≡ 1 = ap (λ (y : View). y.joined_seats) mine.1 in
     let many : vec_len c.in_ok-worked.worked ≡ c.args.workers = search rules in
     let joined_seats : v.joined_seats ≡ c.args.workers + 1 =

@@ -5,7 +5,7 @@ use Rattle.sf_ask.specs.Sheets.{HasHit}
 use Rattle.sf_crew.specs.Views.{questions_of, count_of_regions}
 use Rattle.sf_crew.specs.Boards.{about}
 use Rattle.sf_ask.specs.laws.SheetLaws.{hit-given}
-use Rattle.sf_crew.proofs.board.Moves.{hits_at}
+use Rattle.sf_crew.proofs.board.Moves.{hits}
 use Rattle.sf_crew.proofs.board.Board.enter_hits.Goals as goal
 
 pub fetch_min-requires : goal.fetch_min-requires
@@ -21,7 +21,7 @@ fetch_min-requires c =
     subst (λ (y : BookData). c.args.sheet.now.job < length y.regions) c.requires.same.0 right.there in (
       c.loop-q.invariant.table ∙ c.requires.table,
       omega (arith, lt, many),
-      hits_at _ _ _ n _ _ (omega (arith, lt, many)) (omega (arith, below, c.job-job.ensures.job))
+      hits _ _ _ n _ _ (omega (arith, lt, many)) (omega (arith, below, c.job-job.ensures.job))
           (subst (λ (y : BookData × List QuestionData × ℕ). HasHit y.0 y.1 y.2 n)
           (λ i. (c.requires.same.0 i, c.requires.same.1 i, sym c.job-job.ensures.job i)) breaks),
     )
