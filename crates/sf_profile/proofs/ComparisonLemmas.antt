@@ -16,7 +16,7 @@ use Rattle.sf_profile.specs.declared.rules.Comparison.{Comparison}
 use Rattle.sf_profile.specs.declared.instruction.Instruction.{Instruction}
 use Rattle.sf_profile.specs.declared.instruction.Instruction.TheVariants.{Load, Mask, Branch}
 use Rattle.sf_profile.specs.Meaning.{word_of, argument_in, cut, compares, holds}
-use Rattle.sf_profile.specs.Form.{high, low, equal_code, order_code, test_code, masked_code, comparing_code, comparison_code, comparisons_code}
+use Rattle.sf_profile.specs.Form.{high, low, equal_code, order_code, masked_code, comparing_code, comparison_code, comparisons_code}
 use Rattle.sf_profile.proofs.Returns.{returned, skip_more}
 
 -- what comes next returns this, whatever A is, where so many instructions are skipped
@@ -80,7 +80,7 @@ exit true more d t f a r s p q = p a
 exit false more d t f a r s p q = q a
 
 equal_goes : (d : Input) (word v t f : ℕ) (more : List Instruction) (r s : Option ℕ) → Goes more d t r → Goes more d f s
-    → (a : ℕ) → returned (equal_code word v t f ++ more) d 0 a
+    → (a : ℕ) → returned (equal_code true word v t f ++ more) d 0 a
     ≡ choose ((slice_index d.words (word + 1) == high v) && (slice_index d.words word == low v)) r s
 equal_goes d word v t f more r s p q a = by (h == high v)
   where
@@ -97,7 +97,7 @@ equal_goes d word v t f more r s p q a = by (h == high v)
         skip_more (Load word ∷ Branch tests.Equal (low v) t f ∷ []) more d (f + 2) f h (omega arith) ∙ q h
 
 order_goes : (test : Test) (d : Input) (word v t f : ℕ) (more : List Instruction) (r s : Option ℕ) → Goes more d t r
-    → Goes more d f s → (a : ℕ) → returned (order_code test word v t f ++ more) d 0 a
+    → Goes more d f s → (a : ℕ) → returned (order_code true test word v t f ++ more) d 0 a
     ≡ choose (if nat_lt (high v) (slice_index d.words (word + 1)) then true
     else (slice_index d.words (word + 1) == high v) && passes test (slice_index d.words word) (low v)) r s
 order_goes test d word v t f more r s p q a = first (nat_lt (high v) h)
@@ -120,7 +120,11 @@ order_goes test d word v t f more r s p q a = first (nat_lt (high v) h)
         (omega arith) ∙ p h
     first false = second (h == high v)
 
--- what a test asks of an argument
+-- a test of an argument
+abbrev test_code : Bool → Test → ℕ → ℕ → ℕ → ℕ → List Instruction
+test_code wide tests.Equal word v t f = equal_code wide word v t f
+test_code wide test word v t f = order_code wide test word v t f
+
 test_goes : (wide : Bool) (test : Test) (argument : Argument) (d : Input) (v t f : ℕ) (more : List Instruction)
     (r s : Option ℕ) → IsInput d → (test ≡ tests.AnyBit → ⊥) → Goes more d t r → Goes more d f s
     → (a : ℕ) → returned (test_code wide test (word_of argument) v t f ++ more) d 0 a
@@ -154,12 +158,15 @@ test_goes wide test argument d v t f more r s input other p q a = by wide test o
     by true tests.GreaterOrEqual other =
         rw (at_least_halves h l v small small_low) (order_goes tests.GreaterOrEqual d word v t f more r s p q a)
     by true tests.AnyBit other = absurd (other refl)
-    by false test other = rw cut_low (exit (passes test l (low v)) more d t f l r s p q)
+    by false tests.Equal other = rw cut_low (exit (l == low v) more d t f l r s p q)
+    by false tests.Greater other = rw cut_low (exit (nat_lt (low v) l) more d t f l r s p q)
+    by false tests.GreaterOrEqual other = rw cut_low (exit (nat_le (low v) l) more d t f l r s p q)
+    by false tests.AnyBit other = absurd (other refl)
 
 -- what a comparison under a mask asks
 masked_goes : (wide : Bool) (argument : Argument) (d : Input) (m w f : ℕ) (more : List Instruction)
     (r s : Option ℕ) → IsInput d → Goes more d 0 r → Goes more d f s
-    → (a : ℕ) → returned (masked_code wide (word_of argument) m w f ++ more) d 0 a
+    → (a : ℕ) → returned (masked_code wide (word_of argument) m w 0 f ++ more) d 0 a
     ≡ choose (bit_and (cut wide (argument_in argument d)) (cut wide m) == bit_and (cut wide w) (cut wide m)) r s
 masked_goes wide argument d m w f more r s input p q a = by wide
   where
@@ -192,7 +199,7 @@ masked_goes wide argument d m w f more r s input p q a = by wide
     second true = exit low_asks more d 0 f (bit_and l (low m)) r s p q
     second false = skip_more rest more d (f + 3) f (bit_and h (high m)) (omega arith) ∙ q (bit_and h (high m))
 
-    by : (wide : Bool) → returned (masked_code wide word m w f ++ more) d 0 a
+    by : (wide : Bool) → returned (masked_code wide word m w 0 f ++ more) d 0 a
         ≡ choose (bit_and (cut wide (argument_in argument d)) (cut wide m) == bit_and (cut wide w) (cut wide m)) r s
     by true =
         rw (masked_halves h l m w small small_low) (second (bit_and h (high m) == bit_and (high w) (high m)))

@@ -1,7 +1,9 @@
--- The jumps of a written filter lead inside it.
-use Rattle.std.proofs.Common.{◌≡◌, ℕ, ◌+◌, ◌<◌, ◌≤◌, List, [], ◌∷◌, ◌++◌, Bool, true, false, length, length-append, Option, Some, None, arith}
-use Rattle.std.specs.Prelude.{if◌then◌else◌, ◌==◌, nat_lt, ◌&&◌, ◌^◌}
+-- Each instruction of a written filter loads a word of an input, and its jumps lead inside the filter. Jumps are short
+-- where rules have few comparisons, and it is plain where no rule compares under a mask.
+use Rattle.std.proofs.Common.{◌≡◌, ℕ, ◌+◌, ◌*◌, ◌<◌, ◌≤◌, List, [], ◌∷◌, ◌++◌, Bool, true, false, length, length-append, Option, Some, None, refl, arith}
+use Rattle.std.specs.Prelude.{All, if◌then◌else◌, ◌==◌, nat_lt, ◌&&◌, ◌^◌}
 use Rattle.std.specs.List.{flat_map}
+use Rattle.std.proofs.lemmas.List.Elements.{All-head, All-tail}
 use Rattle.sf_insn.specs.declared.ops.Test.{Test}
 use Rattle.sf_insn.specs.declared.ops.Test.TheVariants as tests
 use Rattle.sf_profile.specs.declared.rules.CallSet.{CallSet}
@@ -11,52 +13,18 @@ use Rattle.sf_profile.specs.declared.rules.Argument.TheVariants.{Arg0, Arg1, Arg
 use Rattle.sf_profile.specs.declared.rules.Comparing.{Comparing}
 use Rattle.sf_profile.specs.declared.rules.Comparing.TheVariants.{NotEqual, Less, LessOrEqual, Equal, GreaterOrEqual, Greater, MaskedEqual}
 use Rattle.sf_profile.specs.declared.rules.Comparison.{Comparison}
+use Rattle.sf_profile.specs.declared.rules.Call.{Call}
 use Rattle.sf_profile.specs.declared.rules.Reading.{Reading}
 use Rattle.sf_profile.specs.declared.instruction.Instruction.{Instruction}
 use Rattle.sf_profile.specs.declared.instruction.Instruction.TheVariants.{Load, Mask, Branch, Skip, Return}
 use Rattle.sf_profile.specs.Data.{RuleData, SetRulesData, PlanData}
+use Rattle.sf_profile.specs.Filters.{IsUnmasked}
 use Rattle.sf_profile.specs.Meaning.{is_wide, word_of, order, refuses_newer}
-use Rattle.sf_profile.specs.Form.{test_code, wide_code, masked_code, comparing_code, comparison_code, comparisons_code, return_code, direct_code, through_code, operation_code, call_code, rule_code, rule_at, round_code, places, newer_where, above_rules, body_code, set_code, part_code, form, returned_value_of}
+use Rattle.sf_profile.specs.Form.{equal_code, order_code, masked_code, comparing_code, comparison_code, comparisons_code, return_code, operation_code, call_code, rule_code, rule_at, round_code, places, newer_where, above_rules, body_code, set_code, part_code, form, returned_value_of}
 
--- an instruction is in range, and goes on inside, where so many instructions follow it
-abbrev pub Leads : Instruction → ℕ → Type 0
-Leads (Load word) n = word < 16
-Leads (Mask k) n = Unit {0}
-Leads (Branch test k on_true on_false) n = (on_true < n) × (on_false < n)
-Leads (Skip k) n = k < n
-Leads (Return k) n = Unit {0}
-
--- so do all of a piece, where so many instructions follow the piece
-abbrev pub AllLead : ℕ → List Instruction → Type 0
-AllLead tail [] = Unit {0}
-AllLead tail (i ∷ code) = Leads i (length code + tail) × AllLead tail code
-
-leads_more : (i : Instruction) (n m : ℕ) → n ≤ m → Leads i n → Leads i m
-leads_more (Load word) n m h l = l
-leads_more (Mask k) n m h l = l
-leads_more (Branch test k on_true on_false) n m h l = (omega (arith, l.0), omega (arith, l.1))
-leads_more (Skip k) n m h l = omega arith
-leads_more (Return k) n m h l = l
-
-pub all_more : (code : List Instruction) (n m : ℕ) → n ≤ m → AllLead n code → AllLead m code
-all_more [] n m h l = tt
-all_more (i ∷ code) n m h l =
-    (leads_more i (length code + n) (length code + m) (omega arith) l.0, all_more code n m h l.1)
-
-pub all_append : (xs ys : List Instruction) (n m : ℕ) → n ≤ length ys + m → AllLead n xs → AllLead m ys
-    → AllLead m (xs ++ ys)
-all_append [] ys n m h p q = q
-all_append (x ∷ xs) ys n m h p q = (
-  leads_more x (length xs + n) (length (xs ++ ys) + m) (omega (arith, length-append xs ys)) p.0,
-  all_append xs ys n m h p.1 q,
-)
-
-pub all_flat : {X : Type 0} (f : X → List Instruction) (xs : List X) → ((x : X) → AllLead 1 (f x))
-    → AllLead 1 (flat_map f xs)
-all_flat f [] h = tt
-all_flat f (x ∷ xs) h = all_append (f x) (flat_map f xs) 1 1 (omega arith) (h x) (all_flat f xs h)
-
--- ---- comparisons
+abbrev IsPlainTest : Test → Type 0
+IsPlainTest tests.AnyBit = ⊥
+IsPlainTest _ = Unit {0}
 
 pub word_small : (argument : Argument) → word_of argument + 1 < 16
 word_small Arg0 = omega arith
@@ -66,176 +34,236 @@ word_small Arg3 = omega arith
 word_small Arg4 = omega arith
 word_small Arg5 = omega arith
 
-wide_leads : (test : Test) (word value on_true on_false after : ℕ) → word + 1 < 16 → on_true ≤ after → on_false ≤ after
-    → AllLead (after + 1) (wide_code test word value on_true on_false)
-wide_leads tests.Equal word value on_true on_false after w t f =
-    (omega arith, ((omega arith, omega arith), (omega arith, ((omega arith, omega arith), tt))))
-wide_leads tests.Greater word value on_true on_false after w t f = (
-  omega arith,
-  (
-    (omega arith, omega arith),
-    ((omega arith, omega arith), (omega arith, ((omega arith, omega arith), tt))),
-  ),
-)
-wide_leads tests.GreaterOrEqual word value on_true on_false after w t f = (
-  omega arith,
-  (
-    (omega arith, omega arith),
-    ((omega arith, omega arith), (omega arith, ((omega arith, omega arith), tt))),
-  ),
-)
-wide_leads tests.AnyBit word value on_true on_false after w t f = (
-  omega arith,
-  (
-    (omega arith, omega arith),
-    ((omega arith, omega arith), (omega arith, ((omega arith, omega arith), tt))),
-  ),
-)
+comparing_size : (comparing : Comparing) (wide : Bool) (word value value_two after : ℕ)
+    → length (comparing_code comparing wide word value value_two after) ≤ 6
+comparing_size NotEqual true word value value_two after = omega arith
+comparing_size NotEqual false word value value_two after = omega arith
+comparing_size Less true word value value_two after = omega arith
+comparing_size Less false word value value_two after = omega arith
+comparing_size LessOrEqual true word value value_two after = omega arith
+comparing_size LessOrEqual false word value value_two after = omega arith
+comparing_size Equal true word value value_two after = omega arith
+comparing_size Equal false word value value_two after = omega arith
+comparing_size GreaterOrEqual true word value value_two after = omega arith
+comparing_size GreaterOrEqual false word value value_two after = omega arith
+comparing_size Greater true word value value_two after = omega arith
+comparing_size Greater false word value value_two after = omega arith
+comparing_size MaskedEqual true word value value_two after = omega arith
+comparing_size MaskedEqual false word value value_two after = omega arith
 
-test_leads : (wide : Bool) (test : Test) (word value on_true on_false after : ℕ) → word + 1 < 16 → on_true ≤ after
-    → on_false ≤ after → AllLead (after + 1) (test_code wide test word value on_true on_false)
-test_leads true test word value on_true on_false after w t f = wide_leads test word value on_true on_false after w t f
-test_leads false test word value on_true on_false after w t f = (omega arith, ((omega arith, omega arith), tt))
-
-masked_leads : (wide : Bool) (word mask value after : ℕ) → word + 1 < 16
-    → AllLead (after + 1) (masked_code wide word mask value after)
-masked_leads true word mask value after w =
-    (omega arith, (tt, ((omega arith, omega arith), (omega arith, (tt, ((omega arith, omega arith), tt))))))
-masked_leads false word mask value after w = (omega arith, (tt, ((omega arith, omega arith), tt)))
-
-comparing_leads : (comparing : Comparing) (wide : Bool) (word value value_two after : ℕ) → word + 1 < 16
-    → AllLead (after + 1) (comparing_code comparing wide word value value_two after)
-comparing_leads NotEqual wide word value value_two after w =
-    test_leads wide tests.Equal word value after 0 after w (omega arith) (omega arith)
-comparing_leads Less wide word value value_two after w =
-    test_leads wide tests.GreaterOrEqual word value after 0 after w (omega arith) (omega arith)
-comparing_leads LessOrEqual wide word value value_two after w =
-    test_leads wide tests.Greater word value after 0 after w (omega arith) (omega arith)
-comparing_leads Equal wide word value value_two after w =
-    test_leads wide tests.Equal word value 0 after after w (omega arith) (omega arith)
-comparing_leads GreaterOrEqual wide word value value_two after w =
-    test_leads wide tests.GreaterOrEqual word value 0 after after w (omega arith) (omega arith)
-comparing_leads Greater wide word value value_two after w =
-    test_leads wide tests.Greater word value 0 after after w (omega arith) (omega arith)
-comparing_leads MaskedEqual wide word value value_two after w = masked_leads wide word value value_two after w
-
-comparisons_lead : (wide : Bool) (cs : List Comparison) → AllLead 2 (comparisons_code wide cs)
-comparisons_lead wide [] = tt
-comparisons_lead wide (c ∷ cs) =
+comparisons_size : (wide : Bool) (cs : List Comparison) → length (comparisons_code wide cs) ≤ 6 * length cs
+comparisons_size wide [] = omega arith
+comparisons_size wide (c ∷ cs) =
     let others = comparisons_code wide cs in
-    all_append (comparison_code wide c (length others + 1)) others (length others + 1 + 1) 2 (omega arith)
-    (comparing_leads c.comparing wide (word_of c.argument) c.value c.value_two (length others + 1)
-    (word_small c.argument))
-    (comparisons_lead wide cs)
-
--- ---- rules
-
-return_leads : (code : List Instruction) (value : ℕ) → AllLead 2 code → AllLead 1 (return_code code value)
-return_leads code value h = all_append code (Return value ∷ Load 0 ∷ []) 2 1 (omega arith) h (tt, (omega arith, tt))
+    omega (
+      arith,
+      comparisons_size wide cs,
+      length-append (comparison_code wide c (length others + 1)) others,
+      comparing_size c.comparing wide (word_of c.argument) c.value c.value_two (length others + 1),
+    )
 
 -- a return and a load are behind the comparisons
 return_size : (code : List Instruction) (value : ℕ) → length (return_code code value) ≡ length code + 2
 return_size code value = length-append code (Return value ∷ Load 0 ∷ [])
 
-direct_leads : (code : List Instruction) (value number : ℕ) → AllLead 2 code → AllLead 1 (direct_code code value number)
-direct_leads [] value number h = ((omega arith, omega arith), (tt, tt))
-direct_leads (i ∷ code) value number h = (
-  (omega (arith, return_size (i ∷ code) value), omega (arith, return_size (i ∷ code) value)),
-  return_leads (i ∷ code) value h,
-)
+-- `few`: rules have at most six comparisons. `plain`: none of them is under a mask.
+module _ (few plain : Type 0) where
+  -- an instruction behind which so many stand
+  abbrev pub IsKept : Instruction → ℕ → Type 0
+  IsKept (Load word) n = word < 16
+  IsKept (Mask k) n = plain → ⊥
+  IsKept (Branch test k on_true on_false) n =
+      (on_true + on_false < n) × (few → on_true + on_false < 256) × IsPlainTest test
+  IsKept (Skip k) n = k < n
+  IsKept (Return k) n = Unit {0}
 
-through_leads : (code : List Instruction) (value number operation : ℕ) → AllLead 2 code
-    → AllLead 1 (through_code code value number operation)
-through_leads code value number operation h =
-    let size = return_size code value in
-    ((omega arith, omega arith), (omega arith, ((omega arith, omega arith), return_leads code value h)))
+  -- all of a piece, behind which so many stand
+  abbrev pub AreKept : ℕ → List Instruction → Type 0
+  AreKept tail [] = Unit {0}
+  AreKept tail (i ∷ code) = IsKept i (length code + tail) × AreKept tail code
 
-operation_leads : (code : List Instruction) (value number : ℕ) (operation : Option ℕ) → AllLead 2 code
-    → AllLead 1 (operation_code code value number operation)
-operation_leads code value number None h = direct_leads code value number h
-operation_leads code value number (Some operation) h = through_leads code value number operation h
+  abbrev pub IsKeptRule : RuleData → Type 0
+  IsKeptRule rule = (few → length rule.comparisons ≤ 6) × (plain → All IsUnmasked rule.comparisons)
 
-rule_leads : (wide : Bool) (rule : RuleData) → AllLead 1 (rule_code wide rule)
-rule_leads wide rule =
-    all_flat (call_code (comparisons_code wide rule.comparisons) (returned_value_of rule.response)) rule.calls
-    (λ call. operation_leads (comparisons_code wide rule.comparisons) (returned_value_of rule.response) call.number
-    call.operation (comparisons_lead wide rule.comparisons))
+  kept_more : (i : Instruction) (n m : ℕ) → n ≤ m → IsKept i n → IsKept i m
+  kept_more (Load word) n m h l = l
+  kept_more (Mask k) n m h l = l
+  kept_more (Branch test k on_true on_false) n m h l = (omega (arith, l.0), l.1, l.2)
+  kept_more (Skip k) n m h l = omega arith
+  kept_more (Return k) n m h l = l
 
-where_leads : (b : Bool) (code : List Instruction) → AllLead 1 code → AllLead 1 (if b then code else [])
-where_leads true code h = h
-where_leads false code h = tt
+  appended : (xs ys : List Instruction) (n m : ℕ) → n ≤ length ys + m → AreKept n xs → AreKept m ys
+      → AreKept m (xs ++ ys)
+  appended [] ys n m h p q = q
+  appended (x ∷ xs) ys n m h p q = (
+    kept_more x (length xs + n) (length (xs ++ ys) + m) (omega (arith, length-append xs ys)) p.0,
+    appended xs ys n m h p.1 q,
+  )
 
-pass_leads : (reading : Reading) (wide : Bool) (rules : List RuleData) (place : ℕ)
-    → AllLead 1 (round_code reading wide rules place)
-pass_leads reading wide rules place =
-    all_flat (rule_at reading wide place) rules
-    (λ rule. where_leads (order reading rule == place) (rule_code wide rule) (rule_leads wide rule))
+  each : {X : Type 0} (P : X → Type 0) (f : X → List Instruction) (xs : List X)
+      → ((x : X) → P x → AreKept 1 (f x)) → All P xs → AreKept 1 (flat_map f xs)
+  each P f [] h all = tt
+  each P f (x ∷ xs) h all =
+      appended (f x) (flat_map f xs) 1 1 (omega arith) (h x (All-head P x xs all))
+      (each P f xs h (All-tail P x xs all))
 
--- ---- the whole
+  where_kept : (b : Bool) (code : List Instruction) → AreKept 1 code → AreKept 1 (if b then code else [])
+  where_kept true code h = h
+  where_kept false code h = tt
 
-newer_leads : (asked : Bool) (rules : List RuleData) → AllLead 1 (newer_where asked rules)
-newer_leads true rules =
-    where_leads (nat_lt (above_rules rules) (2 ^ 32)) (Branch tests.GreaterOrEqual (above_rules rules) 0 1
-    ∷ Return (0x00050000 + 38) ∷ []) ((omega arith, omega arith), (tt, tt))
-newer_leads false rules = tt
+  -- ---- comparisons
 
-body_leads : (plan : PlanData) (part : SetRulesData) → AllLead 1 (body_code plan part)
-body_leads plan part =
-    let newer = newer_where (plan.newer && refuses_newer plan.default) part.rules in
-    let passes = flat_map (round_code plan.reading (is_wide part.set) part.rules) places in (
-      omega arith,
-      all_append (newer ++ passes) (Return (returned_value_of plan.default) ∷ []) 1 1 (omega arith)
-          (all_append newer passes 1 1 (omega arith)
-          (newer_leads (plan.newer && refuses_newer plan.default) part.rules)
-          (all_flat (round_code plan.reading (is_wide part.set) part.rules) places
-          (pass_leads plan.reading (is_wide part.set) part.rules)))
-          (tt, tt),
-    )
+  equal_kept : (wide : Bool) (word value on_true on_false after : ℕ) → word + 1 < 16 → on_true + on_false ≤ after
+      → (few → after ≤ 200) → AreKept (after + 1) (equal_code wide word value on_true on_false)
+  equal_kept true word value on_true on_false after w t s = (
+    omega arith,
+    ((omega arith, λ h. omega (arith, s h), tt), (omega arith, ((omega arith, λ h. omega (arith, s h), tt), tt))),
+  )
+  equal_kept false word value on_true on_false after w t s =
+      (omega arith, ((omega arith, λ h. omega (arith, s h), tt), tt))
 
-set_leads : (set : CallSet) (size : ℕ) → AllLead (size + 1) (set_code set size)
-set_leads X64 size = (
-  omega arith,
-  (
-    (omega arith, omega arith),
+  order_kept : (wide : Bool) (test : Test) (word value on_true on_false after : ℕ) → IsPlainTest test
+      → word + 1 < 16 → on_true + on_false ≤ after → (few → after ≤ 200)
+      → AreKept (after + 1) (order_code wide test word value on_true on_false)
+  order_kept true test word value on_true on_false after p w t s = (
+    omega arith,
     (
-      omega arith,
+      (omega arith, λ h. omega (arith, s h), tt),
+      ((omega arith, λ h. omega (arith, s h), tt), (omega arith, ((omega arith, λ h. omega (arith, s h), p), tt))),
+    ),
+  )
+  order_kept false test word value on_true on_false after p w t s =
+      (omega arith, ((omega arith, λ h. omega (arith, s h), p), tt))
+
+  masked_kept : (wide : Bool) (word mask value after : ℕ) → word + 1 < 16 → (few → after ≤ 200) → (plain → ⊥)
+      → AreKept (after + 1) (masked_code wide word mask value 0 after)
+  masked_kept true word mask value after w s m = (
+    omega arith,
+    (
+      m,
       (
-        (omega arith, omega arith),
-        (
-          (omega arith, omega arith),
-          (omega arith, tt),
-        ),
+        (omega arith, λ h. omega (arith, s h), tt),
+        (omega arith, (m, ((omega arith, λ h. omega (arith, s h), tt), tt))),
       ),
     ),
-  ),
-)
-set_leads X32 size = (
-  omega arith,
-  (
-    (omega arith, omega arith),
-    (
-      omega arith,
-      (
-        (omega arith, omega arith),
-        (
-          (omega arith, omega arith),
-          (omega arith, tt),
-        ),
-      ),
-    ),
-  ),
-)
-set_leads I386 size = (omega arith, ((omega arith, omega arith), (omega arith, tt)))
-set_leads Aarch64 size = (omega arith, ((omega arith, omega arith), (omega arith, tt)))
-set_leads Arm size = (omega arith, ((omega arith, omega arith), (omega arith, tt)))
+  )
+  masked_kept false word mask value after w s m = (omega arith, (m, ((omega arith, λ h. omega (arith, s h), tt), tt)))
 
-part_leads : (plan : PlanData) (part : SetRulesData) → AllLead 1 (part_code plan part)
-part_leads plan part =
-    let body = body_code plan part in
-    all_append (set_code part.set (length body)) body (length body + 1) 1 (omega arith)
-    (set_leads part.set (length body)) (body_leads plan part)
+  comparing_kept : (comparing : Comparing) (wide : Bool) (word value value_two after : ℕ) → word + 1 < 16
+      → (few → after ≤ 200) → (plain → comparing ≡ MaskedEqual → ⊥)
+      → AreKept (after + 1) (comparing_code comparing wide word value value_two after)
+  comparing_kept NotEqual wide word value value_two after w s m =
+      equal_kept wide word value after 0 after w (omega arith) s
+  comparing_kept Less wide word value value_two after w s m =
+      order_kept wide tests.GreaterOrEqual word value after 0 after tt w (omega arith) s
+  comparing_kept LessOrEqual wide word value value_two after w s m =
+      order_kept wide tests.Greater word value after 0 after tt w (omega arith) s
+  comparing_kept Equal wide word value value_two after w s m =
+      equal_kept wide word value 0 after after w (omega arith) s
+  comparing_kept GreaterOrEqual wide word value value_two after w s m =
+      order_kept wide tests.GreaterOrEqual word value 0 after after tt w (omega arith) s
+  comparing_kept Greater wide word value value_two after w s m =
+      order_kept wide tests.Greater word value 0 after after tt w (omega arith) s
+  comparing_kept MaskedEqual wide word value value_two after w s m =
+      masked_kept wide word value value_two after w s (λ h. m h refl)
+
+  comparisons_kept : (wide : Bool) (cs : List Comparison) → (few → length cs ≤ 6) → (plain → All IsUnmasked cs)
+      → AreKept 2 (comparisons_code wide cs)
+  comparisons_kept wide [] s m = tt
+  comparisons_kept wide (c ∷ cs) s m =
+      let others = comparisons_code wide cs in
+      appended (comparison_code wide c (length others + 1)) others (length others + 1 + 1) 2 (omega arith)
+      (comparing_kept c.comparing wide (word_of c.argument) c.value c.value_two (length others + 1)
+      (word_small c.argument) (λ h. omega (arith, s h, comparisons_size wide cs))
+      (λ h. All-head IsUnmasked c cs (m h)))
+      (comparisons_kept wide cs (λ h. omega (arith, s h)) (λ h. All-tail IsUnmasked c cs (m h)))
+
+  -- ---- rules
+
+  return_kept : (code : List Instruction) (value : ℕ) → AreKept 2 code → AreKept 1 (return_code code value)
+  return_kept code value h =
+      appended code (Return value ∷ Load 0 ∷ []) 2 1 (omega arith) h (tt, (omega arith, tt))
+
+  operation_kept : (code : List Instruction) (value number : ℕ) (operation : Option ℕ) → (few → length code ≤ 36)
+      → AreKept 2 code → AreKept 1 (operation_code code value number operation)
+  operation_kept [] value number None s k = ((omega arith, λ h. omega arith, tt), (tt, tt))
+  operation_kept (i ∷ code) value number None s k =
+      ((omega (arith, return_size (i ∷ code) value), λ h. omega (arith, s h), tt), return_kept (i ∷ code) value k)
+  operation_kept code value number (Some operation) s k =
+      let size = return_size code value in (
+        (omega arith, λ h. omega (arith, s h), tt),
+        (omega arith, ((omega arith, λ h. omega (arith, s h), tt), return_kept code value k)),
+      )
+
+  rule_kept : (wide : Bool) (rule : RuleData) → IsKeptRule rule → AreKept 1 (rule_code wide rule)
+  rule_kept wide rule k =
+      let code = comparisons_code wide rule.comparisons in
+      each (λ (call : Call). Unit {0}) (call_code code (returned_value_of rule.response)) rule.calls
+      (λ call u. operation_kept code (returned_value_of rule.response) call.number call.operation
+      (λ h. omega (arith, k.0 h, comparisons_size wide rule.comparisons))
+      (comparisons_kept wide rule.comparisons k.0 k.1))
+      (λ i d lt. tt)
+
+  round_kept : (reading : Reading) (wide : Bool) (rules : List RuleData) (place : ℕ) → All IsKeptRule rules
+      → AreKept 1 (round_code reading wide rules place)
+  round_kept reading wide rules place k =
+      each IsKeptRule (rule_at reading wide place) rules
+      (λ rule r. where_kept (order reading rule == place) (rule_code wide rule) (rule_kept wide rule r)) k
+
+  -- ---- the whole
+
+  newer_kept : (asked : Bool) (rules : List RuleData) → AreKept 1 (newer_where asked rules)
+  newer_kept true rules =
+      where_kept (nat_lt (above_rules rules) (2 ^ 32)) (Branch tests.GreaterOrEqual (above_rules rules) 0 1
+      ∷ Return (0x00050000 + 38) ∷ []) ((omega arith, λ h. omega arith, tt), (tt, tt))
+  newer_kept false rules = tt
+
+  body_kept : (plan : PlanData) (part : SetRulesData) → All IsKeptRule part.rules → AreKept 1 (body_code plan part)
+  body_kept plan part k =
+      let newer = newer_where (plan.newer && refuses_newer plan.default) part.rules in
+      let rounds = flat_map (round_code plan.reading (is_wide part.set) part.rules) places in (
+        omega arith,
+        appended (newer ++ rounds) (Return (returned_value_of plan.default) ∷ []) 1 1 (omega arith)
+            (appended newer rounds 1 1 (omega arith)
+            (newer_kept (plan.newer && refuses_newer plan.default) part.rules)
+            (each (λ (place : ℕ). Unit {0}) (round_code plan.reading (is_wide part.set) part.rules) places
+            (λ place u. round_kept plan.reading (is_wide part.set) part.rules place k) (λ i d lt. tt)))
+            (tt, tt),
+      )
+
+  set_kept : (set : CallSet) (size : ℕ) → AreKept (size + 1) (set_code set size)
+  set_kept X64 size = (
+    omega arith,
+    (
+      (omega arith, λ h. omega arith, tt),
+      (omega arith, ((omega arith, λ h. omega arith, tt), ((omega arith, λ h. omega arith, tt), (omega arith, tt)))),
+    ),
+  )
+  set_kept X32 size = (
+    omega arith,
+    (
+      (omega arith, λ h. omega arith, tt),
+      (omega arith, ((omega arith, λ h. omega arith, tt), ((omega arith, λ h. omega arith, tt), (omega arith, tt)))),
+    ),
+  )
+  set_kept I386 size = (omega arith, ((omega arith, λ h. omega arith, tt), (omega arith, tt)))
+  set_kept Aarch64 size = (omega arith, ((omega arith, λ h. omega arith, tt), (omega arith, tt)))
+  set_kept Arm size = (omega arith, ((omega arith, λ h. omega arith, tt), (omega arith, tt)))
+
+  pub form_kept : (plan : PlanData) → All (λ (part : SetRulesData). All IsKeptRule part.rules) plan.parts
+      → AreKept 0 (form plan)
+  form_kept plan k =
+      appended (flat_map (part_code plan) plan.parts) (Return 0 ∷ []) 1 0 (omega arith)
+      (each (λ (part : SetRulesData). All IsKeptRule part.rules) (part_code plan) plan.parts
+      (λ part r. appended (set_code part.set (length (body_code plan part))) (body_code plan part)
+      (length (body_code plan part) + 1) 1 (omega arith) (set_kept part.set (length (body_code plan part)))
+      (body_kept plan part r)) k) (tt, tt)
+
+abbrev pub Leads : Instruction → ℕ → Type 0
+Leads i n = IsKept ⊥ ⊥ i n
+
+abbrev pub AllLead : ℕ → List Instruction → Type 0
+AllLead tail code = AreKept ⊥ ⊥ tail code
 
 pub form_leads : (plan : PlanData) → AllLead 0 (form plan)
-form_leads plan =
-    all_append (flat_map (part_code plan) plan.parts) (Return 0 ∷ []) 1 0 (omega arith)
-    (all_flat (part_code plan) plan.parts (part_leads plan)) (tt, tt)
+form_leads plan = form_kept ⊥ ⊥ plan (λ k d lt j r less. (λ none. absurd none, λ none. absurd none))

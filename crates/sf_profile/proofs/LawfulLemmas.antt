@@ -61,7 +61,7 @@ in_range (Return k) n l w = w
 inside : (i : Instruction) (at n size : ℕ) → at + 1 + n ≡ size → Leads i n → AllBelow size (targets at (insn_of i))
 inside (Load word) at n size e l = tt
 inside (Mask k) at n size e l = tt
-inside (Branch test k on_true on_false) at n size e l = (omega (arith, l.0), (omega (arith, l.1), tt))
+inside (Branch test k on_true on_false) at n size e l = (omega (arith, l.0), (omega (arith, l.0), tt))
 inside (Skip k) at n size e l = (omega arith, tt)
 inside (Return k) at n size e l = tt
 

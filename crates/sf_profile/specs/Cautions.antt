@@ -1,5 +1,5 @@
 -- What a profile says, and its writer may not mean.
-use Rattle.std.specs.Prelude.{◌≡◌, ℕ, ◌+◌, Bool, true, false, not, ◌&&◌, ◌==◌, bit_and, All, List, [], ◌∷◌, ◌++◌, codes, Some, None}
+use Rattle.std.specs.Prelude.{◌≡◌, ℕ, ◌+◌, Bool, true, false, not, ◌&&◌, ◌==◌, bit_and, All, List, [], ◌∷◌, ◌++◌, codes}
 use Rattle.std.specs.List.{list_any}
 use Rattle.serde_json.specs.Data.{Data}
 use Rattle.sf_insn.specs.declared.input.Input.{Input}
@@ -14,11 +14,8 @@ use Rattle.sf_profile.specs.declared.rules.Comparison.{Comparison}
 use Rattle.sf_profile.specs.declared.settings.Settings.{Settings}
 use Rattle.sf_profile.specs.Trees.{at, listed}
 use Rattle.sf_profile.specs.Meaning.{number_in}
-use Rattle.sf_profile.specs.Plans.{applies, comparison_of, plan_of}
-use Rattle.sf_profile.specs.Configs.{profile_in}
-use Rattle.sf_profile.specs.Refusals.{profile_refusal}
-use Rattle.sf_profile.specs.Form.{form_bytes}
-use Rattle.sf_profile.specs.Filters.{IsFilterOf, IsTree}
+use Rattle.sf_profile.specs.Plans.{applies, comparison_of}
+use Rattle.sf_profile.specs.Filters.{MakesFilter}
 
 -- ---- comparisons under a mask
 
@@ -64,24 +61,8 @@ pub record AreProgramOf (bytes : List ℕ) (programs : List (List Insn)) : Type 
 
 -- numbers of inputs that the filter of a profile answers ERRNO 0
 pub record HaveZeroErrors (s : Settings) (profile : Data) (numbers : List ℕ) : Type 0 where
-  pub accepted : profile_refusal s profile ≡ None
   pub bytes : List ℕ
-  pub is_form : bytes ≡ form_bytes (plan_of s profile)
-  pub filter : IsFilterOf bytes (plan_of s profile)
+  pub made : MakesFilter s profile bytes
   pub programs : List (List Insn)
   pub are_program : AreProgramOf bytes programs
   pub zero : All (AnswerZero programs) numbers
-
--- ---- files
-
--- something is true of the profile in a file's tree
-pub record IsInFile (is_true : Data → Type 0) (file : Data) : Type 0 where
-  pub profile : Data
-  pub is_there : profile_in file ≡ Some profile
-  pub holds : is_true profile
-
--- the same, from the bytes of the file
-pub record IsInText (is_true : Data → Type 0) (text : List ℕ) : Type 0 where
-  pub file : Data
-  pub is_tree : IsTree text file
-  pub holds : IsInFile is_true file

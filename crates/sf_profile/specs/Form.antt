@@ -40,49 +40,39 @@ high n = n / 2 ^ 32 % 2 ^ 32
 abbrev pub low : ℕ → ℕ
 low n = n % 2 ^ 32
 
--- a test of 64 bits for equality, of the word at a place and the one after it
-abbrev pub equal_code : ℕ → ℕ → ℕ → ℕ → List Instruction
-equal_code word value on_true on_false =
+-- A test for equality, of 64 bits or of the low 32. Where to go on is told by how many instructions after its end that
+-- is, where it holds and where it doesn't.
+abbrev pub equal_code : Bool → ℕ → ℕ → ℕ → ℕ → List Instruction
+equal_code true word value on_true on_false =
     Load (word + 1) ∷ Branch tests.Equal (high value) 0 (on_false + 2)
     ∷ Load word ∷ Branch tests.Equal (low value) on_true on_false ∷ []
+equal_code false word value on_true on_false = Load word ∷ Branch tests.Equal (low value) on_true on_false ∷ []
 
--- a test of 64 bits for an order: the high halves, and where they are equal, the low ones
-abbrev pub order_code : Test → ℕ → ℕ → ℕ → ℕ → List Instruction
-order_code test word value on_true on_false =
+-- a test for an order: of the high halves, and where they are equal, of the low ones
+abbrev pub order_code : Bool → Test → ℕ → ℕ → ℕ → ℕ → List Instruction
+order_code true test word value on_true on_false =
     Load (word + 1) ∷ Branch tests.Greater (high value) (on_true + 3) 0
     ∷ Branch tests.Equal (high value) 0 (on_false + 2)
     ∷ Load word ∷ Branch test (low value) on_true on_false ∷ []
+order_code false test word value on_true on_false = Load word ∷ Branch test (low value) on_true on_false ∷ []
 
--- a test of 64 bits
-abbrev pub wide_code : Test → ℕ → ℕ → ℕ → ℕ → List Instruction
-wide_code tests.Equal word value on_true on_false = equal_code word value on_true on_false
-wide_code tests.Greater word value on_true on_false = order_code tests.Greater word value on_true on_false
-wide_code tests.GreaterOrEqual word value on_true on_false = order_code tests.GreaterOrEqual word value on_true on_false
-wide_code tests.AnyBit word value on_true on_false = order_code tests.AnyBit word value on_true on_false
-
--- a test of 64 bits, or of 32: where to go on is told by how many instructions after its end that is, where it holds
--- and where it doesn't
-abbrev pub test_code : Bool → Test → ℕ → ℕ → ℕ → ℕ → List Instruction
-test_code true test word value on_true on_false = wide_code test word value on_true on_false
-test_code false test word value on_true on_false = Load word ∷ Branch test (low value) on_true on_false ∷ []
-
--- a comparison under a mask, of 64 bits, or of 32
-abbrev pub masked_code : Bool → ℕ → ℕ → ℕ → ℕ → List Instruction
-masked_code true word mask value after =
-    Load (word + 1) ∷ Mask (high mask) ∷ Branch tests.Equal (bit_and (high value) (high mask)) 0 (after + 3)
-    ∷ Load word ∷ Mask (low mask) ∷ Branch tests.Equal (bit_and (low value) (low mask)) 0 after ∷ []
-masked_code false word mask value after =
-    Load word ∷ Mask (low mask) ∷ Branch tests.Equal (bit_and (low value) (low mask)) 0 after ∷ []
+-- a test for equality under a mask
+abbrev pub masked_code : Bool → ℕ → ℕ → ℕ → ℕ → ℕ → List Instruction
+masked_code true word mask value on_true on_false =
+    Load (word + 1) ∷ Mask (high mask) ∷ Branch tests.Equal (bit_and (high value) (high mask)) 0 (on_false + 3)
+    ∷ Load word ∷ Mask (low mask) ∷ Branch tests.Equal (bit_and (low value) (low mask)) on_true on_false ∷ []
+masked_code false word mask value on_true on_false =
+    Load word ∷ Mask (low mask) ∷ Branch tests.Equal (bit_and (low value) (low mask)) on_true on_false ∷ []
 
 -- A comparison: where it holds, what follows it comes next; where it doesn't, so many instructions are skipped.
 abbrev pub comparing_code : Comparing → Bool → ℕ → ℕ → ℕ → ℕ → List Instruction
-comparing_code NotEqual wide word value value_two after = test_code wide tests.Equal word value after 0
-comparing_code Less wide word value value_two after = test_code wide tests.GreaterOrEqual word value after 0
-comparing_code LessOrEqual wide word value value_two after = test_code wide tests.Greater word value after 0
-comparing_code Equal wide word value value_two after = test_code wide tests.Equal word value 0 after
-comparing_code GreaterOrEqual wide word value value_two after = test_code wide tests.GreaterOrEqual word value 0 after
-comparing_code Greater wide word value value_two after = test_code wide tests.Greater word value 0 after
-comparing_code MaskedEqual wide word value value_two after = masked_code wide word value value_two after
+comparing_code NotEqual wide word value value_two after = equal_code wide word value after 0
+comparing_code Less wide word value value_two after = order_code wide tests.GreaterOrEqual word value after 0
+comparing_code LessOrEqual wide word value value_two after = order_code wide tests.Greater word value after 0
+comparing_code Equal wide word value value_two after = equal_code wide word value 0 after
+comparing_code GreaterOrEqual wide word value value_two after = order_code wide tests.GreaterOrEqual word value 0 after
+comparing_code Greater wide word value value_two after = order_code wide tests.Greater word value 0 after
+comparing_code MaskedEqual wide word value value_two after = masked_code wide word value value_two 0 after
 
 abbrev pub comparison_code : Bool → Comparison → ℕ → List Instruction
 comparison_code wide c after = comparing_code c.comparing wide (word_of c.argument) c.value c.value_two after

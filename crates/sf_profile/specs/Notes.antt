@@ -1,5 +1,5 @@
 -- What is told of a profile.
-use Rattle.std.specs.Prelude.{◌≡◌, ◌≤◌, ℕ, ◌+◌, List, [], ◌∷◌, ◌++◌, codes, length, filter, fold, Some, None, if◌then◌else◌}
+use Rattle.std.specs.Prelude.{◌≡◌, ◌≤◌, ℕ, ◌+◌, List, [], ◌∷◌, ◌++◌, codes, length, filter, fold, None, if◌then◌else◌}
 use Rattle.std.specs.List.{list_any, flat_map}
 use Rattle.std.specs.Str.{bytes_eq}
 use Rattle.std.specs.Fmt.{decimal}
@@ -13,10 +13,9 @@ use Rattle.sf_profile.specs.Trees.{at, listed}
 use Rattle.sf_profile.specs.Settings.{is_unknown}
 use Rattle.sf_profile.specs.Known.{is_nowhere}
 use Rattle.sf_profile.specs.Plans.{applies, rule_names, response_at, sets_of, plan_of}
-use Rattle.sf_profile.specs.Configs.{profile_in}
 use Rattle.sf_profile.specs.Refusals.{profile_refusal}
 use Rattle.sf_profile.specs.Form.{form}
-use Rattle.sf_profile.specs.Filters.{IsTree}
+use Rattle.sf_profile.specs.Filters.{IsInText}
 
 -- the parts of a line one blank apart, and a line feed
 abbrev pub note_line : List (List ℕ) → List ℕ
@@ -115,17 +114,9 @@ pub record AreNotesOf (s : Settings) (profile : Data) (notes : List ℕ) : Type 
   pub short : length (form (plan_of s profile)) ≤ 4096
   pub text : notes ≡ notes_text s profile (length (form (plan_of s profile)))
 
--- the notes of the profile in a file's tree
-pub record AreNotesOfFile (s : Settings) (file : Data) (notes : List ℕ) : Type 0 where
-  pub profile : Data
-  pub is_there : profile_in file ≡ Some profile
-  pub notes_are : AreNotesOf s profile notes
-
 -- the notes of the profile in a file
-pub record AreNotesOfText (s : Settings) (text notes : List ℕ) : Type 0 where
-  pub file : Data
-  pub is_tree : IsTree text file
-  pub notes_are : AreNotesOfFile s file notes
+abbrev pub AreNotesOfText : Settings → List ℕ → List ℕ → Type 0
+AreNotesOfText s text notes = IsInText (λ profile. AreNotesOf s profile notes) text
 
 -- ---- names that are passed over
 
@@ -134,13 +125,5 @@ abbrev pub name_word : List ℕ → List ℕ
 name_word name = 32 ∷ name
 
 -- the names of the profile in a file that no machine has, with a blank before each
-pub record AreUnknownIn (s : Settings) (file : Data) (words : List ℕ) : Type 0 where
-  pub profile : Data
-  pub is_there : profile_in file ≡ Some profile
-  pub words_are : words ≡ flat_map name_word (nowhere_names s profile)
-
--- the same, from the bytes of the file
-pub record AreUnknownOf (s : Settings) (text words : List ℕ) : Type 0 where
-  pub file : Data
-  pub is_tree : IsTree text file
-  pub words_are : AreUnknownIn s file words
+abbrev pub AreUnknownOf : Settings → List ℕ → List ℕ → Type 0
+AreUnknownOf s text words = IsInText (λ profile. words ≡ flat_map name_word (nowhere_names s profile)) text

@@ -11,7 +11,6 @@ use Rattle.sf_profile.specs.declared.rules.Response.{Response}
 use Rattle.sf_profile.specs.Trees.{at, is_absent, listed, absent_or, present, is_text, is_list_of, is_whole_number, text_in, text_where, whole_where, is_object_of}
 use Rattle.sf_profile.specs.Profiles.{profile_keys, map_keys, rule_keys, argument_keys, condition_keys, set_named, response_named, has_data, comparing_named, up_to, up_to_or, version_of}
 use Rattle.sf_profile.specs.Errors.{is_error_name}
-use Rattle.sf_profile.specs.Configs.{profile_in}
 use Rattle.sf_profile.specs.declared.settings.Settings.{Settings}
 use Rattle.sf_profile.specs.Settings.{has_calls}
 use Rattle.sf_profile.specs.Plans.{is_own_item}
@@ -61,7 +60,7 @@ has_names_or_name d =
 -- what a rule does
 abbrev pub is_action_of_rule : List ℕ → List ℕ → List ℕ → Data → Bool
 is_action_of_rule action number name d =
-    present is_text (at action d) && absent_or is_whole_number (at number d) && has_right_error_name name number d
+    present is_text (at action d) && has_right_error_name name number d && absent_or is_whole_number (at number d)
     && fits_action action number d
 
 -- a rule whose keys are all known and of their kinds
@@ -147,14 +146,14 @@ abbrev pub has_sets : Data → Bool
 has_sets d =
     (is_absent (codes "archMap") d || is_absent (codes "architectures") d)
     && absent_or (is_list_of is_text) (at (codes "architectures") d)
-    && absent_or (is_list_of is_map_item) (at (codes "archMap") d)
 
 -- a profile whose keys are all known and of their kinds
 abbrev pub is_profile : Data → Bool
 is_profile d =
     is_object_of profile_keys d && is_action_of_rule (codes "defaultAction") (codes "defaultErrnoRet")
     (codes "defaultErrno") d
-    && has_sets d && absent_or is_array (at (codes "syscalls") d)
+    && absent_or is_array (at (codes "syscalls") d) && absent_or (is_list_of is_map_item) (at (codes "archMap") d)
+    && has_sets d
 
 -- the set of a name is known, and its calls are given
 abbrev pub knows_set : Settings → Option CallSet → Bool
@@ -183,11 +182,3 @@ profile_refusal s d =
     else if not (has_error_number_or_none (codes "defaultErrnoRet") d) then Some faults.Range
     else if not (knows_sets s d) then Some faults.Set
     else rules_refusal s 1 8192 (listed (at (codes "syscalls") d))
-
-abbrev pub refusal_where : Settings → Option Data → Option Fault
-refusal_where s None = Some faults.Key
-refusal_where s (Some p) = profile_refusal s p
-
--- why a file is refused, if it is
-abbrev pub refusal_of : Settings → Data → Option Fault
-refusal_of s d = refusal_where s (profile_in d)

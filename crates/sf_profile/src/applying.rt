@@ -14,17 +14,10 @@ use crate::tree::{at, items_at, text_of};
 use serde_json::Value;
 
 /// Whether one of the values is this text. A value that is no text counts as the empty one.
-fn is_text_among(items: &[Value], text: &str) -> bool
-    ensures { result ≡ list_any (λ v. bytes_eq text.now (text_in (view v))) items.now }
-{
-    items.iter().any(|value| text == text_of(value))
-}
-
-/// For the prover: `is_text_among`, said of the texts.
 fn has_text(items: &[Value], text: &str) -> bool
     ensures { result ≡ list_any (bytes_eq text.now) (map text_in (map view items.now)) }
 {
-    is_text_among(items, text)
+    items.iter().any(|value| text == text_of(value))
 }
 
 /// Whether the condition `value`, that of a rule's `includes` or `excludes`, names the machine.
@@ -44,32 +37,18 @@ fn names_none(value: &Value) -> bool
 }
 
 /// Whether the container has all capabilities that the values name. A value that is no text counts as the empty name.
-fn has_each_cap(settings: &Settings, items: &[Value]) -> bool
-    ensures { result ≡ list_all (λ v. has_cap settings.now (text_in (view v))) items.now }
+fn has_caps(settings: &Settings, items: &[Value]) -> bool
+    ensures { result ≡ list_all (has_cap settings.now) (map text_in (map view items.now)) }
 {
     items.iter().all(|value| settings.has_cap(text_of(value)))
 }
 
-/// For the prover: `has_each_cap`, said of the texts.
-fn has_caps(settings: &Settings, items: &[Value]) -> bool
-    ensures { result ≡ list_all (has_cap settings.now) (map text_in (map view items.now)) }
-{
-    has_each_cap(settings, items)
-}
-
 /// Whether the container has one of the capabilities that the values name. A value that is no text counts as the empty
 /// name.
-fn has_some_cap(settings: &Settings, items: &[Value]) -> bool
-    ensures { result ≡ list_any (λ v. has_cap settings.now (text_in (view v))) items.now }
-{
-    items.iter().any(|value| settings.has_cap(text_of(value)))
-}
-
-/// For the prover: `has_some_cap`, said of the texts.
 fn has_a_cap(settings: &Settings, items: &[Value]) -> bool
     ensures { result ≡ list_any (has_cap settings.now) (map text_in (map view items.now)) }
 {
-    has_some_cap(settings, items)
+    items.iter().any(|value| settings.has_cap(text_of(value)))
 }
 
 /// Whether the kernel's version is `least` or newer. False where one of the two isn't known.

@@ -1,10 +1,10 @@
 //! What a profile says, and its writer may not mean: comparisons under a mask with a bit outside it, and ERRNO 0.
 
-ghost use Rattle.std.specs.Prelude.{◌≡◌, ◌++◌, codes, map, IfErr, IfOk, OnOk};
+ghost use Rattle.std.specs.Prelude.{◌≡◌, ◌++◌, map, IfErr, IfOk, OnOk};
 ghost use Rattle.std.specs.List.{list_any};
 ghost use Rattle.serde_json.specs.View.{view};
-ghost use Rattle.sf_profile.specs.Cautions.{HaveZeroErrors, IsInFile, IsInText, has_loose_mask, is_loose, is_masked, loose_from, loose_masks, number_if};
-ghost use Rattle.sf_profile.specs.Filters.{IsRefused, IsRefusedText};
+ghost use Rattle.sf_profile.specs.Cautions.{HaveZeroErrors, has_loose_mask, is_loose, is_masked, loose_from, loose_masks, number_if};
+ghost use Rattle.sf_profile.specs.Filters.{IsInText, IsRefused, IsRefusedText};
 ghost use Rattle.sf_profile.specs.Plans.{comparison_of};
 
 use crate::applying::applies;
@@ -33,17 +33,10 @@ fn is_loose(comparison: Comparison) -> bool
         && comparison.value_two & comparison.value != comparison.value_two
 }
 
-fn is_some_loose(items: &[Value]) -> bool
-    ensures { result ≡ list_any (λ v. is_loose (comparison_of (view v))) items.now }
-{
-    items.iter().any(|value| is_loose(comparison_of(value)))
-}
-
-/// For the prover: `is_some_loose`, said of their trees.
 fn has_loose(items: &[Value]) -> bool
     ensures { result ≡ list_any (λ v. is_loose (comparison_of v)) (map view items.now) }
 {
-    is_some_loose(items)
+    items.iter().any(|value| is_loose(comparison_of(value)))
 }
 
 fn has_loose_mask(settings: &Settings, value: &Value) -> bool
@@ -79,21 +72,10 @@ fn loose_rules(
 /// The numbers, from 1, of those rules of the profile `value` of which `has_loose_mask` is true.
 fn loose_in_profile(alloc: Global, settings: &Settings, value: &Value) -> Result<Vec<usize>, Fault>
     ensures loose { IfOk result (λ v. v.items ≡ loose_masks settings.now (view value.now)) }
-    ensures refused { IfErr result (λ e. e ≡ Fault.Memory) }
+    ensures refused { IfErr result (λ e. IsRefused settings.now (view value.now) e) }
 {
     let numbers = loose_rules(alloc, settings, items_at(value, "syscalls"))?;
     Ok(numbers)
-}
-
-fn loose_in_file(alloc: Global, settings: &Settings, value: &Value) -> Result<Vec<usize>, Fault>
-    ensures loose { IfOk result (λ v. IsInFile (λ p. v.items ≡ loose_masks settings.now p)
-        (view value.now)) }
-    ensures refused { IfErr result (λ e. IsRefused settings.now (view value.now) e) }
-{
-    match profile_in(value) {
-        Some(profile) => loose_in_profile(alloc, settings, profile),
-        None => Err(Fault::Key),
-    }
 }
 
 /// The numbers, from 1, of the rules that apply and have an `SCMP_CMP_MASKED_EQ` whose `valueTwo` has a bit outside its
@@ -105,17 +87,9 @@ pub fn loose_masks(alloc: Global, settings: &Settings, bytes: &[u8]) -> Result<V
     ensures refused { IfErr result (λ e. IsRefusedText settings.now bytes.now e) }
 {
     let value = tree_of(alloc, bytes)?;
-    loose_in_file(alloc, settings, &value)
-}
-
-fn zeros_in_file(alloc: Global, settings: &Settings, value: &Value) -> Result<Vec<u32>, Fault>
-    ensures zeros { IfOk result (λ v. IsInFile (λ p. HaveZeroErrors settings.now p v.items)
-        (view value.now)) }
-    ensures refused { IfErr result (λ e. IsRefused settings.now (view value.now) e) }
-{
-    match profile_in(value) {
-        Some(profile) => zeros_of_profile(alloc, settings, profile),
-        None => Err(Fault::Key),
+    match profile_in(&value) {
+        Ok(profile) => loose_in_profile(alloc, settings, profile),
+        Err(refusal) => Err(refusal.fault),
     }
 }
 
@@ -128,5 +102,8 @@ pub fn zero_errors(alloc: Global, settings: &Settings, bytes: &[u8]) -> Result<V
     ensures refused { IfErr result (λ e. IsRefusedText settings.now bytes.now e) }
 {
     let value = tree_of(alloc, bytes)?;
-    zeros_in_file(alloc, settings, &value)
+    match profile_in(&value) {
+        Ok(profile) => zeros_of_profile(alloc, settings, profile),
+        Err(refusal) => Err(refusal.fault),
+    }
 }

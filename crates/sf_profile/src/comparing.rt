@@ -1,7 +1,7 @@
 //! The code of comparisons.
 
 ghost use Rattle.std.specs.Prelude.{◌≡◌, ◌++◌, ◌+◌, ◌<◌, ◌^◌, IfOk, OnOk, true, false};
-ghost use Rattle.sf_profile.specs.Form.{comparison_code, comparisons_code, equal_code, high, low, masked_code, order_code, test_code, wide_code};
+ghost use Rattle.sf_profile.specs.Form.{comparison_code, comparisons_code, equal_code, high, low, masked_code, order_code};
 ghost use Rattle.sf_profile.specs.Meaning.{word_of};
 
 use crate::instruction::Instruction;
@@ -9,14 +9,14 @@ use crate::rules::{Argument, Comparing, Comparison};
 use sf_insn::Test;
 use std::alloc::{AllocError, Global};
 
-/// What a test compares, and how many instructions are skipped after it, by its result.
+/// What of an argument is tested against which value, and how many instructions behind the test's code are skipped.
 #[derive(Clone, Copy, Debug)]
-struct Asked {
+struct TestAndSkips {
+    /// Whether all 64 bits are tested; if not, the low 32 are.
+    wide: bool,
     /// The word with the low half of the argument.
     word: u8,
-    /// The value that the argument is compared with; in a test under a mask, the mask.
     value: u64,
-    /// How many instructions behind the test's code are skipped where the test holds.
     on_true: usize,
     on_false: usize,
     ghost near: { (word < 15) × (on_true < 2 ^ 63) × (on_false < 2 ^ 63) },
@@ -49,130 +49,77 @@ pub(crate) fn word_of(argument: Argument) -> u8
     }
 }
 
-/// Adds a test of 64 bits for equality: first of the high halves, then of the low ones. Where the high halves differ,
-/// the first branch also skips the rest of this code, two instructions.
-fn push_equal(code: &mut Vec<Instruction>, asked: Asked) -> Result<(), AllocError>
+/// Adds a test for equality: first of the high halves, then of the low ones. Where the high halves differ, the first
+/// branch also skips the rest of this code, two instructions.
+fn push_equal(code: &mut Vec<Instruction>, test: TestAndSkips) -> Result<(), AllocError>
     ensures { OnOk result (code.new.items ≡ code.old.items
-        ++ equal_code asked.word asked.value asked.on_true asked.on_false) }
+        ++ equal_code test.wide test.word test.value test.on_true test.on_false) }
 {
-    code.extend_from_slice(&[
-        Instruction::Load(asked.word + 1),
-        Instruction::Branch(Test::Equal, high(asked.value), 0, asked.on_false + 2),
-        Instruction::Load(asked.word),
-        Instruction::Branch(Test::Equal, low(asked.value), asked.on_true, asked.on_false),
-    ])
-}
-
-/// Adds a test of 64 bits for an order, `Greater` or `GreaterOrEqual`. The high halves decide; where they are equal,
-/// the low ones do. Where the high halves differ, a branch also skips the rest of this code.
-fn push_order(code: &mut Vec<Instruction>, test: Test, asked: Asked) -> Result<(), AllocError>
-    ensures { OnOk result (code.new.items ≡ code.old.items
-        ++ order_code test asked.word asked.value asked.on_true asked.on_false) }
-{
-    code.extend_from_slice(&[
-        Instruction::Load(asked.word + 1),
-        Instruction::Branch(Test::Greater, high(asked.value), asked.on_true + 3, 0),
-        Instruction::Branch(Test::Equal, high(asked.value), 0, asked.on_false + 2),
-        Instruction::Load(asked.word),
-        Instruction::Branch(test, low(asked.value), asked.on_true, asked.on_false),
-    ])
-}
-
-/// Adds a test of the low 32 bits.
-fn push_narrow(code: &mut Vec<Instruction>, test: Test, asked: Asked) -> Result<(), AllocError>
-    ensures { OnOk result (code.new.items ≡ code.old.items
-        ++ test_code false test asked.word asked.value asked.on_true asked.on_false) }
-{
-    code.extend_from_slice(&[
-        Instruction::Load(asked.word),
-        Instruction::Branch(test, low(asked.value), asked.on_true, asked.on_false),
-    ])
-}
-
-/// Adds a test of 64 bits. `test` is never `AnyBit`: no comparison asks for a common bit.
-fn push_wide(code: &mut Vec<Instruction>, test: Test, asked: Asked) -> Result<(), AllocError>
-    ensures { OnOk result (code.new.items ≡ code.old.items
-        ++ wide_code test asked.word asked.value asked.on_true asked.on_false) }
-{
-    match test {
-        Test::Equal => push_equal(code, asked),
-        Test::Greater | Test::GreaterOrEqual | Test::AnyBit => push_order(code, test, asked),
+    if test.wide {
+        return code.extend_from_slice(&[
+            Instruction::Load(test.word + 1),
+            Instruction::Branch(Test::Equal, high(test.value), 0, test.on_false + 2),
+            Instruction::Load(test.word),
+            Instruction::Branch(Test::Equal, low(test.value), test.on_true, test.on_false),
+        ]);
     }
+    code.extend_from_slice(&[
+        Instruction::Load(test.word),
+        Instruction::Branch(Test::Equal, low(test.value), test.on_true, test.on_false),
+    ])
 }
 
-fn push_test(
+/// Adds a test for an order, `Greater` or `GreaterOrEqual`. The high halves decide; where they are equal, the low ones
+/// do. Where the high halves differ, a branch also skips the rest of this code.
+fn push_order(
     code: &mut Vec<Instruction>,
-    wide: bool,
-    test: Test,
-    asked: Asked,
+    order: Test,
+    test: TestAndSkips,
 ) -> Result<(), AllocError>
     ensures { OnOk result (code.new.items ≡ code.old.items
-        ++ test_code wide test asked.word asked.value asked.on_true asked.on_false) }
+        ++ order_code test.wide order test.word test.value test.on_true test.on_false) }
 {
-    if wide {
-        push_wide(code, test, asked)
-    } else {
-        push_narrow(code, test, asked)
+    if test.wide {
+        return code.extend_from_slice(&[
+            Instruction::Load(test.word + 1),
+            Instruction::Branch(Test::Greater, high(test.value), test.on_true + 3, 0),
+            Instruction::Branch(Test::Equal, high(test.value), 0, test.on_false + 2),
+            Instruction::Load(test.word),
+            Instruction::Branch(order, low(test.value), test.on_true, test.on_false),
+        ]);
     }
+    code.extend_from_slice(&[
+        Instruction::Load(test.word),
+        Instruction::Branch(order, low(test.value), test.on_true, test.on_false),
+    ])
 }
 
-/// Adds a test whether an argument of 64 bits has the bits of `value_two` under the mask `asked.value`. Where the test
-/// holds, nothing is skipped: `asked.on_true` isn't used.
-fn push_wide_mask(
+/// Adds a test whether an argument has the bits of `value_two` under the mask `test.value`.
+fn push_masked(
     code: &mut Vec<Instruction>,
-    asked: Asked,
+    test: TestAndSkips,
     value_two: u64,
 ) -> Result<(), AllocError>
     ensures { OnOk result (code.new.items ≡ code.old.items
-        ++ masked_code true asked.word asked.value value_two asked.on_false) }
+        ++ masked_code test.wide test.word test.value value_two test.on_true test.on_false) }
 {
-    let mask = asked.value;
-    code.extend_from_slice(&[
-        Instruction::Load(asked.word + 1),
-        Instruction::Mask(high(mask)),
-        Instruction::Branch(
-            Test::Equal,
-            high(value_two) & high(mask),
-            0,
-            asked.on_false + 3,
-        ),
-        Instruction::Load(asked.word),
-        Instruction::Mask(low(mask)),
-        Instruction::Branch(Test::Equal, low(value_two) & low(mask), 0, asked.on_false),
-    ])
-}
-
-/// The same for the low 32 bits.
-fn push_narrow_mask(
-    code: &mut Vec<Instruction>,
-    asked: Asked,
-    value_two: u64,
-) -> Result<(), AllocError>
-    ensures { OnOk result (code.new.items ≡ code.old.items
-        ++ masked_code false asked.word asked.value value_two asked.on_false) }
-{
-    let mask = asked.value;
-    code.extend_from_slice(&[
-        Instruction::Load(asked.word),
-        Instruction::Mask(low(mask)),
-        Instruction::Branch(Test::Equal, low(value_two) & low(mask), 0, asked.on_false),
-    ])
-}
-
-fn push_mask(
-    code: &mut Vec<Instruction>,
-    wide: bool,
-    asked: Asked,
-    value_two: u64,
-) -> Result<(), AllocError>
-    ensures { OnOk result (code.new.items ≡ code.old.items
-        ++ masked_code wide asked.word asked.value value_two asked.on_false) }
-{
-    if wide {
-        push_wide_mask(code, asked, value_two)
-    } else {
-        push_narrow_mask(code, asked, value_two)
+    let (high_mask, low_mask) = (high(test.value), low(test.value));
+    let (high_bits, low_bits) = (high(value_two) & high_mask, low(value_two) & low_mask);
+    if test.wide {
+        return code.extend_from_slice(&[
+            Instruction::Load(test.word + 1),
+            Instruction::Mask(high_mask),
+            Instruction::Branch(Test::Equal, high_bits, 0, test.on_false + 3),
+            Instruction::Load(test.word),
+            Instruction::Mask(low_mask),
+            Instruction::Branch(Test::Equal, low_bits, test.on_true, test.on_false),
+        ]);
     }
+    code.extend_from_slice(&[
+        Instruction::Load(test.word),
+        Instruction::Mask(low_mask),
+        Instruction::Branch(Test::Equal, low_bits, test.on_true, test.on_false),
+    ])
 }
 
 /// Adds the code of a comparison, of 64 bits or of the low 32. Where it doesn't hold, `after` instructions behind this
@@ -190,26 +137,28 @@ fn push_comparison(
 {
     let word = word_of(comparison.argument);
     let value = comparison.value;
-    let holds = Asked {
+    let holds = TestAndSkips {
+        wide,
         word,
         value,
         on_true: 0,
         on_false: after,
     };
-    let fails = Asked {
+    let fails = TestAndSkips {
+        wide,
         word,
         value,
         on_true: after,
         on_false: 0,
     };
     match comparison.comparing {
-        Comparing::NotEqual => push_test(code, wide, Test::Equal, fails),
-        Comparing::Less => push_test(code, wide, Test::GreaterOrEqual, fails),
-        Comparing::LessOrEqual => push_test(code, wide, Test::Greater, fails),
-        Comparing::Equal => push_test(code, wide, Test::Equal, holds),
-        Comparing::GreaterOrEqual => push_test(code, wide, Test::GreaterOrEqual, holds),
-        Comparing::Greater => push_test(code, wide, Test::Greater, holds),
-        Comparing::MaskedEqual => push_mask(code, wide, holds, comparison.value_two),
+        Comparing::NotEqual => push_equal(code, fails),
+        Comparing::Less => push_order(code, Test::GreaterOrEqual, fails),
+        Comparing::LessOrEqual => push_order(code, Test::Greater, fails),
+        Comparing::Equal => push_equal(code, holds),
+        Comparing::GreaterOrEqual => push_order(code, Test::GreaterOrEqual, holds),
+        Comparing::Greater => push_order(code, Test::Greater, holds),
+        Comparing::MaskedEqual => push_masked(code, holds, comparison.value_two),
     }
 }
 

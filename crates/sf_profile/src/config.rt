@@ -1,6 +1,6 @@
 //! Where the profile stands in a file.
 
-ghost use Rattle.std.specs.Prelude.{◌≡◌, ◌==◌, codes, map, option_map, string_bytes};
+ghost use Rattle.std.specs.Prelude.{◌≡◌, ◌==◌, IfErr, IfOk, None, Some, codes, map, string_bytes};
 ghost use Rattle.std.specs.BTreeMap.{keys};
 ghost use Rattle.std.specs.Char.{to_ascii_lowercase};
 ghost use Rattle.std.specs.List.{list_any, list_all};
@@ -9,12 +9,14 @@ ghost use Rattle.sf_profile.specs.Configs.{are_clear_annotations, folded, has_ze
 ghost use Rattle.sf_profile.specs.Profiles.{profile_keys};
 ghost use Rattle.sf_profile.specs.Trees.{absent_or, all_keys, at, is_object_with};
 
+use crate::fault::Fault;
 use crate::keys::{PROFILE_KEYS, is_absent};
-use crate::tree::{at, items_at};
+use crate::tree::{at, is_among, items_at};
+use crate::wording::{Refusal, Why, because};
 use serde_json::{Map, Value};
 
 /// The annotation at which crun takes a filter, as bytes in base64: crun(1).
-pub(crate) const OTHER_FILTER: &str = "run.oci.seccomp_bpf_data";
+const OTHER_FILTER: &str = "run.oci.seccomp_bpf_data";
 
 /// A character without its case, as Go's `encoding/json` compares keys. U+212A, the sign of kelvins, is a k, and
 /// U+017F, the long s, an s; no other character counts as an ASCII letter.
@@ -53,27 +55,20 @@ fn has_letters(key: &str, letters: &[u8]) -> bool
 }
 
 /// Whether Go takes a key for the known one, which is ASCII: they are equal, or differ only in case.
-pub(crate) fn is_taken_for(key: &str, known: &str) -> bool
+fn is_taken_for(key: &str, known: &str) -> bool
     ensures { result ≡ is_taken_for key.now known.now }
 {
     has_letters(key, known.as_bytes())
 }
 
-fn is_taken_for_one(key: &str, known: &[&str]) -> bool
-    ensures { result ≡ list_any (λ k. is_taken_for key.now k.now) known.now }
+fn is_taken_for_any(key: &str, known: &[&str]) -> bool
+    ensures { result ≡ list_any (is_taken_for key.now) (map (λ k. k.now) known.now) }
 {
     known.iter().any(|k| is_taken_for(key, *k))
 }
 
-/// For the prover: `is_taken_for_one`, said of the texts.
-fn is_taken_for_any(key: &str, known: &[&str]) -> bool
-    ensures { result ≡ list_any (is_taken_for key.now) (map (λ k. k.now) known.now) }
-{
-    is_taken_for_one(key, known)
-}
-
 /// Whether a key has a byte 0. crun's reader, libyajl, ends it there.
-pub(crate) fn has_zero(key: &str) -> bool
+fn has_zero(key: &str) -> bool
     ensures { result ≡ has_zero key.now }
 {
     key.as_bytes().contains(&0)
@@ -142,17 +137,10 @@ fn is_oci_rule(value: &Value) -> bool
     is_absent(value, "name") && is_absent(value, "includes") && is_absent(value, "excludes")
 }
 
-fn are_each_oci_rules(items: &[Value]) -> bool
-    ensures { result ≡ list_all (λ v. is_oci_rule (view v)) items.now }
-{
-    items.iter().all(|value| is_oci_rule(value))
-}
-
-/// For the prover: `are_each_oci_rules`, said of their trees.
 fn are_oci_rules(items: &[Value]) -> bool
     ensures { result ≡ list_all is_oci_rule (map view items.now) }
 {
-    are_each_oci_rules(items)
+    items.iter().all(|value| is_oci_rule(value))
 }
 
 fn is_oci_profile(value: &Value) -> bool
@@ -182,16 +170,153 @@ fn is_clear_config(value: &Value, linux: &Value) -> bool
         && has_oci_profile(linux)
 }
 
+/// A key for which no profile is taken from a whole config.json, and why.
+#[derive(Debug, Drop)]
+struct Unclear<'a> {
+    key: &'a str,
+    why: Option<Why>,
+}
+
+/// The known key for which Go takes another one.
+pub(crate) fn case_of(key: &str, known: &[&'static str]) -> Option<Why> {
+    for one in known {
+        if is_taken_for(key, *one) {
+            return Some(Why::Case { known: *one });
+        }
+    }
+    None
+}
+
+/// Why a key isn't clear, if it isn't. What is among the others stands beside `linux`.
+fn unclear_reason(key: &str, own: &'static str, others: &[&'static str]) -> Option<Why> {
+    if is_among(key, others) {
+        Some(Why::BesideLinux)
+    } else if key == own {
+        None
+    } else if has_zero(key) {
+        Some(Why::Zero)
+    } else if is_taken_for(key, own) {
+        Some(Why::Case { known: own })
+    } else {
+        case_of(key, others)
+    }
+}
+
+fn first_unclear<'a>(
+    object: &'a Map<String, Value>,
+    own: &'static str,
+    others: &[&'static str],
+) -> Option<Unclear<'a>> {
+    for key in object.keys() {
+        let key = key.as_str();
+        let why = unclear_reason(key, own, others);
+        if why.is_some() {
+            return Some(Unclear { key, why });
+        }
+    }
+    None
+}
+
+fn unclear_key<'a>(
+    value: &'a Value,
+    own: &'static str,
+    others: &[&'static str],
+) -> Option<Unclear<'a>> {
+    match value {
+        Value::Object(object) => first_unclear(object, own, others),
+        _ => None,
+    }
+}
+
+/// What isn't clear in annotations: that they are no object, or the first one with a byte 0, or a filter for crun.
+fn unclear_annotation(value: &Value) -> Option<Unclear<'_>> {
+    let annotations = at(value, "annotations")?;
+    if !annotations.is_object() {
+        return Some(Unclear {
+            key: "annotations",
+            why: None,
+        });
+    }
+    if let Some(found) = unclear_key(annotations, "", &[]) {
+        return Some(found);
+    }
+    at(annotations, OTHER_FILTER)?;
+    Some(Unclear {
+        key: OTHER_FILTER,
+        why: Some(Why::OtherFilter),
+    })
+}
+
+/// The first of these keys, which only docker and podman know, that a value has.
+fn docker_key(value: &Value, keys: &[&'static str]) -> Option<Unclear<'static>> {
+    for key in keys {
+        if !is_absent(value, *key) {
+            return Some(Unclear {
+                key: *key,
+                why: Some(Why::OnlyDocker),
+            });
+        }
+    }
+    None
+}
+
+fn first_docker_key(profile: &Value) -> Option<Unclear<'static>> {
+    if let Some(found) = docker_key(profile, &["archMap"]) {
+        return Some(found);
+    }
+    for rule in items_at(profile, "syscalls") {
+        if let Some(found) = docker_key(rule, &["name", "includes", "excludes"]) {
+            return Some(found);
+        }
+    }
+    None
+}
+
+/// What isn't clear in a whole config.json from which no profile is taken, in the order of `is_clear_config`; or that
+/// it has none.
+fn first_unclear_in<'a>(value: &'a Value, linux: &'a Value) -> Unclear<'a> {
+    if let Some(found) = unclear_key(value, "linux", PROFILE_KEYS.as_slice()) {
+        return found;
+    }
+    if let Some(found) = unclear_key(linux, "seccomp", &[]) {
+        return found;
+    }
+    if let Some(found) = unclear_annotation(value) {
+        return found;
+    }
+    if let Some(profile) = at(linux, "seccomp") {
+        if let Some(found) = first_docker_key(profile) {
+            return found;
+        }
+    }
+    Unclear {
+        key: "seccomp",
+        why: Some(Why::Unconfined),
+    }
+}
+
+fn refusal_of_config<'a>(value: &'a Value, linux: &'a Value) -> Refusal<'a>
+    ensures { result.fault ≡ Fault.Key }
+{
+    let found = first_unclear_in(value, linux);
+    because(Fault::Key, found.key, found.why)
+}
+
 /// The profile in a file's tree: that of a whole config.json, which has a key `linux`, unless runtimes would differ; or
 /// the tree itself.
-pub(crate) fn profile_in(value: &Value) -> Option<&Value>
-    ensures { option_map (λ v. view v.now) result ≡ profile_in (view value.now) }
+pub(crate) fn profile_in<'a>(value: &'a Value) -> Result<&'a Value, Refusal<'a>>
+    ensures there { IfOk result (λ v. profile_in (view value.now) ≡ Some (view v.now)) }
+    ensures none { IfErr result (λ e. profile_in (view value.now) ≡ None) }
+    ensures fault { IfErr result (λ e. e.fault ≡ Fault.Key) }
 {
     let Some(linux) = at(value, "linux") else {
-        return Some(value);
+        return Ok(value);
     };
     if !is_clear_config(value, linux) {
-        return None;
+        return Err(refusal_of_config(value, linux));
     }
-    at(linux, "seccomp")
+    match at(linux, "seccomp") {
+        Some(profile) => Ok(profile),
+        None => Err(refusal_of_config(value, linux)),
+    }
 }

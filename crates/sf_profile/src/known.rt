@@ -1,9 +1,9 @@
 //! Which names of a profile's rules are those of calls.
 
-ghost use Rattle.std.specs.Prelude.{◌≡◌, Some, codes, is_some, map};
+ghost use Rattle.std.specs.Prelude.{◌≡◌, Some, codes, is_none, is_some, map};
 ghost use Rattle.std.specs.List.{list_all, list_any};
 ghost use Rattle.serde_json.specs.View.{view};
-ghost use Rattle.sf_profile.specs.Known.{has_known_names, is_elsewhere, is_nowhere, is_somewhere, may_have_names};
+ghost use Rattle.sf_profile.specs.Known.{is_elsewhere, is_nowhere, is_somewhere, may_have_names};
 ghost use Rattle.sf_profile.specs.Settings.{is_unknown, number_where};
 ghost use Rattle.sf_profile.specs.Trees.{absent_or, at};
 ghost use Rattle.sf_profile.specs.declared.settings.Calls.{Calls as ACalls};
@@ -47,46 +47,41 @@ pub(crate) fn is_nowhere(settings: &Settings, name: &str) -> bool
     is_unknown(settings, name) && !is_elsewhere(name)
 }
 
-/// Whether a value is the name of a call of some machine. A value that is no text counts as the empty name.
-fn is_somewhere(settings: &Settings, value: &Value) -> bool
-    ensures { result ≡ is_somewhere settings.now (view value.now) }
+/// The first of these names that no machine has. A value that is no text counts as the empty name.
+#[tactic(auto, using(crate::proofs::tree::TreeLemmas::all_more))]
+fn first_nowhere<'a>(settings: &Settings, items: &'a [Value]) -> Option<&'a str>
+    ensures { is_none result ≡ list_all (is_somewhere settings.now) (map view items.now) }
 {
-    !is_nowhere(settings, text_of(value))
+    for value in items {
+        if is_nowhere(settings, text_of(value)) {
+            return Some(text_of(value));
+        }
+    }
+    None
 }
 
-fn is_each_somewhere(settings: &Settings, items: &[Value]) -> bool
-    ensures { result ≡ list_all (λ v. is_somewhere settings.now (view v)) items.now }
-{
-    items.iter().all(|value| is_somewhere(settings, value))
-}
-
-/// For the prover: `is_each_somewhere`, said of their trees.
-fn are_somewhere(settings: &Settings, items: &[Value]) -> bool
-    ensures { result ≡ list_all (is_somewhere settings.now) (map view items.now) }
-{
-    is_each_somewhere(settings, items)
-}
-
-fn has_known_name_or_none(settings: &Settings, value: &Value) -> bool
-    ensures { result ≡ absent_or (is_somewhere settings.now)
+fn one_nowhere<'a>(settings: &Settings, value: &'a Value) -> Option<&'a str>
+    ensures { is_none result ≡ absent_or (is_somewhere settings.now)
         (at (codes "name") (view value.now)) }
 {
-    match at(value, "name") {
-        Some(name) => is_somewhere(settings, name),
-        None => true,
+    let name = text_of(at(value, "name")?);
+    if is_nowhere(settings, name) {
+        Some(name)
+    } else {
+        None
     }
 }
 
-fn has_known_names(settings: &Settings, value: &Value) -> bool
-    ensures { result ≡ has_known_names settings.now (view value.now) }
+/// The name for which a rule is refused: the first one that no machine has; none where `settings.skip_unknown` is true,
+/// or the rule doesn't apply.
+pub(crate) fn unknown_name<'a>(settings: &Settings, value: &'a Value) -> Option<&'a str>
+    ensures { is_none result ≡ may_have_names settings.now (view value.now) }
 {
-    are_somewhere(settings, items_at(value, "names")) && has_known_name_or_none(settings, value)
-}
-
-/// Whether a rule may have its names: `settings.skip_unknown` is true, the rule doesn't apply, or each name is that of
-/// a call of some machine.
-pub(crate) fn may_have_names(settings: &Settings, value: &Value) -> bool
-    ensures { result ≡ may_have_names settings.now (view value.now) }
-{
-    settings.skip_unknown || !applies(settings, value) || has_known_names(settings, value)
+    if settings.skip_unknown || !applies(settings, value) {
+        return None;
+    }
+    match first_nowhere(settings, items_at(value, "names")) {
+        Some(name) => Some(name),
+        None => one_nowhere(settings, value),
+    }
 }

@@ -9,22 +9,14 @@ use crate::rules::{Argument, CallSet, Comparing, Response};
 pub(crate) fn set_named(text: &str) -> Option<CallSet>
     ensures { result ≡ set_named text.now }
 {
-    if text == "SCMP_ARCH_X86_64" {
-        return Some(CallSet::X64);
+    match text {
+        "SCMP_ARCH_X86_64" => Some(CallSet::X64),
+        "SCMP_ARCH_X32" => Some(CallSet::X32),
+        "SCMP_ARCH_X86" => Some(CallSet::I386),
+        "SCMP_ARCH_AARCH64" => Some(CallSet::Aarch64),
+        "SCMP_ARCH_ARM" => Some(CallSet::Arm),
+        _ => None,
     }
-    if text == "SCMP_ARCH_X32" {
-        return Some(CallSet::X32);
-    }
-    if text == "SCMP_ARCH_X86" {
-        return Some(CallSet::I386);
-    }
-    if text == "SCMP_ARCH_AARCH64" {
-        return Some(CallSet::Aarch64);
-    }
-    if text == "SCMP_ARCH_ARM" {
-        return Some(CallSet::Arm);
-    }
-    None
 }
 
 /// The name of a set, as a profile has it at `architectures` and in `archMap`. (`arch_name_of_set` gives another name.)
@@ -58,61 +50,33 @@ pub(crate) fn arch_name_of_set(set: CallSet) -> &'static str
 pub(crate) fn response_named(text: &str, number: u16) -> Option<Response>
     ensures { result ≡ response_named text.now number }
 {
-    if text == "SCMP_ACT_ALLOW" {
-        return Some(Response::Allow);
+    match text {
+        "SCMP_ACT_ALLOW" => Some(Response::Allow),
+        "SCMP_ACT_ERRNO" => Some(Response::Errno(number)),
+        "SCMP_ACT_KILL" => Some(Response::KillThread),
+        "SCMP_ACT_KILL_THREAD" => Some(Response::KillThread),
+        "SCMP_ACT_KILL_PROCESS" => Some(Response::KillProcess),
+        "SCMP_ACT_TRAP" => Some(Response::Trap),
+        "SCMP_ACT_NOTIFY" => Some(Response::Notify),
+        "SCMP_ACT_TRACE" => Some(Response::Tracer(number)),
+        "SCMP_ACT_LOG" => Some(Response::Log),
+        _ => None,
     }
-    if text == "SCMP_ACT_ERRNO" {
-        return Some(Response::Errno(number));
-    }
-    if text == "SCMP_ACT_KILL" {
-        return Some(Response::KillThread);
-    }
-    if text == "SCMP_ACT_KILL_THREAD" {
-        return Some(Response::KillThread);
-    }
-    if text == "SCMP_ACT_KILL_PROCESS" {
-        return Some(Response::KillProcess);
-    }
-    if text == "SCMP_ACT_TRAP" {
-        return Some(Response::Trap);
-    }
-    if text == "SCMP_ACT_NOTIFY" {
-        return Some(Response::Notify);
-    }
-    if text == "SCMP_ACT_TRACE" {
-        return Some(Response::Tracer(number));
-    }
-    if text == "SCMP_ACT_LOG" {
-        return Some(Response::Log);
-    }
-    None
 }
 
 pub(crate) fn comparing_named(text: &str) -> Option<Comparing>
     ensures { result ≡ comparing_named text.now }
 {
-    if text == "SCMP_CMP_NE" {
-        return Some(Comparing::NotEqual);
+    match text {
+        "SCMP_CMP_NE" => Some(Comparing::NotEqual),
+        "SCMP_CMP_LT" => Some(Comparing::Less),
+        "SCMP_CMP_LE" => Some(Comparing::LessOrEqual),
+        "SCMP_CMP_EQ" => Some(Comparing::Equal),
+        "SCMP_CMP_GE" => Some(Comparing::GreaterOrEqual),
+        "SCMP_CMP_GT" => Some(Comparing::Greater),
+        "SCMP_CMP_MASKED_EQ" => Some(Comparing::MaskedEqual),
+        _ => None,
     }
-    if text == "SCMP_CMP_LT" {
-        return Some(Comparing::Less);
-    }
-    if text == "SCMP_CMP_LE" {
-        return Some(Comparing::LessOrEqual);
-    }
-    if text == "SCMP_CMP_EQ" {
-        return Some(Comparing::Equal);
-    }
-    if text == "SCMP_CMP_GE" {
-        return Some(Comparing::GreaterOrEqual);
-    }
-    if text == "SCMP_CMP_GT" {
-        return Some(Comparing::Greater);
-    }
-    if text == "SCMP_CMP_MASKED_EQ" {
-        return Some(Comparing::MaskedEqual);
-    }
-    None
 }
 
 /// Whether a response has data of its own: an error number, or what a tracer is given.

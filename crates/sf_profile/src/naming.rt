@@ -12,7 +12,8 @@ use crate::tree::{at, items_at, text_of};
 use serde_json::Value;
 use std::alloc::{AllocError, Global};
 
-/// The calls that i386 has behind `socketcall`, by their numbers there from 1.
+/// The calls that i386 has behind `socketcall`, by their numbers there from 1 (`SYS_SOCKET` and so on in Linux's
+/// include/uapi/linux/net.h).
 const SOCKET_CALLS: [&str; 20] = [
     "socket",
     "bind",
@@ -36,7 +37,8 @@ const SOCKET_CALLS: [&str; 20] = [
     "sendmmsg",
 ];
 
-/// The calls that i386 has behind `ipc`: four with numbers from 1, four from 11 and four from 21.
+/// The calls that i386 has behind `ipc`: four with numbers from 1, four from 11 and four from 21 (`SEMOP` and
+/// so on in Linux's include/uapi/linux/ipc.h).
 const IPC_CALLS: [&str; 12] = [
     "semop",
     "semget",
@@ -91,7 +93,13 @@ fn push_direct(calls: &mut Vec<Call>, number: Option<u32>) -> Result<(), AllocEr
     Ok(())
 }
 
-/// Adds the call with this name that goes through `socketcall`, number 102 of i386, if one does. Its `operation` is the
+/// The number of `socketcall`, in Linux's arch/x86/entry/syscalls/syscall_32.tbl.
+const SOCKETCALL: u32 = 102;
+
+/// The number of `ipc`, there.
+const IPC: u32 = 117;
+
+/// Adds the call with this name that goes through `socketcall`, if one does. Its `operation` is the
 /// name's place, from 1.
 fn push_socket_call(calls: &mut Vec<Call>, name: &str) -> Result<(), AllocError>
     ensures { OnOk result (calls.new.items ≡ calls.old.items
@@ -99,14 +107,14 @@ fn push_socket_call(calls: &mut Vec<Call>, name: &str) -> Result<(), AllocError>
 {
     if let Some(place) = place_of_socket_call(name) {
         calls.push(Call {
-            number: 102,
+            number: SOCKETCALL,
             operation: Some(place as u32 + 1),
         })?;
     }
     Ok(())
 }
 
-/// Adds the call with this name that goes through `ipc`, number 117 of i386, if one does. Its `operation` is 1 to 4, 11
+/// Adds the call with this name that goes through `ipc`, if one does. Its `operation` is 1 to 4, 11
 /// to 14 or 21 to 24, in the order of `IPC_CALLS`.
 fn push_ipc_call(calls: &mut Vec<Call>, name: &str) -> Result<(), AllocError>
     ensures { OnOk result (calls.new.items ≡ calls.old.items
@@ -115,7 +123,7 @@ fn push_ipc_call(calls: &mut Vec<Call>, name: &str) -> Result<(), AllocError>
     if let Some(place) = place_of_ipc_call(name) {
         let place = place as u32;
         calls.push(Call {
-            number: 117,
+            number: IPC,
             operation: Some(place / 4 * 10 + place % 4 + 1),
         })?;
     }
@@ -136,37 +144,41 @@ fn push_through(calls: &mut Vec<Call>, has_them: bool, name: &str) -> Result<(),
 
 /// The set in which the names of a rule are looked up, and whether the rule compares nothing.
 #[derive(Clone, Copy, Debug)]
-pub(crate) struct Place {
+pub(crate) struct Scope {
     pub(crate) set: CallSet,
-    pub(crate) alone: bool,
+    pub(crate) compares_nothing: bool,
 }
 
-/// Adds the calls that a name stands for in the set of `place`.
+/// Adds the calls that a name stands for in the set of `scope`.
 fn push_named(
     calls: &mut Vec<Call>,
     settings: &Settings,
-    place: Place,
+    scope: Scope,
     name: &str,
 ) -> Result<(), AllocError>
     ensures { OnOk result (calls.new.items ≡ calls.old.items
-        ++ calls_named settings.now place.set place.alone name.now) }
+        ++ calls_named settings.now scope.set scope.compares_nothing name.now) }
 {
-    push_direct(calls, settings.number_of(place.set, name))?;
-    push_through(calls, place.set.is_same(CallSet::I386) && place.alone, name)
+    push_direct(calls, settings.number_of(scope.set, name))?;
+    push_through(
+        calls,
+        scope.set.is_same(CallSet::I386) && scope.compares_nothing,
+        name,
+    )
 }
 
 fn push_all_named(
     calls: &mut Vec<Call>,
     settings: &Settings,
-    place: Place,
+    scope: Scope,
     items: &[Value],
 ) -> Result<(), AllocError>
     ensures { OnOk result (calls.new.items ≡ calls.old.items
-        ++ flat_map (calls_named settings.now place.set place.alone)
+        ++ flat_map (calls_named settings.now scope.set scope.compares_nothing)
         (map text_in (map view items.now))) }
 {
     for value in items {
-        push_named(calls, settings, place, text_of(value))?;
+        push_named(calls, settings, scope, text_of(value))?;
     }
     Ok(())
 }
@@ -174,32 +186,32 @@ fn push_all_named(
 fn push_one_name(
     calls: &mut Vec<Call>,
     settings: &Settings,
-    place: Place,
+    scope: Scope,
     value: &Value,
 ) -> Result<(), AllocError>
     ensures { OnOk result (calls.new.items ≡ calls.old.items
-        ++ flat_map (calls_named settings.now place.set place.alone)
+        ++ flat_map (calls_named settings.now scope.set scope.compares_nothing)
         (one_name (at (codes "name") (view value.now)))) }
 {
     match at(value, "name") {
-        Some(name) => push_named(calls, settings, place, text_of(name)),
+        Some(name) => push_named(calls, settings, scope, text_of(name)),
         None => Ok(()),
     }
 }
 
-/// The calls that the names of the rule `value`, at its keys `names` and `name`, stand for in the set of `place`.
+/// The calls that the names of the rule `value`, at its keys `names` and `name`, stand for in the set of `scope`.
 pub(crate) fn calls_of(
     alloc: Global,
     settings: &Settings,
-    place: Place,
+    scope: Scope,
     value: &Value,
 ) -> Result<Vec<Call>, AllocError>
     ensures { IfOk result (λ v. v.items
-        ≡ flat_map (calls_named settings.now place.set place.alone)
+        ≡ flat_map (calls_named settings.now scope.set scope.compares_nothing)
         (rule_names (view value.now))) }
 {
     let mut calls = Vec::new(alloc);
-    push_all_named(&mut calls, settings, place, items_at(value, "names"))?;
-    push_one_name(&mut calls, settings, place, value)?;
+    push_all_named(&mut calls, settings, scope, items_at(value, "names"))?;
+    push_one_name(&mut calls, settings, scope, value)?;
     Ok(calls)
 }

@@ -15,7 +15,7 @@ use crate::comparing::word_of;
 use crate::fault::Fault;
 use crate::limits::{MOST_CALLS, calls_left};
 use crate::names::{argument_numbered, comparing_named, response_named, set_named, up_to_or};
-use crate::naming::{Place, calls_of};
+use crate::naming::{Scope, calls_of};
 use crate::refusal::is_own_item;
 use crate::rules::{Call, CallSet, Comparing, Comparison, Part, Plan, Response, Rule};
 use crate::settings::Settings;
@@ -96,12 +96,12 @@ fn rule_of(
     ensures { IfOk result (λ r. r ≡ rule_of settings.now set
         (view value.now) comparisons.items) }
 {
-    let place = Place {
+    let scope = Scope {
         set,
-        alone: comparisons.is_empty(),
+        compares_nothing: comparisons.is_empty(),
     };
     Ok(Rule {
-        calls: calls_of(alloc, settings, place, value)?,
+        calls: calls_of(alloc, settings, scope, value)?,
         response: response_at(value, "action", "errnoRet"),
         comparisons,
     })
@@ -152,8 +152,11 @@ fn alternatives_of(
     ensures { IfOk result (λ v. v.items ≡ map (rule_of settings.now set (view value.now))
         (map (λ c. c ∷ []) comparisons.now)) }
 {
-    let place = Place { set, alone: false };
-    let calls = calls_of(alloc, settings, place, value)?;
+    let scope = Scope {
+        set,
+        compares_nothing: false,
+    };
+    let calls = calls_of(alloc, settings, scope, value)?;
     let response = response_at(value, "action", "errnoRet");
     rules_of_each(alloc, &calls, response, comparisons)
 }

@@ -103,17 +103,10 @@ pub(crate) fn has_only(value: &Value, known: &[&str]) -> bool
     }
 }
 
-fn are_each_texts(items: &[Value]) -> bool
-    ensures { result ≡ list_all (λ v. is_text (view v)) items.now }
-{
-    items.iter().all(|value| value.is_string())
-}
-
-/// For the prover: `are_each_texts`, said of their trees.
 fn are_texts(items: &[Value]) -> bool
     ensures { result ≡ list_all is_text (items_in (items_view items.now)) }
 {
-    are_each_texts(items)
+    items.iter().all(|value| value.is_string())
 }
 
 fn is_text_list(value: &Value) -> bool

@@ -1,5 +1,8 @@
-//! What a profile is refused for, and why, in words. They are for a person: contracts say nothing of them.
+//! What a profile is refused for, and why. The words are for a person: contracts say nothing of them.
 
+ghost use Rattle.std.specs.Prelude.{◌≡◌};
+
+use crate::fault::Fault;
 use std::fmt;
 
 /// What a profile is refused for.
@@ -41,6 +44,44 @@ pub enum Why {
         name: String,
         nearest: Option<String>,
     },
+}
+
+/// What a profile is refused for, where that is found.
+#[derive(Debug, Drop)]
+pub(crate) struct Refusal<'a> {
+    pub(crate) fault: Fault,
+    /// The key at fault, or the one that is missing, if it is one.
+    pub(crate) key: Option<&'a str>,
+    /// Why, where the key alone doesn't tell.
+    pub(crate) why: Option<Why>,
+    /// The name that no machine has, where that is why.
+    pub(crate) unknown: Option<&'a str>,
+}
+
+impl<'a> From<Refusal<'a>> for Fault {
+    ghost from_gives = { λ r e. e ≡ r.fault };
+
+    fn from(refusal: Refusal<'a>) -> Fault {
+        refusal.fault
+    }
+}
+
+pub(crate) fn because<'a>(fault: Fault, key: &'a str, why: Option<Why>) -> Refusal<'a>
+    ensures { result.fault ≡ fault }
+{
+    Refusal {
+        fault,
+        key: Some(key),
+        why,
+        unknown: None,
+    }
+}
+
+/// A refusal for this key, which needs no more words.
+pub(crate) fn at_key<'a>(fault: Fault, key: &'a str) -> Refusal<'a>
+    ensures { result.fault ≡ fault }
+{
+    because(fault, key, None)
 }
 
 impl fmt::Display for Why {

@@ -1,11 +1,9 @@
 //! Calls that a profile answers by ERRNO 0.
 
-ghost use Rattle.std.specs.Prelude.{◌≡◌, ◌⊎◌, ◌<◌, ◌++◌, ◌∷◌, [], All, None, Some, length, IfErr, IfOk, IfSome, OnOk};
+ghost use Rattle.std.specs.Prelude.{◌≡◌, ◌⊎◌, ◌++◌, ◌∷◌, [], All, IfErr, IfOk, IfSome, OnOk};
 ghost use Rattle.serde_json.specs.View.{view};
 ghost use Rattle.sf_profile.specs.Cautions.{AnswerZero, AreProgramOf, HaveZeroErrors};
-ghost use Rattle.sf_profile.specs.Form.{form};
-ghost use Rattle.sf_profile.specs.Plans.{plan_of};
-ghost use Rattle.sf_profile.specs.Refusals.{profile_refusal};
+ghost use Rattle.sf_profile.specs.Filters.{IsRefused};
 
 use crate::comparing::{high, low, word_of};
 use crate::fault::Fault;
@@ -45,13 +43,13 @@ fn words_for(set: CallSet, call: Call, comparisons: &[Comparison]) -> [u32; 16] 
     words
 }
 
-fn is_zero(response: Response) -> bool {
+fn is_zero_error(response: Response) -> bool {
     matches!(response, Response::Errno(0))
 }
 
 /// Adds the words of an input for each call of a rule that answers ERRNO 0.
 fn push_of_rule(inputs: &mut Vec<[u32; 16]>, set: CallSet, rule: &Rule) -> Result<(), AllocError> {
-    if !is_zero(rule.response) {
+    if !is_zero_error(rule.response) {
         return Ok(());
     }
     for call in &rule.calls {
@@ -93,7 +91,7 @@ fn suggestions(
     let mut inputs = Vec::new(alloc);
     for part in &plan.parts {
         push_of_part(&mut inputs, part)?;
-        if is_zero(plan.default) {
+        if is_zero_error(plan.default) {
             push_of_set(&mut inputs, settings, part.set)?;
         }
     }
@@ -163,10 +161,7 @@ pub(crate) fn zeros_of_profile(
     value: &Value,
 ) -> Result<Vec<u32>, Fault>
     ensures zeros { IfOk result (λ v. HaveZeroErrors settings.now (view value.now) v.items) }
-    ensures refused { IfErr result (λ e. (e ≡ Fault.Memory)
-        ⊎ ((profile_refusal settings.now (view value.now) ≡ Some e)
-        ⊎ ((e ≡ Fault.TooLong) × (profile_refusal settings.now (view value.now) ≡ None)
-        × (4096 < length (form (plan_of settings.now (view value.now))))))) }
+    ensures refused { IfErr result (λ e. IsRefused settings.now (view value.now) e) }
 {
     let filter = filter_of_profile(alloc, settings, value)?;
     let stack = stack_of(alloc, &filter)?;

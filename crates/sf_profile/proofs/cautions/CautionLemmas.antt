@@ -1,10 +1,7 @@
 -- Rules with loose masks, and answers of ERRNO 0.
-use Rattle.std.proofs.Common.{◌≡◌, ◌⊎◌, inl, inr, ℕ, ◌+◌, ◌<◌, List, [], ◌∷◌, ◌++◌, Bool, Some, Result, Ok, Err, length, map, drop, get_or, refl, ap, ◌∙◌, subst, All}
-use Rattle.std.specs.Prelude.{IfOk, ◌||◌}
-use Rattle.std.specs.List.{list_any}
+use Rattle.std.proofs.Common.{◌≡◌, ◌⊎◌, inl, inr, ℕ, ◌+◌, ◌<◌, List, [], ◌∷◌, ◌++◌, length, map, drop, get_or, refl, ◌∙◌, subst, All}
 use Rattle.std.proofs.lemmas.List.{drop_more, append_assoc}
 use Rattle.std.proofs.lemmas.List.Elements.{All-push}
-use Rattle.serde_json.specs.Data.{Data}
 use Rattle.serde_json.specs.View.{view}
 use Rattle.serde_json.specs.declared.value.Value.{Value}
 use Rattle.sf_insn.specs.declared.input.Input.{Input}
@@ -14,15 +11,9 @@ use Rattle.sf_run.specs.declared.action.Action.{Action}
 use Rattle.sf_run.specs.declared.action.Action.TheVariants as actions
 use Rattle.sf_run.specs.declared.action.Answer.{Answer}
 use Rattle.sf_run.specs.Answers.{Answers}
-use Rattle.sf_profile.specs.declared.fault.Fault.{Fault}
 use Rattle.sf_profile.specs.declared.settings.Settings.{Settings}
 use Rattle.sf_profile.specs.Meaning.{number_in}
-use Rattle.sf_profile.specs.Configs.{profile_in}
-use Rattle.sf_profile.specs.Cautions.{AnswerZero, IsInFile, has_loose_mask, loose_from, number_if}
-
-pub any_map : (test : Data → Bool) (vs : List Value) → list_any test (map view vs) ≡ list_any (λ v. test (view v)) vs
-any_map test [] = refl
-any_map test (v ∷ vs) = ap (λ b. test (view v) || b) (any_map test vs)
+use Rattle.sf_profile.specs.Cautions.{AnswerZero, has_loose_mask, loose_from, number_if}
 
 -- one more rule
 pub more_loose : (s : Settings) (vs : List Value) (i n : ℕ) (v : Value) (numbers more all : List ℕ) → i < length vs
@@ -50,8 +41,3 @@ pub one_more : (programs : List (List Insn)) (numbers more : List ℕ) (number :
 one_more programs numbers more number all one (inl same) = rw same all
 one_more programs numbers more number all one (inr pushed) =
     rw pushed (All-push (AnswerZero programs) numbers number all one)
-
-pub file_holds : {V : Type 0} (r : Result V Fault) (is_true : V → Data → Type 0) (file profile : Data)
-    → profile_in file ≡ Some profile → IfOk r (λ v. is_true v profile) → IfOk r (λ v. IsInFile (is_true v) file)
-file_holds (Ok v) is_true file profile e h = record { profile = profile; is_there = e; holds = h }
-file_holds (Err fault) is_true file profile e h = tt

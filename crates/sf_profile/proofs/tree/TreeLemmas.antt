@@ -1,12 +1,14 @@
 -- The definitions over trees, at the lists that the code goes through.
-use Rattle.std.proofs.Common.{◌≡◌, ℕ, Bool, List, [], ◌∷◌, ◌&&◌, ◌||◌, map, refl, ap, ◌∙◌, String, string_bytes, Global, Bor}
+use Rattle.std.proofs.Common.{◌≡◌, ℕ, ◌+◌, ◌<◌, Bool, List, [], ◌∷◌, ◌&&◌, ◌||◌, length, get_or, drop, map, refl, sym, ap, ◌∙◌, String, string_bytes, Global, Bor}
 use Rattle.std.specs.List.{list_any, list_all}
+use Rattle.std.proofs.lemmas.List.{drop_more}
+use Rattle.std.proofs.lemmas.List.Folds.{list_all-map}
 use Rattle.std.specs.Map.{keys_of}
 use Rattle.std.specs.Str.{bytes_eq}
 use Rattle.serde_json.specs.Data.{Data}
 use Rattle.serde_json.specs.View.{view, items_view, members_view}
 use Rattle.serde_json.specs.declared.value.Value.{Value}
-use Rattle.sf_profile.specs.Trees.{items_in, all_keys}
+use Rattle.sf_profile.specs.Trees.{items_in, all_keys, text_in}
 
 pub any_map : {A B : Type 0} (f : A → B) (test : B → Bool) (xs : List A)
     → list_any test (map f xs) ≡ list_any (λ x. test (f x)) xs
@@ -32,10 +34,30 @@ pub listed_view : (vs : List Value) → items_in (items_view vs) ≡ map view vs
 listed_view [] = refl
 listed_view (v ∷ vs) = ap (λ ds. view v ∷ ds) (listed_view vs)
 
-pub all_map : (test : Data → Bool) (vs : List Value) → list_all test (map view vs) ≡ list_all (λ v. test (view v)) vs
-all_map test [] = refl
-all_map test (v ∷ vs) = ap (λ b. test (view v) && b) (all_map test vs)
+-- one value more
+pub all_more : (test : Data → Bool) (vs : List Value) (i : ℕ) (v : Value) → i < length vs
+    → list_all test (map view (drop i vs))
+    ≡ (test (view (get_or vs i v)) && list_all test (map view (drop (i + 1) vs)))
+all_more test vs i v h = rw (drop_more vs i v h) refl
 
-pub all_view : (test : Data → Bool) (vs : List Value)
-    → list_all test (items_in (items_view vs)) ≡ list_all (λ v. test (view v)) vs
-all_view test vs = ap (list_all test) (listed_view vs) ∙ all_map test vs
+-- ---- what holds of items, said of what they are seen as
+
+pub all_items : (test : Data → Bool) (vs : List Value) (b : Bool) → b ≡ list_all (λ v. test (view v)) vs
+    → b ≡ list_all test (map view vs)
+all_items test vs b e = e ∙ sym (list_all-map test view vs)
+
+pub all_entries : (test : Data → Bool) (vs : List Value) (b : Bool) → b ≡ list_all (λ v. test (view v)) vs
+    → b ≡ list_all test (items_in (items_view vs))
+all_entries test vs b e = all_items test vs b e ∙ ap (list_all test) (sym (listed_view vs))
+
+pub all_text : (test : List ℕ → Bool) (vs : List Value) (b : Bool) → b ≡ list_all (λ v. test (text_in (view v))) vs
+    → b ≡ list_all test (map text_in (map view vs))
+all_text test vs b e = all_items (λ d. test (text_in d)) vs b e ∙ sym (list_all-map test text_in (map view vs))
+
+pub any_item : (test : Data → Bool) (vs : List Value) (b : Bool) → b ≡ list_any (λ v. test (view v)) vs
+    → b ≡ list_any test (map view vs)
+any_item test vs b e = e ∙ sym (any_map view test vs)
+
+pub any_text : (test : List ℕ → Bool) (vs : List Value) (b : Bool) → b ≡ list_any (λ v. test (text_in (view v))) vs
+    → b ≡ list_any test (map text_in (map view vs))
+any_text test vs b e = any_item (λ d. test (text_in d)) vs b e ∙ sym (any_map text_in test (map view vs))

@@ -1,7 +1,14 @@
-use Rattle.std.proofs.Common.{◌∙◌, sym}
+use Rattle.std.proofs.Common.{rules, tests}
+use Rattle.std.proofs.lemmas.Iterator.{YieldsList-from_slice}
+use Rattle.std.proofs.lemmas.Iterator.Search.{any_from_yields_List}
+use Rattle.serde_json.specs.View.{view}
 use Rattle.sf_profile.specs.Settings.{has_cap}
-use Rattle.sf_profile.proofs.plan.PlanLemmas.{any_texts}
+use Rattle.sf_profile.specs.Trees.{text_in}
+use Rattle.sf_profile.proofs.tree.TreeLemmas.{any_text}
 use Rattle.sf_profile.proofs.applying.has_a_cap.Goals as goal
 
 pub returns : goal.returns
-returns c = c.has_some_cap.ensures ∙ sym (any_texts (has_cap c.args.settings.now) c.args.items.now)
+returns c =
+    any_text (has_cap c.args.settings.now) c.args.items.now _
+    (any_from_yields_List (λ v. has_cap c.args.settings.now (text_in (view v))) _ _ _ c.any.ensures.ran
+    (YieldsList-from_slice c.args.items.now cc) (λ x b q k. search (rules, tests)))

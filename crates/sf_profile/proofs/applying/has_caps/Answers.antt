@@ -1,7 +1,14 @@
-use Rattle.std.proofs.Common.{◌∙◌, sym}
+use Rattle.std.proofs.Common.{rules, tests}
+use Rattle.std.proofs.lemmas.Iterator.{YieldsList-from_slice}
+use Rattle.std.proofs.lemmas.Iterator.Search.{all_from_yields_List}
+use Rattle.serde_json.specs.View.{view}
 use Rattle.sf_profile.specs.Settings.{has_cap}
-use Rattle.sf_profile.proofs.plan.PlanLemmas.{all_texts}
+use Rattle.sf_profile.specs.Trees.{text_in}
+use Rattle.sf_profile.proofs.tree.TreeLemmas.{all_text}
 use Rattle.sf_profile.proofs.applying.has_caps.Goals as goal
 
 pub returns : goal.returns
-returns c = c.has_each_cap.ensures ∙ sym (all_texts (has_cap c.args.settings.now) c.args.items.now)
+returns c =
+    all_text (has_cap c.args.settings.now) c.args.items.now _
+    (all_from_yields_List (λ v. has_cap c.args.settings.now (text_in (view v))) _ _ _ c.all.ensures.ran
+    (YieldsList-from_slice c.args.items.now cc) (λ x b q k. search (rules, tests)))

@@ -1,7 +1,14 @@
-use Rattle.std.proofs.Common.{◌∙◌, sym}
+use Rattle.std.proofs.Common.{rules, tests}
+use Rattle.std.proofs.lemmas.Iterator.{YieldsList-from_slice}
+use Rattle.std.proofs.lemmas.Iterator.Search.{any_from_yields_List}
+use Rattle.serde_json.specs.View.{view}
 use Rattle.std.specs.Str.{bytes_eq}
-use Rattle.sf_profile.proofs.plan.PlanLemmas.{any_texts}
+use Rattle.sf_profile.specs.Trees.{text_in}
+use Rattle.sf_profile.proofs.tree.TreeLemmas.{any_text}
 use Rattle.sf_profile.proofs.applying.has_text.Goals as goal
 
 pub returns : goal.returns
-returns c = c.is_text_among.ensures ∙ sym (any_texts (bytes_eq c.args.text.now) c.args.items.now)
+returns c =
+    any_text (bytes_eq c.args.text.now) c.args.items.now _
+    (any_from_yields_List (λ v. bytes_eq c.args.text.now (text_in (view v))) _ _ _ c.any.ensures.ran
+    (YieldsList-from_slice c.args.items.now cc) (λ x b q k. search (rules, tests)))

@@ -1,7 +1,13 @@
-use Rattle.std.proofs.Common.{◌∙◌, sym}
+use Rattle.std.proofs.Common.{rules, tests}
+use Rattle.std.proofs.lemmas.Iterator.{YieldsList-from_slice}
+use Rattle.std.proofs.lemmas.Iterator.Search.{all_from_yields_List}
+use Rattle.serde_json.specs.View.{view}
 use Rattle.sf_profile.specs.Refusals.{is_comparison}
-use Rattle.sf_profile.proofs.tree.TreeLemmas.{all_view}
+use Rattle.sf_profile.proofs.tree.TreeLemmas.{all_entries}
 use Rattle.sf_profile.proofs.keys.are_comparisons.Goals as goal
 
 pub returns : goal.returns
-returns c = c.are_each_comparisons.ensures ∙ sym (all_view is_comparison c.args.items.now)
+returns c =
+    all_entries is_comparison c.args.items.now _
+    (all_from_yields_List (λ v. is_comparison (view v)) _ _ _ c.all.ensures.ran
+    (YieldsList-from_slice c.args.items.now cc) (λ x b q k. search (rules, tests)))

@@ -8,4 +8,5 @@ use Rattle.sf_profile.proofs.naming.push_all_named.Given as goal
 abbrev pub invariant-loop-value : goal.invariant-loop-value
 invariant-loop-value l =
     l.calls.items ≡ l.initial.calls.items
-    ++ flat_map (calls_named l.settings l.place.set l.place.alone) (map text_in (map view (take l.value-index l.items)))
+    ++ flat_map (calls_named l.settings l.scope.set l.scope.compares_nothing)
+    (map text_in (map view (take l.value-index l.items)))

@@ -1,7 +1,13 @@
-use Rattle.std.proofs.Common.{◌∙◌, sym}
+use Rattle.std.proofs.Common.{rules, tests}
+use Rattle.std.proofs.lemmas.Iterator.{YieldsList-from_slice}
+use Rattle.std.proofs.lemmas.Iterator.Search.{all_from_yields_List}
+use Rattle.serde_json.specs.View.{view}
 use Rattle.sf_profile.specs.Refusals.{names_given_set}
-use Rattle.sf_profile.proofs.tree.TreeLemmas.{all_map}
+use Rattle.sf_profile.proofs.tree.TreeLemmas.{all_items}
 use Rattle.sf_profile.proofs.refusal.are_sets.Goals as goal
 
 pub returns : goal.returns
-returns c = c.are_each_sets.ensures ∙ sym (all_map (names_given_set c.args.settings.now) c.args.items.now)
+returns c =
+    all_items (names_given_set c.args.settings.now) c.args.items.now _
+    (all_from_yields_List (λ v. names_given_set c.args.settings.now (view v)) _ _ _ c.all.ensures.ran
+    (YieldsList-from_slice c.args.items.now cc) (λ x b q k. search (rules, tests)))

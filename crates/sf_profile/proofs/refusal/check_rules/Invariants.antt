@@ -1,7 +1,7 @@
 use Rattle.std.proofs.Common.{◌≡◌, ◌+◌, drop, map}
 use Rattle.serde_json.specs.View.{view}
 use Rattle.sf_profile.specs.Refusals.{rules_refusal}
-use Rattle.sf_profile.proofs.refusal.rules_refusal.Given as goal
+use Rattle.sf_profile.proofs.refusal.check_rules.Given as goal
 
 abbrev pub invariant-loop-i : goal.invariant-loop-i
 invariant-loop-i l =
