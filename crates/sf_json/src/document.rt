@@ -115,6 +115,20 @@ impl Document {
             value: Value::Object(fields.map),
         }
     }
+
+    /// This object with one field more, in place of one that has the same key already. A document that is no object
+    /// stays as it is.
+    pub fn with(self, alloc: Global, key: &str, document: Document) -> Result<Document, AllocError>
+        ensures { IfOk result (λ d. view d ≡ with_field key.now (view document) (view self)) }
+    {
+        match self.value {
+            Value::Object(map) => {
+                let fields = Fields { alloc, map }.with(key, document)?;
+                Ok(Document::object(fields))
+            }
+            value => Ok(Document { value }),
+        }
+    }
 }
 
 /// The values of documents. For the prover: none of them has a float.

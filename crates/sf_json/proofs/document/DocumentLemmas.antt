@@ -1,14 +1,14 @@
 -- Values without a float.
-use Rattle.std.proofs.Common.{◌≡◌, ℕ, List, [], ◌∷◌, ◌++◌, false}
+use Rattle.std.proofs.Common.{◌≡◌, ℕ, List, [], ◌∷◌, ◌++◌, BTreeMap, Global, String, false, rules}
 use Rattle.std.specs.Ordering.{nat_cmp, match_ordering}
 use Rattle.std.specs.Cmp.Lexicographic.{slice_cmp}
 use Rattle.std.specs.declared.cmp.Ordering.{Ordering}
 use Rattle.std.specs.declared.cmp.Ordering.TheVariants.{Less, Equal, Greater}
 use Rattle.std.proofs.lemmas.Bool.{or_parts}
-use Rattle.serde_json.specs.Data.{Data, Members, no_members, member, put}
-use Rattle.serde_json.specs.View.{items_view, view}
+use Rattle.serde_json.specs.Data.{Data, Members, no_members, member, object, put}
+use Rattle.serde_json.specs.View.{items_view, members_view, view}
 use Rattle.serde_json.specs.Written.{has_float, items_have_float, members_have_float}
-use Rattle.serde_json.specs.declared.value.Value.{Value}
+use Rattle.serde_json.specs.declared.value.Value.{Object, Value, the_lemmas}
 
 -- one more value without a float behind values without one
 pub no_float_behind : (vs : List Value) (v : Value) → items_have_float (items_view vs) ≡ false
@@ -31,3 +31,11 @@ no_float_among k d no_members h e = rw e
 no_float_among k d (member l f ms) h e =
     let p = or_parts (has_float f) (members_have_float ms) h in
     of_three (slice_cmp nat_cmp k l) _ _ _ (rw (e, p.0, p.1)) (rw (e, p.1)) (rw (p.0, no_float_among k d ms p.1 e))
+
+view_of_object : (m : BTreeMap (String Global) Value) → view (Object m) ≡ object (members_view m.entries)
+view_of_object m = search (rules, the_lemmas)
+
+-- an object without a float has none among its members
+pub no_float_within : (v : Value) (m : BTreeMap (String Global) Value) → v ≡ Object m → has_float (view v) ≡ false
+    → members_have_float (members_view m.entries) ≡ false
+no_float_within v m is none = rw (is, view_of_object m) at none
