@@ -24,6 +24,14 @@ top_keys = codes "version" ∷ codes "question" ∷ []
 abbrev pub mask_keys : List (List ℕ)
 mask_keys = codes "mask" ∷ codes "value" ∷ codes "low" ∷ codes "high" ∷ []
 
+-- the keys that a group of questions has
+abbrev pub group_keys : List (List ℕ)
+group_keys = codes "name" ∷ codes "title" ∷ codes "why" ∷ codes "questions" ∷ []
+
+-- the key that a file of groups may have at its top
+abbrev pub groups_keys : List (List ℕ)
+groups_keys = codes "group" ∷ []
+
 -- each key of the table is one of these
 abbrev pub has_only : List (List ℕ) → Members → Bool
 has_only keys no_members = true

@@ -6,3 +6,4 @@ pub mod Actions
 pub mod Policies
 pub mod Encoding
 pub mod Accepted
+pub mod Groups

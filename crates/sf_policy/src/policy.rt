@@ -1,4 +1,5 @@
 mod actions;
+mod groups;
 mod keys;
 mod questions;
 mod refusal;
@@ -15,6 +16,7 @@ ghost use Rattle.sf_policy.specs.Trees.{number_at};
 ghost use Rattle.sf_policy.specs.Policies.{version_numbered, tables_of_value, policy_of};
 
 use crate::MOST_QUESTIONS;
+pub use groups::{Group, read_groups};
 pub use keys::WORD_KEYS;
 use keys::{has_top_keys, number_in, value_at};
 use questions::questions_in;

@@ -24,7 +24,7 @@ const ACTION_NAMES: [&str; 9] = [
 ];
 
 /// The text of a value, empty where it is no text.
-fn text_of(value: &Value) -> &str
+pub(super) fn text_of(value: &Value) -> &str
     ensures { result.now ≡ text_or_empty (view value.now) }
 {
     value.as_str().unwrap_or("")
@@ -36,7 +36,7 @@ fn is_action(value: &Value) -> bool
     is_among(text_of(value), ACTION_NAMES.as_slice())
 }
 
-fn are_texts(items: &[Value]) -> bool
+pub(super) fn are_texts(items: &[Value]) -> bool
     ensures { result ≡ list_all (λ v. is_some (as_str (view v))) items.now }
 {
     items.iter().all(|value| value.is_str())

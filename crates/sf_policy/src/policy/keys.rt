@@ -4,7 +4,7 @@ ghost use Rattle.std.specs.List.{list_any, list_all};
 ghost use Rattle.std.specs.Str.{bytes_eq};
 ghost use Rattle.toml.specs.Data.{get_member};
 ghost use Rattle.toml.specs.View.{view, table_view};
-ghost use Rattle.sf_policy.specs.Keys.{question_keys, top_keys, mask_keys, has_only};
+ghost use Rattle.sf_policy.specs.Keys.{group_keys, groups_keys, question_keys, top_keys, mask_keys, has_only};
 ghost use Rattle.sf_policy.specs.Trees.{number_at, number_or, text_at};
 
 use toml::{Table, Value};
@@ -23,6 +23,10 @@ const QUESTION_KEYS: [&str; 18] = [
 pub(crate) const TOP_KEYS: [&str; 2] = ["version", "question"];
 
 const MASK_KEYS: [&str; 4] = ["mask", "value", "low", "high"];
+
+const GROUP_KEYS: [&str; 4] = ["name", "title", "why", "questions"];
+
+const GROUPS_KEYS: [&str; 1] = ["group"];
 
 #[tactic(auto, using(toml::proofs::Views::table_get))]
 pub(crate) fn value_at<'a>(table: &'a Table, key: &str) -> Option<&'a Value>
@@ -86,4 +90,20 @@ pub(crate) fn has_mask_keys(table: &Table) -> bool
     ensures { result ≡ has_only mask_keys (table_view table.now) }
 {
     has_only_keys(table, MASK_KEYS.as_slice())
+}
+
+/// Whether the table of a group has only the keys of one.
+#[tactic(auto, using(crate::proofs::policy::words::TreeLemmas::has_only_group_keys))]
+pub(super) fn has_group_keys(table: &Table) -> bool
+    ensures { result ≡ has_only group_keys (table_view table.now) }
+{
+    has_only_keys(table, GROUP_KEYS.as_slice())
+}
+
+/// Whether a file of groups has no other key at its top.
+#[tactic(auto, using(crate::proofs::policy::words::TreeLemmas::has_only_view))]
+pub(super) fn has_groups_keys(table: &Table) -> bool
+    ensures { result ≡ has_only groups_keys (table_view table.now) }
+{
+    has_only_keys(table, GROUPS_KEYS.as_slice())
 }

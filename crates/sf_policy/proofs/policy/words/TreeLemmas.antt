@@ -8,11 +8,11 @@ use Rattle.std.specs.Str.{bytes_eq}
 use Rattle.toml.specs.Data.{Data, no_members, as_str, as_table}
 use Rattle.toml.specs.View.{view, items_view, members_view}
 use Rattle.toml.specs.declared.value.Value.{Value}
-use Rattle.sf_policy.specs.Keys.{has_only, question_keys}
+use Rattle.sf_policy.specs.Keys.{group_keys, has_only, question_keys}
 use Rattle.sf_policy.specs.Trees.{option_cons, each_of, item_list, texts_of, tables_of}
 use Rattle.sf_policy.specs.Words.{entry_of_array}
 use Rattle.sf_policy.specs.Encoding.{text_or_empty, table_or_empty}
-use Rattle.sf_policy.specs.declared.policy.keys.TheConstants.{QUESTION_KEYS}
+use Rattle.sf_policy.specs.declared.policy.keys.TheConstants.{GROUP_KEYS, QUESTION_KEYS}
 
 pub has_only_view : (keys : List (List ℕ)) (es : List (String Global × Value))
     → has_only keys (members_view es) ≡ list_all (λ key. list_any (bytes_eq (string_bytes key)) keys) (keys_of es)
@@ -24,6 +24,12 @@ pub has_only_question_keys : (es : List (String Global × Value))
     → has_only question_keys (members_view es)
     ≡ list_all (λ key. list_any (λ k. bytes_eq (string_bytes key) k.now) QUESTION_KEYS) (keys_of es)
 has_only_question_keys es = has_only_view question_keys es
+
+-- The same of the keys of a group.
+pub has_only_group_keys : (es : List (String Global × Value))
+    → has_only group_keys (members_view es)
+    ≡ list_all (λ key. list_any (λ k. bytes_eq (string_bytes key) k.now) GROUP_KEYS) (keys_of es)
+has_only_group_keys es = has_only_view group_keys es
 
 pub short_array : (vs : List Value) → length vs < 2 → None ≡ entry_of_array (items_view vs)
 short_array [] h = refl
