@@ -1,6 +1,6 @@
 -- The form of the command line, as `clap` reads it.
 use Rattle.std.specs.Prelude.{◌≡◌, ◌⊎◌, ℕ, true, List, [], ◌∷◌, Option, Some, codes, pos}
-use Rattle.clap.specs.Words.{App, Kinds, Row, Rule, Text, fault_of, new_app, new_rule, subcommand_of, with_rule, with_subcommand}
+use Rattle.clap.specs.Words.{App, Kinds, Row, Rule, Text, fault_of, new_app, new_rule, subcommand_of, with_subcommand}
 use Rattle.clap.specs.Lexer.{usize_max}
 use Rattle.clap.specs.declared.builder.action.ArgAction.TheVariants.{Append, SetTrue}
 use Rattle.clap.specs.declared.builder.value_parser.ValueParser.TheVariants.{Signed}
@@ -63,109 +63,66 @@ choice_rule name = record (option_rule name) {
   missing = [] ∷ [];
 }
 
--- `audit --policy FILE.. [--control FILE] [--accept FILE] [--budget N] [--workers N] [--regions] [--why]
--- [--names FILE].. [--json] [--progress] [--quiet] [--explain-errors] FILTER..`
+-- a subcommand with this name, which takes what the rules say
+abbrev pub subcommand_form : Text → List Rule → App
+subcommand_form name rules = let new = new_app name in record new { top = record new.top { rules = rules } }
+
+-- `audit --policy FILE.. [--control FILE] [--accept FILE] [--budget N] [--workers N] [--regions] [--why] [--summary]
+-- [--summary-all] [--groups FILE] [--names FILE].. [--json] [--progress] [--quiet] [--explain-errors] FILTER..`
 abbrev pub audit_line : App
-audit_line = with_rule (with_rule (with_rule (with_rule (with_rule (with_rule (with_rule (with_rule (with_rule
-    (with_rule (with_rule (with_rule (with_rule
-    (new_app (codes "audit"))
-    (needed_repeated_rule (codes "policy")))
-    (option_rule (codes "control")))
-    (option_rule (codes "accept")))
-    (number_rule (codes "budget") 1000000 (codes "100000")))
-    (number_rule (codes "workers") 64 (codes "4")))
-    (switch_rule (codes "regions")))
-    (switch_rule (codes "why")))
-    (repeated_rule (codes "names")))
-    (switch_rule (codes "json")))
-    (switch_rule (codes "progress")))
-    (switch_rule (codes "quiet")))
-    (switch_rule (codes "explain-errors")))
-    filters_rule
+audit_line = subcommand_form (codes "audit") (
+    needed_repeated_rule (codes "policy") ∷ option_rule (codes "control") ∷ option_rule (codes "accept")
+    ∷ number_rule (codes "budget") 1000000 (codes "100000") ∷ number_rule (codes "workers") 64 (codes "4")
+    ∷ switch_rule (codes "regions") ∷ switch_rule (codes "why") ∷ switch_rule (codes "summary")
+    ∷ switch_rule (codes "summary-all") ∷ option_rule (codes "groups") ∷ repeated_rule (codes "names")
+    ∷ switch_rule (codes "json") ∷ switch_rule (codes "progress") ∷ switch_rule (codes "quiet")
+    ∷ switch_rule (codes "explain-errors") ∷ filters_rule ∷ [])
 
 -- `check [--instructions] [--json] [--quiet] [--explain-errors] FILTER..`
 abbrev pub check_line : App
-check_line = with_rule (with_rule (with_rule (with_rule (with_rule (new_app (codes "check"))
-    (switch_rule (codes "instructions")))
-    (switch_rule (codes "json")))
-    (switch_rule (codes "quiet")))
-    (switch_rule (codes "explain-errors")))
-    filters_rule
+check_line = subcommand_form (codes "check") (
+    switch_rule (codes "instructions") ∷ switch_rule (codes "json") ∷ switch_rule (codes "quiet")
+    ∷ switch_rule (codes "explain-errors") ∷ filters_rule ∷ [])
 
 -- `eval [--input HEX] [--call NAME] [--nr N] [--arch SET] [--args A,..] [--trace] [--trace-true] [--names FILE]..
 -- [--json] [--explain-errors] FILTER..`
 abbrev pub eval_line : App
-eval_line = with_rule (with_rule (with_rule (with_rule (with_rule (with_rule (with_rule (with_rule (with_rule (with_rule
-    (with_rule (new_app (codes "eval"))
-    (option_rule (codes "input")))
-    (option_rule (codes "call")))
-    (option_rule (codes "nr")))
-    (option_rule (codes "arch")))
-    (option_rule (codes "args")))
-    (switch_rule (codes "trace")))
-    (switch_rule (codes "trace-true")))
-    (repeated_rule (codes "names")))
-    (switch_rule (codes "json")))
-    (switch_rule (codes "explain-errors")))
-    filters_rule
+eval_line = subcommand_form (codes "eval") (
+    option_rule (codes "input") ∷ option_rule (codes "call") ∷ option_rule (codes "nr") ∷ option_rule (codes "arch")
+    ∷ option_rule (codes "args") ∷ switch_rule (codes "trace") ∷ switch_rule (codes "trace-true")
+    ∷ repeated_rule (codes "names") ∷ switch_rule (codes "json") ∷ switch_rule (codes "explain-errors") ∷ filters_rule
+    ∷ [])
 
 -- `compare --old FILE.. --new FILE.. [--nodes N] [--same] [--rows] [--only RELATION] [--calls [NAME,..]]
 -- [--names FILE].. [--json] [--quiet] [--explain-errors]`
 abbrev pub compare_line : App
-compare_line = with_rule (with_rule (with_rule (with_rule (with_rule (with_rule (with_rule (with_rule (with_rule
-    (with_rule (with_rule
-    (new_app (codes "compare"))
-    (files_rule (codes "old")))
-    (files_rule (codes "new")))
-    (number_rule (codes "nodes") 16000000 (codes "1000000")))
-    (switch_rule (codes "same")))
-    (switch_rule (codes "rows")))
-    (option_rule (codes "only")))
-    (choice_rule (codes "calls")))
-    (repeated_rule (codes "names")))
-    (switch_rule (codes "json")))
-    (switch_rule (codes "quiet")))
-    (switch_rule (codes "explain-errors"))
+compare_line = subcommand_form (codes "compare") (
+    files_rule (codes "old") ∷ files_rule (codes "new") ∷ number_rule (codes "nodes") 16000000 (codes "1000000")
+    ∷ switch_rule (codes "same") ∷ switch_rule (codes "rows") ∷ option_rule (codes "only") ∷ choice_rule (codes "calls")
+    ∷ repeated_rule (codes "names") ∷ switch_rule (codes "json") ∷ switch_rule (codes "quiet")
+    ∷ switch_rule (codes "explain-errors") ∷ [])
 
 -- `list [--nodes N] [--names FILE].. [--calls [NAME,..]] [--digest] [--json] [--quiet] [--explain-errors] FILTER..`
 abbrev pub list_line : App
-list_line = with_rule (with_rule (with_rule (with_rule (with_rule (with_rule (with_rule (with_rule
-    (new_app (codes "list"))
-    (number_rule (codes "nodes") 16000000 (codes "1000000")))
-    (repeated_rule (codes "names")))
-    (choice_rule (codes "calls")))
-    (switch_rule (codes "digest")))
-    (switch_rule (codes "json")))
-    (switch_rule (codes "quiet")))
-    (switch_rule (codes "explain-errors")))
-    filters_rule
+list_line = subcommand_form (codes "list") (
+    number_rule (codes "nodes") 16000000 (codes "1000000") ∷ repeated_rule (codes "names") ∷ choice_rule (codes "calls")
+    ∷ switch_rule (codes "digest") ∷ switch_rule (codes "json") ∷ switch_rule (codes "quiet")
+    ∷ switch_rule (codes "explain-errors") ∷ filters_rule ∷ [])
 
 -- `needed [--nodes N] [--json] [--quiet] [--explain-errors] FILTER..`
 abbrev pub needed_line : App
-needed_line = with_rule (with_rule (with_rule (with_rule (with_rule
-    (new_app (codes "needed"))
-    (number_rule (codes "nodes") 16000000 (codes "1000000")))
-    (switch_rule (codes "json")))
-    (switch_rule (codes "quiet")))
-    (switch_rule (codes "explain-errors")))
-    filters_rule
+needed_line = subcommand_form (codes "needed") (
+    number_rule (codes "nodes") 16000000 (codes "1000000") ∷ switch_rule (codes "json") ∷ switch_rule (codes "quiet")
+    ∷ switch_rule (codes "explain-errors") ∷ filters_rule ∷ [])
 
 -- `profile --machine MACHINE [--names FILE].. [--cap NAME].. [--kernel X.Y] [--conflicts RULE] [--newer]
 -- [--skip-unknown] [--notes] [--quiet] [--explain-errors] PROFILE`
 abbrev pub profile_line : App
-profile_line = with_rule (with_rule (with_rule (with_rule (with_rule (with_rule (with_rule (with_rule (with_rule
-    (with_rule (with_rule (new_app (codes "profile"))
-    (needed_rule (codes "machine")))
-    (repeated_rule (codes "names")))
-    (repeated_rule (codes "cap")))
-    (option_rule (codes "kernel")))
-    (word_rule (codes "conflicts") (codes "strictest")))
-    (switch_rule (codes "newer")))
-    (switch_rule (codes "skip-unknown")))
-    (switch_rule (codes "notes")))
-    (switch_rule (codes "quiet")))
-    (switch_rule (codes "explain-errors")))
-    (file_rule (codes "profile"))
+profile_line = subcommand_form (codes "profile") (
+    needed_rule (codes "machine") ∷ repeated_rule (codes "names") ∷ repeated_rule (codes "cap")
+    ∷ option_rule (codes "kernel") ∷ word_rule (codes "conflicts") (codes "strictest") ∷ switch_rule (codes "newer")
+    ∷ switch_rule (codes "skip-unknown") ∷ switch_rule (codes "notes") ∷ switch_rule (codes "quiet")
+    ∷ switch_rule (codes "explain-errors") ∷ file_rule (codes "profile") ∷ [])
 
 -- The program without its subcommands: the words begin behind its name, one of them must be a subcommand, `help` is
 -- none, and there is a version.

@@ -4,10 +4,8 @@ ghost use Rattle.clap.specs.Words.{app_of};
 ghost use Rattle.sf_command_line.specs.CommandLine.{audit_line, check_line, command_line, compare_line, eval_line, list_line, needed_line, profile_line, program_line};
 
 use crate::arguments::{
-    accept, arch, arguments, budget, call, calls, cap, conflicts, control, digest, explain, files,
-    filters, input, instructions, json, kernel, machine, names, newer, nodes, notes, nr, only,
-    policy, profile_file, progress, quiet, regions, rows, same_switch, skip_unknown, trace,
-    trace_true, why, workers,
+    budget, calls, cap, conflicts, explain, files, filters, json, machine, names, nodes, option,
+    policy, profile_file, quiet, switch, workers,
 };
 use clap::Command;
 use std::alloc::{AllocError, Global};
@@ -33,10 +31,11 @@ Limits:
 
 Errors:
   An error is one line on standard error: its number, its name, and where it lies.
-  --explain-errors, which each command takes, adds where that is, and what the number means.
+  --explain-errors, which each command takes, adds where that is, and what the number means, as at a terminal.
   A warning there is a line about what may make filters look safe; --quiet leaves it out.
 
-The path - is standard input, for one file. `seccomp_audit help COMMAND` is `seccomp_audit COMMAND --help`.
+The path - is standard input, for one file. @NAME is a file that comes with the program, such as @x86_64.
+`seccomp_audit help COMMAND` is `seccomp_audit COMMAND --help`.
 
 docs/GUIDE.md says how to get filters, how to ask questions and how to read the answers.";
 
@@ -46,15 +45,30 @@ fn audit<'a>(alloc: Global) -> Result<Command<'a>, AllocError>
     Command::new(alloc, "audit")
         .about("Answer the questions of a policy about a stack of filters")
         .arg(policy(alloc))?
-        .arg(control(alloc))?
-        .arg(accept(alloc))?
+        .arg(option(alloc, "control", "FILE").help(
+            "A policy each of whose questions must be allowed, else the status is 2",
+        ))?
+        .arg(option(alloc, "accept", "FILE").help(
+            "The names of questions that may be allowed, one a line, with comments behind #",
+        ))?
         .arg(budget(alloc))?
         .arg(workers(alloc))?
-        .arg(regions(alloc))?
-        .arg(why(alloc))?
+        .arg(switch(alloc, "regions").help("List the settled regions too"))?
+        .arg(switch(alloc, "why").help(
+            "Show of each example the call, and which instruction lets it through",
+        ))?
+        .arg(switch(alloc, "summary").help(
+            "Write in place of the report which groups have questions that are allowed",
+        ))?
+        .arg(switch(alloc, "summary-all").help(
+            "The same with the call of each example, one a line",
+        ))?
+        .arg(option(alloc, "groups", "FILE").help(
+            "A file of groups for the summary, such as policies/groups.toml",
+        ))?
         .arg(names(alloc))?
         .arg(json(alloc))?
-        .arg(progress(alloc))?
+        .arg(switch(alloc, "progress").help("Tell each second on standard error how much is done"))?
         .arg(quiet(alloc))?
         .arg(explain(alloc))?
         .arg(filters(alloc))
@@ -65,7 +79,7 @@ fn check<'a>(alloc: Global) -> Result<Command<'a>, AllocError>
 {
     Command::new(alloc, "check")
         .about("Check whether files are lawful filters that make a lawful stack")
-        .arg(instructions(alloc))?
+        .arg(switch(alloc, "instructions").help("List the instructions of each filter too"))?
         .arg(json(alloc))?
         .arg(quiet(alloc))?
         .arg(explain(alloc))?
@@ -77,13 +91,23 @@ fn eval<'a>(alloc: Global) -> Result<Command<'a>, AllocError>
 {
     Command::new(alloc, "eval")
         .about("Show what a stack of filters answers to one input")
-        .arg(input(alloc))?
-        .arg(call(alloc))?
-        .arg(nr(alloc))?
-        .arg(arch(alloc))?
-        .arg(arguments(alloc))?
-        .arg(trace(alloc))?
-        .arg(trace_true(alloc))?
+        .arg(option(alloc, "input", "HEX").help(
+            "The 64 bytes of struct seccomp_data as 128 hexadecimal digits",
+        ))?
+        .arg(option(alloc, "call", "NAME").help(
+            "Instead: a call by its name; needs --arch and --args",
+        ))?
+        .arg(option(alloc, "nr", "N").help(
+            "Instead: a call by its number; needs --arch and --args",
+        ))?
+        .arg(option(alloc, "arch", "SET").help(
+            "The call's set of --names, such as x86_64; with --nr also an architecture's number",
+        ))?
+        .arg(option(alloc, "args", "A,..").help(
+            "The call's arguments, one to six numbers; 0 for those left out",
+        ))?
+        .arg(switch(alloc, "trace").help("Show what each filter meets and returns too"))?
+        .arg(switch(alloc, "trace-true").help("The same without the comparisons that are false"))?
         .arg(names(alloc))?
         .arg(json(alloc))?
         .arg(explain(alloc))?
@@ -102,9 +126,11 @@ fn compare<'a>(alloc: Global) -> Result<Command<'a>, AllocError>
         ))?
         .arg(files(alloc, "new", "The filter files after the change"))?
         .arg(nodes(alloc))?
-        .arg(same_switch(alloc))?
-        .arg(rows(alloc))?
-        .arg(only(alloc))?
+        .arg(switch(alloc, "same").help("Let the exit status tell of different, not of looser"))?
+        .arg(switch(alloc, "rows").help("List the rows whose answers differ too"))?
+        .arg(option(alloc, "only", "RELATION").help(
+            "Of the rows only those of a relation: looser, tighter or different",
+        ))?
         .arg(calls(alloc))?
         .arg(names(alloc))?
         .arg(json(alloc))?
@@ -120,7 +146,9 @@ fn list<'a>(alloc: Global) -> Result<Command<'a>, AllocError>
         .arg(nodes(alloc))?
         .arg(names(alloc))?
         .arg(calls(alloc))?
-        .arg(digest(alloc))?
+        .arg(switch(alloc, "digest").help(
+            "Write one line with a digest of the rows: stacks that answer alike have the same",
+        ))?
         .arg(json(alloc))?
         .arg(quiet(alloc))?
         .arg(explain(alloc))?
@@ -147,11 +175,13 @@ fn profile<'a>(alloc: Global) -> Result<Command<'a>, AllocError>
         .arg(machine(alloc))?
         .arg(names(alloc))?
         .arg(cap(alloc))?
-        .arg(kernel(alloc))?
+        .arg(option(alloc, "kernel", "X.Y").help("The version of the kernel, such as 6.12"))?
         .arg(conflicts(alloc))?
-        .arg(newer(alloc))?
-        .arg(skip_unknown(alloc))?
-        .arg(notes(alloc))?
+        .arg(switch(alloc, "newer").help(
+            "Let calls that are newer than the profile fail with ENOSYS, as runc does",
+        ))?
+        .arg(switch(alloc, "skip-unknown").help("Pass over names that no set of calls has"))?
+        .arg(switch(alloc, "notes").help("Write what the profile has, and not its filter"))?
         .arg(quiet(alloc))?
         .arg(explain(alloc))?
         .arg(profile_file(alloc))

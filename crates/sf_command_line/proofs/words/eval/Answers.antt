@@ -1,32 +1,29 @@
-use Rattle.std.proofs.Common.{◌≡◌, ap, ap₂, codes, ◌∙◌}
+use Rattle.std.proofs.Common.{◌≡◌, ap, codes, ◌∙◌}
 use Rattle.std.proofs.lemmas.Result.{IfOk-weaker}
-use Rattle.clap.specs.Words.{app_of, new_app, with_rule}
+use Rattle.clap.specs.Words.{app_of, new_app}
 use Rattle.clap.specs.Simple.{app_of_fields}
+use Rattle.sf_command_line.proofs.words.WordsLemmas.{with_help, with_one}
 use Rattle.sf_command_line.proofs.words.eval.Goals as goal
 
 pub returns : goal.returns
 returns c =
     let bare : app_of c.about.result ≡ new_app (codes "eval") = ap app_of_fields c.about.ensures ∙ c.new.ensures.app in
-    let with_input = c.in_ok-arg.ensures.shape c.input.ensures.own
-    ∙ ap₂ with_rule bare c.input.ensures.rule in
-    let with_call = c.in_ok-arg-2.ensures.shape c.call.ensures.own
-    ∙ ap₂ with_rule with_input c.call.ensures.rule in
-    let with_nr = c.in_ok-arg-3.ensures.shape c.nr.ensures.own
-    ∙ ap₂ with_rule with_call c.nr.ensures.rule in
-    let with_arch = c.in_ok-arg-4.ensures.shape c.arch.ensures.own
-    ∙ ap₂ with_rule with_nr c.arch.ensures.rule in
-    let with_arguments = c.in_ok-arg-5.ensures.shape c.arguments.ensures.own
-    ∙ ap₂ with_rule with_arch c.arguments.ensures.rule in
-    let with_trace = c.in_ok-arg-6.ensures.shape c.trace.ensures.own
-    ∙ ap₂ with_rule with_arguments c.trace.ensures.rule in
-    let with_trace_true = c.in_ok-arg-7.ensures.shape c.trace_true.ensures.own
-    ∙ ap₂ with_rule with_trace c.trace_true.ensures.rule in
-    let with_names = c.in_ok-arg-8.ensures.shape c.names.ensures.own
-    ∙ ap₂ with_rule with_trace_true c.names.ensures.rule in
-    let with_json = c.in_ok-arg-9.ensures.shape c.json.ensures.own
-    ∙ ap₂ with_rule with_names c.json.ensures.rule in
-    let with_explain = c.in_ok-arg-10.ensures.shape c.explain.ensures.own
-    ∙ ap₂ with_rule with_json c.explain.ensures.rule in
-    IfOk-weaker c.arg-11.result _ _ (λ r h. h.shape c.filters.ensures.own
-    ∙ ap₂ with_rule with_explain c.filters.ensures.rule)
+    let one = with_help c.option.result c.in_ok-arg.ensures c.help.ensures bare
+    c.option.ensures.own c.option.ensures.rule in
+    let two = with_help c.option-2.result c.in_ok-arg-2.ensures c.help-2.ensures one
+    c.option-2.ensures.own c.option-2.ensures.rule in
+    let three = with_help c.option-3.result c.in_ok-arg-3.ensures c.help-3.ensures two
+    c.option-3.ensures.own c.option-3.ensures.rule in
+    let four = with_help c.option-4.result c.in_ok-arg-4.ensures c.help-4.ensures three
+    c.option-4.ensures.own c.option-4.ensures.rule in
+    let five = with_help c.option-5.result c.in_ok-arg-5.ensures c.help-5.ensures four
+    c.option-5.ensures.own c.option-5.ensures.rule in
+    let six = with_help c.switch.result c.in_ok-arg-6.ensures c.help-6.ensures five
+    c.switch.ensures.own c.switch.ensures.rule in
+    let seven = with_help c.switch-2.result c.in_ok-arg-7.ensures c.help-7.ensures six
+    c.switch-2.ensures.own c.switch-2.ensures.rule in
+    let eight = with_one c.in_ok-arg-8.ensures seven c.names.ensures.own c.names.ensures.rule in
+    let nine = with_one c.in_ok-arg-9.ensures eight c.json.ensures.own c.json.ensures.rule in
+    let ten = with_one c.in_ok-arg-10.ensures nine c.explain.ensures.own c.explain.ensures.rule in
+    IfOk-weaker c.arg-11.result _ _ (λ r h. with_one h ten c.filters.ensures.own c.filters.ensures.rule)
     c.arg-11.ensures
