@@ -9,20 +9,19 @@ use Rattle.sf_check.specs.declared.insn.Insn.{Insn}
 use Rattle.sf_run.specs.Answers.{action_bits}
 use Rattle.sf_run.specs.declared.walking.Meeting.{Meeting}
 use Rattle.sf_run.specs.Walks.{CourseData, walk_of}
-use Rattle.sf_evaluate.specs.Traces.{meeting_lines, shown_line, stack_text}
+use Rattle.sf_evaluate.specs.Traces.{meeting_lines, shown_line, stack_shown}
 
-pub one_more_filter : (shown : ℕ → Bool → CourseData → List ℕ) (n action : ℕ) (stood stands : Bool)
-    (programs : List (List Insn)) (d : Input)
-    (code : List Insn) (w : CourseData) (old new whole : List ℕ)
+-- what is shown of a stack, with one filter more
+pub one_more_filter : {X : Type 0} (shown : ℕ → Bool → CourseData → List X) (n action : ℕ) (stood stands : Bool)
+    (programs : List (List Insn)) (d : Input) (code : List Insn) (w : CourseData) (old new whole : List X)
     → slice_get programs n ≡ Some code → walk_of code d ≡ Some w
     → stands ≡ (not stood && (action_bits w.value == action))
     → new ≡ old ++ shown (n + 1) stands w
-    → old ++ stack_text shown (suc n) action programs d stood ≡ whole
-    → new ++ stack_text shown n action programs d (stood || stands) ≡ whole
+    → old ++ stack_shown shown (suc n) action programs d stood ≡ whole
+    → new ++ stack_shown shown n action programs d (stood || stands) ≡ whole
 one_more_filter shown n action stood stands programs d code w old new whole at ran stands_is pushed so_far =
-    let so_far' : old ++ (shown (n + 1) stands w
-    ++ stack_text shown n action programs d (stood || stands))
-    ≡ whole = rw (stands_is, ← so_far, at, ran) refl in
+    let so_far' : old ++ (shown (n + 1) stands w ++ stack_shown shown n action programs d (stood || stands)) ≡ whole =
+    rw (stands_is, ← so_far, at, ran) refl in
     rw (pushed, append_assoc old) so_far'
 
 -- the lines of what a filter meets, with one more

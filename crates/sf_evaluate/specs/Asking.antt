@@ -1,5 +1,6 @@
 -- The input that `eval` is asked for, by the words of the command line.
-use Rattle.std.specs.Prelude.{◌≡◌, ◌⊎◌, ℕ, Bool, true, false, not, ◌&&◌, ◌||◌, nat_lt, if◌then◌else◌, List, Option, Some, None, Ok, codes, find, is_ok, is_some, length, option_and_then, option_map}
+use Rattle.std.specs.Prelude.{◌≡◌, ◌⊎◌, ℕ, Bool, true, false, not, ◌&&◌, ◌||◌, nat_lt, if◌then◌else◌, List, [], ◌∷◌, Option, Some, None, Ok, codes, find, is_ok, is_some, length, map, option_and_then, option_map}
+use Rattle.std.specs.Borrow.{Bor}
 use Rattle.std.specs.Result.{result_ok}
 use Rattle.hex.specs.Hex.{decode_sized}
 use Rattle.clap.specs.Words.{Row, Text, first_of}
@@ -8,7 +9,9 @@ use Rattle.sf_insn.specs.Inputs.{input_bytes}
 use Rattle.sf_names.specs.Names.{NamesData, has_set, is_call_name, number_of_call}
 use Rattle.sf_calls.specs.Calls.{call_input}
 use Rattle.sf_calls.specs.Numbers.{are_arguments, is_number, read_arguments, read_number}
+use Rattle.sf_stack.specs.declared.fault.Fault.{Fault}
 use Rattle.sf_command_line.specs.Options.{paths_of, text_of}
+use Rattle.sf_evaluate.specs.Names.{AreNamesRead, RefusesNaming}
 
 -- ---- the words fit together
 
@@ -27,14 +30,10 @@ abbrev pub has_arch_and_arguments : List Row → Bool
 has_arch_and_arguments rows =
     is_given (codes "arch") rows && (is_given (codes "args") rows && are_arguments (text_of (codes "args") rows))
 
--- there is a file of names
-abbrev pub has_file_of_names : List Row → Bool
-has_file_of_names rows = nat_lt 0 (length (paths_of (codes "names") rows))
-
--- a call is asked for by its name, in a set with a name, and there is a file of names
+-- a call is asked for by its name, in a set with a name
 abbrev pub call_fits : List Row → Bool
 call_fits rows =
-    (not (is_given (codes "nr") rows) && has_file_of_names rows)
+    not (is_given (codes "nr") rows)
     && (is_call_name (text_of (codes "call") rows) && is_call_name (text_of (codes "arch") rows))
 
 -- the number of an architecture, or the name of a set
@@ -51,6 +50,45 @@ abbrev pub eval_words_fit : List Row → Bool
 eval_words_fit rows =
     if is_given (codes "input") rows then describes_no_call rows
     else has_arch_and_arguments rows && (if is_given (codes "call") rows then call_fits rows else nr_fits rows)
+
+-- ---- the files of names
+
+-- a file of names is given
+abbrev pub has_file_of_names : List Row → Bool
+has_file_of_names rows = nat_lt 0 (length (paths_of (codes "names") rows))
+
+-- the architecture is given, and not by its number
+abbrev pub names_a_set : List Row → Bool
+names_a_set rows = is_given (codes "arch") rows && not (is_number (text_of (codes "arch") rows))
+
+-- names are needed: a call is asked for by its name, calls are told one by one, a profile is read, or a set is named
+abbrev pub needs_names : List Row → Bool
+needs_names rows =
+    (is_given (codes "call") rows || is_given (codes "calls") rows)
+    || (is_given (codes "profile") rows || names_a_set rows)
+
+-- no file of names is given, and names are needed
+abbrev pub lacks_names : List Row → Bool
+lacks_names rows = not (has_file_of_names rows) && needs_names rows
+
+-- the paths of the files of names: those that are given; or that of the file that comes with the program
+abbrev pub names_paths : List Row → List Text
+names_paths rows = if lacks_names rows then codes "@names" ∷ [] else paths_of (codes "names") rows
+
+-- these are the paths of the files of names
+abbrev pub AreNamesPaths : List Row → List (Bor Text) → Type 0
+AreNamesPaths rows paths = map (λ p. p.now) paths ≡ names_paths rows
+
+-- the sets of calls in these files, joined
+pub record AreNamed (holds : Text → Option Text) (rows : List Row) (names : List NamesData) : Type 0 where
+  pub paths : List (Bor Text)
+  pub named : AreNamesPaths rows paths
+  pub read : AreNamesRead holds paths names
+
+-- why these files are refused
+abbrev pub RefusesNamed : (Text → Option Text) → List Row → Fault → Type 0
+RefusesNamed holds rows fault =
+    (paths : List (Bor Text)) × AreNamesPaths rows paths × RefusesNaming holds paths fault
 
 -- ---- the numbers are narrow enough
 

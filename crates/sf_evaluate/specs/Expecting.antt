@@ -1,5 +1,5 @@
 -- The files that say what a build expects of an audit: a control, and the questions that may be allowed.
-use Rattle.std.specs.Prelude.{◌≡◌, ◌⊎◌, ◌+◌, ℕ, Bool, true, not, List, [], Option, Some, None, codes}
+use Rattle.std.specs.Prelude.{◌≡◌, ◌⊎◌, ◌+◌, ◌&&◌, ◌||◌, ℕ, Bool, true, not, if◌then◌else◌, List, [], Option, Some, None, codes}
 use Rattle.std.specs.List.{list_any}
 use Rattle.std.specs.Str.{IsUtf8, bytes_eq}
 use Rattle.clap.specs.Words.{Row, first_of}
@@ -10,6 +10,8 @@ use Rattle.sf_policy.specs.Accepted.{AreAccepted, IsMisfitAt}
 use Rattle.sf_command_line.specs.Options.{paths_of}
 use Rattle.sf_evaluate.specs.Files.{AreKnownBytes}
 use Rattle.sf_evaluate.specs.Policies.{IsPolicyFile, RefusesPolicyFile}
+use Rattle.sf_evaluate.specs.Asking.{is_given}
+use Rattle.sf_evaluate.specs.Wanted.{is_switched_on}
 
 -- the questions of the control, if a policy file is named for it; else there are none
 abbrev pub IsControl : (List ℕ → Option (List ℕ)) → Option (List ℕ) → List QuestionData → Type 0
@@ -52,6 +54,24 @@ abbrev pub is_other_policy : Option (List ℕ) → List (List ℕ) → Bool
 is_other_policy None policies = true
 is_other_policy (Some path) policies = not (list_any (bytes_eq path) policies)
 
--- the words of `audit` fit: the control is another policy than those that ask the questions
+-- the control is another policy than those that ask the questions
+abbrev pub control_fits : List Row → Bool
+control_fits rows = is_other_policy (first_of (codes "control") rows) (paths_of (codes "policy") rows)
+
+-- a summary is asked for
+abbrev pub wants_summary : List Row → Bool
+wants_summary rows = is_switched_on (codes "summary") rows || is_switched_on (codes "summary-all") rows
+
+-- what is written in the place of a summary, or belongs to a report, isn't asked for
+abbrev pub wants_no_report : List Row → Bool
+wants_no_report rows =
+    not (is_switched_on (codes "json") rows)
+    && (not (is_switched_on (codes "regions") rows) && not (is_switched_on (codes "why") rows))
+
+-- a summary goes without JSON, regions and remarks, and groups go only with a summary
+abbrev pub summary_fits : List Row → Bool
+summary_fits rows = if wants_summary rows then wants_no_report rows else not (is_given (codes "groups") rows)
+
+-- the words of `audit` fit together
 abbrev pub audit_words_fit : List Row → Bool
-audit_words_fit rows = is_other_policy (first_of (codes "control") rows) (paths_of (codes "policy") rows)
+audit_words_fit rows = control_fits rows && summary_fits rows

@@ -1,8 +1,10 @@
 pub mod Pairs
 pub mod Files
+pub mod Identity
 pub mod Names
 pub mod Policies
 pub mod Expecting
+pub mod Groups
 pub mod Instructions
 pub mod Texts
 pub mod Traces

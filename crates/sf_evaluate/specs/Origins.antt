@@ -8,14 +8,15 @@ use Rattle.sf_json.specs.Documents.{fields}
 use Rattle.sf_evaluate.specs.Pairs.{Pairwise}
 use Rattle.sf_evaluate.specs.Policies.{IsPolicyFile}
 
--- where a question stands: the path of its policy file, and a line of it
-abbrev pub origin_document : (path : List ℕ) → (line : Data) → Data
-origin_document path line = fields ((codes "line", line) ∷ (codes "policy", string path) ∷ [])
+-- where a question stands: the path of its policy file, a line of it, and a comment above it
+abbrev pub origin_document : (path : List ℕ) → (line comment : Data) → Data
+origin_document path line comment =
+    fields ((codes "comment", comment) ∷ (codes "line", line) ∷ (codes "policy", string path) ∷ [])
 
--- Where a question of the policy file at a path stands. On which line is told for a person, and isn't defined here: it
--- is null where it isn't known.
+-- Where a question of the policy file at a path stands. On which line, and below which comment, is told for a person,
+-- and isn't defined here: each is null where it isn't known.
 abbrev pub IsOrigin : List ℕ → Data → Type 0
-IsOrigin path d = (line : Data) × (d ≡ origin_document path line)
+IsOrigin path d = (line comment : Data) × (d ≡ origin_document path line comment)
 
 -- where so many questions of the policy file at a path stand
 pub record AreOriginsOf (path : List ℕ) (count : ℕ) (origins : List Data) : Type 0 where

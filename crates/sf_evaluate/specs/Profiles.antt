@@ -5,7 +5,7 @@ use Rattle.std.specs.Io.KnownBytes.{Appends}
 use Rattle.std.specs.List.{list_all, list_any}
 use Rattle.std.specs.Str.{bytes_eq}
 use Rattle.clap.specs.Words.{Row, Text, one_of}
-use Rattle.sf_command_line.specs.Options.{ArePaths, IsSwitch, paths_of, text_of}
+use Rattle.sf_command_line.specs.Options.{IsSwitch, paths_of, text_of}
 use Rattle.sf_profile.specs.Filters.{IsRefusedText, MakesFilterOf}
 use Rattle.sf_profile.specs.Notes.{AreNotesOfText}
 use Rattle.sf_profile.specs.Profiles.{version_of}
@@ -22,6 +22,7 @@ use Rattle.sf_names.specs.Names.{NamesData}
 use Rattle.sf_stack.specs.declared.fault.Fault.TheVariants as faults
 use Rattle.sf_evaluate.specs.declared.fault.Fault.{Fault}
 use Rattle.sf_evaluate.specs.declared.fault.Fault.TheVariants.{Profile, Other}
+use Rattle.sf_evaluate.specs.Asking.{AreNamesPaths}
 use Rattle.sf_evaluate.specs.Faults.{IsOther, of_profile}
 use Rattle.sf_evaluate.specs.Files.{AreKnownBytes}
 use Rattle.sf_evaluate.specs.Names.{AreNamesRead, RefusesNaming}
@@ -107,7 +108,7 @@ pub record HasOtherSet (holds : Text → Option Text) (paths : List (Bor Text)) 
 pub record IsReadFor (holds : Text → Option Text) (rows : List Row) (s : Settings) : Type 0 where
   pub words : AreSettings rows s
   pub paths : List (Bor Text)
-  pub named : ArePaths (codes "names") rows paths
+  pub named : AreNamesPaths rows paths
   pub names : List NamesData
   pub read : AreNamesRead holds paths names
   pub calls : AreCallsOf names s.calls.items
@@ -142,7 +143,7 @@ pub record RefusesProfileFile (holds : Text → Option Text) (rows : List Row) (
 -- a file of names is refused for this reason, memory ran out, or one of the sets is none of the five
 abbrev pub RefusesNamesOf : (Text → Option Text) → List Row → Fault → Type 0
 RefusesNamesOf holds rows fault =
-    (paths : List (Bor Text)) × ArePaths (codes "names") rows paths
+    (paths : List (Bor Text)) × AreNamesPaths rows paths
     × (IsOther (RefusesNaming holds paths) fault ⊎ HasOtherSet holds paths fault)
 
 -- Why `profile` is refused: writing or memory failed; a file of names is refused, or one of its sets; the file of the

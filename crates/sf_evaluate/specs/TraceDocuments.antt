@@ -1,5 +1,5 @@
 -- What `eval` finds, as JSON. Each field is always there: one that doesn't apply is null.
-use Rattle.std.specs.Prelude.{ℕ, zero, suc, ◌+◌, Bool, false, ◌==◌, ◌&&◌, ◌||◌, not, if◌then◌else◌, List, [], ◌∷◌, codes, length, Option, Some, None, slice_get, unwrap_or}
+use Rattle.std.specs.Prelude.{ℕ, Bool, false, ◌==◌, ◌&&◌, ◌||◌, if◌then◌else◌, List, [], ◌∷◌, codes, length, Option, Some, None, slice_get, unwrap_or}
 use Rattle.std.specs.List.{flat_map}
 use Rattle.serde_json.specs.Data.{Data, boolean, null, string}
 use Rattle.sf_insn.specs.declared.input.Input.{Input}
@@ -13,7 +13,7 @@ use Rattle.sf_run.specs.Walks.{CourseData}
 use Rattle.sf_names.specs.Names.{NamesData}
 use Rattle.sf_policy.specs.Keys.{word_keys}
 use Rattle.sf_json.specs.Documents.{action_document, answer_document, count, fields, input_document, list_of, word}
-use Rattle.sf_evaluate.specs.Traces.{is_false, sign_text, walk_at}
+use Rattle.sf_evaluate.specs.Traces.{is_false, sign_text, stack_shown}
 
 -- ---- a filter
 
@@ -58,20 +58,10 @@ filter_document brief number stands w = fields (
 
 -- ---- the stack
 
--- a filter, where its run comes to a return, and then the older ones
-abbrev pub next_documents : (brief : Bool) → (number action : ℕ) → (stood : Bool) → (Bool → List Data)
-    → Option CourseData → List Data
-next_documents brief number action stood older (Some w) =
-    let stands = not stood && (action_bits w.value == action) in
-    filter_document brief number stands w ∷ older (stood || stands)
-next_documents brief number action stood older None = older stood
-
--- The first n filters, newest first. The answer that stands is that of the newest of all filters that returns this
--- action; `stood` says whether it is that of a filter newer than these.
+-- the first n filters, as `stack_shown` has them
 abbrev pub filter_documents : (brief : Bool) → ℕ → (action : ℕ) → List (List Insn) → Input → (stood : Bool) → List Data
-filter_documents brief zero action programs d stood = []
-filter_documents brief (suc n) action programs d stood =
-    next_documents brief (n + 1) action stood (filter_documents brief n action programs d) (walk_at programs d n)
+filter_documents brief n action programs d stood =
+    stack_shown (λ number stands w. filter_document brief number stands w ∷ []) n action programs d stood
 
 -- the filters of a stack, where they are asked for: traced, or in brief without what is false
 abbrev pub traced_document : (traced brief : Bool) → List (List Insn) → Input → Answer → Data

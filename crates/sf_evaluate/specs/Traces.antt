@@ -5,7 +5,6 @@ use Rattle.sf_insn.specs.declared.input.Input.{Input}
 use Rattle.sf_insn.specs.declared.ops.Test.{Test}
 use Rattle.sf_insn.specs.declared.ops.Test.TheVariants.{Equal, Greater, GreaterOrEqual, AnyBit}
 use Rattle.sf_check.specs.declared.insn.Insn.{Insn}
-use Rattle.sf_run.specs.declared.action.Action.{Action}
 use Rattle.sf_run.specs.declared.action.Answer.{Answer}
 use Rattle.sf_run.specs.declared.walking.Meeting.{Meeting}
 use Rattle.sf_run.specs.declared.walking.Met.{Met}
@@ -133,16 +132,11 @@ meeting_lines brief number (m ∷ ms) = shown_line brief number m ++ meeting_lin
 abbrev pub stands_text : Bool → List ℕ
 stands_text stands = if stands then codes " stands" else []
 
--- the line of what a filter returns, and where
-abbrev pub returned_line : ℕ → ℕ → Action → ℕ → Bool → List ℕ
-returned_line number place action info stands =
-    codes "filter " ++ (decimal number ++ 32 ∷ (action_text action ++ 32 ∷ (decimal info
-    ++ (codes " instruction " ++ (decimal place ++ (stands_text stands ++ 10 ∷ []))))))
-
 -- the line of a filter's return value, and where it returns it
 abbrev pub return_line : ℕ → ℕ → ℕ → Bool → List ℕ
 return_line number place value stands =
-    returned_line number place (action_of (action_bits value)) (data_bits value) stands
+    codes "filter " ++ (decimal number ++ 32 ∷ (action_text (action_of (action_bits value)) ++ 32 ∷ (decimal
+    (data_bits value) ++ (codes " instruction " ++ (decimal place ++ (stands_text stands ++ 10 ∷ []))))))
 
 -- the lines of a filter with this number: what it returns, and under it what it meets
 abbrev pub walk_text : Bool → ℕ → Bool → CourseData → List ℕ
@@ -155,28 +149,27 @@ walk_text brief number stands w = return_line number w.place w.value stands ++ m
 abbrev pub walk_at : List (List Insn) → Input → ℕ → Option CourseData
 walk_at programs d place = option_and_then (λ code. walk_of code d) (slice_get programs place)
 
--- what is shown of a filter, with a word where its answer stands, and then of the older filters
-abbrev pub next_text : (ℕ → Bool → CourseData → List ℕ) → ℕ → ℕ → Bool → (Bool → List ℕ) → Option CourseData → List ℕ
-next_text shown number action stood older (Some w) =
+-- what is shown of a filter, by its number, whether its answer stands and its run, and then of the older filters
+abbrev pub next_shown : {X : Type 0} → (ℕ → Bool → CourseData → List X) → ℕ → ℕ → Bool → (Bool → List X)
+    → Option CourseData → List X
+next_shown shown number action stood older (Some w) =
     let stands = not stood && (action_bits w.value == action) in
     shown number stands w ++ older (stood || stands)
-next_text shown number action stood older None = older stood
+next_shown shown number action stood older None = older stood
 
 -- What is shown of the first n filters, newest first. The answer that stands is that of the newest of all filters that
 -- returns this action; `stood` says whether it is that of a filter newer than these.
-abbrev pub stack_text : (ℕ → Bool → CourseData → List ℕ) → ℕ → ℕ → List (List Insn) → Input → Bool → List ℕ
-stack_text shown zero action programs d stood = []
-stack_text shown (suc n) action programs d stood =
-    next_text shown (n + 1) action stood (stack_text shown n action programs d) (walk_at programs d n)
-
--- the lines of the first n filters
-abbrev pub filters_text : Bool → ℕ → ℕ → List (List Insn) → Input → Bool → List ℕ
-filters_text brief n action programs d stood = stack_text (walk_text brief) n action programs d stood
+abbrev pub stack_shown : {X : Type 0} → (ℕ → Bool → CourseData → List X) → ℕ → ℕ → List (List Insn) → Input → Bool
+    → List X
+stack_shown shown zero action programs d stood = []
+stack_shown shown (suc n) action programs d stood =
+    next_shown shown (n + 1) action stood (stack_shown shown n action programs d) (walk_at programs d n)
 
 -- the lines of the input, with these names of calls, and of all filters of the stack, for the stack's answer
 abbrev pub trace_text : Bool → List NamesData → List (List Insn) → Input → Answer → List ℕ
 trace_text brief names programs d answer =
-    input_text names d ++ filters_text brief (length programs) (action_number answer.action) programs d false
+    input_text names d
+    ++ stack_shown (walk_text brief) (length programs) (action_number answer.action) programs d false
 
 -- the line of the answer; under it where the answer comes from, if that is asked for, in full or in brief
 abbrev pub eval_text : (traced brief : Bool) → List NamesData → List (List Insn) → Input → Answer → List ℕ
@@ -211,11 +204,16 @@ cause_line number None = []
 abbrev pub cause_text : ℕ → Bool → CourseData → List ℕ
 cause_text number stands w = why_line (return_line number w.place w.value stands) ++ cause_line number (last_true w.met)
 
+-- the lines of a filter that say why, or those of a trace
+abbrev pub filter_text : (why brief : Bool) → ℕ → Bool → CourseData → List ℕ
+filter_text why brief number stands w =
+    if why then cause_text number stands w else walk_text brief number stands w
+
 -- the line of the input as a call, and the lines of all filters of the stack, newest first, for the stack's answer
 abbrev pub why_text : List NamesData → List (List Insn) → Input → Answer → List ℕ
 why_text names programs d answer =
     why_line (call_line names d)
-    ++ stack_text cause_text (length programs) (action_number answer.action) programs d false
+    ++ stack_shown cause_text (length programs) (action_number answer.action) programs d false
 
 -- the text tells why the stack answers to the input as it does
 abbrev pub IsWhy : List NamesData → List (List Insn) → Input → List ℕ → Type 0

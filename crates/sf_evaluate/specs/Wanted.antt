@@ -23,10 +23,9 @@ calls_asked rows = option_map names_in_text (first_of (codes "calls") rows)
 abbrev pub is_wanted_once : List Text → Text → Bool
 is_wanted_once names name = is_call_name name && (count_by (bytes_eq name) names == 1)
 
--- Calls are told by files of names only; each name can be that of a call, and stands once.
+-- each name of a call that is asked for can be one, and stands once
 abbrev pub calls_fit : List Row → Bool
-calls_fit rows =
-    option_map_or (λ names. has_file_of_names rows && list_all (is_wanted_once names) names) (calls_asked rows) true
+calls_fit rows = option_map_or (λ names. list_all (is_wanted_once names) names) (calls_asked rows) true
 
 -- a relation of answers, by its word
 abbrev pub is_relation : Text → Bool

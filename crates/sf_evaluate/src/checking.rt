@@ -1,8 +1,9 @@
 //! The subcommands `check` and `eval`: read the filter files and write what is found of their stack.
 
-ghost use Rattle.std.specs.Prelude.{◌≡◌, ◌⊎◌, string_bytes, Ok, IfOk, IfErr, OnOk, IsOk};
+ghost use Rattle.std.specs.Prelude.{◌≡◌, ◌⊎◌, map, string_bytes, Ok, IfOk, IfErr, OnOk, IsOk};
 ghost use Rattle.std.specs.Io.KnownBytes.{Appends};
 ghost use Rattle.hex.specs.Hex.{decode_sized};
+ghost use Rattle.serde_json.specs.View.{view};
 ghost use Rattle.sf_insn.specs.Inputs.{input_bytes};
 ghost use Rattle.sf_run.specs.Answers.{Answers};
 ghost use Rattle.sf_run.specs.declared.action.Answer.{Answer};
@@ -13,12 +14,12 @@ ghost use Rattle.sf_stack.specs.declared.fault.Fault.TheVariants.{Memory as Memo
 
 use crate::document::{check_document, eval_document};
 use crate::explaining::Notes;
-use crate::files::{Files, read_stack};
+use crate::files::{Files, Identity, identified, read_stack};
 use crate::texts::{Trace, answer_text, check_text, push_trace};
 use hex::FromHex;
 use sf_check::Stack;
 use sf_insn::{Input, input_of_bytes};
-use sf_json::line_of;
+use sf_json::{Document, line_of};
 use sf_names::Names;
 use sf_run::answer;
 use sf_stack::{Fault, warnings_of_filters, write_bytes};
@@ -51,6 +52,8 @@ pub struct Manner {
 pub struct Evaluation<'a> {
     pub input: &'a Input,
     pub how: Manner,
+    /// The line of the program's version, which a JSON document shows.
+    pub version: &'a str,
     /// Sets of names of calls with which the input is shown.
     pub names: &'a [Names],
 }
@@ -77,15 +80,17 @@ pub(crate) fn input_of(text: &str) -> Result<Input, Fault>
 fn check_output(
     alloc: Global,
     stack: &Stack,
-    listed: bool,
-    json: bool,
+    how: CheckManner,
+    identity: Identity<'_>,
 ) -> Result<String, AllocError>
-    ensures { IfOk result (λ text. IsCheckOutput listed json stack.now (string_bytes text)) }
+    ensures { IfOk result (λ text. IsCheckOutput how.listed how.json identity.entry.version.now
+        (map view identity.entry.files.items) stack.now (string_bytes text)) }
 {
-    if !json {
-        return check_text(alloc, stack, listed);
+    if !how.json {
+        return check_text(alloc, stack, how.listed);
     }
-    let document = check_document(alloc, stack, listed)?;
+    let document = check_document(alloc, stack, how.listed)?;
+    let document = identified(alloc, document, identity)?;
     line_of(alloc, &document)
 }
 
@@ -94,108 +99,125 @@ fn check_stack<O: Write>(
     alloc: Global,
     stack: &Stack,
     how: CheckManner,
+    identity: Identity<'_>,
     notes: &mut Notes,
     out: &mut O,
 ) -> Result<(), Fault>
-    ensures written { OnOk result (WritesCheck how.listed how.json stack.now
-        (O.contents out.old) (O.contents out.new)) }
+    ensures written { OnOk result (WritesCheck how.listed how.json identity.entry.version.now
+        (map view identity.entry.files.items) stack.now (O.contents out.old) (O.contents out.new)) }
     ensures refused { IfErr result (λ e. (e ≡ WriteFault)
         ⊎ ((e ≡ MemoryFault) × (out.new ≡ out.old))) }
 {
     notes.warnings = warnings_of_filters(alloc, stack.programs());
-    let text = check_output(alloc, stack, how.listed, how.json)?;
+    let text = check_output(alloc, stack, how, identity)?;
     print(&text, out)
 }
 
 /// The text of `eval`: the answer, and under it the trace, where it is asked for.
-fn eval_text(
-    alloc: Global,
-    stack: &Stack,
-    input: &Input,
-    traced: bool,
-    brief: bool,
-    names: &[Names],
-) -> Result<String, Fault>
-    ensures shown { IfOk result (λ text. (a : Answer) × Answers stack.now input.now a
-        × (string_bytes text ≡ eval_text traced brief names.now stack.now input.now a)) }
-    ensures refused { IfErr result (λ e. e ≡ MemoryFault) }
+fn eval_text(alloc: Global, traced: bool, trace: &Trace<'_>) -> Result<String, sf_run::Fault>
+    ensures { IfOk result (λ text. string_bytes text ≡ eval_text traced trace.now.brief
+        trace.now.names.now trace.now.stack.now trace.now.input.now trace.now.answer) }
 {
-    let answer = answer(stack, input);
-    let mut text = answer_text(alloc, answer)?;
-    if !traced && !brief {
+    let mut text = answer_text(alloc, trace.answer)?;
+    if !traced && !trace.brief {
         return Ok(text);
     }
-    let trace = Trace {
-        stack,
-        input,
-        answer,
-        brief,
-        names,
-    };
-    push_trace(alloc, &mut text, &trace)?;
+    push_trace(alloc, &mut text, trace)?;
     Ok(text)
+}
+
+fn output_of(
+    alloc: Global,
+    how: Manner,
+    identity: Identity<'_>,
+    trace: &Trace<'_>,
+) -> Result<String, sf_run::Fault>
+    ensures { IfOk result (λ text. string_bytes text ≡ eval_output how.traced trace.now.brief
+        how.json identity.entry.version.now (map view identity.entry.files.items) trace.now.names.now
+        trace.now.stack.now trace.now.input.now trace.now.answer) }
+{
+    if !how.json {
+        return eval_text(alloc, how.traced, trace);
+    }
+    let document = eval_document(alloc, how.traced, trace)?;
+    let document = identified(alloc, document, identity)?;
+    Ok(line_of(alloc, &document)?)
 }
 
 fn eval_output(
     alloc: Global,
+    asked: &Evaluation<'_>,
     stack: &Stack,
-    input: &Input,
-    how: Manner,
-    names: &[Names],
+    files: Vec<Document>,
 ) -> Result<String, Fault>
-    ensures shown { IfOk result (λ text. (a : Answer) × Answers stack.now input.now a
-        × (string_bytes text ≡ eval_output how.traced how.brief how.json names.now stack.now
-        input.now a)) }
+    ensures shown { IfOk result (λ text. (a : Answer) × Answers stack.now asked.now.input.now a
+        × (string_bytes text ≡ eval_output asked.now.how.traced asked.now.how.brief
+        asked.now.how.json asked.now.version.now (map view files.items) asked.now.names.now
+        stack.now asked.now.input.now a)) }
     ensures refused { IfErr result (λ e. e ≡ MemoryFault) }
 {
-    if !how.json {
-        return eval_text(alloc, stack, input, how.traced, how.brief, names);
+    let (input, version) = (asked.input, asked.version);
+    let answer = answer(stack, input);
+    let trace = Trace {
+        stack,
+        input,
+        answer,
+        brief: asked.how.brief,
+        names: asked.names,
+    };
+    match output_of(alloc, asked.how, Identity { version, files }, &trace) {
+        Ok(text) => Ok(text),
+        Err(_) => Err(Fault::Memory),
     }
-    let document = eval_document(alloc, stack, input, how.traced, how.brief, names)?;
-    Ok(line_of(alloc, &document)?)
 }
 
 fn evaluate_stack<O: Write>(
     alloc: Global,
     asked: &Evaluation<'_>,
     stack: &Stack,
+    files: Vec<Document>,
     out: &mut O,
 ) -> Result<(), Fault>
-    ensures written { OnOk result (WritesAnswer stack.now asked.now.input.now asked.now.how
-        asked.now.names.now (O.contents out.old) (O.contents out.new)) }
+    ensures written { OnOk result (WritesAnswer asked.now.version.now (map view files.items)
+        stack.now asked.now.input.now asked.now.how asked.now.names.now
+        (O.contents out.old) (O.contents out.new)) }
     ensures refused { IfErr result (λ e. (e ≡ WriteFault)
         ⊎ ((e ≡ MemoryFault) × (out.new ≡ out.old))) }
 {
-    let text = eval_output(alloc, stack, asked.input, asked.how, asked.names)?;
+    let text = eval_output(alloc, asked, stack, files)?;
     print(&text, out)
 }
 
 /// Reads the filter files at `paths`, in order of installation, and writes the number of instructions of each and the
 /// path length of their stack, and where `how.listed` asks for it, the instructions, of which those are marked to which
-/// no path comes. The notes count the files, and get the warnings about them once the stack is accepted.
+/// no path comes. A JSON document shows `version`, the line of the program's version. The notes count the files, and
+/// get the warnings about them once the stack is accepted.
 ///
-/// Refusals come in this order: `Read`, those of `stack_of`, `Write`. After any error but `Write` nothing is written.
+/// Refusals come in this order: `Read`, those of `stack_of`, `Write`.
 pub fn check<F: Files, O: Write>(
     alloc: Global,
+    version: &str,
     paths: &[&str],
     how: CheckManner,
     files: &mut F,
     notes: &mut Notes,
     out: &mut O,
 ) -> Result<(), Fault>
-    ensures written { OnOk result (ChecksFiles how.listed how.json (F.holds files.old)
-        paths.now (O.contents out.old) (O.contents out.new)) }
+    ensures written { OnOk result (ChecksFiles how.listed how.json version.now
+        (F.holds files.old) paths.now (O.contents out.old) (O.contents out.new)) }
     ensures refused { IfErr result (λ e. (e ≡ WriteFault)
         ⊎ (RefusesFiles (F.holds files.old) paths.now e × (out.new ≡ out.old))) }
 {
-    let stack = read_stack(alloc, paths, files, notes)?;
-    check_stack(alloc, &stack, how, notes, out)
+    let (stack, documents) = read_stack(alloc, paths, how.json, files, notes)?;
+    let identity = Identity {
+        version,
+        files: documents,
+    };
+    check_stack(alloc, &stack, how, identity, notes, out)
 }
 
 /// Reads the filter files at `paths`, in order of installation, and writes what their stack answers to the input in
-/// `asked`. The notes count the files.
-///
-/// Refusals come in this order: `Read`, those of `stack_of`, `Write`. After any error but `Write` nothing is written.
+/// `asked`. The notes count the files. Refusals come in the order of `check`.
 pub fn evaluate<F: Files, O: Write>(
     alloc: Global,
     asked: &Evaluation<'_>,
@@ -205,11 +227,11 @@ pub fn evaluate<F: Files, O: Write>(
     out: &mut O,
 ) -> Result<(), Fault>
     ensures written { OnOk result (AnswersFiles asked.now.input.now asked.now.how
-        (F.holds files.old) paths.now asked.now.names.now
+        asked.now.version.now (F.holds files.old) paths.now asked.now.names.now
         (O.contents out.old) (O.contents out.new)) }
     ensures refused { IfErr result (λ e. (e ≡ WriteFault)
         ⊎ (RefusesFiles (F.holds files.old) paths.now e × (out.new ≡ out.old))) }
 {
-    let stack = read_stack(alloc, paths, files, notes)?;
-    evaluate_stack(alloc, asked, &stack, out)
+    let (stack, documents) = read_stack(alloc, paths, asked.how.json, files, notes)?;
+    evaluate_stack(alloc, asked, &stack, documents, out)
 }

@@ -3,6 +3,7 @@
 //!
 //! Functions that add lines are called only where they apply, and fail only where an allocation is or was refused.
 
+mod comments;
 mod hints;
 mod kinds;
 mod meanings;
@@ -18,22 +19,16 @@ ghost use Rattle.sf_command_line.specs.Options.{IsUnasked};
 
 use crate::words::is_given;
 use clap::ArgMatches;
-use hints::{
-    Hint, hint_of_filter, hint_of_input, hint_of_names, hint_of_policy, hint_of_read,
-    hint_of_unknown,
-};
+use hints::{Hint, hint_of_filter, hint_of_input, hint_of_names, hint_of_policy, hint_of_read};
 pub(crate) use kinds::bytes_of_text;
 use kinds::{Kind, kind_of};
 use meanings::{meaning_of, meaning_of_syntax};
-pub(crate) use places::lines_of_questions;
 use places::position_of;
+pub(crate) use places::{Mark, marks_of_questions};
 use policies::Page;
 pub(crate) use refusals::OtherSet;
-use refusals::refusal_text;
 pub(crate) use roles::Which;
-use roles::{
-    Role, count_before_filters, count_of, file_at, filter_path, is_of_policy, path_at, which_policy,
-};
+use roles::{Role, file_at, is_of_policy, path_at, place_of_filter, which_policy};
 use sf_calls::{read_arguments, read_word};
 use sf_command_line::{text_of, wants_explanation};
 use sf_policy::Refusal;
@@ -118,12 +113,9 @@ impl Notes {
 
     /// The file of names that has the set at `place` first, and how many sets it has. Both places count from 0.
     pub(crate) fn file_of_set(&self, place: usize) -> Option<(usize, usize)> {
-        for (file, (count, all)) in self.sets.iter().enumerate() {
-            if place < *all {
-                return Some((file, *count));
-            }
-        }
-        None
+        let file = self.sets.iter().position(|set| place < set.1)?;
+        let set = self.sets.get(file)?;
+        Some((file, set.0))
     }
 
     fn kind_at(&self, place: usize) -> Kind {
@@ -135,7 +127,8 @@ impl Notes {
         &mut self,
         read: Result<Vec<Question>, Refusal>,
     ) -> Result<Vec<Question>, Fault>
-        ensures { result ≡ without_place read }
+        ensures same { result ≡ without_place read }
+        ensures kept { self.new.policy ≡ self.old.policy }
     {
         match read {
             Ok(questions) => Ok(questions),
@@ -169,36 +162,6 @@ impl Notes {
             }
             self.explanation = explanation(alloc, matches, fault, self, explains, reason);
         }
-    }
-}
-
-/// What the file that was read last was read as; where none was, what the first one would be read as.
-fn role_of_last(found: &ArgMatches<'_>, notes: &Notes) -> Role {
-    match file_at(found, notes.files.saturating_sub(1)) {
-        Some((role, _)) => role,
-        None => Role::Filter,
-    }
-}
-
-/// Adds the line of the file behind `--accept`.
-fn push_accept(text: &mut String, found: &ArgMatches<'_>) -> Result<(), AllocError> {
-    let path = text_of(found, "accept");
-    write!(text, "accept {path:?}\n")
-}
-
-/// Adds the lines of the file that was read last. A filter or a profile isn't the one that is refused.
-fn push_last_read(
-    alloc: Global,
-    text: &mut String,
-    found: &ArgMatches<'_>,
-    notes: &Notes,
-) -> Result<(), AllocError> {
-    let path = path_at(found, notes.files.saturating_sub(1));
-    match role_of_last(found, notes) {
-        Role::Policy | Role::Control => push_policy(alloc, text, path, notes),
-        Role::Names => write!(text, "names {path:?}\n"),
-        Role::Accept => push_accept(text, found),
-        Role::Filter | Role::Profile => Ok(()),
     }
 }
 
@@ -238,49 +201,6 @@ fn push_wide(text: &mut String, found: &ArgMatches<'_>) -> Result<(), AllocError
     write!(text, "arch {arch:?}: more than 32 bits\n")
 }
 
-/// Adds the line of the name that is unknown: in the text of `--calls`, or behind `--arch`, or behind `--call`.
-fn push_unknown(
-    text: &mut String,
-    found: &ArgMatches<'_>,
-    notes: &Notes,
-) -> Result<(), AllocError> {
-    if let Some(calls) = found.get_str("calls") {
-        let call = calls.split(',').nth(notes.unknown_call).unwrap_or("");
-        return write!(text, "call {call:?}\n");
-    }
-    let (set, call) = (text_of(found, "arch"), text_of(found, "call"));
-    if notes.is_set_known {
-        return write!(text, "call {call:?} of the set {set:?}\n");
-    }
-    write!(text, "set {set:?}\n")
-}
-
-/// Adds the line of a policy file, and lines that say where it is refused.
-fn push_policy(
-    alloc: Global,
-    text: &mut String,
-    path: &str,
-    notes: &Notes,
-) -> Result<(), AllocError> {
-    write!(text, "policy {path:?}\n")?;
-    let bytes = bytes_of_text(&notes.policy);
-    // A byte order mark: the place of a TOML error counts its bytes, and lines and columns here don't.
-    let hidden = notes.policy.len().saturating_sub(bytes.len());
-    match (std::str::from_utf8(bytes), &notes.refusal) {
-        (Ok(policy), Some(refusal)) => Page {
-            alloc,
-            text,
-            policy,
-        }
-        .push_refusal(refusal, hidden),
-        (Ok(_), None) => Ok(()),
-        (Err(error), _) => {
-            let (line, column) = position_of(bytes, error.valid_up_to());
-            write!(text, "line {line} column {column}: no UTF-8\n")
-        }
-    }
-}
-
 /// The number, from 1, of the filter that is refused for a fault.
 fn filter_of(fault: &Fault) -> Option<usize> {
     match fault {
@@ -296,89 +216,138 @@ fn filter_of(fault: &Fault) -> Option<usize> {
     }
 }
 
-/// Whether this can be a fault of a policy or of a file of names. `Syntax` can be one of the file of `--accept` too.
-fn is_of_policy_or_names(fault: &Fault) -> bool {
+/// Whether the file that was read last, no filter and no profile, is refused for this fault.
+fn is_of_last(fault: &Fault) -> bool {
     is_of_policy(fault)
         || matches!(
             fault,
-            Fault::NamesKey | Fault::NamesCount | Fault::NamesRange
+            Fault::NamesKey | Fault::NamesCount | Fault::NamesRange | Fault::Accepted { .. }
         )
 }
 
-/// Adds the lines that say where a fault lies: in which file, or in which word of the command line.
-fn push_place(
+/// A run that ended with a fault.
+#[derive(Drop)]
+struct Case<'a, 'm> {
     alloc: Global,
-    text: &mut String,
-    found: &ArgMatches<'_>,
-    fault: &Fault,
-    notes: &Notes,
-    reason: &str,
-) -> Result<(), AllocError> {
-    if let Some(filter) = filter_of(fault) {
-        let path = filter_path(found, filter.saturating_sub(1));
-        return write!(text, "filter {filter} {path:?}\n");
-    }
-    match fault {
-        Fault::Input => match found.get_str("input") {
-            Some(input) => push_input(text, input),
-            None => push_wide(text, found),
-        },
-        Fault::UnknownName => push_unknown(text, found, notes),
-        Fault::Accepted { .. } => push_accept(text, found),
-        Fault::Read => push_unread(text, path_at(found, notes.files), reason),
-        _ if is_of_policy_or_names(fault) => push_last_read(alloc, text, found, notes),
-        _ => Ok(()),
-    }
+    found: &'a ArgMatches<'m>,
+    notes: &'a Notes,
+    /// Why a file can't be read; empty where that isn't known.
+    reason: &'a str,
 }
 
-/// The hint at what may have been meant by what is refused with this fault.
-fn hint_of(
-    alloc: Global,
-    found: &ArgMatches<'_>,
-    fault: &Fault,
-    notes: &Notes,
-    reason: &str,
-) -> Result<Option<Hint>, AllocError> {
-    if let Some(filter) = filter_of(fault) {
-        let place = count_before_filters(found).saturating_add(filter.saturating_sub(1));
-        return Ok(hint_of_filter(notes.kind_at(place), fault));
+impl<'m> Case<'_, 'm> {
+    /// What the file that was read last was read as, its path, and what it seems to hold; where none was read, this is
+    /// said of the first one.
+    fn last_read(&self) -> (Role, &'m str, Kind) {
+        let place = self.notes.files.saturating_sub(1);
+        let (role, path) = file_at(self.found, place).unwrap_or((Role::Filter, ""));
+        (role, path, self.notes.kind_at(place))
     }
-    match fault {
-        Fault::Input if is_given(found, "input") => Ok(Some(hint_of_input())),
-        Fault::UnknownName if count_of(found, Role::Names) == 0 => Ok(Some(hint_of_unknown())),
-        Fault::Read => Ok(hint_of_read(found, notes.files, reason)),
-        _ if is_of_policy_or_names(fault) => {
-            let kind = notes.kind_at(notes.files.saturating_sub(1));
-            match role_of_last(found, notes) {
-                Role::Policy | Role::Control => hint_of_policy(alloc, kind, &notes.refusal),
-                Role::Names => Ok(hint_of_names(kind)),
-                Role::Accept | Role::Filter | Role::Profile => Ok(None),
+
+    /// Adds the lines of the file that was read last.
+    fn push_last_read(&self, text: &mut String) -> Result<(), AllocError> {
+        let (role, path, _) = self.last_read();
+        match role {
+            Role::Policy | Role::Control => self.push_policy(text, path),
+            Role::Names => write!(text, "names {path:?}\n"),
+            Role::Accept => write!(text, "accept {path:?}\n"),
+            Role::Groups => write!(text, "groups {path:?}\n"),
+            Role::Filter | Role::Profile => Ok(()),
+        }
+    }
+
+    /// Adds the line of a policy file, and lines that say where it is refused.
+    fn push_policy(&self, text: &mut String, path: &str) -> Result<(), AllocError> {
+        write!(text, "policy {path:?}\n")?;
+        let whole = &self.notes.policy;
+        let bytes = bytes_of_text(whole);
+        // A byte order mark: the place of a TOML error counts its bytes, and lines and columns here don't.
+        let hidden = whole.len().saturating_sub(bytes.len());
+        match (std::str::from_utf8(bytes), &self.notes.refusal) {
+            (Ok(policy), Some(refusal)) => Page {
+                alloc: self.alloc,
+                text,
+                policy,
+            }
+            .push_refusal(refusal, hidden),
+            (Ok(_), None) => Ok(()),
+            (Err(error), _) => {
+                let (line, column) = position_of(bytes, error.valid_up_to());
+                write!(text, "line {line} column {column}: no UTF-8\n")
             }
         }
-        _ => Ok(None),
     }
-}
 
-/// The lines that explain a fault: where it lies, what it means, and a hint where there is one.
-fn fault_text(
-    alloc: Global,
-    found: &ArgMatches<'_>,
-    fault: &Fault,
-    notes: &Notes,
-    reason: &str,
-) -> Result<String, AllocError> {
-    let mut text = String::new(alloc);
-    push_place(alloc, &mut text, found, fault, notes, reason)?;
-    let meaning = match fault {
-        Fault::Syntax => meaning_of_syntax(role_of_last(found, notes)),
-        Fault::Input if !is_given(found, "input") => "a number with too many bits for its place",
-        _ => meaning_of(fault),
-    };
-    write!(text, "{meaning}\n")?;
-    if let Some(hint) = hint_of(alloc, found, fault, notes, reason)? {
-        hint.push(&mut text)?;
+    /// Adds the line of the name that is unknown: in the text of `--calls`, or behind `--arch`, or behind `--call`.
+    fn push_unknown(&self, text: &mut String) -> Result<(), AllocError> {
+        if let Some(calls) = self.found.get_str("calls") {
+            let call = calls.split(',').nth(self.notes.unknown_call).unwrap_or("");
+            return write!(text, "call {call:?}\n");
+        }
+        let (set, call) = (text_of(self.found, "arch"), text_of(self.found, "call"));
+        if self.notes.is_set_known {
+            return write!(text, "call {call:?} of the set {set:?}\n");
+        }
+        write!(text, "set {set:?}\n")
     }
-    Ok(text)
+
+    /// Adds the lines that say where a fault lies: in which file, or in which word of the command line.
+    fn push_place(&self, text: &mut String, fault: &Fault) -> Result<(), AllocError> {
+        if let Some(filter) = filter_of(fault) {
+            let path = path_at(self.found, place_of_filter(self.found, filter));
+            return write!(text, "filter {filter} {path:?}\n");
+        }
+        match fault {
+            Fault::Input => match self.found.get_str("input") {
+                Some(input) => push_input(text, input),
+                None => push_wide(text, self.found),
+            },
+            Fault::UnknownName => self.push_unknown(text),
+            Fault::Read => push_unread(text, path_at(self.found, self.notes.files), self.reason),
+            _ if is_of_last(fault) => self.push_last_read(text),
+            _ => Ok(()),
+        }
+    }
+
+    /// The hint at what may have been meant by what is refused with this fault.
+    fn hint_of(&self, fault: &Fault) -> Result<Option<Hint>, AllocError> {
+        let (alloc, found, notes) = (self.alloc, self.found, self.notes);
+        if let Some(filter) = filter_of(fault) {
+            let kind = notes.kind_at(place_of_filter(found, filter));
+            return Ok(hint_of_filter(kind, fault));
+        }
+        match fault {
+            Fault::Input if is_given(found, "input") => Ok(Some(hint_of_input())),
+            Fault::Read => Ok(hint_of_read(found, notes.files, self.reason)),
+            _ if is_of_last(fault) => {
+                let (role, _, kind) = self.last_read();
+                match role {
+                    Role::Policy | Role::Control => hint_of_policy(alloc, kind, &notes.refusal),
+                    Role::Names => Ok(hint_of_names(kind)),
+                    Role::Accept | Role::Filter | Role::Groups | Role::Profile => Ok(None),
+                }
+            }
+            _ => Ok(None),
+        }
+    }
+
+    /// The lines that explain a fault: where it lies, what it means, and a hint where there is one.
+    fn fault_text(&self, fault: &Fault) -> Result<String, AllocError> {
+        let mut text = String::new(self.alloc);
+        self.push_place(&mut text, fault)?;
+        let meaning = match fault {
+            Fault::Syntax => meaning_of_syntax(self.last_read().0),
+            Fault::Input if !is_given(self.found, "input") => {
+                "a number with too many bits for its place"
+            }
+            _ => meaning_of(fault),
+        };
+        write!(text, "{meaning}\n")?;
+        if let Some(hint) = self.hint_of(fault)? {
+            hint.push(&mut text)?;
+        }
+        Ok(text)
+    }
 }
 
 /// The lines that explain a fault, where they are asked for, and there is memory for them.
@@ -397,8 +366,14 @@ fn explanation(
     if !explains && !wants_explanation(found) {
         return None;
     }
+    let case = Case {
+        alloc,
+        found,
+        notes,
+        reason,
+    };
     match fault {
-        crate::Fault::Profile(refusal) => refusal_text(alloc, found, *refusal, notes).ok(),
-        crate::Fault::Other(other) => fault_text(alloc, found, other, notes, reason).ok(),
+        crate::Fault::Profile(refusal) => case.refusal_text(*refusal).ok(),
+        crate::Fault::Other(other) => case.fault_text(other).ok(),
     }
 }

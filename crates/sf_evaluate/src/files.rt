@@ -1,20 +1,30 @@
 //! The files that the program reads.
 
 mod expecting;
+mod groups;
+mod identity;
 mod naming;
 mod origins;
 mod questions;
 mod stacks;
 
 ghost use Rattle.std.specs.Prelude.{◌≡◌, ◌⊎◌, ◌≤◌, ℕ, List, None, length, map, IfOk, IfErr};
+ghost use Rattle.serde_json.specs.View.{view};
 ghost use Rattle.sf_evaluate.specs.Files.{AreKeptFiles, AreKnownBytes, HasUnknown};
+ghost use Rattle.sf_evaluate.specs.Identity.{HasFiles};
 ghost use Rattle.sf_stack.specs.declared.fault.Fault.TheVariants.{Memory, Read};
 
 use crate::explaining::Notes;
-pub use expecting::{accepted_in, audit_words_fit, control_in};
-pub use naming::read_all_names;
-pub use questions::all_questions_in;
+pub(crate) use expecting::control_fits;
+pub use expecting::{accepted_in, audit_words_fit, control_in, wants_summary};
+pub use groups::{INSTALLED_GROUPS, groups_in};
+use identity::push_file;
+pub use identity::{FileRole, Identity, identified, join_documents};
+pub(crate) use naming::INSTALLED_NAMES;
+pub use naming::read_needed_names;
+pub use questions::{Policies, all_questions_in};
 use sf_check::MOST_PROGRAMS;
+use sf_json::Document;
 use sf_stack::Fault;
 pub use stacks::{read_stack, read_stacks};
 use std::alloc::Global;
@@ -51,26 +61,33 @@ pub trait Files {
 }
 
 /// The bytes of the files at these paths, in order, which the notes count. All files are read, but only the first 65
-/// are kept: one more than a stack may have, so that the stack is refused.
+/// are kept: one more than a stack may have, so that the stack is refused. Gives the documents of all files too, if
+/// `with_documents`.
 fn read_all<F: Files>(
     alloc: Global,
+    role: FileRole,
     paths: &[&str],
+    with_documents: bool,
     files: &mut F,
     notes: &mut Notes,
-) -> Result<Vec<Vec<u8>>, Fault>
-    ensures read { IfOk result (λ v. AreKeptFiles (F.holds files.old) paths.now
-        (map (λ f. f.items) v.items)) }
+) -> Result<(Vec<Vec<u8>>, Vec<Document>), Fault>
+    ensures read { IfOk result (λ r. AreKeptFiles (F.holds files.old) paths.now
+        (map (λ f. f.items) r.0.items)) }
+    ensures told { IfOk result (λ r. HasFiles with_documents (F.holds files.old) role paths.now
+        (map view r.1.items)) }
     ensures refused { IfErr result (λ e. ((e ≡ Read)
         × HasUnknown (F.holds files.old) paths.now) ⊎ (e ≡ Memory)) }
     ensures same { (p : List ℕ) → F.holds files.new p ≡ F.holds files.old p }
 {
     let mut read = Vec::new(alloc);
+    let mut documents = Vec::new(alloc);
     for path in paths {
         let bytes = files.read(path)?;
         notes.count_file(bytes.as_slice());
+        push_file(alloc, &mut documents, with_documents, role, path, &bytes)?;
         if read.len() <= MOST_PROGRAMS {
             read.push(bytes)?;
         }
     }
-    Ok(read)
+    Ok((read, documents))
 }

@@ -23,8 +23,9 @@ pub use checking::{CheckManner, Evaluation, Manner, check, evaluate, print};
 pub use explaining::Notes;
 pub use fault::Fault;
 pub use files::{
-    Files, MOST_BYTES, accepted_in, all_questions_in, audit_words_fit, control_in, read_all_names,
-    read_stack, read_stacks,
+    FileRole, Files, INSTALLED_GROUPS, Identity, MOST_BYTES, Policies, accepted_in,
+    all_questions_in, audit_words_fit, control_in, groups_in, identified, join_documents,
+    read_needed_names, read_stack, read_stacks, wants_summary,
 };
 pub use profiling::profile;
 pub use telling::{tell, tell_fault, warn};

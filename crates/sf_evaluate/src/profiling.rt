@@ -10,7 +10,7 @@ use crate::calls::calls_of;
 use crate::checking::print;
 use crate::explaining::{Notes, OtherSet};
 use crate::fault::Fault;
-use crate::files::{Files, read_all_names};
+use crate::files::{Files, read_needed_names};
 use crate::words::{profile_words_fit, settings_of};
 use clap::ArgMatches;
 use sf_command_line::{text_of, wants_notes, wants_quiet};
@@ -74,8 +74,7 @@ fn warnings_of(
     Ok(text)
 }
 
-/// Writes a profile's filter to `out`, or if `wants_notes`, the notes on the profile. After any error but `Write`
-/// nothing is written.
+/// Writes a profile's filter to `out`, or if `wants_notes`, the notes on the profile.
 fn write_of<O: Write>(
     alloc: Global,
     settings: &Settings,
@@ -111,8 +110,8 @@ fn other_set(alloc: Global, names: &[Names]) -> Result<Option<OtherSet>, AllocEr
 /// The settings for a profile: what the command line says, with the calls of the files of names. The notes count these
 /// files and their sets, and get what `other_set` gives.
 ///
-/// Refusals come in this order: those of `read_all_names`; `Profile(Set)` where one of the sets is none of the five of
-/// `CallSet`.
+/// Refusals come in this order: those of `read_needed_names`; `Profile(Set)` where one of the sets is none of the five
+/// of `CallSet`.
 fn read_settings<F: Files>(
     alloc: Global,
     found: &ArgMatches<'_>,
@@ -125,8 +124,7 @@ fn read_settings<F: Files>(
         (rows_of (found_of found.now))) }
     ensures same { (p : List ℕ) → F.holds files.new p ≡ F.holds files.old p }
 {
-    let paths = found.get_strs("names").unwrap_or(&[]);
-    let names = read_all_names(alloc, paths, files, notes)?;
+    let names = read_needed_names(alloc, found, files, notes)?;
     notes.other = other_set(alloc, &names);
     let calls = calls_of(alloc, names)?;
     Ok(settings_of(alloc, found, calls)?)
@@ -165,9 +163,8 @@ fn keep_refused(
 /// `notes`, which have counted no file before, count the files and their sets, and get the warnings, unless `--quiet`
 /// is given, or for what the profile is refused.
 ///
-/// Refusals come in this order: those of `read_all_names`; `Profile(Set)` where one of the sets is none of the five of
-/// `CallSet`; `Read` for the profile; `Profile` with the fault for which `sf_profile` refuses it; `Write`. After any
-/// error but `Write` nothing is written.
+/// Refusals come in this order: those of `read_needed_names`; `Profile(Set)` where one of the sets is none of the five
+/// of `CallSet`; `Read` for the profile; `Profile` with the fault for which `sf_profile` refuses it; `Write`.
 pub fn profile<F: Files, O: Write>(
     alloc: Global,
     found: &ArgMatches<'_>,

@@ -2,12 +2,14 @@
 
 mod asking;
 mod misfits;
+mod naming;
 mod settings;
 mod wanted;
 
 pub(crate) use asking::is_given;
 pub use asking::{asked_input, eval_words_fit, numbers_fit};
 pub use misfits::tell_wrong_words;
+pub(crate) use naming::lacks_names;
 pub use settings::profile_words_fit;
 pub(crate) use settings::{is_among, settings_of};
 pub use wanted::{calls_fit, digest_fits, known_calls, rows_fit};

@@ -1,23 +1,18 @@
 //! What `eval` finds, as JSON.
 
-ghost use Rattle.std.specs.Prelude.{◌≡◌, ◌++◌, ◌∷◌, [], ◌==◌, ◌&&◌, not, false, length, map, Some, IfErr, IfOk};
+ghost use Rattle.std.specs.Prelude.{◌≡◌, ◌++◌, ◌∷◌, [], ◌==◌, ◌&&◌, not, false, length, map, Some, IfOk};
 ghost use Rattle.std.specs.List.{flat_map};
 ghost use Rattle.serde_json.specs.View.{view};
-ghost use Rattle.sf_run.specs.Answers.{Answers, action_bits, action_number, action_of};
-ghost use Rattle.sf_run.specs.declared.action.Answer.{Answer as AnAnswer};
+ghost use Rattle.sf_run.specs.Answers.{action_bits, action_number, action_of};
 ghost use Rattle.sf_run.specs.Walks.{CourseData, walk_of};
 ghost use Rattle.sf_json.specs.Documents.{action_document, list_of};
 ghost use Rattle.sf_evaluate.specs.TraceDocuments.{eval_document, filter_document, filter_documents, shown_meeting, traced_document};
-ghost use Rattle.sf_stack.specs.declared.fault.Fault.TheVariants.{Memory as MemoryFault};
 
 use super::steps::met_documents;
 use crate::texts::Trace;
-use sf_check::{Program, Stack};
-use sf_insn::Input;
+use sf_check::Program;
 use sf_json::{Document, Fields, action_document, answer_document, input_document};
-use sf_names::Names;
-use sf_run::{Action, Course, answer, walk};
-use sf_stack::Fault;
+use sf_run::{Action, Course, walk};
 use std::alloc::{AllocError, Global};
 
 /// The object of a filter: its number, its answer, the place of the instruction that returns it, whether this answer
@@ -103,7 +98,13 @@ fn traced_document(
     Ok(Document::array(alloc, documents)?)
 }
 
-fn document_of(alloc: Global, traced: bool, trace: &Trace<'_>) -> Result<Document, sf_run::Fault>
+/// What `eval` finds, as JSON: the input, shown with these names of calls, the stack's answer to it, and where `traced`
+/// or `trace.brief` is set, each filter, newest first, else `null`.
+pub fn eval_document(
+    alloc: Global,
+    traced: bool,
+    trace: &Trace<'_>,
+) -> Result<Document, sf_run::Fault>
     ensures { IfOk result (λ d. view d ≡ eval_document traced trace.now.brief trace.now.names.now
         trace.now.stack.now trace.now.input.now trace.now.answer) }
 {
@@ -114,32 +115,4 @@ fn document_of(alloc: Global, traced: bool, trace: &Trace<'_>) -> Result<Documen
         .with("answer", answer_document(alloc, trace.answer)?)?
         .with("filters", traced_document(alloc, traced, trace)?)?;
     Ok(Document::object(fields))
-}
-
-/// What `eval` finds, as JSON: the input, shown with these names of calls, the stack's answer to it, and where `traced`
-/// or `brief` is set, each filter, newest first, else `null`. With `brief`, comparisons that are false are left out.
-pub fn eval_document(
-    alloc: Global,
-    stack: &Stack,
-    input: &Input,
-    traced: bool,
-    brief: bool,
-    names: &[Names],
-) -> Result<Document, Fault>
-    ensures shown { IfOk result (λ d. (a : AnAnswer) × Answers stack.now input.now a
-        × (view d ≡ eval_document traced brief names.now stack.now input.now a)) }
-    ensures refused { IfErr result (λ e. e ≡ MemoryFault) }
-{
-    let answer = answer(stack, input);
-    let trace = Trace {
-        stack,
-        input,
-        answer,
-        brief,
-        names,
-    };
-    match document_of(alloc, traced, &trace) {
-        Ok(document) => Ok(document),
-        Err(_) => Err(Fault::Memory),
-    }
 }

@@ -52,13 +52,6 @@ pub(crate) fn hint_of_input() -> Hint {
     Hint::Sentence(INPUT)
 }
 
-/// The hint for an unknown name, where the command line names no file of names.
-pub(crate) fn hint_of_unknown() -> Hint {
-    Hint::Sentence(
-        "a file of names has the sets of calls: `--names policies/names/x86_64.toml` has x86_64",
-    )
-}
-
 /// Whether this fault fits a filter file in which the number of the instructions stands before them. It takes at most
 /// 16 bytes, as two instructions do.
 fn is_at_front(fault: &Fault) -> bool {
@@ -118,6 +111,11 @@ pub(crate) fn hint_of_profile(kind: Kind) -> Option<Hint> {
 /// may have been given in place of a path (it has no `/`), or the path is that of a folder.
 pub(crate) fn hint_of_read(found: &ArgMatches<'_>, place: usize, reason: &str) -> Option<Hint> {
     let (role, path) = file_at(found, place)?;
+    if path.starts_with('@') {
+        return Some(Hint::Sentence(
+            "@NAME comes with the program: give another path, or in SECCOMP_AUDIT_SHARE the folder that has policies/NAME.toml",
+        ));
+    }
     if path.contains('/') && !reason.starts_with("Is a directory") {
         return None;
     }
@@ -126,6 +124,7 @@ pub(crate) fn hint_of_read(found: &ArgMatches<'_>, place: usize, reason: &str) -
         Role::Policy => "a policy file is wanted, as policies/x86_64.toml is one",
         Role::Control => "a policy file is wanted, whose questions must be allowed",
         Role::Accept => "a file is wanted with the name of a question on each line",
+        Role::Groups => "a file of groups is wanted, as policies/groups.toml is one",
         Role::Filter | Role::Profile => return None,
     };
     Some(Hint::Sentence(ready))

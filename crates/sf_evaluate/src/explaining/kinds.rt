@@ -27,10 +27,10 @@ pub(crate) fn bytes_of_text(bytes: &[u8]) -> &[u8] {
     }
 }
 
-/// Whether bytes begin like a text. Those of a filter never do, since the second byte of each permitted code is 0.
+/// Whether bytes begin like a text, in which a character may be wrong. Those of a filter never do, since the second
+/// byte of each permitted code is 0.
 fn is_text(bytes: &[u8]) -> bool {
-    let mut front = bytes.iter().take(FRONT);
-    front.all(|byte| 0x20 <= *byte || byte.is_ascii_whitespace())
+    bytes.iter().take(FRONT).all(|byte| *byte != 0)
 }
 
 /// Whether the number of the instructions seems to stand before them, in 2, 4, 8 or 16 bytes, the low byte first.
@@ -45,17 +45,11 @@ fn is_counted(bytes: &[u8]) -> bool {
 
 /// The line at a place, from 0, without the blanks around it. Blank lines and comments of TOML have no place.
 fn line_at(text: &str, place: usize) -> &str {
-    let mut left = place;
-    for line in text.lines() {
-        let line = line.trim();
-        if !line.is_empty() && !line.starts_with('#') {
-            if left == 0 {
-                return line;
-            }
-            left -= 1;
-        }
-    }
-    ""
+    text.lines()
+        .map(|line| line.trim())
+        .filter(|line| !line.is_empty() && !line.starts_with('#'))
+        .nth(place)
+        .unwrap_or("")
 }
 
 fn is_of_set(line: &str) -> bool {

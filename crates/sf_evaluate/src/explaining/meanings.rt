@@ -55,6 +55,9 @@ pub(crate) fn meaning_of_syntax(role: Role) -> &'static str {
     match role {
         Role::Names => "the file of names is no UTF-8 or no TOML",
         Role::Accept => "the file of questions that may be allowed is no UTF-8",
+        Role::Groups => {
+            "the file of groups is no UTF-8 or no TOML, or a group hasn't just name, title, why and questions"
+        }
         Role::Policy | Role::Control | Role::Filter | Role::Profile => meaning_of(&Fault::Syntax),
     }
 }

@@ -3,6 +3,7 @@
 //!
 //! A policy here has no byte order mark. Where memory runs out, what is looked for may not be found.
 
+use super::comments::comment_above;
 use std::alloc::{AllocError, Global};
 use toml_parser::text::{first, skip, skip_blank, skip_ws};
 use toml_parser::{Key, dotted_key, quoted, starts_string, unquoted};
@@ -164,12 +165,20 @@ fn count_ends(text: &str, length: usize) -> usize {
     front.filter(|byte| **byte == b'\n').count()
 }
 
-/// The numbers, from 1, of the lines on which the questions of a policy begin. The list ends early where a token can't
-/// be read.
-pub fn lines_of_questions(alloc: Global, policy: &str) -> Result<Vec<usize>, AllocError> {
+/// Where a question of a policy begins.
+#[derive(Drop)]
+pub struct Mark {
+    /// The number, from 1, of the line.
+    pub line: usize,
+    /// The text of the comment that stands directly above.
+    pub comment: Option<String>,
+}
+
+/// Where the questions of a policy begin. The list ends early where a token can't be read.
+pub fn marks_of_questions(alloc: Global, policy: &str) -> Result<Vec<Mark>, AllocError> {
     // Nothing is looked for: this reading only counts the questions that have begun.
     let mut reading = reading_for(None, None);
-    let mut lines = Vec::new(alloc);
+    let mut marks = Vec::new(alloc);
     let mut line = 1usize;
     let mut rest = policy;
     for _ in 0..policy.len() {
@@ -180,12 +189,14 @@ pub fn lines_of_questions(alloc: Global, policy: &str) -> Result<Vec<usize>, All
             break;
         };
         if begun < reading.questions {
-            lines.push(line)?;
+            let gap = rest.strip_suffix(start).unwrap_or("");
+            let comment = comment_above(alloc, gap)?;
+            marks.push(Mark { line, comment })?;
         }
         line = line.saturating_add(count_ends(start, start.len().saturating_sub(after.len())));
         rest = after;
     }
-    Ok(lines)
+    Ok(marks)
 }
 
 /// The line and the column, both from 1, of the place in a policy that has `before` bytes before it. A column counts

@@ -1,5 +1,7 @@
 //! Which file stands at a place, among all files that are read. It is for a person, so no contract speaks of it.
 
+use crate::files::{INSTALLED_GROUPS, INSTALLED_NAMES, wants_summary};
+use crate::words::lacks_names;
 use clap::ArgMatches;
 use sf_stack::Fault;
 
@@ -11,63 +13,98 @@ pub(crate) enum Role {
     Control,
     /// The file of the questions that may be allowed.
     Accept,
+    /// The file of the groups of a summary.
+    Groups,
     Filter,
     Profile,
 }
 
 /// The arguments that name files, and what these are read as, in the order in which they are read.
-const READ: [(&str, Role); 8] = [
+const READ: [(&str, Role); 9] = [
     ("names", Role::Names),
     ("policy", Role::Policy),
     ("control", Role::Control),
     ("accept", Role::Accept),
+    ("groups", Role::Groups),
     ("filters", Role::Filter),
     ("old", Role::Filter),
     ("new", Role::Filter),
     ("profile", Role::Profile),
 ];
 
+/// The path of the file that comes with the program, and that the words need where they don't give this argument.
+fn installed_by(found: &ArgMatches<'_>, name: &str) -> Option<&'static str> {
+    if name == "names" && lacks_names(found) {
+        return Some(INSTALLED_NAMES);
+    }
+    if name == "groups" && wants_summary(found) {
+        return Some(INSTALLED_GROUPS);
+    }
+    None
+}
+
+/// The path at a place, from 0, of the files that are read by the argument with this name.
+fn path_by<'a>(found: &ArgMatches<'a>, name: &str, place: usize) -> Option<&'a str> {
+    if let Some(paths) = found.get_strs(name) {
+        let path = paths.get(place)?;
+        return Some(*path);
+    }
+    if place == 0 {
+        return installed_by(found, name);
+    }
+    None
+}
+
+fn count_by(found: &ArgMatches<'_>, name: &str) -> usize {
+    match found.get_strs(name) {
+        Some(paths) => paths.len(),
+        None => usize::from(installed_by(found, name).is_some()),
+    }
+}
+
 pub(crate) fn count_of(found: &ArgMatches<'_>, role: Role) -> usize {
     let mut count = 0usize;
     for (name, of) in READ {
         if of == role {
-            count = count.saturating_add(found.get_strs(name).unwrap_or(&[]).len());
+            count = count.saturating_add(count_by(found, name));
         }
     }
     count
 }
 
-pub(crate) fn count_before_filters(found: &ArgMatches<'_>) -> usize {
-    let policies = count_of(found, Role::Policy).saturating_add(count_of(found, Role::Control));
-    let others = count_of(found, Role::Names).saturating_add(count_of(found, Role::Accept));
-    policies.saturating_add(others)
+/// The place, from 0 among all files that are read, of the filter with this number, from 1; old filters come before new
+/// ones. The subcommand `profile` has no filters.
+pub(crate) fn place_of_filter(found: &ArgMatches<'_>, number: usize) -> usize {
+    let others = [
+        Role::Names,
+        Role::Policy,
+        Role::Control,
+        Role::Accept,
+        Role::Groups,
+    ];
+    let mut place = number.saturating_sub(1);
+    for role in others {
+        place = place.saturating_add(count_of(found, role));
+    }
+    place
 }
 
 /// What the file at a place, from 0, in the order in which all files are read, is read as, and its path.
 pub(crate) fn file_at<'a>(found: &ArgMatches<'a>, place: usize) -> Option<(Role, &'a str)> {
     let mut place = place;
     for (name, role) in READ {
-        let paths = found.get_strs(name).unwrap_or(&[]);
-        if let Some(path) = paths.get(place) {
-            return Some((role, *path));
+        if let Some(path) = path_by(found, name, place) {
+            return Some((role, path));
         }
-        place = place.saturating_sub(paths.len());
+        place = place.saturating_sub(count_by(found, name));
     }
     None
 }
 
 /// The path of the file at a place, as by `file_at`; empty where there is none.
 pub(crate) fn path_at<'a>(found: &ArgMatches<'a>, place: usize) -> &'a str {
-    match file_at(found, place) {
-        Some((_, path)) => path,
-        None => "",
-    }
-}
-
-/// The path of the filter at a place, from 0 among all filters, old ones before new ones; empty where there is none.
-/// The subcommand `profile` has no filters.
-pub(crate) fn filter_path<'a>(found: &ArgMatches<'a>, place: usize) -> &'a str {
-    path_at(found, count_before_filters(found).saturating_add(place))
+    let (_, path) = file_at(found, place).unwrap_or((Role::Filter, ""));
+    path
 }
 
 /// Which of the policies is refused.

@@ -6,14 +6,15 @@ ghost use Rattle.sf_policy.specs.Accepted.{AreAccepted};
 ghost use Rattle.sf_stack.specs.declared.fault.Fault.TheVariants.{Memory as MemoryFault, Read as ReadFault};
 ghost use Rattle.sf_command_line.specs.Options.{paths_of};
 ghost use Rattle.sf_evaluate.specs.Files.{AreKnownBytes};
-ghost use Rattle.sf_evaluate.specs.Expecting.{AreAcceptedIn, IsAcceptFile, IsControl, RefusesAccepted, RefusesControl, RefusesNamed, audit_words_fit};
+ghost use Rattle.sf_evaluate.specs.Expecting.{AreAcceptedIn, IsAcceptFile, IsControl, RefusesAccepted, RefusesControl, RefusesNamed, audit_words_fit, control_fits, summary_fits, wants_no_report, wants_summary};
+ghost use Rattle.sf_evaluate.specs.Wanted.{is_switched_on};
 
 use super::questions::questions_in;
 use crate::explaining::Notes;
 use crate::files::Files;
-use crate::words::is_among;
+use crate::words::{is_among, is_given};
 use clap::ArgMatches;
-use sf_command_line::given_text;
+use sf_command_line::{given_text, text_of};
 use sf_policy::read_accepted;
 use sf_question::Question;
 use sf_stack::Fault;
@@ -94,12 +95,51 @@ pub fn accepted_in<F: Files>(
 }
 
 /// Whether the path behind `--control` is none of those behind `--policy`. Paths are compared as texts.
-pub fn audit_words_fit(found: &ArgMatches<'_>) -> bool
-    ensures { result ≡ audit_words_fit (rows_of (found_of found.now)) }
+pub(crate) fn control_fits(found: &ArgMatches<'_>) -> bool
+    ensures { result ≡ control_fits (rows_of (found_of found.now)) }
 {
     let policies = found.get_strs("policy").unwrap_or(&[]);
     match given_text(found, "control") {
         Some(path) => !is_among(path, policies),
         None => true,
     }
+}
+
+/// Whether the switch with this name, without dashes, is given.
+fn is_switched_on(found: &ArgMatches<'_>, name: &str) -> bool
+    ensures { result ≡ is_switched_on name.now (rows_of (found_of found.now)) }
+{
+    text_of(found, name) == "true"
+}
+
+/// Whether a summary of an audit is asked for.
+pub fn wants_summary(found: &ArgMatches<'_>) -> bool
+    ensures { result ≡ wants_summary (rows_of (found_of found.now)) }
+{
+    is_switched_on(found, "summary") || is_switched_on(found, "summary-all")
+}
+
+fn wants_no_report(found: &ArgMatches<'_>) -> bool
+    ensures { result ≡ wants_no_report (rows_of (found_of found.now)) }
+{
+    !is_switched_on(found, "json")
+        && (!is_switched_on(found, "regions") && !is_switched_on(found, "why"))
+}
+
+fn summary_fits(found: &ArgMatches<'_>) -> bool
+    ensures { result ≡ summary_fits (rows_of (found_of found.now)) }
+{
+    if wants_summary(found) {
+        wants_no_report(found)
+    } else {
+        !is_given(found, "groups")
+    }
+}
+
+/// Whether the control is another policy than those that ask, a summary is asked for without `--json`, `--regions` and
+/// `--why`, and groups only with a summary.
+pub fn audit_words_fit(found: &ArgMatches<'_>) -> bool
+    ensures { result ≡ audit_words_fit (rows_of (found_of found.now)) }
+{
+    control_fits(found) && summary_fits(found)
 }

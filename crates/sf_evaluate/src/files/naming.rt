@@ -2,13 +2,20 @@
 
 ghost use Rattle.std.specs.Prelude.{◌≡◌, ◌⊎◌, ℕ, List, None, IfOk, IfErr};
 ghost use Rattle.sf_stack.specs.declared.fault.Fault.TheVariants.{Memory as MemoryFault, Read as ReadFault};
+ghost use Rattle.clap.specs.Words.{found_of, rows_of};
+ghost use Rattle.sf_evaluate.specs.Asking.{AreNamed, RefusesNamed};
 ghost use Rattle.sf_evaluate.specs.Names.{AreNames, AreNamesRead, IsNamesFile, RefusesNames, RefusesNamesFile, RefusesNaming};
 
 use crate::explaining::Notes;
 use crate::files::Files;
+use crate::words::lacks_names;
+use clap::ArgMatches;
 use sf_names::{Names, join_sets, read_names};
 use sf_stack::Fault;
 use std::alloc::Global;
+
+/// The path of the names that come with the program.
+pub(crate) const INSTALLED_NAMES: &str = "@names";
 
 fn sets_of(alloc: Global, text: &str) -> Result<Vec<Names>, Fault>
     ensures meant { IfOk result (λ v. AreNames text.now v.items) }
@@ -43,7 +50,7 @@ fn names_in<F: Files>(
 ///
 /// The refusal is that of the first file that is refused: `Read`; `Syntax`; `NamesKey`, `NamesCount` and `NamesRange`
 /// as by `read_names` of `sf_names`; then `NamesKey` and `NamesCount` as by `join_sets`.
-pub fn read_all_names<F: Files>(
+fn read_all_names<F: Files>(
     alloc: Global,
     paths: &[&str],
     files: &mut F,
@@ -61,4 +68,26 @@ pub fn read_all_names<F: Files>(
         notes.count_sets(count, all.len());
     }
     Ok(all)
+}
+
+/// The sets of the files of names that the words of the command line give, or, where they give none and need names, of
+/// the file that comes with the program.
+pub fn read_needed_names<F: Files>(
+    alloc: Global,
+    found: &ArgMatches<'_>,
+    files: &mut F,
+    notes: &mut Notes,
+) -> Result<Vec<Names>, Fault>
+    ensures called { IfOk result (λ v. AreNamed (F.holds files.old)
+        (rows_of (found_of found.now)) v.items) }
+    ensures refused { IfErr result (RefusesNamed (F.holds files.old)
+        (rows_of (found_of found.now))) }
+    ensures same { (p : List ℕ) → F.holds files.new p ≡ F.holds files.old p }
+{
+    if lacks_names(found) {
+        read_all_names(alloc, &[INSTALLED_NAMES], files, notes)
+    } else {
+        let paths = found.get_strs("names").unwrap_or(&[]);
+        read_all_names(alloc, paths, files, notes)
+    }
 }

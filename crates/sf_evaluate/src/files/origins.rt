@@ -5,29 +5,44 @@ ghost use Rattle.serde_json.specs.Data.{Data};
 ghost use Rattle.serde_json.specs.View.{view};
 ghost use Rattle.sf_evaluate.specs.Origins.{AreOriginsOf, IsOrigin};
 
-use crate::explaining::{bytes_of_text, lines_of_questions};
+use crate::explaining::{Mark, bytes_of_text, marks_of_questions};
 use sf_json::{Document, Fields};
 use std::alloc::{AllocError, Global};
 
-/// Where a question stands, as a JSON object: at `policy` the path of its file; at `line` the number, from 1, of the
-/// line on which it begins, or `null`.
-fn origin_document(alloc: Global, path: &str, line: Option<&usize>) -> Result<Document, AllocError>
+/// The number, from 1, of the line on which a question begins, or `null`.
+fn line_document(mark: Option<&Mark>) -> Document {
+    match mark {
+        Some(mark) => Document::count(mark.line),
+        None => Document::null(),
+    }
+}
+
+/// The text of the comment that stands directly above a question, or `null`.
+fn comment_document(alloc: Global, mark: Option<&Mark>) -> Result<Document, AllocError> {
+    let Some(mark) = mark else {
+        return Ok(Document::null());
+    };
+    match &mark.comment {
+        Some(text) => Document::copy_of(alloc, text.as_str()),
+        None => Ok(Document::null()),
+    }
+}
+
+/// Where a question stands, as a JSON object with the path of its file at `policy`, `line` and `comment`.
+fn origin_document(alloc: Global, path: &str, mark: Option<&Mark>) -> Result<Document, AllocError>
     ensures { IfOk result (λ d. IsOrigin path.now (view d)) }
 {
-    let line = match line {
-        Some(line) => Document::count(*line),
-        None => Document::null(),
-    };
     let fields = Fields::new(alloc)
         .with("policy", Document::copy_of(alloc, path)?)?
-        .with("line", line)?;
+        .with("line", line_document(mark))?
+        .with("comment", comment_document(alloc, mark)?)?;
     Ok(Document::object(fields))
 }
 
-/// The numbers, from 1, of the lines on which the questions of a policy begin, as far as they are found.
-fn lines_in(alloc: Global, policy: &[u8]) -> Result<Vec<usize>, AllocError> {
+/// Where the questions of a policy begin, as far as that is found.
+fn marks_in(alloc: Global, policy: &[u8]) -> Result<Vec<Mark>, AllocError> {
     match std::str::from_utf8(bytes_of_text(policy)) {
-        Ok(text) => lines_of_questions(alloc, text),
+        Ok(text) => marks_of_questions(alloc, text),
         Err(_) => Ok(Vec::new(alloc)),
     }
 }
@@ -44,9 +59,9 @@ pub(crate) fn push_origins(
     ensures { OnOk result ((more : List Data) × AreOriginsOf path.now count more
         × (map view origins.new.items ≡ map view origins.old.items ++ more)) }
 {
-    let lines = lines_in(alloc, policy)?;
+    let marks = marks_in(alloc, policy)?;
     for place in 0..count {
-        origins.push(origin_document(alloc, path, lines.get(place))?)?;
+        origins.push(origin_document(alloc, path, marks.get(place))?)?;
     }
     Ok(())
 }

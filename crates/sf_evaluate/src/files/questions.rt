@@ -3,9 +3,13 @@
 ghost use Rattle.std.specs.Prelude.{◌≡◌, ◌⊎◌, ℕ, List, None, map, IfOk, IfErr};
 ghost use Rattle.serde_json.specs.View.{view};
 ghost use Rattle.sf_stack.specs.declared.fault.Fault.TheVariants.{Memory as MemoryFault, Read as ReadFault};
+ghost use Rattle.sf_evaluate.specs.Files.{AreKnownBytes};
+ghost use Rattle.sf_evaluate.specs.Identity.{HasFiles};
 ghost use Rattle.sf_evaluate.specs.Origins.{HasOrigins};
 ghost use Rattle.sf_evaluate.specs.Policies.{AreAsked, IsPolicyFile, RefusesAsking, RefusesPolicyFile};
+ghost use Rattle.sf_evaluate.specs.declared.files.identity.FileRole.TheVariants.{Policy};
 
+use super::identity::{FileRole, push_file};
 use super::origins::push_origins;
 use crate::explaining::Notes;
 use crate::files::Files;
@@ -23,6 +27,8 @@ pub(crate) fn questions_in<F: Files>(
     notes: &mut Notes,
 ) -> Result<Vec<Question>, Fault>
     ensures asked { IfOk result (λ v. IsPolicyFile (F.holds files.old path.now) v.items) }
+    ensures kept { IfOk result (λ _. AreKnownBytes (F.holds files.old path.now)
+        notes.new.policy.items) }
     ensures refused { IfErr result (λ e. ((e ≡ ReadFault)
         × (F.holds files.old path.now ≡ None))
         ⊎ (e ≡ MemoryFault) ⊎ RefusesPolicyFile (F.holds files.old path.now) e) }
@@ -40,34 +46,61 @@ pub(crate) fn questions_in<F: Files>(
     }
 }
 
-/// The questions of the policy files at these paths, one file after the other; and in the same order, if
-/// `with_origins`, where each question stands: a JSON object with the path of its file at `policy`, and at `line` the
-/// number, from 1, of the line on which it begins, or `null`. The notes count the files, and keep the bytes of the last
-/// one and its refusal.
+/// What is read of policy files.
+#[derive(Drop)]
+pub struct Policies {
+    /// The questions, one file after the other.
+    pub questions: Vec<Question>,
+    /// In the same order, if they are asked for, where each question stands: a JSON object with the path of its file at
+    /// `policy`; at `line` the number, from 1, of the line on which it begins, or `null`; and at `comment` the text of
+    /// the comment above it, or `null`.
+    pub origins: Vec<Document>,
+    /// The documents of the files, if they are asked for.
+    pub files: Vec<Document>,
+}
+
+/// What is read of the policy files at these paths, with origins and the documents of files if `with_documents`. The
+/// notes count the files, and keep the bytes of the last one and its refusal.
 ///
 /// The refusal is that of the first file that is refused: `Read`, or one of `read_policy`. It numbers the questions of
 /// each file from 1.
 pub fn all_questions_in<F: Files>(
     alloc: Global,
     paths: &[&str],
-    with_origins: bool,
+    with_documents: bool,
     files: &mut F,
     notes: &mut Notes,
-) -> Result<(Vec<Question>, Vec<Document>), Fault>
-    ensures asked { IfOk result (λ r. AreAsked (F.holds files.old) paths.now r.0.items) }
-    ensures placed { IfOk result (λ r. HasOrigins with_origins (F.holds files.old) paths.now
-        r.0.items (map view r.1.items)) }
+) -> Result<Policies, Fault>
+    ensures asked { IfOk result (λ r. AreAsked (F.holds files.old) paths.now r.questions.items) }
+    ensures placed { IfOk result (λ r. HasOrigins with_documents (F.holds files.old) paths.now
+        r.questions.items (map view r.origins.items)) }
+    ensures told { IfOk result (λ r. HasFiles with_documents (F.holds files.old) Policy paths.now
+        (map view r.files.items)) }
     ensures refused { IfErr result (RefusesAsking (F.holds files.old) paths.now) }
     ensures same { (p : List ℕ) → F.holds files.new p ≡ F.holds files.old p }
 {
     let mut all = Vec::new(alloc);
     let mut origins = Vec::new(alloc);
+    let mut documents = Vec::new(alloc);
     for path in paths {
         let mut questions = questions_in(alloc, path, files, notes)?;
-        if with_origins {
-            push_origins(alloc, &mut origins, path, &notes.policy, questions.len())?;
+        let policy = &notes.policy;
+        push_file(
+            alloc,
+            &mut documents,
+            with_documents,
+            FileRole::Policy,
+            path,
+            policy,
+        )?;
+        if with_documents {
+            push_origins(alloc, &mut origins, path, policy, questions.len())?;
         }
         all.append(&mut questions)?;
     }
-    Ok((all, origins))
+    Ok(Policies {
+        questions: all,
+        origins,
+        files: documents,
+    })
 }

@@ -1,9 +1,10 @@
 //! The text of `eval --trace`: the input, and how each filter comes to its return value.
 ghost use Rattle.std.specs.Prelude.{◌≡◌, ◌<◌, ◌++◌, ◌==◌, ◌&&◌, ◌||◌, not, false, OnOk, IfOk, Some, length, string_bytes};
 ghost use Rattle.sf_run.specs.Answers.{action_bits, action_number};
-ghost use Rattle.sf_run.specs.Walks.{CourseData, walk_of};
-ghost use Rattle.sf_evaluate.specs.Traces.{call_line, call_text, compared_word_text, field_line, fields_text, filters_text, first_arguments, input_text, is_false, last_arguments, stands_text, meeting_line, meeting_lines, named_line, named_text, nr_line, returned_line, shown_line, sign_text, test_line, trace_text, truth_text, walk_text, word_text};
+ghost use Rattle.sf_run.specs.Walks.{CourseData, course, walk_of};
+ghost use Rattle.sf_evaluate.specs.Traces.{call_line, call_text, compared_word_text, field_line, fields_text, filter_text, first_arguments, input_text, is_false, last_arguments, stands_text, meeting_line, meeting_lines, named_line, named_text, nr_line, return_line, shown_line, sign_text, stack_shown, test_line, trace_text, truth_text, word_text};
 
+use super::why::push_caused;
 use crate::comparisons::{Comparison, is_false, sign_of};
 use sf_calls::{is_named, push_call_words};
 use sf_check::{Program, Stack};
@@ -149,7 +150,8 @@ fn push_test(text: &mut String, number: usize, compared: &Comparison) -> Result<
     push_compared(text, compared.sign, compared.other, compared.truth)
 }
 
-/// Adds the line of what the filter with this number met: a comparison, or a return of A.
+/// Adds the line of what the filter with this number met: a test; a division by X, shown as the comparison `X = 0`; or
+/// a return of A.
 pub(crate) fn push_meeting(
     text: &mut String,
     number: usize,
@@ -226,21 +228,22 @@ fn stands_word(stands: bool) -> &'static str
     if stands { " stands" } else { "" }
 }
 
-/// Adds the line of what a filter returns: an action and its data, `info`, at `place`. `stands` says whether this
+/// Adds the line of what a filter returns: the action and the data of `value`, at `place`. `stands` says whether this
 /// answer stands.
-pub(crate) fn push_return(
+pub(super) fn push_returned(
     text: &mut String,
     number: usize,
     place: usize,
-    action: Action,
-    info: u32,
+    value: u32,
     stands: bool,
 ) -> Result<(), AllocError>
     ensures { OnOk result (string_bytes text.new ≡ string_bytes text.old
-        ++ returned_line number place action info stands) }
+        ++ return_line number place value stands) }
 {
+    let action = Action::of_number(value & 0xffff0000);
     write!(text, "filter {number} ")?;
     push_action(text, action)?;
+    let info = value & 0xffff;
     let mark = stands_word(stands);
     write!(text, " {info} instruction {place}{mark}\n")
 }
@@ -258,11 +261,39 @@ pub struct Trace<'a> {
     pub names: &'a [Names],
 }
 
-/// Adds the lines of a filter: what it returns, and what it met. Returns whether its answer stands: it has the action
-/// of the stack's answer, and the answer of no newer filter stood.
+/// Adds the lines of a filter: what it returns, and what it met; or if `why`, those of `push_caused`.
+fn push_run(
+    text: &mut String,
+    why: bool,
+    brief: bool,
+    number: usize,
+    stands: bool,
+    run: &Course,
+) -> Result<(), AllocError>
+    ensures { OnOk result (string_bytes text.new ≡ string_bytes text.old
+        ++ filter_text why brief number stands
+        (course run.now.met.items run.now.place run.now.value)) }
+{
+    if why {
+        return push_caused(text, number, stands, run);
+    }
+    push_returned(text, number, run.place, run.value, stands)?;
+    push_meetings(text, brief, number, &run.met)
+}
+
+/// Whether the answer of a filter that returns `value` stands: it has the action of the stack's answer, and that of no
+/// newer filter `stood`.
+fn is_standing(stood: bool, value: u32, answer: Answer) -> bool
+    ensures { result ≡ (not stood && (action_bits value == action_number answer.action)) }
+{
+    !stood && value & 0xffff0000 == answer.action.number()
+}
+
+/// Adds the lines of a filter, and returns whether its answer stands.
 fn push_filter(
     alloc: Global,
     text: &mut String,
+    why: bool,
     trace: &Trace<'_>,
     number: usize,
     program: &Program,
@@ -272,27 +303,24 @@ fn push_filter(
         × (walk_of program.now trace.now.input.now ≡ Some w)
         × (b ≡ (not stood && (action_bits w.value == action_number trace.now.answer.action)))
         × (string_bytes text.new ≡ string_bytes text.old
-        ++ walk_text trace.now.brief number b w)) }
+        ++ filter_text why trace.now.brief number b w)) }
 {
     let run = walk(alloc, program, trace.input)?;
-    let action = run.value & 0xffff0000;
-    let stands = !stood && action == trace.answer.action.number();
-    push_return(
-        text,
-        number,
-        run.place,
-        Action::of_number(action),
-        run.value & 0xffff,
-        stands,
-    )?;
-    push_meetings(text, trace.brief, number, &run.met)?;
+    let stands = is_standing(stood, run.value, trace.answer);
+    push_run(text, why, trace.brief, number, stands, &run)?;
     Ok(stands)
 }
 
-/// Adds the lines of all filters, newest first. The newest filter has the highest number.
-fn push_filters(alloc: Global, text: &mut String, trace: &Trace<'_>) -> Result<(), Fault>
+/// Adds the lines of all filters, newest first; if `why`, those of `audit --why`. The newest filter has the highest
+/// number.
+pub(super) fn push_filters(
+    alloc: Global,
+    text: &mut String,
+    why: bool,
+    trace: &Trace<'_>,
+) -> Result<(), Fault>
     ensures { OnOk result (string_bytes text.new ≡ string_bytes text.old
-        ++ filters_text trace.now.brief (length trace.now.stack.now)
+        ++ stack_shown (filter_text why trace.now.brief) (length trace.now.stack.now)
         (action_number trace.now.answer.action) trace.now.stack.now trace.now.input.now false) }
 {
     let programs = trace.stack.programs();
@@ -300,7 +328,7 @@ fn push_filters(alloc: Global, text: &mut String, trace: &Trace<'_>) -> Result<(
     for i in 0..programs.len() {
         let number = programs.len() - i;
         let program = &programs[number - 1];
-        let stands = push_filter(alloc, text, trace, number, program, stood)?;
+        let stands = push_filter(alloc, text, why, trace, number, program, stood)?;
         stood = stood || stands;
     }
     Ok(())
@@ -315,5 +343,5 @@ pub fn push_trace(alloc: Global, text: &mut String, trace: &Trace<'_>) -> Result
         trace.now.input.now trace.now.answer) }
 {
     push_input(text, trace.names, trace.input)?;
-    push_filters(alloc, text, trace)
+    push_filters(alloc, text, false, trace)
 }

@@ -6,7 +6,7 @@ ghost use Rattle.clap.specs.Words.{found_of, rows_of};
 ghost use Rattle.sf_command_line.specs.Options.{text_of};
 ghost use Rattle.sf_calls.specs.Numbers.{read_arguments, read_number};
 ghost use Rattle.sf_stack.specs.declared.fault.Fault.TheVariants.{Input as InputFault, UnknownName as NameFault};
-ghost use Rattle.sf_evaluate.specs.Asking.{AsksInput, IsCallInput, LacksName, arch_named, asked_arch, asked_nr, call_fits, eval_words_fit, has_arch_and_arguments, has_file_of_names, is_arch, is_arch_number, is_given, describes_no_call, is_narrow, is_nr_narrow, nr_fits, nr_named, numbers_fit};
+ghost use Rattle.sf_evaluate.specs.Asking.{AsksInput, IsCallInput, LacksName, arch_named, asked_arch, asked_nr, call_fits, eval_words_fit, has_arch_and_arguments, is_arch, is_arch_number, is_given, describes_no_call, is_narrow, is_nr_narrow, nr_fits, nr_named, numbers_fit};
 
 use crate::checking::input_of;
 use crate::explaining::Notes;
@@ -39,17 +39,11 @@ fn has_arch_and_arguments(found: &ArgMatches<'_>) -> bool
     is_given(found, "arch") && (is_given(found, "args") && are_arguments(text_of(found, "args")))
 }
 
-pub(crate) fn has_names(found: &ArgMatches<'_>) -> bool
-    ensures { result ≡ has_file_of_names (rows_of (found_of found.now)) }
-{
-    !found.get_strs("names").unwrap_or(&[]).is_empty()
-}
-
 /// Whether the words ask for a call by its name. Whether a file has these names isn't asked.
 fn call_fits(found: &ArgMatches<'_>) -> bool
     ensures { result ≡ call_fits (rows_of (found_of found.now)) }
 {
-    (!is_given(found, "nr") && has_names(found))
+    !is_given(found, "nr")
         && (is_call_name(text_of(found, "call")) && is_call_name(text_of(found, "arch")))
 }
 

@@ -2,10 +2,11 @@
 //!
 //! The functions that add lines are called only where something doesn't fit.
 
-use super::asking::{has_names, is_given};
-use super::settings::wrong_word_text;
-use super::wanted::{calls_fit, digest_fits, push_wrong_calls, push_wrong_digest, push_wrong_rows};
+use super::asking::is_given;
+use super::settings::wrong_word;
+use super::wanted::{calls_fit, digest_fits, is_relation, push_wrong_calls};
 use crate::fault::Fault;
+use crate::files::{control_fits, wants_summary};
 use clap::ArgMatches;
 use sf_calls::{are_arguments, is_number};
 use sf_command_line::text_of;
@@ -15,7 +16,7 @@ use std::io::Write;
 
 /// What doesn't fit. Options are written as messages call them, such as `--nr <N>`.
 #[derive(Drop)]
-enum Misfit<'a> {
+pub(super) enum Misfit<'a> {
     Both(&'static str, &'static str),
     /// This option is missing; or several, one of which is wanted, are all missing.
     Missing(&'static str),
@@ -38,6 +39,9 @@ const NUMBER: &str = "decimal digits, or 0x and hexadecimal digits";
 /// What is said where `--call` is given without `--args`.
 const ONE_INPUT: &str =
     "one input of a call says nothing of its other inputs: `list --calls <NAME>` tells the answers to all of them";
+
+const DIGEST: &str =
+    "error: --digest is that of all rows: give it without --names, --calls and --json\n";
 
 /// The first of these options that is given, or if not `given` the first that is missing, as messages call it.
 fn first_of(
@@ -72,9 +76,6 @@ fn misfit_of_call<'a>(found: &ArgMatches<'a>) -> Option<Misfit<'a>> {
     if !is_call_name(arch) {
         let taken = "the name of a set of calls, such as x86_64";
         return Some(Misfit::Value("--arch <SET>", arch, taken));
-    }
-    if !has_names(found) {
-        return Some(Misfit::Missing("--names <FILE>"));
     }
     None
 }
@@ -136,46 +137,64 @@ fn push_misfit(text: &mut String, misfit: &Misfit<'_>) -> Result<(), AllocError>
     }
 }
 
-/// The lines that tell the first thing in the words of `eval` that doesn't fit. Where `--call` is given without
-/// `--args`, a line points to `list`.
-fn misfit_text(alloc: Global, found: &ArgMatches<'_>) -> Result<String, AllocError> {
-    let mut text = String::new(alloc);
-    if let Some(misfit) = first_misfit(found) {
-        push_misfit(&mut text, &misfit)?;
+/// Adds the lines that tell the first thing in the words of `eval` or `profile` that doesn't fit. Where `--call` is
+/// given without `--args`, a line points to `list`.
+fn push_first(
+    text: &mut String,
+    misfit: Option<Misfit<'_>>,
+    found: &ArgMatches<'_>,
+) -> Result<(), AllocError> {
+    if let Some(misfit) = misfit {
+        push_misfit(text, &misfit)?;
     }
     if is_given(found, "call") && !is_given(found, "args") {
         write!(text, "  {ONE_INPUT}\n")?;
     }
-    text.push_str("\nFor more information, try '--help'.\n")?;
-    Ok(text)
+    Ok(())
 }
 
-/// The lines that say what is wrong with the words of `list` or `compare`: `--calls`, `--digest`, or the options about
-/// rows.
-fn wrong_rows_text(alloc: Global, found: &ArgMatches<'_>) -> Result<String, AllocError> {
-    let mut text = String::new(alloc);
-    if !calls_fit(found) {
-        push_wrong_calls(&mut text, found)?;
-    } else if !digest_fits(found) {
-        push_wrong_digest(&mut text)?;
-    } else {
-        push_wrong_rows(&mut text, found)?;
+/// Adds the lines that say what is wrong with the words of `audit`: the control, which is a policy that asks too, or
+/// the summary.
+fn push_wrong_audit(text: &mut String, found: &ArgMatches<'_>) -> Result<(), AllocError> {
+    if !control_fits(found) {
+        let control = text_of(found, "control");
+        return write!(
+            text,
+            "error: {control:?} is given as --control and as --policy\n  A control asks about calls that must get through, a policy about calls that must not.\n"
+        );
     }
-    text.push_str("\nFor more information, try '--help'.\n")?;
-    Ok(text)
+    text.push_str(if wants_summary(found) {
+        "error: a summary takes the place of a report: give it without --json, --regions and --why\n"
+    } else {
+        "error: --groups is for a summary: give --summary or --summary-all too\n"
+    })
 }
 
-/// The lines that say that the path behind `--control` is one of those behind `--policy`, and what both ask about.
-fn wrong_control_text(alloc: Global, found: &ArgMatches<'_>) -> Result<String, AllocError> {
+/// Adds the lines that say what is wrong with the options about the rows of a comparison.
+fn push_wrong_rows(text: &mut String, found: &ArgMatches<'_>) -> Result<(), AllocError> {
+    let only = found.get_str("only").unwrap_or("different");
+    if is_relation(only) {
+        return text.push_str("error: --calls and --only tell of rows: give --rows too\n");
+    }
+    let taken = "looser, tighter, different";
+    push_misfit(text, &Misfit::Value("--only <RELATION>", only, taken))
+}
+
+/// The lines that say which words of a subcommand don't fit.
+fn wrong_words_text(
+    alloc: Global,
+    name: &str,
+    found: &ArgMatches<'_>,
+) -> Result<String, AllocError> {
     let mut text = String::new(alloc);
-    let control = text_of(found, "control");
-    write!(
-        text,
-        "error: {control:?} is given as --control and as --policy\n"
-    )?;
-    text.push_str(
-        "  A control asks about calls that must get through, a policy about calls that must not.\n",
-    )?;
+    match name {
+        "audit" => push_wrong_audit(&mut text, found)?,
+        "eval" => push_first(&mut text, first_misfit(found), found)?,
+        "profile" => push_first(&mut text, wrong_word(found), found)?,
+        _ if !calls_fit(found) => push_wrong_calls(&mut text, found)?,
+        _ if !digest_fits(found) => text.push_str(DIGEST)?,
+        _ => push_wrong_rows(&mut text, found)?,
+    }
     text.push_str("\nFor more information, try '--help'.\n")?;
     Ok(text)
 }
@@ -192,12 +211,7 @@ pub fn tell_wrong_words<E: Write>(
     let (Ok(4), Some((name, found))) = (ran, matches.subcommand()) else {
         return;
     };
-    let text = match name {
-        "audit" => wrong_control_text(alloc, found),
-        "eval" => misfit_text(alloc, found),
-        "list" | "compare" => wrong_rows_text(alloc, found),
-        _ => wrong_word_text(alloc, found),
-    };
+    let text = wrong_words_text(alloc, name, found);
     let text = match &text {
         Ok(text) => text.as_str(),
         Err(_) => "error: words don't fit, and there was no memory to tell which\n",

@@ -7,6 +7,7 @@ ghost use Rattle.clap.specs.Words.{found_of, rows_of};
 ghost use Rattle.sf_command_line.specs.Options.{paths_of};
 ghost use Rattle.sf_evaluate.specs.Profiles.{AreSettings, capabilities, is_capability, is_kernel_or_none, machine_named, reading_named, profile_words_fit};
 
+use super::misfits::Misfit;
 use clap::ArgMatches;
 use sf_command_line::{skips_unknown, text_of, wants_newer};
 use sf_profile::{CallSet, Calls, Reading, Settings, version_of};
@@ -166,43 +167,28 @@ pub(crate) fn settings_of(
     })
 }
 
-/// The first option of `profile` with a word that it doesn't take: the option, the word, and what the option takes.
-fn wrong_word<'a>(found: &ArgMatches<'a>) -> Option<(&'static str, &'a str, &'static str)> {
+/// The first option of `profile` with a word that it doesn't take.
+pub(super) fn wrong_word<'a>(found: &ArgMatches<'a>) -> Option<Misfit<'a>> {
     let machine = text_of(found, "machine");
     if machine_named(machine).is_none() {
-        return Some(("--machine <MACHINE>", machine, "x86_64, i386, aarch64, arm"));
+        let taken = "x86_64, i386, aarch64, arm";
+        return Some(Misfit::Value("--machine <MACHINE>", machine, taken));
     }
     let conflicts = text_of(found, "conflicts");
     if reading_named(conflicts).is_none() {
-        return Some(("--conflicts <RULE>", conflicts, "strictest, mildest, first"));
+        let taken = "strictest, mildest, first";
+        return Some(Misfit::Value("--conflicts <RULE>", conflicts, taken));
     }
     let kernel = text_of(found, "kernel");
     if !is_kernel_or_none(kernel) {
-        return Some((
-            "--kernel <X.Y>",
-            kernel,
-            "two numbers with a point between them",
-        ));
+        let taken = "two numbers with a point between them";
+        return Some(Misfit::Value("--kernel <X.Y>", kernel, taken));
     }
     for cap in found.get_strs("cap").unwrap_or(&[]) {
         if !is_capability(cap) {
-            return Some((
-                "--cap <NAME>",
-                *cap,
-                "a name of linux/capability.h, such as CAP_BPF",
-            ));
+            let taken = "a name of linux/capability.h, such as CAP_BPF";
+            return Some(Misfit::Value("--cap <NAME>", *cap, taken));
         }
     }
     None
-}
-
-/// The lines that tell the first word of `profile` that its option doesn't take, in the form in which `clap` says it.
-pub(crate) fn wrong_word_text(alloc: Global, found: &ArgMatches<'_>) -> Result<String, AllocError> {
-    let mut text = String::new(alloc);
-    if let Some((option, word, taken)) = wrong_word(found) {
-        write!(text, "error: invalid value {word:?} for '{option}'\n")?;
-        write!(text, "  [possible values: {taken}]\n\n")?;
-        text.push_str("For more information, try '--help'.\n")?;
-    }
-    Ok(text)
 }

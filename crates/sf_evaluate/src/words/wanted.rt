@@ -10,14 +10,14 @@ ghost use Rattle.sf_calls.specs.Numbers.{comma_parts};
 ghost use Rattle.sf_stack.specs.declared.fault.Fault.TheVariants.{Memory as MemoryFault, UnknownName as UnknownNameFault};
 ghost use Rattle.sf_evaluate.specs.Wanted.{are_known, calls_asked, calls_fit, digest_fits, has_rows_if_needed, is_known_call, is_wanted_once, is_relation, names_in_text, rows_fit};
 
-use super::asking::{has_names, is_given};
+use super::asking::is_given;
+use super::naming::has_names;
 use crate::explaining::Notes;
 use clap::ArgMatches;
 use sf_command_line::{given_text, text_of};
 use sf_names::{Names, is_call_name};
 use sf_stack::Fault;
 use std::alloc::{AllocError, Global};
-use std::io::Write;
 
 fn count_of(text: &str, name: &str) -> usize
     ensures { result ≡ count_by (bytes_eq name.now) (comma_parts text.now) }
@@ -39,18 +39,17 @@ fn are_names(text: &str) -> bool
     text.is_empty() || text.split(',').all(|name| is_name_once(text, name))
 }
 
-/// Whether `--calls`, if it is given, has right names, each once, and `--names` a file. With an empty text it asks for
-/// all calls.
+/// Whether `--calls`, if it is given, has right names, each once. With an empty text it asks for all calls.
 pub fn calls_fit(found: &ArgMatches<'_>) -> bool
     ensures { result ≡ calls_fit (rows_of (found_of found.now)) }
 {
     match given_text(found, "calls") {
-        Some(text) => has_names(found) && are_names(text),
+        Some(text) => are_names(text),
         None => true,
     }
 }
 
-fn is_relation(word: &str) -> bool
+pub(super) fn is_relation(word: &str) -> bool
     ensures { result ≡ is_relation word.now }
 {
     word == "looser" || word == "tighter" || word == "different"
@@ -164,51 +163,20 @@ pub fn known_calls<'a>(
     Ok(calls)
 }
 
-/// The first of the comma-separated names in a text that can't be that of a call, or that stands there more than once.
-fn wrong_name(text: &str) -> Option<&str> {
-    if text.is_empty() {
-        return None;
-    }
-    text.split(',').find(|name| !is_name_once(text, name))
-}
-
 /// Adds the lines that say what is wrong with `--calls`. A name that can't be that of a call may be the path of a
 /// filter that `--calls` took as its text: so for such a name a further line says how to ask for all calls.
-pub(crate) fn push_wrong_calls(
+pub(super) fn push_wrong_calls(
     text: &mut String,
     found: &ArgMatches<'_>,
 ) -> Result<(), AllocError> {
-    let calls = found.get_str("calls").unwrap_or("");
-    if !has_names(found) {
-        return text.push_str(
-            "error: --calls needs names: give --names policies/names.toml, or another file of names\n",
-        );
-    }
-    let name = wrong_name(calls).unwrap_or("");
+    let calls = text_of(found, "calls");
+    let mut names = calls.split(',');
+    let name = names.find(|name| !is_name_once(calls, name)).unwrap_or("");
     if is_call_name(name) {
         return write!(text, "error: --calls names {name:?} twice\n");
     }
-    write!(text, "error: {name:?} is no name of a call, for --calls\n")?;
-    text.push_str(
-        "  For all calls, let another option follow --calls, or give it behind the filters.\n",
-    )
-}
-
-pub(crate) fn push_wrong_digest(text: &mut String) -> Result<(), AllocError> {
-    text.push_str(
-        "error: --digest is that of all rows: give it without --names, --calls and --json\n",
-    )
-}
-
-/// Adds the lines that say what is wrong with the options about the rows of a comparison.
-pub(crate) fn push_wrong_rows(text: &mut String, found: &ArgMatches<'_>) -> Result<(), AllocError> {
-    let only = found.get_str("only").unwrap_or("different");
-    if is_relation(only) {
-        return text.push_str("error: --calls and --only tell of rows: give --rows too\n");
-    }
     write!(
         text,
-        "error: invalid value {only:?} for '--only <RELATION>'\n"
-    )?;
-    text.push_str("  [possible values: looser, tighter, different]\n")
+        "error: {name:?} is no name of a call, for --calls\n  For all calls, let another option follow --calls, or give it behind the filters.\n"
+    )
 }

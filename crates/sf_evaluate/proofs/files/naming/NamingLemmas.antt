@@ -1,7 +1,21 @@
 -- Files that are read one after the other, by what their bytes mean.
-use Rattle.std.proofs.Common.{◌≡◌, ℕ, ◌+◌, ◌≤◌, ◌∙◌, List, [], ◌∷◌, ◌++◌, Option, Some, Bor, length, slice_get, subst}
+use Rattle.std.proofs.lemmas.Grind.{flat_map-append}
+use Rattle.std.proofs.lemmas.Option.{slice_get-get_or}
+use Rattle.std.specs.List.{flat_map}
+use Rattle.std.proofs.Common.{◌≡◌, ℕ, ◌+◌, ◌<◌, ◌≤◌, ◌∙◌, List, [], ◌∷◌, ◌++◌, Option, Some, Bor, append-nil, ap, get_or, length, slice_get, subst}
 use Rattle.sf_evaluate.specs.Pairs.{Pairwise}
 use Rattle.sf_evaluate.proofs.Pairing.{PairedSoFar, paired_all, paired_more}
+
+-- the path at a place within
+pub path_at : (paths : List (Bor (List ℕ))) (place : ℕ) → place < length paths
+    → slice_get paths place ≡ Some (get_or paths place (record { ref_ptr = (0, 0); now = [] }))
+path_at paths place within = slice_get-get_or paths place (record { ref_ptr = (0, 0); now = [] }) within
+
+-- a list that is built part by part, with one part more
+pub one_part_more : {X Y : Type 0} (part : X → List Y) (files : List X) (file : X)
+    → flat_map part (files ++ file ∷ []) ≡ flat_map part files ++ part file
+one_part_more part files file =
+    flat_map-append part files (file ∷ []) ∙ ap (λ l. flat_map part files ++ l) (append-nil (part file))
 
 -- Of the files at the first of the paths these were read, by what their bytes mean. What is known of files stays what
 -- it was before.

@@ -1,6 +1,5 @@
 -- The sets of files of names, joined one file after the other.
-use Rattle.std.proofs.lemmas.Grind.{flat_map-append}
-use Rattle.std.proofs.Common.{◌≡◌, ◌⊎◌, inl, inr, ℕ, ◌+◌, ◌≤◌, ◌∙◌, List, [], ◌∷◌, ◌++◌, append-nil, ap, length, Option, Some, None, Bor, slice_get, refl, sym, subst}
+use Rattle.std.proofs.Common.{◌≡◌, ◌⊎◌, inl, inr, ℕ, ◌+◌, ◌≤◌, ◌∙◌, List, [], ◌∷◌, ◌++◌, ap, length, Option, Some, None, Bor, slice_get, refl, sym, subst}
 use Rattle.sf_names.specs.Names.{NamesData}
 use Rattle.sf_names.specs.declared.fault.Fault.{Fault as NamesFault}
 use Rattle.sf_names.specs.declared.fault.Fault.TheVariants as names_faults
@@ -10,7 +9,7 @@ use Rattle.sf_stack.specs.declared.fault.Fault.{Fault}
 use Rattle.sf_stack.specs.declared.fault.Fault.TheVariants as faults
 use Rattle.sf_stack.specs.Faults.{of_names}
 use Rattle.sf_evaluate.specs.Names.{AreNamesRead, IsNamesFile, RefusesNamesFile, RefusesNaming, all_sets}
-use Rattle.sf_evaluate.proofs.files.naming.NamingLemmas.{ReadSoFar, all_read, one_read}
+use Rattle.sf_evaluate.proofs.files.naming.NamingLemmas.{ReadSoFar, all_read, one_part_more, one_read}
 use Rattle.sf_evaluate.proofs.Pairing.{first_paired}
 
 -- The sets of the files at the first of the paths, joined, are these. What is known of files stays what it was before.
@@ -19,11 +18,6 @@ pub record NamedSoFar (before after : List ℕ → Option (List ℕ)) (paths : L
   pub files : List (List NamesData)
   pub read : ReadSoFar IsNamesFile before after paths place files
   pub joined : AreSetsJoined [] (all_sets files) all
-
-all_more : (files : List (List NamesData)) (sets : List NamesData)
-    → all_sets (files ++ sets ∷ []) ≡ all_sets files ++ sets
-all_more files sets =
-    flat_map-append (λ (l : List NamesData). l) files (sets ∷ []) ∙ ap (λ l. all_sets files ++ l) (append-nil sets)
 
 module _ (before after next : List ℕ → Option (List ℕ)) (paths : List (Bor (List ℕ))) (place : ℕ)
     (all sets : List NamesData) (path : Bor (List ℕ)) (so_far : NamedSoFar before after paths place all)
@@ -38,7 +32,7 @@ module _ (before after next : List ℕ → Option (List ℕ)) (paths : List (Bor
   one_named more joined = record {
     files = so_far.files ++ sets ∷ [];
     read = one_more_read;
-    joined = subst (λ l. AreSetsJoined [] l more) (sym (all_more so_far.files sets))
+    joined = subst (λ l. AreSetsJoined [] l more) (sym (one_part_more (λ (l : List NamesData). l) so_far.files sets))
         (joined_append [] (all_sets so_far.files) sets all more so_far.joined joined);
   }
 
@@ -52,7 +46,8 @@ module _ (before after next : List ℕ → Option (List ℕ)) (paths : List (Bor
     read = first_paired _ paths (so_far.files ++ sets ∷ []) (place + 1) one_more_read.paired inside;
     joined = joined;
     why = why;
-    unfit = subst (λ l. AreSetsUnfit [] l joined why) (sym (all_more so_far.files sets))
+    unfit = subst (λ l. AreSetsUnfit [] l joined why)
+        (sym (one_part_more (λ (l : List NamesData). l) so_far.files sets))
         (unfit_append [] (all_sets so_far.files) sets all joined why so_far.joined unfit);
     is = is;
   })))

@@ -1,12 +1,11 @@
 -- The questions of policy files, one file after the other.
-use Rattle.std.proofs.lemmas.Grind.{flat_map-append}
 use Rattle.std.specs.List.{flat_map}
-use Rattle.std.proofs.Common.{◌≡◌, ◌⊎◌, Bool, true, false, inl, inr, ℕ, ◌+◌, ◌≤◌, ◌∙◌, List, [], ◌∷◌, ◌++◌, append-nil, ap, length, Option, Some, None, Bor, slice_get, refl, sym, subst}
+use Rattle.std.proofs.Common.{◌≡◌, ◌⊎◌, Bool, true, false, inl, inr, ℕ, ◌+◌, ◌≤◌, ◌∙◌, List, [], ◌∷◌, ◌++◌, ap, length, Option, Some, None, Bor, slice_get, refl, sym, subst}
 use Rattle.sf_question.specs.QuestionData.{QuestionData}
 use Rattle.sf_stack.specs.declared.fault.Fault.{Fault}
 use Rattle.sf_stack.specs.declared.fault.Fault.TheVariants as faults
 use Rattle.sf_evaluate.specs.Policies.{AreAsked, IsPolicyFile, RefusesAsking, RefusesPolicyFile, all_questions}
-use Rattle.sf_evaluate.proofs.files.naming.NamingLemmas.{ReadSoFar, all_read, one_read}
+use Rattle.sf_evaluate.proofs.files.naming.NamingLemmas.{ReadSoFar, all_read, one_part_more, one_read}
 use Rattle.serde_json.specs.Data.{Data}
 use Rattle.sf_evaluate.specs.Origins.{AreOrigins, AreOriginsOf, HasOrigins, IsFileOf, PolicyData}
 use Rattle.sf_evaluate.proofs.Pairing.{PairedSoFar, paired_all, paired_more}
@@ -18,12 +17,6 @@ pub record AskedSoFar (before after : List ℕ → Option (List ℕ)) (paths : L
   pub read : ReadSoFar IsPolicyFile before after paths place files
   pub all_of : all ≡ all_questions files
 
-asked_more : (files : List (List QuestionData)) (asked : List QuestionData)
-    → all_questions (files ++ asked ∷ []) ≡ all_questions files ++ asked
-asked_more files asked =
-    flat_map-append (λ (l : List QuestionData). l) files (asked ∷ [])
-    ∙ ap (λ l. all_questions files ++ l) (append-nil asked)
-
 module _ (before after next : List ℕ → Option (List ℕ)) (paths : List (Bor (List ℕ))) (place : ℕ)
     (all asked : List QuestionData) (path : Bor (List ℕ)) (so_far : AskedSoFar before after paths place all)
     (here : slice_get paths place ≡ Some path) where
@@ -34,7 +27,8 @@ module _ (before after next : List ℕ → Option (List ℕ)) (paths : List (Bor
     files = so_far.files ++ asked ∷ [];
     read = one_read IsPolicyFile before after next paths place so_far.files _ path asked so_far.read here
         meant same refl;
-    all_of = added ∙ ap (λ l. l ++ asked) so_far.all_of ∙ sym (asked_more so_far.files asked);
+    all_of = added ∙ ap (λ l. l ++ asked) so_far.all_of
+        ∙ sym (one_part_more (λ (l : List QuestionData). l) so_far.files asked);
   }
 
 -- a file more is refused
@@ -78,8 +72,7 @@ part_more : {X : Type 0} (part : PolicyData → List X) (files : List PolicyData
     (whole more : List X)
     → whole ≡ flat_map part files → more ≡ whole ++ part file → more ≡ flat_map part (files ++ file ∷ [])
 part_more part files file whole more is added =
-    added ∙ ap (λ l. l ++ part file) is
-    ∙ sym (flat_map-append part files (file ∷ []) ∙ ap (λ l. flat_map part files ++ l) (append-nil (part file)))
+    added ∙ ap (λ l. l ++ part file) is ∙ sym (one_part_more part files file)
 
 module _ (before after next : List ℕ → Option (List ℕ)) (paths : List (Bor (List ℕ))) (place : ℕ)
     (all asked : List QuestionData) (origins added : List Data) (path : Bor (List ℕ))

@@ -1,6 +1,6 @@
-use Rattle.std.proofs.Common.{◌≡◌, ◌||◌, ◌∙◌, suc, ◌-◌, ◌+◌, length, arith}
-use Rattle.sf_evaluate.proofs.document.DocumentLemmas.{one_more_filter}
-use Rattle.sf_evaluate.proofs.TraceLemmas.{program_at}
+use Rattle.std.proofs.Common.{◌≡◌, ◌||◌, ◌∙◌, [], ◌∷◌, suc, ◌-◌, ◌+◌, length, arith}
+use Rattle.sf_evaluate.specs.TraceDocuments.{filter_document}
+use Rattle.sf_evaluate.proofs.TraceLemmas.{one_more_filter, program_at}
 use Rattle.sf_evaluate.proofs.document.answering.filter_documents.Goals.{then-stood, else-stood}
 use Rattle.sf_evaluate.proofs.document.answering.filter_documents.Goals as goal
 
@@ -17,5 +17,5 @@ loop-i-preserved c =
       | then-stood b ↦ rw b.if-stood.true (b.stood-is ∙ b.if-stood.true)
       | else-stood b ↦ rw b.if-stood.false b.stood-is
     ] in
-    rw joined (one_more_filter c.args.trace.now.brief n _ _ _ programs _ _ w _ _ _ at ran stands
-    (rw number at pushed) (rw one_less at c.loop-i.invariant))
+    rw joined (one_more_filter (λ number stands w. filter_document c.args.trace.now.brief number stands w ∷ [])
+    n _ _ _ programs _ _ w _ _ _ at ran stands (rw number at pushed) (rw one_less at c.loop-i.invariant))

@@ -7,7 +7,7 @@ pub returns-in-Ok-clause-asked : goal.returns-in-Ok-clause-asked
 returns-in-Ok-clause-asked g c =
     let text : c.in-Ok.text.now ≡ c.in_ok-bytes.bytes.items = c.in-Ok.ensures.cases.0 ∙ c.deref.ensures.value in
     let agrees = rw (sym text) at c.in_ok-bytes.ensures.bytes in
-    rw c.take_refusal.ensures (policy_asked (λ v. v.items) (without_place c.read_policy_at-read.result) _ _
+    rw c.take_refusal.ensures.same (policy_asked (λ v. v.items) (without_place c.read_policy_at-read.result) _ _
     c.read_policy_at-read.ensures.read c.read_policy_at-read.ensures.no_syntax agrees)
 
 pub returns-in-Err-clause-refused : goal.returns-in-Err-clause-refused

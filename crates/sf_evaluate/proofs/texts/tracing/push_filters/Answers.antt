@@ -1,5 +1,5 @@
 use Rattle.std.proofs.Common.{◌≡◌, ◌||◌, ◌∙◌, suc, ◌-◌, ◌+◌, length, arith}
-use Rattle.sf_evaluate.specs.Traces.{walk_text}
+use Rattle.sf_evaluate.specs.Traces.{filter_text}
 use Rattle.sf_evaluate.proofs.TraceLemmas.{one_more_filter, program_at}
 use Rattle.sf_evaluate.proofs.texts.tracing.push_filters.Goals.{then-stood, else-stood}
 use Rattle.sf_evaluate.proofs.texts.tracing.push_filters.Goals as goal
@@ -17,5 +17,5 @@ loop-i-preserved c =
       | then-stood b ↦ rw b.if-stood.true (b.stood-is ∙ b.if-stood.true)
       | else-stood b ↦ rw b.if-stood.false b.stood-is
     ] in
-    rw joined (one_more_filter (walk_text c.args.trace.now.brief) n _ _ _ programs _ _ w _ _ _ at ran stands
-    (rw number at pushed) (rw one_less at c.loop-i.invariant))
+    rw joined (one_more_filter (filter_text c.args.why c.args.trace.now.brief) n _ _ _ programs _ _ w _ _ _ at ran
+    stands (rw number at pushed) (rw one_less at c.loop-i.invariant))

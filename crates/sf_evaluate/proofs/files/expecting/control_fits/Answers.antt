@@ -6,7 +6,7 @@ use Rattle.clap.specs.Words.{first_of, found_of, rows_of}
 use Rattle.sf_command_line.specs.Options.{ArePaths, paths_of}
 use Rattle.sf_command_line.specs.laws.OptionsLaws.{paths_found}
 use Rattle.sf_evaluate.specs.Expecting.{is_other_policy}
-use Rattle.sf_evaluate.proofs.files.expecting.audit_words_fit.Goals as goal
+use Rattle.sf_evaluate.proofs.files.expecting.control_fits.Goals as goal
 
 pub returns-in-Some : goal.returns-in-Some
 returns-in-Some c =

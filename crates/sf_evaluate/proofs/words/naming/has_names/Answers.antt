@@ -3,7 +3,7 @@ use Rattle.clap.specs.Words.{found_of, rows_of}
 use Rattle.sf_command_line.specs.Options.{ArePaths}
 use Rattle.sf_command_line.specs.laws.OptionsLaws.{paths_found}
 use Rattle.sf_evaluate.proofs.words.asking.AskingLemmas.{some_read}
-use Rattle.sf_evaluate.proofs.words.asking.has_names.Goals as goal
+use Rattle.sf_evaluate.proofs.words.naming.has_names.Goals as goal
 
 pub returns : goal.returns
 returns c =
