@@ -3,3 +3,4 @@ pub mod Reports
 pub mod Audits
 pub mod Documents
 pub mod Expectations
+pub mod Summaries

@@ -104,7 +104,7 @@ impl Expected {
 
 /// Adds the line of a question of the control that isn't allowed: `control`, its name, and its reply, `never` or
 /// `unsettled`. Adds nothing for a question that is allowed.
-fn push_control(text: &mut String, name: &str, reply: Reply) -> Result<(), AllocError>
+pub(crate) fn push_control(text: &mut String, name: &str, reply: Reply) -> Result<(), AllocError>
     ensures { OnOk result (string_bytes text.new ≡ string_bytes text.old
         ++ control_line name.now reply) }
 {
@@ -130,7 +130,7 @@ fn push_controls(
     Ok(())
 }
 
-fn is_accepted(accepted: &[String], name: &str) -> bool
+pub(crate) fn is_accepted(accepted: &[String], name: &str) -> bool
     ensures { result ≡ is_accepted (map string_bytes accepted.now) name.now }
 {
     accepted.iter().any(|one| one.as_str() == name)

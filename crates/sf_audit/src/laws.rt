@@ -1,4 +1,4 @@
-//! Laws of the definitions, each the contract of a function that does nothing.
+//! Laws of the definitions, each the contract of a function that does nothing, or only calls other laws.
 
 ghost use Rattle.std.specs.Prelude.{◌≡◌, ℕ, Bool, List, []};
 ghost use Rattle.sf_question.specs.QuestionData.{QuestionData};
@@ -8,6 +8,9 @@ ghost use Rattle.sf_audit.specs.Documents.{TellingData, audit_document};
 ghost use Rattle.sf_audit.specs.Expectations.{ExpectedData};
 ghost use Rattle.sf_audit.specs.Outcomes.{Found};
 ghost use Rattle.sf_audit.specs.Reports.{report_text};
+ghost use Rattle.sf_audit.specs.Summaries.{summary_text};
+ghost use Rattle.sf_names.specs.Names.{NamesData};
+ghost use Rattle.sf_policy.specs.Groups.{GroupData};
 
 use sf_ask::laws::replies_have_one_result;
 use sf_book::laws::explorations_have_one_result;
@@ -35,6 +38,22 @@ pub fn one_report()
         o.settled.outstanding ≡ [] → p.settled.outstanding ≡ [] →
         (shown : Bool) (remarks : List (List ℕ)) →
         report_text o shown remarks ≡ report_text p shown remarks }
+{
+    explorations_have_one_result();
+    replies_have_one_result();
+}
+
+/// A law for the prover: two audits as in `one_report` have the same summary too, where the summaries are made with the
+/// same groups and names of calls, and the same `expected`.
+pub fn one_summary()
+    ensures { (files others : List (List ℕ)) (questions : List QuestionData)
+        (b c : ℕ) (o p : Found) →
+        IsAudit files questions b o → IsAudit others questions c p →
+        o.settled.stack ≡ p.settled.stack →
+        o.settled.outstanding ≡ [] → p.settled.outstanding ≡ [] →
+        (all : Bool) (names : List NamesData) (groups : List GroupData)
+        (expected : ExpectedData) →
+        summary_text all names groups expected o ≡ summary_text all names groups expected p }
 {
     explorations_have_one_result();
     replies_have_one_result();

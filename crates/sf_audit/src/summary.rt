@@ -1,0 +1,49 @@
+//! Writes a summary of an audit, for a person.
+
+mod lists;
+mod text;
+
+ghost use Rattle.std.specs.Prelude.{◌≡◌, ◌⊎◌, OnOk, IfErr};
+ghost use Rattle.std.specs.Io.KnownBytes.{Appends};
+ghost use Rattle.sf_audit.specs.Summaries.{summary_text};
+ghost use Rattle.sf_stack.specs.declared.fault.Fault.TheVariants.{Memory as MemoryFault, Write as WriteFault};
+
+use crate::expecting::Expected;
+use crate::outcome::Outcome;
+use sf_names::Names;
+use sf_policy::Group;
+use sf_stack::{Fault, write_bytes};
+use std::alloc::Global;
+use std::io::Write;
+use text::summary_of;
+
+/// How a summary is written.
+#[derive(Clone, Copy)]
+pub struct Summary<'m> {
+    /// Whether each allowed question has a line with the call of its example, and not only its name.
+    pub all: bool,
+    /// The names of calls with which examples are shown.
+    pub names: &'m [Names],
+    /// The groups by which questions are put in order.
+    pub groups: &'m [Group],
+}
+
+/// Writes the summary of an audit: how much there is; group by group which questions are allowed that `expected`
+/// doesn't accept; the groups without an allowed question; which questions are unsettled; whether the control holds,
+/// if there is one; and how to see more.
+pub fn write_summary<W: Write>(
+    alloc: Global,
+    outcome: &Outcome,
+    expected: &Expected,
+    summary: Summary<'_>,
+    out: &mut W,
+) -> Result<(), Fault>
+    ensures written { OnOk result (Appends (W.contents out.old) (W.contents out.new)
+        (summary_text summary.entry.all summary.entry.names.now summary.entry.groups.now
+        expected.now outcome.now)) }
+    ensures refused { IfErr result (λ e. (e ≡ WriteFault)
+        ⊎ ((e ≡ MemoryFault) × (out.new ≡ out.old))) }
+{
+    let text = summary_of(alloc, outcome, expected, summary)?;
+    write_bytes(text.as_bytes(), out)
+}
