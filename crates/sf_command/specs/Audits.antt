@@ -16,21 +16,29 @@ use Rattle.sf_audit.specs.Audits.{IsAuditOf, IsWrongCount}
 use Rattle.sf_audit.specs.Documents.{TellingData, audit_document}
 use Rattle.sf_audit.specs.Expectations.{ExpectedData, expected_text}
 use Rattle.sf_audit.specs.Reports.{report_text}
+use Rattle.sf_audit.specs.Summaries.{summary_text}
 use Rattle.sf_evaluate.specs.Expecting.{AreAcceptedIn, IsControl, RefusesAccepted, RefusesControl}
 use Rattle.sf_evaluate.specs.Files.{HoldStack, RefusesFiles}
+use Rattle.sf_evaluate.specs.Groups.{AreGroupsIn, RefusesGroups}
+use Rattle.sf_evaluate.specs.Identity.{HasBothFiles, identified}
 use Rattle.sf_evaluate.specs.Origins.{HasOrigins}
 use Rattle.sf_evaluate.specs.Policies.{AreAsked, RefusesAsking}
 use Rattle.sf_evaluate.specs.Traces.{IsWhy}
+use Rattle.sf_evaluate.specs.declared.files.identity.FileRole.TheVariants.{Filter, Policy}
 use Rattle.sf_json.specs.Documents.{document_line}
+use Rattle.sf_policy.specs.Groups.{GroupData}
 use Rattle.sf_command.specs.declared.auditing.AskedContents.{AskedContents}
+use Rattle.sf_command.specs.declared.auditing.TextForm.{TextForm}
+use Rattle.sf_command.specs.declared.auditing.TextForm.TheVariants.{Report, Summary, SummaryOfAll}
 use Rattle.sf_command.specs.Status.{audit_status}
 
--- the files that an audit is asked by: policies, and where they are given that of a control and that of the questions
--- that may be allowed
+-- the files that an audit is asked by: policies, and where they are given that of a control, that of the questions that
+-- may be allowed, and that of the groups of a summary
 pub record AskedData : Type 0 where
   pub policies : List (Bor (List ℕ))
   pub control : Option (List ℕ)
   pub accept : Option (List ℕ)
+  pub groups : Option (List ℕ)
 
 -- what these files hold: questions, the questions of the control, and the names of questions that may be allowed
 pub record ReadData : Type 0 where
@@ -64,11 +72,23 @@ is_expecting asked = is_some asked.control || is_some asked.accept
 abbrev pub behind_text : TellingData → ExpectedData → Found → List ℕ
 behind_text telling expected found = if telling.is_expecting then expected_text expected found else []
 
--- what is written of an audit: the report, and behind it what isn't as expected; or one JSON document
-abbrev pub audit_output : (json : Bool) → TellingData → ExpectedData → Found → List ℕ
-audit_output false telling expected found =
+-- the report of an audit, and behind it what isn't as expected
+abbrev pub report_output : TellingData → ExpectedData → Found → List ℕ
+report_output telling expected found =
     report_text found telling.regions telling.remarks ++ behind_text telling expected found
-audit_output true telling expected found = document_line (audit_document telling expected found)
+
+-- what is written of an audit as a text: the report, or a summary by groups
+abbrev pub text_output : TextForm → List GroupData → TellingData → ExpectedData → Found → List ℕ
+text_output Report groups telling expected found = report_output telling expected found
+text_output Summary groups telling expected found = summary_text false telling.names groups expected found
+text_output SummaryOfAll groups telling expected found = summary_text true telling.names groups expected found
+
+-- what is written of an audit: a text; or one JSON document, with the line of this version and these documents of files
+abbrev pub audit_output : (json : Bool) → TextForm → List GroupData → (version : List ℕ) → (files : List Data)
+    → TellingData → ExpectedData → Found → List ℕ
+audit_output false text groups version files telling expected found = text_output text groups telling expected found
+audit_output true text groups version files telling expected found =
+    document_line (identified version files (audit_document telling expected found))
 
 -- how an audit is told that is asked by these files, if its questions stand there
 abbrev pub telling_of : AskedData → (origins : List Data) → List NamesData → (regions : Bool)
@@ -108,32 +128,38 @@ pub record IsFoundFor (stack : List (List Insn)) (read : ReadData) (budget : ℕ
   pub expects : expected ≡ expected_of read held
 
 -- `audit`: the files at the paths are read, and their stack is audited by the questions that the files of the policies
--- ask; what is found is written, with remarks where they are asked for, in JSON with where each question stands, and
--- with what isn't as expected; the status tells of both
-pub record AuditsFiles (holds : List ℕ → Option (List ℕ)) (asked : AskedData) (paths : List (Bor (List ℕ)))
-    (names : List NamesData) (budget : ℕ) (regions why json : Bool) (status : ℕ) (old new : Option (List ℕ))
-    : Type 0 where
+-- ask; what is found is written, with remarks where they are asked for, in JSON with where each question stands and
+-- with the files that were read, in a summary by groups, and with what isn't as expected; the status tells of both
+pub record AuditsFiles (version : List ℕ) (holds : List ℕ → Option (List ℕ)) (asked : AskedData)
+    (paths : List (Bor (List ℕ))) (names : List NamesData) (budget : ℕ) (regions why : Bool) (text : TextForm)
+    (json : Bool) (status : ℕ) (old new : Option (List ℕ)) : Type 0 where
   pub read : ReadData
   pub asked_by : IsAskedBy holds asked read
   pub origins : List Data
   pub placed : HasOrigins json holds asked.policies read.questions origins
+  pub groups : List GroupData
+  pub grouped : AreGroupsIn holds asked.groups groups
   pub stack : List (List Insn)
   pub held : HoldStack holds paths stack
+  pub files : List Data
+  pub told : HasBothFiles json holds Policy Filter asked.policies paths files
   pub found : Found
   pub expected : ExpectedData
   pub is_found : IsFoundFor stack read budget found expected
   pub remarks : List (List ℕ)
   pub remarked : HasRemarks why names found remarks
-  pub written : Appends old new (audit_output json (telling_of asked origins names regions remarks) expected found)
+  pub written : Appends old new
+      (audit_output json text groups version files (telling_of asked origins names regions remarks) expected found)
   pub status_is : status ≡ audit_status expected found
 
 -- Why the files that an audit is asked by are refused: a policy is; or the control; or the questions that may be
--- allowed.
+-- allowed; or the groups.
 abbrev pub RefusesAsked : (List ℕ → Option (List ℕ)) → AskedData → Fault → Type 0
 RefusesAsked holds asked fault =
     RefusesAsking holds asked.policies fault ⊎ RefusesControl holds asked.control fault
     ⊎ ((questions : List QuestionData) × AreAsked holds asked.policies questions
     × RefusesAccepted holds asked.accept questions fault)
+    ⊎ RefusesGroups holds asked.groups fault
 
 -- why the audit of a stack is refused: there are no questions or too many, or the control has too many
 abbrev pub IsRefusedFor : ReadData → Fault → Type 0

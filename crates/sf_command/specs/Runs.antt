@@ -64,7 +64,7 @@ pub record Helps (version : Text) (words : List Text) (status : ℕ) (old new : 
 -- version's line was written, which they ask for.
 abbrev pub DoesAsAsked : Text → (Text → Option Text) → List Text → ℕ → Option Text → Option Text → Type 0
 DoesAsAsked version holds words status old new =
-    ((errors_at words ≡ []) × RunsAs holds (subcommand_at words) status old new)
+    ((errors_at words ≡ []) × RunsAs version holds (subcommand_at words) status old new)
     ⊎ Helps version words status old new
 
 -- why what the named subcommand asks for is refused

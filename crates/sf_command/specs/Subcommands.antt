@@ -1,5 +1,5 @@
 -- What each subcommand does, by the values of its arguments, and why it is refused.
-use Rattle.std.specs.Prelude.{◌≡◌, ◌⊎◌, ℕ, Bool, true, false, if◌then◌else◌, List, Option, Some, codes, option_map}
+use Rattle.std.specs.Prelude.{◌≡◌, ◌⊎◌, ℕ, Bool, true, false, if◌then◌else◌, List, Option, Some, None, codes, option_map, unwrap_or}
 use Rattle.std.specs.Str.{bytes_eq}
 use Rattle.std.specs.Borrow.{Bor}
 use Rattle.clap.specs.Words.{Row, Text, first_of, one_of}
@@ -17,11 +17,14 @@ use Rattle.sf_command.specs.Listings.{ListsFiles}
 use Rattle.sf_command.specs.Needs.{TellsNeeds}
 use Rattle.sf_command.specs.declared.listing.ListingForm.{ListingForm}
 use Rattle.sf_command.specs.declared.listing.ListingForm.TheVariants as form
-use Rattle.sf_evaluate.specs.Names.{AreNamesRead, RefusesNaming}
+use Rattle.sf_command.specs.declared.auditing.TextForm.{TextForm}
+use Rattle.sf_command.specs.declared.auditing.TextForm.TheVariants.{Report, Summary, SummaryOfAll}
 use Rattle.sf_evaluate.specs.Outputs.{AnswersFiles, ChecksFiles, RefusesCheck}
-use Rattle.sf_evaluate.specs.Asking.{AsksInput, LacksName, numbers_fit}
+use Rattle.sf_evaluate.specs.Asking.{AreNamed, AsksInput, LacksName, RefusesNamed, numbers_fit}
 use Rattle.sf_evaluate.specs.Profiles.{WritesProfile}
-use Rattle.sf_evaluate.specs.Wanted.{are_known, calls_asked}
+use Rattle.sf_evaluate.specs.Wanted.{are_known, calls_asked, is_switched_on}
+use Rattle.sf_evaluate.specs.Expecting.{wants_summary}
+use Rattle.sf_evaluate.specs.Groups.{installed_groups}
 
 -- the relation that a status is about: `Different` where the switch is given, and else `Looser`
 abbrev pub IsAskedRelation : Option Text → Relation → Type 0
@@ -59,19 +62,26 @@ pub record IsAskedForm (rows : List Row) (form : ListingForm) : Type 0 where
 abbrev pub IsNodes : List Row → ℕ → Type 0
 IsNodes rows nodes = IsOptionNumber (one_of (codes "nodes") rows) 16000000 1000000 nodes
 
--- the files of names that are named have these names
-pub record AreNamed (holds : Text → Option Text) (rows : List Row) (names : List NamesData) : Type 0 where
-  pub paths : List (Bor Text)
-  pub named : ArePaths (codes "names") rows paths
-  pub read : AreNamesRead holds paths names
+-- the form of the text of an audit, by its switches
+abbrev pub text_form : List Row → TextForm
+text_form rows =
+    if is_switched_on (codes "summary-all") rows then SummaryOfAll
+    else if is_switched_on (codes "summary") rows then Summary
+    else Report
+
+-- the file of the groups of a summary, if one is asked for: the installed one where none is named
+abbrev pub groups_path : List Row → Option Text
+groups_path rows =
+    if wants_summary rows then Some (unwrap_or (first_of (codes "groups") rows) installed_groups) else None
 
 -- these are the files by which an audit is asked
 pub record IsAskedFor (rows : List Row) (asked : AskedData) : Type 0 where
   pub policies : ArePaths (codes "policy") rows asked.policies
   pub control : asked.control ≡ first_of (codes "control") rows
   pub accept : asked.accept ≡ first_of (codes "accept") rows
+  pub groups : asked.groups ≡ groups_path rows
 
-module _ (holds : Text → Option Text) (rows : List Row) (status : ℕ) (old new : Option Text) where
+module _ (version : Text) (holds : Text → Option Text) (rows : List Row) (status : ℕ) (old new : Option Text) where
   -- the files that are named were audited by the files that ask
   pub record Audits : Type 0 where
     pub paths : List (Bor Text)
@@ -88,7 +98,7 @@ module _ (holds : Text → Option Text) (rows : List Row) (status : ℕ) (old ne
     pub called : AreNamed holds rows names
     pub asked : AskedData
     pub asked_for : IsAskedFor rows asked
-    pub audited : AuditsFiles holds asked paths names budget regions why json status old new
+    pub audited : AuditsFiles version holds asked paths names budget regions why (text_form rows) json status old new
 
   -- the files that are named were checked
   pub record Checks : Type 0 where
@@ -98,7 +108,7 @@ module _ (holds : Text → Option Text) (rows : List Row) (status : ℕ) (old ne
     pub listed : IsSwitch (one_of (codes "instructions") rows) with_instructions
     pub json : Bool
     pub in_json : IsSwitch (one_of (codes "json") rows) json
-    pub checked : ChecksFiles with_instructions json holds paths old new
+    pub checked : ChecksFiles with_instructions json version holds paths old new
     pub status_is : status ≡ 0
 
   -- the input that is asked for was evaluated by the files that are named
@@ -115,7 +125,7 @@ module _ (holds : Text → Option Text) (rows : List Row) (status : ℕ) (old ne
     pub called : AreNamed holds rows names
     pub input : Input
     pub asked : AsksInput rows names input
-    pub evaluated : AnswersFiles input (record { traced = traced; brief = brief; json = json }) holds
+    pub evaluated : AnswersFiles input (record { traced = traced; brief = brief; json = json }) version holds
         paths names old new
     pub status_is : status ≡ 0
 
@@ -134,7 +144,8 @@ module _ (holds : Text → Option Text) (rows : List Row) (status : ℕ) (old ne
     pub known : are_known names (calls_asked rows) ≡ true
     pub json : Bool
     pub in_json : IsSwitch (one_of (codes "json") rows) json
-    pub compared : ComparesFiles holds old_paths new_paths names asked with_rows json (wanted_by rows) status old new
+    pub compared : ComparesFiles holds old_paths new_paths version names asked with_rows json (wanted_by rows) status
+        old new
 
   -- the stack of the files that are named was listed
   pub record Lists : Type 0 where
@@ -145,7 +156,7 @@ module _ (holds : Text → Option Text) (rows : List Row) (status : ℕ) (old ne
     pub known : are_known names (calls_asked rows) ≡ true
     pub form : ListingForm
     pub asked_form : IsAskedForm rows form
-    pub listed : ListsFiles holds paths names (calls_asked rows) form old new
+    pub listed : ListsFiles version holds paths names (calls_asked rows) form old new
     pub status_is : status ≡ 0
 
   -- what is needed of the files that are named was told
@@ -154,7 +165,7 @@ module _ (holds : Text → Option Text) (rows : List Row) (status : ℕ) (old ne
     pub named : ArePaths (codes "filters") rows paths
     pub json : Bool
     pub in_json : IsSwitch (one_of (codes "json") rows) json
-    pub needed : TellsNeeds holds paths json status old new
+    pub needed : TellsNeeds version holds paths json status old new
 
   -- the filter of the profile that is named was written, or what is told of it
   pub record Profiles : Type 0 where
@@ -172,15 +183,16 @@ ByName audit check eval compare list needed profile named =
     ⊎ ((found.0 ≡ codes "profile") × profile found.1))
 
 -- what was done is what the named subcommand asks for
-abbrev pub RunsAs : (Text → Option Text) → Option (Text × List Row) → ℕ → Option Text → Option Text → Type 0
-RunsAs holds named status old new = ByName
-    (λ rows. Audits holds rows status old new)
-    (λ rows. Checks holds rows status old new)
-    (λ rows. Evaluates holds rows status old new)
-    (λ rows. Compares holds rows status old new)
-    (λ rows. Lists holds rows status old new)
-    (λ rows. Needs holds rows status old new)
-    (λ rows. Profiles holds rows status old new)
+abbrev pub RunsAs : (version : Text) → (Text → Option Text) → Option (Text × List Row) → ℕ → Option Text → Option Text
+    → Type 0
+RunsAs version holds named status old new = ByName
+    (λ rows. Audits version holds rows status old new)
+    (λ rows. Checks version holds rows status old new)
+    (λ rows. Evaluates version holds rows status old new)
+    (λ rows. Compares version holds rows status old new)
+    (λ rows. Lists version holds rows status old new)
+    (λ rows. Needs version holds rows status old new)
+    (λ rows. Profiles version holds rows status old new)
     named
 
 -- this holds of the paths that an argument names
@@ -193,7 +205,7 @@ OnNodes rows P = (nodes : ℕ) × IsNodes rows nodes × P nodes
 
 -- a file of names is refused, or else this is so
 abbrev pub OnNames : (Text → Option Text) → List Row → Fault → Type 0 → Type 0
-OnNames holds rows fault P = OnPaths (codes "names") rows (λ paths. RefusesNaming holds paths fault) ⊎ P
+OnNames holds rows fault P = RefusesNamed holds rows fault ⊎ P
 
 -- a call that is asked for by its name is one of no set
 abbrev pub RefusesCalls : (Text → Option Text) → List Row → Fault → Type 0

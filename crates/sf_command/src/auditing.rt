@@ -1,27 +1,33 @@
 //! The subcommand `audit`: reads the files that ask and the stack, audits it and writes the report.
 
-ghost use Rattle.std.specs.Prelude.{◌≡◌, ◌<◌, ◌≤◌, ◌⊎◌, ℕ, List, IfOk, IfErr, OnOk, length, map, string_bytes};
+ghost use Rattle.std.specs.Prelude.{◌≡◌, ◌<◌, ◌≤◌, ◌⊎◌, ℕ, List, IfOk, IfErr, OnOk, length, map, option_map, string_bytes};
 ghost use Rattle.std.specs.Io.KnownBytes.{Appends};
 ghost use Rattle.sf_audit.specs.Documents.{telling_data};
 ghost use Rattle.serde_json.specs.View.{view};
 ghost use Rattle.sf_crew.specs.Sweeps.{AreRightReplies};
+ghost use Rattle.sf_evaluate.specs.Identity.{HasFiles};
 ghost use Rattle.sf_evaluate.specs.Origins.{HasOrigins};
+ghost use Rattle.sf_evaluate.specs.declared.files.identity.FileRole.TheVariants.{Policy};
 ghost use Rattle.sf_stack.specs.declared.fault.Fault.TheVariants.{Count as CountFault, Memory as MemoryFault, Write as WriteFault};
-ghost use Rattle.sf_command.specs.Audits.{AreRemarks, AuditsFiles, HasRemarks, IsAskedBy, IsFoundFor, IsRefusedFor, IsRemark, RefusesAsked, RefusesAudit, audit_output, behind_text, is_expecting, read_data};
+ghost use Rattle.sf_command.specs.Audits.{AreRemarks, AuditsFiles, HasRemarks, IsAskedBy, IsFoundFor, IsRefusedFor, IsRemark, RefusesAsked, RefusesAudit, audit_output, behind_text, is_expecting, read_data, report_output, text_output};
 
 use crate::means::Means;
 use crate::status::status_of_audit;
 use sf_ask::{Question, Reply};
 use sf_audit::{
-    Expected, Outcome, Telling, audit_document, audit_stack, reply_to, text_of_expected,
-    write_report,
+    Expected, Outcome, Summary, Telling, audit_document, audit_stack, reply_to, text_of_expected,
+    write_report, write_summary,
 };
 use sf_book::Settled;
 use sf_check::Stack;
 use sf_crew::Gate;
-use sf_evaluate::{Files, Notes, accepted_in, all_questions_in, control_in, read_stack, why_text};
+use sf_evaluate::{
+    Files, Identity, Notes, Policies, accepted_in, all_questions_in, control_in, groups_in,
+    identified, join_documents, read_stack, why_text,
+};
 use sf_json::{Document, write_document};
 use sf_names::Names;
+use sf_policy::Group;
 use sf_stack::Fault;
 use sf_stack_warnings::warnings_of_stack;
 use std::alloc::{AllocError, Global};
@@ -29,6 +35,15 @@ use std::io::Write;
 use std::marker::Model;
 use std::sync::Wait;
 use std::thread::Threads;
+
+/// How an audit is written as a text.
+#[derive(Clone, Copy)]
+pub enum TextForm {
+    Report,
+    Summary,
+    /// A summary with the call of each example.
+    SummaryOfAll,
+}
 
 /// How an audit is done, and what its report lists.
 #[derive(Clone, Copy)]
@@ -40,6 +55,8 @@ pub struct AuditTerms {
     pub regions: bool,
     /// Whether the report says for each example why the stack answers so.
     pub why: bool,
+    /// How it is written where `json` is false.
+    pub text: TextForm,
     pub json: bool,
 }
 
@@ -50,6 +67,8 @@ pub struct Asked<'m, 'a> {
     pub control: Option<&'a str>,
     /// The file with the names of the questions that may be allowed.
     pub accept: Option<&'a str>,
+    /// The file of groups by which a summary puts questions in order; none where no summary is asked for.
+    pub groups: Option<&'a str>,
 }
 
 impl<'m, 'a> Model for Asked<'m, 'a> {
@@ -62,6 +81,7 @@ impl<'m, 'a> Model for Asked<'m, 'a> {
       policies = a.policies.now;
       control = option_map (λ t. t.now) a.control;
       accept = option_map (λ t. t.now) a.accept;
+      groups = option_map (λ t. t.now) a.groups;
     } };
 }
 
@@ -70,6 +90,12 @@ impl Asked<'_, '_> {
         ensures { result ≡ is_expecting self.now }
     {
         self.control.is_some() || self.accept.is_some()
+    }
+
+    fn groups_path(&self) -> Option<&str>
+        ensures { option_map (λ t. t.now) result ≡ self.now.groups }
+    {
+        self.groups
     }
 }
 
@@ -80,6 +106,8 @@ pub struct AuditTask<'t, 'p, 'm, 'a> {
     /// The paths of the filter files, in order of installation.
     pub paths: &'p [&'a str],
     pub names: &'t [Names],
+    /// The line of the program's version, which a JSON document shows.
+    pub version: &'t str,
     pub terms: AuditTerms,
 }
 
@@ -92,22 +120,30 @@ struct AskedContents {
     accepted: Vec<String>,
 }
 
-/// Reads the policy files, then that of the control, and then the file of the questions that may be allowed. The notes
-/// count the files. They keep the bytes of the last policy or control that was read, and why it is refused, if it is.
+/// Reads the policy files, then that of the control, and then the file of the questions that may be allowed. If
+/// `with_documents`, gives the origins of the questions too, and the documents of the policy files. The notes count the
+/// files. They keep the bytes of the last policy or control that was read, and why it is refused, if it is.
 fn read_questions<F: Files>(
     alloc: Global,
     asked: &Asked<'_, '_>,
-    with_origins: bool,
+    with_documents: bool,
     files: &mut F,
     notes: &mut Notes,
-) -> Result<(AskedContents, Vec<Document>), Fault>
+) -> Result<(AskedContents, Vec<Document>, Vec<Document>), Fault>
     ensures read { IfOk result (λ r. IsAskedBy (F.holds files.old) asked.now (read_data r.0)) }
-    ensures placed { IfOk result (λ r. HasOrigins with_origins (F.holds files.old)
+    ensures placed { IfOk result (λ r. HasOrigins with_documents (F.holds files.old)
         asked.now.policies r.0.questions.items (map view r.1.items)) }
+    ensures told { IfOk result (λ r. HasFiles with_documents (F.holds files.old) Policy
+        asked.now.policies (map view r.2.items)) }
     ensures refused { IfErr result (RefusesAsked (F.holds files.old) asked.now) }
     ensures same { (p : List ℕ) → F.holds files.new p ≡ F.holds files.old p }
 {
-    let (questions, origins) = all_questions_in(alloc, asked.policies, with_origins, files, notes)?;
+    let policies = all_questions_in(alloc, asked.policies, with_documents, files, notes)?;
+    let Policies {
+        questions,
+        origins,
+        files: documents,
+    } = policies;
     let control = control_in(alloc, asked.control, files, notes)?;
     let accepted = accepted_in(alloc, asked.accept, &questions, files, notes)?;
     let read = AskedContents {
@@ -115,7 +151,7 @@ fn read_questions<F: Files>(
         control,
         accepted,
     };
-    Ok((read, origins))
+    Ok((read, origins, documents))
 }
 
 /// The replies to the questions of a control, which may be none.
@@ -223,23 +259,19 @@ fn remarks_if_asked(
     remarks_of(alloc, names, outcome.settled().stack(), outcome.replies())
 }
 
-fn write_audit<O: Write>(
+/// Writes the report of an audit, and behind it what isn't as expected.
+fn write_whole_report<O: Write>(
     alloc: Global,
-    json: bool,
     telling: &Telling<'_>,
     expected: &Expected,
     outcome: &Outcome,
     out: &mut O,
 ) -> Result<(), Fault>
     ensures written { OnOk result (Appends (O.contents out.old) (O.contents out.new)
-        (audit_output json (telling_data telling.now) expected.now outcome.now)) }
+        (report_output (telling_data telling.now) expected.now outcome.now)) }
     ensures refused { IfErr result (λ e. (e ≡ WriteFault)
         ⊎ ((e ≡ MemoryFault) × (out.new ≡ out.old))) }
 {
-    if json {
-        let document = audit_document(alloc, outcome, expected, telling)?;
-        return write_document(alloc, &document, out);
-    }
     let behind = lines_behind(alloc, telling, expected, outcome)?;
     write_report(
         alloc,
@@ -251,10 +283,70 @@ fn write_audit<O: Write>(
     )
 }
 
+fn write_text<O: Write>(
+    alloc: Global,
+    form: TextForm,
+    groups: &[Group],
+    telling: &Telling<'_>,
+    expected: &Expected,
+    outcome: &Outcome,
+    out: &mut O,
+) -> Result<(), Fault>
+    ensures written { OnOk result (Appends (O.contents out.old) (O.contents out.new)
+        (text_output form groups.now (telling_data telling.now) expected.now outcome.now)) }
+    ensures refused { IfErr result (λ e. (e ≡ WriteFault)
+        ⊎ ((e ≡ MemoryFault) × (out.new ≡ out.old))) }
+{
+    let names = telling.names;
+    match form {
+        TextForm::Report => write_whole_report(alloc, telling, expected, outcome, out),
+        TextForm::Summary => {
+            let summary = Summary {
+                all: false,
+                names,
+                groups,
+            };
+            write_summary(alloc, outcome, expected, summary, out)
+        }
+        TextForm::SummaryOfAll => {
+            let summary = Summary {
+                all: true,
+                names,
+                groups,
+            };
+            write_summary(alloc, outcome, expected, summary, out)
+        }
+    }
+}
+
+fn write_audit<O: Write>(
+    alloc: Global,
+    terms: AuditTerms,
+    groups: &[Group],
+    identity: Identity<'_>,
+    telling: &Telling<'_>,
+    expected: &Expected,
+    outcome: &Outcome,
+    out: &mut O,
+) -> Result<(), Fault>
+    ensures written { OnOk result (Appends (O.contents out.old) (O.contents out.new)
+        (audit_output terms.json terms.text groups.now identity.entry.version.now
+        (map view identity.entry.files.items) (telling_data telling.now) expected.now outcome.now)) }
+    ensures refused { IfErr result (λ e. (e ≡ WriteFault)
+        ⊎ ((e ≡ MemoryFault) × (out.new ≡ out.old))) }
+{
+    if terms.json {
+        let document = audit_document(alloc, outcome, expected, telling)?;
+        let document = identified(alloc, document, identity)?;
+        return write_document(alloc, &document, out);
+    }
+    write_text(alloc, terms.text, groups, telling, expected, outcome, out)
+}
+
 /// Reads the files that ask and then the stack, audits it, writes the report, and gives the exit status. Where it is
-/// said what is expected, the lines that say what isn't as expected stand behind the report. The notes count the files,
-/// and get the warnings. The gate sees each work before it is committed, and each sheet of verdicts before it is
-/// entered. At the end `files` takes over the outcome.
+/// said what is expected, the lines that say what isn't as expected stand behind the report. A summary, where one is
+/// asked for, takes the place of the report. The notes count the files, and get the warnings. The gate sees each work
+/// before it is committed, and each sheet of verdicts before it is entered. At the end `files` takes over the outcome.
 pub fn audit<R: Threads + Wait + Sync, F: Files, G: Gate, O: Write>(
     means: &Means<'_, '_, R, G>,
     task: &AuditTask<'_, '_, '_, '_>,
@@ -263,9 +355,9 @@ pub fn audit<R: Threads + Wait + Sync, F: Files, G: Gate, O: Write>(
     out: &mut O,
 ) -> Result<u8, Fault>
     requires workers { (0 < task.now.terms.workers) × (task.now.terms.workers ≤ 64) }
-    ensures written { IfOk result (λ s. AuditsFiles (F.holds files.old) task.now.asked.now
-        task.now.paths.now task.now.names.now task.now.terms.budget task.now.terms.regions
-        task.now.terms.why task.now.terms.json s
+    ensures written { IfOk result (λ s. AuditsFiles task.now.version.now (F.holds files.old)
+        task.now.asked.now task.now.paths.now task.now.names.now task.now.terms.budget
+        task.now.terms.regions task.now.terms.why task.now.terms.text task.now.terms.json s
         (O.contents out.old) (O.contents out.new)) }
     ensures status { IfOk result (λ s. s ≤ 2) }
     ensures refused { IfErr result (RefusesAudit (F.holds files.old) task.now.asked.now
@@ -273,8 +365,10 @@ pub fn audit<R: Threads + Wait + Sync, F: Files, G: Gate, O: Write>(
     ensures quiet { IfErr result (λ e. (e ≡ WriteFault) ⊎ (out.new ≡ out.old)) }
 {
     let (alloc, terms, names) = (means.alloc, task.terms, task.names);
-    let (read, origins) = read_questions(alloc, task.asked, terms.json, files, notes)?;
-    let stack = read_stack(alloc, task.paths, files, notes)?;
+    let (read, origins, policies) = read_questions(alloc, task.asked, terms.json, files, notes)?;
+    let groups = groups_in(alloc, task.asked.groups_path(), files, notes)?;
+    let (stack, filters) = read_stack(alloc, task.paths, terms.json, files, notes)?;
+    let documents = join_documents(policies, filters)?;
     let (outcome, expected) = audit_filters(means, stack, read, terms)?;
     notes.warnings = warnings_of_stack(alloc, outcome.settled());
     notes.warn_of_questions(outcome.questions(), names);
@@ -286,7 +380,13 @@ pub fn audit<R: Threads + Wait + Sync, F: Files, G: Gate, O: Write>(
         origins: &origins,
         remarks: &remarks,
     };
-    write_audit(alloc, terms.json, &telling, &expected, &outcome, out)?;
+    let identity = Identity {
+        version: task.version,
+        files: documents,
+    };
+    write_audit(
+        alloc, terms, &groups, identity, &telling, &expected, &outcome, out,
+    )?;
     let status = status_of_audit(&expected, &outcome);
     files.take_over(outcome);
     Ok(status)

@@ -2,14 +2,15 @@
 
 ghost use Rattle.std.specs.Prelude.{◌≡◌, ◌≤◌, ◌⊎◌, map, option_map, IfOk, IfErr, OnOk};
 ghost use Rattle.std.specs.Io.KnownBytes.{Appends};
+ghost use Rattle.serde_json.specs.View.{view};
 ghost use Rattle.sf_stack.specs.declared.fault.Fault.TheVariants.{Memory as MemoryFault, TooLarge as TooLargeFault, TooManyRows, Write as WriteFault};
 ghost use Rattle.sf_command.specs.Comparisons.{ComparesFiles, RefusesComparison, WritesCompared, changed_output, comparison_output};
 
 use crate::status::status_of_finding;
 use crate::warnings::warnings_of_comparison;
 use sf_compare::{Comparison, comparison_document, write_comparison};
-use sf_evaluate::{Files, Notes, read_stacks};
-use sf_json::write_document;
+use sf_evaluate::{Files, Identity, Notes, identified, read_stacks};
+use sf_json::{Document, write_document};
 use sf_list::{Changes, changes_document, list_changes, write_changes};
 use sf_names::Names;
 use sf_relations::Relation;
@@ -39,6 +40,8 @@ pub struct ComparisonTask<'t, 'm, 'a> {
     pub sets: &'t [Names],
     /// The calls whose rows are written, as for a listing. They count only where `terms.rows` is set.
     pub calls: &'t Option<Vec<&'a str>>,
+    /// The line of the program's version, which a JSON document shows.
+    pub version: &'t str,
     pub terms: ComparisonTerms,
 }
 
@@ -47,10 +50,12 @@ fn write_found<O: Write>(
     comparison: &Comparison,
     sets: &[Names],
     json: bool,
+    identity: Identity<'_>,
     out: &mut O,
 ) -> Result<(), Fault>
     ensures written { OnOk result (Appends (O.contents out.old) (O.contents out.new)
-        (comparison_output json sets.now comparison.now)) }
+        (comparison_output json identity.entry.version.now (map view identity.entry.files.items)
+        sets.now comparison.now)) }
     ensures refused { IfErr result (λ e. (e ≡ WriteFault)
         ⊎ ((e ≡ MemoryFault) × (out.new ≡ out.old))) }
 {
@@ -58,6 +63,7 @@ fn write_found<O: Write>(
         return write_comparison(alloc, comparison, out);
     }
     let document = comparison_document(alloc, comparison, sets)?;
+    let document = identified(alloc, document, identity)?;
     write_document(alloc, &document, out)
 }
 
@@ -68,10 +74,12 @@ fn write_rows<O: Write>(
     changes: &Changes<'_>,
     sets: &[Names],
     json: bool,
+    identity: Identity<'_>,
     out: &mut O,
 ) -> Result<(), Fault>
     ensures written { OnOk result (Appends (O.contents out.old) (O.contents out.new)
-        (changed_output json sets.now comparison.now changes.now)) }
+        (changed_output json identity.entry.version.now (map view identity.entry.files.items)
+        sets.now comparison.now changes.now)) }
     ensures refused { IfErr result (λ e. (e ≡ WriteFault)
         ⊎ ((e ≡ MemoryFault) × (out.new ≡ out.old))) }
 {
@@ -79,6 +87,7 @@ fn write_rows<O: Write>(
         return write_changes(alloc, comparison, changes, sets, out);
     }
     let document = changes_document(alloc, comparison, changes, sets)?;
+    let document = identified(alloc, document, identity)?;
     write_document(alloc, &document, out)
 }
 
@@ -86,10 +95,11 @@ fn write_compared<O: Write>(
     alloc: Global,
     comparison: &Comparison,
     task: &ComparisonTask<'_, '_, '_>,
+    documents: Vec<Document>,
     out: &mut O,
 ) -> Result<(), Fault>
     ensures written { OnOk result (WritesCompared task.now.terms.rows task.now.terms.json
-        task.now.sets.now (record {
+        task.now.version.now (map view documents.items) task.now.sets.now (record {
           only = task.now.terms.only;
           calls = option_map (λ v. map (λ t. t.now) v.items) task.now.calls.now;
         })
@@ -99,12 +109,16 @@ fn write_compared<O: Write>(
         × (out.new ≡ out.old))) }
 {
     let (sets, calls, json) = (task.sets, task.calls, task.terms.json);
+    let identity = Identity {
+        version: task.version,
+        files: documents,
+    };
     if !task.terms.rows {
-        return write_found(alloc, comparison, sets, json, out);
+        return write_found(alloc, comparison, sets, json, identity, out);
     }
     let (nodes, only) = (task.terms.nodes, task.terms.only);
     let changes = list_changes(alloc, nodes, comparison, only, sets, calls)?;
-    write_rows(alloc, comparison, &changes, sets, json, out)
+    write_rows(alloc, comparison, &changes, sets, json, identity, out)
 }
 
 /// Reads two stacks, compares them, writes what is found, and gives the exit status. The notes count the files, and get
@@ -117,8 +131,8 @@ pub fn compare<F: Files, O: Write>(
     out: &mut O,
 ) -> Result<u8, Fault>
     ensures written { IfOk result (λ s. ComparesFiles (F.holds files.old) task.now.old.now
-        task.now.new.now task.now.sets.now task.now.terms.asked task.now.terms.rows
-        task.now.terms.json (record {
+        task.now.new.now task.now.version.now task.now.sets.now task.now.terms.asked
+        task.now.terms.rows task.now.terms.json (record {
           only = task.now.terms.only;
           calls = option_map (λ v. map (λ t. t.now) v.items) task.now.calls.now;
         }) s
@@ -128,9 +142,10 @@ pub fn compare<F: Files, O: Write>(
         task.now.new.now task.now.terms.nodes) }
     ensures quiet { IfErr result (λ e. (e ≡ WriteFault) ⊎ (out.new ≡ out.old)) }
 {
-    let (old, new) = read_stacks(alloc, task.old, task.new, files, notes)?;
+    let json = task.terms.json;
+    let (old, new, documents) = read_stacks(alloc, task.old, task.new, json, files, notes)?;
     let comparison = sf_compare::compare(alloc, task.terms.nodes, old, new)?;
     notes.warnings = warnings_of_comparison(alloc, &comparison);
-    write_compared(alloc, &comparison, task, out)?;
+    write_compared(alloc, &comparison, task, documents, out)?;
     Ok(status_of_finding(comparison.finding(task.terms.asked)))
 }

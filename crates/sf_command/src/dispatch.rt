@@ -42,13 +42,14 @@ fn words_fit_for(name: &str, found: &ArgMatches<'_>) -> bool
 /// Runs the subcommand that the command line names, and gives its exit status.
 fn run<R: Threads + Wait + Sync, F: Files, M: Meter, O: Write>(
     means: &Means<'_, '_, R, M>,
+    version: &str,
     matches: &ArgMatches<'_>,
     files: &mut F,
     notes: &mut Notes,
     out: &mut O,
 ) -> Result<u8, sf_evaluate::Fault>
     ensures status { IfOk result (λ s. (s ≤ 2) ⊎ (s ≡ 4)) }
-    ensures done { IfOk result (λ s. s ≤ 2 → RunsAs (F.holds files.old)
+    ensures done { IfOk result (λ s. s ≤ 2 → RunsAs version.now (F.holds files.old)
         (subcommand_rows_of matches.now) s (O.contents out.old) (O.contents out.new)) }
     ensures usage { IfOk result (λ s. s ≡ 4 → (¬ IsKnown (subcommand_rows_of matches.now)
         ⊎ HasWrongWord (subcommand_rows_of matches.now))
@@ -65,7 +66,7 @@ fn run<R: Threads + Wait + Sync, F: Files, M: Meter, O: Write>(
     }
     match name {
         "profile" => profile(means.alloc, found, files, notes, out),
-        _ => Ok(run_on_stack(means, name, found, files, notes, out)?),
+        _ => Ok(run_on_stack(means, version, name, found, files, notes, out)?),
     }
 }
 
@@ -99,7 +100,7 @@ fn run_words<R: Threads + Wait + Sync, F: Files, M: Meter, O: Write, E: Write>(
     let meant = meant_words(alloc, words)?;
     match command_form(alloc)?.try_get_matches_from(&meant) {
         Ok(matches) => {
-            let ran = run(means, &matches, files, notes, out);
+            let ran = run(means, version, &matches, files, notes, out);
             notes.explain(alloc, &matches, &ran, files.explains(), files.reason());
             if ran.is_ok() {
                 warn(&matches, &notes.warnings, err);

@@ -2,15 +2,16 @@
 
 ghost use Rattle.std.specs.Prelude.{◌≡◌, ◌⊎◌, IfErr, OnOk, map, option_map};
 ghost use Rattle.std.specs.Io.KnownBytes.{Appends};
+ghost use Rattle.serde_json.specs.View.{view};
 ghost use Rattle.sf_stack.specs.declared.fault.Fault.TheVariants.{Memory as MemoryFault, Write as WriteFault};
 ghost use Rattle.sf_list.specs.Listings.{IsListing, Listed};
 ghost use Rattle.sf_command.specs.Diagrams.{FailsByRows, RefusesList};
-ghost use Rattle.sf_command.specs.Listings.{ListsFiles, is_digest, listing_output};
+ghost use Rattle.sf_command.specs.Listings.{ListsFiles, is_digest, is_json, listing_output};
 
 use crate::warnings::warnings_of_listing;
 use sf_check::Stack;
-use sf_evaluate::{Files, Notes, print, read_stack};
-use sf_json::write_document;
+use sf_evaluate::{Files, Identity, Notes, identified, print, read_stack};
+use sf_json::{Document, write_document};
 use sf_list::{Listing, digest_of, listing_document, write_listing};
 use sf_names::Names;
 use sf_stack::Fault;
@@ -32,6 +33,12 @@ impl ListingForm {
     {
         matches!(self, ListingForm::Digest)
     }
+
+    fn is_json(self) -> bool
+        ensures { result ≡ is_json self }
+    {
+        matches!(self, ListingForm::Json)
+    }
 }
 
 /// What a listing is asked for.
@@ -44,6 +51,8 @@ pub struct ListingTask<'t, 'm, 'a> {
     /// inputs that belong to no call with a name then come after these. `None`: each row is written by itself.
     pub calls: &'t Option<Vec<&'a str>>,
     pub form: ListingForm,
+    /// The line of the program's version, which a JSON document shows.
+    pub version: &'t str,
     /// The most nodes that the decision diagrams may have, 1 to 16,000,000.
     pub nodes: u32,
 }
@@ -53,10 +62,12 @@ fn write_listed<O: Write>(
     listing: &Listing<'_>,
     sets: &[Names],
     form: ListingForm,
+    identity: Identity<'_>,
     out: &mut O,
 ) -> Result<(), Fault>
     ensures written { OnOk result (Appends (O.contents out.old) (O.contents out.new)
-        (listing_output form sets.now listing.now)) }
+        (listing_output form identity.entry.version.now (map view identity.entry.files.items)
+        sets.now listing.now)) }
     ensures refused { IfErr result (λ e. (e ≡ WriteFault)
         ⊎ ((e ≡ MemoryFault) × (out.new ≡ out.old))) }
 {
@@ -64,6 +75,7 @@ fn write_listed<O: Write>(
         ListingForm::Text => write_listing(alloc, listing, sets, out),
         ListingForm::Json => {
             let document = listing_document(alloc, listing, sets)?;
+            let document = identified(alloc, document, identity)?;
             write_document(alloc, &document, out)
         }
         ListingForm::Digest => {
@@ -73,25 +85,32 @@ fn write_listed<O: Write>(
     }
 }
 
-/// Lists a stack, with these calls in place of those of the task. The notes get the warnings.
+/// Lists a stack, with these calls in place of those of the task. A JSON document shows these documents of files. The
+/// notes get the warnings.
 fn list_stack<O: Write>(
     alloc: Global,
     stack: Stack,
     task: &ListingTask<'_, '_, '_>,
     calls: &Option<Vec<&str>>,
+    documents: Vec<Document>,
     notes: &mut Notes,
     out: &mut O,
 ) -> Result<(), Fault>
     ensures written { OnOk result ((found : Listed) × (found.programs ≡ stack)
         × IsListing task.now.sets.now (option_map (λ v. map (λ t. t.now) v.items) calls.now) found
         × Appends (O.contents out.old) (O.contents out.new)
-        (listing_output task.now.form task.now.sets.now found)) }
+        (listing_output task.now.form task.now.version.now (map view documents.items)
+        task.now.sets.now found)) }
     ensures refused { IfErr result (FailsByRows task.now.nodes) }
     ensures quiet { IfErr result (λ e. (e ≡ WriteFault) ⊎ (out.new ≡ out.old)) }
 {
     let listing = sf_list::list(alloc, task.nodes, stack, task.sets, calls)?;
     notes.warnings = warnings_of_listing(alloc, &listing, calls);
-    write_listed(alloc, &listing, task.sets, task.form, out)
+    let identity = Identity {
+        version: task.version,
+        files: documents,
+    };
+    write_listed(alloc, &listing, task.sets, task.form, identity, out)
 }
 
 /// Reads a stack, and writes the rows of its answers, or a digest of them, as the task asks. A digest is that of all
@@ -103,16 +122,18 @@ pub fn list<F: Files, O: Write>(
     notes: &mut Notes,
     out: &mut O,
 ) -> Result<(), Fault>
-    ensures written { OnOk result (ListsFiles (F.holds files.old) task.now.paths.now
-        task.now.sets.now (option_map (λ v. map (λ t. t.now) v.items) task.now.calls.now)
+    ensures written { OnOk result (ListsFiles task.now.version.now (F.holds files.old)
+        task.now.paths.now task.now.sets.now
+        (option_map (λ v. map (λ t. t.now) v.items) task.now.calls.now)
         task.now.form (O.contents out.old) (O.contents out.new)) }
     ensures refused { IfErr result (RefusesList (F.holds files.old) task.now.paths.now
         task.now.nodes) }
     ensures quiet { IfErr result (λ e. (e ≡ WriteFault) ⊎ (out.new ≡ out.old)) }
 {
-    let stack = read_stack(alloc, task.paths, files, notes)?;
+    let json = task.form.is_json();
+    let (stack, documents) = read_stack(alloc, task.paths, json, files, notes)?;
     if task.form.is_digest() {
-        return list_stack(alloc, stack, task, &None, notes, out);
+        return list_stack(alloc, stack, task, &None, documents, notes, out);
     }
-    list_stack(alloc, stack, task, task.calls, notes, out)
+    list_stack(alloc, stack, task, task.calls, documents, notes, out)
 }

@@ -1,30 +1,29 @@
 //! The subcommands that take filters: each reads its words from the matches, and does what they ask for.
-ghost use Rattle.std.specs.Prelude.{◌≡◌, ◌≢◌, ◌≤◌, ◌⊎◌, ℕ, List, Some, codes, IfOk, IfErr};
+ghost use Rattle.std.specs.Prelude.{◌≡◌, ◌≢◌, ◌≤◌, ◌⊎◌, ℕ, List, Some, codes, option_map, IfOk, IfErr};
 ghost use Rattle.clap.specs.Words.{first_of, found_of, one_of, rows_of};
 ghost use Rattle.sf_stack.specs.declared.fault.Fault.TheVariants.{Write as WriteFault};
 ghost use Rattle.sf_command.specs.Audits.{AskedData, RefusesAudit};
 ghost use Rattle.sf_command.specs.Comparisons.{RefusesComparison};
 ghost use Rattle.sf_command.specs.Diagrams.{RefusesList, RefusesStack};
-ghost use Rattle.sf_evaluate.specs.Names.{RefusesNaming};
 ghost use Rattle.sf_evaluate.specs.Outputs.{RefusesCheck};
-ghost use Rattle.sf_command.specs.Subcommands.{AreNamed, Audits, Checks, Compares, Evaluates, RunsAs, IsAskedFor, IsAskedForm, IsAskedRelation, Lists, Needs, OnCalls, OnNames, OnNodes, OnPaths, RefusesEval, RefusesOnStack, relation_of_rows, relation_named};
+ghost use Rattle.sf_command.specs.Subcommands.{Audits, Checks, Compares, Evaluates, RunsAs, IsAskedFor, IsAskedForm, IsAskedRelation, Lists, Needs, OnCalls, OnNames, OnNodes, OnPaths, RefusesEval, RefusesOnStack, groups_path, relation_of_rows, relation_named, text_form};
 ghost use Rattle.sf_command_line.specs.CommandLine.{IsKnown};
 
-use crate::auditing::{Asked, AuditTask, AuditTerms, audit};
+use crate::auditing::{Asked, AuditTask, AuditTerms, TextForm, audit};
 use crate::comparing::{ComparisonTask, ComparisonTerms, compare};
 use crate::listing::{ListingForm, ListingTask, list};
 use crate::means::Means;
-use crate::needing::needed;
+use crate::needing::{NeededTask, needed};
 use crate::watching::{Meter, Watched};
 use clap::ArgMatches;
 use sf_command_line::{
-    budget_of, given_text, nodes_of, wants_brief_trace, wants_digest, wants_instructions,
+    budget_of, given_text, nodes_of, text_of, wants_brief_trace, wants_digest, wants_instructions,
     wants_json, wants_progress, wants_regions, wants_rows, wants_same, wants_trace, wants_why,
     workers_of,
 };
 use sf_evaluate::{
-    CheckManner, Evaluation, Files, Manner, Notes, asked_input, check, evaluate, known_calls,
-    numbers_fit, read_all_names,
+    CheckManner, Evaluation, Files, INSTALLED_GROUPS, Manner, Notes, asked_input, check, evaluate,
+    known_calls, numbers_fit, read_needed_names, wants_summary,
 };
 use sf_names::Names;
 use sf_relations::Relation;
@@ -33,23 +32,6 @@ use std::alloc::Global;
 use std::io::Write;
 use std::sync::Wait;
 use std::thread::Threads;
-
-/// The sets of calls in the files that `--names` gives, which the notes count.
-fn names_of<F: Files>(
-    alloc: Global,
-    found: &ArgMatches<'_>,
-    files: &mut F,
-    notes: &mut Notes,
-) -> Result<Vec<Names>, Fault>
-    ensures called { IfOk result (λ v. AreNamed (F.holds files.old)
-        (rows_of (found_of found.now)) v.items) }
-    ensures refused { IfErr result (λ e. OnPaths (codes "names") (rows_of (found_of found.now))
-        (λ paths. RefusesNaming (F.holds files.old) paths e)) }
-    ensures same { (p : List ℕ) → F.holds files.new p ≡ F.holds files.old p }
-{
-    let paths = found.get_strs("names").unwrap_or(&[]);
-    read_all_names(alloc, paths, files, notes)
-}
 
 fn watched<'a, M: Meter>(found: &ArgMatches<'_>, meter: &'a M) -> Watched<'a, M> {
     Watched::of(meter, wants_progress(found), budget_of(found))
@@ -63,16 +45,43 @@ fn with_gate<'r, 'g, R, M, G>(means: &Means<'r, '_, R, M>, gate: &'g G) -> Means
     }
 }
 
+fn text_form(found: &ArgMatches<'_>) -> TextForm
+    ensures { result ≡ text_form (rows_of (found_of found.now)) }
+{
+    if text_of(found, "summary-all") == "true" {
+        TextForm::SummaryOfAll
+    } else if text_of(found, "summary") == "true" {
+        TextForm::Summary
+    } else {
+        TextForm::Report
+    }
+}
+
+/// The path of the file of the groups of a summary, if one is asked for: the installed one where none is given.
+fn groups_path<'a>(found: &ArgMatches<'a>) -> Option<&'a str>
+    ensures { option_map (λ t. t.now) result ≡ groups_path (rows_of (found_of found.now)) }
+{
+    if !wants_summary(found) {
+        return None;
+    }
+    match given_text(found, "groups") {
+        Some(path) => Some(path),
+        None => Some(INSTALLED_GROUPS),
+    }
+}
+
 /// Here and below the caller has seen by `words_fit_for` that the words fit, and the notes have counted no file before.
+/// JSON documents show `version`, the line of the program's version.
 fn run_audit<R: Threads + Wait + Sync, F: Files, M: Meter, O: Write>(
     means: &Means<'_, '_, R, M>,
+    version: &str,
     found: &ArgMatches<'_>,
     files: &mut F,
     notes: &mut Notes,
     out: &mut O,
 ) -> Result<u8, Fault>
-    ensures done { IfOk result (λ s. Audits (F.holds files.old) (rows_of (found_of found.now)) s
-        (O.contents out.old) (O.contents out.new)) }
+    ensures done { IfOk result (λ s. Audits version.now (F.holds files.old)
+        (rows_of (found_of found.now)) s (O.contents out.old) (O.contents out.new)) }
     ensures status { IfOk result (λ s. s ≤ 2) }
     ensures quiet { IfErr result (λ e. (e ≡ WriteFault) ⊎ (out.new ≡ out.old)) }
     ensures refused { IfErr result (λ e. OnNames (F.holds files.old)
@@ -81,24 +90,27 @@ fn run_audit<R: Threads + Wait + Sync, F: Files, M: Meter, O: Write>(
         (λ paths. (asked : AskedData) × IsAskedFor (rows_of (found_of found.now)) asked
         × RefusesAudit (F.holds files.old) asked paths e))) }
 {
-    let names = names_of(means.alloc, found, files, notes)?;
+    let names = read_needed_names(means.alloc, found, files, notes)?;
     let paths = found.get_strs("filters").unwrap_or(&[]);
     let terms = AuditTerms {
         budget: budget_of(found),
         workers: workers_of(found),
         regions: wants_regions(found),
         why: wants_why(found),
+        text: text_form(found),
         json: wants_json(found),
     };
     let asked = Asked {
         policies: found.get_strs("policy").unwrap_or(&[]),
         control: given_text(found, "control"),
         accept: given_text(found, "accept"),
+        groups: groups_path(found),
     };
     let task = AuditTask {
         asked: &asked,
         paths,
         names: &names,
+        version,
         terms,
     };
     let gate = watched(found, means.gate);
@@ -107,13 +119,14 @@ fn run_audit<R: Threads + Wait + Sync, F: Files, M: Meter, O: Write>(
 
 fn run_check<F: Files, O: Write>(
     alloc: Global,
+    version: &str,
     found: &ArgMatches<'_>,
     files: &mut F,
     notes: &mut Notes,
     out: &mut O,
 ) -> Result<u8, Fault>
-    ensures done { IfOk result (λ s. Checks (F.holds files.old) (rows_of (found_of found.now)) s
-        (O.contents out.old) (O.contents out.new)) }
+    ensures done { IfOk result (λ s. Checks version.now (F.holds files.old)
+        (rows_of (found_of found.now)) s (O.contents out.old) (O.contents out.new)) }
     ensures quiet { IfErr result (λ e. (e ≡ WriteFault) ⊎ (out.new ≡ out.old)) }
     ensures refused { IfErr result (λ e. OnPaths (codes "filters") (rows_of (found_of found.now))
         (λ paths. RefusesCheck (F.holds files.old) paths e)) }
@@ -123,18 +136,19 @@ fn run_check<F: Files, O: Write>(
         listed: wants_instructions(found),
         json: wants_json(found),
     };
-    check(alloc, paths, how, files, notes, out)?;
+    check(alloc, version, paths, how, files, notes, out)?;
     Ok(0)
 }
 
 fn run_eval<F: Files, O: Write>(
     alloc: Global,
+    version: &str,
     found: &ArgMatches<'_>,
     files: &mut F,
     notes: &mut Notes,
     out: &mut O,
 ) -> Result<u8, Fault>
-    ensures done { IfOk result (λ s. Evaluates (F.holds files.old)
+    ensures done { IfOk result (λ s. Evaluates version.now (F.holds files.old)
         (rows_of (found_of found.now)) s (O.contents out.old) (O.contents out.new)) }
     ensures quiet { IfErr result (λ e. (e ≡ WriteFault) ⊎ (out.new ≡ out.old)) }
     ensures refused { IfErr result (λ e. OnNames (F.holds files.old)
@@ -144,7 +158,7 @@ fn run_eval<F: Files, O: Write>(
     if !numbers_fit(found) {
         return Err(Fault::Input);
     }
-    let names = names_of(alloc, found, files, notes)?;
+    let names = read_needed_names(alloc, found, files, notes)?;
     let input = asked_input(found, &names, notes)?;
     let paths = found.get_strs("filters").unwrap_or(&[]);
     let how = Manner {
@@ -155,6 +169,7 @@ fn run_eval<F: Files, O: Write>(
     let asked = Evaluation {
         input: &input,
         how,
+        version,
         names: &names,
     };
     evaluate(alloc, &asked, paths, files, notes, out)?;
@@ -196,13 +211,14 @@ fn relation_of_rows(found: &ArgMatches<'_>) -> Option<Relation>
 
 fn run_compare<F: Files, O: Write>(
     alloc: Global,
+    version: &str,
     found: &ArgMatches<'_>,
     files: &mut F,
     notes: &mut Notes,
     out: &mut O,
 ) -> Result<u8, Fault>
-    ensures done { IfOk result (λ s. Compares (F.holds files.old) (rows_of (found_of found.now)) s
-        (O.contents out.old) (O.contents out.new)) }
+    ensures done { IfOk result (λ s. Compares version.now (F.holds files.old)
+        (rows_of (found_of found.now)) s (O.contents out.old) (O.contents out.new)) }
     ensures status { IfOk result (λ s. s ≤ 1) }
     ensures quiet { IfErr result (λ e. (e ≡ WriteFault) ⊎ (out.new ≡ out.old)) }
     ensures refused { IfErr result (λ e. OnCalls (F.holds files.old)
@@ -212,7 +228,7 @@ fn run_compare<F: Files, O: Write>(
         (λ new. OnNodes (rows_of (found_of found.now))
         (λ nodes. RefusesComparison (F.holds files.old) old new nodes e))))) }
 {
-    let names = names_of(alloc, found, files, notes)?;
+    let names = read_needed_names(alloc, found, files, notes)?;
     let calls = known_calls(alloc, found, &names, notes)?;
     let terms = ComparisonTerms {
         nodes: nodes_of(found),
@@ -226,6 +242,7 @@ fn run_compare<F: Files, O: Write>(
         new: found.get_strs("new").unwrap_or(&[]),
         sets: &names,
         calls: &calls,
+        version,
         terms,
     };
     compare(alloc, &task, files, notes, out)
@@ -247,13 +264,14 @@ fn form_of(found: &ArgMatches<'_>) -> ListingForm
 
 fn run_list<F: Files, O: Write>(
     alloc: Global,
+    version: &str,
     found: &ArgMatches<'_>,
     files: &mut F,
     notes: &mut Notes,
     out: &mut O,
 ) -> Result<u8, Fault>
-    ensures done { IfOk result (λ s. Lists (F.holds files.old) (rows_of (found_of found.now)) s
-        (O.contents out.old) (O.contents out.new)) }
+    ensures done { IfOk result (λ s. Lists version.now (F.holds files.old)
+        (rows_of (found_of found.now)) s (O.contents out.old) (O.contents out.new)) }
     ensures status { IfOk result (λ s. s ≡ 0) }
     ensures quiet { IfErr result (λ e. (e ≡ WriteFault) ⊎ (out.new ≡ out.old)) }
     ensures refused { IfErr result (λ e. OnCalls (F.holds files.old)
@@ -262,13 +280,14 @@ fn run_list<F: Files, O: Write>(
         (λ paths. OnNodes (rows_of (found_of found.now))
         (λ nodes. RefusesList (F.holds files.old) paths nodes e)))) }
 {
-    let names = names_of(alloc, found, files, notes)?;
+    let names = read_needed_names(alloc, found, files, notes)?;
     let calls = known_calls(alloc, found, &names, notes)?;
     let task = ListingTask {
         paths: found.get_strs("filters").unwrap_or(&[]),
         sets: &names,
         calls: &calls,
         form: form_of(found),
+        version,
         nodes: nodes_of(found),
     };
     list(alloc, &task, files, notes, out)?;
@@ -277,13 +296,14 @@ fn run_list<F: Files, O: Write>(
 
 fn run_needed<F: Files, O: Write>(
     alloc: Global,
+    version: &str,
     found: &ArgMatches<'_>,
     files: &mut F,
     notes: &mut Notes,
     out: &mut O,
 ) -> Result<u8, Fault>
-    ensures done { IfOk result (λ s. Needs (F.holds files.old) (rows_of (found_of found.now)) s
-        (O.contents out.old) (O.contents out.new)) }
+    ensures done { IfOk result (λ s. Needs version.now (F.holds files.old)
+        (rows_of (found_of found.now)) s (O.contents out.old) (O.contents out.new)) }
     ensures status { IfOk result (λ s. s ≤ 1) }
     ensures quiet { IfErr result (λ e. (e ≡ WriteFault) ⊎ (out.new ≡ out.old)) }
     ensures refused { IfErr result (λ e. OnPaths (codes "filters") (rows_of (found_of found.now))
@@ -292,12 +312,19 @@ fn run_needed<F: Files, O: Write>(
 {
     let paths = found.get_strs("filters").unwrap_or(&[]);
     let json = wants_json(found);
-    needed(alloc, nodes_of(found), paths, json, files, notes, out)
+    let task = NeededTask {
+        paths,
+        json,
+        version,
+        nodes: nodes_of(found),
+    };
+    needed(alloc, &task, files, notes, out)
 }
 
 /// Runs the subcommand with this name, one of the six that take filters, and gives its exit status.
 pub fn run_on_stack<R: Threads + Wait + Sync, F: Files, M: Meter, O: Write>(
     means: &Means<'_, '_, R, M>,
+    version: &str,
     name: &str,
     found: &ArgMatches<'_>,
     files: &mut F,
@@ -306,7 +333,7 @@ pub fn run_on_stack<R: Threads + Wait + Sync, F: Files, M: Meter, O: Write>(
 ) -> Result<u8, Fault>
     requires { name.now ≢ codes "profile" }
     ensures status { IfOk result (λ s. (s ≤ 2) ⊎ (s ≡ 4)) }
-    ensures done { IfOk result (λ s. s ≤ 2 → RunsAs (F.holds files.old)
+    ensures done { IfOk result (λ s. s ≤ 2 → RunsAs version.now (F.holds files.old)
         (Some (name.now, rows_of (found_of found.now))) s (O.contents out.old)
         (O.contents out.new)) }
     ensures usage { IfOk result (λ s. s ≡ 4
@@ -317,12 +344,12 @@ pub fn run_on_stack<R: Threads + Wait + Sync, F: Files, M: Meter, O: Write>(
         (Some (name.now, rows_of (found_of found.now)))) }
 {
     match name {
-        "audit" => run_audit(means, found, files, notes, out),
-        "check" => run_check(means.alloc, found, files, notes, out),
-        "eval" => run_eval(means.alloc, found, files, notes, out),
-        "compare" => run_compare(means.alloc, found, files, notes, out),
-        "list" => run_list(means.alloc, found, files, notes, out),
-        "needed" => run_needed(means.alloc, found, files, notes, out),
+        "audit" => run_audit(means, version, found, files, notes, out),
+        "check" => run_check(means.alloc, version, found, files, notes, out),
+        "eval" => run_eval(means.alloc, version, found, files, notes, out),
+        "compare" => run_compare(means.alloc, version, found, files, notes, out),
+        "list" => run_list(means.alloc, version, found, files, notes, out),
+        "needed" => run_needed(means.alloc, version, found, files, notes, out),
         _ => Ok(4),
     }
 }

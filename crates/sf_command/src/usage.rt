@@ -34,6 +34,18 @@ list, compare and needed take no --workers, --leaves, --budget or --progress: th
 --nodes N is there in their place: the most nodes that the decision diagrams may have, 1000000 if not given.
 ";
 
+/// What `clap` says of a number in which another character stands, and what is said then.
+const NO_DIGIT: &str = "invalid digit";
+
+const DIGITS: &str = "
+A number has decimal digits and nothing else, as 1000000 has.
+";
+
+/// What is said where the filters are missing behind `--calls`.
+const TAKEN: &str = "
+--calls takes the word behind it for names of calls: for all calls, give it behind the filters.
+";
+
 /// Whether a word is one of the options of `GONE`, alone or with a value behind `=`.
 fn is_gone(word: &str) -> bool {
     let name = match word.split_once('=') {
@@ -50,6 +62,21 @@ fn ask_for_gone(words: &[String]) -> bool {
                 && words.iter().any(|word| is_gone(word.as_str()))
         }
         None => false,
+    }
+}
+
+/// What to do about a refusal with this text; empty where there is nothing to say.
+fn advice(words: &[String], kind: ErrorKind, text: &str) -> &'static str {
+    if ask_for_gone(words) {
+        INSTEAD
+    } else if text.contains(NO_DIGIT) {
+        DIGITS
+    } else if kind == ErrorKind::MissingRequiredArgument
+        && words.iter().any(|word| word.as_str() == "--calls")
+    {
+        TAKEN
+    } else {
+        ""
     }
 }
 
@@ -71,8 +98,8 @@ fn refusal_text(alloc: Global, words: &[String]) -> Result<String, AllocError> {
 
 /// Writes what is said in place of matches of the words, for which `clap` gives `error`, and gives the exit status. The
 /// help, or `version` where that was asked for, goes to standard output, and the status is 0. Otherwise the text of
-/// `refusal_text` goes to standard error, with `INSTEAD` behind it where an option of `GONE` is given, and the status
-/// is 4, also where standard error can't be written.
+/// `refusal_text` goes to standard error, with `advice` behind it, and the status is 4, also where standard error can't
+/// be written.
 pub(crate) fn write_usage<O: Write, E: Write>(
     alloc: Global,
     version: &str,
@@ -109,9 +136,8 @@ pub(crate) fn write_usage<O: Write, E: Write>(
         }
         _ => {
             let mut text = refusal_text(alloc, words)?;
-            if ask_for_gone(words) {
-                text.push_str(INSTEAD)?;
-            }
+            let more = advice(words, error.kind(), text.as_str());
+            text.push_str(more)?;
             let _ = err.write_all(text.as_bytes());
             Ok(4)
         }

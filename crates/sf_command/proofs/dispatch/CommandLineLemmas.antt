@@ -61,9 +61,11 @@ pub profile_words : (name : Text) (rows : List Row) → name ≡ codes "profile"
 profile_words name rows is wrong = rw is wrong
 
 -- what was done as a subcommand asks for, was done as the words ask for that name it
-pub done_as : (holds : Text → Option Text) (found named : Option (Text × List Row)) (status : ℕ)
-    (old new : Option Text) → named ≡ found → RunsAs holds found status old new → RunsAs holds named status old new
-done_as holds found named status old new is done = subst (λ n. RunsAs holds n status old new) (sym is) done
+pub done_as : (version : Text) (holds : Text → Option Text) (found named : Option (Text × List Row)) (status : ℕ)
+    (old new : Option Text) → named ≡ found → RunsAs version holds found status old new
+    → RunsAs version holds named status old new
+done_as version holds found named status old new is done =
+    subst (λ n. RunsAs version holds n status old new) (sym is) done
 
 -- what is refused for a subcommand, is refused for the words that name it
 pub refused_as : (holds : Text → Option Text) (found named : Option (Text × List Row)) (e : Fault) → named ≡ found

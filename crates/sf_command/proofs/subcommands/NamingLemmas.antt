@@ -3,9 +3,9 @@ use Rattle.std.proofs.Common.{◌≡◌, ◌⊎◌, true, false, inl, inr, List,
 use Rattle.sf_stack.specs.declared.fault.Fault.{Fault}
 use Rattle.sf_stack.specs.declared.fault.Fault.TheVariants.{Input as InputFault, Memory, UnknownName}
 use Rattle.sf_names.specs.Names.{NamesData}
-use Rattle.sf_evaluate.specs.Asking.{LacksName, numbers_fit}
+use Rattle.sf_evaluate.specs.Asking.{AreNamed, LacksName, numbers_fit}
 use Rattle.clap.specs.Words.{Row, Text}
-use Rattle.sf_command.specs.Subcommands.{AreNamed, OnCalls, RefusesEval}
+use Rattle.sf_command.specs.Subcommands.{OnCalls, RefusesEval}
 use Rattle.sf_evaluate.specs.Wanted.{are_known, calls_asked}
 
 -- where no input is asked for, though it is spelled, a name is unknown

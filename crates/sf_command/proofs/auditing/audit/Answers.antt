@@ -12,8 +12,18 @@ returns-clause-written g c = record {
   asked_by = c.in_ok-read.ensures.read;
   origins = map view c.in_ok-read.origins.items;
   placed = c.in_ok-read.ensures.placed;
+  groups = c.in_ok-groups.groups.items;
+  grouped = rw (c.groups_path.ensures, fun_ext c.in_ok-read.ensures.same) at c.in_ok-groups.ensures.meant;
   stack = c.in_ok-stack.stack;
-  held = rw (fun_ext c.in_ok-read.ensures.same) at c.in_ok-stack.ensures.held;
+  held = rw (fun_ext c.in_ok-groups.ensures.same, fun_ext c.in_ok-read.ensures.same) at c.in_ok-stack.ensures.held;
+  files = map view c.in_ok-documents.documents.items;
+  told = (
+    map view c.in_ok-read.policies.items,
+    map view c.in_ok-stack.filters.items,
+    c.in_ok-read.ensures.told,
+    rw (fun_ext c.in_ok-groups.ensures.same, fun_ext c.in_ok-read.ensures.same) at c.in_ok-stack.ensures.told,
+    c.in_ok-documents.ensures,
+  );
   found = c.in_ok-outcome.outcome;
   expected = c.in_ok-outcome.expected;
   is_found = c.in_ok-outcome.ensures.found;
@@ -23,6 +33,7 @@ returns-clause-written g c = record {
     c.is_expecting.ensures,
     c.deref.ensures.value,
     c.deref-2.ensures.value,
+    c.deref-3.ensures.value,
   ) at c.in_ok-write_audit.ensures.written;
   status_is = c.status_of_audit-status.ensures.status;
 }
@@ -32,13 +43,22 @@ returns-in_err-read-clause-refused g c =
     handed_on _ c.from_residual.result c.in_err-read.field-0.0 c.from_residual.ensures.1
     (inr (inr (inl c.in_err-read.ensures.refused)))
 
+pub returns-in_err-groups-clause-refused : goal.returns-in_err-groups-clause-refused
+returns-in_err-groups-clause-refused g c =
+    handed_on _ c.from_residual-in_err-groups.result c.in_err-groups.field-0.0 c.from_residual-in_err-groups.ensures.1
+    (inr (inr (inl (inr (inr (inr
+    (rw (c.groups_path.ensures, fun_ext c.in_ok-read.ensures.same) at c.in_err-groups.ensures.refused)))))))
+
 pub returns-in_err-stack-clause-refused : goal.returns-in_err-stack-clause-refused
 returns-in_err-stack-clause-refused g c =
     handed_on _ c.from_residual-in_err-stack.result c.in_err-stack.field-0.0 c.from_residual-in_err-stack.ensures.1
     (inr (inr (inr (
       read_data c.in_ok-read.read,
       c.in_ok-read.ensures.read,
-      inl (rw (fun_ext c.in_ok-read.ensures.same) at c.in_err-stack.ensures.refused),
+      inl (rw (
+        fun_ext c.in_ok-groups.ensures.same,
+        fun_ext c.in_ok-read.ensures.same,
+      ) at c.in_err-stack.ensures.refused),
     ))))
 
 pub returns-in_err-outcome-clause-refused : goal.returns-in_err-outcome-clause-refused
@@ -46,7 +66,13 @@ returns-in_err-outcome-clause-refused g c =
     handed_on _ c.from_residual-in_err-outcome.result c.in_err-outcome.field-0.0
     c.from_residual-in_err-outcome.ensures.1
     (audit_why _ _ _ (read_data c.in_ok-read.read) c.in_ok-stack.stack _ c.in_ok-read.ensures.read
-    (rw (fun_ext c.in_ok-read.ensures.same) at c.in_ok-stack.ensures.held) c.in_err-outcome.ensures.refused)
+    (rw (fun_ext c.in_ok-groups.ensures.same, fun_ext c.in_ok-read.ensures.same) at c.in_ok-stack.ensures.held)
+    c.in_err-outcome.ensures.refused)
+
+pub returns-in_err-remarks-clause-refused : goal.returns-in_err-remarks-clause-refused
+returns-in_err-remarks-clause-refused g c =
+    handed_on _ c.from_residual-in_err-remarks.result c.in_err-remarks.field-0.0
+    c.from_residual-in_err-remarks.ensures.1 (inr (inl c.in_err-remarks.ensures.refused))
 
 pub returns-clause-status : goal.returns-clause-status
 returns-clause-status g c = c.status_of_audit-status.ensures.few

@@ -1,4 +1,5 @@
-use Rattle.std.proofs.Common.{inl, inr}
+use Rattle.std.proofs.Common.{inl, inr, map}
+use Rattle.serde_json.specs.View.{view}
 use Rattle.sf_command.proofs.DiagramLemmas.{unwritten_rows}
 use Rattle.sf_command.proofs.RefusalLemmas.{without_second}
 use Rattle.sf_evaluate.specs.laws.FilesLaws.{handed_on}
@@ -10,6 +11,8 @@ returns-clause-written g c = record {
   old_stack = rw c.in_ok-comparison.ensures.old c.in_ok-old.ensures.old;
   new_stack = rw c.in_ok-comparison.ensures.new c.in_ok-old.ensures.new;
   comparison = c.in_ok-comparison.ensures.found;
+  files = map view c.in_ok-old.documents.items;
+  told = c.in_ok-old.ensures.told;
   written = c.in_ok-write_compared.ensures.written;
   status_is = rw c.finding.ensures at c.status_of_finding.ensures.status;
 }

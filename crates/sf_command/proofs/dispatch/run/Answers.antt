@@ -48,7 +48,8 @@ returns-then-not-words_fit_for-clause-usage g c = λ four. (
 pub returns-in_ok-run_on_stack-in_default-name-clause-done :
     goal.returns-in_ok-run_on_stack-in_default-name-clause-done
 returns-in_ok-run_on_stack-in_default-name-clause-done g c = λ small.
-    done_as (g.F.Files.holds c.args.files.now) (Some (c.in-Some.name.now, rows_of (found_of c.in-Some.found.now)))
+    done_as c.args.version.now (g.F.Files.holds c.args.files.now)
+    (Some (c.in-Some.name.now, rows_of (found_of c.in-Some.found.now)))
     (subcommand_rows_of c.args.matches.now) c.in_ok-run_on_stack-in_default-name.field-0
     (g.O.Write.contents c.args.out.now) (g.O.Write.contents c.run_on_stack.new.out)
     (joined _ _ _ _ _ c.in-Some.ensures.name c.in-Some.ensures.rows)

@@ -6,7 +6,8 @@ use Rattle.sf_command.proofs.listing.list.Goals as goal
 
 pub returns-then-is_digest-clause-written : goal.returns-then-is_digest-clause-written
 returns-then-is_digest-clause-written g c = on_ok_weaker c.list_stack.result
-    (lists _ _ _ c.in_ok-stack.ensures.held _ _ _ _ _ true (sym c.if-is_digest.true ∙ c.is_digest.ensures))
+    (lists _ _ _ c.in_ok-stack.ensures.held _ _ _ _ _ (rw c.is_json-json.ensures at c.in_ok-stack.ensures.told) _ _
+    true (sym c.if-is_digest.true ∙ c.is_digest.ensures))
     c.list_stack.ensures.written
 
 pub returns-then-is_digest-clause-refused : goal.returns-then-is_digest-clause-refused
@@ -15,7 +16,8 @@ returns-then-is_digest-clause-refused g c = IfErr-weaker c.list_stack.result _ _
 
 pub returns-clause-written : goal.returns-clause-written
 returns-clause-written g c = on_ok_weaker c.list_stack-2.result
-    (lists _ _ _ c.in_ok-stack.ensures.held _ _ _ _ _ false (sym c.if-is_digest.false ∙ c.is_digest.ensures))
+    (lists _ _ _ c.in_ok-stack.ensures.held _ _ _ _ _ (rw c.is_json-json.ensures at c.in_ok-stack.ensures.told) _ _
+    false (sym c.if-is_digest.false ∙ c.is_digest.ensures))
     c.list_stack-2.ensures.written
 
 pub returns-clause-refused : goal.returns-clause-refused

@@ -1,4 +1,5 @@
-use Rattle.std.proofs.Common.{inl, inr}
+use Rattle.std.proofs.Common.{inl, inr, map}
+use Rattle.serde_json.specs.View.{view}
 use Rattle.sf_evaluate.specs.laws.FilesLaws.{handed_on}
 use Rattle.sf_command.proofs.DiagramLemmas.{fails_to_write}
 use Rattle.sf_command.proofs.needing.needed.Goals as goal
@@ -8,6 +9,8 @@ returns-clause-written g c = record {
   needs = c.in_ok-needs.needs;
   stack = rw c.in_ok-needs.ensures.stack c.in_ok-stack.ensures.held;
   found = c.in_ok-needs.ensures.needs;
+  files = map view c.in_ok-stack.documents.items;
+  told = c.in_ok-stack.ensures.told;
   written = c.in_ok-write_needs.ensures.written;
   status_is = c.status_of_needs.ensures.status;
 }

@@ -26,8 +26,9 @@ returns-clause-done g c = IfOk-weaker c.audit.result _ _ (λ s written. record {
         c.get_strs-2.result _ c.get_strs-2.ensures refl);
     control = c.given_text.ensures;
     accept = c.given_text-2.ensures;
+    groups = c.groups_path.ensures;
   };
-  audited = rw (c.deref.ensures.value, fun_ext c.names_of.ensures.same) at written;
+  audited = rw (c.deref.ensures.value, fun_ext c.read_needed_names.ensures.same, c.text_form.ensures) at written;
 }) c.audit.ensures.written
 
 pub returns-clause-refused : goal.returns-clause-refused
@@ -42,7 +43,8 @@ returns-clause-refused g c = IfErr-weaker c.audit.result _ _ (λ e why. inr (
           c.get_strs-2.result _ c.get_strs-2.ensures refl);
       control = c.given_text.ensures;
       accept = c.given_text-2.ensures;
+      groups = c.groups_path.ensures;
     },
-    rw (fun_ext c.names_of.ensures.same) at why,
+    rw (fun_ext c.read_needed_names.ensures.same) at why,
   ),
 )) c.audit.ensures.refused

@@ -26,7 +26,7 @@ returns-clause-done g c = IfOk-weaker c.compare.result _ _ (λ s written. record
     c.relation_of_rows.ensures,
     c.in_ok-calls.ensures.asked,
     c.deref-2.ensures.value,
-    fun_ext c.names_of.ensures.same,
+    fun_ext c.read_needed_names.ensures.same,
   ) at written;
 }) c.compare.ensures.written
 
@@ -39,6 +39,6 @@ returns-clause-refused g c = IfErr-weaker c.compare.result _ _ (λ e why. inr (i
     c.unwrap_or-2.result.now,
     rw c.unwrap_or-2.ensures (paths_found (found_of c.args.found.now) (codes "new") c.get_strs-2.result _
         c.get_strs-2.ensures refl),
-    (c.nodes_of.result, c.nodes_of.ensures, rw (fun_ext c.names_of.ensures.same) at why),
+    (c.nodes_of.result, c.nodes_of.ensures, rw (fun_ext c.read_needed_names.ensures.same) at why),
   ),
 ))) c.compare.ensures.refused

@@ -22,7 +22,8 @@ returns-clause-done g c = record {
   called = c.in_ok-names.ensures.called;
   input = c.in_ok-input.input;
   asked = rw c.deref.ensures.value at c.in_ok-input.ensures.asked;
-  evaluated = rw (c.deref-2.ensures.value, fun_ext c.names_of.ensures.same) at c.in_ok-evaluate.ensures.written;
+  evaluated = rw (c.deref-2.ensures.value, fun_ext c.read_needed_names.ensures.same) at
+      c.in_ok-evaluate.ensures.written;
   status_is = refl;
 }
 
@@ -47,6 +48,6 @@ returns-in_err-evaluate-clause-refused g c =
         c.unwrap_or-paths.result.now,
         rw c.unwrap_or-paths.ensures (paths_found (found_of c.args.found.now) (codes "filters") c.get_strs.result _
             c.get_strs.ensures refl),
-        rw (fun_ext c.names_of.ensures.same) at (without_third c.in_err-evaluate.ensures.refused),
+        rw (fun_ext c.read_needed_names.ensures.same) at (without_third c.in_err-evaluate.ensures.refused),
       ),
     ))))

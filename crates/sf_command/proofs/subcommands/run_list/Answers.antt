@@ -16,7 +16,7 @@ returns-clause-done g c = record {
   known = rw c.deref.ensures.value at c.in_ok-calls.ensures.known;
   form = c.form_of.result;
   asked_form = c.form_of.ensures;
-  listed = rw (c.in_ok-calls.ensures.asked, c.deref-2.ensures.value, fun_ext c.names_of.ensures.same) at
+  listed = rw (c.in_ok-calls.ensures.asked, c.deref-2.ensures.value, fun_ext c.read_needed_names.ensures.same) at
       c.in_ok-list.ensures.written;
   status_is = refl;
 }
@@ -33,5 +33,9 @@ returns-in_err-list-clause-refused g c =
       c.unwrap_or.result.now,
       rw c.unwrap_or.ensures (paths_found (found_of c.args.found.now) (codes "filters") c.get_strs.result _
           c.get_strs.ensures refl),
-      (c.nodes_of.result, c.nodes_of.ensures, rw (fun_ext c.names_of.ensures.same) at c.in_err-list.ensures.refused),
+      (
+        c.nodes_of.result,
+        c.nodes_of.ensures,
+        rw (fun_ext c.read_needed_names.ensures.same) at c.in_err-list.ensures.refused,
+      ),
     )))
