@@ -3,6 +3,7 @@
 use crate::fragments::words_of;
 use crate::limited::{Counted, Full, Limited};
 use crate::memory_files::MemoryFiles;
+use crate::theorems::{audit, check_allow};
 use sf_command::{Means, command};
 use sf_crew::Open;
 use std::alloc::Global;
@@ -78,6 +79,29 @@ fn run_whole<R: Print + Threads + Wait + Sync + AllocGlobal>(
     println!(rt; "$ {line}")?;
     let all = usize::MAX;
     Ok(run_over(rt, files, &words, all, all, Full::Fails))
+}
+
+/// Runs the command lines of `theorems`, the second one over the files of the script, and shows what they write.
+pub fn apply<R: Print + Threads + Wait + Sync + AllocGlobal>(
+    rt: &R,
+    files: &mut MemoryFiles,
+) -> Result<(), Fail> {
+    let alloc = rt.alloc();
+    let (status, out) = check_allow(rt, alloc)?;
+    println!(rt; "$ check p.bpf\n{}= {status}", std::str::from_utf8(&out)?)?;
+    let line = "audit --policy q.toml p.bpf";
+    let words = words_of(alloc, line)?;
+    let mut out: Vec<u8> = Vec::new(alloc);
+    let mut err = no_errors(alloc);
+    let means = Means {
+        rt,
+        alloc,
+        gate: &Open,
+    };
+    let status = audit(&means, &words, files, &mut out, &mut err);
+    println!(rt; "$ {line}")?;
+    print!(rt; "{}", std::str::from_utf8(&out)?)?;
+    show_end(rt, &err, status)
 }
 
 /// Runs a command line and shows what it writes.
