@@ -8,7 +8,9 @@ from xml.sax.saxutils import escape, quoteattr
 
 from showing import visible
 
-from .phrases import MADE_BY, UNSETTLED, audits_of, call_of, control_of, counted, not_complete, source_of
+from .phrases import (
+    MADE_BY, UNSETTLED, audits_of, call_of, control_of, counted, files_of, not_complete, path_in_words, source_of
+)
 
 CONTROL = "control"
 
@@ -110,9 +112,12 @@ def counts_of(tests):
 
 
 def properties_of(document):
-    """The lines that say what made a suite, and what it is about."""
+    """The lines that say what made a suite, and what it is about, down to the bytes."""
     stack = f"a stack of {counted(document.value['stack']['filters'], 'filter', 'filters')}"
-    told = {"made by": MADE_BY, "about": stack}
+    told = {"made by": MADE_BY, "program": document.value["program"], "about": stack}
+    for label, file in files_of(document):
+        length = counted(file["length"], "byte", "bytes")
+        told[label] = f"{path_in_words(file['path'])}, {length}, SHA-256 {file['sha256']}"
     lines = [f"      <property{attributes(name=name, value=value)}/>" for name, value in told.items()]
     return ["    <properties>", *lines, "    </properties>"]
 

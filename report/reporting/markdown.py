@@ -3,12 +3,13 @@ from .documents import Refused
 from .effects import EFFECTS, answer_in_words, joined
 from .groups import arranged
 from .marks import LONGEST_TEXT, code, in_table, listed, plain_or_code
-from .phrases import MADE_BY, call_of, control_of, counted, not_complete, source_of
+from .phrases import DIGITS, MADE_BY, call_of, control_of, counted, files_of, not_complete, path_in_words, source_of
 from .picture import Picture, Strip
 from .rows import rows_alone, rows_of
 from .x32 import effect_of_x32
 
 MOST_NAMES = 8
+MOST_FILES = 8
 MOST_WARNINGS = 8
 HANDED = "handed-to-another-process"
 
@@ -36,6 +37,19 @@ def title_of(document, what):
 
 def stack_of(sizes):
     return f"a stack of {counted(sizes['filters'], 'filter', 'filters')}"
+
+
+def file_said(label, file):
+    """A file, with the first digits of its digest."""
+    length = counted(file["length"], "byte", "bytes")
+    return f"{label} {code(path_in_words(file['path']))} ({length}, SHA-256 `{file['sha256'][:DIGITS]}`)"
+
+
+def made_from(document):
+    """The lines that say which program wrote a document, and about which files."""
+    said = [file_said(label, file) for label, file in files_of(document)]
+    more = [f"and {len(said) - MOST_FILES} more"] if len(said) > MOST_FILES else []
+    return [f"By {code(document.value['program'])}, of {', '.join(said[:MOST_FILES] + more)}.", ""]
 
 
 # A list.
@@ -189,10 +203,11 @@ SAID = {
 
 
 def of_document(document, report):
-    """What is said of a document. Refused where it is of an unknown kind."""
+    """What is said of a document, below its title first what it is about. Refused where it is of an unknown kind."""
     if document.kind not in SAID:
         raise Refused(f"{document.path}: --markdown knows no document of kind {document.kind!r:.40}")
-    return SAID[document.kind](document, report)
+    title, space, *lines = SAID[document.kind](document, report)
+    return [title, space, *made_from(document), *lines]
 
 
 def warned(warnings):

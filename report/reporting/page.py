@@ -9,7 +9,7 @@ from .markup import banner, bullets, element, escaped, listed, paragraph, sectio
 from .page_audit import audit_part, banners_of
 from .page_compare import compare_part
 from .page_rows import key, kinds_in, maps, rows_table
-from .phrases import MADE_BY, call_of, counted, not_complete, source_of
+from .phrases import DIGITS, MADE_BY, call_of, counted, files_of, not_complete, path_in_words, source_of
 from .picture import Picture
 from .rows import rows_of
 
@@ -143,10 +143,21 @@ def size_of(document):
     return " and ".join(counted(it["filters"], "filter", "filters") for it in stacks)
 
 
+def file_line(label, file):
+    """A file that a document is about. The title of the digest's first digits has all of them."""
+    told = escaped(f"{label}: {path_in_words(file['path'])}, {counted(file['length'], 'byte', 'bytes')}, SHA-256 ")
+    return told + element("code", escaped(file["sha256"][:DIGITS]), title=file["sha256"])
+
+
+def source_line(document):
+    """A document that the page was made of: which program wrote it, and about which files."""
+    told = f"{source_of(document)}: {document.kind}, of {size_of(document)}, by {document.value['program']}"
+    return escaped(told) + bullets(file_line(label, file) for label, file in files_of(document))
+
+
 def sources(report):
     """What the page was made of."""
-    lines = [escaped(f"{source_of(it)}: {it.kind}, of {size_of(it)}") for it in report.documents]
-    return section("Made of", bullets(lines), paragraph(NOT_PROVED, "soft"))
+    return section("Made of", bullets(map(source_line, report.documents)), paragraph(NOT_PROVED, "soft"))
 
 
 def policy_of(style, script):

@@ -20,11 +20,19 @@ def place_of(question):
     return origin["policy"] if origin["line"] is None else f"{origin['policy']}, line {origin['line']}"
 
 
+def comment_of(question):
+    """What its policy says of a question, if it says something."""
+    comment = question["origin"]["comment"]
+    return element("span", escaped(comment), class_="soft") if comment else ""
+
+
 def whole(question):
     """A question that isn't answered `never`, with its example and why that is let through."""
-    example, why = question["example"], question["why"]
+    example, why, comment = question["example"], question["why"], comment_of(question)
     parts = [f"<div>{reply(question)} <strong class=\"mono\">{escaped(question['name'])}</strong> "
              f"<span class=\"soft\">{escaped(place_of(question))}</span></div>"]
+    if comment:
+        parts.append(element("div", comment))
     if example:
         parts.append(element("div", "for instance " + element("code", escaped(call_of(example)))))
     if why:
@@ -43,7 +51,7 @@ def group_part(group, questions):
     head = element("h3", f"{escaped(title)} {count}")
     parts = [head, element("p", escaped(why), class_="soft") if why and told else "", *(whole(it) for it in told)]
     if closed:
-        names = "".join(element("li", element("code", escaped(it["name"]))) for it in closed)
+        names = "".join(element("li", f"{element('code', escaped(it['name']))} {comment_of(it)}") for it in closed)
         summary = element("summary", f"never: {len(closed)}")
         parts.append(element("details", summary + element("ul", names, class_="quiet")))
     return element("section", "".join(parts))

@@ -1,4 +1,6 @@
 """What the texts for reviews and for build systems say alike."""
+from collections import Counter
+
 from showing import visible
 
 from .documents import KINDS, Refused
@@ -6,8 +8,8 @@ from .documents import KINDS, Refused
 # What made a text, and how far that can be trusted.
 MADE_BY = "Made by seccomp_audit's report, outside the proofs, from what the program printed."
 
-# The version of the program that the report comes with.
-VERSION = "2.0.0"
+# How many digits of a SHA-256 are shown where there is no room for all.
+DIGITS = 12
 
 UNSETTLED = "no example was found, and no proof that there is none"
 
@@ -25,9 +27,22 @@ def call_of(example):
     return f"arch {example['arch']} nr {example['nr']} args {arguments}"
 
 
+def path_in_words(path):
+    """A path, as it was given."""
+    return "standard input" if path == "-" else visible(path)
+
+
 def source_of(document):
     """Where a document was read."""
-    return "standard input" if document.path == "-" else visible(document.path)
+    return path_in_words(document.path)
+
+
+def files_of(document):
+    """The files that a document is about, each with what it is to the command and a number among its like."""
+    counts = Counter()
+    for file in document.value["files"]:
+        counts[file["role"]] += 1
+        yield f"{file['role']} {counts[file['role']]}", file
 
 
 def not_complete(number):

@@ -7,9 +7,12 @@ from urllib.parse import quote
 from showing import visible
 
 from .documents import Refused
-from .phrases import MADE_BY, UNSETTLED, VERSION, audits_of, call_of, control_of, counted, not_complete, source_of
+from .phrases import MADE_BY, UNSETTLED, audits_of, call_of, control_of, not_complete, source_of
 
 SCHEMA = "https://docs.oasis-open.org/sarif/sarif/v2.1.0/errata01/os/schemas/sarif-schema-2.1.0.json"
+
+# What a file that an audit read is to SARIF.
+ROLES = {"filter": "analysisTarget", "policy": "userSpecifiedConfiguration"}
 
 
 def plain(text):
@@ -53,20 +56,15 @@ def sum_of(*told):
     return hashlib.sha256(json.dumps(told, sort_keys=True).encode()).hexdigest()
 
 
-def stack_of(document, filters):
-    """A sum of the stack that an audit is about: of the bytes of its filters where they are given, else of what the document
-    says of it. No path is in it."""
-    if filters:
-        return sum_of(*(hashlib.sha256(data).hexdigest() for data in filters))
-    replies = [(it["name"], it["reply"], it["example"]["bytes"] if it["example"] else "")
-               for it in document.value["questions"]]
-    return sum_of(document.value["stack"], sorted(replies))
+def digests_of(document):
+    """The digests of the filters that an audit is about, in their order."""
+    return [file["sha256"] for file in document.value["files"] if file["role"] == "filter"]
 
 
-def fingerprints_of(document, filters):
+def fingerprints_of(document):
     """A sum for each question of an audit, by which viewers know a result again: the same for the same question about the
-    same stack. Of questions with one name each has its own."""
-    stack, seen, found = stack_of(document, filters), Counter(), []
+    same filters, whatever their paths. Of questions with one name each has its own."""
+    stack, seen, found = sum_of(*digests_of(document)), Counter(), []
     for question in document.value["questions"]:
         seen[question["name"]] += 1
         found.append(sum_of(question["name"], seen[question["name"]], stack))
@@ -126,14 +124,13 @@ def invocation_of(audits):
 
 
 def need_stack(audits, filters):
-    """Refused where filters are given that can't be the stack of the audit."""
+    """Refused where filters are given that aren't those of the audit."""
     if not filters:
         return
     if len(audits) > 1:
         raise Refused("--filter tells the stack of one audit, and there are several")
-    due = audits[0].value["stack"]["filters"]
-    if len(filters) != due:
-        raise Refused(f"--filter: {source_of(audits[0])} is about {counted(due, 'filter', 'filters')}, and {len(filters)} are given")
+    if [hashlib.sha256(data).hexdigest() for data in filters] != digests_of(audits[0]):
+        raise Refused(f"--filter: {source_of(audits[0])} isn't about these filters")
 
 
 def need_place(place):
@@ -142,25 +139,58 @@ def need_place(place):
         raise Refused(f"--place: {place!r:.80} is no path from the top of the checkout")
 
 
-def text(documents, groups=None, filters=(), place=None):
-    """SARIF of the audits among documents, all as one run. `filters` are the bytes of the filters of the only audit, or none;
-    `place` is a file of the checkout, or None. Refused where there is no audit, or a document of an unknown kind, or where
-    these can't be."""
-    audits = audits_of(documents, "--sarif")
-    need_stack(audits, filters)
-    need_place(place)
+def artifact_of(file):
+    """A file that an audit read, down to its bytes."""
+    artifact = {"roles": [ROLES[file["role"]]], "length": file["length"], "hashes": {"sha-256": file["sha256"]}}
+    if file["path"] == "-":
+        artifact["roles"].append("standardStream")
+    else:
+        artifact["location"] = {"uri": reference_of(file["path"])}
+    return artifact
+
+
+def artifacts_of(audits):
+    """The files that audits read, each once."""
+    artifacts = [artifact_of(file) for document in audits for file in document.value["files"]]
+    return list({json.dumps(artifact): artifact for artifact in artifacts}.values())
+
+
+def driver_of(program, rules):
+    """The program that wrote audits, by its line of `--version`: its name, its version, and whether it is proved."""
+    return {
+        "name": "seccomp_audit",
+        "version": visible(program.partition(" ")[2].partition(" ")[0]),
+        "fullName": visible(program),
+        "fullDescription": plain(MADE_BY),
+        "rules": rules,
+    }
+
+
+def run_of(audits, program, groups, place, is_one_of_several):
+    """The run of audits that one program wrote."""
     asked = [(question, fingerprint, document) for document in audits
-             for question, fingerprint in zip(document.value["questions"], fingerprints_of(document, filters))]
+             for question, fingerprint in zip(document.value["questions"], fingerprints_of(document))]
     found = [(question, fingerprint, document) for question, fingerprint, document in asked if is_result(question)]
     rules = list(dict.fromkeys(visible(question["name"]) for question, _, _ in found))
     numbers = {name: number for number, name in enumerate(rules)}
-    results = [result_of(question, fingerprint, numbers, document, len(audits) > 1, place)
-               for question, fingerprint, document in found]
-    driver = {
-        "name": "seccomp_audit",
-        "version": VERSION,
-        "fullDescription": plain(MADE_BY),
-        "rules": [rule_of(name, groups) for name in rules],
+    return {
+        "tool": {"driver": driver_of(program, [rule_of(name, groups) for name in rules])},
+        "invocations": [invocation_of(audits)],
+        "artifacts": artifacts_of(audits),
+        "results": [result_of(question, fingerprint, numbers, document, is_one_of_several, place)
+                    for question, fingerprint, document in found],
     }
-    run = {"tool": {"driver": driver}, "invocations": [invocation_of(audits)], "results": results}
-    return json.dumps({"$schema": SCHEMA, "version": "2.1.0", "runs": [run]}, indent=2) + "\n"
+
+
+def text(documents, groups=None, filters=(), place=None):
+    """SARIF of the audits among documents: a run for each program that wrote some. `filters` are the bytes of the filters of
+    the only audit, or none; `place` is a file of the checkout, or None. Refused where there is no audit, or a document of
+    an unknown kind, or where these can't be."""
+    audits = audits_of(documents, "--sarif")
+    need_stack(audits, filters)
+    need_place(place)
+    programs = {}
+    for document in audits:
+        programs.setdefault(document.value["program"], []).append(document)
+    runs = [run_of(some, program, groups, place, len(audits) > 1) for program, some in programs.items()]
+    return json.dumps({"$schema": SCHEMA, "version": "2.1.0", "runs": runs}, indent=2) + "\n"

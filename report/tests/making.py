@@ -1,4 +1,5 @@
 """Documents to try texts on: of real stacks, by the program; and ones that no program would write."""
+import hashlib
 import pathlib
 import struct
 import subprocess
@@ -91,21 +92,37 @@ def example(call=None):
             "call": call, "instruction_pointer": "0x0000000000000000", "nr": 59}
 
 
+def origin(policy="policy.toml", line=None, comment=None):
+    """Where a question stands."""
+    return {"comment": comment, "line": line, "policy": policy}
+
+
 def question(number, name, reply="allowed", **more):
     """A question, allowed and not accepted if nothing else is said."""
     told = {"accepted": False, "example": example() if reply == "allowed" else None, "name": name, "number": number,
-            "origin": {"line": 10 + number, "policy": "policy.toml"}, "reply": reply,
-            "unexpected": reply == "allowed", "why": None}
+            "origin": origin(line=10 + number), "reply": reply, "unexpected": reply == "allowed", "why": None}
     return {**told, **more}
 
 
-def audit_of(questions, path="audit.json", control=(), left=0):
+def file(role, path, data=b""):
+    """A file that was read."""
+    return {"length": len(data), "path": path, "role": role, "sha256": hashlib.sha256(data).hexdigest()}
+
+
+# What a program says of itself, and two files that it read.
+PROGRAM = "seccomp_audit 2.1.0 (proved, 0123456789abcdef01234567)"
+FILES = [file("policy", "policy.toml", b"version = 2\n"), file("filter", "1.bpf", ALL)]
+
+
+def audit_of(questions, path="audit.json", control=(), left=0, files=FILES, program=PROGRAM):
     """A document of an audit that has these questions, and a control with these."""
     replies = [one["reply"] for one in questions]
     holds = all(one["reply"] == "allowed" for one in control)
     value = {
         "counts": {"commits": 1, "emptied": 0, "open": left, "regions": 1, "splits": 0},
         "expected": {"control": list(control), "holds": holds} if control else None,
+        "files": list(files),
+        "program": program,
         "questions": questions,
         "regions": None,
         "seccomp_audit": "audit",
@@ -118,12 +135,13 @@ def audit_of(questions, path="audit.json", control=(), left=0):
 
 def hostile_audit():
     """An audit in which each text of a stranger is hostile."""
-    questions = [question(1, text, why=f"why {text}\n", example=example(text), origin={"line": 1, "policy": text})
+    questions = [question(1, text, why=f"why {text}\n", example=example(text), origin=origin(text, 1, text))
                  for text in HOSTILE]
     questions += [question(2, f"{text}u", "unsettled") for text in HOSTILE]
     questions += [question(3, f"{text}a", unexpected=False, accepted=True) for text in HOSTILE]
     control = [{"name": text, "reply": "never"} for text in HOSTILE]
-    return audit_of(questions, f"{WORD}/<b>`|\n", control, 1)
+    files = [file(role, text) for role in ("policy", "filter") for text in HOSTILE]
+    return audit_of(questions, f"{WORD}/<b>`|\n", control, 1, files, f"{WORD} {WORD}\x1b[31m<b>`|")
 
 
 def condition(word, *ranges, mask=0xFFFFFFFF, rest=False):

@@ -3,6 +3,7 @@ import copy
 import json
 import pathlib
 import random
+import re
 import resource
 import subprocess
 import tempfile
@@ -12,7 +13,7 @@ from reporting.naming import sets_of
 
 from . import agreement
 from .dom import Page
-from .making import condition, row
+from .making import PROGRAM, audit_of, condition, file, hostile_audit, origin, question, row
 
 ROOT = pathlib.Path(__file__).resolve().parent.parent.parent
 REPORT = ROOT / "report/report"
@@ -109,6 +110,30 @@ def strangers(program):
     yield "a title makes no elements", page.tags == calm.tags and title in page.text, page.tags - calm.tags
 
 
+def page_of_audit(document):
+    return page.text(page.Report([document], [], [], None, []))
+
+
+def audits(_program):
+    """What a page of an audit says of its questions, and of the files that were read."""
+    said = origin("policy.toml", 7, "Tampers <with> others.")
+    asked = [question(1, "p", origin=said), question(2, "q", "never", origin=said), question(3, "r"), question(4, "s", "never")]
+    files = [file("policy", "p <1>.toml", b"version = 2"), file("filter", "-", b"1"), file("filter", "2.bpf", b"12345678")]
+    text = page_of_audit(audit_of(asked, files=files))
+    calm = Page(text)
+    yield "the comment of a question stands beside its name", calm.text.count("Tampers <with> others.") == 2, calm.text
+    due = (f"by {PROGRAM}policy 1: p <1>.toml, 11 bytes, SHA-256 {files[0]['sha256'][:12]}filter 1: standard input, 1 byte, "
+           f"SHA-256 {files[1]['sha256'][:12]}filter 2: 2.bpf, 8 bytes, SHA-256 {files[2]['sha256'][:12]}")
+    yield "the program and the files stand at the foot", due in calm.text, calm.text[-800:]
+    whole = [f'title="{it["sha256"]}"' in text for it in files]
+    yield "the whole digest is the title of its beginning", whole == [True] * 3, whole
+    hostile = Page(page_of_audit(hostile_audit()))
+    more = hostile.tags - calm.tags - {"pre", "p role", "p class"}
+    yield "a stranger's audit makes no elements", not more, more
+    marks = [it for it in hostile.text if not it.isprintable() and it != "\n"]
+    yield "a stranger's audit has no characters that can't be seen", not marks, marks
+
+
 def refusals(program):
     """Whether a document that isn't whole, or another one, is refused with a line that says why."""
     text = listed(program, filters_of("sshd-preauth"))
@@ -117,10 +142,14 @@ def refusals(program):
         "a cut document": (text[:-30], "cut"),
         "a document without its last newline": (text[:-1], "cut"),
         "another version": (json.dumps(value | {"version": 1}) + "\n", "version"),
-        "no version": (json.dumps({key: it for key, it in value.items() if key != "version"}) + "\n", "version"),
+        "no version": (without(value, "version"), "version"),
         "another command": (json.dumps(value | {"seccomp_audit": "guess"}) + "\n", "no document"),
         "an unknown member": (json.dumps(value | {"more": 1}) + "\n", "unknown member"),
-        "no rows": (json.dumps({key: it for key, it in value.items() if key != "rows"}) + "\n", "lacks rows"),
+        "no rows": (without(value, "rows"), "lacks rows"),
+        "no program": (without(value, "program"), "lacks program"),
+        "no files": (without(value, "files"), "lacks files"),
+        "a short digest": (re.sub('"sha256":"..', '"sha256":"', text, count=1), "doesn't fit"),
+        "a policy of a list": (text.replace('"role":"filter"', '"role":"policy"', 1), "is none of"),
         "a condition of another form": (text.replace('"word":"arg', '"word":"arg9', 1), "is none of"),
         "no JSON": ("seccomp_audit list 2\n", "no JSON"),
         "nothing": ("", "cut"),
@@ -128,6 +157,11 @@ def refusals(program):
     for what, (given, why) in cases.items():
         ran = made(given)
         yield f"{what} is refused", is_refused(ran, why), ran
+
+
+def without(value, member):
+    """The text of a document without one of its members."""
+    return json.dumps({key: it for key, it in value.items() if key != member}) + "\n"
 
 
 def is_refused(ran, why=""):
@@ -294,5 +328,5 @@ def many_rows(program):
 def cases(program, count):
     """All of these, each as what is tried, whether it is well, and what came."""
     yield from agreements(program, count)
-    for part in (facts, strangers, refusals, malformed_conditions, malformed, broken_ones, not_whole, sizes, many_rows):
+    for part in (facts, strangers, audits, refusals, malformed_conditions, malformed, broken_ones, not_whole, sizes, many_rows):
         yield from part(program)

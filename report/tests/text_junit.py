@@ -128,6 +128,10 @@ def of_made():
     message = tests_in(one)["policy.toml", "q"][0].get("message")
     is_well = message == "q is allowed: arch 0xc000003e nr 59 args 0x0,0x0,0x0,0x0,0x0,0xff"
     yield "junit: an example that no names have is told by numbers", is_well, message
+    told = [(it.get("name"), it.get("value")) for it in ElementTree.fromstring(one.encode()).iter("property")]
+    sums = [(f"{it['role']} 1", f"{it['path']}, {it['length']} bytes, SHA-256 {it['sha256']}") for it in making.FILES]
+    due = [("program", making.PROGRAM), ("about", "a stack of 1 filter"), *sums]
+    yield "junit: the program and the files are properties", told[1:] == due, told
     double = junit.text([audit_of([question(1, "q"), question(2, "q", "never")])])
     yield "junit: two questions of one name are two tests", len(tests_in(double)) == 2, list(tests_in(double))
     two = junit.text([audit_of([question(1, "q")], path) for path in ("a.json", "b.json")])

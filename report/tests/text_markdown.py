@@ -240,7 +240,8 @@ def of_code():
 def of_made():
     """What documents say that are made here."""
     sets = [naming.CallSet(f"a|{WORD}", 0xC000003E, {"read": 0})]
-    value = {"calls": None, "rows": [making.row()], "stack": {"filters": 1, "path": 1}, "total": {"rows": 1}}
+    value = {"calls": None, "files": making.FILES[1:], "program": making.PROGRAM, "rows": [making.row()],
+             "stack": {"filters": 1, "path": 1}, "total": {"rows": 1}}
     text = text_of(Document("list", value, "l.json"), sets=sets)
     yield said("a bar in a table begins no cell", text, [f"| `a\\|{WORD}` | 1 | 0 | 0 | 0 | 0 |\n"])
     text = text_of(Document("list", {**value, "rows": []}, "l.json"), sets=sets)
@@ -261,9 +262,22 @@ def of_made():
     yield "markdown: an unknown kind is refused", isinstance(got, Refused), got
 
 
+def of_files():
+    """What is said of the program, and of the files that it read."""
+    policy, filter_of_all = making.FILES
+    due = (f"\n\nBy `{making.PROGRAM}`, of policy 1 `policy.toml` (12 bytes, SHA-256 `{policy['sha256'][:12]}`), "
+           f"filter 1 `1.bpf` (8 bytes, SHA-256 `{filter_of_all['sha256'][:12]}`).\n\n1 never")
+    yield said("what an audit is of", text_of(audit_of([question(1, "q", "never")])), [due])
+    files = [making.file("filter", "-", b"1")] * 12
+    text = text_of(audit_of([], files=files))
+    due = ["of filter 1 `standard input` (1 byte, ", "filter 8 ", "), and 4 more.\n"]
+    yield said("many files are cut", text, due, ["filter 9 "])
+
+
 def cases(maker):
     for part in (of_audits, of_order, of_expected, of_lists, of_other_numbers, of_needed, of_comparisons, of_open):
         yield from part(maker)
     yield from of_hostile()
     yield from of_code()
     yield from of_made()
+    yield from of_files()

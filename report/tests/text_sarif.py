@@ -1,5 +1,6 @@
 """Tries SARIF."""
 import copy
+import hashlib
 import json
 import re
 import subprocess
@@ -9,7 +10,7 @@ from reporting.documents import Document, Refused
 from reporting.schema import faults
 
 from . import making
-from .making import ROOT, audit_of, question
+from .making import ROOT, audit_of, file, question
 
 SCHEMA = ROOT / "report/tests/sarif-2.1.0.schema.json"
 
@@ -28,6 +29,8 @@ print([error.message[:100] for error in jsonschema.Draft202012Validator(schema).
 # Changes after which a value breaks the standard: where, and what stands there then (None: it is taken out).
 BROKEN = [
     (["version"], "2.0.0"), (["version"], None), (["runs", 0, "tool"], None),
+    (["runs", 0, "artifacts", 0, "hashes"], "text"), (["runs", 0, "artifacts", 0, "roles", 0], "filter"),
+    (["runs", 0, "artifacts", 0, "sha256"], "text"),
     (["runs", 0, "tool", "driver", "name"], None), (["runs", 0, "tool", "driver", "rules", 0, "id"], None),
     (["runs", 0, "results", 0, "level"], "fatal"), (["runs", 0, "results", 0, "message"], "text"),
     (["runs", 0, "results", 0, "message", "text"], None), (["runs", 0, "results", 0, "more"], 1),
@@ -155,7 +158,7 @@ def of_made():
     for path, due in REFERENCES.items():
         got = sarif.reference_of(path)
         yield f"sarif: the reference to {path!r}", got == due, got
-    known, unknown = audit_of([question(1, "q")]), audit_of([question(1, "q", origin={"line": None, "policy": "p"})])
+    known, unknown = audit_of([question(1, "q")]), audit_of([question(1, "q", origin=making.origin("p"))])
     place = results_in(sarif.text([unknown]))[0]["locations"][0]["physicalLocation"]
     yield "sarif: a line that isn't known isn't told", place == {"artifactLocation": {"uri": "p"}}, place
     two = sarif.text([known, audit_of([question(1, "q")], "b.json")])
@@ -171,24 +174,47 @@ def prints_in(text):
     return [result["partialFingerprints"]["questionAndStack/v1"] for result in results_in(text)]
 
 
+def about(*filters, questions=("q", "r"), path="audit.json"):
+    """An audit of filters of these bytes, with questions that are allowed."""
+    files = [file("policy", "p.toml", b"version = 2"), *(file("filter", path, data) for data in filters)]
+    return audit_of([question(number, name) for number, name in enumerate(questions, 1)], path, files=files)
+
+
 def of_fingerprints():
     """By what a result is known again."""
-    one = audit_of([question(1, "q"), question(2, "r", "unsettled")])
-    elsewhere = audit_of([question(1, "q", origin={"line": None, "policy": "/p"}), question(2, "r", "unsettled")], "b.json")
-    yield "sarif: no path is in a fingerprint", prints_in(sarif.text([one])) == prints_in(sarif.text([elsewhere])), ""
-    prints = prints_in(sarif.text([one], None, [b"1"])) + prints_in(sarif.text([one], None, [b"2"]))
-    yield "sarif: a fingerprint is of the question and the stack", len(set(prints)) == 4, prints
-    later = audit_of([question(3, "p", "never"), question(9, "q"), question(4, "r")])
-    is_well = prints_in(sarif.text([later], None, [b"1"])) == prints[:2]
-    yield "sarif: with the filters it is of nothing else", is_well, prints
-    twice = prints_in(sarif.text([audit_of([question(1, "q"), question(2, "q")])]))
+    one, elsewhere = about(b"1"), about(b"1", path="elsewhere.json")
+    elsewhere.value["files"][0] = file("policy", "/p", b"another")
+    for asked in elsewhere.value["questions"]:
+        asked["origin"] = making.origin("/p")
+    prints = prints_in(sarif.text([one]))
+    yield "sarif: no path is in a fingerprint, and no policy", prints == prints_in(sarif.text([elsewhere])), prints
+    is_well = prints_in(sarif.text([about(b"1", questions=("p", "q", "r"))]))[1:] == prints
+    yield "sarif: a fingerprint is of nothing but the question and the filters", is_well, prints
+    stacks = [about(b"1"), about(b"2"), about(b"1", b"2"), about(b"2", b"1")]
+    prints = [it for stack in stacks for it in prints_in(sarif.text([stack]))]
+    yield "sarif: each question about each stack has one of its own", len(set(prints)) == 8, prints
+    twice = prints_in(sarif.text([about(b"1", questions=("q", "q"))]))
     yield "sarif: two questions of one name have two", len(set(twice)) == 2, twice
-    services = [sarif.text([one], None, [b"filter of service %d" % number]) for number in range(200)]
-    prints = {it for text in services for it in prints_in(text)}
-    yield "sarif: 200 services have fingerprints of their own", len(prints) == 400, len(prints)
-    replies = [audit_of([question(1, "q"), question(2, f"of {number}", "never")]) for number in range(200)]
-    prints = {it for document in replies for it in prints_in(sarif.text([document]))}
-    yield "sarif: so have those of which the documents tell apart", len(prints) == 200, len(prints)
+    text = sarif.text([about(b"filter of service %d" % number) for number in range(200)])
+    yield "sarif: 200 services have fingerprints of their own", len(set(prints_in(text))) == 400, len(set(prints_in(text)))
+
+
+def of_files():
+    """What is said of the program and of the files that it read."""
+    value = json.loads(sarif.text([about(b"1", b"2", path="a b.bpf"), about(b"1", path="a b.bpf"), about(b"3", path="-")]))
+    yield "sarif: files fit the schema", misfits(value) == [], misfits(value)
+    run, = value["runs"]
+    due = [(["userSpecifiedConfiguration"], "p.toml", 11, b"version = 2"), (["analysisTarget"], "a%20b.bpf", 1, b"1"),
+           (["analysisTarget"], "a%20b.bpf", 1, b"2"), (["analysisTarget", "standardStream"], None, 1, b"3")]
+    due = [(roles, uri, length, hashlib.sha256(data).hexdigest()) for roles, uri, length, data in due]
+    got = [(it["roles"], it.get("location", {}).get("uri"), it["length"], it["hashes"]["sha-256"]) for it in run["artifacts"]]
+    yield "sarif: each file is there once, with its digest", got == due, got
+    driver = run["tool"]["driver"]
+    is_well = (driver["name"], driver["version"], driver["fullName"]) == ("seccomp_audit", "2.1.0", making.PROGRAM)
+    yield "sarif: the driver is the program that wrote the document", is_well, driver
+    two = json.loads(sarif.text([audit_of([question(1, "q")]), audit_of([question(1, "r")], program="seccomp_audit 9.9.9 (x)")]))
+    got = [(it["tool"]["driver"]["version"], [one["ruleId"] for one in it["results"]]) for it in two["runs"]]
+    yield "sarif: each program has a run", got == [("2.1.0", ["q"]), ("9.9.9", ["r"])] and misfits(two) == [], got
 
 
 def of_places():
@@ -211,19 +237,22 @@ def of_places():
 
 def of_version(maker):
     """Whether it is the version of the program."""
-    driver = json.loads(sarif.text([audit_of([])]))["runs"][0]["tool"]["driver"]
-    said = subprocess.run([maker.program, "--version"], capture_output=True, text=True).stdout.split()
-    yield "sarif: the driver has the program's version", said[:2] == [driver["name"], driver["version"]], (said, driver)
+    driver = json.loads(sarif.text([maker.audit(making.SSHD)]))["runs"][0]["tool"]["driver"]
+    said = subprocess.run([maker.program, "--version"], capture_output=True, text=True).stdout
+    is_well = said == f"{driver['fullName']}\n" and said.split()[:2] == [driver["name"], driver["version"]]
+    yield "sarif: the driver has the program's version", is_well, (said, driver)
 
 
 def of_refusals():
     """Whether documents of other kinds are refused, and stacks that can't be that of an audit."""
-    for what, audits, filters in (("two filters for one", 1, [b"1", b"2"]), ("filters for two audits", 2, [b"1"])):
+    for what, audits, filters in (("two filters for one", 1, [b"1", b"2"]), ("another filter", 1, [b"2"]),
+                                  ("filters for two audits", 2, [b"1"])):
         try:
-            got = sarif.text([audit_of([question(1, "q")])] * audits, None, filters)
+            got = sarif.text([about(b"1")] * audits, None, filters)
         except Refused as refused:
             got = refused
         yield f"sarif: {what}: refused", isinstance(got, Refused), got
+    yield "sarif: its own filter is taken", sarif.text([about(b"1")], None, [b"1"]) == sarif.text([about(b"1")]), ""
     for what, documents in (("no audit", [Document("needed", {}, "n.json")]), ("nothing", []),
                             ("an unknown kind", [audit_of([]), Document("check", {}, "c.json")])):
         try:
@@ -238,6 +267,7 @@ def cases(maker):
     yield from of_open(maker)
     yield from of_made()
     yield from of_fingerprints()
+    yield from of_files()
     yield from of_places()
     yield from of_version(maker)
     yield from of_refusals()

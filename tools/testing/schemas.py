@@ -1,25 +1,23 @@
 """Compares the documents of `seccomp_audit .. --json` with their schemas.
 
-    tools/test schemas [PROGRAM]        (crates/seccomp_audit/out/seccomp_audit if none is named)
+    tools/test schemas [PROGRAM]
 
 Command lines over examples/, policies/ and a filter made here are run with and without `--json`. Each document has to be
-one line without blanks, its keys in order, and has to fit its schema in docs/schema/. The question of an audit has to
-begin on the line that its document names. Both runs have to end with the same status and the same words on standard
-error; what is too large gets no document. The documents of crates/command_run/stdout have to fit too. Debian's
-python3-jsonschema reads the schemas as well, where it is there.
-
-Each difference gets a line. The last line is `N passed, M failed`; the status is 1 where M isn't 0 or N is.
+one line without blanks, its keys in order, and has to fit its schema in docs/schema/. What it says of the program, its
+files and where questions stand has to be so. Both runs have to end with the same status and the same words on standard
+error; what is too large gets no document. The documents of crates/command_run/stdout have to fit their schemas too.
+Debian's python3-jsonschema reads the schemas as well, where it is there.
 """
+import hashlib
 import json
 import os
 import pathlib
 import struct
-import subprocess
 import sys
 import tempfile
 from concurrent.futures import ThreadPoolExecutor
 
-from testing.told import finish, given_program, tell
+from testing.told import finish, given_program, ran, tell
 
 ROOT = pathlib.Path(__file__).resolve().parent.parent.parent
 sys.path.append(str(ROOT / "report"))
@@ -62,11 +60,6 @@ def command_lines(changed):
             yield from ((name, ["compare", *more, "--old", *old, "--new", *new]) for more in some)
 
 
-def run(program, words):
-    ran = subprocess.run([program, *words], cwd=ROOT, capture_output=True, text=True, stdin=subprocess.DEVNULL)
-    return ran.returncode, ran.stdout, ran.stderr
-
-
 def misfits(name, document):
     """Where a document doesn't fit the schema of this name."""
     schema = SCHEMAS[name]
@@ -83,19 +76,56 @@ def written():
             yield f"line {number}", document["seccomp_audit"] + "-rows" * ({"old", "rows"} <= document.keys()), document
 
 
+def comment_above(lines, place):
+    """The comment directly above one of the lines; None where there is none."""
+    first = place
+    while first and lines[first - 1].startswith("#"):
+        first -= 1
+    return " ".join(line.removeprefix("#").removeprefix(" ") for line in lines[first:place]) or None
+
+
 def misplaced(document):
-    """The questions of an audit that don't begin on the line which the document names."""
+    """The questions of an audit that don't begin on the line which the document names, or have another comment there."""
     for question in document.get("questions", ()):
         origin = question["origin"]
-        line = (ROOT / origin["policy"]).read_text().split("\n")[origin["line"] - 1]
-        if line != "[[question]]":
-            yield f"no question begins where {question['name']} stands: {line!r:.80}"
+        lines, place = (ROOT / origin["policy"]).read_text().split("\n"), origin["line"] - 1
+        if lines[place] != "[[question]]":
+            yield f"no question begins where {question['name']} stands: {lines[place]!r:.80}"
+        if comment_above(lines, place) != origin["comment"]:
+            yield f"another comment stands above {question['name']}: {origin['comment']!r:.80}"
+
+
+def file_due(role, path):
+    data = (ROOT / path).read_bytes()
+    return {"role": role, "path": path, "length": len(data), "sha256": hashlib.sha256(data).hexdigest()}
+
+
+def files_due(words):
+    """What a document has to say of the files that a command line names: of the policies, and then of the filters."""
+    role, policies, filters = "filter", [], []
+    for before, word in zip(words, words[1:]):
+        if word in ("--old", "--new"):
+            role = word.removeprefix("--")
+        elif before == "--policy":
+            policies.append(file_due("policy", word))
+        elif word.endswith(".bpf"):
+            filters.append(file_due(role, word))
+    return policies + filters
+
+
+def misnamed(program, document, words):
+    """Whether a document names another program, or other files, than those that wrote it and that it is about."""
+    said = ran(program, "--version")[1]
+    if f"{document['program']}\n" != said:
+        yield f"says that it was written by {document['program']!r:.80}, and not {said!r:.80}"
+    if document["files"] != files_due(words):
+        yield f"is about the files {document['files']!r:.300}"
 
 
 def wrong(program, name, words):
     """What is wrong with the document of a command line."""
-    status, text, said = run(program, words)
-    other, line, told = run(program, [words[0], "--json", *words[1:]])
+    status, text, said = ran(program, *words, cwd=ROOT)
+    other, line, told = ran(program, words[0], "--json", *words[1:], cwd=ROOT)
     if (status, said) != (other, told):
         yield f"ends with {other} and {told!r:.80}, and not {status} and {said!r:.80}"
     if not text:
@@ -104,8 +134,8 @@ def wrong(program, name, words):
     document = json.loads(line)
     if json.dumps(document, ensure_ascii=False, separators=(",", ":"), sort_keys=True) + "\n" != line:
         yield "isn't one line, or has blanks, or keys out of order"
-    yield from misfits(name, document)
-    yield from misplaced(document)
+    found = list(misfits(name, document))
+    yield from found or [*misplaced(document), *misnamed(program, document, words)]
 
 
 def main():
