@@ -21,24 +21,27 @@ _seccomp_audit_calls() {
     sed -n 's/^\([a-z0-9_]*\) = [0-9]*$/\1/p' "$(_seccomp_audit_folder)/names.toml" 2> /dev/null | sort -u
 }
 
-# The files of a kind that come with the program.
+# The names of the files of a kind that come with the program.
 _seccomp_audit_installed() {
-    local folder file
-    folder=$(_seccomp_audit_folder)
-    for file in "$folder"/*.toml; do
-        case $1:${file##*/} in
-            controls:control-*|names:names.toml) printf '%s\n' "$file" ;;
+    local file name
+    for file in "$(_seccomp_audit_folder)"/*.toml; do
+        name=${file##*/}
+        case $1:$name in
+            controls:control-*|names:names.toml|groups:groups.toml) echo "${name%.toml}" ;;
             policies:control-*|policies:names.toml|policies:groups.toml) ;;
-            policies:*.toml) [[ -f $file ]] && printf '%s\n' "$file" ;;
+            policies:*.toml) [[ -f $file ]] && echo "${name%.toml}" ;;
         esac
     done
 }
 
 _seccomp_audit() {
-    local installed file front
+    local installed name front is_name=
     local word=${COMP_WORDS[COMP_CWORD]} before=${COMP_WORDS[COMP_CWORD - 1]} options="--help --version"
+    # An @ at the front of a word is a word of its own here.
+    if [[ $before == @ ]]; then before=${COMP_WORDS[COMP_CWORD - 2]} is_name=1; fi
+    if [[ $word == @ ]]; then word= is_name=1; fi
     case ${COMP_WORDS[1]} in
-        audit) options="--policy --control --accept --budget --workers --regions --why --names --json --progress --quiet --explain-errors --help" ;;
+        audit) options="--policy --control --accept --budget --workers --regions --why --summary --summary-all --groups --names --json --progress --quiet --explain-errors --help" ;;
         check) options="--instructions --json --quiet --explain-errors --help" ;;
         eval) options="--input --call --nr --arch --args --trace --trace-true --names --json --explain-errors --help" ;;
         compare) options="--old --new --nodes --same --rows --only --calls --names --json --quiet --explain-errors --help" ;;
@@ -69,6 +72,7 @@ _seccomp_audit() {
         --policy) installed=$(_seccomp_audit_installed policies) ;;
         --control) installed=$(_seccomp_audit_installed controls) ;;
         --names) installed=$(_seccomp_audit_installed names) ;;
+        --groups) installed=$(_seccomp_audit_installed groups) ;;
     esac
     if [[ $word == -* ]]; then
         mapfile -t COMPREPLY < <(compgen -W "$options" -- "$word")
@@ -77,13 +81,13 @@ _seccomp_audit() {
     elif [[ ${COMP_WORDS[1]} == help ]]; then
         mapfile -t COMPREPLY < <(compgen -W "audit check eval compare list needed profile" -- "$word")
     else
-        compopt -o filenames 2> /dev/null
-        mapfile -t COMPREPLY < <(compgen -f -- "$word")
-        # By their names alone, the files that come with the program.
-        if [[ $word != */* ]]; then
-            for file in $installed; do
-                if [[ ${file##*/} == "$word"* ]]; then COMPREPLY+=("$file"); fi
-            done
+        # The files that come with the program. As names of files they would be quoted, for their @.
+        for name in $installed; do
+            if [[ $name == "$word"* ]]; then COMPREPLY+=("@$name"); fi
+        done
+        if [[ ! $is_name ]]; then
+            if ((${#COMPREPLY[@]} == 0)); then compopt -o filenames 2> /dev/null; fi
+            mapfile -t -O ${#COMPREPLY[@]} COMPREPLY < <(compgen -f -- "$word")
         fi
     fi
 }

@@ -19,7 +19,7 @@ WORDS = re.compile(r": (\w+(?:, \w+)* or \w+)(?: \[default: \w+\])?")
 # of calls is joined by commas.
 LOOKED_FOR = {"--arch": "sets", "--call": "calls", "--calls": "calls"}
 LIST = "--calls"
-FILES = {"--policy": "policies", "--control": "controls", "--names": "names"}
+FILES = {"--policy": "policies", "--control": "controls", "--names": "names", "--groups": "groups"}
 
 # How the lines of the file of names are read: those that name a set, and those that name a call.
 SETS = r"s/^\[\([a-z0-9_]*\)\]$/\1/p"
@@ -75,22 +75,25 @@ _seccomp_audit_calls() {{
     sed -n '{CALLS}' "$(_seccomp_audit_folder)/names.toml" 2> /dev/null | sort -u
 }}
 
-# The files of a kind that come with the program.
+# The names of the files of a kind that come with the program.
 _seccomp_audit_installed() {{
-    local folder file
-    folder=$(_seccomp_audit_folder)
-    for file in "$folder"/*.toml; do
-        case $1:${{file##*/}} in
-            controls:control-*|names:names.toml) printf '%s\\n' "$file" ;;
+    local file name
+    for file in "$(_seccomp_audit_folder)"/*.toml; do
+        name=${{file##*/}}
+        case $1:$name in
+            controls:control-*|names:names.toml|groups:groups.toml) echo "${{name%.toml}}" ;;
             policies:control-*|policies:names.toml|policies:groups.toml) ;;
-            policies:*.toml) [[ -f $file ]] && printf '%s\\n' "$file" ;;
+            policies:*.toml) [[ -f $file ]] && echo "${{name%.toml}}" ;;
         esac
     done
 }}
 
 _seccomp_audit() {{
-    local installed file front
+    local installed name front is_name=
     local word=${{COMP_WORDS[COMP_CWORD]}} before=${{COMP_WORDS[COMP_CWORD - 1]}} options="{names(options_of(told.top['Options']))}"
+    # An @ at the front of a word is a word of its own here.
+    if [[ $before == @ ]]; then before=${{COMP_WORDS[COMP_CWORD - 2]}} is_name=1; fi
+    if [[ $word == @ ]]; then word= is_name=1; fi
     case ${{COMP_WORDS[1]}} in
 {cases}
     esac
@@ -114,13 +117,13 @@ _seccomp_audit() {{
     elif [[ ${{COMP_WORDS[1]}} == help ]]; then
         mapfile -t COMPREPLY < <(compgen -W "{' '.join(options)}" -- "$word")
     else
-        compopt -o filenames 2> /dev/null
-        mapfile -t COMPREPLY < <(compgen -f -- "$word")
-        # By their names alone, the files that come with the program.
-        if [[ $word != */* ]]; then
-            for file in $installed; do
-                if [[ ${{file##*/}} == "$word"* ]]; then COMPREPLY+=("$file"); fi
-            done
+        # The files that come with the program. As names of files they would be quoted, for their @.
+        for name in $installed; do
+            if [[ $name == "$word"* ]]; then COMPREPLY+=("@$name"); fi
+        done
+        if [[ ! $is_name ]]; then
+            if ((${{#COMPREPLY[@]}} == 0)); then compopt -o filenames 2> /dev/null; fi
+            mapfile -t -O ${{#COMPREPLY[@]}} COMPREPLY < <(compgen -f -- "$word")
         fi
     fi
 }}
@@ -185,19 +188,19 @@ _seccomp_audit_calls() {{
     compadd "$@" -a found
 }}
 
-# Files, and by their names alone those of a kind that come with the program.
+# Files, and those of a kind that come with the program, by their names with @ or without.
 _seccomp_audit_files() {{
     local file kind=$@[-1] folder=$(_seccomp_audit_folder)
     local -a found
     for file in $folder/*.toml(N); do
-        [[ ${{file:t}} == $PREFIX* ]] || continue
+        [[ ${{file:t}} == ${{PREFIX#@}}* ]] || continue
         case $kind:${{file:t}} in
-            (controls:control-*|names:names.toml) found+=($file) ;;
+            (controls:control-*|names:names.toml|groups:groups.toml) found+=(@${{file:t:r}}) ;;
             (policies:control-*|policies:names.toml|policies:groups.toml) ;;
-            (policies:*) found+=($file) ;;
+            (policies:*) found+=(@${{file:t:r}}) ;;
         esac
     done
-    compadd -U -f -a found
+    compadd -U -a found
     _files
 }}
 
@@ -272,11 +275,11 @@ end
 function __seccomp_audit_installed
     for file in (__seccomp_audit_folder)/*.toml
         switch $argv[1]:(basename $file)
-            case 'controls:control-*' names:names.toml
-                echo $file
+            case 'controls:control-*' names:names.toml groups:groups.toml
+                echo @(basename $file .toml)
             case 'policies:control-*' policies:names.toml policies:groups.toml
             case 'policies:*'
-                echo $file
+                echo @(basename $file .toml)
         end
     end
 end

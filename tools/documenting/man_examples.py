@@ -9,7 +9,7 @@ from collections import namedtuple
 
 from building.kit import ROOT
 
-# Where the package puts what is shared. In a trial the repository's folder stands there.
+# Where the package puts what is shared.
 SHARED = "/usr/share/seccomp_audit"
 
 # An example: what it is for, its lines, and, which the page doesn't show, the status and the last line that must come.
@@ -21,40 +21,39 @@ EXAMPLES = [
         ["seccomp_audit check service/*.bpf"], 0, "path 778"),
     Example(
         "What do they let through that is dangerous? The report has an example for each such question.",
-        [f"policies={SHARED}/policies", "seccomp_audit audit --policy $policies/x86_64.toml service/*.bpf"],
+        ["seccomp_audit audit --policy @x86_64 service/*.bpf"],
         1, "total never 125 allowed 96 unsettled 0"),
     Example(
         "The same, with the call of each example, and with the instruction that lets it through.",
-        ["seccomp_audit audit --why --names $policies/names.toml \\", "    --policy $policies/x86_64.toml service/*.bpf"],
+        ["seccomp_audit audit --why --names @names --policy @x86_64 service/*.bpf"],
         1, "total never 125 allowed 96 unsettled 0"),
     Example(
         "In a build: only the questions that the file accepted names may be allowed. The control asks for what each "
         "process needs: where it doesn't hold, these are other filters.",
-        ["seccomp_audit audit --policy $policies/x86_64.toml \\",
-         "    --control $policies/control-x86_64.toml --accept accepted service/*.bpf"],
+        ["seccomp_audit audit --policy @x86_64 --control @control-x86_64 \\", "    --accept accepted service/*.bpf"],
         1, "unexpected ustat"),
     Example(
         "Which of the filters are needed?",
         ["seccomp_audit needed service/*.bpf"], 0, "total needed 2 spare 0 kept 2"),
     Example(
         "What happens to one call?",
-        ["seccomp_audit eval --call ioctl --args 0,0x5412 --arch x86_64 \\", "    --names $policies/names.toml service/*.bpf"],
+        ["seccomp_audit eval --call ioctl --args 0,0x5412 --arch x86_64 service/*.bpf"],
         0, "ERRNO 1"),
     Example(
         "What happens to two calls, with all their arguments?",
-        ["seccomp_audit list --calls ioctl,ptrace --names $policies/names.toml service/*.bpf"],
+        ["seccomp_audit list --calls ioctl,ptrace service/*.bpf"],
         0, "total lines 12"),
     Example(
         "Does a new version of the filters let anything more through? The rows have all that changes.",
         ["seccomp_audit compare --rows --old old/*.bpf --new new/*.bpf"], 0, "total changed 1"),
     Example(
         "Do the installed filters do what a container's profile means?",
-        ["seccomp_audit profile --machine x86_64 --names $policies/names.toml \\", "    profile.json > meaning.bpf",
+        ["seccomp_audit profile --machine x86_64 profile.json > meaning.bpf",
          "seccomp_audit compare --same --rows --old meaning.bpf --new installed.bpf"],
         1, "total changed 2"),
     Example(
         "What does a profile do that runs nowhere yet?",
-        ["seccomp_audit profile --machine x86_64 --names $policies/names.toml profile.json |", "    seccomp_audit list -"],
+        ["seccomp_audit profile --machine x86_64 profile.json |", "    seccomp_audit list -"],
         0, "total rows 17"),
 ]
 
@@ -72,9 +71,9 @@ NAMED = {
 
 FILES = [
     (f"{SHARED}/policies/x86_64.toml",
-     "A ready policy; there are more for i386, x32, aarch64 and arm. control-x86_64.toml beside it asks for what each "
-     "process needs."),
-    (f"{SHARED}/policies/names.toml", "The names of calls for --names: all five sets. names/ has a file for each."),
+     "A ready policy, @x86_64; there are more for i386, x32, aarch64 and arm. control-x86_64.toml beside it, "
+     "@control-x86_64, asks for what each process needs."),
+    (f"{SHARED}/policies/names.toml", "The names of calls for --names, @names: all five sets. names/ has a file for each."),
     ("/usr/share/doc/seccomp-audit/GUIDE.md",
      "The guide. Beside it GETTING-FILTERS.md says how to get filters, REFERENCE.md has formats and limits, and "
      "POLICIES.md says what the ready policies ask, and what a control is."),
@@ -97,7 +96,10 @@ WHERE = [
 ]
 
 ENVIRONMENT = [
-    ("SECCOMP_AUDIT_EXPLAIN", "If it is 1, each command explains its errors, as with --explain-errors."),
+    ("SECCOMP_AUDIT_EXPLAIN",
+     "If it is 1, each command explains its errors, as with --explain-errors and at a terminal; if it is 0, not at a terminal."),
+    ("SECCOMP_AUDIT_SHARE",
+     "The only folder below which @NAME is looked for: there it is policies/NAME.toml."),
 ]
 
 
@@ -113,10 +115,10 @@ def make_room(room, program):
 def tried(program):
     """Runs the examples in their order in one shell. Gives the status and the last line of standard output of each."""
     end = uuid.uuid4().hex
-    script = "".join("\n".join(example.lines) + f"\necho \"{end} $?\"\n" for example in EXAMPLES).replace(SHARED, ROOT)
+    script = "".join("\n".join(example.lines) + f"\necho \"{end} $?\"\n" for example in EXAMPLES)
     with tempfile.TemporaryDirectory() as room:
         make_room(room, program)
-        environment = {**os.environ, "PATH": f"{room}/bin:{os.environ['PATH']}", "LC_ALL": "C.UTF-8"}
+        environment = {**os.environ, "PATH": f"{room}/bin:{os.environ['PATH']}", "LC_ALL": "C.UTF-8", "SECCOMP_AUDIT_SHARE": ROOT}
         words = {"cwd": room, "env": environment, "stdin": subprocess.DEVNULL, "stdout": subprocess.PIPE}
         said = subprocess.run(["bash", "-c", script], stderr=subprocess.DEVNULL, text=True, **words).stdout
     parts = re.split(rf"{end} (\d+)\n", said)

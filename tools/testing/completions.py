@@ -2,8 +2,7 @@
 
     tools/test completions [bash|zsh|fish ..]
 
-Tries each shell that is on the path, or those that are named. The last line is `N passed, M failed`; where M isn't 0, or
-there is no shell, the status is 1.
+Tries each shell that is on the path, or those that are named.
 """
 import os
 import pty
@@ -22,48 +21,22 @@ FOLDER = os.path.join(ROOT, "docs/completions")
 INSTALLED = "share/seccomp_audit/policies"
 END = "all-was-typed"
 
-# What is typed before the tab, and what the line becomes; {installed} is the folder of the installed policies.
-CASES = [
-    ("seccomp_audit au", "seccomp_audit audit"),
-    ("seccomp_audit com", "seccomp_audit compare"),
-    ("seccomp_audit --ver", "seccomp_audit --version"),
-    ("seccomp_audit audit --po", "seccomp_audit audit --policy"),
-    ("seccomp_audit audit --policy pol", "seccomp_audit audit --policy policy.toml"),
-    ("seccomp_audit audit --policy policy.toml fil", "seccomp_audit audit --policy policy.toml filter.bpf"),
-    ("seccomp_audit audit --policy filter.bpf --policy pol", "seccomp_audit audit --policy filter.bpf --policy policy.toml"),
-    ("seccomp_audit audit --con", "seccomp_audit audit --control"),
-    ("seccomp_audit audit --control pol", "seccomp_audit audit --control policy.toml"),
-    ("seccomp_audit audit --acc", "seccomp_audit audit --accept"),
-    ("seccomp_audit audit --accept na", "seccomp_audit audit --accept names"),
-    ("seccomp_audit audit --prog", "seccomp_audit audit --progress"),
-    ("seccomp_audit audit --budget pol", "seccomp_audit audit --budget pol"),
-    ("seccomp_audit compare --ol", "seccomp_audit compare --old"),
-    ("seccomp_audit compare --old filter.bpf --new fil", "seccomp_audit compare --old filter.bpf --new filter.bpf"),
-    ("seccomp_audit eval --inp", "seccomp_audit eval --input"),
-    ("seccomp_audit check --rows", "seccomp_audit check --rows"),
-    ("seccomp_audit list --dig", "seccomp_audit list --digest"),
-    ("seccomp_audit nee", "seccomp_audit needed"),
-    ("seccomp_audit needed fil", "seccomp_audit needed filter.bpf"),
-    ("seccomp_audit needed --nod", "seccomp_audit needed --nodes"),
-    ("seccomp_audit compare --nodes pol", "seccomp_audit compare --nodes pol"),
-    ("seccomp_audit hel", "seccomp_audit help"),
-    ("seccomp_audit help lis", "seccomp_audit help list"),
-    ("seccomp_audit pro", "seccomp_audit profile"),
-    ("seccomp_audit profile --conf", "seccomp_audit profile --conflicts"),
-    ("seccomp_audit profile --sk", "seccomp_audit profile --skip-unknown"),
-    ("seccomp_audit profile --machine aa", "seccomp_audit profile --machine aarch64"),
-    ("seccomp_audit profile --conflicts mi", "seccomp_audit profile --conflicts mildest"),
-    ("seccomp_audit compare --only ti", "seccomp_audit compare --only tighter"),
-    ("seccomp_audit eval --arch aa", "seccomp_audit eval --arch aarch64"),
-    ("seccomp_audit eval --call getpi", "seccomp_audit eval --call getpid"),
-    ("seccomp_audit list --calls io_uring_s", "seccomp_audit list --calls io_uring_setup"),
-    ("seccomp_audit list --calls getpid,io_uring_s", "seccomp_audit list --calls getpid,io_uring_setup"),
-    ("seccomp_audit list --calls --dig", "seccomp_audit list --calls --digest"),
-    ("seccomp_audit audit --policy x86", "seccomp_audit audit --policy {installed}/x86_64.toml"),
-    ("seccomp_audit audit --policy control-x8", "seccomp_audit audit --policy control-x8"),
-    ("seccomp_audit audit --control control-x8", "seccomp_audit audit --control {installed}/control-x86_64.toml"),
-    ("seccomp_audit audit --names names.t", "seccomp_audit audit --names {installed}/names.toml"),
-]
+# What is typed behind the program's name and, behind the bar, what a tab adds to it.
+ADDED = """
+    au|dit ; com|pare ; nee|ded ; pro|file ; hel|p ; help lis|t ; --ver|sion
+    audit --po|licy ; audit --con|trol ; audit --acc|ept ; audit --prog|ress ; compare --ol|d ; eval --inp|ut
+    list --dig|est ; needed --nod|es ; profile --conf|licts ; profile --sk|ip-unknown ; check --rows|
+    audit --policy pol|icy.toml ; audit --policy policy.toml fil|ter.bpf ; audit --policy filter.bpf --policy pol|icy.toml
+    audit --control pol|icy.toml ; audit --accept na|mes ; needed fil|ter.bpf ; compare --old filter.bpf --new fil|ter.bpf
+    audit --budget pol| ; compare --nodes pol| ; compare --only ti|ghter ; eval --arch aa|rch64
+    profile --machine aa|rch64 ; profile --conflicts mi|ldest ; eval --call getpi|d ; list --calls io_uring_s|etup
+    list --calls getpid,io_uring_s|etup ; list --calls --dig|est ; audit --names @|names ; audit --groups @g|roups
+    audit --policy @x86|_64 ; audit --policy @x86_64 --control @control-x8|6_64 ; audit --policy control-x8|
+    audit --policy @control-x8|
+"""
+CASES = [(text, text + more) for text, more in (case.strip().split("|") for case in ADDED.strip().replace("\n", ";").split(";"))]
+CASES += [("audit --policy x86", "audit --policy @x86_64"), ("audit --control control-x8", "audit --control @control-x86_64")]
+CASES = [(f"seccomp_audit {text}", f"seccomp_audit {line}") for text, line in CASES]
 
 # How each shell is started, and which commands it gets first.
 SHELLS = {
@@ -79,11 +52,6 @@ def said_until(terminal, word, seconds=20):
         if select.select([terminal], [], [], 0.1)[0]:
             said += os.read(terminal, 4096)
     return said.decode(errors="replace")
-
-
-def environment_of(room, installed):
-    """What the shells run with: the program is on the path, and its policies are installed beside it."""
-    return {**os.environ, "TERM": "dumb", "HOME": room, "ZDOTDIR": room, "PATH": f"{installed}/bin:{os.environ['PATH']}"}
 
 
 def typed(shell, room, environment):
@@ -131,10 +99,11 @@ def main():
             shutil.copytree(os.path.join(ROOT, "policies"), os.path.join(installed, INSTALLED))
             os.mkdir(os.path.join(installed, "bin"))
             os.symlink("/bin/true", os.path.join(installed, "bin/seccomp_audit"))
-            environment = environment_of(room, installed)
+            # The program is on the path, and its policies are installed beside it.
+            folders = {"HOME": room, "ZDOTDIR": room, "PATH": f"{installed}/bin:{os.environ['PATH']}"}
+            environment = {**os.environ, "TERM": "dumb", **folders}
             came = completed_by_fish(room, environment) if shell == "fish" else typed(shell, room, environment)
-            cases = [(text, wanted.format(installed=f"{installed}/{INSTALLED}")) for text, wanted in CASES]
-        for (text, wanted), line in zip(cases, came):
+        for (text, wanted), line in zip(CASES, came):
             tell(line == wanted, shell, f"`{text}` and a tab become `{line}`, and not `{wanted}`")
     print(f"tried in {', '.join(shells)}")
     return finish()
