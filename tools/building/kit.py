@@ -18,7 +18,6 @@ PROGRAM = "seccomp_audit"
 KITS = ("rattle-kit-13b", "rattle-kit-13f")
 LOGIC = "dac8208d650f15bf"
 
-
 # What a proof costs: the modules of libraries that it loads, its functions, and seconds of one processor.
 Cost = namedtuple("Cost", "modules functions seconds")
 
@@ -38,9 +37,8 @@ def found():
     command = shutil.which("rt")
     if command is None:
         raise Refused("there is no `rt` on the path: install the Rattle kit, or take the package, which needs none")
-    ran = subprocess.run([command, "version"], capture_output=True, text=True)
-    words = ran.stdout.split()
-    if ran.returncode or words[:1] != [k for k in KITS if k in words[:1]] or words[1:] != ["logic", LOGIC]:
+    words = kit_version().split()
+    if words[:1] != [k for k in KITS if k in words[:1]] or words[1:] != ["logic", LOGIC]:
         told = " ".join(words) or "no version"
         raise Refused(f"`rt version` says `{told}`: the proofs are for {' or '.join(KITS)}, logic {LOGIC}")
     return os.path.dirname(os.path.dirname(os.path.realpath(command)))

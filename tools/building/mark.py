@@ -8,7 +8,7 @@ import os
 import re
 import subprocess
 
-from building.kit import PROGRAM, ROOT, Refused, replace
+from building.kit import PROGRAM, ROOT, Refused, replace, text_of
 
 # The line, and how many bytes stand between its parentheses.
 ROOM = 32
@@ -45,6 +45,11 @@ def marked(data, told):
     if not count or len(made) != len(data):
         raise Refused(f"the program has no place for `({told})`: see {PROGRAM}/src/version.rt")
     return made
+
+
+def version_in_sources():
+    """The version that the sources give the program."""
+    return re.search(rf"{PROGRAM} (\d+\.\d+\.\d+) ", text_of(f"crates/{PROGRAM}/src/version.rt"))[1]
 
 
 def version_of(program):

@@ -6,17 +6,14 @@
     tools/look definitions NAME ..      shows what the contracts of these functions or types reach (`audit`,
                                         `Book::commit`, `sf_book::Book`)
 
-A contract is what a public function requires and ensures. With it go how the types of its signature are seen (`ghost
-Value`, `ghost view`), how the types of the fields are seen that such a view reads, private ones too, and the clauses of
-the traits there. It reaches the definitions of `specs/` that its words name, and what these name in turn, by the `use`
-lines. Definitions of std and of the kit's crates aren't counted, and no contract names a lemma.
+The page says what is counted. A contract is what a public function requires and ensures. With it go how the types of its
+signature are seen (`ghost Value`, `ghost view`), how the types of the fields are seen that such a view reads, private
+ones too, and the clauses of the traits there.
 
 The contracts of the first two lists are those that docs/PROOF.md names: in its section on the headline, and for the
-program in its table of what is proved, in the rows of the crates below. These lists leave out what the page names as
-promises beside theirs: each stands for itself, in a clause or in a field of a record, and takes nothing from the
-others. The third list has what is left out of both, and what the product as a library says. A definition counts in the
-first list that reaches it, with the lines of its comment and without blank ones. Of the rest the page only says how many
-definitions the other contracts reach, and how many only what types keep (`ghost invariant`).
+program in its table of what is proved, in the rows of the crates below. The third list has what the page leaves out of
+both, and what the product as a library says. Of the rest the page only says how many definitions the other contracts
+reach, and how many only what types keep (`ghost invariant`).
 """
 import re
 import sys

@@ -2,11 +2,9 @@
 
     tools/test ci [PROGRAM]
 
-PROGRAM is the built seccomp_audit, crates/seccomp_audit/out/seccomp_audit if not given. A step of github.yml runs where
-none failed before it, or where it says `always()`; the lines below `script:` in gitlab.yml run in one shell up to the
-first that fails, and those below `after_script:` in another one. The step that installs the package is left out, and a
-stand-in takes the place of filter_of_profile, which takes libseccomp. The last line is `N passed, M failed`; where M
-isn't 0, the status is 1.
+A step of github.yml runs where none failed before it, or where it says `always()`; the lines below `script:` in gitlab.yml
+run in one shell up to the first that fails, and those below `after_script:` in another one. The step that installs the
+package is left out, and a stand-in takes the place of filter_of_profile, which takes libseccomp.
 """
 import json
 import os
@@ -19,7 +17,6 @@ from collections import namedtuple
 from building.kit import ROOT, text_of, write, write_script
 from testing.told import finish, given_program, tell
 
-POLICIES = "/usr/share/seccomp_audit/policies"
 INSTALLS = "apt-get"
 END = "--- the next one ---"
 
@@ -32,7 +29,7 @@ STAND_IN = """#!/bin/sh
 for profile; do :; done
 test -e "$profile" || exit 1
 if test -e .made.json; then profile=.made.json; fi
-seccomp_audit profile --machine x86_64 $named "$profile"
+seccomp_audit profile --machine x86_64 "$profile"
 """
 
 # A case: the calls that the profile allows now (None: there is none), those that the filter made of it does (None: the
@@ -63,7 +60,7 @@ CASES = [
 
 def variables_of(text):
     """The variables that a job sets."""
-    return dict(re.findall(r"(?m)^ +(asked|named): (.*)$", text))
+    return dict(re.findall(r"(?m)^ +(asked): (.*)$", text))
 
 
 def github_steps(text):
@@ -121,7 +118,8 @@ def make_room(program, room, case):
 def run(room, script, variables):
     """The status of a script, and what it says."""
     summary = {"GITHUB_STEP_SUMMARY": f"{room}/summary.md"}
-    environment = {**os.environ, **variables, **summary, "PATH": f"{room}/.tools:{os.environ['PATH']}"}
+    shared = {"SECCOMP_AUDIT_SHARE": ROOT}  # in the place of the package's
+    environment = {**os.environ, **variables, **summary, **shared, "PATH": f"{room}/.tools:{os.environ['PATH']}"}
     words = ["bash", "-eo", "pipefail", "-c", script]
     ran = subprocess.run(words, cwd=room, env=environment, stdin=subprocess.DEVNULL, capture_output=True, text=True)
     return ran.returncode, ran.stdout + ran.stderr
@@ -176,8 +174,7 @@ def wrong_summary(case, room):
 
 def main():
     for name, runs in (("github.yml", run_github), ("gitlab.yml", run_gitlab)):
-        # The folder of this repository for the one where the package has policies.
-        text = text_of(f"examples/ci/{name}").replace(POLICIES, f"{ROOT}/policies")
+        text = text_of(f"examples/ci/{name}")
         for case in CASES:
             with tempfile.TemporaryDirectory(prefix="ci-") as room:
                 make_room(given_program(), room, case)

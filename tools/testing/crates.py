@@ -4,8 +4,7 @@
 
 Each program, and the tests of each crate that has some, are built without proofs and run; what a program writes is
 compared. (The product itself is the one that `tools/build --unproved` has built.) As many are built side by side as there
-are processors, in some minutes. A test is given 120 seconds. NAME is a crate's; all if none is given. The last line is
-`N passed, M failed`, of tests and programs; where M isn't 0, the status is 1.
+are processors, in some minutes. A test is given 120 seconds. NAME is a crate's; all if none is given.
 """
 import os
 import re
@@ -21,10 +20,6 @@ from looking.tree import crates
 
 # The seconds that a test is given.
 SECONDS = "120"
-
-
-def processors():
-    return len(os.sched_getaffinity(0))
 
 
 def tried_tests(kit, program):
@@ -55,7 +50,7 @@ def tried_all(kit, names):
     some = [crate for crate in crates() if not names or crate.name in names]
     tasks = [(crate, tests) for crate in some for tests in (True, False) if (has_tests(crate) if tests else is_program(crate))]
     passed = failed = 0
-    with ThreadPoolExecutor(processors()) as pool:
+    with ThreadPoolExecutor(len(os.sched_getaffinity(0))) as pool:
         runs = {pool.submit(tried, kit, crate, tests): (crate, tests) for crate, tests in tasks}
         for run in as_completed(runs):
             (crate, tests), (good, bad, said) = runs[run], run.result()

@@ -14,8 +14,7 @@ after one that contradicts. Compared are
   each step that brought something new, and in the end for all.
 
 The first line counts what the random cases reach: of 10000 or more, each count has to be high enough. A case in which
-facts and rules differ gets a line, but no more than twenty are shown. The last line is `N passed, M failed`, of cases
-and of counts; the status is 1 where M isn't 0 or N is.
+facts and rules differ gets a line, but no more than twenty are shown. The last line is of cases and of counts.
 """
 import argparse
 import itertools

@@ -1,13 +1,13 @@
 """Counts the instructions that `seccomp_audit` takes for hostile inputs, and for others of a kind, twice as large.
 
-    tools/test growth [--table] [PROGRAM]      (crates/seccomp_audit/out/seccomp_audit if none is named)
+    tools/test growth [--table] [PROGRAM]
 
 The kinds are profiles and files of names that strangers might make so that reading them takes long. The larger input
 of a kind may take 2.5 times the instructions of the other at most: so none grows with the square of its size. What
 pages of many rows take is tried by `report/test`.
 
 It takes valgrind, whose cachegrind counts; where it isn't there nothing is tried, and a line says so. --table prints
-what each kind takes. The last line is `N passed, M failed`; the status is 1 where M isn't 0.
+what each kind takes.
 """
 import argparse
 import collections
@@ -20,7 +20,7 @@ import subprocess
 import tempfile
 
 from building.kit import ROOT, write
-from testing.told import BUILT
+from testing.told import BUILT, finish, tell
 
 COUNTER = ["valgrind", "--tool=cachegrind", "--cache-sim=no", "--cachegrind-out-file=/dev/null"]
 MOST_TIMES = 2.5
@@ -122,15 +122,11 @@ def main():
         print("left out: all kinds: there is no valgrind")
         print("0 passed, 0 failed")
         return 0
-    failed = 0
     with tempfile.TemporaryDirectory(prefix="growth-") as folder, concurrent.futures.ThreadPoolExecutor(2) as pool:
         counted = Counted(os.path.abspath(given.program), folder)
         for kind, found in zip(KINDS, pool.map(counted.counts, KINDS)):
             (first, one), (second, two) = found
             well = first == second == kind.status and 0 < two <= MOST_TIMES * one
-            failed += not well
-            if given.table or not well:
-                millions = f"{one / 1e6:.1f} and {two / 1e6:.1f} million instructions, {two / max(one, 1):.2f} times"
-                print(f"{kind.name}: {millions}; statuses {first} and {second} for {kind.status}")
-    print(f"{len(KINDS) - failed} passed, {failed} failed")
-    return 1 if failed else 0
+            millions = f"{one / 1e6:.1f} and {two / 1e6:.1f} million instructions, {two / max(one, 1):.2f} times"
+            tell(well, kind.name, f"{millions}; statuses {first} and {second} for {kind.status}", is_shown=given.table)
+    return finish()

@@ -2,8 +2,7 @@
 
     tools/test identity [PROGRAM]
 
-PROGRAM is the built seccomp_audit, crates/seccomp_audit/out/seccomp_audit if not given. It is marked in copies only. The
-last line is `N passed, M failed`; where M isn't 0, the status is 1.
+PROGRAM is marked in copies only.
 """
 import os
 import re
@@ -60,7 +59,7 @@ def marks(program, room):
 
 def refusals(room):
     """What can't be marked stays as it was."""
-    line = "seccomp_audit 2.0.0 (not proved, of an unknown commit)"
+    line = f"{PROGRAM} {mark.version_in_sources()} (not proved, of an unknown commit)"
     for what, text in (("no place", "exec true"), ("a shorter place", f"echo '{line.replace('an ', '')}'"),
                        ("a place that isn't shown", f"true '{line}\n'; echo '{line[:-1]}!)'")):
         path, script = os.path.join(room, "stand-in"), f"#!/bin/sh\n{text}\n"
@@ -96,14 +95,9 @@ def commits(room):
     yield case("a file that changed", (head, True))
 
 
-def cases(program):
-    yield from claims()
-    for some in (lambda room: marks(program, room), refusals, commits):
-        with tempfile.TemporaryDirectory(prefix="identity-") as room:
-            yield from some(room)
-
-
 def main():
-    for what, is_well, got in cases(told.given_program()):
-        told.tell(is_well, what, got)
+    for some in (lambda _: claims(), lambda room: marks(told.given_program(), room), refusals, commits):
+        with tempfile.TemporaryDirectory(prefix="identity-") as room:
+            for what, is_well, got in some(room):
+                told.tell(is_well, what, got)
     return told.finish()

@@ -3,9 +3,7 @@
     tools/test install
 
 A stand-in takes the program's place, so nothing has to be built. The cases of filter_of_profile are tried on the one
-that is installed. Cases that need a C compiler, or dpkg and objdump, are
-left out where these aren't there, and a line says so. The last line is `N passed, M failed`; where M isn't 0, the
-status is 1.
+that is installed. Cases that need a C compiler, or dpkg and objdump, are left out without these, and a line says so.
 """
 import json
 import os
@@ -51,8 +49,8 @@ WITHOUT_C = [place for place in PLACES if not place.endswith(("ask_kernel", "ker
 
 # A document without rows.
 DOCUMENT = json.dumps({
-    "seccomp_audit": "list", "version": 2, "stack": {"filters": 1, "path": 1}, "calls": None, "rows": [],
-    "total": {"rows": 0},
+    "seccomp_audit": "list", "version": 2, "program": "seccomp_audit", "stack": {"filters": 1, "path": 1}, "calls": None,
+    "files": [{"role": "filter", "path": "-", "length": 8, "sha256": "0" * 64}], "rows": [], "total": {"rows": 0},
 }) + "\n"
 
 
@@ -259,7 +257,7 @@ def try_claims(room):
     for kind, at, is_changed in (("proved", commit, False), ("proved", commit, True), ("proved", commit[::-1], False),
                                  ("proved", "", False), ("unproved", commit, False)):
         claim = mark.claim(kind, at, is_changed)
-        write_script(release.built(kind), f"#!/bin/sh\necho '{PROGRAM} 2.0.0 ({claim})'\n")
+        write_script(release.built(kind), f"#!/bin/sh\necho '{PROGRAM} {mark.version_in_sources()} ({claim})'\n")
         got = refusal(release.proved_program, commit)
         is_due = kind == "proved" and at == commit and not is_changed
         tell(("isn't built of this commit" not in got) == is_due, f"release: {claim}", got)

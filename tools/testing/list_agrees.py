@@ -14,8 +14,7 @@ Each random stack is compared with another one too, on as many inputs. An input 
 other lies in exactly one row, which has both answers.
 
 A stack may be too large: then nothing may be written to standard output, and the line before the last counts it. One
-with whole words and constants only never is. Each difference gets a line. The last line is `N agree, M differ`; the
-status is 1 where M isn't 0 or N is.
+with whole words and constants only never is.
 """
 import argparse
 import hashlib
@@ -24,7 +23,6 @@ import pathlib
 import random
 import re
 import struct
-import subprocess
 import sys
 import tempfile
 import tomllib
@@ -32,6 +30,7 @@ import tomllib
 from building.kit import built
 from testing.random_filters import ADD, AND, LSH, MUL, NEGATE, OR, RSH, SUB, XOR
 from testing.random_filters import ANY_BIT, AT_LEAST, BY_X, EQUAL, GREATER, LOAD, LOAD_SCRATCH, RETURN, STORE, TAX, encoded
+from testing.told import ran as run
 
 ALL = 0xFFFFFFFF
 X86_64, I386, ARM_64 = 0xC000003E, 0x40000003, 0xC00000B7
@@ -103,28 +102,13 @@ def row_of(line, names):
     return outcome, parts
 
 
-def sets_of(path):
-    """The sets of calls of a file of several sets."""
-    with open(path, "rb") as file:
-        return tomllib.load(file)
-
-
 def is_same(row, other):
     """Whether two rows are about the same inputs, with the same outcome."""
     return row[0] == other[0] and [vars(part) for part in row[1]] == [vars(part) for part in other[1]]
 
 
-def run(program, *words):
-    ran = subprocess.run([program, *words], capture_output=True, text=True, check=False)
-    return ran.returncode, ran.stdout, ran.stderr
-
-
 def digits_of(words):
     return struct.pack("<16I", *words).hex()
-
-
-def digits_in(path):
-    return pathlib.Path(path).read_bytes().hex()
 
 
 def code_of(path):
@@ -198,7 +182,7 @@ def of_list(program, paths, rng, count, plain, named):
     ran = run(program, "list", "--quiet", *paths, *(("--calls", "--names", named) if named else ()))
     if found := without_rows(ran, plain, [0]):
         return found
-    lines, names = ran[1].split("\n")[2:-1], sets_of(named) if named else {}
+    lines, names = ran[1].split("\n")[2:-1], tomllib.loads(pathlib.Path(named).read_text(encoding="utf-8")) if named else {}
     lined, wrong = rows_in(lines, names, "total lines" if named else "total rows")
     wrong += [] if named else digest_faults(program, paths, lines[:-1])
     # Two names of one call have the same lines.
@@ -304,7 +288,7 @@ def main():
         wrong, right, is_large = found
         agree, differ, large = agree + right, differ + len(wrong), large + is_large
         for line in wrong:
-            print(f"{name}: {line}", *map(digits_in, paths))
+            print(f"{name}: {line}", *(pathlib.Path(path).read_bytes().hex() for path in paths))
 
     if asked.files:
         stacks += 1

@@ -5,6 +5,8 @@ import re
 import struct
 from collections import Counter, namedtuple
 
+from building.kit import write
+
 ALLOW, ERRNO, KILL_THREAD, KILL_PROCESS = 0x7FFF0000, 0x50000, 0, 0x80000000
 X86_64 = 0xC000003E
 LET_THROUGH = ("ALLOW", "LOG")
@@ -14,6 +16,7 @@ HIGHEST = 0xFFFFFFFF
 # What a question asks of a word: mask, value, low, high.
 Asked = namedtuple("Asked", "mask value low high")
 Question = namedtuple("Question", "name words actions")
+
 
 def filter_of(*insns):
     """The bytes of instructions (code, jt, jf, k)."""
@@ -134,14 +137,6 @@ def audit_words(paths, workers, budget=None):
     return ["audit", "--regions", "--workers", str(workers), *limit, "--policy", "policy", *paths]
 
 
-def comparison_words(paths):
-    return ["compare", "--old", *paths, "--new", *paths]
-
-
-def listing_words(paths):
-    return ["list", *paths]
-
-
 def threads_of(words):
     """The fewest and the most threads that a command line starts. With several workers these are: one at least and at most one
     for each to explore, since none is started once nothing is left to do; and of an audit, to sweep, one less than there are
@@ -160,13 +155,14 @@ def write_files(folder):
         "control": 'version = 1\n[[question]]\nname = "anything"\n',
         "accepted": "# some that are allowed\nanything # on purpose\n",
         "bad_accepted": "nothing\n",
+        "groups": '[[group]]\nname = "a"\ntitle = "Programs"\nwhy = "b"\nquestions = ["execve", "x32"]\n',
+        "bad_groups": "group = 1\n",
         "names": "arch = 0xC00000B7\n[calls]\nread = 63\nwrite = 64\n",
         "profile": '{"defaultAction": "SCMP_ACT_ERRNO", "syscalls": [{"names": ["write", "no_call"], "action": "SCMP_ACT_LOG"}]}',
         "bad_profile": '{"defaultAction": "SCMP_ACT_ERRNO", "syscalls": [{"names": ["write"], "action": "SCMP_ACT_DENY"}]}',
     }
     for name, text in texts.items():
-        with open(os.path.join(folder, name), "w", encoding="ascii") as file:
-            file.write(text)
+        write(os.path.join(folder, name), text)
     stacks = {name: [f"{name}_{i}" for i in range(len(filters))] for name, filters in STACKS.items()}
     filters = [(path, content) for name, paths in stacks.items() for path, content in zip(paths, STACKS[name])]
     for path, content in [*filters, ("cut", LOGIN[:40]), ("wide", WIDE)]:
@@ -188,6 +184,8 @@ audit --workers 1 --why --names names --policy policy login_0
 audit --workers 1 --policy control --control policy --accept accepted login_0
 audit --workers 1 --policy control --policy policy --explain-errors --accept bad_accepted login_0
 audit --workers 1 --policy control --control control login_0
+audit --workers 1 --summary --groups groups --policy policy --control control login_0
+audit --workers 1 --summary-all --groups bad_groups --explain-errors --policy policy login_0
 needed login_0 login_0
 help needed
 profile --machine aarch64 --names names --skip-unknown profile

@@ -9,8 +9,7 @@ and then, with refuse.c beside this file before the C library:
 
   calls      CALLS, with each growth refused alone, the first ones several times, and all from each tenth on. It has to
              show `0 wrong`, and of each stack what it shows where it gets all; where all growths are refused from one
-             on, it may show `no memory` instead. (In its first exploration a bench grows: where that is refused, no
-             lease may be lost)
+             on, it may show `no memory` instead. (No lease of a bench may be lost)
   workers    CALLS, with one worker of each of its last explorations refused all growths from one of its calls on, and
              of two of them all workers. It has to show that the others worked what that one gave back, and the calling
              thread nothing, and where all were refused that the calling thread worked off the rest and that the gate
@@ -31,15 +30,13 @@ several workers spend a budget, which pieces are left is open: then the counts m
 lines, each region must be one of the whole exploration, each example must break its question by the program's own
 `eval`, and no question is `never`. A run that takes 20 seconds hangs.
 
-Needs a C compiler: `cc`, or what the variable CC names. Prints each wrong run, and for each part how many runs there
-were, how many of them were refused something, how many answered Memory (of CALLS: in how many a call did), and how many
-were wrong. The status is 1 where one was wrong, and where a part met no refusal.
+Needs a C compiler: `cc`, or what the variable CC names. Prints each wrong run, and what came of each part (of CALLS
+"answered Memory" counts the runs in which a call did). The status is 1 where a run was wrong, and where a part met no
+refusal.
 
-With `--gate` only what the gate runs, in less than a minute: of CALLS the first growths, each refused once, and its
-first large ones, of which a bench's is the first of all, a few times each; workers that are refused all memory, a few
-times; the growths of an audit by 1, 2 and 8 workers, and of a comparison and a list, each refused once; and whether an
-audit starts as many threads as its workers need. The last line is then `N passed, M failed`, of runs, and of parts that
-met no refusal.
+With `--gate` only what the gate runs, in less than a minute: a few of these (`gate_jobs`), large growths of CALLS, of
+which a bench's is the first of all, and whether an audit starts as many threads as its workers need. The last line is
+then `N passed, M failed`, of runs, and of parts that met no refusal.
 """
 import os
 import subprocess
@@ -49,7 +46,7 @@ from collections import Counter
 from concurrent.futures import ThreadPoolExecutor
 
 from building.kit import ROOT
-from testing.memory_cases import Report, audit_words, comparison_words, listing_words, single_words, write_files
+from testing.memory_cases import Report, audit_words, single_words, write_files
 from testing.refusals import Sweep
 
 BUILT = os.path.join(ROOT, "crates/{0}/out/{0}")
@@ -74,7 +71,7 @@ def audits_of(sweep, paths, numbers):
 
 def diagrams_of(sweep, paths):
     """A comparison of a stack with itself, and its list."""
-    return [sweep.case(comparison_words(paths)), sweep.case(listing_words(paths))]
+    return [sweep.case(["compare", "--old", *paths, "--new", *paths]), sweep.case(["list", *paths])]
 
 
 def spending_of(sweep, paths):

@@ -4,8 +4,6 @@
 
 Each call that a policy asks about has a name. Each number of a set has a name, or a question of its policy is about it.
 Each call of x86-64 has a question, or docs/POLICIES.md says why it has none. It takes no program and no headers.
-
-Each case that fails gets a line. The last line is `N passed, M failed`; where M isn't 0, the status is 1.
 """
 import re
 import tomllib

@@ -1,13 +1,11 @@
 """Compares which texts `seccomp_audit profile` and helpers/filter_of_profile refuse for their form.
 
-    tools/test profile_forms [PROGRAM]      (crates/seccomp_audit/out/seccomp_audit if none is named)
+    tools/test profile_forms [PROGRAM]
 
 The texts are those of profile_texts.py, each by itself, and a profile also in a config.json. Those that all runtimes
 read alike have to be read by both, and those that 1.2.0 to 1.5.0 read otherwise than some runtime have to be refused by
 both. Of any other text both have to say the same, but where only names decide: `profile` refuses calls and sets of
 calls that no file of names has. `tools/test runtimes` says what runtimes make of these texts.
-
-Each difference gets a line. The last line is `N passed, M failed`; the status is 1 where M isn't 0.
 """
 import concurrent.futures
 import os

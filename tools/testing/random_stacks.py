@@ -7,8 +7,7 @@ PEER is the plain program of bench/plain if none is given; cargo builds it first
 The kinds, all if none is given, are those of `random_filters.py`: each is aimed at some of the program's shortcuts. So
 many CASES of each are tried, 1000 if no number is given. Each stack is audited with its regions, so names, counts,
 answers and replies are compared, and the exit statuses. A stack on which the two differ is named by its kind, seed and
-number, and its filters are shown as hexadecimal digits where they are short. A line for each kind counts its cases. The
-last line is `N agree, M differ`; the status is 1 where M isn't 0.
+number, and its filters are shown as hexadecimal digits where they are short. A line for each kind counts its cases.
 """
 import argparse
 import random
@@ -41,18 +40,14 @@ actions = ["KILL_PROCESS", "KILL_THREAD"]
 """
 
 
-def outcome(program, words):
-    ran = subprocess.run([program, *words], capture_output=True)
-    return ran.returncode, ran.stdout
-
-
 def compare(programs, kind, seed, cases, folder):
     """How many stacks of a kind the two programs answer differently."""
     differ = emptied = refused = 0
     for n in range(cases):
         stack = [encoded(code) for code in kind(random.Random(f"{seed}/{n}"))]
         command, *words = audit_of(folder, POLICY, stack, KINDS[kind])
-        one, two = (outcome(program, [command, "--regions", *words]) for program in programs)
+        ran = [subprocess.run([program, command, "--regions", *words], capture_output=True) for program in programs]
+        one, two = ((it.returncode, it.stdout) for it in ran)
         refused += one[0] > 2
         emptied += one[0] <= 2 and b"emptied 0" not in one[1]
         if one != two:

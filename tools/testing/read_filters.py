@@ -3,8 +3,7 @@
     tools/test read_filters
 
 It takes a C compiler. A process is read only by root with CAP_SYS_ADMIN, where no filter is in force; elsewhere these
-cases are left out, and a line says so. The last line is `N passed, M failed`; where M isn't 0, or nothing was tried,
-the status is 1.
+cases are left out, and a line says so.
 """
 import ctypes
 import functools
@@ -130,6 +129,11 @@ def started(first, *paths):
     return child, child.stdout.readline().split()
 
 
+def end(child):
+    child.kill()
+    child.wait()
+
+
 def status_of(thread):
     """A thread's state, as a letter, and who traces it."""
     lines = dict(line.split(":\t", 1) for line in text_of(f"/proc/{thread}/status").splitlines())
@@ -198,8 +202,7 @@ def try_process(reader, room):
         ran = said(reader, two, "two-", cwd=here)
         tell(ran.returncode == 1 and "two-01.bpf: File exists" in ran.stderr, "a file that is there", ran)
     finally:
-        child.kill()
-        child.wait()
+        end(child)
 
 
 def try_unread(reader, waits, room):
@@ -229,8 +232,7 @@ def try_unread(reader, waits, room):
         tell(well, "let go where the reader is ended", status_of(held))
     finally:
         reading.kill()
-        child.kill()
-        child.wait()
+        end(child)
     ran = said(reader, first, f"{room}/gone-")
     well = ran.returncode == 1 and ran.stderr == f"thread {first}: there is no such thread\n"
     tell(well, "a thread that isn't there", ran)
@@ -260,15 +262,13 @@ def try_states(reader, waits, room):
     ran = said(reader, "--all-threads", str(child.pid), f"{room}/stopped-")
     well = ran.returncode == 0 and comes(lambda: status_of(child.pid) == ("T", "0"))
     tell(well, "a process that is stopped", (ran, status_of(child.pid)))
-    child.kill()
-    child.wait()
+    end(child)
     child, _ = waiting(waits, "starts")
     ran = said(reader, "--all-threads", str(child.pid), f"{room}/starts-")
     late = [line for line in ran.stderr.splitlines() if line.startswith("thread ") and "started too late" in line]
     well = ran.returncode == (1 if late else 0) and len(late) == ran.stderr.count("\n")
     tell(well and f"starts-thread-{child.pid}: 0 filters" in ran.stdout, "a process that starts threads", ran)
-    child.kill()
-    child.wait()
+    end(child)
 
 
 def drop_admin():
@@ -282,8 +282,7 @@ def try_rights(reader, room):
     read = f"{room}/rights-thread-{numbers[0]}: 0 filters, of threads {numbers[0]}\n"
     well = ran.returncode == 1 and ran.stdout == read and ran.stderr == f"thread {numbers[1]}: needs CAP_SYS_ADMIN\n"
     tell(well, "without CAP_SYS_ADMIN", ran)
-    child.kill()
-    child.wait()
+    end(child)
 
 
 def try_ended(reader, room):
@@ -311,8 +310,7 @@ def can_read(reader, room):
     """Whether a process can be read here."""
     child, _ = started("waits", FILTERS[0])
     ran = said(reader, "--all-threads", str(child.pid), os.path.join(room, "can-"))
-    child.kill()
-    child.wait()
+    end(child)
     if ran.returncode:
         print(f"left out: what is read of processes: {ran.stderr.strip()}")
     return ran.returncode == 0

@@ -1,6 +1,6 @@
 """Compares what runc, crun and podman make of profiles with what `seccomp_audit profile` makes of the same bytes.
 
-    tools/test runtimes [--table] [PROGRAM]      (crates/seccomp_audit/out/seccomp_audit if none is named)
+    tools/test runtimes [--table] [PROGRAM]
 
 Each text of profile_texts.py is given to each runtime that is installed. In the container a program makes some system
 calls, and prints what they return. runc and crun get a config.json, podman a profile (it takes a config.json for one
@@ -9,8 +9,7 @@ says what that answers to these calls. A text of those that all read alike has t
 For any other, one of them may refuse it, but where both answer, they have to agree.
 
 It takes root, x86-64, a C compiler, and one of the runtimes (Debian: runc, crun, podman); a line says which are left
-out, and why. Docker isn't tried. --table prints for each text and runtime what came. Each difference gets a line. The
-last line is `N passed, M failed`; the status is 1 where M isn't 0.
+out, and why. Docker isn't tried. --table prints for each text and runtime what came.
 """
 import argparse
 import collections

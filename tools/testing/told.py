@@ -1,5 +1,6 @@
 """What tests share: the program that they try, and the counts of what passes and what doesn't."""
 import os
+import subprocess
 import sys
 
 from building.kit import PROGRAM, ROOT, Refused
@@ -14,11 +15,17 @@ def given_program():
     return os.path.abspath(sys.argv[1] if sys.argv[1:] else BUILT)
 
 
-def tell(is_well, what, *got):
-    """Counts a case, and says what came where it isn't well."""
+def ran(*words, **how):
+    """The status of a command, and what it writes to standard output and to standard error."""
+    it = subprocess.run(words, stdin=subprocess.DEVNULL, capture_output=True, text=True, **how)
+    return it.returncode, it.stdout, it.stderr
+
+
+def tell(is_well, what, *got, is_shown=False):
+    """Counts a case, and says what came where it isn't well, or is to be shown."""
     global passed, failed
     passed, failed = passed + bool(is_well), failed + (not is_well)
-    if not is_well:
+    if is_shown or not is_well:
         print(what, *got, sep=": ")
 
 

@@ -2,8 +2,7 @@
 
     tools/test try_edits
 
-The prover's lines are those of two functions, of which `outer` calls `inner`. The last line is `N passed, M failed`;
-where M isn't 0, the status is 1.
+The prover's lines are those of two functions, of which `outer` calls `inner`.
 """
 import pathlib
 import tempfile
