@@ -1,4 +1,6 @@
-use Rattle.std.proofs.Common.{◌≡◌, length, ap, ◌∙◌, refl}
+use Rattle.std.proofs.lemmas.Grind.{common_steps}
+use Rattle.std.proofs.Common.{arith}
+use Rattle.std.proofs.Common.{◌≡◌, length, ap, ◌∙◌}
 use Rattle.std.proofs.lemmas.List.Elements.{All-push}
 use Rattle.std.specs.Arc.{arc_slice_items}
 use Rattle.sf_blocks.specs.laws.BlockLaws.{joined-push, joined-same, AreWide-same}
@@ -14,13 +16,4 @@ returns-clause-full g c =
     (ap length c.in_ok-block.ensures.ok ∙ c.requires.tail))
 
 pub returns-clause-same : goal.returns-clause-same
-returns-clause-same g c =
-    let b = c.in_ok-block.block in
-    let all = c.in_ok-all.all.items in
-    rw (
-      c.in_ok-shared.ensures.ok,
-      c.in_ok-push.ensures.items,
-      joined-push arc_slice_items all b,
-      joined-same arc_slice_items c.args.blocks.now all c.in_ok-all.ensures.items,
-      c.in_ok-block.ensures.ok,
-    ) refl
+returns-clause-same g c = grind (arith, common_steps, joined-push, joined-same)

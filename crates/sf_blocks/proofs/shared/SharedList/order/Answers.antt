@@ -1,5 +1,5 @@
 use Rattle.std.proofs.lemmas.Grind.{common_steps}
-use Rattle.std.proofs.Common.{◌≡◌, ◌+◌, length, map, refl, ◌∙◌, arith}
+use Rattle.std.proofs.Common.{◌≡◌, ◌+◌, length, map, ◌∙◌, arith}
 use Rattle.std.specs.Arc.{arc_slice_items, arc_value}
 use Rattle.std.specs.Cmp.Lexicographic.{slice_cmp}
 use Rattle.std.specs.Ordering.{ordering_then, nat_cmp}
@@ -12,12 +12,7 @@ use Rattle.sf_blocks.proofs.shared.SharedList.order.Goals.{After-is_ne, After-is
 use Rattle.sf_blocks.proofs.shared.SharedList.order.Goals as goal
 
 pub loop-place-init : goal.loop-place-init
-loop-place-init g c =
-    let left = from-first arc_slice_items (arc_value c.self.inside.full).items c.self.inside.tail.items
-    c.args.self.now c.self.view_is in
-    let right = from-first arc_slice_items (arc_value c.other.inside.full).items c.other.inside.tail.items
-    c.args.other.now c.other.view_is in
-    rw (c.blocks_of-left.ensures, c.blocks_of-right.ensures, ← left, ← right) refl
+loop-place-init g c = grind (arith, common_steps, from-first)
 
 -- two blocks at one place, as the code compares them
 step : (g : Over) (c : After-is_ne g)
