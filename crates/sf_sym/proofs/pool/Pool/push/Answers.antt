@@ -21,12 +21,7 @@ returns-in-Some-clause-added c = λ absent.
     absurd (rw (← c.self.view_is) at absent c.in-Some.at there.0 (there.1 ∙ folds))
 
 pub invariant_of-self-2 : goal.invariant_of-self-2
-invariant_of-self-2 c =
-    let none = rw (c.deref-3.ensures, c.fold-node.ensures, c.deref-2.ensures) at c.find.ensures.absent
-    c.in_default.is in
-    rw (c.in_ok-at.ensures.ok, c.fold-node.ensures, c.deref-2.ensures)
-    (pushed-lawful (arc_value c.self.inside.nodes) c.args.node c.self.invariant
-    (rw (← c.self.view_is) at c.requires) none)
+invariant_of-self-2 c = grind (arith, common_steps, pushed-lawful)
 
 pub returns-clause-value : goal.returns-clause-value
 returns-clause-value c = grind (arith, common_steps, value-pushed, folded_node-value)
@@ -37,12 +32,7 @@ returns-clause-plain c = λ k e plain.
     (ArePlainNodes-push (arc_value c.self.inside.nodes) k (rw (← c.self.view_is) at plain))
 
 pub returns-clause-lawful : goal.returns-clause-lawful
-returns-clause-lawful c =
-    let none = rw (c.deref-3.ensures, c.fold-node.ensures, c.deref-2.ensures) at c.find.ensures.absent
-    c.in_default.is in
-    rw (c.in_ok-at.ensures.ok, c.fold-node.ensures, c.deref-2.ensures)
-    (pushed-lawful (arc_value c.self.inside.nodes) c.args.node c.self.invariant
-    (rw (← c.self.view_is) at c.requires) none)
+returns-clause-lawful c = grind (arith, common_steps, pushed-lawful)
 
 pub overflow_cast-result : goal.overflow_cast-result
 overflow_cast-result c =
