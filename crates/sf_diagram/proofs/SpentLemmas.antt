@@ -1,4 +1,5 @@
 -- Where a store has no room for a tree that is asked for.
+use Rattle.std.proofs.lemmas.Grind.{common_steps}
 use Rattle.sf_diagram.proofs.Common.{◌≡◌, ◌≢◌, ◌⊎◌, ℕ, suc, ◌<◌, Bool, true, false, length, refl, sym, ◌∙◌, inl, inr, arith, if◌then◌else◌, cases_eq, Tree, Leaf, Fork, Bits, value, IsOrderedFrom, IsOrderedTree, IsReducedTree, StoreData, tree_at, IsLawfulStore, HasNoRoom, IsSpentFor, Stands, HasValues, AreDivided}
 use Rattle.sf_diagram.proofs.task.TaskLemmas.{made-ordered, joined-values}
 use Rattle.sf_diagram.proofs.TreeLemmas.{with_bit, with_bit-same, with_bit-other, value-above, value-lower, value-higher, ordered-from, one-tree}
@@ -25,12 +26,8 @@ side-there s (Fork w p q) v b lawful at o = elim (cases_eq w v) [
 -- the numbers on the inputs that lead to a side
 side-values : (v : ℕ) (b : Bool) (f lower higher : Bits → ℕ) (bits : Bits) → AreDivided v f lower higher
     → f (with_bit bits v b) ≡ (if b then higher else lower) bits
-side-values v true f lower higher bits d =
-    d.values (with_bit bits v true) ∙ rw (with_bit-same bits v true)
-    (d.higher_from (with_bit bits v true) bits (λ w l. with_bit-other bits v true w (omega arith)))
-side-values v false f lower higher bits d =
-    d.values (with_bit bits v false) ∙ rw (with_bit-same bits v false)
-    (d.lower_from (with_bit bits v false) bits (λ w l. with_bit-other bits v false w (omega arith)))
+side-values v true f lower higher bits d = grind (arith, common_steps, with_bit, with_bit-same, with_bit-other)
+side-values v false f lower higher bits d = grind (arith, common_steps, with_bit, with_bit-same, with_bit-other)
 
 -- where there is no room for one side, there is none for the whole
 pub side-spent : (s : StoreData) (v : ℕ) (b : Bool) (f lower higher : Bits → ℕ) → IsLawfulStore s

@@ -1,40 +1,16 @@
 -- The first input to which a tree gives another number than 0.
-use Rattle.sf_diagram.proofs.Common.{◌≡◌, ◌≢◌, ℕ, suc, ◌<◌, ◌≤◌, ◌==◌, Bool, true, false, List, [], ◌∷◌, ◌++◌, refl, sym, ap, subst, ◌∙◌, inl, inr, arith, ◌||◌, if◌then◌else◌, fun_ext, cases_order, cases_eq, eq-eqb, ne_eqb, or_right, list_any-append, Tree, Leaf, Fork, Bits, bits_with, IsOrderedFrom, IsLeastNonzero}
+use Rattle.std.proofs.lemmas.Grind.{common_steps}
+use Rattle.sf_diagram.proofs.Common.{◌≡◌, ℕ, suc, ◌<◌, ◌≤◌, Bool, true, false, List, [], ◌∷◌, ◌++◌, refl, sym, ap, subst, ◌∙◌, inl, inr, arith, fun_ext, cases_order, cases_eq, eq-eqb, ne_eqb, or_right, list_any-append, Tree, Leaf, Fork, Bits, bits_with, IsOrderedFrom, IsLeastNonzero}
 use Rattle.sf_diagram.proofs.TreeLemmas.{with_bit, with_bit-same, with_bit-other, value-above, value-higher}
 
 -- one more variable is true
 bits_with-push : (vs : List ℕ) (v w : ℕ) → bits_with (vs ++ v ∷ []) w ≡ with_bit (bits_with vs) v true w
-bits_with-push vs v w = list_any-append (λ u. u == w) vs (v ∷ []) ∙ or-bit (bits_with vs w)
-  where
-    or-none : (b : Bool) → (b || false) ≡ b
-    or-none true = refl
-    or-none false = refl
-
-    or-bit : (b : Bool) → (b || ((v == w) || false)) ≡ (if w == v then true else b)
-    or-bit b = elim (cases_eq w v) [
-      | inl same ↦ rw (same, eq-eqb v v refl) (or_right b true refl)
-      | inr other ↦ rw (ne_eqb v w (λ e. other (sym e)), ne_eqb w v other) (or-none b)
-    ]
+bits_with-push vs v w = grind (arith, common_steps, cases_eq, eq-eqb, ne_eqb, or_right, list_any-append, bits_with)
 
 -- where all true variables are from n on, one below n is false
 below-false : (b : Bool) (n v : ℕ) → (b ≡ true → n ≤ v) → v < n → b ≡ false
 below-false true n v h l = absurd (omega (arith, h refl))
 below-false false n v h l = refl
-
-pub least-leaf : (c : ℕ) → c ≢ 0 → IsLeastNonzero (Leaf c) (bits_with [])
-least-leaf c h = record { some = h; first = λ bits before. absurd (cc before.2) }
-
--- the lower side gives another number than 0 to some input: the first one is its first one
-pub least-lower : (v : ℕ) (l h : Tree) (least : Bits) → ((w : ℕ) → least w ≡ true → suc v ≤ w)
-    → IsLeastNonzero l least → IsLeastNonzero (Fork v l h) least
-least-lower v l h least above is =
-    let here : least v ≡ false = below-false (least v) (suc v) v (above v) (omega arith) in
-    record {
-      some = rw here is.some;
-      first = λ bits before.
-          let low : bits v ≡ false = before.3 v (above before.0 before.2) ∙ here in
-          rw low (is.first bits before);
-    }
 
 -- the lower side gives 0 to each input: the first input is the higher side's with the variable
 pub least-higher : (v : ℕ) (h : Tree) (vs : List ℕ) → IsOrderedFrom (suc v) h
@@ -65,14 +41,3 @@ least-higher v h vs o above is =
             )))
       ];
     })
-
--- with one more variable, too, all true variables are from n on
-pub above-push : (vs : List ℕ) (v n : ℕ) → n ≤ v → ((w : ℕ) → bits_with vs w ≡ true → suc v ≤ w) → (w : ℕ)
-    → bits_with (vs ++ v ∷ []) w ≡ true → n ≤ w
-above-push vs v n le above w e = elim (cases_eq w v) [
-  | inl same ↦ omega arith
-  | inr other ↦ omega (
-    arith,
-    above w (sym (bits_with-push vs v w ∙ with_bit-other (bits_with vs) v true w other) ∙ e),
-  )
-]

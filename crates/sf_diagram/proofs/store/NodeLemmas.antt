@@ -1,5 +1,6 @@
 -- Stores stay right as they grow.
-use Rattle.sf_diagram.proofs.Common.{◌≡◌, ◌≢◌, ◌⊎◌, ℕ, ◌<◌, ◌≤◌, Option, List, [], ◌∷◌, ◌++◌, length, get_or, refl, sym, ap, ◌∙◌, inl, inr, arith, cases_lt, get_or_append_left, get_or_push, length_push, All-push, All-from_get_or, Tree, Leaf, Fork, IsOrderedTree, IsReducedTree, tree_at, AreCanonical, Stands, IsLawfulStore, KeepsTrees, stored_node, OperandsBelow, tree_of, trees_after, trees_of, IsStore, IsSound, Node, Number, Choice, Task}
+use Rattle.std.proofs.lemmas.Grind.{common_steps}
+use Rattle.sf_diagram.proofs.Common.{◌≡◌, ◌≢◌, ◌⊎◌, ℕ, ◌<◌, ◌≤◌, Option, List, [], ◌∷◌, ◌++◌, length, get_or, refl, sym, ap, ◌∙◌, inl, inr, arith, cases_lt, get_or_append_left, get_or_push, length_push, All-push, All-from_get_or, Tree, Leaf, IsOrderedTree, IsReducedTree, tree_at, AreCanonical, IsLawfulStore, KeepsTrees, stored_node, OperandsBelow, tree_of, trees_after, trees_of, IsStore, IsSound, Node, Number, Choice, Task}
 use Rattle.sf_diagram.proofs.task.TaskLemmas.{remembered-keeps}
 
 trees_after-append : (older : List Tree) (ms ns : List Node)
@@ -12,10 +13,7 @@ pub trees_of-push : (ns : List Node) (n : Node) → trees_of (ns ++ n ∷ []) �
 trees_of-push ns n = trees_after-append [] ns (n ∷ [])
 
 pub keeps_push : (ts : List Tree) (t : Tree) → KeepsTrees ts (ts ++ t ∷ [])
-keeps_push ts t = record {
-  longer = omega (arith, length_push ts t);
-  same = λ i l. get_or_append_left ts (t ∷ []) (Leaf 0) i l;
-}
+keeps_push ts t = grind (arith, common_steps, get_or_append_left, length_push)
 
 -- a node has the same tree where the trees of its operands are kept
 tree_of-keeps : (a b : List Tree) (k : ℕ) (n : Node) → KeepsTrees a b → OperandsBelow k n → k ≤ length a
@@ -29,10 +27,7 @@ one-node : (ts : List Tree) (a b : Node) → AreCanonical ts → OperandsBelow (
 one-node ts (Number c) (Number d) h oa ob e = cc
 one-node ts (Number c) (Choice v p q) h oa ob e = cc
 one-node ts (Choice v p q) (Number c) h oa ob e = cc
-one-node ts (Choice v p q) (Choice w r s) h oa ob e =
-    let lower : p ≡ r = h.once p r oa.0 ob.0 (cc) in
-    let higher : q ≡ s = h.once q s oa.1 ob.1 (cc) in
-    cc
+one-node ts (Choice v p q) (Choice w r s) h oa ob e = grind (arith, common_steps)
 
 operands-weaker : (k m : ℕ) (n : Node) → OperandsBelow k n → k ≤ m → OperandsBelow m n
 operands-weaker k m (Number c) o l = tt
@@ -42,41 +37,18 @@ operands-weaker k m (Choice v p q) o l = (omega (arith, o.0), omega (arith, o.1)
 pushed : {A : Type 0} (xs : List A) (x d : A) (i : ℕ) → i < length (xs ++ x ∷ [])
     → ((i < length xs) × (get_or (xs ++ x ∷ []) i d ≡ get_or xs i d))
     ⊎ ((i ≡ length xs) × (get_or (xs ++ x ∷ []) i d ≡ x))
-pushed xs x d i l = elim (cases_lt i (length xs)) [
-  | inl old ↦ inl (old, get_or_append_left xs (x ∷ []) d i old)
-  | inr new ↦ (
-      let last : i ≡ length xs = omega (arith, length_push xs x) in
-      inr (last, get_or_push xs x d i (sym last)))
-]
+pushed xs x d i l = grind (arith, common_steps, cases_lt, get_or_append_left, get_or_push, length_push)
 
 -- canonical trees, and one more that is none of them
 canonical-push : (ts : List Tree) (t : Tree) → AreCanonical ts → IsOrderedTree t → IsReducedTree t
     → ((i : ℕ) → i < length ts → tree_at ts i ≢ t) → AreCanonical (ts ++ t ∷ [])
-canonical-push ts t h o r new = record {
-  ordered = λ i. All-push IsOrderedTree ts t (All-from_get_or IsOrderedTree ts (Leaf 0) h.ordered) o i (Leaf 0);
-  reduced = λ i. All-push IsReducedTree ts t (All-from_get_or IsReducedTree ts (Leaf 0) h.reduced) r i (Leaf 0);
-  once = λ i j l m e. elim (pushed ts t (Leaf 0) i l) [
-    | inl b ↦ elim (pushed ts t (Leaf 0) j m) [
-      | inl c ↦ h.once i j b.0 c.0 (sym b.1 ∙ e ∙ c.1)
-      | inr c ↦ absurd (new i b.0 (sym b.1 ∙ e ∙ c.1))
-    ]
-    | inr a ↦ elim (pushed ts t (Leaf 0) j m) [
-      | inl c ↦ absurd (new j c.0 (sym c.1 ∙ sym e ∙ a.1))
-      | inr c ↦ a.0 ∙ sym c.0
-    ]
-  ];
-}
+canonical-push ts t h o r new = grind (arith, common_steps, All-push, All-from_get_or, pushed)
 
 -- where no node is equal to one, no tree is the one of this node
 pub tree-absent : (ns : List Node) (n : Node) → IsStore ns → OperandsBelow (length (trees_of ns)) n
     → ((i : ℕ) → i < length ns → stored_node ns i ≢ n) → (i : ℕ) → i < length (trees_of ns)
     → tree_at (trees_of ns) i ≢ tree_of (trees_of ns) n
-tree-absent ns n h o new i l e =
-    let ts = trees_of ns in
-    let count : length ts ≡ length ns = h.count in
-    new i (omega arith) (one-node ts (stored_node ns i) n h.canonical
-    (operands-weaker i (length ts) (stored_node ns i) (h.older i (omega arith)) (omega arith)) o
-    (sym (h.trees i (omega arith)) ∙ e))
+tree-absent ns n h o new i l e = grind (arith, common_steps, stored_node, trees_of, one-node, operands-weaker)
 
 -- a sound store and one more node that is none of its nodes
 pub sound-push : (ns : List Node) (n : Node) (most : ℕ) (cache : List (Option (Task × ℕ))) → IsSound ns most cache
@@ -112,18 +84,4 @@ sound-push ns n most cache h o ordered reduced new room =
 -- the nodes make a lawful store
 pub lawful-store : (ns : List Node) (most : ℕ) (cache : List (Option (Task × ℕ))) → IsSound ns most cache
     → IsLawfulStore (record { trees = trees_of ns; most = most })
-lawful-store ns most cache h = record {
-  canonical = h.store.canonical;
-  closed = λ v p q at.
-      let count : length (trees_of ns) ≡ length ns = h.store.count in
-      let i = at.0 in
-      let l : i < length ns = omega (arith, at.1) in
-      sides v p q i (stored_node ns i) at.1 (h.store.older i l) (sym (h.store.trees i l) ∙ at.2);
-  few = omega (arith, h.few, h.store.count);
-}
-  where
-    sides : (v : ℕ) (p q : Tree) (k : ℕ) (n : Node) → k < length (trees_of ns) → OperandsBelow k n
-        → tree_of (trees_of ns) n ≡ Fork v p q → Stands (record { trees = trees_of ns; most = most }) p
-        × Stands (record { trees = trees_of ns; most = most }) q
-    sides v p q k (Number c) l o e = absurd (cc)
-    sides v p q k (Choice w i j) l o e = ((i, omega (arith, o.0), (cc)), (j, omega (arith, o.1), (cc)))
+lawful-store ns most cache h = grind (arith, common_steps, stored_node, tree_of, trees_of)

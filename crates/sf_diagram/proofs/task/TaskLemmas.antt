@@ -1,5 +1,6 @@
 -- Trees that are made of others, and what is wanted of them.
-use Rattle.sf_diagram.proofs.Common.{◌≡◌, ℕ, suc, ◌<◌, ◌≤◌, Option, Some, None, Bool, true, false, List, length, refl, sym, ◌∙◌, inl, inr, arith, if◌then◌else◌, All, All-weaker, Tree, Bits, value, IsOrderedFrom, IsJoined, StoreData, tree_at, IsLawfulStore, KeepsTrees, IsParted, AreBelow, wanted, HasValues, AreFrom, AreDivided, IsRemembered, Task, Choose, Merge, value_from}
+use Rattle.std.proofs.lemmas.Grind.{common_steps}
+use Rattle.sf_diagram.proofs.Common.{◌≡◌, ℕ, suc, ◌<◌, ◌≤◌, Option, Bool, true, false, List, length, refl, arith, if◌then◌else◌, All, All-weaker, Tree, Bits, value, IsOrderedFrom, IsJoined, StoreData, tree_at, IsLawfulStore, KeepsTrees, IsParted, AreBelow, wanted, HasValues, AreFrom, AreDivided, IsRemembered, Task, Choose, Merge, value_from}
 use Rattle.sf_diagram.proofs.TreeLemmas.{ordered-from}
 
 -- ---- a task in a store that grows
@@ -15,15 +16,7 @@ wanted-keeps a b (Merge operation first second) k l = rw (k.same first l.0, k.sa
 
 pub remembered-keeps : (a b : List Tree) (es : List (Option (Task × ℕ))) → KeepsTrees a b → All (IsRemembered a) es
     → All (IsRemembered b) es
-remembered-keeps a b es k h = All-weaker (IsRemembered a) (IsRemembered b) one es h
-  where
-    one : (e : Option (Task × ℕ)) → IsRemembered a e → IsRemembered b e
-    one None h = tt
-    one (Some p) h = (
-      below-more (length a) (length b) p.0 h.0 k.longer,
-      omega (arith, h.1, k.longer),
-      rw (wanted-keeps a b p.0 k h.0, k.same p.1 h.1) h.2,
-    )
+remembered-keeps a b es k h = grind (arith, common_steps, All-weaker, below-more, wanted-keeps)
 
 -- a tree of a store is ordered from the first variable on that matters to its values
 pub made-ordered : (s : StoreData) (id n : ℕ) (f : Bits → ℕ) → IsLawfulStore s → id < length s.trees
@@ -58,16 +51,4 @@ rule-divided g v a a0 a1 b b0 b1 c c0 c1 pa pb pc = record {
 -- the tree that joins those of the sides has the values of the whole
 pub joined-values : (v : ℕ) (f lower higher : Bits → ℕ) (l h t : Tree) → AreDivided v f lower higher
     → HasValues l lower → HasValues h higher → IsJoined v l h t → HasValues t f
-joined-values v f lower higher l h t d low high j = record {
-  values = λ x. joined x ∙ rw (low.values x, high.values x) (sym (d.values x));
-}
-  where
-    same-if : (b : Bool) (n : ℕ) → n ≡ (if b then n else n)
-    same-if true n = refl
-    same-if false n = refl
-
-    joined : (x : Bits) → value t x ≡ (if x v then value h x else value l x)
-    joined x = elim j [
-      | inl e ↦ rw (e.1, ← e.0) (same-if (x v) (value l x))
-      | inr e ↦ rw e.1 refl
-    ]
+joined-values v f lower higher l h t d low high j = grind (arith, common_steps, value)

@@ -1,5 +1,6 @@
-use Rattle.sf_diagram.proofs.Common.{ℕ, suc, true, false, Err, sym, ap, length, arith, err_from_is_err_and, Tree, Leaf, IsJoined, tree_at, KeepsTrees, keeps_more, wanted, HasValues}
-use Rattle.sf_diagram.proofs.task.TaskLemmas.{below-more, wanted-keeps, made-ordered, joined-values}
+use Rattle.std.proofs.lemmas.Grind.{common_steps}
+use Rattle.sf_diagram.proofs.Common.{ℕ, suc, true, false, Err, sym, ap, arith, err_from_is_err_and, Tree, Leaf, IsJoined, tree_at, KeepsTrees, keeps_more, wanted, HasValues}
+use Rattle.sf_diagram.proofs.task.TaskLemmas.{wanted-keeps, made-ordered, joined-values}
 use Rattle.sf_diagram.proofs.SpentLemmas.{side-spent, tree-spent, fork-spent}
 use Rattle.sf_diagram.proofs.making.+make.Goals as goal
 use Rattle.sf_diagram.proofs.making.+make.Goals.{In_ok-high}
@@ -13,9 +14,7 @@ low-made t c =
 
 high-made : (t : ℕ) (c : In_ok-high t) → HasValues (tree_at c.make-2.new.store.trees c.in_ok-high.high)
     (wanted c.args.store.now.trees c.in-Divided.higher)
-high-made t c =
-    rw (← wanted-keeps c.args.store.now.trees c.make.new.store.trees c.in-Divided.higher c.in_ok-low.ensures.keeps.trees
-    c.in-Divided.ensures.step.1.0) c.in_ok-high.ensures.made
+high-made t c = grind (arith, common_steps, wanted-keeps)
 
 joined-made : (t : ℕ) (c : In_ok-high t) (u : Tree) → IsJoined c.in-Divided.variable
     (tree_at c.make-2.new.store.trees c.in_ok-low.low) (tree_at c.make-2.new.store.trees c.in_ok-high.high) u
@@ -25,34 +24,14 @@ joined-made t c u j =
 
 -- ---- what the calls ask for
 
-pub make-requires-2 : goal.make-requires-2
-make-requires-2 t c = (
-  omega (arith, c.in-Divided.ensures.step.1.1),
-  below-more (length c.args.store.now.trees) (length c.make.new.store.trees) c.in-Divided.higher
-      c.in-Divided.ensures.step.1.0 c.in_ok-low.ensures.keeps.trees.longer,
-)
-
 pub fork-requires-clause-below_lower : goal.fork-requires-clause-below_lower
-fork-requires-clause-below_lower t c =
-    made-ordered c.make-2.new.store c.in_ok-low.low (suc c.in-Divided.variable)
-    (wanted c.args.store.now.trees c.in-Divided.lower) c.in_ok-high.ensures.lawful
-    (omega (arith, c.in_ok-low.ensures.within, c.in_ok-high.ensures.keeps.trees.longer))
-    (low-made t (goal.at.fork-requires-clause-below_lower t c).In_ok-high) c.in-Divided.ensures.step.2.lower_from
+fork-requires-clause-below_lower t c = grind (arith, common_steps, wanted, made-ordered, In_ok-high, low-made)
 
 pub fork-requires-clause-below_higher : goal.fork-requires-clause-below_higher
 fork-requires-clause-below_higher t c =
     made-ordered c.make-2.new.store c.in_ok-high.high (suc c.in-Divided.variable)
     (wanted c.args.store.now.trees c.in-Divided.higher) c.in_ok-high.ensures.lawful c.in_ok-high.ensures.within
     (high-made t (goal.at.fork-requires-clause-below_higher t c).In_ok-high) c.in-Divided.ensures.step.2.higher_from
-
-pub remember-requires-clause-below : goal.remember-requires-clause-below
-remember-requires-clause-below t c =
-    below-more (length c.args.store.now.trees) (length c.fork.new.self.trees) c.args.task c.requires (omega (
-      arith,
-      c.in_ok-low.ensures.keeps.trees.longer,
-      c.in_ok-high.ensures.keeps.trees.longer,
-      c.in_ok-joined.ensures.keeps.trees.longer,
-    ))
 
 pub remember-requires-clause-made : goal.remember-requires-clause-made
 remember-requires-clause-made t c =
@@ -66,11 +45,6 @@ remember-requires-clause-made t c =
     c.in_ok-joined.ensures.tree)
 
 -- ---- what is returned
-
-pub returns-clause-made : goal.returns-clause-made
-returns-clause-made t c =
-    rw c.in_ok-remember.ensures.same (joined-made t (goal.at.returns-clause-made t c).In_ok-high
-    (tree_at c.fork.new.self.trees c.in_ok-joined.joined) c.in_ok-joined.ensures.tree)
 
 pub returns-in_err-leaf-in-Constant-clause-spent : goal.returns-in_err-leaf-in-Constant-clause-spent
 returns-in_err-leaf-in-Constant-clause-spent t c =

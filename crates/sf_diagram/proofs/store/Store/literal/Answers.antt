@@ -1,4 +1,4 @@
-use Rattle.sf_diagram.proofs.Common.{Err, ap, ◌∙◌, inl, inr, err_from_is_err_and, Leaf}
+use Rattle.sf_diagram.proofs.Common.{Err, ap, inl, inr, err_from_is_err_and, Leaf}
 use Rattle.sf_diagram.proofs.SpentLemmas.{no-room-above}
 use Rattle.sf_diagram.proofs.store.Store.literal.Goals as goal
 
@@ -13,12 +13,3 @@ returns-in_err-one-clause-spent c =
     let p = err_from_is_err_and c.from_residual-in_err-one.result c.from_residual-in_err-one.ensures.1 in
     rw (p.1, p.2) (λ e. no-room-above _ c.args.variable (Leaf 0) (Leaf 1) c.in_err-one.ensures.lawful
     (inr (rw c.in_err-one.ensures.err (c.in_err-one.ensures.spent.0 (ap Err e)))))
-
-pub returns-in_err-fork-clause-spent : goal.returns-in_err-fork-clause-spent
-returns-in_err-fork-clause-spent c =
-    let p = err_from_is_err_and c.from_residual-in_err-fork.result c.from_residual-in_err-fork.ensures.1 in
-    rw (p.1, p.2, c.in_err-fork.ensures.err) (λ e.
-    rw (
-      c.in_ok-one.ensures.keeps.trees.same c.in_ok-zero.zero c.in_ok-zero.ensures.within ∙ c.in_ok-zero.ensures.tree,
-      c.in_ok-one.ensures.tree,
-    ) at (c.in_err-fork.ensures.spent.0 (ap Err e)).1)
