@@ -4,14 +4,13 @@ use Rattle.std.proofs.Common.{◌≡◌, ℕ, ◌+◌, ◌*◌, ◌%◌, ◌<◌
 use Rattle.std.proofs.lemmas.List.{length-map}
 use Rattle.std.proofs.lemmas.Option.{same_Some}
 use Rattle.sf_insn.specs.declared.raw.RawInsn.{RawInsn}
-use Rattle.sf_insn.specs.Spelling.{insn_bytes, spelling, AreInsns}
+use Rattle.sf_insn.specs.Spelling.{spelling, AreInsns}
 use Rattle.sf_check.specs.declared.insn.Insn.{Insn}
 use Rattle.sf_check.specs.declared.fault.Fault.{Fault as CheckFault}
 use Rattle.sf_check.specs.declared.fault.Fault.TheVariants as check
 use Rattle.sf_check.specs.Codes.{insn_of}
 use Rattle.sf_check.specs.Programs.{IsLawfulProgram, Spells, SpellsProgram}
 use Rattle.sf_check.specs.Refusals.{IsFirstFault}
-use Rattle.sf_check.specs.Stacks.{path_length}
 use Rattle.sf_stack.specs.declared.fault.Fault.{Fault}
 use Rattle.sf_stack.specs.declared.fault.Fault.TheVariants as faults
 use Rattle.sf_stack.specs.FaultPlaces.{check_fault}
@@ -41,11 +40,7 @@ same_programs one (f ∷ files) (x ∷ a) [] p q = absurd q
 
 pub length_spelling : (raws : List RawInsn) → length (spelling raws) ≡ 8 * length raws
 length_spelling [] = refl
-length_spelling (r ∷ raws) =
-    let more = length_spelling raws in
-    let joined = length-append (insn_bytes r) (spelling raws) in
-    let eight : length (insn_bytes r) ≡ 8 = refl in
-    omega arith
+length_spelling (r ∷ raws) = grind (arith, common_steps, length-append, length_spelling raws)
 
 as_long : (raws : List RawInsn) (program : List Insn) → Spells raws program → length raws ≡ length program
 as_long raws program spells = sym (length-map raws insn_of) ∙ ap length spells ∙ length-map program (λ (i : Insn). Ok i)
@@ -103,17 +98,9 @@ kind_of number bytes _ r = absurd r
 
 no_program : OneSpelling → FaultsAreNot → (number : ℕ) (bytes : List ℕ) (e : Fault) (program : List Insn)
     → Kind number bytes e → SpellsProgram bytes program → ⊥
-no_program spelling lawless number bytes e program (ragged is rest) p =
-    let size = eight_each bytes program p in
-    rest (omega arith)
-no_program spelling lawless number bytes e program (empty is size) p =
-    let long = eight_each bytes program p in
-    let some = p.lawful.some in
-    omega arith
-no_program spelling lawless number bytes e program (long is rest size) p =
-    let long = eight_each bytes program p in
-    let short = p.lawful.short in
-    omega arith
+no_program spelling lawless number bytes e program (ragged is rest) p = grind (arith, common_steps, eight_each)
+no_program spelling lawless number bytes e program (empty is size) p = grind (arith, common_steps, eight_each)
+no_program spelling lawless number bytes e program (long is rest size) p = grind (arith, common_steps, eight_each)
 no_program spelling lawless number bytes e program (spoken s) p =
     faulty spelling lawless bytes s.fault program s.spelled p
 
@@ -154,19 +141,9 @@ stack_kind files _ r = file r.0 r.1
 
 no_stack : OneSpelling → FaultsAreNot → OneStack → (files : List (List ℕ)) (e : Fault) (programs : List (List Insn))
     → StackKind files e → SpellStack files programs → ⊥
-no_stack spelling lawless one files e programs (none is count) s =
-    let same = as_many files programs s.spelled in
-    let some = s.lawful.some in
-    omega arith
-no_stack spelling lawless one files e programs (many is count) s =
-    let same = as_many files programs s.spelled in
-    let few = s.lawful.few in
-    omega arith
-no_stack spelling lawless one files e programs (path is few q) s =
-    let same = one files q.programs programs q.spelled s.spelled in
-    let long : 32768 < path_length programs = rw same at q.long in
-    let short = s.lawful.short in
-    omega arith
+no_stack spelling lawless one files e programs (none is count) s = grind (arith, common_steps, as_many)
+no_stack spelling lawless one files e programs (many is count) s = grind (arith, common_steps, as_many)
+no_stack spelling lawless one files e programs (path is few q) s = grind (arith, common_steps)
 no_stack spelling lawless one files e programs (file few q) s =
     file_no_stack spelling lawless files e programs q s.spelled
 

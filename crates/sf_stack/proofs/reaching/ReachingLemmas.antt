@@ -1,8 +1,9 @@
 -- Which instructions paths come to, through a pass over the program.
-use Rattle.std.proofs.Common.{◌≡◌, ◌⊎◌, inl, inr, ℕ, suc, ◌+◌, ◌<◌, Bool, true, false, List, [], ◌∷◌, ◌++◌, length, take, drop, get_or, set, replicate, refl, sym, ◌∙◌, arith}
+use Rattle.std.proofs.lemmas.Grind.{common_steps}
+use Rattle.std.proofs.Common.{◌≡◌, ◌⊎◌, inl, inr, ℕ, suc, ◌+◌, ◌<◌, Bool, true, false, List, [], ◌∷◌, ◌++◌, length, take, drop, get_or, set, refl, sym, ◌∙◌, arith}
 use Rattle.std.specs.Prelude.{Contains}
-use Rattle.std.proofs.lemmas.Bool.{cases_eq, cases_lt}
-use Rattle.std.proofs.lemmas.List.{append-nil, take_all, get_or-set_same, get_or-set_other, get_or-replicate, get_or_past, length-set, length-replicate}
+use Rattle.std.proofs.lemmas.Bool.{cases_eq}
+use Rattle.std.proofs.lemmas.List.{append-nil, take_all, get_or-set_same, get_or-set_other, length-set}
 use Rattle.std.proofs.Math.ListN.{drop_of_length-le}
 use Rattle.std.proofs.lemmas.Option.{same_Some, slice_get-get_or, slice_get_within}
 use Rattle.sf_check.specs.declared.insn.Insn.{Insn}
@@ -24,10 +25,7 @@ length-with_found (q ∷ qs) found = length-with_found qs (set found q true) ∙
 
 -- a place that is set, or was set, is set
 set_at : (found : List Bool) (q k : ℕ) → q < length found → IsFound found k → IsFound (set found q true) k
-set_at found q k inside h = elim (cases_eq k q) [
-  | inl same ↦ rw same (get_or-set_same found q true false inside)
-  | inr other ↦ get_or-set_other found q k true false other ∙ h
-]
+set_at found q k inside h = grind (arith, common_steps, cases_eq, get_or-set_same, get_or-set_other)
 
 -- what was set stays so
 set_kept : (qs : List ℕ) (found : List Bool) (k : ℕ) → AllBelow (length found) qs → IsFound found k
@@ -69,27 +67,6 @@ pub record Passes (code : List Insn) (place : ℕ) (found : List Bool) : Type 0 
   pub first : IsFound found 0
   pub right : (at : ℕ) → IsFound found at → IsOnSomePath code at
   pub passed : (at next : ℕ) → at < place → IsFound found at → Leads code at next → IsFound found next
-
--- at first only the first instruction is found
-pub pass_begins : (code : List Insn) (found : List Bool) → 0 < length code
-    → found ≡ set (replicate (length code) false) 0 true → Passes code 0 found
-pass_begins code found some is = record {
-  size = rw is (length-set (replicate (length code) false) 0 true ∙ length-replicate (length code) false);
-  first = rw is (get_or-set_same (replicate (length code) false) 0 true false
-      (omega (arith, some, length-replicate (length code) false)));
-  right = λ at h. elim (cases_eq at 0) [
-    | inl same ↦ ([], same)
-    | inr other ↦ (let none = sym (get_or-set_other (replicate (length code) false) 0 at true false other)
-        ∙ rw is at h in absurd (unset (length code) at none))
-  ];
-  passed = λ at next lt. absurd (omega arith);
-}
-  where
-    unset : (n k : ℕ) → get_or (replicate n false) k false ≡ true → ⊥
-    unset n k h = elim (cases_lt k n) [
-      | inl below ↦ (let off = get_or-replicate n k false false below in cc)
-      | inr past ↦ (let off = get_or_past (replicate n false) k false (omega (arith, length-replicate n false)) in cc)
-    ]
 
 -- an instruction that wasn't found is passed over
 pub pass_over : (code : List Insn) (place : ℕ) (found : List Bool) → Passes code place found
@@ -142,13 +119,9 @@ pub read_there : (program code : List Insn) (place : ℕ) (d : Insn) → code �
     → place < length code → IsAt code place (get_or code place d)
     × AllBelow (length code) (successors place (get_or code place d))
 read_there program code place d same lawful within =
-    let at = slice_get-get_or code place d within in
-    let kept : IsLawfulProgram code = rw same lawful in
-    (at, successors_inside code place (get_or code place d) at (kept.inside place (get_or code place d) at) kept.ends)
+    grind (arith, common_steps, get_or, slice_get-get_or, successors_inside)
 
 -- a list that was written back whole
 pub written_whole : (n : ℕ) (new old : List Bool) → length new ≡ length old → n ≡ length old
     → take n (new ++ drop (length new) old) ≡ new
-written_whole n new old same all =
-    let none : drop (length new) old ≡ [] = drop_of_length-le old (omega arith) in
-    rw (none, append-nil new) (take_all n new (omega arith))
+written_whole n new old same all = grind (arith, common_steps, drop, append-nil, take_all, drop_of_length-le)

@@ -1,20 +1,11 @@
 use Rattle.std.proofs.lemmas.Grind.{common_steps}
-use Rattle.std.proofs.Common.{length, get_or, ◌≡◌, ◌<◌, ◌∙◌, false, sym, ap, arith, rules}
-use Rattle.sf_stack.proofs.reaching.ReachingLemmas.{IsFound, Passes, pass_begins, pass_ends, pass_on, pass_over, read_there, written_whole}
+use Rattle.std.proofs.Common.{length, get_or, ◌≡◌, ◌∙◌, false, sym, ap, arith}
+use Rattle.sf_stack.proofs.reaching.ReachingLemmas.{IsFound, Passes, pass_ends, pass_on, pass_over, read_there, written_whole}
 use Rattle.sf_stack.proofs.reaching.reached.Goals.{then-index, else-index}
 use Rattle.sf_stack.proofs.reaching.reached.Goals as goal
 
-pub loop-place-init : goal.loop-place-init
-loop-place-init c =
-    let some : 0 < length c.insns-code.result.now =
-    omega (arith, c.insns-code.ensures.lawful.some, ap length c.insns-code.ensures.same) in
-    pass_begins c.insns-code.result.now _ some (search rules)
-
 pub find_next-requires-clause-inside : goal.find_next-requires-clause-inside
-find_next-requires-clause-inside c =
-    let there = read_there c.args.program.now c.insns-code.result.now c.loop-place.place _ c.insns-code.ensures.same
-    c.insns-code.ensures.lawful c.loop-place-test.true in
-    rw (c.deref_mut.ensures.value, c.loop-place.invariant.size) there.1
+find_next-requires-clause-inside c = grind (arith, common_steps, read_there)
 
 pub loop-place-preserved : goal.loop-place-preserved
 loop-place-preserved c =
