@@ -1,21 +1,5 @@
 -- A number looked for in an ascending list, and put into it.
-use Rattle.std.proofs.Common.{◌≡◌, ℕ, zero, suc, ◌+◌, ◌-◌, ◌<◌, ◌≤◌, ◌↔◌, ◌⊎◌, List, [], ◌∷◌, ◌++◌, length, get_or, ◌^◌, IsTrue, Bool, arith, refl, sym, ap, ◌∙◌, inl, inr}
-use Rattle.std.proofs.lemmas.Bool.{cases_eq, cases_lt, cases_order}
-use Rattle.std.proofs.lemmas.List.{get_or_default}
-use Rattle.std.proofs.lemmas.Grind.{get_or_default_zero}
-use Rattle.std.proofs.lemmas.List.Elements.{Contains-append_left, Contains-append_right, Contains-append_cases}
-use Rattle.std.proofs.lemmas.List.Edits.{length-insert, get_or-insert_below, get_or-insert_at, get_or-insert_above}
-use Rattle.std.proofs.lemmas.List.Sorted.{searched, IsNonDecreasingBy-insert, IsNonDecreasingBy-from_default, IsNonDecreasingBy-from_sort}
-use Rattle.std.proofs.lemmas.Nat.Bits.{bit_at_or, bit_at-lt, bit_at-pow_other, bit_at-pow_same, same_from_bits}
-use Rattle.std.specs.Int.{bit_at}
-use Rattle.std.specs.List.{insert}
-use Rattle.std.specs.List.Sorted.{IsBinarySearchResult, IsSorted}
-use Rattle.std.specs.Ordering.{nat_cmp}
-use Rattle.std.specs.Prelude.{Contains, slice_index, MatchOption, Result, Ok, Err, IfOk, bit_or}
-use Rattle.std.specs.Result.{result_ok}
-use Rattle.sf_dom.specs.Ascending.{AreAscending, set_of}
-use Rattle.sf_dom.specs.laws.FactsLaws.{none-has}
-use Rattle.sf_dom.specs.Known.{Has}
+use Rattle.sf_dom.proofs.Common.{◌≡◌, ℕ, zero, suc, ◌+◌, ◌-◌, ◌<◌, ◌≤◌, ◌↔◌, ◌⊎◌, List, [], ◌∷◌, ◌++◌, length, get_or, ◌^◌, IsTrue, Bool, arith, refl, sym, ap, ◌∙◌, inl, inr, cases_eq, cases_lt, cases_order, get_or_default, get_or_default_zero, Contains-append_left, Contains-append_right, Contains-append_cases, length-insert, get_or-insert_below, get_or-insert_at, get_or-insert_above, searched, IsNonDecreasingBy-insert, IsNonDecreasingBy-from_default, IsNonDecreasingBy-from_sort, bit_at_or, bit_at-lt, bit_at-pow_other, bit_at-pow_same, same_from_bits, bit_at, insert, IsBinarySearchResult, IsSorted, nat_cmp, Contains, slice_index, MatchOption, Result, Ok, Err, IfOk, bit_or, result_ok, AreAscending, set_of, none-has, Has, common_steps}
 
 -- a number that isn't at the place where it would stand is nowhere in the list
 absent : (xs : List ℕ) (n at : ℕ) → ((k : ℕ) → k < at → get_or xs k 0 < n)
@@ -38,10 +22,7 @@ more-behind xs ys ys' n more m = (there, back)
     there : Contains (xs ++ ys') m → Contains (xs ++ ys) m ⊎ (m ≡ n)
     there w = elim (Contains-append_cases xs ys' m w) [
       | inl h ↦ inl (Contains-append_left xs ys m h)
-      | inr h ↦ elim ((more m).0 h) [
-        | inl old ↦ inl (Contains-append_right xs ys m old)
-        | inr e ↦ inr e
-      ]
+      | inr h ↦ elim ((more m).0 h) [ inl old ↦ inl (Contains-append_right xs ys m old) | inr e ↦ inr e ]
     ]
 
     back : Contains (xs ++ ys) m ⊎ (m ≡ n) → Contains (xs ++ ys') m
@@ -73,7 +54,6 @@ inserted-numbers xs n at m le = (there, back)
         | inl b ↦ inl (w.0, omega arith, sym (get_or-insert_below xs at n m w.0 b le) ∙ w.2)
         | inr a ↦
             let back : w.0 - 1 + 1 ≡ w.0 = omega arith in
-            let within = w.1 in
             inl (
               w.0 - 1,
               omega (arith, long),
@@ -99,28 +79,11 @@ sorted-rising xs sorted i j le l = IsNonDecreasingBy-from_sort (λ x. x) xs sort
 -- what isn't in the first of two lists is in both together where it is in the second
 pub in-second : (xs ys : List ℕ) (n : ℕ) (b : Bool) → ¬ Contains xs n → (IsTrue b ↔ Contains ys n)
     → IsTrue b ↔ Contains (xs ++ ys) n
-in-second xs ys n b absent there = (
-  (λ t. Contains-append_right xs ys n (there.0 t)),
-  (λ w. elim (Contains-append_cases xs ys n w) [
-    | inl h ↦ absurd (absent h)
-    | inr h ↦ there.1 h
-  ]),
-)
+in-second xs ys n b absent there = grind (arith, common_steps, Contains-append_right, Contains-append_cases, absent)
 
 -- a set with one more number
 pub one-more : (n xs m : ℕ) → Has (bit_or (2 ^ n) xs) m ↔ (Has xs m ⊎ (m ≡ n))
-one-more n xs m = elim (cases_eq m n) [
-  | inl e ↦ ((λ _. inr e), (λ _. rw e (omega (arith, bit_at_or (2 ^ n) xs n, bit_at-pow_same n, bit_at-lt xs n))))
-  | inr ne ↦
-      let other = bit_at-pow_other n m ne in
-      let both = bit_at_or (2 ^ n) xs m in (
-        (λ h. inl (omega (arith, both, other, h))),
-        (λ s. elim s [
-          | inl h ↦ omega (arith, both, other, h)
-          | inr e ↦ absurd (ne e)
-        ]),
-      )
-]
+one-more n xs m = grind (arith, common_steps, cases_eq, bit_at_or, bit_at-lt, bit_at-pow_other, bit_at-pow_same)
 
 -- one number is one more than none
 pub one-ok : {E : Type 0} (r : Result ℕ E) (x : ℕ) → IfOk r (λ v. v ≡ set_of (x ∷ []))

@@ -1,21 +1,5 @@
 -- What facts promise of the inputs that agree, where they learn a condition or take in more of a word.
-use Rattle.std.proofs.Common.{◌≡◌, ℕ, ◌<◌, ◌^◌, List, length, set, arith, refl, sym, ap, ◌∙◌, inl, inr}
-use Rattle.std.proofs.lemmas.Bool.{cases_eq}
-use Rattle.std.proofs.lemmas.List.{get_or-set_same, get_or-set_other, length-set}
-use Rattle.std.specs.Prelude.{slice_index, Some, None}
-use Rattle.sf_insn.specs.declared.input.Input.{Input}
-use Rattle.sf_sym.specs.Pool.{IsCondBelow, node_at, value_of}
-use Rattle.sf_sym.specs.laws.ValueLaws.{passes-met, value-constant}
-use Rattle.sf_sym.specs.declared.pool.Cond.{Cond}
-use Rattle.sf_sym.specs.declared.pool.Node.{Node}
-use Rattle.sf_sym.specs.declared.pool.Node.TheVariants.{Const, Word, Bin, Neg}
-use Rattle.sf_dom.specs.declared.known.Known.{Known}
-use Rattle.sf_dom.specs.Known.{Has, Admits, IsNarrower, IsDecided, known_of}
-use Rattle.sf_dom.specs.Facts.{known_at, excluded_of, FactsView, AgreesWith, Agrees, Covers, KeepsInputs, KeepsOnly, NoInput, HasIn, ConfinesWord, IsPlainCondition, IsWordOrConst, DecidesTest}
-use Rattle.sf_dom.specs.laws.FactsLaws.{narrower-admits, some-such, value-word, decided-admits, closed-consistent, constant-known}
-use Rattle.sf_dom.specs.Learning.{assumed_of, with_pair, AreExcludedBy, ConditionGives, LearnsBy, CantLearn, MoreGives, TakesInBy, CantTakeInBy}
-use Rattle.sf_dom.specs.Propagation.{IsNarrowed, TestGives, Meets, Learns}
-use Rattle.sf_dom.specs.Rules.{met}
+use Rattle.sf_dom.proofs.Common.{◌≡◌, ℕ, ◌<◌, ◌^◌, List, length, set, arith, refl, sym, ap, ◌∙◌, inl, inr, cases_eq, get_or-set_same, get_or-set_other, length-set, slice_index, Some, None, Input, IsCondBelow, node_at, value_of, passes-met, value-constant, Cond, Node, Const, Word, Known, Has, Admits, IsNarrower, IsDecided, known_of, known_at, excluded_of, FactsView, AgreesWith, Agrees, Covers, KeepsInputs, KeepsOnly, NoInput, HasIn, ConfinesWord, IsPlainCondition, IsWordOrConst, DecidesTest, narrower-admits, some-such, value-word, decided-admits, closed-consistent, constant-known, assumed_of, with_pair, AreExcludedBy, ConditionGives, LearnsBy, CantLearn, MoreGives, TakesInBy, CantTakeInBy, IsNarrowed, TestGives, Meets, Learns, met, common_steps}
 use Rattle.sf_dom.proofs.ConditionSteps.{ComesFrom, condition-lawful, condition-rest, condition-from, more-lawful, more-rest, more-known}
 use Rattle.sf_dom.proofs.Covering.{AreResting, covers-resting, resting-closed, covers-closed}
 use Rattle.sf_dom.proofs.Excluding.{excluding-keeps}
@@ -32,22 +16,13 @@ module _ (f : FactsView) (ns : List Node) (cond : Cond) (h : AreResting f.known 
   -- what was known of the first node, and what its test leaves of it, lose nothing in what is left of it
   first-left : (new : List Known) (ex : List ℕ) (c : ComesFrom f.known new ex cond)
       → IsNarrower (known_at f.known cond.node.0) c.pair.node × IsNarrower (assumed_of f.known cond).node c.pair.node
-  first-left new ex c =
-      let v : Known = known_at f.known cond.node.0 in
-      let a : Known = (assumed_of f.known cond).node in
-      let n = c.left.node.narrower in (
-        IsNarrower-trans v (met v a) c.pair.node (met-left v a) n,
-        IsNarrower-trans a (met v a) c.pair.node (met-right v a) n,
-      )
+  first-left new ex c = grind (arith, common_steps, met-left, met-right, IsNarrower-trans)
 
   -- and that loses nothing in what is known afterwards
   left-known : (new : List Known) (ex : List ℕ) (c : ComesFrom f.known new ex cond)
       → IsNarrower c.pair.node (known_at new cond.node.0)
   left-known new ex c =
-      let none : Known = known_of 0 0 0 0 in
-      let count = h.count in
-      let v = cond.node.0 in
-      let w = cond.other.0 in
+      let none : Known = known_of 0 0 0 0 in let count = h.count in let v = cond.node.0 in let w = cond.other.0 in
       let first : List Known = set f.known v c.pair.node in
       let lv : v < length f.known = omega (arith, below.0) in
       let lw : w < length first = omega (arith, below.1, length-set f.known v c.pair.node) in
@@ -88,12 +63,10 @@ module _ (f : FactsView) (ns : List Node) (cond : Cond) (h : AreResting f.known 
       → AgreesWith f.known f.excluded ns d → AgreesWith new ex ns d → Meets ns cond d
   plain-holds new ex g out plain count d before after =
       let closed = resting-closed f.known f.excluded ns h in
-      let all = h.count in
       let c = condition-from f.known ex ns cond h.pool closed below (Some new) g in
       let v : Known = known_at f.known cond.node.0 in
       let w : Known = known_at f.known cond.other.0 in
-      let n = first-left new ex c in
-      let x : ℕ = value_of ns d cond.node.0 in
+      let n = first-left new ex c in let x : ℕ = value_of ns d cond.node.0 in
       let lw : cond.other.0 < length f.known = omega (arith, below.1) in
       let lv : cond.node.0 < length f.known = omega (arith, below.0) in
       let now = after cond.node.0 (omega (arith, below.0)) in
@@ -132,12 +105,10 @@ module _ (f : FactsView) (ns : List Node) (cond : Cond) (h : AreResting f.known 
           let number = constant-known f.known f.excluded ns cond.node.0 n (h.rest cond.node.0 below.0) e in
           test-exact cond.test cond.sense v w (value_of ns d cond.node.0) (closed.each cond.node.0 below.0)
           (closed.each cond.other.0 below.1) dw (inr (omega (arith, number.0, number.1))) own left
-      by_node (Bin op y z) e k kept left own dw is = elim k [ ]
-      by_node (Neg y) e k kept left own dw is = elim k [ ]
+      by_node n e k kept left own dw is = elim k [ ]
 
   -- what they know once they learn it by the rules
-  pub learns-narrowed : (new : FactsView) → LearnsBy f new ns cond
-      → IsNarrowed f.known new.known new.excluded ns
+  pub learns-narrowed : (new : FactsView) → LearnsBy f new ns cond → IsNarrowed f.known new.known new.excluded ns
   learns-narrowed new g = (condition-lawful f.known new.excluded ns cond h.pool
       (resting-closed f.known f.excluded ns h) below).narrowed (Some new.known) g.known
 
@@ -162,9 +133,7 @@ module _ (f : FactsView) (ns : List Node) (cond : Cond) (h : AreResting f.known 
       → KeepsOnly f new ns (Meets ns cond)
   unfolding Agrees
   learns-only new g plain d i a =
-      let count = h.count in
-      let n = learns-narrowed new g in
-      let after = n.closed.count in
+      let count = h.count in let n = learns-narrowed new g in let after = n.closed.count in
       let before = agrees-with-fewer f.known f.excluded new.excluded ns d g.excluded.kept
       (agrees-back f.known new.known new.excluded ns d (omega arith) n.narrower a) in
       (before, plain-holds new.known new.excluded g.known g.excluded plain after d before a)
@@ -212,9 +181,7 @@ module _ (f : FactsView) (ns : List Node) (cond : Cond) (h : Covers f ns) (below
 module _ (f : FactsView) (ns : List Node) (w : ℕ) (more : Known) (h : Covers f ns) (l : w < 16)
     (fits : more.zeros < 2 ^ 32) where
   lawful : IsLawful (λ d. Admits more (value_of ns d w)) f.known f.excluded ns (MoreGives f.known f.excluded ns w more)
-  lawful =
-      let words = h.pool.words in
-      more-lawful f.known f.excluded ns w more h.pool (covers-closed f ns h) (omega arith) fits
+  lawful = more-lawful f.known f.excluded ns w more h.pool (covers-closed f ns h) (omega arith) fits
 
   pub confines-covers : (new : FactsView) → TakesInBy f new ns w more → Covers new ns
   confines-covers new by =
@@ -228,12 +195,9 @@ module _ (f : FactsView) (ns : List Node) (w : ℕ) (more : Known) (h : Covers f
             (still-fixed f.variables f.known new.known f.excluded ns h.pool (covers-closed f ns h) n h.fixed);
       }
 
-  pub confines : (new : FactsView) → Covers new ns → TakesInBy f new ns w more
-      → ConfinesWord f new ns w (Admits more)
+  pub confines : (new : FactsView) → Covers new ns → TakesInBy f new ns w more → ConfinesWord f new ns w (Admits more)
   unfolding Agrees
   confines new covers g =
-      let words = h.pool.words in
-      let count = h.count in
       let n = lawful.narrowed (Some new.known) g.known in
       let after = n.closed.count in
       let taken = more-known f.known f.excluded ns w more h.pool (covers-closed f ns h) (omega arith) (Some new.known)
@@ -262,14 +226,7 @@ module _ (old : FactsView) (ns : List Node) (w : ℕ) (kind other : ℕ → Type
     (from : (n : ℕ) → n < 2 ^ 32 → other n → kind n) where
   pub confines-as : (new : FactsView) → ((n : ℕ) → n < 2 ^ 32 → kind n → other n) → ConfinesWord old new ns w kind
       → ConfinesWord old new ns w other
-  confines-as new to h = record {
-    covers = h.covers;
-    narrower = h.narrower;
-    keeps = λ d i a m. h.keeps d i a (from (slice_index d.words w) (i.each w) m);
-    only = λ d i a. let k = h.only d i a in (k.0, to (slice_index d.words w) (i.each w) k.1);
-    some = λ plain. let s = h.some plain in (s.0, s.1, s.2, to (slice_index s.0.words w) (s.1.each w) s.3);
-    numbers = λ v n l f a e. to n f (h.numbers v n l f a e);
-  }
+  confines-as new to h = grind (arith, common_steps)
 
   pub no-input-as : NoInput old ns (HasIn w kind) → NoInput old ns (HasIn w other)
   no-input-as none d i a h = none d i a (from (slice_index d.words w) (i.each w) h)

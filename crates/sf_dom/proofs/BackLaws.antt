@@ -1,25 +1,5 @@
 -- That known bits go back from a node is a lawful step.
-use Rattle.std.proofs.Common.{◌≡◌, ℕ, zero, suc, ◌<◌, ◌^◌, ◌-◌, List, length, set, arith, refl, sym, ◌∙◌, ◌⊎◌, inl, inr, ap}
-use Rattle.std.proofs.lemmas.Nat.{or_lt}
-use Rattle.std.specs.Int.Bits.{and_lt}
-use Rattle.std.specs.Prelude.{Option, Some, None, MatchOption, IfSome, bit_and}
-use Rattle.std.proofs.lemmas.List.{set-get_or}
-use Rattle.sf_insn.specs.Inputs.{IsInput}
-use Rattle.sf_insn.specs.Words.{apply}
-use Rattle.sf_insn.specs.declared.input.Input.{Input}
-use Rattle.sf_insn.specs.declared.ops.BinOp.{BinOp}
-use Rattle.sf_insn.specs.declared.ops.BinOp.TheVariants.{Add, Sub, Mul, Div, Or, And, Lsh, Rsh, Xor}
-use Rattle.sf_sym.specs.Pool.{IsPool, node_at, value_of}
-use Rattle.sf_sym.specs.Operands.{IsSwappable, constant_operand_of}
-use Rattle.sf_sym.specs.declared.pool.Node.{Node}
-use Rattle.sf_dom.specs.declared.known.Known.{Known}
-use Rattle.sf_dom.specs.Known.{Admits, HasBits, IsNarrower, known_of, AreBitsOf}
-use Rattle.sf_dom.specs.Facts.{known_at, AgreesWith}
-use Rattle.sf_dom.specs.Rules.{IsClosed, IsClosedAt}
-use Rattle.sf_dom.specs.Passes.{AreClosed}
-use Rattle.sf_dom.specs.GoingBack.{with_bits, gained, WritingGives, GoingBackGivesIn, GoingBackGives}
-use Rattle.sf_dom.specs.Propagation.{IsNarrowed}
-use Rattle.sf_dom.specs.Backward.{IsPropagatedBack, HandsOn}
+use Rattle.sf_dom.proofs.Common.{◌≡◌, ℕ, zero, suc, ◌<◌, ◌^◌, ◌-◌, List, length, set, arith, refl, sym, ◌∙◌, ◌⊎◌, inl, inr, or_lt, and_lt, Option, Some, None, MatchOption, IfSome, bit_and, set-get_or, IsInput, apply, Input, BinOp, Or, And, Xor, IsPool, node_at, value_of, IsSwappable, constant_operand_of, Node, Known, Admits, HasBits, IsNarrower, known_of, AreBitsOf, known_at, AgreesWith, IsClosed, IsClosedAt, AreClosed, with_bits, gained, WritingGives, GoingBackGivesIn, GoingBackGives, IsNarrowed, IsPropagatedBack, HandsOn, common_steps}
 use Rattle.sf_dom.proofs.RuleLaws.{again, four-same}
 use Rattle.sf_dom.proofs.ConstantOperands.{IsOperand, is-operand}
 use Rattle.sf_dom.proofs.Bits.{join-bits, bits-of-or, backward-and, backward-or, backward-xor, bits-of-or_right, or-same}
@@ -31,9 +11,8 @@ use Rattle.sf_dom.proofs.Then.{then-some, then-if}
 
 -- what is propagated back from an operand that has its node's bits is propagated back from the node
 pub back-step : (ks : List Known) (ns : List Node) (at x c : ℕ) (op : BinOp)
-    → constant_operand_of ns (node_at ns at) ≡ Some (op, x, c)
-    → HandsOn op c (known_at ks at) (known_at ks x) → ((n : ℕ) → IsPropagatedBack n ks ns x) → (n : ℕ)
-    → IsPropagatedBack n ks ns at
+    → constant_operand_of ns (node_at ns at) ≡ Some (op, x, c) → HandsOn op c (known_at ks at) (known_at ks x)
+    → ((n : ℕ) → IsPropagatedBack n ks ns x) → (n : ℕ) → IsPropagatedBack n ks ns at
 back-step ks ns at x c op e h more zero = tt
 back-step ks ns at x c op e h more (suc n) = rw e (λ s. (h, more n))
 
@@ -49,9 +28,8 @@ pub back-on : (ks : List Known) (ns : List Node) (at x c : ℕ) (op : BinOp)
 back-on ks ns at x c op e s h n = ((rw e at (h (suc n))) s).1
 
 -- backward propagation ends at a node of which not exactly one operand is a constant
-pub goes_back-end : (ks : List Known) (ns : List Node) (at : ℕ)
-    → constant_operand_of ns (node_at ns at) ≡ None → (n : ℕ)
-    → IsPropagatedBack n ks ns at
+pub goes_back-end : (ks : List Known) (ns : List Node) (at : ℕ) → constant_operand_of ns (node_at ns at) ≡ None
+    → (n : ℕ) → IsPropagatedBack n ks ns at
 goes_back-end ks ns at e zero = tt
 goes_back-end ks ns at e (suc n) = rw e tt
 
@@ -71,50 +49,27 @@ pub gained-same : (op : BinOp) (c : ℕ) (node x : Known) → HandsOn op c node 
 gained-same Or c node x h = bits-same x _ _ h.0 h.1
 gained-same And c node x h = bits-same x _ _ h.0 h.1
 gained-same Xor c node x h = bits-same x _ _ h.0 h.1
-gained-same Add c node x h = refl
-gained-same Sub c node x h = refl
-gained-same Mul c node x h = refl
-gained-same Div c node x h = refl
-gained-same Lsh c node x h = refl
-gained-same Rsh c node x h = refl
+gained-same op c node x h = refl
 
 -- and the other way round
 same-bits : (k : Known) (z o : ℕ) → with_bits k z o ≡ k → AreBitsOf z k.zeros × AreBitsOf o k.ones
-same-bits k z o e = (
-  rw (ap (λ (x : Known). x.zeros) e) at (bits-of-or_right k.zeros z),
-  rw (ap (λ (x : Known). x.ones) e) at (bits-of-or_right k.ones o),
-)
+same-bits k z o e = grind (arith, common_steps, bits-of-or_right)
 
 pub gained-hands : (op : BinOp) (c : ℕ) (node x : Known) → gained op c node x ≡ x → HandsOn op c node x
 gained-hands Or c node x e = same-bits x _ _ e
 gained-hands And c node x e = same-bits x _ _ e
 gained-hands Xor c node x e = same-bits x _ _ e
-gained-hands Add c node x e = tt
-gained-hands Sub c node x e = tt
-gained-hands Mul c node x e = tt
-gained-hands Div c node x e = tt
-gained-hands Lsh c node x e = tt
-gained-hands Rsh c node x e = tt
+gained-hands op c node x e = tt
 
 more-bits : (k : Known) (z o : ℕ) → IsNarrower k (with_bits k z o)
-more-bits k z o = record {
-  low = omega arith;
-  high = omega arith;
-  zeros = bits-of-or k.zeros z;
-  ones = bits-of-or k.ones o;
-}
+more-bits k z o = grind (arith, common_steps, bits-of-or)
 
 -- an operand loses nothing
 pub gained-narrower : (op : BinOp) (c : ℕ) (node x : Known) → IsNarrower x (gained op c node x)
 gained-narrower And c node x = more-bits x _ _
 gained-narrower Or c node x = more-bits x _ _
 gained-narrower Xor c node x = more-bits x _ _
-gained-narrower Add c node x = IsNarrower-refl x
-gained-narrower Sub c node x = IsNarrower-refl x
-gained-narrower Mul c node x = IsNarrower-refl x
-gained-narrower Div c node x = IsNarrower-refl x
-gained-narrower Lsh c node x = IsNarrower-refl x
-gained-narrower Rsh c node x = IsNarrower-refl x
+gained-narrower op c node x = IsNarrower-refl x
 
 -- its bits stay within a word
 gained-zeros : (op : BinOp) (c : ℕ) (node x : Known) → c < 2 ^ 32 → IsClosed node → IsClosed x
@@ -126,12 +81,7 @@ gained-zeros Xor c node x f h k = or_lt 32 x.zeros _ (closed-zeros x k)
     (or_lt 32 (bit_and node.zeros (4294967295 - c)) (bit_and node.ones c)
     (and_lt 32 node.zeros (4294967295 - c) (closed-zeros node h) (omega arith))
     (and_lt 32 node.ones c (closed-ones node h) f))
-gained-zeros Add c node x f h k = closed-zeros x k
-gained-zeros Sub c node x f h k = closed-zeros x k
-gained-zeros Mul c node x f h k = closed-zeros x k
-gained-zeros Div c node x f h k = closed-zeros x k
-gained-zeros Lsh c node x f h k = closed-zeros x k
-gained-zeros Rsh c node x f h k = closed-zeros x k
+gained-zeros op c node x f h k = closed-zeros x k
 
 with-admits : (k : Known) (z o n : ℕ) → Admits k n → HasBits n z o → Admits (with_bits k z o) n
 with-admits k z o n h b = record { above = h.above; below = h.below; bits = join-bits n k.zeros k.ones z o h.bits b }
@@ -142,20 +92,13 @@ gained-admits : (op : BinOp) (c : ℕ) (node x : Known) (n : ℕ) → IsSwappabl
 gained-admits And c node x n s f h k = with-admits x _ _ n h (backward-and n c node.zeros node.ones k.bits)
 gained-admits Or c node x n s f h k = with-admits x _ _ n h (backward-or n c node.zeros node.ones f k.bits)
 gained-admits Xor c node x n s f h k = with-admits x _ _ n h (backward-xor n c node.zeros node.ones f k.bits)
-gained-admits Add c node x n s f h k = elim s [ ]
-gained-admits Sub c node x n s f h k = elim s [ ]
-gained-admits Mul c node x n s f h k = elim s [ ]
-gained-admits Div c node x n s f h k = elim s [ ]
-gained-admits Lsh c node x n s f h k = elim s [ ]
-gained-admits Rsh c node x n s f h k = elim s [ ]
+gained-admits op c node x n s f h k = elim s [ ]
 
 -- one step back
 step-lawful : (ks : List Known) (ex : List ℕ) (ns : List Node) (at : ℕ) (o : BinOp × ℕ × ℕ) → IsPool ns
     → AreClosed ks ns → at < length ns → IsSwappable o.0 → IsOperand ns at o
     → IsLawful AnyInput ks ex ns (WritingGives ks ex o.1 (gained o.0 o.2 (known_at ks at) (known_at ks o.1)))
 step-lawful ks ex ns at o p h l s is =
-    let count = h.count in
-    let older = is.older in
     let here : o.1 < length ns = omega arith in
     writing-lawful AnyInput ks ex ns o.1 (gained o.0 o.2 (known_at ks at) (known_at ks o.1)) p h here
     (gained-narrower o.0 o.2 (known_at ks at) (known_at ks o.1))
@@ -168,9 +111,7 @@ back-narrowed : (n : ℕ) (ks : List Known) (ex : List ℕ) (ns : List Node) (at
     → IfSome r (λ next. IsNarrowed ks next ex ns)
 back-narrowed zero ks ex ns at p h l r w = rw w.1 (narrowed-refl ks ex ns h)
 back-narrowed (suc n) ks ex ns at p h l r w =
-    let o = w.0 in
-    let is = is-operand ns at o p l w.1 in
-    let older = is.older in
+    let o = w.0 in let is = is-operand ns at o p l w.1 in let older = is.older in
     let step = step-lawful ks ex ns at o p h l w.2 is in
     then-if (WritingGives ks ex o.1 (gained o.0 o.2 (known_at ks at) (known_at ks o.1)))
     (λ next s. GoingBackGivesIn n next ex ns o.1 s) (λ next. IsNarrowed ks next ex ns)
@@ -182,9 +123,7 @@ back-sound : (n : ℕ) (ks : List Known) (ex : List ℕ) (ns : List Node) (at : 
     → GoingBackGivesIn n ks ex ns at r → MatchOption r ⊥ (λ next. AgreesWith next ex ns d)
 back-sound zero ks ex ns at p h l d i a r w = rw w.1 a
 back-sound (suc n) ks ex ns at p h l d i a r w =
-    let o = w.0 in
-    let is = is-operand ns at o p l w.1 in
-    let older = is.older in
+    let o = w.0 in let is = is-operand ns at o p l w.1 in let older = is.older in
     let step = step-lawful ks ex ns at o p h l w.2 is in
     then-some (WritingGives ks ex o.1 (gained o.0 o.2 (known_at ks at) (known_at ks o.1)))
     (λ next s. GoingBackGivesIn n next ex ns o.1 s) (λ next. AgreesWith next ex ns d) (λ next. AgreesWith next ex ns d)
@@ -194,10 +133,7 @@ back-sound (suc n) ks ex ns at p h l d i a r w =
 -- that known bits go back from a node is a lawful step
 pub back-lawful : (ks : List Known) (ex : List ℕ) (ns : List Node) (at : ℕ) → IsPool ns → AreClosed ks ns
     → at < length ns → IsLawful AnyInput ks ex ns (GoingBackGives ks ex ns at)
-back-lawful ks ex ns at p h l = record {
-  narrowed = λ r w. back-narrowed w.0 ks ex ns at p h l r w.1;
-  sound = λ d i t a r w. back-sound w.0 ks ex ns at p h l d i a r w.1;
-}
+back-lawful ks ex ns at p h l = grind (arith, common_steps, back-narrowed, back-sound)
 
 some-or-none : (o : Option (BinOp × ℕ × ℕ)) → (o ≡ None) ⊎ ((p : BinOp × ℕ × ℕ) × (o ≡ Some p))
 some-or-none None = inl refl
@@ -207,12 +143,7 @@ is-swappable : (op : BinOp) → IsSwappable op ⊎ ¬ IsSwappable op
 is-swappable Or = inl tt
 is-swappable And = inl tt
 is-swappable Xor = inl tt
-is-swappable Add = inr (λ s. s)
-is-swappable Sub = inr (λ s. s)
-is-swappable Mul = inr (λ s. s)
-is-swappable Div = inr (λ s. s)
-is-swappable Lsh = inr (λ s. s)
-is-swappable Rsh = inr (λ s. s)
+is-swappable op = inr (λ s. s)
 
 -- where the bits of a node are known of its operand, and so on, going back changes nothing
 pub back-still : (m : ℕ) (ks : List Known) (ex : List ℕ) (ns : List Node) (at : ℕ) → IsPool ns → at < m
@@ -222,8 +153,7 @@ back-still zero ks ex ns at p l li closed back = absurd (omega arith)
 back-still (suc m) ks ex ns at p l li closed back = elim (some-or-none (constant_operand_of ns (node_at ns at))) [
   | inl none ↦ (0, ((λ o e s. let clash : None ≡ Some o = sym none ∙ e in absurd cc), refl))
   | inr q ↦
-      let o = q.0 in
-      let e = q.1 in
+      let o = q.0 in let e = q.1 in
       elim (is-swappable o.0) [
         | inr never ↦ (
           0,

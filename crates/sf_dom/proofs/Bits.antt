@@ -1,13 +1,4 @@
-use Rattle.std.proofs.lemmas.Grind.{common_steps}
-use Rattle.std.proofs.Common.{◌≡◌, ℕ, ◌<◌, ◌≤◌, ◌^◌, ◌-◌, ◌+◌, ◌*◌, ◌/◌, ◌%◌, min, max, arith, sym, ap, ◌∙◌, inl, inr}
-use Rattle.std.proofs.lemmas.Bool.{cases_lt}
-use Rattle.std.specs.Prelude.{bit_and, bit_or, bit_xor}
-use Rattle.std.specs.Int.{bit_at}
-use Rattle.std.proofs.lemmas.Nat.{shr_split, shr-shr, and_le_l, or_disjoint, or_lt, pow_pos, xor_shr, le-div}
-use Rattle.std.proofs.lemmas.Nat.Bits.{bit_at_and, bit_at_or, bit_at_xor, bit_at-lt, same_from_bits, bit_at_above, bit_at_cat_low, bit_at_cat_high, bit_at-zero, bit_at_mask_below, bit_at_ones_above}
-use Rattle.std.proofs.Math.Nat.{div-eq_of_lt, div-mul-le_self}
-use Rattle.sf_dom.specs.Known.{HasBits, AreBitsOf}
-use Rattle.sf_dom.specs.laws.FactsLaws.{bit_at-complement}
+use Rattle.sf_dom.proofs.Common.{common_steps, ◌≡◌, ℕ, ◌<◌, ◌≤◌, ◌^◌, ◌-◌, ◌+◌, ◌*◌, ◌/◌, ◌%◌, min, max, arith, sym, ap, ◌∙◌, inl, inr, cases_lt, bit_and, bit_or, bit_xor, bit_at, shr_split, shr-shr, and_le_l, or_disjoint, or_lt, pow_pos, xor_shr, le-div, bit_at_and, bit_at_or, bit_at_xor, bit_at-lt, same_from_bits, bit_at_above, bit_at_cat_low, bit_at_cat_high, bit_at-zero, bit_at_mask_below, bit_at_ones_above, div-eq_of_lt, div-mul-le_self, HasBits, AreBitsOf, bit_at-complement}
 
 -- one bit of each transfer function, by the numbers 0 and 1
 and_zero : (a b za zb : ℕ) → za + a ≤ 1 → zb + b ≤ 1 → max za zb + min a b ≤ 1
@@ -89,11 +80,8 @@ backward-xor x c z o l h =
 -- the known ones are at most the number
 pub ones-le : (n z o : ℕ) → HasBits n z o → o ≤ n
 ones-le n z o h =
-    let same : bit_and n o ≡ o = same_from_bits (bit_and n o) o (λ i. bit_at_and n o i ∙ min_of _ _ (h.one i)) in
+    let same : bit_and n o ≡ o = same_from_bits (bit_and n o) o (λ i. bit_at_and n o i ∙ omega (arith, h.one i)) in
     rw same at (and_le_l n o)
-  where
-    min_of : (b a : ℕ) → a ≤ b → min b a ≡ a
-    min_of b a l = omega arith
 
 -- bits of a number are no greater
 pub bits-le : (a b : ℕ) → AreBitsOf a b → a ≤ b
@@ -108,18 +96,12 @@ bits-of-or_right a b i = rw (bit_at_or a b i) (omega arith)
 
 -- bits that are there add nothing
 pub or-same : (a b : ℕ) → AreBitsOf b a → bit_or a b ≡ a
-or-same a b h = same_from_bits (bit_or a b) a (λ i. bit_at_or a b i ∙ max_of _ _ (h i))
-  where
-    max_of : (a b : ℕ) → b ≤ a → max a b ≡ a
-    max_of a b l = omega arith
+or-same a b h = same_from_bits (bit_or a b) a (λ i. bit_at_or a b i ∙ omega (arith, h i))
 
 -- none of the known zeros is a bit of the number
 pub no-zeros : (n z o : ℕ) → HasBits n z o → bit_and n z ≡ 0
 no-zeros n z o h = same_from_bits (bit_and n z) 0
-    (λ i. bit_at_and n z i ∙ min_none _ _ (h.zero i) ∙ sym (bit_at-zero i))
-  where
-    min_none : (b a : ℕ) → a + b ≤ 1 → min b a ≡ 0
-    min_none b a l = omega arith
+    (λ i. bit_at_and n z i ∙ omega (arith, h.zero i) ∙ sym (bit_at-zero i))
 
 -- a number leaves room for its known zeros
 pub zeros-le : (n z o : ℕ) → n < 2 ^ 32 → z < 2 ^ 32 → HasBits n z o → n ≤ 4294967295 - z
@@ -154,12 +136,6 @@ shl-bits a za oa s h =
       zero = search (arith, cases_lt, bit_at-lt, bit_at_or, bit_at_ones_above);
       one = search (arith, cases_lt);
     }
-  where
-    zero_right : (b : ℕ) → b < 2 → b + 0 ≤ 1
-    zero_right b l = omega arith
-
-    max_zero : (z n : ℕ) → z + n ≤ 1 → max z 0 + n ≤ 1
-    max_zero z n l = omega arith
 
 -- moved right by s
 pub shr-bits : (a za oa s : ℕ) → s < 32 → a < 2 ^ 32 → HasBits a za oa

@@ -1,17 +1,5 @@
 -- Facts of conditions, which are learnt one after the other.
-use Rattle.std.proofs.Common.{◌≡◌, ℕ, ◌+◌, ◌<◌, List, [], ◌∷◌, ◌++◌, length, get_or, take, drop, zero, suc, arith, refl, sym, ap, subst}
-use Rattle.std.proofs.lemmas.List.{take_more}
-use Rattle.std.proofs.lemmas.List.Elements.{All-nil, All-cons, All-head, All-tail, All-contains, Contains-append_right}
-use Rattle.std.specs.Prelude.{All}
-use Rattle.sf_insn.specs.Inputs.{IsInput}
-use Rattle.sf_insn.specs.declared.input.Input.{Input}
-use Rattle.sf_sym.specs.Pool.{IsPool, IsCondBelow}
-use Rattle.sf_sym.specs.declared.pool.Cond.{Cond}
-use Rattle.sf_sym.specs.declared.pool.Node.{Node}
-use Rattle.sf_dom.specs.Facts.{FactsView, Covers, Agrees, IsPlainCondition}
-use Rattle.sf_dom.specs.laws.FactsLaws.{some-input}
-use Rattle.sf_dom.specs.Learning.{StartsBy, LearnsBy, CantLearn, LearnAll, AreBuiltBy, CantBeBuilt}
-use Rattle.sf_dom.specs.Propagation.{Meets, AllMet, AreFactsOf}
+use Rattle.sf_dom.proofs.Common.{◌≡◌, ℕ, ◌+◌, ◌<◌, List, [], ◌∷◌, ◌++◌, length, get_or, take, drop, zero, suc, arith, refl, sym, ap, subst, take_more, All-nil, All-cons, All-head, All-tail, All-contains, Contains-append_right, All, IsInput, Input, IsPool, IsCondBelow, Cond, Node, FactsView, Covers, Agrees, IsPlainCondition, some-input, StartsBy, LearnsBy, CantLearn, LearnAll, AreBuiltBy, CantBeBuilt, Meets, AllMet, AreFactsOf, common_steps}
 use Rattle.sf_dom.proofs.Assumed.{learns-rest, learns-keeps, learns-only, cant-learn}
 use Rattle.sf_dom.proofs.Covering.{AreResting}
 use Rattle.sf_dom.proofs.NewNodes.{taken-rest}
@@ -51,11 +39,7 @@ none-built xs i d f ns l h none = record {
 
 -- nothing more follows for facts at first
 first-rests : (f : FactsView) (ns : List Node) → IsPool ns → StartsBy f ns → AreResting f.known f.excluded ns
-first-rests f ns p h = record {
-  pool = p;
-  count = h.known.count;
-  rest = λ i l. taken-rest [] f.known f.excluded ns h.known i (omega arith) l;
-}
+first-rests f ns p h = grind (arith, common_steps, taken-rest)
 
 -- and each input agrees with them
 first-agrees : (f : FactsView) (ns : List Node) → IsPool ns → StartsBy f ns → (d : Input) → IsInput d → Agrees f ns d
@@ -113,16 +97,12 @@ pub none-meets-all : (ns : List Node) (conds : List Cond) → IsPool ns → All 
     → CantBeBuilt ns conds → (d : Input) → IsInput d → ¬ AllMet ns conds d
 none-meets-all ns conds p below h d i m =
     let met : (x : Cond) → Type 0 = λ x. Meets ns x d in
-    let first = h.built.0 in
-    let all = rw h.all at below in
-    let meets = rw h.all at m in
+    let first = h.built.0 in let all = rw h.all at below in let meets = rw h.all at m in
     let rests = first-rests first ns p h.built.1 in
     let early = before (IsCondBelow (length ns)) h.earlier (h.cond ∷ h.later) all in
     cant-learn h.before ns h.cond (all-rest ns first h.before h.earlier rests early h.built.2)
-    (here (IsCondBelow (length ns)) all) h.none d i
-    (all-keep ns first h.before h.earlier rests early h.built.2 d i
-    (before met h.earlier (h.cond ∷ h.later) meets) (first-agrees first ns p h.built.1 d i))
-    (here met meets)
+    (here (IsCondBelow (length ns)) all) h.none d i (all-keep ns first h.before h.earlier rests early h.built.2 d i
+    (before met h.earlier (h.cond ∷ h.later) meets) (first-agrees first ns p h.built.1 d i)) (here met meets)
   where
     before : (P : Cond → Type 0) (xs ys : List Cond) → All P (xs ++ ys) → All P xs
     before P [] ys a = All-nil P

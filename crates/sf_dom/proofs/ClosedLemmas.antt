@@ -1,25 +1,10 @@
 -- What reduction leaves is closed, and is the widest such knowledge.
-use Rattle.std.proofs.Common.{◌≡◌, ◌≢◌, ℕ, suc, pow-suc, ◌<◌, ◌≤◌, ◌^◌, ◌-◌, ◌+◌, ◌*◌, ◌/◌, ◌%◌, min, max, arith, refl, sym, ap, ◌∙◌, inl, inr}
-use Rattle.std.proofs.lemmas.Bool.{cases_lt}
-use Rattle.std.specs.Prelude.{bit_and, bit_or, bit_xor}
-use Rattle.std.specs.Int.{bit_at, w32}
-use Rattle.std.proofs.lemmas.Nat.{shr-shr, shr_split, xor_shr, pow_pos, or_lt}
-use Rattle.std.specs.Int.Bits.{and_lt}
-use Rattle.std.proofs.Math.Pow.{pow_mono}
-use Rattle.std.proofs.lemmas.Nat.Bits.{bit_at_and, bit_at_or, bit_at_not, bit_at_xor, bit_at-lt, bit_at-zero, bit_at_above, bit_at_mask_below, bit_at_mask_inside, same_from_bits}
-use Rattle.sf_dom.specs.declared.known.Known.{Known}
-use Rattle.sf_dom.specs.Known.{Has, HasBits, IsNarrower, known_of}
-use Rattle.sf_dom.specs.Reduction.{AreApart, IsLeadingMask}
-use Rattle.sf_dom.specs.Rules.{IsClosed, IsClosedWord, HasNone}
-use Rattle.sf_dom.specs.laws.FactsLaws.{bit_at-complement}
+use Rattle.sf_dom.proofs.Common.{◌≡◌, ◌≢◌, ℕ, suc, pow-suc, ◌<◌, ◌≤◌, ◌^◌, ◌-◌, ◌+◌, ◌*◌, ◌/◌, ◌%◌, min, max, arith, refl, sym, ap, ◌∙◌, inl, inr, cases_lt, bit_and, bit_or, bit_xor, bit_at, w32, shr-shr, shr_split, xor_shr, pow_pos, or_lt, and_lt, pow_mono, bit_at_and, bit_at_or, bit_at_not, bit_at_xor, bit_at-lt, bit_at-zero, bit_at_above, bit_at_mask_below, bit_at_mask_inside, same_from_bits, Known, Has, HasBits, IsNarrower, known_of, AreApart, IsLeadingMask, IsClosed, IsClosedWord, HasNone, bit_at-complement, common_steps}
 use Rattle.sf_dom.proofs.Reductions.{AreApart-and}
 use Rattle.sf_dom.proofs.Bits.{div_mono, bits-le, join-bits, ones-le, zeros-le}
 
 no-bits : (n : ℕ) → bit_xor n n ≡ 0
-no-bits n = same_from_bits (bit_xor n n) 0 (λ i. bit_at_xor n n i ∙ twice _ ∙ sym (bit_at-zero i))
-  where
-    twice : (b : ℕ) → (b + b) % 2 ≡ 0
-    twice b = omega arith
+no-bits n = grind (arith, common_steps, bit_at_xor, bit_at-zero, same_from_bits)
 
 -- from a bit on that two numbers agree from, they agree from each higher bit too
 agree-above : (low high j i : ℕ) → j ≤ i → low / 2 ^ j ≡ high / 2 ^ j → low / 2 ^ i ≡ high / 2 ^ i
@@ -34,10 +19,7 @@ mask-is low high mask j lj em e top = record {
     | inl l ↦ absurd (omega (arith, ap (λ m. bit_at m i) em, bit_at_mask_below j 32 i l))
     | inr l ↦ agree-above low high j i l e
   ];
-  all = λ i li h. elim (cases_lt i j) [
-    | inl l ↦ absurd (below i l h)
-    | inr l ↦ rw em (bit_at_mask_inside j 32 i l li)
-  ];
+  all = λ i li h. elim (cases_lt i j) [ inl l ↦ absurd (below i l h) | inr l ↦ rw em (bit_at_mask_inside j 32 i l li) ];
 }
   where
     below : (i : ℕ) → i < j → low / 2 ^ i ≡ high / 2 ^ i → ⊥
@@ -70,8 +52,7 @@ pub leading-in : (k s : Known) (low high mask : ℕ) → IsClosed s → IsNarrow
 leading-in k s low high mask h n fl a b m =
     let o = h.ordered in
     let same : (i : ℕ) → bit_at mask i ≡ 1 → i < 32 → (bit_at s.zeros i ≡ 1 - bit_at low i)
-    × (bit_at s.ones i ≡ bit_at low i)
-    = λ i e li.
+    × (bit_at s.ones i ≡ bit_at low i) = λ i e li.
     let q = m.only i e in
     let up : low / 2 ^ i ≤ s.low / 2 ^ i = div_mono low s.low i a in
     let mid : s.low / 2 ^ i ≤ s.high / 2 ^ i = div_mono s.low s.high i o in
@@ -83,14 +64,12 @@ leading-in k s low high mask h n fl a b m =
       low = a;
       high = b;
       zeros = λ i. part _ _ _ _ _ (bit_at_or k.zeros (bit_and (4294967295 - low) mask) i
-          ∙ ap (max (bit_at k.zeros i)) (bit_at_and (4294967295 - low) mask i)) (n.zeros i)
-          (λ e. elim (cases_lt i 32) [
+          ∙ ap (max (bit_at k.zeros i)) (bit_at_and (4294967295 - low) mask i)) (n.zeros i) (λ e. elim (cases_lt i 32) [
             | inl l ↦ let t = same i e l in omega (arith, bit_at_not w32 low i fl l)
             | inr l ↦ omega (arith, bit_at_above (4294967295 - low) 32 i (omega arith) l)
           ]) (bit_at-lt mask i);
       ones = λ i. part _ _ _ _ _ (bit_at_or k.ones (bit_and low mask) i
-          ∙ ap (max (bit_at k.ones i)) (bit_at_and low mask i)) (n.ones i)
-          (λ e. elim (cases_lt i 32) [
+          ∙ ap (max (bit_at k.ones i)) (bit_at_and low mask i)) (n.ones i) (λ e. elim (cases_lt i 32) [
             | inl l ↦ let t = same i e l in omega arith
             | inr l ↦ omega (arith, bit_at_above low 32 i fl l)
           ]) (bit_at-lt mask i);
@@ -105,31 +84,22 @@ leading-in k s low high mask h n fl a b m =
 -- a round keeps every closed knowledge that is no wider
 pub round-widest : (k s : Known) (low high mask : ℕ) → low ≡ max k.low k.ones
     → high ≡ min k.high (4294967295 - k.zeros) → low < 2 ^ 32 → IsLeadingMask low high mask → IsClosed s
-    → IsNarrower k s
-    → IsNarrower (known_of low high (bit_or k.zeros (bit_and (4294967295 - low) mask))
+    → IsNarrower k s → IsNarrower (known_of low high (bit_or k.zeros (bit_and (4294967295 - low) mask))
     (bit_or k.ones (bit_and low mask))) s
 round-widest k s low high mask el eh fl m h n =
     let zeros = bits-le k.zeros s.zeros n.zeros in
     let ones = bits-le k.ones s.ones n.ones in
-    let sl = h.low in let sh = h.high in let nl = n.low in let nh = n.high in
     leading-in k s low high mask h n fl (omega arith) (omega arith) m
 
 -- nothing is left where the ends have passed each other
 pub none-between : (k : Known) (low high : ℕ) → low ≡ max k.low k.ones → high ≡ min k.high (4294967295 - k.zeros)
     → high < low → HasNone IsClosed k
-none-between k low high el eh h = λ s t n.
-    let zeros = bits-le k.zeros s.zeros n.zeros in
-    let ones = bits-le k.ones s.ones n.ones in
-    let sl = t.low in let sh = t.high in let so = t.ordered in let nl = n.low in let nh = n.high in
-    omega arith
+none-between k low high el eh h = grind (arith, common_steps, bits-le)
 
 -- nor where a bit is known to be both
 pub none-both : (k : Known) → bit_and k.zeros k.ones ≢ 0 → HasNone IsClosed k
 none-both k h = λ s t n. h (same_from_bits (bit_and k.zeros k.ones) 0 (λ i. bit_at_and k.zeros k.ones i
-    ∙ none _ _ _ _ (n.zeros i) (n.ones i) (t.apart i) ∙ sym (bit_at-zero i)))
-  where
-    none : (z o y p : ℕ) → z ≤ y → o ≤ p → y + p ≤ 1 → min z o ≡ 0
-    none z o y p a b c = omega arith
+    ∙ omega (arith, n.zeros i, n.ones i, t.apart i) ∙ sym (bit_at-zero i)))
 
 -- what has the leading bits of its ends is closed
 pub closed-leading : (r : Known) (z o mask : ℕ) → r.low ≤ r.high → r.high < 2 ^ 32 → AreApart r.zeros r.ones
@@ -141,8 +111,7 @@ closed-leading r z o mask ord fits apart lo hi m ez eo = record {
   apart = apart;
   low = lo;
   high = hi;
-  leading = λ i l e. both _ _ _ _ _ _ _
-      (ap (λ b. bit_at b i) ez ∙ bit_at_or z (bit_and (4294967295 - r.low) mask) i
+  leading = λ i l e. both _ _ _ _ _ _ _ (ap (λ b. bit_at b i) ez ∙ bit_at_or z (bit_and (4294967295 - r.low) mask) i
       ∙ ap (max (bit_at z i)) (bit_at_and (4294967295 - r.low) mask i))
       (ap (λ b. bit_at b i) eo ∙ bit_at_or o (bit_and r.low mask) i ∙ ap (max (bit_at o i)) (bit_at_and r.low mask i))
       (m.all i l e) (bit_at_not w32 r.low i (omega arith) l) (apart i) (bit_at-lt r.low i);
@@ -157,30 +126,18 @@ pub round-last : (k r : Known) (mask : ℕ) → r.low ≡ max k.low k.ones → r
     → k.zeros < 2 ^ 32 → r.low ≤ r.high → r.high < 2 ^ 32 → bit_and k.zeros k.ones ≡ 0 → IsLeadingMask r.low r.high mask
     → r.zeros ≡ bit_or k.zeros (bit_and (4294967295 - r.low) mask) → r.ones ≡ bit_or k.ones (bit_and r.low mask)
     → r ≡ k → IsClosed k
-round-last k r mask el eh fz ord fits apart m ez eo e =
-    let e0 : r.low ≡ k.low = ap (λ x. x.low) e in
-    let e1 : r.high ≡ k.high = ap (λ x. x.high) e in
-    let e2 : r.zeros ≡ k.zeros = ap (λ x. x.zeros) e in
-    let e3 : r.ones ≡ k.ones = ap (λ x. x.ones) e in
-    let both : AreApart r.zeros r.ones = rw (e2, e3) (AreApart-and k.zeros k.ones apart) in
-    let done : IsClosed r = closed-leading r k.zeros k.ones mask ord fits both (omega arith) (omega arith) m ez eo in
-    rw e at done
+round-last k r mask el eh fz ord fits apart m ez eo e = grind (arith, common_steps, AreApart-and, closed-leading)
 
 pub fewer-bits : (k s : Known) (n : ℕ) → IsNarrower k s → HasBits n s.zeros s.ones → HasBits n k.zeros k.ones
-fewer-bits k s n h b = record {
-  zero = λ i. omega (arith, h.zeros i, b.zero i);
-  one = λ i. omega (arith, h.ones i, b.one i);
-}
+fewer-bits k s n h b = grind (arith, common_steps)
 
 -- the reduction of a word
 pub word-widest : (k s : Known) (xs : ℕ) (lo hi mask : ℕ) → lo < 2 ^ 32 → IsLeadingMask lo hi mask
     → ((n : ℕ) → k.low ≤ n → n < lo → HasBits n k.zeros k.ones → Has xs n)
-    → ((n : ℕ) → hi < n → n ≤ k.high → HasBits n k.zeros k.ones → Has xs n)
-    → IsClosedWord xs s → IsNarrower k s
+    → ((n : ℕ) → hi < n → n ≤ k.high → HasBits n k.zeros k.ones → Has xs n) → IsClosedWord xs s → IsNarrower k s
     → IsNarrower (known_of lo hi (bit_or k.zeros (bit_and (4294967295 - lo) mask)) (bit_or k.ones (bit_and lo mask))) s
 word-widest k s xs lo hi mask fl m up down h n =
-    let nl = n.low in let nh = n.high in let so = h.known.ordered in
-    let a : lo ≤ s.low = elim (cases_lt s.low lo) [
+    let nl = n.low in let nh = n.high in let a : lo ≤ s.low = elim (cases_lt s.low lo) [
       | inl l ↦ absurd (h.tight.low.kept (up s.low nl l (fewer-bits k s s.low n h.tight.low.admitted.bits)))
       | inr l ↦ l
     ] in
@@ -190,38 +147,15 @@ word-widest k s xs lo hi mask fl m up down h n =
     ] in
     leading-in k s lo hi mask h.known n fl a b m
 
-pub word-none : (k : Known) (xs : ℕ) (low high : ℕ) → low ≤ k.low → k.high ≤ high
-    → ((n : ℕ) → low ≤ n → n ≤ high → HasBits n k.zeros k.ones → Has xs n) → HasNone (IsClosedWord xs) k
-word-none k xs low high a b up = λ s h n.
-    let nl = n.low in let nh = n.high in let so = h.known.ordered in
-    h.tight.low.kept (up s.low (omega arith) (omega arith) (fewer-bits k s s.low n h.tight.low.admitted.bits))
-
 -- what a mask marks of the ends of an interval that agree there
 marked : (low mask n : ℕ) → low < 2 ^ 32 → ((i : ℕ) → bit_at mask i ≡ 1 → bit_at n i ≡ bit_at low i)
     → HasBits n (bit_and (4294967295 - low) mask) (bit_and low mask)
-marked low mask n l same = record {
-  zero = λ i. rw (bit_at_and (4294967295 - low) mask i) (zero _ _ _ _ (bit_at-complement low i l) (same i)
-      (bit_at-lt mask i) (bit_at-lt n i));
-  one = λ i. rw (bit_at_and low mask i) (one _ _ _ (same i) (bit_at-lt mask i));
-}
-  where
-    zero : (z m n o : ℕ) → z + o ≤ 1 → (m ≡ 1 → n ≡ o) → m < 2 → n < 2 → min z m + n ≤ 1
-    zero z m n o h same lm ln = elim (cases_lt 0 m) [
-      | inl p ↦ let e = same (omega arith) in omega arith
-      | inr p ↦ omega arith
-    ]
+marked low mask n l same = grind (arith, common_steps, cases_lt, bit_at_and, bit_at-lt, bit_at-complement)
 
-    one : (m n o : ℕ) → (m ≡ 1 → n ≡ o) → m < 2 → min o m ≤ n
-    one m n o same lm = elim (cases_lt 0 m) [
-      | inl p ↦ let e = same (omega arith) in omega arith
-      | inr p ↦ omega arith
-    ]
-
-pub word-closed : (k r : Known) (xs : ℕ) (mask : ℕ) → r.low ≤ r.high → r.high < 2 ^ 32
-    → IsLeadingMask r.low r.high mask → k.zeros < 2 ^ 32 → mask < 2 ^ 32
-    → r.zeros ≡ bit_or k.zeros (bit_and (4294967295 - r.low) mask) → r.ones ≡ bit_or k.ones (bit_and r.low mask)
-    → HasBits r.low k.zeros k.ones → ¬ Has xs r.low → HasBits r.high k.zeros k.ones → ¬ Has xs r.high
-    → IsClosedWord xs r
+pub word-closed : (k r : Known) (xs : ℕ) (mask : ℕ) → r.low ≤ r.high → r.high < 2 ^ 32 → IsLeadingMask r.low r.high mask
+    → k.zeros < 2 ^ 32 → mask < 2 ^ 32 → r.zeros ≡ bit_or k.zeros (bit_and (4294967295 - r.low) mask)
+    → r.ones ≡ bit_or k.ones (bit_and r.low mask) → HasBits r.low k.zeros k.ones → ¬ Has xs r.low
+    → HasBits r.high k.zeros k.ones → ¬ Has xs r.high → IsClosedWord xs r
 word-closed k r xs mask ord fits m fz fm ez eo bl kl bh kh =
     let fl : r.low < 2 ^ 32 = omega arith in
     let f : r.zeros < 2 ^ 32 = rw ez (or_lt 32 k.zeros (bit_and (4294967295 - r.low) mask) fz
@@ -231,13 +165,10 @@ word-closed k r xs mask ord fits m fz fm ez eo bl kl bh kh =
     let high : HasBits r.high r.zeros r.ones = rw (ez, eo) (join-bits r.high k.zeros k.ones _ _ bh
     (marked r.low mask r.high fl (λ i e. sym (ap (λ q. q % 2) (m.only i e))))) in
     record {
-      known = closed-leading r k.zeros k.ones mask ord fits (λ i. apart _ _ _ (low.zero i) (low.one i))
+      known = closed-leading r k.zeros k.ones mask ord fits (λ i. omega (arith, low.zero i, low.one i))
           (ones-le r.low r.zeros r.ones low) (omega (arith, zeros-le r.high r.zeros r.ones fits f high)) m ez eo;
       tight = record {
         low = record { admitted = record { above = omega arith; below = ord; bits = low }; kept = kl };
         high = record { admitted = record { above = ord; below = omega arith; bits = high }; kept = kh };
       };
     }
-  where
-    apart : (z o n : ℕ) → z + n ≤ 1 → o ≤ n → z + o ≤ 1
-    apart z o n a b = omega arith

@@ -1,25 +1,5 @@
 -- To take a condition into what is known is a lawful step, and so is to take in more of a node.
-use Rattle.std.proofs.Common.{◌≡◌, ℕ, ◌<◌, ◌^◌, List, length, set, arith, refl, sym, inl, inr, ◌≢◌}
-use Rattle.std.proofs.lemmas.List.{get_or-set_same, set-get_or, get_or-set_other, length-set}
-use Rattle.std.proofs.lemmas.Nat.{or_lt}
-use Rattle.std.specs.Prelude.{Option, Some, None, MatchOption, IfSome, Bool, true, false, MatchBool}
-use Rattle.std.proofs.lemmas.Bool.{cases_eq}
-use Rattle.sf_insn.specs.Inputs.{IsInput}
-use Rattle.sf_insn.specs.declared.input.Input.{Input}
-use Rattle.sf_sym.specs.Pool.{IsPool, IsCondBelow, value_of}
-use Rattle.sf_sym.specs.laws.ValueLaws.{met-passes, word-place}
-use Rattle.sf_sym.specs.declared.pool.Cond.{Cond}
-use Rattle.sf_sym.specs.declared.pool.Node.{Node}
-use Rattle.sf_dom.specs.declared.known.Known.{Known}
-use Rattle.sf_dom.specs.declared.guards.Pair.{Pair}
-use Rattle.sf_dom.specs.Known.{Admits, IsNarrower, known_of}
-use Rattle.sf_dom.specs.Facts.{known_at, AgreesWith}
-use Rattle.sf_dom.specs.Propagation.{IsNarrowed, AllNarrower, Meets, AreClosedWords}
-use Rattle.sf_dom.specs.Backward.{IsPropagatedBack}
-use Rattle.sf_dom.specs.Rules.{met, IsClosedAt, IsReduction, ReductionGives, Then}
-use Rattle.sf_dom.specs.Passes.{PassGives, IsAtRest, AreClosed}
-use Rattle.sf_dom.specs.GoingBack.{WritingGives, GoingBackGives}
-use Rattle.sf_dom.specs.Learning.{assumed_of, PairGives, with_pair, ConditionGives, MoreGives, Excludes, AreExcludedBy}
+use Rattle.sf_dom.proofs.Common.{◌≡◌, ℕ, ◌<◌, ◌^◌, List, length, set, arith, refl, sym, inl, inr, ◌≢◌, get_or-set_same, set-get_or, get_or-set_other, length-set, or_lt, Option, Some, None, MatchOption, IfSome, Bool, true, false, MatchBool, cases_eq, IsInput, Input, IsPool, IsCondBelow, value_of, met-passes, word-place, Cond, Node, Known, Pair, Admits, IsNarrower, known_of, known_at, AgreesWith, IsNarrowed, AllNarrower, Meets, AreClosedWords, IsPropagatedBack, met, IsClosedAt, IsReduction, ReductionGives, Then, PassGives, IsAtRest, AreClosed, WritingGives, GoingBackGives, assumed_of, PairGives, with_pair, ConditionGives, MoreGives, Excludes, AreExcludedBy, common_steps}
 use Rattle.sf_dom.proofs.BackLaws.{back-lawful, back-still}
 use Rattle.sf_dom.proofs.Lawful.{IsLawful, AnyInput, narrowed-left, narrowed-more, narrowed-trans, agrees-set, kept-at, met-admits, closed-zeros, reduction-holds, value-fits, writing-lawful, then-lawful}
 use Rattle.sf_dom.proofs.PassLaws.{pass-lawful, pass-rest}
@@ -31,9 +11,8 @@ use Rattle.sf_dom.proofs.Then.{then-some, then-if}
 -- ---- what is left of the two nodes of a condition
 
 -- reduction gives the same where the same is narrower
-same-left : (o : Option Known) (ex : List ℕ) (i : ℕ) (a b : Known)
-    → ((s : Known) → IsNarrower a s → IsNarrower b s) → ((s : Known) → IsNarrower b s → IsNarrower a s)
-    → ReductionGives ex i a o → ReductionGives ex i b o
+same-left : (o : Option Known) (ex : List ℕ) (i : ℕ) (a b : Known) → ((s : Known) → IsNarrower a s → IsNarrower b s)
+    → ((s : Known) → IsNarrower b s → IsNarrower a s) → ReductionGives ex i a o → ReductionGives ex i b o
 same-left None ex i a b to from h = λ s is n. h s is (from s n)
 same-left (Some r) ex i a b to from h = record {
   is = h.is;
@@ -75,8 +54,7 @@ module _ (ks : List Known) (cond : Cond) (node told more : Known) (l : cond.node
             let c : IsNarrower node s = rw (e, get_or-set_same ks cond.node.0 node none l) at a in
             met-below _ told s (rw e (IsNarrower-trans (known_at ks cond.node.0) node s n c))
             (rw (one (sym e)) (met-below more node s b c))
-        | inr ne ↦ met-below _ told s
-            (rw (get_or-set_other ks cond.node.0 cond.other.0 node none ne) at a)
+        | inr ne ↦ met-below _ told s (rw (get_or-set_other ks cond.node.0 cond.other.0 node none ne) at a)
             (rw (apart (λ e. ne (sym e))) b)
       ]
 
@@ -98,11 +76,7 @@ pub record AreLeft (ks : List Known) (ex : List ℕ) (cond : Cond) (pair : Pair)
 
 pub pair-left : (ks : List Known) (ex : List ℕ) (cond : Cond) (r : Option Pair) → PairGives ks ex cond r
     → IfSome r (AreLeft ks ex cond)
-pair-left ks ex cond =
-    then-if (ReductionGives ex cond.node.0 (met (known_at ks cond.node.0) (assumed_of ks cond).node)) _
-    (AreLeft ks ex cond) (λ node h. then-if (ReductionGives ex cond.other.0
-    (met (known_at (set ks cond.node.0 node) cond.other.0) (assumed_of ks cond).other)) _ (AreLeft ks ex cond)
-    (λ other k r e. rw e (record { node = h; other = k })))
+pair-left ks ex cond = grind (arith, common_steps, then-if)
 
 -- once both are written, what is known is closed, and nothing is lost
 pub pair-narrowed : (ks : List Known) (ex : List ℕ) (ns : List Node) (cond : Cond) → AreClosed ks ns
@@ -133,15 +107,11 @@ pair-sound : (ks : List Known) (ex : List ℕ) (ns : List Node) (cond : Cond) �
     → IsCondBelow (length ns) cond → (d : Input) → IsInput d → Meets ns cond d → AgreesWith ks ex ns d
     → (r : Option Pair) → PairGives ks ex cond r → MatchOption r ⊥ (λ pair. AgreesWith (with_pair ks cond pair) ex ns d)
 pair-sound ks ex ns cond p h below d i m a =
-    let count = h.count in
-    let iv = below.0 in let iw = below.1 in
-    let v : Known = known_at ks cond.node.0 in
+    let iv = below.0 in let iw = below.1 in let v : Known = known_at ks cond.node.0 in
     let w : Known = known_at ks cond.other.0 in
-    let cv = h.each cond.node.0 iv in
-    let cw = h.each cond.other.0 iw in
+    let cv = h.each cond.node.0 iv in let cw = h.each cond.other.0 iw in
     let lv : cond.node.0 < length ks = omega arith in
-    let x : ℕ = value_of ns d cond.node.0 in
-    let y : ℕ = value_of ns d cond.other.0 in
+    let x : ℕ = value_of ns d cond.node.0 in let y : ℕ = value_of ns d cond.other.0 in
     let hx = (a cond.node.0 lv).admitted in
     let hy = (a cond.other.0 (omega arith)).admitted in
     let t = test-admits cond.test cond.sense v w x y cv cw hx hy (met-passes ns d cond m) in
@@ -151,11 +121,9 @@ pair-sound ks ex ns cond p h below d i m a =
     (λ pair. AgreesWith (with_pair ks cond pair) ex ns d)
     (λ o g. reduction-holds o ex cond.node.0 x first (value-fits ks ex ns d cond.node.0 h iv a)
     (or_lt 32 v.zeros (assumed_of ks cond).node.zeros (closed-zeros v cv) z.0)
-    (λ b. kept-at ks ex ns d cond.node.0 p lv a b) (met-admits v (assumed_of ks cond).node x hx t.0) g)
-    (λ node g k.
+    (λ b. kept-at ks ex ns d cond.node.0 p lv a b) (met-admits v (assumed_of ks cond).node x hx t.0) g) (λ node g k.
     let ks' : List Known = set ks cond.node.0 node in
     let h' = (narrowed-left ks ex ns cond.node.0 first node h iv (met-left v (assumed_of ks cond).node) g).closed in
-    let count' = h'.count in
     let lw : cond.other.0 < length ks' = omega arith in
     let a' = agrees-set ks ex ns d cond.node.0 node lv a k in
     let w' : Known = known_at ks' cond.other.0 in
@@ -181,9 +149,8 @@ after-pair ks ex ns cond p h below =
     (back-lawful one ex ns cond.other.0 p g below.1) (λ two k. pass-lawful two ex ns p k))
 
 -- to take in a condition is a lawful step for the inputs that meet it
-pub condition-lawful : (ks : List Known) (ex : List ℕ) (ns : List Node) (cond : Cond) → IsPool ns
-    → AreClosed ks ns → IsCondBelow (length ns) cond
-    → IsLawful (Meets ns cond) ks ex ns (ConditionGives ks ex ns cond)
+pub condition-lawful : (ks : List Known) (ex : List ℕ) (ns : List Node) (cond : Cond) → IsPool ns → AreClosed ks ns
+    → IsCondBelow (length ns) cond → IsLawful (Meets ns cond) ks ex ns (ConditionGives ks ex ns cond)
 condition-lawful ks ex ns cond p h below =
     let rest : Pair → Option (List Known) → Type 0
     = λ pair. Then (GoingBackGives (with_pair ks cond pair) ex ns cond.node.0) (λ one.
@@ -202,12 +169,7 @@ condition-lawful ks ex ns cond p h below =
 -- nothing more follows after a condition
 pub condition-rest : (ks : List Known) (ex : List ℕ) (ns : List Node) (cond : Cond) (r : Option (List Known))
     → ConditionGives ks ex ns cond r → IfSome r (λ next. (i : ℕ) → i < length ns → IsAtRest next ex ns i)
-condition-rest ks ex ns cond =
-    then-if (PairGives ks ex cond) _ (λ next. (i : ℕ) → i < length ns → IsAtRest next ex ns i) (λ pair g.
-    then-if (GoingBackGives (with_pair ks cond pair) ex ns cond.node.0) _
-    (λ next. (i : ℕ) → i < length ns → IsAtRest next ex ns i) (λ one f.
-    then-if (GoingBackGives one ex ns cond.other.0) _ (λ next. (i : ℕ) → i < length ns → IsAtRest next ex ns i)
-    (λ two k r l. pass-rest two ex ns r l)))
+condition-rest ks ex ns cond = grind (arith, common_steps, pass-rest, then-if)
 
 -- what is left of the two nodes of a condition, of which what is known afterwards loses nothing
 pub record ComesFrom (ks new : List Known) (ex : List ℕ) (cond : Cond) : Type 0 where
@@ -234,8 +196,7 @@ pub more-lawful : (ks : List Known) (ex : List ℕ) (ns : List Node) (i : ℕ) (
     → AreClosed ks ns → i < length ns → more.zeros < 2 ^ 32
     → IsLawful (λ d. Admits more (value_of ns d i)) ks ex ns (MoreGives ks ex ns i more)
 more-lawful ks ex ns i more p h l f =
-    let count = h.count in
-    let own : Known = known_at ks i in
+    let count = h.count in let own : Known = known_at ks i in
     then-lawful (λ d. Admits more (value_of ns d i)) ks ex ns (WritingGives ks ex i (met own more))
     (λ next s. PassGives next ex ns s) h
     (writing-lawful (λ d. Admits more (value_of ns d i)) ks ex ns i (met own more) p h l (met-left own more)
@@ -243,13 +204,11 @@ more-lawful ks ex ns i more p h l f =
     (λ d v m a. met-admits own more (value_of ns d i) (a i (omega arith)).admitted m))
     (λ next k. pass-lawful next ex ns p k)
 
-pub more-rest : (ks : List Known) (ex : List ℕ) (ns : List Node) (i : ℕ) (more : Known)
-    (r : Option (List Known)) → MoreGives ks ex ns i more r
-    → IfSome r (λ next. (j : ℕ) → j < length ns → IsAtRest next ex ns j)
+pub more-rest : (ks : List Known) (ex : List ℕ) (ns : List Node) (i : ℕ) (more : Known) (r : Option (List Known))
+    → MoreGives ks ex ns i more r → IfSome r (λ next. (j : ℕ) → j < length ns → IsAtRest next ex ns j)
 more-rest ks ex ns i more =
     then-if (WritingGives ks ex i (met (known_at ks i) more)) _ (λ next. (j : ℕ) → j < length ns
-    → IsAtRest next ex ns j)
-    (λ next g r f. pass-rest next ex ns r f)
+    → IsAtRest next ex ns j) (λ next g r f. pass-rest next ex ns r f)
 
 -- a condition is taken in step by step
 pub condition-steps : (b : Bool) (ks one two new : List Known) (ex : List ℕ) (ns : List Node) (cond : Cond)
@@ -265,9 +224,8 @@ condition-steps false ks one two new ex ns cond pair g h k w = (Some pair, g, (S
 pub condition-nothing : (ks : List Known) (ex : List ℕ) (ns : List Node) (cond : Cond) (pair : Pair) → IsPool ns
     → length ks ≡ length ns → IsCondBelow (length ns) cond → PairGives ks ex cond (Some pair)
     → pair.node ≡ known_at ks cond.node.0 → pair.other ≡ known_at ks cond.other.0
-    → ((i : ℕ) → i < length ns → IsAtRest ks ex ns i)
-    → ((n : ℕ) → IsPropagatedBack n ks ns cond.node.0) → ((n : ℕ) → IsPropagatedBack n ks ns cond.other.0)
-    → ConditionGives ks ex ns cond (Some ks)
+    → ((i : ℕ) → i < length ns → IsAtRest ks ex ns i) → ((n : ℕ) → IsPropagatedBack n ks ns cond.node.0)
+    → ((n : ℕ) → IsPropagatedBack n ks ns cond.other.0) → ConditionGives ks ex ns cond (Some ks)
 condition-nothing ks ex ns cond pair p count below g en eo rest one two =
     let none : Known = known_of 0 0 0 0 in
     let closed : (i : ℕ) → i < length ns → IsClosedAt ex i (known_at ks i) = λ i l. (rest i l).closed in
@@ -276,8 +234,7 @@ condition-nothing ks ex ns cond pair p count below g en eo rest one two =
       eo,
       set-get_or ks cond.node.0 none,
       set-get_or ks cond.other.0 none,
-    )
-    refl in (
+    ) refl in (
       Some pair,
       g,
       (
@@ -296,9 +253,7 @@ pub more-known : (ks : List Known) (ex : List ℕ) (ns : List Node) (i : ℕ) (m
     → AreClosed ks ns → i < length ns → (r : Option (List Known)) → MoreGives ks ex ns i more r
     → IfSome r (λ new. IsNarrower more (known_at new i))
 more-known ks ex ns i more p h l =
-    let count = h.count in
-    let own : Known = known_at ks i in
-    let here : i < length ks = omega arith in
+    let own : Known = known_at ks i in let here : i < length ks = omega arith in
     then-if (WritingGives ks ex i (met own more)) _ (λ new. IsNarrower more (known_at new i)) (λ next g r f.
     let written = then-if (ReductionGives ex i (met own more)) (λ left r. r ≡ Some (set ks i left))
     (λ next. IsNarrowed ks next ex ns × IsNarrower more (known_at next i)) (λ left k r e. rw e (
@@ -312,7 +267,6 @@ more-known ks ex ns i more p h l =
         → IfSome r (λ new. IsNarrowed next new ex ns) → IfSome r (λ new. IsNarrower more (known_at new i))
     on None next w n = tt
     on (Some new) next w n =
-        let all = w.0.closed.count in
         IsNarrower-trans more (known_at next i) (known_at new i) w.1 (n.narrower i (omega arith))
 
 -- ---- nothing more follows for any word once what a condition leaves of its two nodes is written
@@ -332,8 +286,7 @@ pub words-written : (ks : List Known) (ex more : List ℕ) (ns : List Node) (con
 words-written ks ex more ns cond pair p count below closed both left w l =
     let none : Known = known_of 0 0 0 0 in
     let first : List Known = set ks cond.node.0 pair.node in
-    let v = below.0 in
-    let u = below.1 in
+    let v = below.0 in let u = below.1 in
     let here : cond.node.0 < length ks = omega arith in
     let there : cond.other.0 < length first = omega (arith, length-set ks cond.node.0 pair.node) in
     elim (cases_eq w cond.other.0) [
@@ -341,8 +294,7 @@ words-written ks ex more ns cond pair p count below closed both left w l =
       | inr other ↦ rw (get_or-set_other first cond.other.0 w pair.other none other) (elim (cases_eq w cond.node.0) [
         | inl e ↦ rw (e, get_or-set_same ks cond.node.0 pair.node none here) left.node.is
         | inr node ↦ rw (get_or-set_other ks cond.node.0 w pair.node none node)
-            (closed-still ks ex more ns cond w l both
-            (λ m x. elim x.2 [
+            (closed-still ks ex more ns cond w l both (λ m x. elim x.2 [
               | inl y ↦ node (sym (word-place ns p cond.node.0 w v y.0))
               | inr y ↦ other (sym (word-place ns p cond.other.0 w u y.0))
             ]) (closed w l))

@@ -1,16 +1,5 @@
 -- The one constant operand of a node.
-use Rattle.std.proofs.Common.{◌≡◌, ℕ, ◌<◌, ◌^◌, List, [], length, arith, refl, ap, ◌∙◌}
-use Rattle.std.proofs.lemmas.Nat.{and_comm, or_comm, xor_comm}
-use Rattle.std.specs.Prelude.{Option, Some, None}
-use Rattle.sf_insn.specs.Words.{apply}
-use Rattle.sf_insn.specs.declared.input.Input.{Input}
-use Rattle.sf_insn.specs.declared.ops.BinOp.{BinOp}
-use Rattle.sf_insn.specs.declared.ops.BinOp.TheVariants.{Add, Sub, Mul, Div, Or, And, Lsh, Rsh, Xor}
-use Rattle.sf_sym.specs.Pool.{IsPool, OperandsBelow, node_at, node_value, values_of, value_of, constant_number}
-use Rattle.sf_sym.specs.Operands.{IsSwappable, one_constant, constant_operand_of}
-use Rattle.sf_sym.specs.laws.ValueLaws.{value-node, value-constant, constant_number-is}
-use Rattle.sf_sym.specs.declared.pool.Node.{Node}
-use Rattle.sf_sym.specs.declared.pool.Node.TheVariants.{Const, Word, Bin, Neg}
+use Rattle.sf_dom.proofs.Common.{◌≡◌, ℕ, ◌<◌, ◌^◌, List, [], length, arith, refl, ap, ◌∙◌, and_comm, or_comm, xor_comm, Option, Some, None, apply, Input, BinOp, Or, And, Xor, IsPool, OperandsBelow, node_at, node_value, values_of, value_of, constant_number, IsSwappable, one_constant, constant_operand_of, value-node, value-constant, constant_number-is, Node, Bin}
 use Rattle.sf_dom.proofs.Passes.{operands-below}
 
 -- what exactly one constant operand of a node says: its operation, the value of the node, and that the operand is older
@@ -23,12 +12,7 @@ swapped : (op : BinOp) (a b : ℕ) → IsSwappable op → apply op a b ≡ apply
 swapped Or a b s = or_comm a b
 swapped And a b s = and_comm a b
 swapped Xor a b s = xor_comm a b
-swapped Add a b s = elim s [ ]
-swapped Sub a b s = elim s [ ]
-swapped Mul a b s = elim s [ ]
-swapped Div a b s = elim s [ ]
-swapped Lsh a b s = elim s [ ]
-swapped Rsh a b s = elim s [ ]
+swapped op a b s = elim s [ ]
 
 -- a constant of a pool
 constant-is : (ns : List Node) (d : Input) (i c : ℕ) → IsPool ns → i < length ns
@@ -44,13 +28,11 @@ one-operand : (ns : List Node) (at : ℕ) (op : BinOp) (a b : ℕ) (x y : Option
     → one_constant op a b x y ≡ Some o → IsOperand ns at o
 one-operand ns at op a b None (Some c) o la lb hx hy v e =
     let clash : Some (op, a, c) ≡ Some o = e in
-    let same : (op, a, c) ≡ o = cc in
-    let k = hy c refl in
+    let same : (op, a, c) ≡ o = cc in let k = hy c refl in
     rw (← same) (record { older = la; fits = k.0; value = λ d s. v d ∙ ap (apply op (value_of ns d a)) (k.1 d) })
 one-operand ns at op a b (Some c) None o la lb hx hy v e =
     let clash : Some (op, b, c) ≡ Some o = e in
-    let same : (op, b, c) ≡ o = cc in
-    let k = hx c refl in
+    let same : (op, b, c) ≡ o = cc in let k = hx c refl in
     rw (← same) (record {
       older = lb;
       fits = k.0;
@@ -62,9 +44,6 @@ one-operand ns at op a b (Some c) (Some k) o la lb hx hy v e = let clash : None 
 operand-of : (ns : List Node) (at : ℕ) (n : Node) (o : BinOp × ℕ × ℕ) → IsPool ns → at < length ns → OperandsBelow at n
     → ((d : Input) → value_of ns d at ≡ node_value d (values_of ns d) n) → constant_operand_of ns n ≡ Some o
     → IsOperand ns at o
-operand-of ns at (Const c) o p l h v e = let clash : None ≡ Some o = e in absurd cc
-operand-of ns at (Word i) o p l h v e = let clash : None ≡ Some o = e in absurd cc
-operand-of ns at (Neg a) o p l h v e = let clash : None ≡ Some o = e in absurd cc
 operand-of ns at (Bin op a b) o p l h v e =
     let la = h.0 in let lb = h.1 in
     one-operand ns at op a.0 b.0 (constant_number (node_at ns a.0)) (constant_number (node_at ns b.0)) o la lb
@@ -72,6 +51,7 @@ operand-of ns at (Bin op a b) o p l h v e =
     ((constant-is ns d a.0 c p (omega arith) f).0, (λ i. (constant-is ns i a.0 c p (omega arith) f).1)))
     (λ c f. let d : Input = record { words = [] } in
     ((constant-is ns d b.0 c p (omega arith) f).0, (λ i. (constant-is ns i b.0 c p (omega arith) f).1))) v e
+operand-of ns at n o p l h v e = let clash : None ≡ Some o = e in absurd cc
 
 pub is-operand : (ns : List Node) (at : ℕ) (o : BinOp × ℕ × ℕ) → IsPool ns → at < length ns
     → constant_operand_of ns (node_at ns at) ≡ Some o → IsOperand ns at o

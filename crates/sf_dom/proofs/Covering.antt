@@ -1,23 +1,7 @@
 -- Facts of which nothing more follows cover their pool: constants are known, and so are operations on decided operands.
-use Rattle.std.proofs.Common.{◌≡◌, ℕ, ◌<◌, ◌≤◌, ◌^◌, ◌+◌, ◌-◌, List, length, arith, refl, ◌⊎◌, inl, inr}
-use Rattle.std.proofs.lemmas.Bool.{cases_lt}
-use Rattle.std.specs.Prelude.{Some}
-use Rattle.sf_insn.specs.declared.ops.BinOp.{BinOp}
-use Rattle.sf_insn.specs.declared.ops.BinOp.TheVariants.{Add, Sub, Mul, Div, Or, And, Lsh, Rsh, Xor}
-use Rattle.sf_sym.specs.Pool.{IsPool, OperandsBelow, node_at}
-use Rattle.sf_sym.specs.declared.pool.Node.{Node}
-use Rattle.sf_sym.specs.declared.pool.Node.TheVariants.{Const, Word, Bin, Neg}
-use Rattle.sf_dom.specs.declared.known.Known.{Known}
-use Rattle.sf_dom.specs.Known.{IsNarrower, IsDecided, known_of}
-use Rattle.sf_dom.specs.Facts.{FactsView, known_at, Covers}
-use Rattle.sf_dom.specs.Passes.{IsAtRest, AreClosed}
-use Rattle.sf_dom.specs.Rules.{forward_known, forward_negated, forward_node, IsClosed}
-use Rattle.sf_dom.specs.Backward.{IsPropagatedBack}
-use Rattle.sf_dom.specs.GoingBack.{GoingBackGives}
-use Rattle.sf_dom.specs.SoundRules.{KeepsDecided, AreDecidedOperands}
+use Rattle.sf_dom.proofs.Common.{◌≡◌, ℕ, ◌<◌, ◌≤◌, ◌^◌, ◌+◌, ◌-◌, List, length, arith, ◌⊎◌, inl, inr, cases_lt, Some, BinOp, Add, Sub, Or, And, Xor, IsPool, OperandsBelow, node_at, Node, Bin, Neg, Known, IsNarrower, IsDecided, known_of, FactsView, known_at, Covers, IsAtRest, AreClosed, forward_known, forward_negated, forward_node, IsClosed, IsPropagatedBack, GoingBackGives, KeepsDecided, AreDecidedOperands, closed-consistent, common_steps}
 use Rattle.sf_dom.proofs.BackLaws.{back-still}
 use Rattle.sf_dom.proofs.Bits.{bits-le}
-use Rattle.sf_dom.specs.laws.FactsLaws.{closed-consistent}
 use Rattle.sf_dom.proofs.forward.ForwardLemmas.{or-forced, and-forced, xor-forced}
 use Rattle.sf_dom.proofs.Passes.{operands-below, one-number}
 use Rattle.sf_dom.proofs.RuleLemmas.{add-sure, sub-sure, negate-some, negate-zero}
@@ -30,22 +14,12 @@ IsForced k = (k.high ≤ k.low) ⊎ (4294967295 ≤ k.zeros + k.ones)
 number-forced : (op : BinOp) (x y : ℕ) → KeepsDecided op → x < 2 ^ 32 → y < 2 ^ 32
     → IsForced (forward_known op (known_of x x (4294967295 - x) x) (known_of y y (4294967295 - y) y))
 unfolding forward_known
-number-forced Add x y k fx fy =
-    let a : Known = known_of x x (4294967295 - x) x in
-    let b : Known = known_of y y (4294967295 - y) y in
-    rw (← add-sure a b (omega arith) (omega arith) fx fy (cases_lt (x + y) 4294967296)) (inl (omega arith))
-number-forced Sub x y k fx fy =
-    let a : Known = known_of x x (4294967295 - x) x in
-    let b : Known = known_of y y (4294967295 - y) y in
-    let sure : (y ≤ x) ⊎ (x < y) = elim (cases_lt x y) [ inl l ↦ inr l | inr l ↦ inl l ] in
-    rw (← sub-sure a b (omega arith) (omega arith) fx fy sure) (inl (omega arith))
+number-forced Add x y k fx fy = grind (arith, common_steps, cases_lt, add-sure)
+number-forced Sub x y k fx fy = grind (arith, common_steps, cases_lt, sub-sure)
 number-forced Or x y k fx fy = inr (or-forced x y fx fy)
 number-forced And x y k fx fy = inr (and-forced x y fx fy)
 number-forced Xor x y k fx fy = inr (xor-forced x y fx fy)
-number-forced Mul x y k fx fy = elim k [ ]
-number-forced Div x y k fx fy = elim k [ ]
-number-forced Lsh x y k fx fy = elim k [ ]
-number-forced Rsh x y k fx fy = elim k [ ]
+number-forced op x y k fx fy = elim k [ ]
 
 forced : (op : BinOp) (a b : Known) → KeepsDecided op → IsClosed a → IsClosed b → IsDecided a → IsDecided b
     → IsForced (forward_known op a b)
@@ -54,13 +28,7 @@ forced op a b k ca cb da db =
     (number-forced op a.low b.low k (omega (arith, ca.fits, da)) (omega (arith, cb.fits, db)))
 
 negated-forced : (a : Known) → IsClosed a → IsDecided a → IsForced (forward_negated a)
-negated-forced a h d =
-    let fits = h.fits in
-    let ordered = h.ordered in
-    elim (cases_lt 0 a.low) [
-      | inl l ↦ rw (← negate-some a _ _ l ordered fits refl refl) (inl (omega arith))
-      | inr l ↦ rw (← negate-zero a (omega arith) (omega arith)) (inl (omega arith))
-    ]
+negated-forced a h d = grind (arith, common_steps, cases_lt, negate-some, negate-zero)
 
 -- what narrows it has one number
 narrows-forced : (r k : Known) → IsForced r → IsNarrower r k → IsClosed k → IsDecided k
@@ -71,11 +39,10 @@ narrows-forced r k (inr f) n h =
 -- an operation on decided operands is decided
 rest-decided : (ks : List Known) (ns : List Node) (k : ℕ) (n : Node) → OperandsBelow k n
     → ((j : ℕ) → j < k → IsClosed (known_at ks j)) → AreDecidedOperands ks n → IsForced (forward_node ks n)
-rest-decided ks ns k (Const c) o h d = elim d [ ]
-rest-decided ks ns k (Word i) o h d = elim d [ ]
 rest-decided ks ns k (Bin op a b) o h d =
     forced op (known_at ks a.0) (known_at ks b.0) d.0 (h a.0 o.0) (h b.0 o.1) d.1 d.2
 rest-decided ks ns k (Neg a) o h d = negated-forced (known_at ks a.0) (h a.0 o) d
+rest-decided ks ns k n o h d = elim d [ ]
 
 -- something is known of each node of a pool, and nothing more follows for any
 pub record AreResting (ks : List Known) (ex : List ℕ) (ns : List Node) : Type 0 where

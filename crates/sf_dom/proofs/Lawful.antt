@@ -1,19 +1,5 @@
 -- Steps by the rules: what each gives is closed and loses nothing, and no input that agrees is lost.
-use Rattle.std.proofs.Common.{◌≡◌, ℕ, ◌<◌, ◌^◌, ◌-◌, List, length, set, arith, ◌∙◌, inl, inr}
-use Rattle.std.proofs.lemmas.Bool.{cases_eq}
-use Rattle.std.proofs.lemmas.List.{get_or-set_same, get_or-set_other, length-set}
-use Rattle.std.specs.Prelude.{Option, Some, None, MatchOption, IfSome}
-use Rattle.sf_insn.specs.Inputs.{IsInput}
-use Rattle.sf_insn.specs.declared.input.Input.{Input}
-use Rattle.sf_sym.specs.Pool.{IsPool, value_of}
-use Rattle.sf_sym.specs.declared.pool.Node.{Node}
-use Rattle.sf_dom.specs.declared.known.Known.{Known}
-use Rattle.sf_dom.specs.Known.{Has, Admits, IsNarrower, known_of}
-use Rattle.sf_dom.specs.Facts.{known_at, numbers_at, AgreesWith}
-use Rattle.sf_dom.specs.Propagation.{IsNarrowed}
-use Rattle.sf_dom.specs.Rules.{met, IsClosed, IsClosedAt, IsReduction, ReductionGives, Then}
-use Rattle.sf_dom.specs.Passes.{AreClosed}
-use Rattle.sf_dom.specs.GoingBack.{WritingGives}
+use Rattle.sf_dom.proofs.Common.{◌≡◌, ℕ, ◌<◌, ◌^◌, ◌-◌, List, length, set, arith, ◌∙◌, inl, inr, cases_eq, get_or-set_same, get_or-set_other, length-set, Option, Some, None, MatchOption, IfSome, IsInput, Input, IsPool, value_of, Node, Known, Has, Admits, IsNarrower, known_of, known_at, numbers_at, AgreesWith, IsNarrowed, met, IsClosed, IsClosedAt, IsReduction, ReductionGives, Then, AreClosed, WritingGives, common_steps}
 use Rattle.sf_dom.proofs.Bits.{join-bits}
 use Rattle.sf_dom.proofs.propagation.Propagations.{closed-set}
 use Rattle.sf_dom.proofs.Reductions.{IsNarrower-trans, IsNarrower-refl}
@@ -33,17 +19,11 @@ abbrev pub AnyInput : Input → Type 0
 AnyInput d = Unit {0}
 
 pub narrowed-refl : (ks : List Known) (ex : List ℕ) (ns : List Node) → AreClosed ks ns → IsNarrowed ks ks ex ns
-narrowed-refl ks ex ns h = record {
-  closed = h;
-  narrower = λ i l. IsNarrower-refl (known_at ks i);
-  kept = λ words. words;
-}
+narrowed-refl ks ex ns h = grind (arith, common_steps, IsNarrower-refl)
 
 pub narrowed-trans : (a b c : List Known) (ex : List ℕ) (ns : List Node) → AreClosed a ns → IsNarrowed a b ex ns
-    → IsNarrowed b c ex ns
-    → IsNarrowed a c ex ns
+    → IsNarrowed b c ex ns → IsNarrowed a c ex ns
 narrowed-trans a b c ex ns k h g =
-    let la = k.count in let lb = h.closed.count in
     record {
       closed = g.closed;
       narrower = λ i l. IsNarrower-trans (known_at a i) (known_at b i) (known_at c i) (h.narrower i l)
@@ -55,9 +35,7 @@ narrowed-trans a b c ex ns k h g =
 pub narrowed-set : (ks : List Known) (ex : List ℕ) (ns : List Node) (i : ℕ) (next : Known) → AreClosed ks ns
     → i < length ns → IsClosedAt ex i next → IsNarrower (known_at ks i) next → IsNarrowed ks (set ks i next) ex ns
 narrowed-set ks ex ns i next h l closed narrower =
-    let count = h.count in
-    let none : Known = known_of 0 0 0 0 in
-    let here : i < length ks = omega arith in
+    let count = h.count in let none : Known = known_of 0 0 0 0 in let here : i < length ks = omega arith in
     record {
       closed = record {
         count = length-set ks i next ∙ count;
@@ -83,12 +61,7 @@ narrowed-left ks ex ns i old next h l n r =
 pub agrees-set : (ks : List Known) (ex : List ℕ) (ns : List Node) (d : Input) (i : ℕ) (next : Known)
     → i < length ks → AgreesWith ks ex ns d → Admits next (value_of ns d i) → AgreesWith (set ks i next) ex ns d
 agrees-set ks ex ns d i next l a h j lj =
-    let none : Known = known_of 0 0 0 0 in
-    let within : j < length ks = omega (arith, lj, length-set ks i next) in
-    elim (cases_eq j i) [
-      | inl e ↦ rw (e, get_or-set_same ks i next none l) (record { admitted = h; kept = (a i l).kept })
-      | inr ne ↦ rw (get_or-set_other ks i j next none ne) (a j within)
-    ]
+    grind (arith, common_steps, cases_eq, get_or-set_same, get_or-set_other, length-set)
 
 -- the value of a word is not excluded for it
 pub kept-at : (ks : List Known) (ex : List ℕ) (ns : List Node) (d : Input) (i : ℕ) → IsPool ns
@@ -97,11 +70,7 @@ kept-at ks ex ns d i p l a b = rw (p.word i b) at (a i l).kept
 
 -- two pieces of knowledge admit a number together that each of them admits
 pub met-admits : (a b : Known) (n : ℕ) → Admits a n → Admits b n → Admits (met a b) n
-met-admits a b n h k = record {
-  above = omega (arith, h.above, k.above);
-  below = omega (arith, h.below, k.below);
-  bits = join-bits n a.zeros a.ones b.zeros b.ones h.bits k.bits;
-}
+met-admits a b n h k = grind (arith, common_steps, join-bits)
 
 -- closed knowledge has its bits within a word
 pub closed-zeros : (k : Known) → IsClosed k → k.zeros < 2 ^ 32
@@ -122,35 +91,28 @@ reduction-holds (Some k) ex i n old f fz kept h w = narrows-number k n f
 -- a value lies within a word
 pub value-fits : (ks : List Known) (ex : List ℕ) (ns : List Node) (d : Input) (i : ℕ) → AreClosed ks ns
     → i < length ns → AgreesWith ks ex ns d → value_of ns d i < 2 ^ 32
-value-fits ks ex ns d i h l a =
-    let count = h.count in
-    omega (arith, (a i (omega arith)).admitted.below, (h.each i l).fits)
+value-fits ks ex ns d i h l a = omega (arith, (a i (omega arith)).admitted.below, (h.each i l).fits)
 
 -- to write a node is a lawful step
-pub writing-lawful : (has : Input → Type 0) (ks : List Known) (ex : List ℕ) (ns : List Node) (i : ℕ)
-    (known : Known) → IsPool ns → AreClosed ks ns → i < length ns → IsNarrower (known_at ks i) known
-    → known.zeros < 2 ^ 32
+pub writing-lawful : (has : Input → Type 0) (ks : List Known) (ex : List ℕ) (ns : List Node) (i : ℕ) (known : Known)
+    → IsPool ns → AreClosed ks ns → i < length ns → IsNarrower (known_at ks i) known → known.zeros < 2 ^ 32
     → ((d : Input) → IsInput d → has d → AgreesWith ks ex ns d → Admits known (value_of ns d i))
     → IsLawful has ks ex ns (WritingGives ks ex i known)
 writing-lawful has ks ex ns i known p h l narrower fz admits =
-    let count = h.count in
-    let here : i < length ks = omega arith in
+    let count = h.count in let here : i < length ks = omega arith in
     record {
       narrowed = then-if (ReductionGives ex i known) (λ left r. r ≡ Some (set ks i left))
-          (λ next. IsNarrowed ks next ex ns)
-          (λ left g r e. rw e (narrowed-left ks ex ns i known left h l narrower g));
+          (λ next. IsNarrowed ks next ex ns) (λ left g r e. rw e (narrowed-left ks ex ns i known left h l narrower g));
       sound = λ d v m a.
           then-some (ReductionGives ex i known) (λ left r. r ≡ Some (set ks i left))
-          (λ left. Admits left (value_of ns d i))
-          (λ next. AgreesWith next ex ns d)
+          (λ left. Admits left (value_of ns d i)) (λ next. AgreesWith next ex ns d)
           (λ o g. reduction-holds o ex i (value_of ns d i) known (value-fits ks ex ns d i h l a) fz
           (λ b. kept-at ks ex ns d i p here a b) (admits d v m a) g)
           (λ left g k r e. rw e (agrees-set ks ex ns d i left here a k));
     }
 
 pub narrowed-more : (r : Option (List Known)) (a b : List Known) (ex : List ℕ) (ns : List Node) → AreClosed a ns
-    → IsNarrowed a b ex ns
-    → IfSome r (λ c. IsNarrowed b c ex ns) → IfSome r (λ c. IsNarrowed a c ex ns)
+    → IsNarrowed a b ex ns → IfSome r (λ c. IsNarrowed b c ex ns) → IfSome r (λ c. IsNarrowed a c ex ns)
 narrowed-more None a b ex ns k h g = tt
 narrowed-more (Some c) a b ex ns k h g = narrowed-trans a b c ex ns k h g
 

@@ -1,3 +1,4 @@
+pub mod Common
 pub mod Bits
 pub mod Reductions
 pub mod Steps

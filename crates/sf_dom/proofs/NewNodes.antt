@@ -1,25 +1,5 @@
 -- Newer nodes that are taken in: inputs go on to agree, and nothing more follows for any of them.
-use Rattle.std.proofs.Common.{◌≡◌, ℕ, zero, suc, ◌<◌, ◌≤◌, ◌^◌, ◌/◌, ◌%◌, Bool, true, false, cond, List, length, take, arith, refl, ◌⊎◌, inl, inr}
-use Rattle.std.proofs.lemmas.Bool.{cases_lt}
-use Rattle.std.proofs.lemmas.Nat.{or_lt, xor_lt}
-use Rattle.std.proofs.Math.Nat.{div-le_self}
-use Rattle.std.specs.Int.Bits.{and_lt}
-use Rattle.std.specs.Prelude.{Option, Some, None, MatchOption, slice_index, ◌==◌}
-use Rattle.sf_insn.specs.Words.{apply}
-use Rattle.sf_insn.specs.declared.ops.BinOp.{BinOp}
-use Rattle.sf_insn.specs.declared.ops.BinOp.TheVariants.{Add, Sub, Mul, Div, Or, And, Lsh, Rsh, Xor}
-use Rattle.sf_insn.specs.Inputs.{IsInput}
-use Rattle.sf_insn.specs.declared.input.Input.{Input}
-use Rattle.sf_sym.specs.Pool.{IsPool, OperandsBelow, node_at, node_value, values_of, value_of}
-use Rattle.sf_sym.specs.laws.ValueLaws.{value-node}
-use Rattle.sf_sym.specs.declared.pool.Node.{Node}
-use Rattle.sf_sym.specs.declared.pool.Node.TheVariants.{Const, Word, Bin, Neg}
-use Rattle.sf_dom.specs.declared.known.Known.{Known}
-use Rattle.sf_dom.specs.Known.{Has, Admits}
-use Rattle.sf_dom.specs.Facts.{known_at, numbers_at, excluded_of, AgreesWith}
-use Rattle.sf_dom.specs.laws.FactsLaws.{none-has}
-use Rattle.sf_dom.specs.Passes.{IsAtRest, AreTakenIn, TakingInGives}
-use Rattle.sf_dom.specs.Rules.{forward_node, IsClosed, IsReduction, ReductionGives}
+use Rattle.sf_dom.proofs.Common.{◌≡◌, ℕ, zero, suc, ◌<◌, ◌≤◌, ◌^◌, ◌/◌, ◌%◌, Bool, true, false, cond, List, length, take, arith, refl, ◌⊎◌, inl, inr, cases_lt, or_lt, xor_lt, div-le_self, and_lt, Option, Some, None, MatchOption, slice_index, ◌==◌, apply, BinOp, Div, Or, And, Rsh, Xor, IsInput, Input, IsPool, OperandsBelow, node_at, node_value, values_of, value_of, value-node, Node, Const, Word, Bin, Neg, Known, Has, Admits, known_at, numbers_at, excluded_of, AgreesWith, none-has, IsAtRest, AreTakenIn, TakingInGives, forward_node, IsClosed, IsReduction, ReductionGives, common_steps}
 use Rattle.sf_dom.proofs.Lawful.{reduction-holds}
 use Rattle.sf_dom.proofs.PassLaws.{follows}
 use Rattle.sf_dom.proofs.Passes.{operands-below}
@@ -30,12 +10,8 @@ abbrev pub AreWordsKnown : List Known → List ℕ → Type 0
 AreWordsKnown ks ex = (16 ≤ length ks) ⊎ ((w : ℕ) → numbers_at ex w ≡ 0)
 
 -- the value of a word isn't excluded for it, where the word's own node is there, or nothing is excluded
-kept-node : (ks : List Known) (ex : List ℕ) (ns : List Node) (d : Input) (n : Node) (k : ℕ) → IsPool ns
-    → k < length ns → node_at ns k ≡ n → AreWordsKnown ks ex → AgreesWith ks ex ns d
-    → ¬ Has (excluded_of ex n) (value_of ns d k)
-kept-node ks ex ns d (Const c) k p l e h a w = none-has (value_of ns d k) w
-kept-node ks ex ns d (Bin op x y) k p l e h a w = none-has (value_of ns d k) w
-kept-node ks ex ns d (Neg x) k p l e h a w = none-has (value_of ns d k) w
+kept-node : (ks : List Known) (ex : List ℕ) (ns : List Node) (d : Input) (n : Node) (k : ℕ) → IsPool ns → k < length ns
+    → node_at ns k ≡ n → AreWordsKnown ks ex → AgreesWith ks ex ns d → ¬ Has (excluded_of ex n) (value_of ns d k)
 kept-node ks ex ns d (Word i) k p l e (inl b) a w =
     let words = p.words in
     let small : i < 16 = word-below k (node_at ns k) (operands-below ns k p l) i e in
@@ -43,12 +19,10 @@ kept-node ks ex ns d (Word i) k p l e (inl b) a w =
     let same : value_of ns d i ≡ value_of ns d k = search (arith, value-node) in
     (rw (here, same) at (a i (omega arith)).kept) w
 kept-node ks ex ns d (Word i) k p l e (inr none) a w = none-has (value_of ns d k) (rw (none i) at w)
+kept-node ks ex ns d n k p l e h a w = none-has (value_of ns d k) w
 
 -- values are words
 apply-fits : (op : BinOp) (x y : ℕ) → x < 2 ^ 32 → y < 2 ^ 32 → apply op x y < 2 ^ 32
-apply-fits Add x y fx fy = omega arith
-apply-fits Sub x y fx fy = omega arith
-apply-fits Mul x y fx fy = omega arith
 apply-fits Div x y fx fy = quotient-fits (y == 0)
   where
     quotient-fits : (b : Bool) → cond b 0 (x / y) < 2 ^ 32
@@ -57,8 +31,8 @@ apply-fits Div x y fx fy = quotient-fits (y == 0)
 apply-fits Or x y fx fy = or_lt 32 x y fx fy
 apply-fits And x y fx fy = and_lt 32 x y fx fy
 apply-fits Xor x y fx fy = xor_lt 32 x y fx fy
-apply-fits Lsh x y fx fy = omega arith
 apply-fits Rsh x y fx fy = omega (arith, div-le_self x (2 ^ (y % 32)))
+apply-fits op x y fx fy = omega arith
 
 value-fits : (d : Input) (vs : List ℕ) (k : ℕ) (n : Node) → IsInput d → OperandsBelow k n
     → ((j : ℕ) → j < k → slice_index vs j < 2 ^ 32) → node_value d vs n < 2 ^ 32
@@ -81,18 +55,14 @@ module _ (old new : List Known) (ex : List ℕ) (ns : List Node) (d : Input) (p 
 
   -- a value isn't excluded for its node
   not-excluded : (k : ℕ) → length old ≤ k → k < 16 → ¬ Has (numbers_at ex k) (value_of ns d k)
-  not-excluded k l b z = elim words [
-    | inl w ↦ absurd (omega arith)
-    | inr none ↦ none-has (value_of ns d k) (rw (none k) at z)
-  ]
+  not-excluded k l b z = grind (arith, common_steps, none-has)
 
   -- what follows for a newer node admits its value
   newer-holds : (k : ℕ) → k < length ns → length old ≤ k → ((j : ℕ) → j < k → Admits (known_at new j) (value_of ns d j))
       → ((j : ℕ) → j < k → IsClosed (known_at new j)) → (o : Option Known)
       → ReductionGives ex k (forward_node new (node_at ns k)) o → MatchOption o ⊥ (λ r. Admits r (value_of ns d k))
   newer-holds k l g older closed o w =
-      let below = operands-below ns k p l in
-      let vs = values_of ns d in
+      let below = operands-below ns k p l in let vs = values_of ns d in
       let f = follows new d vs k (node_at ns k) i below closed older in
       let fits = value-fits d vs k (node_at ns k) i below
       (λ j b. omega (arith, (older j b).below, (closed j b).fits)) in

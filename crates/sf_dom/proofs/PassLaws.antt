@@ -1,26 +1,5 @@
 -- A forward pass is a lawful step, and after it nothing more follows for any node.
-use Rattle.std.proofs.Common.{◌≡◌, ℕ, zero, suc, ◌<◌, ◌≤◌, ◌^◌, ◌+◌, ◌-◌, ◌*◌, ◌/◌, ◌%◌, List, length, Bool, true, false, cond, arith, inl, inr}
-use Rattle.std.proofs.lemmas.Bool.{cases_lt}
-use Rattle.std.proofs.lemmas.Nat.{or_lt, pow_pos}
-use Rattle.std.proofs.Math.Pow.{pow-lt}
-use Rattle.std.proofs.Math.Nat.{div-le_self}
-use Rattle.std.specs.Int.Bits.{and_lt}
-use Rattle.std.specs.Prelude.{Option, Some, None, MatchOption, IfSome, bit_and, bit_or, slice_index, nat_lt, nat_le, ◌==◌}
-use Rattle.sf_insn.specs.Inputs.{IsInput}
-use Rattle.sf_insn.specs.declared.input.Input.{Input}
-use Rattle.sf_insn.specs.declared.ops.BinOp.{BinOp}
-use Rattle.sf_insn.specs.declared.ops.BinOp.TheVariants.{Add, Sub, Mul, Div, Or, And, Lsh, Rsh, Xor}
-use Rattle.sf_sym.specs.Pool.{IsPool, OperandsBelow, node_at, node_value, values_of, value_of}
-use Rattle.sf_sym.specs.laws.ValueLaws.{value-node}
-use Rattle.sf_sym.specs.declared.pool.Node.{Node}
-use Rattle.sf_sym.specs.declared.pool.Node.TheVariants.{Const, Word, Bin, Neg}
-use Rattle.sf_dom.specs.declared.known.Known.{Known}
-use Rattle.sf_dom.specs.Known.{Admits, known_of}
-use Rattle.sf_dom.specs.Facts.{known_at, AgreesWith}
-use Rattle.sf_dom.specs.Rules.{between, full, moved_left, moved_right, met, forward_known, forward_negated, forward_node, IsClosed}
-use Rattle.sf_dom.specs.Passes.{IsPassedAt, PassGives, IsAtRest, AreClosed}
-use Rattle.sf_dom.specs.Propagation.{IsNarrowed}
-use Rattle.sf_dom.specs.laws.FactsLaws.{constant-admits}
+use Rattle.sf_dom.proofs.Common.{◌≡◌, ℕ, zero, suc, ◌<◌, ◌≤◌, ◌^◌, ◌+◌, ◌-◌, ◌*◌, ◌/◌, ◌%◌, List, length, Bool, true, false, cond, arith, inl, inr, cases_lt, or_lt, pow_pos, pow-lt, div-le_self, and_lt, Option, Some, None, MatchOption, IfSome, bit_and, bit_or, slice_index, nat_lt, nat_le, ◌==◌, IsInput, Input, BinOp, Add, Sub, Mul, Div, Or, And, Lsh, Rsh, Xor, IsPool, OperandsBelow, node_at, node_value, values_of, value_of, value-node, Node, Const, Word, Bin, Neg, Known, Admits, known_of, known_at, AgreesWith, between, full, moved_left, moved_right, met, forward_known, forward_negated, forward_node, IsClosed, IsPassedAt, PassGives, IsAtRest, AreClosed, IsNarrowed, constant-admits, common_steps}
 use Rattle.sf_dom.proofs.Lawful.{IsLawful, AnyInput, met-admits, closed-zeros, closed-ones, kept-at, reduction-holds, value-fits}
 use Rattle.sf_dom.proofs.Passes.{operands-below, met-left, met-right}
 use Rattle.sf_dom.proofs.Reductions.{IsNarrower-trans}
@@ -62,10 +41,7 @@ two-fits b e x y z h k l = if-fits b x (cond e y z) h (if-fits e y z k l)
 -- the bits that follow for a node are those of a word
 forward-fits : (op : BinOp) (a b : Known) → IsClosed a → IsClosed b → Fits (forward_known op a b)
 unfolding forward_known
-forward-fits Add a b h k =
-    two-fits (nat_lt (a.high + b.high) (2 ^ 32)) (nat_le (2 ^ 32) (a.low + b.low))
-    (between (a.low + b.low) (a.high + b.high)) (between (a.low + b.low - 2 ^ 32) (a.high + b.high - 2 ^ 32)) full
-    (none-fits _ _) (none-fits _ _) (none-fits _ _)
+forward-fits Add a b h k = grind (arith, common_steps, none-fits, two-fits)
 forward-fits Sub a b h k =
     two-fits (nat_le b.high a.low) (nat_lt a.high b.low) (between (a.low - b.high) (a.high - b.low))
     (between (a.low + 2 ^ 32 - b.high) (a.high + 2 ^ 32 - b.low)) full (none-fits _ _) (none-fits _ _) (none-fits _ _)
@@ -92,8 +68,7 @@ negated-fits : (a : Known) → Fits (forward_negated a)
 unfolding forward_negated
 negated-fits a =
     two-fits (nat_le 1 a.low) (a.high == 0) (between (2 ^ 32 - a.high) (2 ^ 32 - a.low))
-    (between 0 0) full (none-fits _ _)
-    (none-fits _ _) (none-fits _ _)
+    (between 0 0) full (none-fits _ _) (none-fits _ _) (none-fits _ _)
 
 -- what follows for a node admits its value, where what is known of its operands admits theirs
 pub follows : (ks : List Known) (d : Input) (vs : List ℕ) (k : ℕ) (n : Node) → IsInput d → OperandsBelow k n
@@ -118,7 +93,6 @@ met-holds : (old new : List Known) (ex : List ℕ) (ns : List Node) (d : Input) 
     → Admits (met (known_at old k) (forward_node new (node_at ns k))) (value_of ns d k)
     × ((met (known_at old k) (forward_node new (node_at ns k))).zeros < 2 ^ 32)
 met-holds old new ex ns d k p h i a l closed older =
-    let count = h.count in
     let f = follows new d (values_of ns d) k (node_at ns k) i (operands-below ns k p l) closed older in
     let own : Known = known_at old k in
     let rule : Known = forward_node new (node_at ns k) in (
@@ -137,8 +111,7 @@ passed-holds old new ex ns d p h i a (suc m) lm before k lk =
     elim (cases_lt k m) [
       | inl s ↦ older k s
       | inr g ↦
-          let e : k ≡ m = omega arith in
-          let l : m < length ns = omega arith in
+          let e : k ≡ m = omega arith in let l : m < length ns = omega arith in
           let both = met-holds old new ex ns d m p h i a l (λ j s. (before j (omega arith)).is.known) older in
           rw e (reduction-holds (Some (known_at new m)) ex m (value_of ns d m)
           (met (known_at old m) (forward_node new (node_at ns m)))
@@ -156,9 +129,7 @@ pass-sound old ex ns d p h i a (Some new) w =
       kept = (a k (omega arith)).kept;
     }
 pass-sound old ex ns d p h i a None w =
-    let count = h.count in
-    let within = w.within in
-    let own : Known = known_at old w.place in
+    let count = h.count in let within = w.within in let own : Known = known_at old w.place in
     let rule : Known = forward_node w.new (node_at ns w.place) in
     let older = passed-holds old w.new ex ns d p h i a w.place (omega arith) w.before in
     let both = met-holds old w.new ex ns d w.place p h i a within (λ j s. (w.before j s).is.known) older in
@@ -169,35 +140,15 @@ pass-sound old ex ns d p h i a None w =
 pass-narrowed : (old : List Known) (ex : List ℕ) (ns : List Node) → IsPool ns → AreClosed old ns
     → (r : Option (List Known)) → PassGives old ex ns r → IfSome r (λ next. IsNarrowed old next ex ns)
 pass-narrowed old ex ns p h None w = tt
-pass-narrowed old ex ns p h (Some new) w =
-    let count = h.count in
-    let sixteen = p.words in
-    record {
-      closed = record { count = w.count; each = λ i l. (w.each i l).is.known };
-      narrower = λ i l.
-          let s = w.each i (omega arith) in
-          IsNarrower-trans (known_at old i) (met (known_at old i) (forward_node new (node_at ns i))) (known_at new i)
-          (met-left (known_at old i) (forward_node new (node_at ns i))) s.narrower;
-      kept = λ words i b. (w.each i (omega arith)).is;
-    }
+pass-narrowed old ex ns p h (Some new) w = grind (arith, common_steps, met-left, IsNarrower-trans)
 
 -- a forward pass is a lawful step
 pub pass-lawful : (ks : List Known) (ex : List ℕ) (ns : List Node) → IsPool ns → AreClosed ks ns
     → IsLawful AnyInput ks ex ns (PassGives ks ex ns)
-pass-lawful ks ex ns p h = record {
-  narrowed = pass-narrowed ks ex ns p h;
-  sound = λ d i t a r w. pass-sound ks ex ns d p h i a r w;
-}
+pass-lawful ks ex ns p h = grind (arith, common_steps, pass-sound, pass-narrowed)
 
 -- what a pass gives is at rest
 pub pass-rest : (ks : List Known) (ex : List ℕ) (ns : List Node) (r : Option (List Known)) → PassGives ks ex ns r
     → IfSome r (λ next. (i : ℕ) → i < length ns → IsAtRest next ex ns i)
 pass-rest ks ex ns None w = tt
-pass-rest ks ex ns (Some new) w = λ i l.
-    let s = w.each i l in
-    let rule : Known = forward_node new (node_at ns i) in
-    record {
-      closed = s.is;
-      still = IsNarrower-trans rule (met (known_at ks i) rule) (known_at new i) (met-right (known_at ks i) rule)
-          s.narrower;
-    }
+pass-rest ks ex ns (Some new) w = grind (arith, common_steps, met-right, IsNarrower-trans)

@@ -1,19 +1,5 @@
 -- What stays as it is in a forward pass, and what a pass leaves.
-use Rattle.std.proofs.Common.{◌≡◌, ℕ, true, ◌+◌, ◌-◌, ◌<◌, ◌≤◌, List, length, arith, refl, sym, ap, ◌∙◌, ◌⊎◌, inl, inr, zero, suc}
-use Rattle.std.specs.Prelude.{Option, Some, None, MatchOption}
-use Rattle.std.proofs.lemmas.Bool.{and_parts, cases_lt, eqb-true}
-use Rattle.std.proofs.lemmas.List.{ext_get_or}
-use Rattle.std.proofs.lemmas.Nat.Bits.{bit_at_or, bit_at-zero}
-use Rattle.sf_sym.specs.Pool.{IsPool, OperandsBelow, node_at}
-use Rattle.sf_sym.specs.declared.pool.Node.{Node}
-use Rattle.sf_sym.specs.declared.pool.Node.TheVariants.{Const, Word, Bin, Neg}
-use Rattle.sf_sym.specs.laws.ValueLaws.{OperandsBelow-at}
-use Rattle.sf_dom.specs.declared.known.Known.{Known}
-use Rattle.sf_dom.specs.Known.{Has, IsNarrower, IsConsistent, IsDecided, is_decided, known_of}
-use Rattle.sf_dom.specs.Reading.{known_at, numbers_at}
-use Rattle.sf_dom.specs.laws.FactsLaws.{closed-consistent}
-use Rattle.sf_dom.specs.Rules.{met, forward_node, IsClosed, IsClosedAt, IsReduction, HasNoReduction, IsWidest, HasNone}
-use Rattle.sf_dom.specs.Passes.{IsPassedAt, IsPass, IsAtRest, are_all_decided, IsFixedAt, AreFixed}
+use Rattle.sf_dom.proofs.Common.{◌≡◌, ℕ, true, ◌+◌, ◌-◌, ◌<◌, ◌≤◌, List, length, arith, refl, sym, ap, ◌∙◌, ◌⊎◌, inl, inr, zero, suc, Option, Some, None, MatchOption, and_parts, cases_lt, eqb-true, ext_get_or, bit_at_or, bit_at-zero, IsPool, OperandsBelow, node_at, Node, Const, Word, Bin, Neg, OperandsBelow-at, Known, Has, IsNarrower, IsConsistent, IsDecided, known_of, known_at, numbers_at, closed-consistent, met, forward_node, IsClosed, IsClosedAt, IsReduction, HasNoReduction, IsWidest, HasNone, IsPassedAt, IsPass, IsAtRest, are_all_decided, IsFixedAt, AreFixed, common_steps}
 use Rattle.sf_dom.proofs.Reductions.{IsNarrower-trans, IsNarrower-refl}
 use Rattle.sf_dom.proofs.Bits.{bits-of-or, bits-of-or_right}
 use Rattle.sf_dom.proofs.ClosedLemmas.{closed-number}
@@ -21,48 +7,23 @@ use Rattle.sf_dom.proofs.RuleLaws.{four-same, one-reduction}
 
 -- what is met loses nothing of either
 pub met-left : (a b : Known) → IsNarrower a (met a b)
-met-left a b = record {
-  low = omega arith;
-  high = omega arith;
-  zeros = bits-of-or a.zeros b.zeros;
-  ones = bits-of-or a.ones b.ones;
-}
+met-left a b = grind (arith, common_steps, bits-of-or)
 
 pub met-right : (a b : Known) → IsNarrower b (met a b)
-met-right a b = record {
-  low = omega arith;
-  high = omega arith;
-  zeros = bits-of-or_right a.zeros b.zeros;
-  ones = bits-of-or_right a.ones b.ones;
-}
+met-right a b = grind (arith, common_steps, bits-of-or_right)
 
 pub met-below : (a b k : Known) → IsNarrower a k → IsNarrower b k → IsNarrower (met a b) k
-met-below a b k h l = record {
-  low = omega (arith, h.low, l.low);
-  high = omega (arith, h.high, l.high);
-  zeros = λ i. omega (arith, bit_at_or a.zeros b.zeros i, h.zeros i, l.zeros i);
-  ones = λ i. omega (arith, bit_at_or a.ones b.ones i, h.ones i, l.ones i);
-}
+met-below a b k h l = grind (arith, common_steps, bit_at_or)
 
 -- where nothing follows, reduction leaves what was known
 pub still-reduction : (kind : Known → Type 0) (k f : Known) → kind k → IsNarrower f k → IsWidest kind (met k f) k
-still-reduction kind k f h n = record {
-  is = h;
-  narrower = met-below k f k (IsNarrower-refl k) n;
-  widest = λ s t m. IsNarrower-trans k (met k f) s (met-left k f) m;
-}
+still-reduction kind k f h n = grind (arith, common_steps, IsNarrower-trans, IsNarrower-refl, met-left, met-below)
 
 -- nothing more follows for a node still, where its ends are left as before
 pub closed-kept : (a b : List ℕ) (i : ℕ) (k : Known)
     → (i < 16 → (m : ℕ) → (m ≡ k.low) ⊎ (m ≡ k.high) → ¬ Has (numbers_at a i) m → ¬ Has (numbers_at b i) m)
     → IsClosedAt a i k → IsClosedAt b i k
-closed-kept a b i k f h = record {
-  known = h.known;
-  tight = λ l. record {
-    low = record { admitted = (h.tight l).low.admitted; kept = f l k.low (inl refl) (h.tight l).low.kept };
-    high = record { admitted = (h.tight l).high.admitted; kept = f l k.high (inr refl) (h.tight l).high.kept };
-  };
-}
+closed-kept a b i k f h = grind (arith, common_steps)
 
 -- operands are older
 pub operands-below : (ns : List Node) (i : ℕ) → IsPool ns → i < length ns → OperandsBelow i (node_at ns i)
@@ -76,8 +37,7 @@ one-number k h e =
 -- no more becomes known of what has one number
 pub number-stays : (a b : Known) → IsConsistent a → IsConsistent b → IsNarrower a b → IsDecided a → b ≡ a
 number-stays a b h k n e =
-    let nl = n.low in let nh = n.high in let o = k.ordered in
-    let same : b.low ≡ a.low = omega arith in
+    let nl = n.low in let nh = n.high in let o = k.ordered in let same : b.low ≡ a.low = omega arith in
     one-number b k (omega arith) ∙ ap (λ m. known_of m m (4294967295 - m) m) same ∙ sym (one-number a h e)
 
 -- nor does reduction add to it
@@ -92,10 +52,9 @@ decided-closed k h e = rw (one-number k h e) (closed-number k.low (omega (arith,
 -- what follows from operands that are the same
 pub forward-same : (ks js : List Known) (k : ℕ) (n : Node) → OperandsBelow k n
     → ((j : ℕ) → j < k → known_at ks j ≡ known_at js j) → forward_node ks n ≡ forward_node js n
-forward-same ks js k (Const c) o h = refl
-forward-same ks js k (Word i) o h = refl
 forward-same ks js k (Bin op a b) o h = rw (h a.0 o.0, h b.0 o.1) refl
 forward-same ks js k (Neg a) o h = rw (h a.0 o) refl
+forward-same ks js k n o h = refl
 
 -- operands with one number keep it
 pub decided-same : (ks js : List Known) (k : ℕ) (n : Node) → OperandsBelow k n
@@ -103,32 +62,22 @@ pub decided-same : (ks js : List Known) (k : ℕ) (n : Node) → OperandsBelow k
     → (are_all_decided js n ≡ true) × (forward_node js n ≡ forward_node ks n)
 decided-same ks js k (Const c) o h d = (refl, refl)
 decided-same ks js k (Word i) o h d = absurd cc
-decided-same ks js k (Bin op a b) o h d =
-    let both = and_parts (is_decided (known_at ks a.0)) (is_decided (known_at ks b.0)) d in
-    let ea = h a.0 o.0 (eqb-true (known_at ks a.0).low (known_at ks a.0).high both.0) in
-    let eb = h b.0 o.1 (eqb-true (known_at ks b.0).low (known_at ks b.0).high both.1) in
-    (rw (ea, eb) d, rw (ea, eb) refl)
+decided-same ks js k (Bin op a b) o h d = grind (arith, common_steps, and_parts, eqb-true)
 decided-same ks js k (Neg a) o h d =
     let e = h a.0 o (eqb-true (known_at ks a.0).low (known_at ks a.0).high d) in (rw e d, rw e refl)
 
 -- operands of which the same is known are decided in both
 pub decided-as : (ks js : List Known) (k : ℕ) (n : Node) → OperandsBelow k n
     → ((j : ℕ) → j < k → known_at js j ≡ known_at ks j) → are_all_decided js n ≡ are_all_decided ks n
-decided-as ks js k (Const c) o h = refl
-decided-as ks js k (Word i) o h = refl
 decided-as ks js k (Bin op a b) o h = rw (h a.0 o.0, h b.0 o.1) refl
 decided-as ks js k (Neg a) o h = rw (h a.0 o) refl
+decided-as ks js k n o h = refl
 
 -- no more becomes known of a node of which no more can
 pub fixed-same : (ks js : List Known) (ns : List Node) (i : ℕ) → IsPool ns → i < length ns
     → ((j : ℕ) → j < i → IsDecided (known_at ks j) → known_at js j ≡ known_at ks j)
     → IsNarrower (known_at ks i) (known_at js i) → IsFixedAt ks ns i → IsFixedAt js ns i
-fixed-same ks js ns i p l same n f =
-    let t = decided-same ks js i (node_at ns i) (operands-below ns i p l) same f.operands in
-    record {
-      operands = t.0;
-      still = rw t.1 (IsNarrower-trans (forward_node ks (node_at ns i)) (known_at ks i) (known_at js i) f.still n);
-    }
+fixed-same ks js ns i p l same n f = grind (arith, common_steps, IsNarrower-trans, operands-below, decided-same)
 
 -- where more becomes known, each node is a variable still, or no more can become known of it
 pub fixed-narrower : (places : List ℕ) (old new : List Known) (ns : List Node) → IsPool ns
@@ -145,25 +94,12 @@ fixed-narrower places old new ns p co cn narrower fixed i l = elim (fixed i l) [
 -- a node of which no more can become known is at rest
 pub fixed-rest : (ks : List Known) (ex : List ℕ) (ns : List Node) (i : ℕ) → IsConsistent (known_at ks i)
     → 16 ≤ i → IsDecided (known_at ks i) → IsFixedAt ks ns i → IsAtRest ks ex ns i
-fixed-rest ks ex ns i c l d f = record {
-  closed = record { known = decided-closed (known_at ks i) c d; tight = λ b. absurd (omega arith) };
-  still = f.still;
-}
+fixed-rest ks ex ns i c l d f = grind (arith, common_steps, decided-closed)
 
 -- a word has no operands, so nothing follows for it
 pub word-rest : (ks : List Known) (ex : List ℕ) (ns : List Node) (i : ℕ) → IsPool ns → i < 16
     → IsClosedAt ex i (known_at ks i) → IsAtRest ks ex ns i
-word-rest ks ex ns i p l h =
-    let f = h.known.fits in
-    record {
-      closed = h;
-      still = rw (p.word i l) (record {
-        low = omega arith;
-        high = omega arith;
-        zeros = λ j. omega (arith, bit_at-zero j);
-        ones = λ j. omega (arith, bit_at-zero j);
-      });
-    }
+word-rest ks ex ns i p l h = grind (arith, common_steps, bit_at-zero)
 
 -- a node at rest is as a pass leaves it
 pub rest-passed : (old new : List Known) (ex : List ℕ) (ns : List Node) (k : ℕ)
@@ -174,10 +110,7 @@ rest-passed old new ex ns k e h =
 -- where all nodes are at rest, a pass changes nothing
 pub rest-pass : (ks : List Known) (ex : List ℕ) (ns : List Node) → length ks ≡ length ns
     → ((i : ℕ) → i < length ns → IsAtRest ks ex ns i) → IsPass ks ks ex ns
-rest-pass ks ex ns count rest = record {
-  count = count;
-  each = λ k l. rest-passed ks ks ex ns k refl (rest k l);
-}
+rest-pass ks ex ns count rest = record { count = count; each = λ k l. rest-passed ks ks ex ns k refl (rest k l) }
 
 -- what a pass leaves of a node depends on what it leaves of older ones
 pub passed-same : (old new js : List Known) (ex : List ℕ) (ns : List Node) (k : ℕ) → IsPool ns → k < length ns
@@ -227,8 +160,4 @@ module _ (kind other : Known → Type 0) (to : (k : Known) → kind k → other 
   pub reduction-as : (o : Option Known) → MatchOption o (HasNone kind old) (IsWidest kind old)
       → MatchOption o (HasNone other old) (IsWidest other old)
   reduction-as None h = λ k is n. h k (from k is) n
-  reduction-as (Some r) h = record {
-    is = to r h.is;
-    narrower = h.narrower;
-    widest = λ k is n. h.widest k (from k is) n;
-  }
+  reduction-as (Some r) h = grind (arith, common_steps)

@@ -1,13 +1,5 @@
-use Rattle.std.proofs.lemmas.Grind.{common_steps}
-use Rattle.std.proofs.Common.{◌≡◌, ℕ, ◌<◌, ◌≤◌, ◌^◌, ◌-◌, ◌+◌, min, arith, sym, ap, ◌∙◌, inl, inr, false, ◌&&◌, eqb, eq-eqb}
-use Rattle.std.proofs.lemmas.Bool.{cases_lt}
-use Rattle.std.specs.Prelude.{bit_and, bit_or}
-use Rattle.std.specs.Int.{bit_at, w32}
-use Rattle.std.proofs.lemmas.Nat.Bits.{bit_at_and, bit_at_not, bit_at-lt, bit_at-zero, bit_at_above}
-use Rattle.sf_dom.specs.declared.known.Known.{Known}
-use Rattle.sf_dom.specs.Known.{HasBits, IsNarrower}
+use Rattle.sf_dom.proofs.Common.{common_steps, ◌≡◌, ℕ, ◌<◌, ◌≤◌, ◌^◌, ◌-◌, ◌+◌, min, arith, sym, ap, ◌∙◌, inl, inr, false, ◌&&◌, eqb, eq-eqb, cases_lt, bit_and, bit_or, bit_at, w32, bit_at_and, bit_at_not, bit_at-lt, bit_at-zero, bit_at_above, Known, HasBits, IsNarrower, AreApart, freedom}
 use Rattle.sf_dom.proofs.Bits.{bits-le, bits-of-or}
-use Rattle.sf_dom.specs.Reduction.{AreApart, freedom}
 
 -- no bound and no known bit is lost
 pub narrowed : (k : Known) (low high y p : ℕ) → k.low ≤ low → high ≤ k.high
@@ -29,10 +21,7 @@ freedom-falls new old h ordered fz fo ne = search (arith, bits-le, cases_lt, eq-
 pub AreApart-and : (z o : ℕ) → bit_and z o ≡ 0 → AreApart z o
 AreApart-and z o e i =
     let b : min (bit_at z i) (bit_at o i) ≡ 0 = sym (bit_at_and z o i) ∙ ap (λ m. bit_at m i) e ∙ bit_at-zero i in
-    both _ _ b (bit_at-lt z i) (bit_at-lt o i)
-  where
-    both : (x y : ℕ) → min x y ≡ 0 → x < 2 → y < 2 → x + y ≤ 1
-    both x y h l m = omega arith
+    omega (arith, b, bit_at-lt z i, bit_at-lt o i)
 
 -- the known bits of a number's complement are those of the number with zeros and ones changed about
 pub HasBits-complement : (n z o : ℕ) → n < 2 ^ 32 → z < 2 ^ 32 → o < 2 ^ 32 → HasBits n z o

@@ -1,20 +1,5 @@
 -- Laws of the rules, from the definitions alone.
-use Rattle.std.proofs.lemmas.Grind.{common_steps}
-use Rattle.std.proofs.Common.{◌≡◌, ℕ, List, ◌<◌, ◌≤◌, ◌^◌, ◌-◌, ◌+◌, ◌*◌, ◌/◌, ◌%◌, arith, refl, sym, ap, inl, inr}
-use Rattle.std.proofs.lemmas.Bool.{cases_lt, cases_eq}
-use Rattle.std.proofs.lemmas.Bool.Decides.{nat_tests}
-use Rattle.std.specs.Prelude.{bit_and, bit_or, bit_xor}
-use Rattle.std.proofs.lemmas.Nat.Bits.{bit_at-zero, bit_at-lt, bit_at_not, bit_at_above}
-use Rattle.std.specs.Int.{w32}
-use Rattle.std.proofs.Math.Nat.{div-le_self}
-use Rattle.sf_insn.specs.declared.ops.BinOp.{BinOp}
-use Rattle.sf_insn.specs.declared.ops.BinOp.TheVariants.{Add, Sub, Mul, Div, Or, And, Lsh, Rsh, Xor}
-use Rattle.sf_insn.specs.Words.{apply, negation_of}
-use Rattle.sf_dom.specs.declared.known.Known.{Known}
-use Rattle.sf_dom.specs.Known.{Has, Admits, Leaves, IsNarrower, known_of}
-use Rattle.sf_dom.specs.Reading.{numbers_at}
-use Rattle.sf_dom.specs.laws.FactsLaws.{bit_at-complement, constant-admits}
-use Rattle.sf_dom.specs.Rules.{between, full, forward_known, forward_negated, moved_left, IsClosed, IsClosedAt, IsClosedWord, IsWidest, HasNone}
+use Rattle.sf_dom.proofs.Common.{common_steps, ◌≡◌, ℕ, List, ◌<◌, ◌≤◌, ◌^◌, ◌-◌, ◌+◌, ◌*◌, ◌/◌, ◌%◌, arith, refl, sym, ap, inl, inr, cases_lt, cases_eq, nat_tests, bit_and, bit_or, bit_xor, bit_at-zero, bit_at-lt, bit_at_not, bit_at_above, w32, div-le_self, BinOp, Add, Sub, Mul, Div, Or, And, Lsh, Rsh, Xor, apply, negation_of, Known, Has, Admits, Leaves, IsNarrower, known_of, numbers_at, bit_at-complement, constant-admits, between, full, forward_known, forward_negated, moved_left, IsClosed, IsClosedAt, IsClosedWord, IsWidest, HasNone}
 use Rattle.sf_dom.proofs.Bits.{bits-le}
 use Rattle.sf_dom.proofs.forward.ForwardLemmas.{mul_mono, div_between, quotient, or-admits, and-admits, xor-admits, shl-fits as shl-fits-admits, shl-top, shr-admits}
 use Rattle.sf_dom.proofs.RuleLemmas.{add-sure, add-full, sub-sure, sub-full, mul-fits, mul-full, div-some, div-none, negate-some, negate-zero, negate-full, shl-fits, shl-full, shr-all, left-decided, left-full, right-decided, right-full}
@@ -22,18 +7,13 @@ use Rattle.sf_dom.proofs.ClosedLemmas.{closed-number}
 use Rattle.sf_dom.proofs.Reductions.{IsNarrower-refl}
 
 pub between-admits : (low high n : ℕ) → low ≤ n → n ≤ high → Admits (between low high) n
-between-admits low high n a b = record {
-  above = a;
-  below = b;
-  bits = record { zero = λ i. omega (arith, bit_at-zero i, bit_at-lt n i); one = λ i. omega (arith, bit_at-zero i) };
-}
+between-admits low high n a b = grind (arith, common_steps, bit_at-zero, bit_at-lt)
 
 pub full-admits : (n : ℕ) → n < 2 ^ 32 → Admits full n
 full-admits n f = between-admits 0 4294967295 n (omega arith) (omega arith)
 
 left-admits : (a : Known) (x s : ℕ) → s < 32 → Admits a x → Admits (moved_left a s) (x * 2 ^ s % 2 ^ 32)
 left-admits a x s l h =
-    let xa = h.above in let xb = h.below in
     elim (cases_lt (4294967295 / 2 ^ s) a.high) [
       | inl t ↦ rw (← shl-full a s l t) (shl-top a x s l h)
       | inr t ↦ rw (← shl-fits a s l (omega arith) t) (shl-fits-admits a x s l t h)
@@ -113,8 +93,7 @@ forward-sound Rsh a b x y fa fb hx hy =
     let ya = hy.above in let yb = hy.below in let xb = hx.below in
     elim (cases_eq b.low b.high) [
       | inl e ↦
-          let n : b.low ≡ y = omega arith in
-          let s : y % 32 < 32 = omega arith in
+          let n : b.low ≡ y = omega arith in let s : y % 32 < 32 = omega arith in
           rw (← right-decided a b (y % 32) e (ap (λ m. m % 32) (sym n)), ← shr-all a (y % 32) s)
           (shr-admits a x (y % 32) s fa hx)
       | inr e ↦ rw (← right-full a b e) (between-admits 0 a.high (x / 2 ^ (y % 32)) (omega arith)
@@ -123,14 +102,7 @@ forward-sound Rsh a b x y fa fb hx hy =
 
 pub negate-sound : (a : Known) (x : ℕ) → a.high < 2 ^ 32 → Admits a x → Admits (forward_negated a) (negation_of x)
 negate-sound a x fa hx =
-    let xa = hx.above in let xb = hx.below in
-    elim (cases_lt 0 a.low) [
-      | inl l ↦ rw (← negate-some a _ _ l (omega arith) fa refl refl) (between-admits _ _ _ (omega arith) (omega arith))
-      | inr l ↦ elim (cases_lt 0 a.high) [
-        | inl m ↦ rw (← negate-full a (omega arith) m) (full-admits ((4294967296 - x) % 4294967296) (omega arith))
-        | inr m ↦ rw (← negate-zero a (omega arith) (omega arith)) (between-admits _ _ _ (omega arith) (omega arith))
-      ]
-    ]
+    grind (arith, common_steps, cases_lt, negate-some, negate-zero, negate-full, between-admits, full-admits)
 
 -- a number is admitted exactly where what it gives by itself loses nothing
 pub number-narrows : (k : Known) (n : ℕ) → n < 2 ^ 32 → k.zeros < 2 ^ 32 → Admits k n
@@ -146,11 +118,7 @@ number-narrows k n f fz h = record {
 }
 
 pub narrows-number : (k : Known) (n : ℕ) → n < 2 ^ 32 → IsNarrower k (known_of n n (4294967295 - n) n) → Admits k n
-narrows-number k n f h = record {
-  above = h.low;
-  below = h.high;
-  bits = record { zero = λ i. omega (arith, h.zeros i, bit_at-complement n i f); one = h.ones };
-}
+narrows-number k n f h = grind (arith, common_steps, bit_at-complement)
 
 -- reduction keeps each number
 pub reduction-sound : (old new : Known) (n : ℕ) → n < 2 ^ 32 → old.zeros < 2 ^ 32 → IsWidest IsClosed old new
@@ -162,20 +130,12 @@ pub reduction-none : (old : Known) (n : ℕ) → n < 2 ^ 32 → old.zeros < 2 ^ 
 reduction-none old n f fz w h = w _ (closed-number n f) (number-narrows old n f fz h)
 
 number-tight : (xs : ℕ) (n : ℕ) → n < 2 ^ 32 → ¬ Has xs n → IsClosedWord xs (known_of n n (4294967295 - n) n)
-number-tight xs n f kept =
-    let own : Admits (known_of n n (4294967295 - n) n) n = constant-admits n f in
-    record {
-      known = closed-number n f;
-      tight = record { low = record { admitted = own; kept = kept }; high = record { admitted = own; kept = kept } };
-    }
+number-tight xs n f kept = grind (arith, common_steps, constant-admits, closed-number)
 
 -- the knowledge that a number gives is closed, where it isn't excluded
 pub number-closed : (ex : List ℕ) (i n : ℕ) → n < 2 ^ 32 → (i < 16 → ¬ Has (numbers_at ex i) n)
     → IsClosedAt ex i (known_of n n (4294967295 - n) n)
-number-closed ex i n f kept = record {
-  known = closed-number n f;
-  tight = λ b. (number-tight (numbers_at ex i) n f (kept b)).tight;
-}
+number-closed ex i n f kept = grind (arith, common_steps, closed-number, number-tight)
 
 pub word-sound : (xs : ℕ) (old new : Known) (n : ℕ) → n < 2 ^ 32 → old.zeros < 2 ^ 32
     → IsWidest (IsClosedWord xs) old new → Leaves old xs n → Leaves new xs n
@@ -194,12 +154,7 @@ four-same l h z o m i y p a b c d = cc
 
 -- there is one reduction at most
 pub same-known : (a b : Known) → IsNarrower a b → IsNarrower b a → a ≡ b
-same-known a b h k =
-    let e0 : a.low ≡ b.low = omega (arith, h.low, k.low) in
-    let e1 : a.high ≡ b.high = omega (arith, h.high, k.high) in
-    let e2 : a.zeros ≡ b.zeros = omega (arith, bits-le a.zeros b.zeros h.zeros, bits-le b.zeros a.zeros k.zeros) in
-    let e3 : a.ones ≡ b.ones = omega (arith, bits-le a.ones b.ones h.ones, bits-le b.ones a.ones k.ones) in
-    four-same a.low a.high a.zeros a.ones b.low b.high b.zeros b.ones e0 e1 e2 e3
+same-known a b h k = grind (arith, common_steps, bits-le, four-same)
 
 pub one-reduction : (kind : Known → Type 0) (old a b : Known) → IsWidest kind old a → IsWidest kind old b → a ≡ b
 one-reduction kind old a b h k = same-known a b (h.widest b k.is k.narrower) (k.widest a h.is h.narrower)

@@ -1,14 +1,5 @@
 -- The rules of forward propagation, case by case, as the code computes them.
-use Rattle.std.proofs.Common.{◌≡◌, ℕ, ◌<◌, ◌≤◌, ◌^◌, ◌-◌, ◌+◌, ◌*◌, ◌/◌, ◌%◌, ◌⊎◌, ◌≢◌, arith, refl, inl, inr}
-use Rattle.std.proofs.lemmas.Bool.Decides.{nat_tests}
-use Rattle.std.specs.Prelude.{bit_or}
-use Rattle.std.proofs.Math.Nat.{div-mul-le_self, mul-le-mul_right}
-use Rattle.std.proofs.lemmas.Nat.{le-div, pow_pos}
-use Rattle.std.proofs.lemmas.Bool.{cases_lt}
-use Rattle.sf_insn.specs.declared.ops.BinOp.TheVariants.{Add, Sub, Mul, Div, Lsh, Rsh}
-use Rattle.sf_dom.specs.declared.known.Known.{Known}
-use Rattle.sf_dom.specs.Known.{known_of}
-use Rattle.sf_dom.specs.Rules.{between, full, forward_known, forward_negated, moved_left, moved_right}
+use Rattle.sf_dom.proofs.Common.{◌≡◌, ℕ, ◌<◌, ◌≤◌, ◌^◌, ◌-◌, ◌+◌, ◌*◌, ◌/◌, ◌%◌, ◌⊎◌, ◌≢◌, arith, refl, nat_tests, bit_or, div-mul-le_self, mul-le-mul_right, le-div, pow_pos, cases_lt, Add, Sub, Mul, Div, Lsh, Rsh, Known, known_of, between, full, forward_known, forward_negated, moved_left, moved_right, common_steps}
 use Rattle.sf_dom.proofs.forward.ForwardLemmas.{mul_mono, low_mask, high_mask}
 
 -- a sum that never wraps, or always does
@@ -72,12 +63,7 @@ shl-fits a s ls oa h = rw (low_mask s ls) (grind (arith, nat_tests, mul-le-mul_r
 pub shl-full : (a : Known) (s : ℕ) → s < 32 → 4294967295 / 2 ^ s < a.high
     → known_of 0 4294967295 (bit_or (a.zeros * 2 ^ s % 4294967296)
     (4294967295 - (4294967295 * 2 ^ s % 4294967296))) (a.ones * 2 ^ s % 4294967296) ≡ moved_left a s
-shl-full a s ls h =
-    let over : 4294967296 ≤ a.high * 2 ^ s = elim (cases_lt (a.high * 2 ^ s) 4294967296) [
-      | inl l ↦ absurd (omega (arith, le-div a.high 4294967295 (2 ^ s) (pow_pos s) (omega arith)))
-      | inr l ↦ l
-    ] in
-    rw (low_mask s ls) (grind (arith, nat_tests))
+shl-full a s ls h = grind (arith, common_steps, nat_tests, le-div, pow_pos, cases_lt, low_mask)
 
 pub shr-all : (a : Known) (s : ℕ) → s < 32
     → known_of (a.low / 2 ^ s) (a.high / 2 ^ s) (bit_or (a.zeros / 2 ^ s) (4294967295 - 4294967295 / 2 ^ s))

@@ -1,21 +1,5 @@
 -- What facts say of numbers that are left, and what they are once newer nodes are taken in.
-use Rattle.std.proofs.Common.{◌≡◌, ◌≢◌, ℕ, zero, suc, ◌<◌, ◌≤◌, ◌^◌, List, [], length, get_or, take, arith, refl, sym, ap, ◌∙◌, inl, inr}
-use Rattle.std.proofs.lemmas.Bool.{cases_lt}
-use Rattle.std.proofs.lemmas.List.{get_or-take, get_or_append_left, length-take}
-use Rattle.std.specs.Prelude.{slice_index, Option, Some, None, MatchOption, replicate}
-use Rattle.sf_insn.specs.Inputs.{IsInput}
-use Rattle.sf_insn.specs.declared.input.Input.{Input}
-use Rattle.sf_sym.specs.Pool.{IsPool, node_at, value_of, ArePlainNodes, Extends}
-use Rattle.sf_sym.specs.laws.ValueLaws.{value-older}
-use Rattle.sf_sym.specs.declared.pool.Node.{Node}
-use Rattle.sf_sym.specs.declared.pool.Node.TheVariants.{Const, Word, Bin, Neg}
-use Rattle.sf_dom.specs.declared.known.Known.{Known}
-use Rattle.sf_dom.specs.Known.{Has, Admits, IsDecided, IsNarrower}
-use Rattle.sf_dom.specs.Facts.{FactsView, known_at, numbers_at, excluded_of, AgreesWith, AreFacts, Agrees, Covers, TakesIn, NoneAgrees}
-use Rattle.sf_dom.specs.laws.FactsLaws.{narrower-admits, sampled, words-agree, value-word, closed-consistent, constant-known, covers-facts}
-use Rattle.sf_dom.specs.Learning.{GrowsBy, CantGrow}
-use Rattle.sf_dom.specs.Passes.{IsAtRest, AreTakenIn, TakingInGives}
-use Rattle.sf_dom.specs.Propagation.{AllNarrower, KeepsFixed}
+use Rattle.sf_dom.proofs.Common.{◌≡◌, ◌≢◌, ℕ, zero, suc, ◌<◌, ◌≤◌, ◌^◌, List, [], length, get_or, take, arith, refl, sym, ap, ◌∙◌, inl, inr, cases_lt, get_or-take, get_or_append_left, length-take, slice_index, Option, Some, None, MatchOption, replicate, IsInput, Input, IsPool, node_at, value_of, ArePlainNodes, Extends, value-older, Node, Const, Known, Has, Admits, IsDecided, IsNarrower, FactsView, known_at, numbers_at, AgreesWith, AreFacts, Agrees, Covers, TakesIn, NoneAgrees, narrower-admits, sampled, words-agree, value-word, closed-consistent, constant-known, covers-facts, GrowsBy, CantGrow, IsAtRest, AreTakenIn, TakingInGives, AllNarrower, KeepsFixed, common_steps}
 use Rattle.sf_dom.proofs.NewNodes.{taking-sound, taken-rest}
 use Rattle.sf_dom.proofs.Passes.{operands-below, forward-same}
 use Rattle.sf_dom.proofs.propagation.Propagations.{taken-older, taken-consistent}
@@ -38,8 +22,7 @@ pub undecided : (f : FactsView) (ns : List Node) (i n : ℕ) → Covers f ns →
 undecided f ns i n h plain l ne all = elim (cases_lt i 16) [
   | inl b ↦
       (let p = h.pool in
-      let facts = covers-facts f ns h in
-      let t = facts.tight i b in
+      let facts = covers-facts f ns h in let t = facts.tight i b in
       let s = sampled f i (known_at f.known i).low b facts t.low in
       let u = sampled f i (known_at f.known i).high b facts t.high in
       let one = all s.0 s.1 (words-agree f ns s.0 h plain s.2) in
@@ -85,27 +68,15 @@ taken-length old new kept = omega (arith, ap length kept, length-take (length ol
 older-rest : (old new : List Known) (ex : List ℕ) (before ns : List Node) (i : ℕ) → IsPool before
     → i < length before → ((j : ℕ) → j ≤ i → known_at old j ≡ known_at new j) → node_at ns i ≡ node_at before i
     → IsAtRest old ex before i → IsAtRest new ex ns i
-older-rest old new ex before ns i p l same node h =
-    let here = same i (omega arith) in
-    record {
-      closed = rw here at h.closed;
-      still = rw (
-        node,
-        ← here,
-        ← forward-same old new i (node_at before i) (operands-below before i p l)
-            (λ j b. same j (omega arith)),
-      ) h.still;
-    }
+older-rest old new ex before ns i p l same node h = grind (arith, common_steps, operands-below, forward-same)
 
 -- facts once newer nodes are taken in
-pub grown-covers : (places more : List ℕ) (old new : List Known) (ex : List ℕ)
-    (before ns : List Node) → IsPool ns
+pub grown-covers : (places more : List ℕ) (old new : List Known) (ex : List ℕ) (before ns : List Node) → IsPool ns
     → Covers (record { known = old; variables = places; excluded = ex }) before → Extends before ns
     → AreTakenIn old new ex ns
     → KeepsFixed (record { known = old; variables = places }) (record { known = new; variables = more }) ns
     → Covers (record { known = new; variables = more; excluded = ex }) ns
 grown-covers places more old new ex before ns p h longer g fixed =
-    let count = h.count in
     let older : (i : ℕ) → i < length old → node_at ns i ≡ node_at before i =
     λ i l. node-older before ns i longer (omega arith) in
     record {
@@ -130,7 +101,6 @@ module _ (f : FactsView) (before ns : List Node) (h : Covers f before) (longer :
   goes-on : (d : Input) → IsInput d → IsPool ns → AgreesWith f.known f.excluded before d → (r : Option (List Known))
       → TakingInGives f.known f.excluded ns r → MatchOption r ⊥ (λ new. AgreesWith new f.excluded ns d)
   goes-on d i p a r g =
-      let count = h.count in
       taking-sound f.known f.excluded ns d p i (λ j l. (h.rest j (omega arith)).closed.known)
       (agrees-after f.known f.excluded before ns d h.count longer a) (inl (covers-facts f before h).count) r g
 
@@ -153,8 +123,6 @@ pub grown-facts : (places more : List ℕ) (old new : List Known) (ex : List ℕ
     → AreFacts (record { known = old; variables = places; excluded = ex }) → AreTakenIn old new ex ns
     → AreFacts (record { known = new; variables = more; excluded = ex })
 grown-facts places more old new ex ns p h g =
-    let count = g.count in
-    let words = p.words in
     record {
       count = omega arith;
       words = h.words;
@@ -166,15 +134,7 @@ grown-facts places more old new ex ns p h g =
 -- an excluded number is not agreed with any more
 pub agrees-with-fewer : (ks : List Known) (ex ex' : List ℕ) (ns : List Node) (d : Input)
     → ((w m : ℕ) → Has (numbers_at ex w) m → Has (numbers_at ex' w) m) → AgreesWith ks ex' ns d → AgreesWith ks ex ns d
-agrees-with-fewer ks ex ex' ns d more a i l =
-    record { admitted = (a i l).admitted; kept = fewer (node_at ns i) (a i l).kept }
-  where
-    fewer : (n : Node) → ¬ Has (excluded_of ex' n) (value_of ns d i)
-        → ¬ Has (excluded_of ex n) (value_of ns d i)
-    fewer (Const c) k h = k h
-    fewer (Bin op x y) k h = k h
-    fewer (Neg x) k h = k h
-    fewer (Word w) k h = k (more w _ h)
+agrees-with-fewer ks ex ex' ns d more a i l = grind (arith, common_steps)
 
 -- an input
 pub no-input : (d : Input) × IsInput d
@@ -190,8 +150,7 @@ module _ (ex : List ℕ) (ns : List Node) (p : IsPool ns) (none : (w : ℕ) → 
   pub first-goes-on : (d : Input) → IsInput d → (r : Option (List Known)) → TakingInGives [] ex ns r
       → MatchOption r ⊥ (λ new. AgreesWith new ex ns d)
   first-goes-on d i r g = taking-sound [] ex ns d p i (λ j l. absurd (omega arith))
-      (λ j l. absurd (omega arith)) (inr none)
-      r g
+      (λ j l. absurd (omega arith)) (inr none) r g
 
   pub first-fails : ¬ TakingInGives [] ex ns None
   first-fails g = first-goes-on no-input.0 no-input.1 None g
@@ -199,14 +158,7 @@ module _ (ex : List ℕ) (ns : List Node) (p : IsPool ns) (none : (w : ℕ) → 
   pub first-covers : (places more : List ℕ) (new : List Known) → length ex ≡ 16 → AreTakenIn [] new ex ns
       → KeepsFixed (record { known = []; variables = places }) (record { known = new; variables = more }) ns
       → Covers (record { known = new; variables = more; excluded = ex }) ns
-  first-covers places more new lex g fixed =
-      record {
-        pool = p;
-        count = g.count;
-        words = lex;
-        rest = λ i l. taken-rest [] new ex ns g i (omega arith) l;
-        fixed = fixed (λ i l. absurd (omega arith)) (λ i l. absurd (omega arith));
-      }
+  first-covers places more new lex g fixed = grind (arith, common_steps, taken-rest)
 
   pub first-sound : (places : List ℕ) (new : List Known) → AreTakenIn [] new ex ns → (d : Input) → IsInput d
       → Agrees (record { known = new; variables = places; excluded = ex }) ns d

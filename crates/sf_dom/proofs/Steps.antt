@@ -1,18 +1,5 @@
 -- A forward pass, variable after variable.
-use Rattle.std.proofs.Common.{◌≡◌, ◌≢◌, ℕ, ◌+◌, ◌<◌, ◌≤◌, List, length, set, arith, refl, sym, ap, ◌∙◌, inl, inr}
-use Rattle.std.proofs.lemmas.Bool.{cases_lt, cases_eq}
-use Rattle.std.proofs.lemmas.List.{get_or-set_same, get_or-set_other}
-use Rattle.std.specs.Prelude.{slice_index}
-use Rattle.sf_sym.specs.Pool.{IsPool, node_at}
-use Rattle.sf_sym.specs.declared.pool.Node.{Node}
-use Rattle.sf_dom.specs.declared.known.Known.{Known}
-use Rattle.sf_dom.specs.Known.{IsNarrower, known_of}
-use Rattle.sf_dom.specs.Facts.{known_at}
-use Rattle.sf_dom.specs.Rules.{met, forward_node, IsReduction}
-use Rattle.sf_dom.specs.Passes.{IsPassedAt, AreClosed, AreFixed}
-use Rattle.sf_dom.specs.Nodes.{NodesView, IsLaidOut}
-use Rattle.sf_dom.specs.Propagation.{AreClosedWords, IsNarrowed, AreConsistentOperands}
-use Rattle.sf_dom.specs.laws.FactsLaws.{closed-consistent}
+use Rattle.sf_dom.proofs.Common.{◌≡◌, ◌≢◌, ℕ, ◌+◌, ◌<◌, ◌≤◌, List, length, set, arith, refl, sym, ap, ◌∙◌, inl, inr, cases_lt, cases_eq, get_or-set_same, get_or-set_other, slice_index, IsPool, node_at, Node, Known, IsNarrower, known_of, known_at, met, forward_node, IsReduction, IsPassedAt, AreClosed, AreFixed, NodesView, IsLaidOut, AreClosedWords, IsNarrowed, AreConsistentOperands, closed-consistent, common_steps}
 use Rattle.sf_dom.proofs.Lawful.{narrowed-refl, narrowed-trans, narrowed-set}
 use Rattle.sf_dom.proofs.Passes.{operands-below, met-left, forward-same, fixed-narrower, passed-same, rest-passed}
 use Rattle.sf_dom.proofs.propagation.Propagations.{unlisted-rest, words-rest, variable-before, consistent-operands}
@@ -30,11 +17,9 @@ pub record PassesThrough (old new : NodesView) (ex : List ℕ) (ns : List Node) 
       → IsPassedAt old.known new.known ex ns k
 
 -- each node is a variable still, or no more can become known of it
-pub still-fixed : (places : List ℕ) (old new : List Known) (ex : List ℕ) (ns : List Node) → IsPool ns
-    → AreClosed old ns
+pub still-fixed : (places : List ℕ) (old new : List Known) (ex : List ℕ) (ns : List Node) → IsPool ns → AreClosed old ns
     → IsNarrowed old new ex ns → AreFixed places old ns → AreFixed places new ns
 still-fixed places old new ex ns p h n fixed =
-    let count = h.count in
     fixed-narrower places old new ns p (λ i l. closed-consistent (known_at old i) (h.each i l))
     (λ i l. closed-consistent (known_at new i) (n.closed.each i l)) (λ i l. n.narrower i (omega arith)) fixed
 
@@ -54,8 +39,7 @@ through-words n ex ns p closed laid fixed words = record {
 pub pass-met : (old n : NodesView) (ex : List ℕ) (ns : List Node) (rank i : ℕ) (r both : Known) → IsPool ns
     → PassesThrough old n ex ns rank → rank < length n.variables → slice_index n.variables rank ≡ i → i < length ns
     → (AreConsistentOperands n.known (node_at ns i) → r ≡ forward_node n.known (node_at ns i))
-    → both ≡ met (known_at n.known i) r
-    → both ≡ met (known_at old.known i) (forward_node n.known (node_at ns i))
+    → both ≡ met (known_at n.known i) r → both ≡ met (known_at old.known i) (forward_node n.known (node_at ns i))
 pass-met old n ex ns rank i r both p t l at li rule is =
     let closed = t.narrowed.closed in
     let consistent = consistent-operands n.known i (node_at ns i) (operands-below ns i p li)
@@ -65,38 +49,28 @@ pass-met old n ex ns rank i r both p t l at li rule is =
 
 -- what has been passed stays so where a later node is written
 passed-older : (old n : NodesView) (ex : List ℕ) (ns : List Node) (rank i : ℕ) (next : Known) → IsPool ns
-    → PassesThrough old n ex ns rank → rank < length n.variables → slice_index n.variables rank ≡ i
-    → (k : ℕ) → k < i
+    → PassesThrough old n ex ns rank → rank < length n.variables → slice_index n.variables rank ≡ i → (k : ℕ) → k < i
     → i < length n.known → IsPassedAt old.known (set n.known i next) ex ns k
 passed-older old n ex ns rank i next p t l at k b here =
-    let count = t.narrowed.closed.count in
     passed-same old.known n.known (set n.known i next) ex ns k p (omega arith)
     (λ j c. sym (get_or-set_other n.known i j next (known_of 0 0 0 0) (λ e. absurd (omega arith))))
     (t.passed k (omega arith) (λ j a lj. variable-before n rank j k t.laid_out a lj (omega (arith, at))))
 
 -- the variable at a rank is passed once it is written
 passed-here : (old n : NodesView) (ex : List ℕ) (ns : List Node) (i : ℕ) (both next : Known) → IsPool ns
-    → i < length n.known → i < length ns
-    → both ≡ met (known_at old.known i) (forward_node n.known (node_at ns i))
-    → IsReduction ex i both next
-    → IsPassedAt old.known (set n.known i next) ex ns i
+    → i < length n.known → i < length ns → both ≡ met (known_at old.known i) (forward_node n.known (node_at ns i))
+    → IsReduction ex i both next → IsPassedAt old.known (set n.known i next) ex ns i
 passed-here old n ex ns i both next p here li is rule =
-    let same = forward-same n.known (set n.known i next) i (node_at ns i) (operands-below ns i p li)
-    (λ j b. sym (get_or-set_other n.known i j next (known_of 0 0 0 0) (λ e. absurd (omega arith)))) in
-    let now = is ∙ ap (met (known_at old.known i)) same in
-    rw (get_or-set_same n.known i next (known_of 0 0 0 0) here, ← now) rule
+    grind (arith, common_steps, get_or-set_same, get_or-set_other, operands-below, forward-same)
 
 -- a step of the pass: what is left of the variable at a rank is known afterwards
-pub through-step : (old n m : NodesView) (ex : List ℕ) (ns : List Node) (rank i : ℕ) (both next : Known)
-    → IsPool ns → AreClosed old.known ns → AreFixed old.variables old.known ns → PassesThrough old n ex ns rank
+pub through-step : (old n m : NodesView) (ex : List ℕ) (ns : List Node) (rank i : ℕ) (both next : Known) → IsPool ns
+    → AreClosed old.known ns → AreFixed old.variables old.known ns → PassesThrough old n ex ns rank
     → rank < length n.variables → slice_index n.variables rank ≡ i
     → both ≡ met (known_at old.known i) (forward_node n.known (node_at ns i)) → IsReduction ex i both next
-    → m.known ≡ set n.known i next → m.variables ≡ n.variables → IsLaidOut m
-    → PassesThrough old m ex ns (rank + 1)
+    → m.known ≡ set n.known i next → m.variables ≡ n.variables → IsLaidOut m → PassesThrough old m ex ns (rank + 1)
 through-step old n m ex ns rank i both next p h fixed t l at is reduction written same laid =
-    let closed = t.narrowed.closed in
-    let count = closed.count in
-    let here : i < length n.known = omega (arith, t.laid_out.within rank l, at) in
+    let closed = t.narrowed.closed in let here : i < length n.known = omega (arith, t.laid_out.within rank l, at) in
     let li : i < length ns = omega arith in
     let was : known_at n.known i ≡ known_at old.known i
     = t.same i (λ j b lj e. absurd (omega (arith, t.laid_out.rising j rank b l, at, e))) in
@@ -108,8 +82,7 @@ through-step old n m ex ns rank i both next p h fixed t l at is reduction writte
     rw written (narrowed-trans old.known n.known (set n.known i next) ex ns h
     t.narrowed (narrowed-set n.known ex ns i next closed li reduction.is narrower)) in
     let kept : AreFixed m.variables m.known ns =
-    rw (same ∙ t.variables) (still-fixed old.variables old.known m.known ex ns p h
-    all fixed) in
+    rw (same ∙ t.variables) (still-fixed old.variables old.known m.known ex ns p h all fixed) in
     let known : (k : ℕ) → ((j : ℕ) → j < rank + 1 → j < length m.variables → slice_index m.variables j ≢ k)
     → known_at m.known k ≡ known_at old.known k
     = rw (written, same) (λ k g. get_or-set_other n.known i k next (known_of 0 0 0 0)

@@ -1,23 +1,6 @@
 -- What the rules of tests leave: each number that passes is admitted, and where one side has only one number, which
 -- numbers are left.
-use Rattle.std.proofs.Common.{◌≡◌, ◌≢◌, ℕ, ◌<◌, ◌≤◌, ◌^◌, ◌-◌, ◌+◌, Bool, true, false, cond, arith, refl, sym, ap, ◌∙◌, ◌⊎◌, inl, inr}
-use Rattle.std.proofs.lemmas.Bool.{cases_lt, eqb-true}
-use Rattle.std.proofs.lemmas.Bool.Decides.{nat_tests, Decides-eqb}
-use Rattle.std.proofs.lemmas.Nat.{or_lt}
-use Rattle.std.proofs.Math.Pow.{pow-lt, pow_mono}
-use Rattle.std.specs.Int.Bits.{and_lt}
-use Rattle.std.specs.Int.{w32, trailing_zeros}
-use Rattle.std.specs.Prelude.{bit_and, bit_or, ◌==◌}
-use Rattle.std.proofs.lemmas.Grind.{common_steps}
-use Rattle.sf_insn.specs.Words.{IsOneBit}
-use Rattle.sf_insn.specs.declared.ops.Test.{Test}
-use Rattle.sf_insn.specs.declared.ops.Test.TheVariants.{Equal, Greater, GreaterOrEqual, AnyBit}
-use Rattle.sf_dom.specs.declared.known.Known.{Known}
-use Rattle.sf_dom.specs.Known.{Admits, IsDecided}
-use Rattle.sf_dom.specs.Facts.{IsPlainTest}
-use Rattle.sf_dom.specs.Propagation.{TestGives}
-use Rattle.sf_dom.specs.Rules.{assumed, past, past_low, more_than, less_than, at_least, at_most, nothing, some_of, none_of, where_decided, IsClosed}
-use Rattle.sf_dom.specs.laws.FactsLaws.{closed-consistent}
+use Rattle.sf_dom.proofs.Common.{◌≡◌, ◌≢◌, ℕ, ◌<◌, ◌≤◌, ◌^◌, ◌-◌, ◌+◌, Bool, true, false, cond, arith, refl, sym, ap, ◌∙◌, ◌⊎◌, inl, inr, cases_lt, eqb-true, nat_tests, Decides-eqb, or_lt, pow-lt, pow_mono, and_lt, w32, trailing_zeros, bit_and, bit_or, ◌==◌, common_steps, IsOneBit, Test, Equal, Greater, GreaterOrEqual, AnyBit, Known, Admits, IsDecided, IsPlainTest, TestGives, assumed, past, past_low, more_than, less_than, at_least, at_most, nothing, some_of, none_of, where_decided, IsClosed, closed-consistent}
 use Rattle.sf_dom.proofs.CommonBits.{no-common, common-open, and-zero, common-bits, common-none, common-some, common-decided, open-one, lowest-place}
 use Rattle.sf_dom.proofs.Lawful.{met-admits, closed-zeros}
 
@@ -51,11 +34,7 @@ gives-apart x y h = grind (arith, nat_tests)
 -- a rule is used where another word has only one number, or isn't
 decided-or : (rule : ℕ → Known → Known) (other k : Known) (kind : Known → Type 0)
     → (IsDecided other → kind (rule other.low k)) → kind k → kind (where_decided other rule k)
-decided-or rule other k kind f g = on (other.low == other.high) refl
-  where
-    on : (b : Bool) → (other.low == other.high) ≡ b → kind (cond b (rule other.low k) k)
-    on true e = f (eqb-true other.low other.high e)
-    on false e = g
+decided-or rule other k kind f g = grind (arith, common_steps, eqb-true)
 
 pub at-decided : (rule : ℕ → Known → Known) (other k : Known) → other.low ≡ other.high
     → where_decided other rule k ≡ rule other.low k
@@ -85,12 +64,7 @@ less-admits k x n h l = either (n == 0) nothing (at_most (n - 1) k) (λ r. Admit
     (λ e. absurd (omega (arith, eqb-true n 0 e))) (λ e. below-admits k x (n - 1) h (omega arith))
 
 past-admits : (k : Known) (x c : ℕ) → Admits k x → x < 2 ^ 32 → x ≢ c → Admits (past c k) x
-past-admits k x c h f ne =
-    let low : Admits (past_low c k) x = either (k.low == c) (more_than c k) k (λ r. Admits r x)
-    (λ e. more-admits k x c h f (omega (arith, h.above, eqb-true k.low c e, ne))) (λ e. h) in
-    either ((past_low c k).high == c) (less_than c (past_low c k)) (past_low c k) (λ r. Admits r x)
-    (λ e. less-admits (past_low c k) x c low (omega (arith, low.below, eqb-true (past_low c k).high c e, ne)))
-    (λ e. low)
+past-admits k x c h f ne = grind (arith, common_steps, eqb-true, either, more-admits, less-admits)
 
 none-admits : (k : Known) (x bits : ℕ) → Admits k x → bit_and x bits ≡ 0 → Admits (none_of bits k) x
 none-admits k x bits h e = record { above = h.above; below = h.below; bits = no-common x bits k.zeros k.ones e h.bits }
@@ -104,33 +78,17 @@ small-place u t l e = elim (cases_lt t 32) [
 
 -- the cases of a word that has one of some bits
 pub some-cases : (bits : ℕ) (k : Known) (kind : Known → Type 0)
-    → (bit_and bits (4294967295 - k.zeros) ≡ 0 → kind nothing)
-    → (bit_and bits (4294967295 - k.zeros) ≢ 0
+    → (bit_and bits (4294967295 - k.zeros) ≡ 0 → kind nothing) → (bit_and bits (4294967295 - k.zeros) ≢ 0
     → bit_and bits (4294967295 - k.zeros) ≡ 2 ^ trailing_zeros w32 (bit_and bits (4294967295 - k.zeros))
     → kind (record {
       low = k.low;
       high = k.high;
       zeros = k.zeros;
       ones = bit_or k.ones (bit_and bits (4294967295 - k.zeros));
-    }))
-    → (bit_and bits (4294967295 - k.zeros) ≢ 0
+    })) → (bit_and bits (4294967295 - k.zeros) ≢ 0
     → bit_and bits (4294967295 - k.zeros) ≢ 2 ^ trailing_zeros w32 (bit_and bits (4294967295 - k.zeros)) → kind k)
     → kind (some_of bits k)
-some-cases bits k kind none one more = on (u == 0) refl (u == 2 ^ trailing_zeros w32 u) refl
-  where
-    u : ℕ
-    u = bit_and bits (4294967295 - k.zeros)
-
-    on : (a : Bool) → (u == 0) ≡ a → (b : Bool) → (u == 2 ^ trailing_zeros w32 u) ≡ b
-        → kind (cond a nothing (cond b (record {
-          low = k.low;
-          high = k.high;
-          zeros = k.zeros;
-          ones = bit_or k.ones u;
-        }) k))
-    on true e b f = none (eqb-true u 0 e)
-    on false e true f = one (apart u 0 e) (eqb-true u (2 ^ trailing_zeros w32 u) f)
-    on false e false f = more (apart u 0 e) (apart u (2 ^ trailing_zeros w32 u) f)
+some-cases bits k kind none one more = grind (arith, common_steps, eqb-true, apart)
 
 some-admits : (k : Known) (x bits : ℕ) → bits < 2 ^ 32 → k.zeros < 2 ^ 32 → Admits k x → bit_and x bits ≢ 0
     → Admits (some_of bits k) x
@@ -144,8 +102,7 @@ some-admits k x bits lb lz h ne =
       above = h.above;
       below = h.below;
       bits = common-bits x bits k.zeros k.ones (trailing_zeros w32 u) lb lz t (omega (arith, fits, e)) ne h.bits;
-    })
-    (λ nz e. h)
+    }) (λ nz e. h)
 
 -- each number that passes a test is admitted by what the test leaves of its word
 pub test-admits : (t : Test) (s : Bool) (v w : Known) (x y : ℕ) → IsClosed v → IsClosed w → Admits v x → Admits w y
@@ -166,8 +123,7 @@ test-admits Equal false v w x y cv cw h k g =
 test-admits Greater true v w x y cv cw h k g =
     let l = gives-greater x y g in (
       more-admits v x w.low h (omega (arith, h.below, cv.fits)) (omega (arith, k.above)),
-      less-admits w y v.high k
-          (omega (arith, h.below)),
+      less-admits w y v.high k (omega (arith, h.below)),
     )
 test-admits Greater false v w x y cv cw h k g =
     let l = gives-not_greater x y g in
@@ -178,8 +134,7 @@ test-admits GreaterOrEqual true v w x y cv cw h k g =
 test-admits GreaterOrEqual false v w x y cv cw h k g =
     let l = gives-less x y g in (
       less-admits v x w.high h (omega (arith, k.below)),
-      more-admits w y v.low k (omega (arith, k.below, cw.fits))
-          (omega (arith, h.above)),
+      more-admits w y v.low k (omega (arith, k.below, cw.fits)) (omega (arith, h.above)),
     )
 test-admits AnyBit true v w x y cv cw h k g =
     let ne = gives-common x y g in (
@@ -211,30 +166,19 @@ less-fits k n h = either (n == 0) nothing (at_most (n - 1) k) FitsZeros (λ e. r
     (λ e. record { zeros = h.zeros })
 
 past-fits : (k : Known) (c : ℕ) → IsClosed k → FitsZeros (past c k)
-past-fits k c h =
-    let low : FitsZeros (past_low c k) = either (k.low == c) (more_than c k) k FitsZeros (λ e. more-fits k c h)
-    (λ e. fits-of k h) in
-    either ((past_low c k).high == c) (less_than c (past_low c k)) (past_low c k) FitsZeros
-    (λ e. less-fits (past_low c k) c low) (λ e. low)
+past-fits k c h = grind (arith, common_steps, either, fits-of, more-fits, less-fits)
 
 pub test-zeros : (t : Test) (s : Bool) (v w : Known) → IsClosed v → IsClosed w
     → ((assumed t s v w).node.zeros < 2 ^ 32) × ((assumed t s v w).other.zeros < 2 ^ 32)
 unfolding assumed
 test-zeros Equal true v w h k =
     let z = or_lt 32 v.zeros w.zeros (closed-zeros v h) (closed-zeros w k) in (z, z)
-test-zeros Equal false v w h k = (
-  (decided-or past w v FitsZeros (λ d. past-fits v w.low h) (fits-of v h)).zeros,
-  (decided-or past v w FitsZeros (λ d. past-fits w v.low k) (fits-of w k)).zeros,
-)
+test-zeros Equal false v w h k = grind (arith, common_steps, decided-or, fits-of, past-fits)
 test-zeros Greater true v w h k = ((more-fits v w.low h).zeros, (less-fits w v.high (fits-of w k)).zeros)
 test-zeros Greater false v w h k = (closed-zeros v h, closed-zeros w k)
 test-zeros GreaterOrEqual true v w h k = (closed-zeros v h, closed-zeros w k)
 test-zeros GreaterOrEqual false v w h k = ((less-fits v w.high (fits-of v h)).zeros, (more-fits w v.low k).zeros)
-test-zeros AnyBit true v w h k = (
-  (decided-or some_of w v FitsZeros (λ d. some-cases w.low v FitsZeros (λ e. record { zeros = omega arith })
-      (λ n e. record { zeros = closed-zeros v h }) (λ n e. fits-of v h)) (fits-of v h)).zeros,
-  closed-zeros w k,
-)
+test-zeros AnyBit true v w h k = grind (arith, common_steps, closed-zeros, decided-or, some-cases, fits-of)
 test-zeros AnyBit false v w h k = (
   (decided-or none_of w v FitsZeros
       (λ d. record { zeros = or_lt 32 v.zeros w.low (closed-zeros v h) (omega (arith, k.fits, d)) })
@@ -275,20 +219,16 @@ some-gives v c x f h how own left = by_how how
     fits = and_lt 32 c (4294967295 - v.zeros) f (omega arith)
 
     by_one : (i : ℕ) → i < 32 → c ≡ 2 ^ i → bit_and x c ≢ 0
-    by_one i l e = some-cases c v (λ r. Admits r x → bit_and x c ≢ 0)
-        (λ z a. absurd (omega (arith, a.above, a.below)))
-        (λ nz p a. common-some x c u i v.zeros v.ones l e (open-one c (4294967295 - v.zeros) i e nz) a.bits)
-        (λ nz p a.
+    by_one i l e = some-cases c v (λ r. Admits r x → bit_and x c ≢ 0) (λ z a. absurd (omega (arith, a.above, a.below)))
+        (λ nz p a. common-some x c u i v.zeros v.ones l e (open-one c (4294967295 - v.zeros) i e nz) a.bits) (λ nz p a.
         let place = lowest-place u i l (open-one c (4294967295 - v.zeros) i e nz ∙ e) in
         absurd (p (omega (arith, place.1, pow-lt place.0)))) left
 
     by_decided : IsDecided v → bit_and x c ≢ 0
     by_decided d =
-        let low = own.above in let high = own.below in
-        let same : x ≡ v.low = omega arith in
+        let low = own.above in let high = own.below in let same : x ≡ v.low = omega arith in
         let lf : v.low < 2 ^ 32 = omega (arith, h.ordered, h.fits) in
-        some-cases c v (λ r. Admits r x → bit_and x c ≢ 0)
-        (λ z a. absurd (omega (arith, a.above, a.below)))
+        some-cases c v (λ r. Admits r x → bit_and x c ≢ 0) (λ z a. absurd (omega (arith, a.above, a.below)))
         (λ nz p a. common-decided x v.low v.zeros c lf ((closed-consistent v h).zeros d) same nz)
         (λ nz p a. common-decided x v.low v.zeros c lf ((closed-consistent v h).zeros d) same nz) left
 
@@ -306,8 +246,7 @@ test-exact Equal true v w x cv cw d how own h =
     let low = h.above in let high = h.below in equal-gives x w.low (omega arith)
 test-exact Equal false v w x cv cw d (inl how) own h = differs-gives x w.low (how.1 refl refl)
 test-exact Equal false v w x cv cw d (inr one) own h =
-    let low = own.above in
-    let high = own.below in
+    let low = own.above in let high = own.below in
     differs-gives x w.low (λ e. past-not v x w.low e (omega arith) (rw (at-decided past w v d) at h))
   where
     -- a number that is the low end isn't left

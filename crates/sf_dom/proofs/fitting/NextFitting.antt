@@ -1,13 +1,5 @@
 -- The next number that has the known bits. A known bit that is made 1 passes a carry on, as an open bit that is 1 does.
-use Rattle.std.proofs.Common.{◌≡◌, ℕ, zero, suc, ◌<◌, ◌≤◌, ◌+◌, ◌-◌, ◌*◌, ◌/◌, ◌%◌, arith, ap, ◌∙◌, inl, inr, min, sym}
-use Rattle.std.proofs.lemmas.Bool.{cases_lt}
-use Rattle.std.proofs.lemmas.Nat.{and_le_l, and_le_r, and_shr, or_shr, and_mod, or_mod, and_or_self, or_disjoint}
-use Rattle.std.specs.Int.Bits.{or_add_and}
-use Rattle.std.specs.Prelude.{bit_and, bit_or}
-use Rattle.std.specs.Int.{bit_at}
-use Rattle.std.proofs.lemmas.Nat.Bits.{bit_at_and, bit_at_lowest, bit_at-suc, bit_at-lt, bit_at-zero}
-use Rattle.sf_dom.specs.Known.{HasBits}
-use Rattle.sf_dom.specs.Reduction.{AreApart}
+use Rattle.sf_dom.proofs.Common.{◌≡◌, ℕ, zero, suc, ◌<◌, ◌≤◌, ◌+◌, ◌-◌, ◌*◌, ◌/◌, ◌%◌, arith, ap, ◌∙◌, inl, inr, sym, cases_lt, and_le_l, and_le_r, and_shr, or_shr, and_mod, or_mod, and_or_self, or_disjoint, or_add_and, bit_and, bit_or, bit_at, bit_at_and, bit_at_lowest, bit_at-suc, bit_at-lt, bit_at-zero, HasBits, AreApart, common_steps}
 use Rattle.sf_dom.proofs.Bits.{no-zeros, or-same}
 
 -- the known bits of a number are those of its lowest bit and of its half
@@ -44,24 +36,20 @@ HasBits-from_half n z o a b h = record { zero = zeros; one = ones }
 -- a number made of its half and its lowest bit
 pub HasBits-double : (m b z o : ℕ) → b < 2 → z % 2 + b ≤ 1 → o % 2 ≤ b → HasBits m (z / 2) (o / 2)
     → HasBits (2 * m + b) z o
-HasBits-double m b z o l x y h =
-    let half : (2 * m + b) / 2 ≡ m = omega arith in
-    let low : (2 * m + b) % 2 ≡ b = omega arith in
-    HasBits-from_half (2 * m + b) z o (rw low x) (rw low y) (rw half h)
+HasBits-double m b z o l x y h = grind (arith, common_steps, HasBits-from_half)
 
 -- a number that has no bit of the one mask, and all of the other
 pub HasBits-fits : (n z o : ℕ) → bit_and n z ≡ 0 → bit_and n o ≡ o → HasBits n z o
 HasBits-fits n z o ez eo = record {
-  zero = λ i. none _ _ (sym (bit_at_and n z i) ∙ ap (λ m. bit_at m i) ez ∙ bit_at-zero i) (bit_at-lt n i)
-      (bit_at-lt z i);
-  one = λ i. all _ _ (sym (bit_at_and n o i) ∙ ap (λ m. bit_at m i) eo);
+  zero = λ i. omega (
+    arith,
+    sym (bit_at_and n z i) ∙ ap (λ m. bit_at m i) ez
+        ∙ bit_at-zero i,
+    bit_at-lt n i,
+    bit_at-lt z i,
+  );
+  one = λ i. omega (arith, sym (bit_at_and n o i) ∙ ap (λ m. bit_at m i) eo);
 }
-  where
-    none : (x y : ℕ) → min x y ≡ 0 → x < 2 → y < 2 → y + x ≤ 1
-    none x y h l m = omega arith
-
-    all : (x y : ℕ) → min x y ≡ y → y ≤ x
-    all x y h = omega arith
 
 -- a number without some bits, and with others
 abbrev fitted : ℕ → ℕ → ℕ → ℕ
@@ -94,8 +82,7 @@ pub record IsNext (a z o r : ℕ) : Type 0 where
 -- where the lowest bit is open, and 0
 next-open : (a z o : ℕ) → HasBits a z o → a % 2 + z % 2 < 1 → IsNext a z o (fitted (a + z + 1) z o)
 next-open a z o h none =
-    let x = a + z + 1 in
-    let low = HasBits-lowest a z o h in
+    let x = a + z + 1 in let low = HasBits-lowest a z o h in
     let halves = fitted-half x z o (omega (arith, and_mod x z 1, and_le_r (x % 2) (z % 2), none)) in
     let sum : x / 2 ≡ a / 2 + z / 2 = omega (arith, none) in
     let half : fitted x z o / 2 ≡ a / 2 = halves.0 ∙ ap (λ y. fitted y (z / 2) (o / 2)) sum
@@ -123,8 +110,7 @@ next-carried a z o apart h some up =
     let sum : x / 2 ≡ a / 2 + z / 2 + 1 = omega (arith, low.0, some) in
     let half : fitted x z o / 2 ≡ r = halves.0 ∙ ap (λ y. fitted y (z / 2) (o / 2)) sum in
     let lowest : fitted x z o % 2 ≡ bit_or 0 (o % 2) = rw even at halves.1 in
-    let is : fitted x z o ≡ 2 * r + o % 2
-    = omega (arith, half, lowest, or_add_and 0 (o % 2), and_le_l 0 (o % 2)) in
+    let is : fitted x z o ≡ 2 * r + o % 2 = omega (arith, half, lowest, or_add_and 0 (o % 2), and_le_l 0 (o % 2)) in
     rw is record {
       above = omega (arith, up.above);
       bits = HasBits-double r (o % 2) z o (omega arith) (AreApart-lowest z o apart) (omega arith) up.bits;
@@ -142,6 +128,5 @@ next-within (suc k) a z o enough apart h = elim (cases_lt (a % 2 + z % 2) 1) [
       (AreApart-half z o apart) (HasBits-half a z o h))
 ]
 
-pub next : (a z o : ℕ) → AreApart z o → HasBits a z o
-    → IsNext a z o (bit_or (a + z + 1 - bit_and (a + z + 1) z) o)
+pub next : (a z o : ℕ) → AreApart z o → HasBits a z o → IsNext a z o (bit_or (a + z + 1 - bit_and (a + z + 1) z) o)
 next a z o apart h = next-within (a + z) a z o (omega arith) apart h

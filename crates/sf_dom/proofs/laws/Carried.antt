@@ -1,22 +1,5 @@
 -- Facts that a piece carries along are those that are built anew from its conditions.
-use Rattle.std.proofs.Common.{◌≡◌, ℕ, zero, suc, ◌<◌, ◌≤◌, List, [], ◌∷◌, ◌++◌, length, take, set, arith, refl, sym, ap, ◌∙◌, inl, inr}
-use Rattle.std.proofs.lemmas.Bool.{cases_eq}
-use Rattle.std.proofs.lemmas.List.{ext_get_or, get_or-set_same, get_or-set_other, length-set, get_or-take, length-take-le, get_or_append_left, length-append}
-use Rattle.std.specs.Prelude.{Option, Some, None, MatchOption}
-use Rattle.sf_sym.specs.Operands.{constant_operand_of}
-use Rattle.sf_sym.specs.Pool.{IsPool, IsCondBelow, Extends, OperandsBelow, node_at}
-use Rattle.sf_sym.specs.declared.pool.Cond.{Cond}
-use Rattle.sf_sym.specs.declared.pool.Node.{Node}
-use Rattle.sf_sym.specs.declared.pool.Node.TheVariants.{Const, Word, Bin, Neg}
-use Rattle.sf_dom.specs.declared.known.Known.{Known}
-use Rattle.sf_dom.specs.declared.guards.Pair.{Pair}
-use Rattle.sf_dom.specs.Known.{Has, IsNarrower, known_of}
-use Rattle.sf_dom.specs.Facts.{FactsView, known_at, numbers_at}
-use Rattle.sf_dom.specs.GoingBack.{gained, WritingGives, GoingBackGivesIn, GoingBackGives}
-use Rattle.sf_dom.specs.Learning.{AreExcludedBy, assumed_of, PairGives, with_pair, LearnsBy, StartsBy, GrowsBy, LearnAll, AreBuiltBy}
-use Rattle.sf_dom.specs.Passes.{IsPass, PassGives, AreClosed}
-use Rattle.sf_dom.specs.Rules.{met, forward_node, IsClosedAt, IsReduction, IsWidest, ReductionGives, Then}
-use Rattle.sf_dom.specs.SoundRules.{AreCarried, started, learnt, grown}
+use Rattle.sf_dom.proofs.Common.{◌≡◌, ℕ, zero, suc, ◌<◌, ◌≤◌, List, [], ◌∷◌, ◌++◌, length, take, set, arith, refl, sym, ap, ◌∙◌, cases_eq, ext_get_or, get_or-set_same, get_or-set_other, length-set, get_or-take, length-take-le, get_or_append_left, length-append, Option, Some, constant_operand_of, IsPool, IsCondBelow, Extends, OperandsBelow, node_at, Cond, Node, Bin, Known, Pair, Has, IsNarrower, known_of, FactsView, known_at, numbers_at, gained, WritingGives, GoingBackGivesIn, GoingBackGives, AreExcludedBy, assumed_of, PairGives, with_pair, LearnsBy, StartsBy, GrowsBy, LearnAll, AreBuiltBy, IsPass, PassGives, AreClosed, met, forward_node, IsClosedAt, IsReduction, IsWidest, ReductionGives, Then, AreCarried, started, learnt, grown, common_steps}
 use Rattle.sf_dom.proofs.ConstantOperands.{is-operand}
 use Rattle.sf_dom.proofs.ConditionSteps.{condition-lawful}
 use Rattle.sf_dom.proofs.laws.Monotone.{forward-narrower}
@@ -33,25 +16,18 @@ pub record IsLonger (ns longer : List Node) : Type 0 where
   pub same : (i : ℕ) → i < length ns → node_at longer i ≡ node_at ns i
 
 pub extends-longer : (ns longer : List Node) → Extends ns longer → IsLonger ns longer
-extends-longer ns longer e = rw e.1 (record {
-  count = omega (arith, length-append ns e.0);
-  same = λ i l. get_or_append_left ns e.0 (Const 0) i l;
-})
+extends-longer ns longer e = grind (arith, common_steps, get_or_append_left, length-append)
 
 longer-trans : (a b c : List Node) → IsLonger a b → IsLonger b c → IsLonger a c
-longer-trans a b c h k =
-    let ab = h.count in let bc = k.count in
-    record { count = omega arith; same = λ i l. k.same i (omega arith) ∙ h.same i l }
+longer-trans a b c h k = record { count = omega arith; same = λ i l. k.same i (omega arith) ∙ h.same i l }
 
 -- a node's one constant operand is that of the longer pool
 operand-same : (ns longer : List Node) (at : ℕ) (n : Node) → at < length ns → OperandsBelow at n → IsLonger ns longer
     → constant_operand_of longer n ≡ constant_operand_of ns n
-operand-same ns longer at (Const c) l o h = refl
-operand-same ns longer at (Word i) l o h = refl
-operand-same ns longer at (Neg a) l o h = refl
 operand-same ns longer at (Bin op a b) l o h =
     let la = o.0 in let lb = o.1 in
     rw (h.same a.0 (omega arith), h.same b.0 (omega arith)) refl
+operand-same ns longer at n l o h = refl
 
 -- ---- what is known of the nodes of both
 
@@ -68,20 +44,7 @@ AreKeptAbove js last ns = (i : ℕ) → length ns ≤ i → known_at last i ≡ 
 write-same : (ks js : List Known) (ns longer : List Node) (i : ℕ) (k : Known) → IsLonger ns longer → i < length ns
     → AreSameBelow ks js ns longer → AreSameBelow (set ks i k) (set js i k) ns longer
 write-same ks js ns longer i k h l s =
-    let c = s.count in let m = s.more in let n = h.count in
-    record {
-      count = length-set ks i k ∙ c;
-      more = length-set js i k ∙ m;
-      same = λ j b. elim (cases_eq j i) [
-        | inl e ↦ rw (
-          e,
-          get_or-set_same ks i k (known_of 0 0 0 0) (omega arith),
-          get_or-set_same js i k (known_of 0 0 0 0) (omega arith),
-        ) refl
-        | inr ne ↦ get_or-set_other ks i j k (known_of 0 0 0 0) ne ∙ s.same j b
-            ∙ sym (get_or-set_other js i j k (known_of 0 0 0 0) ne)
-      ];
-    }
+    grind (arith, common_steps, cases_eq, get_or-set_same, get_or-set_other, length-set)
 
 write-above : (js : List Known) (ns : List Node) (i : ℕ) (k : Known) → i < length ns → AreKeptAbove js (set js i k) ns
 write-above js ns i k l j g = get_or-set_other js i j k (known_of 0 0 0 0) (λ e. absurd (omega arith))
@@ -94,11 +57,7 @@ record HasParts {A B : Type 0} (first : Option A → Type 0) (second : A → Opt
 
 then-parts : {A B : Type 0} (first : Option A → Type 0) (second : A → Option B → Type 0) (r : B)
     → Then first second (Some r) → HasParts first second r
-then-parts {A} {B} first second r h = on h.0 h.1 h.2
-  where
-    on : (o : Option A) → first o → MatchOption o (Some r ≡ None) (λ a. second a (Some r)) → HasParts first second r
-    on None i x = let clash : Some r ≡ None = x in absurd cc
-    on (Some a) i x = record { mid = a; one = i; two = x }
+then-parts {A} {B} first second r h = grind (arith, common_steps)
 
 -- what is left of the second node of a condition, after the first
 abbrev After : List Known → List ℕ → Cond → Known → Option Pair → Type 0
@@ -113,8 +72,7 @@ pair-moved : (ks js : List Known) (ex : List ℕ) (ns longer : List Node) (cond 
     → ReductionGives ex cond.node.0 (met (known_at ks cond.node.0) (assumed_of ks cond).node) (Some node)
     → After ks ex cond node (Some p) → PairGives js ex cond (Some p)
 pair-moved ks js ex ns longer cond node p below h s g k =
-    let v : ℕ = cond.node.0 in
-    let w : ℕ = cond.other.0 in
+    let v : ℕ = cond.node.0 in let w : ℕ = cond.other.0 in
     let sv : known_at ks v ≡ known_at js v = s.same v below.0 in
     let sw : known_at ks w ≡ known_at js w = s.same w below.1 in
     let here : known_at (set ks v node) w ≡ known_at (set js v node) w
@@ -143,15 +101,7 @@ step-same : (ks js mid other : List Known) (ex : List ℕ) (ns longer : List Nod
     → i < length ns → IsLonger ns longer → AreSameBelow ks js ns longer → WritingGives ks ex i known (Some mid)
     → WritingGives js ex i known (Some other) → HaveGoneBack js mid other ns longer
 step-same ks js mid other ex ns longer i known l h s g k =
-    let p = then-parts (ReductionGives ex i known) (λ left r. r ≡ Some (set ks i left)) mid g in
-    let q = then-parts (ReductionGives ex i known) (λ left r. r ≡ Some (set js i left)) other k in
-    let left : p.mid ≡ q.mid = some-same (reduction-one ex i known (Some p.mid) (Some q.mid) p.one q.one) in
-    let a : mid ≡ set ks i p.mid = some-same p.two in
-    let b : other ≡ set js i p.mid = some-same q.two ∙ ap (λ x. set js i x) (sym left) in
-    rw (a, b) (record {
-      same = write-same ks js ns longer i p.mid h l s;
-      above = write-above js ns i p.mid l;
-    })
+    grind (arith, common_steps, reduction-one, some-same, write-same, write-above, then-parts)
 
 -- the one constant operand of the node at a place
 pub at-same : (ns longer : List Node) (at : ℕ) → IsPool ns → at < length ns → IsLonger ns longer
@@ -192,7 +142,6 @@ passes-below : (ks js new last : List Known) (ex : List ℕ) (ns longer : List N
     → IsLonger ns longer → AreSameBelow ks js ns longer → IsPass ks new ex ns → IsPass js last ex longer → (i : ℕ)
     → i < length ns → known_at new i ≡ known_at last i
 passes-below ks js new last ex ns longer p h s g k =
-    let count = h.count in
     same-up_to ks new last ex ns p (length ns) (omega arith) g.each
     (λ i l. rw (← s.same i l, h.same i l) at (k.each i (omega arith)))
 
@@ -214,8 +163,7 @@ rest-same : (ks js new last : List Known) (ex : List ℕ) (ns longer : List Node
     → IsCondBelow (length ns) cond → IsLonger ns longer → AreSameBelow ks js ns longer
     → Rest ks ex ns cond (Some new) → Rest js ex longer cond (Some last) → AreLearntAlike js new last ex ns longer
 rest-same ks js new last ex ns longer cond p below h s g k =
-    let v : ℕ = cond.node.0 in
-    let w : ℕ = cond.other.0 in
+    let v : ℕ = cond.node.0 in let w : ℕ = cond.other.0 in
     let ga = then-parts (GoingBackGives ks ex ns v) (λ one. Last one ex ns cond) new g in
     let ka = then-parts (GoingBackGives js ex longer v) (λ one. Last one ex longer cond) last k in
     let one = back-same ga.one.0 ks js ex ns longer v ga.mid ka.mid p below.0 h s ga.one.1 ka.one.0 ka.one.1 in
@@ -245,8 +193,7 @@ narrower-again : (kind : Known → Type 0) (rule more old new : Known) → IsWid
 narrower-again kind rule more old new h n k = record {
   is = k.is;
   narrower = IsNarrower-trans more (met old more) new (met-right old more) k.narrower;
-  widest = λ s t m. k.widest s t
-      (met-below old more s (h.widest s t (IsNarrower-trans rule more s n m)) m);
+  widest = λ s t m. k.widest s t (met-below old more s (h.widest s t (IsNarrower-trans rule more s n m)) m);
 }
 
 -- no number is excluded for a node that isn't a word
@@ -257,29 +204,12 @@ closed-any a b i g k h = record { known = h.known; tight = λ l. absurd (omega a
 among : (f g : FactsView) (c e : List ℕ) (ns longer : List Node) (cond : Cond) → IsCondBelow (length ns) cond
     → IsLonger ns longer → AreGrownFrom f g ns longer → AreExcludedBy f.known f.excluded c ns cond
     → AreExcludedBy g.known g.excluded e longer cond → (w m : ℕ) → Has (numbers_at c w) m → Has (numbers_at e w) m
-among f g c e ns longer cond below h r x y w m z = elim (x.only w m z) [
-  | inl old ↦ y.kept w m (rw r.excluded at old)
-  | inr new ↦ y.more w m (rw (
-    ← h.same cond.node.0 below.0,
-    ← h.same cond.other.0 below.1,
-    r.below.same cond.node.0 below.0,
-    r.below.same cond.other.0 below.1,
-  ) at new)
-]
+among f g c e ns longer cond below h r x y w m z = grind (arith, common_steps)
 
-among-back : (f g : FactsView) (c e : List ℕ) (ns longer : List Node) (cond : Cond)
-    → IsCondBelow (length ns) cond → IsLonger ns longer → AreGrownFrom f g ns longer
-    → AreExcludedBy f.known f.excluded c ns cond → AreExcludedBy g.known g.excluded e longer cond → (w m : ℕ)
-    → Has (numbers_at e w) m → Has (numbers_at c w) m
-among-back f g c e ns longer cond below h r x y w m z = elim (y.only w m z) [
-  | inl old ↦ x.kept w m (rw (← r.excluded) at old)
-  | inr new ↦ x.more w m (rw (
-    h.same cond.node.0 below.0,
-    h.same cond.other.0 below.1,
-    ← r.below.same cond.node.0 below.0,
-    ← r.below.same cond.other.0 below.1,
-  ) at new)
-]
+among-back : (f g : FactsView) (c e : List ℕ) (ns longer : List Node) (cond : Cond) → IsCondBelow (length ns) cond
+    → IsLonger ns longer → AreGrownFrom f g ns longer → AreExcludedBy f.known f.excluded c ns cond
+    → AreExcludedBy g.known g.excluded e longer cond → (w m : ℕ) → Has (numbers_at e w) m → Has (numbers_at c w) m
+among-back f g c e ns longer cond below h r x y w m z = grind (arith, common_steps)
 
 -- both learn a condition
 learnt-grown : (f g c e : FactsView) (ns longer : List Node) (cond : Cond) → IsPool ns → IsPool longer
@@ -287,8 +217,7 @@ learnt-grown : (f g c e : FactsView) (ns longer : List Node) (cond : Cond) → I
     → LearnsBy g e longer cond → AreGrownFrom c e ns longer
 learnt-grown f g c e ns longer cond p q below h r x y =
     let ex : List ℕ = e.excluded in
-    let sizes : length c.excluded ≡ length ex
-    = x.excluded.words ∙ ap length r.excluded ∙ sym y.excluded.words in
+    let sizes : length c.excluded ≡ length ex = x.excluded.words ∙ ap length r.excluded ∙ sym y.excluded.words in
     let same = same-sets c.excluded ex sizes (among f g c.excluded ex ns longer cond below h r x.excluded y.excluded)
     (among-back f g c.excluded ex ns longer cond below h r x.excluded y.excluded) in
     let first = rw same at x.known in
@@ -302,11 +231,8 @@ learnt-grown f g c e ns longer cond p q below h r x y =
     below.0 r.below) in
     let alike = rest-same (with_pair f.known cond a.mid) (with_pair g.known cond a.mid) c.known e.known ex ns longer
     cond p below h written a.two (rw (← pairs) at b.two) in
-    let count = h.count in
-    let words = p.words in
     let lower : IsCondBelow (length longer) cond = (omega (arith, below.0), omega (arith, below.1)) in
     let narrowed = (condition-lawful g.known ex longer cond q r.closed lower).narrowed (Some e.known) y.known in
-    let cg = r.closed.count in
     record {
       below = record { count = alike.count; more = narrowed.closed.count; same = alike.same };
       excluded = same;
@@ -338,9 +264,7 @@ all-below ks js n e l same =
 started-grown : (f g : FactsView) (ns longer : List Node) → IsPool ns → IsLonger ns longer → StartsBy f ns
     → StartsBy g longer → AreGrownFrom f g ns longer
 started-grown f g ns longer p h x y =
-    let count = h.count in
-    let cf = x.known.count in
-    let cg = y.known.count in
+    let count = h.count in let cf = x.known.count in let cg = y.known.count in
     let none = ext_get_or 0 f.excluded g.excluded (x.words ∙ sym y.words) (λ w l. x.excluded w ∙ sym (y.excluded w)) in
     let first = rw none at x.known in
     record {
@@ -360,10 +284,7 @@ started-grown f g ns longer p h x y =
 grown-grown : (f g h : FactsView) (ns more longer : List Node) → IsPool more → IsLonger ns more → IsLonger more longer
     → AreGrownFrom f h ns longer → GrowsBy f g more → AreGrownFrom g h more longer
 grown-grown f g h ns more longer p l k r x =
-    let count = l.count in
-    let last = k.count in
-    let cf = r.below.count in
-    let ch = r.below.more in
+    let count = l.count in let last = k.count in let cf = r.below.count in let ch = r.below.more in
     let cg = x.known.count in
     let whole = longer-trans ns more longer l k in
     let first = rw r.excluded at x.known in
@@ -382,8 +303,7 @@ grown-grown f g h ns more longer p l k r x =
 
 -- the last condition is learnt last
 learn-split : (a c : FactsView) (ns : List Node) (conds : List Cond) (cond : Cond)
-    → LearnAll a c ns (conds ++ cond ∷ [])
-    → (b : FactsView) × LearnAll a b ns conds × LearnsBy b c ns cond
+    → LearnAll a c ns (conds ++ cond ∷ []) → (b : FactsView) × LearnAll a b ns conds × LearnsBy b c ns cond
 learn-split a c ns [] cond h = (a, refl, rw h.2 at h.1)
 learn-split a c ns (x ∷ xs) cond h =
     let rest = learn-split h.0 c ns xs cond h.2 in (rest.0, (h.0, h.1, rest.1), rest.2)

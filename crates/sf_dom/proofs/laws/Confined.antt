@@ -1,15 +1,5 @@
 -- What facts promise of the inputs that agree, where they take in an interval or known bits of a word.
-use Rattle.std.proofs.Common.{◌≡◌, ℕ, ◌<◌, ◌-◌, ◌^◌, List, arith, ◌≤◌, ◌+◌, min, sym, ap, ◌∙◌, inl, inr}
-use Rattle.std.proofs.lemmas.Nat.{and_le_l, and_le_r}
-use Rattle.std.proofs.lemmas.Nat.Bits.{bit_at-lt, bit_at_and, bit_at_not, bit_at_above, same_from_bits}
-use Rattle.std.specs.Prelude.{bit_and}
-use Rattle.std.proofs.lemmas.Bool.{cases_lt}
-use Rattle.std.specs.Int.{bit_at, w32}
-use Rattle.sf_sym.specs.declared.pool.Node.{Node}
-use Rattle.sf_dom.specs.Known.{Admits, HasBits, known_of}
-use Rattle.sf_dom.specs.Facts.{FactsView, Covers, NoInput, HasIn, LiesIn, HasMasked, ConfinesWord}
-use Rattle.sf_dom.specs.Learning.{TakesInBy, CantTakeInBy}
-use Rattle.sf_dom.specs.Rules.{between, masked}
+use Rattle.sf_dom.proofs.Common.{◌≡◌, ℕ, ◌<◌, ◌-◌, ◌^◌, List, arith, ◌≤◌, ◌+◌, min, sym, ap, ◌∙◌, inl, inr, and_le_l, and_le_r, bit_at-lt, bit_at_and, bit_at_not, bit_at_above, same_from_bits, bit_and, cases_lt, bit_at, w32, Node, Admits, HasBits, known_of, FactsView, Covers, NoInput, HasIn, LiesIn, HasMasked, ConfinesWord, TakesInBy, CantTakeInBy, between, masked}
 use Rattle.sf_dom.proofs.RuleLaws.{between-admits}
 use Rattle.sf_dom.proofs.Assumed.{confines, cant-confine, confines-as, no-input-as}
 
@@ -38,15 +28,21 @@ masked-admits n mask value fn fm fv e = record {
 pub admits-masked : (n mask value : ℕ) → mask < 2 ^ 32 → value < 2 ^ 32 → n < 2 ^ 32 → bit_and value mask ≡ value
     → HasBits n (bit_and mask (4294967295 - value)) value → bit_and n mask ≡ value
 admits-masked n mask value fm fv fn inside h = same_from_bits (bit_and n mask) value (λ i. elim (cases_lt i 32) [
-  | inl l ↦ bit_at_and n mask i ∙ same _ _ _ _ _ (bit_at_and mask (4294967295 - value) i) (bit_at_not w32 value i fv l)
-      (h.zero i) (h.one i) (ap (λ m. bit_at m i) (sym inside) ∙ bit_at_and value mask i) (bit_at-lt n i)
-      (bit_at-lt mask i) (bit_at-lt value i)
+  | inl l ↦ bit_at_and n mask i ∙ omega (
+    arith,
+    bit_at_and mask
+        (4294967295 - value) i,
+    bit_at_not w32 value i fv l,
+    h.zero i,
+    h.one i,
+    ap (λ m. bit_at m i) (sym inside)
+        ∙ bit_at_and value mask i,
+    bit_at-lt n i,
+    bit_at-lt mask i,
+    bit_at-lt value i,
+  )
   | inr g ↦ bit_at_and n mask i ∙ omega (arith, bit_at_above mask 32 i fm g, bit_at_above value 32 i fv g)
 ])
-  where
-    same : (n m v k z : ℕ) → z ≡ min m k → k ≡ 1 - v → z + n ≤ 1 → v ≤ n → v ≡ min v m → n < 2 → m < 2
-        → v < 2 → min n m ≡ v
-    same n m v k z ez ek hz ho ei ln lm lv = omega arith
 
 pub confines-range : (f new : FactsView) (ns : List Node) (w low high : ℕ) → Covers f ns → w < 16 → Covers new ns
     → TakesInBy f new ns w (between low high) → ConfinesWord f new ns w (LiesIn low high)

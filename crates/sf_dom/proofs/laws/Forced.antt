@@ -1,26 +1,5 @@
 -- A result that is forced is the only one that can be learnt.
-use Rattle.std.proofs.Common.{◌≡◌, ◌≢◌, ℕ, ◌<◌, ◌^◌, List, length, set, Bool, true, false, not, arith, refl, sym, ap, ◌∙◌, ◌⊎◌, inl, inr}
-use Rattle.std.proofs.lemmas.Bool.{cases_eq}
-use Rattle.std.proofs.lemmas.Bool.Decides.{nat_tests}
-use Rattle.std.proofs.lemmas.List.{set-get_or}
-use Rattle.std.specs.Prelude.{Some, None, bit_or}
-use Rattle.std.proofs.lemmas.Nat.{or_lt}
-use Rattle.sf_insn.specs.declared.ops.Test.{Test}
-use Rattle.sf_insn.specs.declared.ops.Test.TheVariants.{Equal, Greater, GreaterOrEqual, AnyBit}
-use Rattle.sf_sym.specs.Pool.{IsPool, IsCondBelow, node_at, value_of}
-use Rattle.sf_sym.specs.laws.ValueLaws.{word-place}
-use Rattle.sf_sym.specs.declared.pool.Cond.{Cond}
-use Rattle.sf_sym.specs.declared.pool.Node.{Node}
-use Rattle.sf_sym.specs.declared.pool.Node.TheVariants.{Const, Word, Bin, Neg}
-use Rattle.sf_dom.specs.declared.known.Known.{Known}
-use Rattle.sf_dom.specs.Known.{IsNarrower, IsDecided, known_of}
-use Rattle.sf_dom.specs.Facts.{FactsView, known_at, numbers_at, Agrees, Covers}
-use Rattle.sf_dom.specs.declared.guards.Pair.{Pair}
-use Rattle.sf_dom.specs.Learning.{Excludes, AreExcludedBy, assumed_of, PairGives, LearnsBy, CantLearn}
-use Rattle.sf_dom.specs.Passes.{IsAtRest}
-use Rattle.sf_dom.specs.Propagation.{AreExcluded, TestGives}
-use Rattle.sf_dom.specs.Rules.{assumed, number_known, past, IsClosed, IsClosedAt, met}
-use Rattle.sf_dom.specs.SoundRules.{IsForcedCondition}
+use Rattle.sf_dom.proofs.Common.{◌≡◌, ◌≢◌, ℕ, ◌<◌, ◌^◌, List, length, set, Bool, true, false, not, arith, refl, sym, ap, ◌∙◌, ◌⊎◌, inl, inr, cases_eq, nat_tests, set-get_or, Some, None, bit_or, or_lt, Test, Equal, IsPool, IsCondBelow, node_at, value_of, word-place, Cond, Node, Word, Known, IsNarrower, IsDecided, known_of, FactsView, known_at, numbers_at, Agrees, Covers, Pair, Excludes, AreExcludedBy, assumed_of, PairGives, LearnsBy, CantLearn, IsAtRest, AreExcluded, TestGives, assumed, number_known, past, IsClosed, IsClosedAt, met, IsForcedCondition, IsInput, passes, Input, constant-admits, IsForcedBy, common_steps}
 use Rattle.sf_dom.proofs.ClosedLemmas.{closed-number}
 use Rattle.sf_dom.proofs.ConditionSteps.{condition-nothing}
 use Rattle.sf_dom.proofs.AscendingLemmas.{one-more}
@@ -28,11 +7,6 @@ use Rattle.sf_dom.proofs.Excluding.{added-at, excluded-word, both-excluded}
 use Rattle.sf_dom.proofs.Passes.{operands-below, closed-kept, still-reduction}
 use Rattle.sf_dom.proofs.propagation.Propagations.{word-below}
 use Rattle.sf_dom.proofs.TestLaws.{at-decided, test-admits, test-zeros}
-use Rattle.sf_insn.specs.Inputs.{IsInput}
-use Rattle.sf_insn.specs.Words.{passes}
-use Rattle.sf_insn.specs.declared.input.Input.{Input}
-use Rattle.sf_dom.specs.laws.FactsLaws.{constant-admits}
-use Rattle.sf_dom.specs.Telling.{IsForcedBy}
 use Rattle.sf_dom.proofs.Covering.{covers-closed}
 use Rattle.sf_dom.proofs.Lawful.{closed-zeros, kept-at, met-admits, reduction-holds, value-fits}
 
@@ -59,10 +33,6 @@ unchanged ex n k none = record {
 }
 
 sets-of : (ex : List ℕ) (n : Node) (k : Known) → length ex ≡ 16 → ((w : ℕ) → n ≡ Word w → w < 16) → HasSets ex n k
-sets-of ex (Const c) k l small = unchanged ex (Const c) k (λ w e d. let clash : Const c ≡ Word w = e in absurd cc)
-sets-of ex (Bin op a b) k l small =
-    unchanged ex (Bin op a b) k (λ w e d. let clash : Bin op a b ≡ Word w = e in absurd cc)
-sets-of ex (Neg a) k l small = unchanged ex (Neg a) k (λ w e d. let clash : Neg a ≡ Word w = e in absurd cc)
 sets-of ex (Word w) k l small = elim (cases_eq k.low k.high) [
   | inr ne ↦ unchanged ex (Word w) k (λ v e d. ne d)
   | inl e ↦ record {
@@ -72,6 +42,7 @@ sets-of ex (Word w) k l small = elim (cases_eq k.low k.high) [
         (one-more k.low (numbers_at ex w)));
   }
 ]
+sets-of ex n k l small = unchanged ex n k (λ w e d. let clash : n ≡ Word w = e in absurd cc)
 
 -- sets in which the numbers that a condition excludes are excluded
 record HasExclusions (ks : List Known) (ex : List ℕ) (ns : List Node) (c : Cond) : Type 0 where
@@ -95,9 +66,7 @@ exclusions ks ex ns c p l below = on c.test c.sense refl refl
         (small c.other.0 below.1) in
         record { sets = b.sets; are = both-excluded ks ex a.sets b.sets ns c a.are b.are et es }
     on Equal true et es = none (λ x. let clash : true ≡ false = sym es ∙ x.1 in absurd cc)
-    on Greater s et es = none (λ x. let clash : Greater ≡ Equal = sym et ∙ x.0 in absurd cc)
-    on GreaterOrEqual s et es = none (λ x. let clash : GreaterOrEqual ≡ Equal = sym et ∙ x.0 in absurd cc)
-    on AnyBit s et es = none (λ x. let clash : AnyBit ≡ Equal = sym et ∙ x.0 in absurd cc)
+    on t s et es = none (λ x. let clash : t ≡ Equal = sym et ∙ x.0 in absurd cc)
 
 -- ---- nothing changes
 
@@ -130,28 +99,12 @@ module _ (f : FactsView) (ns : List Node) (c : Cond) (number : ℕ)
   -- an end of a word isn't among the numbers that are excluded now
   end-stays : (i m : ℕ) → i < 16 → i < length ns → (m ≡ (known_at f.known i).low) ⊎ (m ≡ (known_at f.known i).high)
       → ¬ Excludes f.known ns c i m
-  end-stays i m b l end (et, es, inl x) =
-      let at : c.node.0 ≡ i = word-place ns h.pool c.node.0 i h.below.0 x.0 in
-      let apart = this-apart own number (h.rest c.node.0 h.below.0).closed.known (rw (et, es) at h.forced.this) in
-      let same : m ≡ number = x.2 ∙ ap (λ (k : Known). k.low) h.decided in
-      let here : own ≡ known_at f.known i = ap (known_at f.known) at in
-      elim end [
-        | inl e ↦ apart.0 (sym same ∙ e ∙ ap (λ (k : Known). k.low) (sym here))
-        | inr e ↦ apart.1 (sym same ∙ e ∙ ap (λ (k : Known). k.high) (sym here))
-      ]
-  end-stays i m b l end (et, es, inr x) =
-      let at : c.other.0 ≡ i = word-place ns h.pool c.other.0 i h.below.1 x.0 in
-      let apart = that-apart own number fits x.1 (rw (et, es) at h.forced.that) in
-      let here : known_at f.known i ≡ number_known number = ap (known_at f.known) (sym at) ∙ h.decided in
-      elim end [
-        | inl e ↦ apart (sym x.2 ∙ e ∙ ap (λ (k : Known). k.low) here)
-        | inr e ↦ apart (sym x.2 ∙ e ∙ ap (λ (k : Known). k.high) here)
-      ]
+  end-stays i m b l end (et, es, inl x) = grind (arith, common_steps, word-place, this-apart)
+  end-stays i m b l end (et, es, inr x) = grind (arith, common_steps, word-place, that-apart, fits)
 
   rests : (i : ℕ) → i < length ns → IsAtRest f.known lists ns i
   rests i l =
-      let r = h.rest i l in
-      let k : Known = known_at f.known i in
+      let r = h.rest i l in let k : Known = known_at f.known i in
       record {
         closed = closed-kept f.excluded lists i k (λ b m end kept z. elim (are.only i m z) [
           | inl old ↦ kept old
@@ -234,14 +187,9 @@ pub forced-holds : (f : FactsView) (ns : List Node) (i : ℕ) (test : Test) (num
     → (d : Input) → IsInput d → Agrees f ns d → TestGives test (value_of ns d i) number sense
 unfolding Agrees
 forced-holds f ns i test number sense h l fits forced d input a =
-    let count = h.count in
     let here : i < length f.known = omega arith in
-    let own : Known = known_at f.known i in
-    let n : Known = number_known number in
-    let x : ℕ = value_of ns d i in
-    let closed = covers-closed f ns h in
-    let is = closed.each i l in
-    let one = closed-number number fits in
+    let own : Known = known_at f.known i in let n : Known = number_known number in let x : ℕ = value_of ns d i in
+    let closed = covers-closed f ns h in let is = closed.each i l in let one = closed-number number fits in
     let admitted = (a i here).admitted in
     let zeros = test-zeros test (not sense) own n is one in
     not-other (passes test x number) sense (λ e.

@@ -1,28 +1,7 @@
 -- A test against a number that is forced, as a condition.
-use Rattle.std.proofs.Common.{◌≡◌, ◌≢◌, ℕ, zero, suc, ◌<◌, ◌^◌, ◌+◌, ◌-◌, List, [], ◌∷◌, ◌++◌, length, Bool, arith, refl, sym, ap, ◌∙◌, inl, inr}
-use Rattle.std.proofs.lemmas.Bool.{cases_lt, eq-eqb}
-use Rattle.std.proofs.lemmas.List.{get_or_append_left, get_or_push, length_push}
-use Rattle.std.proofs.Math.Seq.{take-append_seam}
-use Rattle.std.specs.Prelude.{Option, Some, None, IfSome}
-use Rattle.sf_insn.specs.declared.ops.BinOp.{BinOp}
-use Rattle.sf_insn.specs.declared.ops.Test.{Test}
-use Rattle.sf_sym.specs.Operands.{IsSwappable, constant_operand_of}
-use Rattle.sf_sym.specs.Pool.{IsPool, node_at}
-use Rattle.sf_sym.specs.laws.ValueLaws.{IsPool-push}
-use Rattle.sf_sym.specs.declared.pool.Node.{Node}
-use Rattle.sf_sym.specs.declared.pool.Node.TheVariants.{Const}
-use Rattle.sf_sym.specs.declared.pool.NodeId.{NodeId}
-use Rattle.sf_dom.specs.declared.known.Known.{Known}
-use Rattle.sf_dom.specs.Known.{known_of}
-use Rattle.sf_dom.specs.Backward.{HandsOn, IsPropagatedBack}
-use Rattle.sf_dom.specs.Facts.{FactsView, known_at}
-use Rattle.sf_dom.specs.Learning.{GrowsBy}
-use Rattle.sf_dom.specs.Passes.{IsAtRest}
-use Rattle.sf_dom.specs.Rules.{number_known, IsClosedAt}
-use Rattle.sf_dom.specs.SoundRules.{IsForcedCondition, IsForcedTest, condition}
+use Rattle.sf_dom.proofs.Common.{◌≡◌, ◌≢◌, ℕ, zero, suc, ◌<◌, ◌^◌, ◌+◌, ◌-◌, List, [], ◌∷◌, ◌++◌, length, Bool, arith, refl, sym, ap, ◌∙◌, inl, inr, cases_lt, eq-eqb, get_or_append_left, get_or_push, length_push, take-append_seam, Option, Some, None, IfSome, BinOp, Test, IsSwappable, constant_operand_of, IsPool, node_at, IsPool-push, Node, Const, NodeId, Known, known_of, HandsOn, IsPropagatedBack, FactsView, known_at, GrowsBy, IsAtRest, number_known, IsClosedAt, IsForcedCondition, IsForcedTest, condition, closed-consistent}
 use Rattle.sf_dom.proofs.ConstantOperands.{is-operand}
 use Rattle.sf_dom.proofs.laws.Carried.{IsLonger, extends-longer, at-same}
-use Rattle.sf_dom.specs.laws.FactsLaws.{closed-consistent}
 use Rattle.sf_dom.proofs.ClosedLemmas.{closed-number}
 use Rattle.sf_dom.proofs.Passes.{operands-below, forward-same, number-stays}
 use Rattle.sf_dom.proofs.Reductions.{IsNarrower-refl}
@@ -91,7 +70,6 @@ forced-added f ns node other test number sense result h none at =
     let count = h.count in
     let longer = extends-longer ns more (Const number ∷ [], refl) in
     let pool : IsPool more = IsPool-push ns (Const number) h.pool h.fits none in
-    let words = h.pool.words in
     let size : length more ≡ length ns + 1 = length_push ns (Const number) in
     let last : node_at more (length ns) ≡ Const number = get_or_push ns (Const number) (Const 0) (length ns) refl in
     let nothing : Known = known_of 0 0 0 0 in
@@ -100,8 +78,7 @@ forced-added f ns node other test number sense result h none at =
     let older : (i : ℕ) → i < length ns → known_at ks i ≡ known_at f.known i
     = λ i l. get_or_append_left f.known (new ∷ []) nothing i (omega arith) in
     let newest : known_at ks (length ns) ≡ new = get_or_push f.known new nothing (length ns) count in
-    let rest : (i : ℕ) → i < length more → IsAtRest ks f.excluded more i
-    = λ i l. elim (cases_lt i (length ns)) [
+    let rest : (i : ℕ) → i < length more → IsAtRest ks f.excluded more i = λ i l. elim (cases_lt i (length ns)) [
       | inl b ↦
           let r = h.rest i b in
           record {
@@ -109,8 +86,7 @@ forced-added f ns node other test number sense result h none at =
             still = rw (
               longer.same i b,
               older i b,
-              forward-same ks f.known i (node_at ns i)
-                  (operands-below ns i h.pool b) (λ j m. older j (omega arith)),
+              forward-same ks f.known i (node_at ns i) (operands-below ns i h.pool b) (λ j m. older j (omega arith)),
             ) r.still;
           }
       | inr a ↦

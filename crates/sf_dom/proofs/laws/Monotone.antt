@@ -1,19 +1,5 @@
 -- What follows from operands of which more is known loses nothing.
-use Rattle.std.proofs.Common.{◌≡◌, ℕ, ◌<◌, ◌≤◌, ◌^◌, ◌-◌, ◌+◌, ◌*◌, ◌/◌, ◌%◌, List, arith, refl, sym, ap, inl, inr}
-use Rattle.std.proofs.lemmas.Bool.{cases_lt, cases_eq}
-use Rattle.std.proofs.lemmas.Bool.Decides.{nat_tests}
-use Rattle.std.proofs.lemmas.Nat.Bits.{bit_at-zero, bit_at_and, bit_at_or, bit_at_above}
-use Rattle.std.proofs.Math.Nat.{div-le_self}
-use Rattle.std.specs.Prelude.{bit_and, bit_or}
-use Rattle.sf_insn.specs.declared.ops.BinOp.{BinOp}
-use Rattle.sf_insn.specs.declared.ops.BinOp.TheVariants.{Add, Sub, Mul, Div, Or, And, Lsh, Rsh, Xor}
-use Rattle.sf_sym.specs.Pool.{OperandsBelow}
-use Rattle.sf_sym.specs.declared.pool.Node.{Node}
-use Rattle.sf_sym.specs.declared.pool.Node.TheVariants.{Const, Word, Bin, Neg}
-use Rattle.sf_dom.specs.declared.known.Known.{Known}
-use Rattle.sf_dom.specs.Known.{IsNarrower, AreBitsOf}
-use Rattle.sf_dom.specs.Reading.{known_at}
-use Rattle.sf_dom.specs.Rules.{between, forward_known, forward_negated, forward_node, moved_left, moved_right, IsClosed}
+use Rattle.sf_dom.proofs.Common.{◌≡◌, ℕ, ◌<◌, ◌≤◌, ◌^◌, ◌-◌, ◌+◌, ◌*◌, ◌/◌, ◌%◌, List, arith, refl, sym, ap, inl, inr, cases_lt, cases_eq, nat_tests, bit_at-zero, bit_at_and, bit_at_or, bit_at_above, div-le_self, bit_and, bit_or, BinOp, Add, Sub, Mul, Div, Or, And, Lsh, Rsh, Xor, OperandsBelow, Node, Bin, Neg, Known, IsNarrower, AreBitsOf, known_at, between, forward_known, forward_negated, forward_node, moved_left, moved_right, IsClosed, common_steps}
 use Rattle.sf_dom.proofs.Bits.{bit_at-mod, bit_at-shl_low, bit_at-shl_high, bit_at-shr, div_mono}
 use Rattle.sf_dom.proofs.forward.ForwardLemmas.{mul_mono, div_between}
 use Rattle.sf_dom.proofs.Reductions.{IsNarrower-refl}
@@ -21,12 +7,7 @@ use Rattle.sf_dom.proofs.RuleLemmas.{left-decided, left-full, right-decided, rig
 
 -- an interval that begins at 0 loses nothing in one whose end is no higher
 open-narrower : (high : ℕ) (k : Known) → k.high ≤ high → IsNarrower (between 0 high) k
-open-narrower high k l = record {
-  low = omega arith;
-  high = l;
-  zeros = λ i. omega (arith, bit_at-zero i);
-  ones = λ i. omega (arith, bit_at-zero i);
-}
+open-narrower high k l = grind (arith, common_steps, bit_at-zero)
 
 between-narrower : (low high m n : ℕ) → low ≤ m → n ≤ high → IsNarrower (between low high) (between m n)
 between-narrower low high m n a b = record { low = a; high = b; zeros = λ i. omega arith; ones = λ i. omega arith }
@@ -64,49 +45,33 @@ left-of a c s h i = elim (cases_lt i 32) [
 high-fits : (op : BinOp) (a b : Known) → a.low ≤ a.high → b.low ≤ b.high → a.high < 2 ^ 32 → b.high < 2 ^ 32
     → (forward_known op a b).high ≤ 4294967295
 unfolding forward_known
-high-fits Add a b oa ob fa fb = grind (arith, nat_tests)
-high-fits Sub a b oa ob fa fb = grind (arith, nat_tests)
-high-fits Mul a b oa ob fa fb = grind (arith, nat_tests)
 high-fits Div a b oa ob fa fb = let d = div-le_self a.high b.low in grind (arith, nat_tests)
 high-fits Or a b oa ob fa fb = omega arith
 high-fits And a b oa ob fa fb = omega arith
 high-fits Xor a b oa ob fa fb = omega arith
-high-fits Lsh a b oa ob fa fb = grind (arith, nat_tests)
 high-fits Rsh a b oa ob fa fb = let d = div-le_self a.high (2 ^ (b.low % 32)) in grind (arith, nat_tests)
+high-fits op a b oa ob fa fb = grind (arith, nat_tests)
 
 add-narrower : (a b c d : Known) → c.low ≤ c.high → d.low ≤ d.high → c.high < 2 ^ 32 → d.high < 2 ^ 32
     → IsNarrower a c → IsNarrower b d → IsNarrower (forward_known Add a b) (forward_known Add c d)
 unfolding forward_known
-add-narrower a b c d oc od fc fd h k =
-    let la = h.low in let ha = h.high in let lb = k.low in let hb = k.high in grind (arith, nat_tests, bit_at-zero)
+add-narrower a b c d oc od fc fd h k = grind (arith, nat_tests, bit_at-zero)
 
 sub-narrower : (a b c d : Known) → c.low ≤ c.high → d.low ≤ d.high → c.high < 2 ^ 32 → d.high < 2 ^ 32
     → IsNarrower a c → IsNarrower b d → IsNarrower (forward_known Sub a b) (forward_known Sub c d)
 unfolding forward_known
-sub-narrower a b c d oc od fc fd h k =
-    let la = h.low in let ha = h.high in let lb = k.low in let hb = k.high in grind (arith, nat_tests, bit_at-zero)
+sub-narrower a b c d oc od fc fd h k = grind (arith, nat_tests, bit_at-zero)
 
 mul-narrower : (a b c d : Known) → c.low ≤ c.high → d.low ≤ d.high → IsNarrower a c → IsNarrower b d
     → IsNarrower (forward_known Mul a b) (forward_known Mul c d)
 unfolding forward_known
-mul-narrower a b c d oc od h k =
-    let up = mul_mono c.high d.high a.high b.high h.high k.high in
-    let down = mul_mono a.low b.low c.low d.low h.low k.low in
-    grind (arith, nat_tests, bit_at-zero)
+mul-narrower a b c d oc od h k = grind (arith, common_steps, nat_tests, bit_at-zero, mul_mono)
 
 div-narrower : (a b c d : Known) → c.low ≤ c.high → d.low ≤ d.high → c.high < 2 ^ 32 → IsNarrower a c
     → IsNarrower b d → IsNarrower (forward_known Div a b) (forward_known Div c d)
 unfolding forward_known
 div-narrower a b c d oc od fc h k =
-    let la = h.low in let ha = h.high in let lb = k.low in let hb = k.high in
-    let less = div-le_self c.high d.low in
-    elim (cases_lt 0 b.low) [
-      | inl l ↦
-          let down = (div_between a.low c.low c.low b.low b.high d.high la (omega arith) (omega arith) hb l).0 in
-          let up = (div_between c.high a.high c.high b.low b.high d.low (omega arith) ha lb (omega arith) l).1 in
-          grind (arith, nat_tests, bit_at-zero)
-      | inr l ↦ grind (arith, nat_tests, bit_at-zero)
-    ]
+    grind (arith, common_steps, cases_lt, nat_tests, bit_at-zero, div-le_self, div_between)
 
 left-narrower : (a c : Known) (s : ℕ) → c.high < 2 ^ 32 → IsNarrower a c → IsNarrower (moved_left a s) (moved_left c s)
 left-narrower a c s fc h =
@@ -129,7 +94,6 @@ right-narrower a c s h = record {
 lsh-narrower : (a b c d : Known) → d.low ≤ d.high → c.high < 2 ^ 32 → c.low ≤ c.high → d.high < 2 ^ 32 → IsNarrower a c
     → IsNarrower b d → IsNarrower (forward_known Lsh a b) (forward_known Lsh c d)
 lsh-narrower a b c d od fc oc fd h k =
-    let lb = k.low in let hb = k.high in
     elim (cases_eq b.low b.high) [
       | inl e ↦
           let same : d.low % 32 ≡ b.low % 32 = ap (λ n. n % 32) (omega arith) in
@@ -152,8 +116,7 @@ rsh-narrower a b c d od h k =
           (right-narrower a c (b.low % 32) h)
       | inr e ↦ elim (cases_eq d.low d.high) [
         | inl f ↦ rw (← right-full a b e, ← right-decided c d (d.low % 32) f refl)
-            (open-narrower a.high (moved_right c (d.low % 32))
-            (omega (arith, div-le_self c.high (2 ^ (d.low % 32)))))
+            (open-narrower a.high (moved_right c (d.low % 32)) (omega (arith, div-le_self c.high (2 ^ (d.low % 32)))))
         | inr f ↦ rw (← right-full a b e, ← right-full c d f) (between-narrower 0 a.high 0 c.high (omega arith) ha)
       ]
     ]
@@ -161,22 +124,12 @@ rsh-narrower a b c d od h k =
 or-narrower : (a b c d : Known) → IsNarrower a c → IsNarrower b d
     → IsNarrower (forward_known Or a b) (forward_known Or c d)
 unfolding forward_known
-or-narrower a b c d h k = record {
-  low = omega (arith, h.low, k.low);
-  high = omega arith;
-  zeros = and-of a.zeros b.zeros c.zeros d.zeros h.zeros k.zeros;
-  ones = or-of a.ones b.ones c.ones d.ones h.ones k.ones;
-}
+or-narrower a b c d h k = grind (arith, common_steps, and-of, or-of)
 
 and-narrower : (a b c d : Known) → IsNarrower a c → IsNarrower b d
     → IsNarrower (forward_known And a b) (forward_known And c d)
 unfolding forward_known
-and-narrower a b c d h k = record {
-  low = omega arith;
-  high = omega (arith, h.high, k.high);
-  zeros = or-of a.zeros b.zeros c.zeros d.zeros h.zeros k.zeros;
-  ones = and-of a.ones b.ones c.ones d.ones h.ones k.ones;
-}
+and-narrower a b c d h k = grind (arith, common_steps, and-of, or-of)
 
 xor-narrower : (a b c d : Known) → IsNarrower a c → IsNarrower b d
     → IsNarrower (forward_known Xor a b) (forward_known Xor c d)
@@ -211,11 +164,10 @@ negated-narrower a c oc fc h = let la = h.low in let ha = h.high in grind (arith
 pub forward-narrower : (old new : List Known) (k : ℕ) (n : Node) → OperandsBelow k n
     → ((j : ℕ) → j < k → IsClosed (known_at new j)) → ((j : ℕ) → j < k → IsNarrower (known_at old j) (known_at new j))
     → IsNarrower (forward_node old n) (forward_node new n)
-forward-narrower old new k (Const c) o closed h = IsNarrower-refl _
-forward-narrower old new k (Word i) o closed h = IsNarrower-refl _
 forward-narrower old new k (Bin op a b) o closed h =
     known-narrower op (known_at old a.0) (known_at old b.0) (known_at new a.0) (known_at new b.0) (closed a.0 o.0)
     (closed b.0 o.1) (h a.0 o.0) (h b.0 o.1)
 forward-narrower old new k (Neg a) o closed h =
     let c = closed a.0 o in
     negated-narrower (known_at old a.0) (known_at new a.0) c.ordered c.fits (h a.0 o)
+forward-narrower old new k n o closed h = IsNarrower-refl _

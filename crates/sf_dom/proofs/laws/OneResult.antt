@@ -1,19 +1,5 @@
 -- What the rules give is one thing.
-use Rattle.std.proofs.Common.{◌≡◌, ℕ, zero, suc, List, [], length, set, arith, refl, sym, ap, ◌∙◌, inl, inr}
-use Rattle.std.proofs.lemmas.List.{ext_get_or}
-use Rattle.std.specs.Prelude.{Option, Some, None}
-use Rattle.sf_sym.specs.Pool.{IsPool, node_at}
-use Rattle.sf_sym.specs.declared.pool.Cond.{Cond}
-use Rattle.sf_sym.specs.declared.pool.Node.{Node}
-use Rattle.sf_dom.specs.declared.known.Known.{Known}
-use Rattle.sf_dom.specs.declared.guards.Pair.{Pair}
-use Rattle.sf_dom.specs.Known.{Has, known_of}
-use Rattle.sf_dom.specs.Facts.{FactsView, known_at, numbers_at}
-use Rattle.sf_dom.specs.GoingBack.{gained, WritingGives, GoingBackGivesIn, GoingBackGives}
-use Rattle.sf_dom.specs.Learning.{AreExcludedBy, assumed_of, PairGives, with_pair, ConditionGives, MoreGives, LearnsBy, CantLearn, StartsBy, GrowsBy, CantGrow, TakesInBy, CantTakeInBy}
-use Rattle.sf_dom.specs.Passes.{IsPass, PassFails, PassGives, AreTakenIn, TakingInFails, variables_after}
-use Rattle.sf_dom.specs.laws.ThenLaws.{then-same, then-one}
-use Rattle.sf_dom.specs.Rules.{met, IsClosedAt, ReductionGives}
+use Rattle.sf_dom.proofs.Common.{◌≡◌, ℕ, zero, suc, List, [], length, set, arith, refl, sym, ap, ◌∙◌, ext_get_or, Option, Some, None, IsPool, node_at, Cond, Node, Known, Pair, Has, known_of, FactsView, known_at, numbers_at, gained, WritingGives, GoingBackGivesIn, GoingBackGives, AreExcludedBy, PairGives, with_pair, ConditionGives, MoreGives, LearnsBy, CantLearn, StartsBy, GrowsBy, CantGrow, TakesInBy, CantTakeInBy, IsPass, PassFails, PassGives, AreTakenIn, TakingInFails, variables_after, then-same, then-one, met, IsClosedAt, ReductionGives, common_steps}
 use Rattle.sf_dom.proofs.AscendingLemmas.{same-set}
 use Rattle.sf_dom.proofs.Passes.{forward-same, operands-below, one-pass, pass-none}
 use Rattle.sf_dom.proofs.propagation.Propagations.{same-taken}
@@ -41,12 +27,7 @@ pass-one old ex ns p (Some a) (Some b) h k = ap Some (one-pass old a b ex ns p h
 
 pub pair-one : (ks : List Known) (ex : List ℕ) (cond : Cond) (r s : Option Pair) → PairGives ks ex cond r
     → PairGives ks ex cond s → r ≡ s
-pair-one ks ex cond =
-    let first : Known = met (known_at ks cond.node.0) (assumed_of ks cond).node in
-    then-one (ReductionGives ex cond.node.0 first) _ (reduction-one ex cond.node.0 first) (λ node h.
-    let second : Known = met (known_at (set ks cond.node.0 node) cond.other.0) (assumed_of ks cond).other in
-    then-one (ReductionGives ex cond.other.0 second) _ (reduction-one ex cond.other.0 second)
-    (λ other k r s e f. e ∙ sym f))
+pair-one ks ex cond = grind (arith, common_steps, then-one, reduction-one)
 
 -- what is written is one thing
 writing-one : (ks : List Known) (ex : List ℕ) (i : ℕ) (known : Known) (r s : Option (List Known))
@@ -62,8 +43,7 @@ back-one zero ks ex ns at r s w (suc m) v = absurd (w.0 v.0 v.1 v.2)
 back-one (suc n) ks ex ns at r s w zero v = absurd (v.0 w.0 w.1 w.2)
 back-one (suc n) ks ex ns at r s w (suc m) v =
     let clash : Some v.0 ≡ Some w.0 = sym v.1 ∙ w.1 in
-    let same : v.0 ≡ w.0 = cc in
-    let o = w.0 in
+    let same : v.0 ≡ w.0 = cc in let o = w.0 in
     let known : Known = gained o.0 o.2 (known_at ks at) (known_at ks o.1) in
     then-same (WritingGives ks ex o.1 known) (λ next t. GoingBackGivesIn n next ex ns o.1 t)
     (λ next t. GoingBackGivesIn m next ex ns o.1 t) (writing-one ks ex o.1 known)
@@ -93,18 +73,14 @@ taken-one : (old a b : List Known) (ex : List ℕ) (ns : List Node) → IsPool n
     → AreTakenIn old b ex ns → a ≡ b
 taken-one old a b ex ns p h k =
     let same = same-taken old a b ex ns (length ns) p (omega arith) h.kept k.kept h.each k.each in
-    let ca = h.count in
-    let cb = k.count in
-    ext_get_or (known_of 0 0 0 0) a b (ca ∙ sym cb)
-    (λ i l. same (length ns) (omega arith) i (omega arith))
+    let ca = h.count in let cb = k.count in
+    ext_get_or (known_of 0 0 0 0) a b (ca ∙ sym cb) (λ i l. same (length ns) (omega arith) i (omega arith))
 
 -- where a newer node is left nothing, they aren't taken in
 taken-none : (old new : List Known) (ex : List ℕ) (ns : List Node) → IsPool ns → AreTakenIn old new ex ns
     → ¬ TakingInFails old ex ns
 taken-none old new ex ns p h k =
-    let i = k.place in
-    let l = k.within in
-    let g = k.newer in
+    let i = k.place in let l = k.within in let g = k.newer in
     let same = same-taken old new k.new ex ns i p (omega arith) h.kept k.kept
     (λ j m b. h.each j m (omega arith)) k.before in
     let older = forward-same new k.new i (node_at ns i) (operands-below ns i p l) (same i (omega arith)) in
@@ -114,27 +90,17 @@ taken-none old new ex ns p h k =
 -- ---- facts
 
 -- the same numbers are excluded for each word in one way
-pub same-sets : (a b : List ℕ) → length a ≡ length b
-    → ((w m : ℕ) → Has (numbers_at a w) m → Has (numbers_at b w) m)
+pub same-sets : (a b : List ℕ) → length a ≡ length b → ((w m : ℕ) → Has (numbers_at a w) m → Has (numbers_at b w) m)
     → ((w m : ℕ) → Has (numbers_at b w) m → Has (numbers_at a w) m) → a ≡ b
 same-sets a b e to from = ext_get_or 0 a b e (λ w l. same-set (numbers_at a w) (numbers_at b w) (to w) (from w))
 
 -- a condition excludes numbers in one way
 exclusions-one : (ks : List Known) (ex a b : List ℕ) (ns : List Node) (cond : Cond)
     → AreExcludedBy ks ex a ns cond → AreExcludedBy ks ex b ns cond → a ≡ b
-exclusions-one ks ex a b ns cond h k = same-sets a b (h.words ∙ sym k.words) (among a b h k) (among b a k h)
-  where
-    among : (c e : List ℕ) → AreExcludedBy ks ex c ns cond → AreExcludedBy ks ex e ns cond → (w m : ℕ)
-        → Has (numbers_at c w) m → Has (numbers_at e w) m
-    among c e x y w m z = elim (x.only w m z) [ inl old ↦ y.kept w m old | inr new ↦ y.more w m new ]
+exclusions-one ks ex a b ns cond h k = grind (arith, common_steps, same-sets)
 
 facts-same : (f g : FactsView) → f.known ≡ g.known → f.variables ≡ g.variables → f.excluded ≡ g.excluded → f ≡ g
-facts-same f g k v e =
-    ap (λ x. facts x f.variables f.excluded) k ∙ ap (λ x. facts g.known x f.excluded) v
-    ∙ ap (λ x. facts g.known g.variables x) e
-  where
-    facts : List Known → List ℕ → List ℕ → FactsView
-    facts ks vs ex = record { known = ks; variables = vs; excluded = ex }
+facts-same f g k v e = grind (arith, common_steps)
 
 -- what both give is one
 pub some-same : {A : Type 0} {x y : A} → Some x ≡ Some y → x ≡ y
@@ -163,8 +129,7 @@ learns-none f g ns cond p a b =
 pub grows-one : (f g h : FactsView) (ns : List Node) → IsPool ns → GrowsBy f g ns → GrowsBy f h ns → g ≡ h
 grows-one f g h ns p a b =
     let known = taken-one f.known g.known h.known f.excluded ns p a.known b.known in
-    facts-same g h known
-    (a.variables ∙ ap (λ ks. variables_after f.variables f.known ks ns) known ∙ sym b.variables)
+    facts-same g h known (a.variables ∙ ap (λ ks. variables_after f.variables f.known ks ns) known ∙ sym b.variables)
     (a.excluded ∙ sym b.excluded)
 
 pub grows-none : (f g : FactsView) (ns : List Node) → IsPool ns → GrowsBy f g ns → ¬ CantGrow f ns
@@ -174,8 +139,7 @@ grows-none f g ns p a b = taken-none f.known g.known f.excluded ns p a.known b
 pub confines-one : (f g h : FactsView) (ns : List Node) (w : ℕ) (more : Known) → IsPool ns → TakesInBy f g ns w more
     → TakesInBy f h ns w more → g ≡ h
 confines-one f g h ns w more p a b =
-    facts-same g h (some-same
-    (more-one f.known f.excluded ns w more p (Some g.known) (Some h.known) a.known b.known))
+    facts-same g h (some-same (more-one f.known f.excluded ns w more p (Some g.known) (Some h.known) a.known b.known))
     (a.variables ∙ sym b.variables) (a.excluded ∙ sym b.excluded)
 
 pub confines-none : (f g : FactsView) (ns : List Node) (w : ℕ) (more : Known) → IsPool ns → TakesInBy f g ns w more

@@ -1,17 +1,6 @@
 -- How what is known of nodes is kept: constants in their slots, the others in a list of variables.
-use Rattle.std.proofs.lemmas.Grind.{common_steps}
-use Rattle.std.proofs.Common.{◌≡◌, ◌≢◌, ℕ, ◌-◌, ◌<◌, ◌≤◌, List, [], ◌∷◌, ◌++◌, length, get_or, set, arith, refl, sym, ap, ◌∙◌, ◌⊎◌, inl, inr}
-use Rattle.std.proofs.lemmas.Bool.{cases_lt, cases_eq}
-use Rattle.std.proofs.lemmas.List.{get_or-set_same, get_or-set_other, length-set, length-map, length_push, get_or-map, get_or_append_left, get_or_push, map-append, map-set, set-get_or, ext_get_or}
-use Rattle.std.specs.Prelude.{slice_index, zero, suc}
-use Rattle.sf_dom.specs.declared.known.Known.{Known}
-use Rattle.sf_dom.specs.declared.variables.Variable.{Variable}
-use Rattle.sf_dom.specs.declared.slots.Slot.{Slot}
-use Rattle.sf_dom.specs.declared.slots.Slot.TheVariants.{Number, Variable as VariableAt}
-use Rattle.sf_dom.specs.Known.{IsDecided, known_of}
-use Rattle.sf_dom.specs.Facts.{known_at}
-use Rattle.sf_dom.specs.Nodes.{IsLaidOut, AreKept, slot_known, slot_at, known_by, places_of}
-use Rattle.sf_dom.specs.Variables.{variable_at, set_known}
+use Rattle.sf_dom.proofs.Common.{common_steps, ◌≡◌, ◌≢◌, ℕ, ◌-◌, ◌<◌, ◌≤◌, List, [], ◌∷◌, ◌++◌, length, set, arith, refl, sym, ap, ◌∙◌, ◌⊎◌, inl, inr, cases_lt, cases_eq, get_or-set_same, get_or-set_other, length-set, length-map, length_push, get_or-map, get_or_append_left, get_or_push, map-append, map-set, set-get_or, ext_get_or, slice_index, zero, suc, Known, Variable, Slot, Number, IsDecided, known_of, known_at, IsLaidOut, AreKept, slot_known, slot_at, known_by, places_of, variable_at, set_known}
+use Rattle.sf_dom.specs.declared.slots.Slot.TheVariants.{Variable as VariableAt}
 
 -- a place and what is known there
 abbrev pub variable_of : ℕ → Known → Variable
@@ -32,11 +21,7 @@ places-length os = length-map os (λ o. o.place)
 pub rank-below : (slots : List Slot) (os : List Variable) (r : ℕ) → AreKept slots os → r < length os
     → r ≤ slice_index (places_of os) r
 rank-below slots os zero k l = omega arith
-rank-below slots os (suc r) k l = omega (
-  arith,
-  rank-below slots os r k (omega arith),
-  k.rising r (suc r) (omega arith) l,
-)
+rank-below slots os (suc r) k l = grind (arith, common_steps, rank-below slots os r k (omega arith))
 
 -- there are no more variables than slots
 pub variables-fit : (slots : List Slot) (os : List Variable) → AreKept slots os → length os ≤ length slots
@@ -92,8 +77,7 @@ variable-here slots os i r slot kept within found is =
 
 -- a variable's facts are written at its place
 pub known-set : (slots : List Slot) (os : List Variable) (r i : ℕ) (x : Known) → AreKept slots os → i < length slots
-    → slot_at slots i ≡ VariableAt r
-    → known_by (set os r (variable_of i x)) slots ≡ set (known_by os slots) i x
+    → slot_at slots i ≡ VariableAt r → known_by (set os r (variable_of i x)) slots ≡ set (known_by os slots) i x
 known-set slots os r i x k l e =
     ext_get_or (known_of 0 0 0 0) (known_by new slots) (set (known_by os slots) i x)
     (known-length slots new ∙ sym (length-set (known_by os slots) i x ∙ known-length slots os))
@@ -102,10 +86,8 @@ known-set slots os r i x k l e =
       | inl s ↦ rw (
         s,
         e,
-        get_or-set_same (known_by os slots) i x (known_of 0 0 0 0)
-            (omega (arith, known-length slots os)),
-      )
-          (ap (λ (o : Variable). o.known) (get_or-set_same os r (variable_of i x) (variable_of 0 (known_of 0 0 0 0))
+        get_or-set_same (known_by os slots) i x (known_of 0 0 0 0) (omega (arith, known-length slots os)),
+      ) (ap (λ (o : Variable). o.known) (get_or-set_same os r (variable_of i x) (variable_of 0 (known_of 0 0 0 0))
           (k.variables i r l e).0))
       | inr ne ↦ other j ne below (slot_at slots j) refl ∙ sym (known-slot slots os j below)
           ∙ sym (get_or-set_other (known_by os slots) i j x (known_of 0 0 0 0) ne)
@@ -117,8 +99,7 @@ known-set slots os r i x k l e =
     other : (j : ℕ) → j ≢ i → j < length slots → (s : Slot) → slot_at slots j ≡ s → slot_known new s ≡ slot_known os s
     other j ne b (Number c) f = refl
     other j ne b (VariableAt q) f =
-        let v = k.variables j q b f in
-        let w = k.variables i r l e in
+        let v = k.variables j q b f in let w = k.variables i r l e in
         let apart : q ≢ r = λ same. ne (sym v.1 ∙ ap (slice_index (places_of os)) same ∙ w.1) in
         ap (λ (o : Variable). o.known) (get_or-set_other os r q (variable_of i x)
         (variable_of 0 (known_of 0 0 0 0)) apart)
@@ -229,9 +210,3 @@ kept-variable slots os x k = record {
     newest : slice_index (places_of (os ++ v ∷ [])) (length os) ≡ length slots
     newest = ap (λ ps. slice_index ps (length os)) places ∙ get_or_push (places_of os) (length slots) 0 (length os)
         (places-length os)
-
--- the place of a variable that is added stands behind the others
-pub places-variable : (slots : List Slot) (os : List Variable) (x : Known)
-    → places_of (os ++ variable_of (length slots) x ∷ []) ≡ places_of os ++ length (known_by os slots) ∷ []
-places-variable slots os x = map-append (λ (o : Variable). o.place) os (variable_of (length slots) x ∷ [])
-    ∙ ap (λ n. places_of os ++ n ∷ []) (sym (known-length slots os))

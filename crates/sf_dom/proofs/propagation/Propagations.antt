@@ -1,19 +1,5 @@
 -- Nodes that a forward pass need not go through, and newer nodes that are taken in.
-use Rattle.std.proofs.Common.{◌≡◌, ◌≢◌, ℕ, Bool, true, false, ◌-◌, ◌<◌, ◌≤◌, ◌+◌, List, [], ◌∷◌, ◌++◌, length, set, take, zero, suc, arith, refl, sym, ap, ◌∙◌, ◌⊎◌, inl, inr}
-use Rattle.std.proofs.lemmas.Bool.{cases_lt, cases_eq}
-use Rattle.std.proofs.lemmas.List.{get_or-set_same, get_or-set_other, get_or_append_left, get_or_push, length_push, get_or-take}
-use Rattle.std.specs.Prelude.{slice_index, ◌&&◌, if◌then◌else◌}
-use Rattle.sf_sym.specs.Pool.{IsPool, OperandsBelow, node_at}
-use Rattle.sf_sym.specs.declared.pool.Node.{Node}
-use Rattle.sf_sym.specs.declared.pool.Node.TheVariants.{Const, Word, Bin, Neg}
-use Rattle.sf_dom.specs.declared.known.Known.{Known}
-use Rattle.sf_dom.specs.Known.{IsNarrower, IsConsistent, IsDecided, is_decided, known_of}
-use Rattle.sf_dom.specs.Nodes.{NodesView, IsLaidOut}
-use Rattle.sf_dom.specs.Propagation.{AreConsistentOperands, AreClosedWords}
-use Rattle.sf_dom.specs.Rules.{forward_node, IsClosedAt, IsReduction}
-use Rattle.sf_dom.specs.Passes.{IsAtRest, AreClosed, AreFixed, are_all_decided, variables_to, IsFixedAt, IsVariableAt}
-use Rattle.sf_dom.specs.Facts.{known_at}
-use Rattle.sf_dom.specs.laws.FactsLaws.{closed-consistent}
+use Rattle.sf_dom.proofs.Common.{◌≡◌, ◌≢◌, ℕ, Bool, true, false, ◌-◌, ◌<◌, ◌≤◌, ◌+◌, List, [], ◌∷◌, ◌++◌, length, set, take, zero, suc, arith, refl, sym, ap, ◌∙◌, ◌⊎◌, inl, inr, cases_lt, cases_eq, get_or-set_same, get_or-set_other, get_or_append_left, get_or_push, length_push, get_or-take, slice_index, ◌&&◌, if◌then◌else◌, IsPool, OperandsBelow, node_at, Node, Word, Bin, Neg, Known, IsNarrower, IsConsistent, is_decided, known_of, NodesView, IsLaidOut, AreConsistentOperands, AreClosedWords, forward_node, IsClosedAt, IsReduction, IsAtRest, AreClosed, AreFixed, are_all_decided, variables_to, IsFixedAt, IsVariableAt, known_at, closed-consistent, common_steps}
 use Rattle.sf_dom.proofs.Passes.{operands-below, forward-same, fixed-rest, word-rest, fixed-same, decided-same, decided-as}
 use Rattle.sf_dom.proofs.Reductions.{IsNarrower-refl}
 use Rattle.sf_dom.proofs.RuleLaws.{one-reduction}
@@ -22,34 +8,21 @@ pub word-below : (k : ℕ) (n : Node) → OperandsBelow k n → (i : ℕ) → n 
 word-below k n o i e = rw e at o
 
 pub OperandsBelow-more : (k m : ℕ) (n : Node) → k ≤ m → OperandsBelow k n → OperandsBelow m n
-OperandsBelow-more k m (Const c) l o = o
-OperandsBelow-more k m (Word i) l o = o
 OperandsBelow-more k m (Bin op a b) l o = let x = o.0 in let y = o.1 in (omega arith, omega arith)
 OperandsBelow-more k m (Neg a) l o = omega arith
+OperandsBelow-more k m n l o = o
 
 pub consistent-operands : (ks : List Known) (k : ℕ) (n : Node) → OperandsBelow k n
     → ((j : ℕ) → j < k → IsConsistent (known_at ks j)) → AreConsistentOperands ks n
-consistent-operands ks k (Const c) o h = tt
-consistent-operands ks k (Word i) o h = tt
 consistent-operands ks k (Bin op a b) o h = (h a.0 o.0, h b.0 o.1)
 consistent-operands ks k (Neg a) o h = h a.0 o
+consistent-operands ks k n o h = tt
 
 -- a node that has one number from the start is at rest
 pub unlisted-rest : (n : NodesView) (ex : List ℕ) (ns : List Node) (k : ℕ) → AreClosed n.known ns → IsLaidOut n
     → AreFixed n.variables n.known ns → k < length n.known
     → ((j : ℕ) → j < length n.variables → slice_index n.variables j ≢ k) → IsAtRest n.known ex ns k
-unlisted-rest n ex ns k closed laid fixed l none =
-    let count = closed.count in
-    let number : (16 ≤ k) × IsDecided (known_at n.known k) = elim (laid.rest k l) [
-      | inl v ↦ absurd (none v.0 v.1 v.2)
-      | inr d ↦ d
-    ] in
-    elim (fixed k (omega arith)) [
-      | inl v ↦ absurd (none v.0 v.1 v.2)
-      | inr f ↦ fixed-rest n.known ex ns k (closed-consistent (known_at n.known k)
-          (closed.each k (omega arith))) number.0
-          number.1 f
-    ]
+unlisted-rest n ex ns k closed laid fixed l none = grind (arith, common_steps, closed-consistent, fixed-rest)
 
 -- a variable stands before all later ones
 pub variable-before : (n : NodesView) (r j k : ℕ) → IsLaidOut n → r ≤ j → j < length n.variables
@@ -79,20 +52,11 @@ pub words-rest : (n : NodesView) (ex : List ℕ) (ns : List Node) → IsPool ns 
     → AreFixed n.variables n.known ns → AreClosedWords n.known ex → (k : ℕ) → k < length n.known
     → ((j : ℕ) → 16 ≤ j → j < length n.variables → k < slice_index n.variables j) → IsAtRest n.known ex ns k
 words-rest n ex ns p closed laid fixed words k l before =
-    let sixteen = p.words in
-    let count = closed.count in
-    elim (cases_lt k 16) [
-      | inl b ↦ word-rest n.known ex ns k p b (words k b)
-      | inr g ↦ unlisted-rest n ex ns k closed laid fixed l (λ j lj e. elim (cases_lt j 16) [
-        | inl s ↦ absurd (omega (arith, words-first n 16 j laid (omega arith) (omega arith) s lj, e))
-        | inr b ↦ absurd (omega (arith, before j b lj, e))
-      ])
-    ]
+    grind (arith, common_steps, cases_lt, word-rest, unlisted-rest, words-first)
 
 -- where nothing more follows for a node that is written, nothing more follows for a word for which nothing did
-pub closed-set : (ks : List Known) (ex : List ℕ) (i : ℕ) (next : Known)
-    → i < length ks → IsClosedAt ex i next → (w : ℕ) → IsClosedAt ex w (known_at ks w)
-    → IsClosedAt ex w (known_at (set ks i next) w)
+pub closed-set : (ks : List Known) (ex : List ℕ) (i : ℕ) (next : Known) → i < length ks → IsClosedAt ex i next → (w : ℕ)
+    → IsClosedAt ex w (known_at ks w) → IsClosedAt ex w (known_at (set ks i next) w)
 closed-set ks ex i next l closed w h = elim (cases_eq w i) [
   | inl e ↦ rw (e, get_or-set_same ks i next (known_of 0 0 0 0) l) closed
   | inr ne ↦ rw (get_or-set_other ks i w next (known_of 0 0 0 0) ne) h
@@ -100,16 +64,11 @@ closed-set ks ex i next l closed w h = elim (cases_eq w i) [
 
 -- a place stays among those of the variables
 more-variables : (places : List ℕ) (i k : ℕ) → IsVariableAt places k → IsVariableAt (places ++ i ∷ []) k
-more-variables places i k v = (
-  v.0,
-  omega (arith, v.1, length_push places i),
-  get_or_append_left places (i ∷ []) 0 v.0 v.1 ∙ v.2,
-)
+more-variables places i k v = grind (arith, common_steps, get_or_append_left, length_push)
 
 -- a node that is added is a variable, or no more can become known of it
 pub fixed-push : (places more : List ℕ) (ks : List Known) (ns : List Node) (i : ℕ) (settled : Bool) (r next : Known)
-    → IsPool ns → length ks ≡ i → i < length ns
-    → ((k : ℕ) → k < i → IsVariableAt places k ⊎ IsFixedAt ks ns k)
+    → IsPool ns → length ks ≡ i → i < length ns → ((k : ℕ) → k < i → IsVariableAt places k ⊎ IsFixedAt ks ns k)
     → r ≡ forward_node ks (node_at ns i) → IsNarrower r next
     → (settled ≡ true → are_all_decided ks (node_at ns i) ≡ true)
     → more ≡ (if settled then places else places ++ length ks ∷ []) → (k : ℕ) → k < i + 1
@@ -167,8 +126,7 @@ listed-push vs places more ks ns from i settled next p len l le told was made =
     same : (k : ℕ) → k < i → known_at (ks ++ next ∷ []) k ≡ known_at ks k
     same k b = get_or_append_left ks (next ∷ []) none k (omega (arith, len))
 
-    operands : (k : ℕ) → k ≤ i
-        → are_all_decided (ks ++ next ∷ []) (node_at ns k) ≡ are_all_decided ks (node_at ns k)
+    operands : (k : ℕ) → k ≤ i → are_all_decided (ks ++ next ∷ []) (node_at ns k) ≡ are_all_decided ks (node_at ns k)
     operands k b = decided-as ks (ks ++ next ∷ []) k (node_at ns k) (operands-below ns k p (omega (arith, l, b)))
         (λ j c. same j (omega (arith, b, c)))
 
@@ -185,8 +143,7 @@ listed-push vs places more ks ns from i settled next p len l le told was made =
 pub ruled-push : (ks : List Known) (ex : List ℕ) (ns : List Node) (from i : ℕ) (r next : Known) → IsPool ns
     → length ks ≡ i → i < length ns
     → ((k : ℕ) → from ≤ k → k < i → IsReduction ex k (forward_node ks (node_at ns k)) (known_at ks k))
-    → r ≡ forward_node ks (node_at ns i) → IsReduction ex i r next
-    → (k : ℕ) → from ≤ k → k < i + 1
+    → r ≡ forward_node ks (node_at ns i) → IsReduction ex i r next → (k : ℕ) → from ≤ k → k < i + 1
     → IsReduction ex k (forward_node (ks ++ next ∷ []) (node_at ns k)) (known_at (ks ++ next ∷ []) k)
 ruled-push ks ex ns from i r next p len l older is reduction k fk lk =
     let none : Known = known_of 0 0 0 0 in

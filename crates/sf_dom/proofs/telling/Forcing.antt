@@ -1,24 +1,6 @@
 -- What is known of a word forces the result of a test against a number.
-use Rattle.std.proofs.lemmas.Grind.{common_steps}
-use Rattle.std.proofs.Common.{◌≡◌, ◌≢◌, ℕ, List, ◌<◌, ◌≤◌, ◌^◌, ◌-◌, ◌+◌, ◌⊎◌, max, min, arith, refl, sym, ap, ◌∙◌, inl, inr}
-use Rattle.std.proofs.lemmas.Bool.{cases_lt}
-use Rattle.std.proofs.lemmas.Bool.Decides.{nat_tests}
-use Rattle.std.proofs.lemmas.Nat.Bits.{bit_at-zero, bit_at-lt, bit_at_or, bit_at_and, bit_at_not, bit_at_above}
-use Rattle.std.specs.Int.{bit_at, w32, trailing_zeros}
-use Rattle.std.specs.Int.Bits.{and_lt}
-use Rattle.std.specs.Prelude.{Option, Some, None, IfSome, Bool, true, false, bit_and, bit_or}
-use Rattle.sf_insn.specs.declared.ops.Test.{Test}
-use Rattle.sf_insn.specs.declared.ops.Test.TheVariants.{Equal, Greater, GreaterOrEqual, AnyBit}
-use Rattle.sf_sym.specs.Pool.{OperandsBelow}
-use Rattle.sf_sym.specs.declared.pool.Node.{Node}
-use Rattle.sf_sym.specs.declared.pool.Node.TheVariants.{Const, Word, Bin, Neg}
-use Rattle.sf_dom.specs.declared.known.Known.{Known}
-use Rattle.sf_dom.specs.Known.{Has, IsNarrower, AreBitsOf, HasBits}
-use Rattle.sf_dom.specs.Reading.{numbers_at, excluded_of}
-use Rattle.sf_dom.specs.Rules.{assumed, met, number_known, some_of, none_of, IsClosed, IsClosedAt, HasNone}
-use Rattle.sf_dom.specs.Telling.{IsForcedBy}
+use Rattle.sf_dom.proofs.Common.{common_steps, ◌≡◌, ◌≢◌, ℕ, List, ◌<◌, ◌≤◌, ◌^◌, ◌-◌, ◌⊎◌, arith, refl, sym, ap, ◌∙◌, inl, inr, cases_lt, nat_tests, bit_at-zero, bit_at-lt, bit_at_or, bit_at_and, bit_at_not, bit_at_above, bit_at, w32, trailing_zeros, and_lt, Option, Some, None, IfSome, Bool, true, false, bit_and, bit_or, Test, Equal, Greater, GreaterOrEqual, AnyBit, OperandsBelow, Node, Word, Known, Has, IsNarrower, AreBitsOf, HasBits, numbers_at, excluded_of, assumed, met, number_known, some_of, none_of, IsClosed, IsClosedAt, HasNone, IsForcedBy, closed-consistent, none-has}
 use Rattle.sf_dom.proofs.Bits.{no-zeros}
-use Rattle.sf_dom.specs.laws.FactsLaws.{closed-consistent, none-has}
 use Rattle.sf_dom.proofs.CommonBits.{common-bits, common-open, and-zero}
 use Rattle.sf_dom.proofs.Lawful.{closed-zeros}
 use Rattle.sf_dom.proofs.Passes.{met-below, one-number}
@@ -51,36 +33,20 @@ equal-one k n h a b =
 
 pub greater-true : (k : Known) (n : ℕ) → IsClosed k → n < k.low → IsForcedBy IsClosed k Greater n true
 unfolding assumed
-greater-true k n h l = record {
-  other = λ s is m. omega (arith, m.low, m.high, is.ordered);
-  this = grind (arith, common_steps, nat_tests);
-  that = grind (arith, common_steps, nat_tests);
-}
+greater-true k n h l = grind (arith, common_steps, nat_tests)
 
 pub greater-false : (k : Known) (n : ℕ) → IsClosed k → n < 2 ^ 32 → k.high ≤ n → IsForcedBy IsClosed k Greater n false
 unfolding assumed
-greater-false k n h f l = record {
-  other = λ s is m. let a = m.low in let b = m.high in let o = is.ordered in grind (arith, nat_tests);
-  this = grind (arith, common_steps, nat_tests);
-  that = grind (arith, common_steps, nat_tests);
-}
+greater-false k n h f l = grind (arith, common_steps, nat_tests)
 
 pub at-least-true : (k : Known) (n : ℕ) → IsClosed k → n ≤ k.low → IsForcedBy IsClosed k GreaterOrEqual n true
 unfolding assumed
-at-least-true k n h l = record {
-  other = λ s is m. let a = m.low in let b = m.high in let o = is.ordered in grind (arith, nat_tests);
-  this = grind (arith, common_steps, nat_tests);
-  that = grind (arith, common_steps, nat_tests);
-}
+at-least-true k n h l = grind (arith, common_steps, nat_tests)
 
 pub at-least-false : (k : Known) (n : ℕ) → IsClosed k → n < 2 ^ 32 → k.high < n
     → IsForcedBy IsClosed k GreaterOrEqual n false
 unfolding assumed
-at-least-false k n h f l = record {
-  other = λ s is m. omega (arith, m.low, m.high, is.ordered);
-  this = grind (arith, common_steps, nat_tests);
-  that = grind (arith, common_steps, nat_tests);
-}
+at-least-false k n h f l = grind (arith, common_steps, nat_tests)
 
 -- known bits of a word are apart
 own-bits : (k : Known) → IsClosed k → HasBits k.ones k.zeros k.ones
@@ -93,8 +59,7 @@ some-stays k n h f ne =
     let fits : u < 2 ^ 32 = and_lt 32 n (4294967295 - k.zeros) f (omega arith) in
     some-cases n k (λ r. IsNarrower r k)
     (λ e. absurd (ne (common-open k.ones n k.zeros k.ones f z (own-bits k h) ∙ ap (bit_and k.ones) e
-    ∙ and-zero k.ones)))
-    (λ nz e.
+    ∙ and-zero k.ones))) (λ nz e.
     let t = small-place u (trailing_zeros w32 u) fits e in
     let b = common-bits k.ones n k.zeros k.ones (trailing_zeros w32 u) f z t (omega (arith, fits, e)) ne
     (own-bits k h) in
@@ -106,53 +71,47 @@ pub common-true : (k : Known) (n : ℕ) → IsClosed k → n < 2 ^ 32 → bit_an
 unfolding assumed
 common-true k n h f ne = record {
   other = rw (at-decided none_of (number_known n) k refl) (λ s is m. absurd (ne (no-zeros k.ones n 0 (record {
-    zero = λ i. both (bit_at s.zeros i) (bit_at s.ones i) (bit_at n i) (bit_at k.ones i) (bit_at k.zeros i) _ _ _
-        (m.zeros i) (m.ones i) (is.apart i) (bit_at_or k.zeros (bit_or k.zeros n) i) (bit_at_or k.zeros n i)
-        (bit_at_or k.ones k.ones i);
+    zero = λ i. omega (
+      arith,
+      m.zeros i,
+      m.ones i,
+      is.apart i,
+      bit_at_or k.zeros
+          (bit_or k.zeros n) i,
+      bit_at_or k.zeros n i,
+      bit_at_or k.ones k.ones i,
+    );
     one = λ i. omega (arith, bit_at-zero i);
   }))));
   this = rw (at-decided some_of (number_known n) k refl) (some-stays k n h f ne);
   that = IsNarrower-refl (number_known n);
 }
-  where
-    both : (z o n m c a b d : ℕ) → a ≤ z → b ≤ o → z + o ≤ 1 → a ≡ max c d → d ≡ max c n → b ≡ max m m → n + m ≤ 1
-    both z o n m c a b d p q r e g t = omega arith
 
 -- bits that are known to be 0
 open-bits : (n z : ℕ) → n < 2 ^ 32 → z < 2 ^ 32 → bit_and n (4294967295 - z) ≡ 0 → AreBitsOf n z
 open-bits n z f l e i = elim (cases_lt i 32) [
-  | inl b ↦ inside _ _ _ (bit_at_not w32 z i l b)
-      (sym (bit_at_and n (4294967295 - z) i) ∙ ap (λ m. bit_at m i) e ∙ bit_at-zero i) (bit_at-lt n i) (bit_at-lt z i)
+  | inl b ↦ omega (
+    arith,
+    bit_at_not w32 z i l b,
+    sym (bit_at_and n (4294967295 - z) i) ∙ ap (λ m. bit_at m i) e
+        ∙ bit_at-zero i,
+    bit_at-lt n i,
+    bit_at-lt z i,
+  )
   | inr g ↦ omega (arith, bit_at_above n 32 i f g)
 ]
-  where
-    inside : (x y m : ℕ) → y ≡ 1 - m → min x y ≡ 0 → x < 2 → m < 2 → x ≤ m
-    inside x y m e g a b = omega arith
 
 pub common-false : (k : Known) (n : ℕ) → IsClosed k → n < 2 ^ 32 → bit_and n (4294967295 - k.zeros) ≡ 0
     → IsForcedBy IsClosed k AnyBit n false
 unfolding assumed
-common-false k n h f e = record {
-  other = rw (at-decided some_of (number_known n) k refl) (some-cases n k (λ r. HasNone IsClosed (met k r))
-      (λ z s is m. omega (arith, m.low, m.high, is.ordered)) (λ nz t. absurd (nz e)) (λ nz t. absurd (nz e)));
-  this = rw (at-decided none_of (number_known n) k refl) (record {
-    low = omega arith;
-    high = omega arith;
-    zeros = λ i. omega (arith, bit_at_or k.zeros n i, open-bits n k.zeros f (closed-zeros k h) e i);
-    ones = λ i. omega arith;
-  });
-  that = IsNarrower-refl (number_known n);
-}
+common-false k n h f e =
+    grind (arith, common_steps, bit_at_or, closed-zeros, IsNarrower-refl, some-cases, at-decided, open-bits)
 
 -- a number that is excluded for a word
 equal-excluded : (kind : Known → Type 0) (k : Known) (n : ℕ) → IsClosed k → n ≢ k.low → n ≢ k.high
     → HasNone kind (met k (met k (number_known n))) → IsForcedBy kind k Equal n false
 unfolding assumed
-equal-excluded kind k n h a b none = record {
-  other = none;
-  this = grind (arith, common_steps, nat_tests);
-  that = grind (arith, common_steps, nat_tests);
-}
+equal-excluded kind k n h a b none = grind (arith, common_steps, nat_tests)
 
 excluded-forces : (ex : List ℕ) (i : ℕ) (k : Known) (n : ℕ) → i < 16 → IsClosedAt ex i k
     → Has (numbers_at ex i) n → IsForcedBy (IsClosedAt ex i) k Equal n false
@@ -171,9 +130,7 @@ forced-at ex i k test n (Some b) h = record { other = λ s is m. h.other s is.kn
 pub excluded-node : (ex : List ℕ) (i : ℕ) (k : Known) (n : ℕ) (node : Node) → OperandsBelow i node
     → ((w : ℕ) → node ≡ Word w → i ≡ w) → IsClosedAt ex i k → Has (excluded_of ex node) n
     → IsForcedBy (IsClosedAt ex i) k Equal n false
-excluded-node ex i k n (Const c) o own h w = absurd (none-has n w)
-excluded-node ex i k n (Bin op a b) o own h w = absurd (none-has n w)
-excluded-node ex i k n (Neg a) o own h w = absurd (none-has n w)
 excluded-node ex i k n (Word v) o own h w =
     let same : i ≡ v = own v refl in
     excluded-forces ex i k n (omega (arith, word-below i (Word v) o v refl)) h (rw (← same) at w)
+excluded-node ex i k n m o own h w = absurd (none-has n w)

@@ -1,9 +1,4 @@
-use Rattle.std.proofs.Common.{arith, refl, set}
-use Rattle.std.proofs.lemmas.List.{length-set}
-use Rattle.std.specs.Prelude.{Some, None}
-use Rattle.sf_dom.specs.Facts.{known_at}
-use Rattle.sf_dom.specs.Rules.{met}
-use Rattle.sf_dom.specs.Learning.{assumed_of, with_pair}
+use Rattle.sf_dom.proofs.Common.{arith, refl, set, length-set, Some, None, known_at, met, assumed_of, with_pair}
 use Rattle.sf_dom.proofs.BackLaws.{back-lawful}
 use Rattle.sf_dom.proofs.ConditionSteps.{pair-left, pair-narrowed, both-back, condition-steps}
 use Rattle.sf_dom.proofs.Lawful.{narrowed-left, narrowed-trans}
@@ -13,12 +8,9 @@ use Rattle.sf_dom.proofs.assuming.assume_cond.Goals as goal
 
 pub set-requires-clause-decided : goal.set-requires-clause-decided
 set-requires-clause-decided c = λ d.
-    let ks = c.args.nodes.now.known in
-    let ex = c.args.excluded.now in
-    let cond = c.args.cond.now in
+    let ks = c.args.nodes.now.known in let ex = c.args.excluded.now in let cond = c.args.cond.now in
     let left = pair-left ks ex cond (Some c.args.alone) c.requires.left in
-    let v = known_at ks cond.node.0 in
-    let told = (assumed_of ks cond).node in
+    let v = known_at ks cond.node.0 in let told = (assumed_of ks cond).node in
     reduced-stays ex cond.node.0 v (met v told) c.args.alone.node
     (c.requires.closed.each cond.node.0 c.requires.below.0) (met-left v told) left.node d
 
@@ -28,19 +20,15 @@ set-requires-2-clause-within c =
     rw c.set.ensures.known (omega (
       arith,
       c.requires.below.1,
-      length-set c.args.nodes.now.known c.args.cond.now.node.0
-          c.args.alone.node,
+      length-set c.args.nodes.now.known c.args.cond.now.node.0 c.args.alone.node,
     ))
 
 pub set-requires-2-clause-decided : goal.set-requires-2-clause-decided
 set-requires-2-clause-decided c = λ d.
-    let ks = c.args.nodes.now.known in
-    let ex = c.args.excluded.now in
-    let cond = c.args.cond.now in
+    let ks = c.args.nodes.now.known in let ex = c.args.excluded.now in let cond = c.args.cond.now in
     let below = c.requires.below in
     let left = pair-left ks ex cond (Some c.args.alone) c.requires.left in
-    let v = known_at ks cond.node.0 in
-    let told = assumed_of ks cond in
+    let v = known_at ks cond.node.0 in let told = assumed_of ks cond in
     let first = narrowed-left ks ex c.args.pool.now cond.node.0 (met v told.node) c.args.alone.node c.requires.closed
     below.0 (met-left v told.node) left.node in
     let w = known_at (set ks cond.node.0 c.args.alone.node) cond.other.0 in
@@ -55,26 +43,18 @@ propagate_back-requires-clause-closed c =
 
 pub propagate_back-requires-2-clause-closed : goal.propagate_back-requires-2-clause-closed
 propagate_back-requires-2-clause-closed c =
-    let ks = c.args.nodes.now.known in
-    let ex = c.args.excluded.now in
-    let ns = c.args.pool.now in
-    let cond = c.args.cond.now in
-    let below = c.requires.below in
+    let ks = c.args.nodes.now.known in let ex = c.args.excluded.now in let ns = c.args.pool.now in
+    let cond = c.args.cond.now in let below = c.requires.below in
     let pair = pair-narrowed ks ex ns cond c.requires.closed below c.args.alone c.requires.left in
     let one = rw (c.set-2.ensures.known, c.set.ensures.known, c.if-not-propagate_back.false) at
     c.propagate_back.ensures.back in
     ((back-lawful (with_pair ks cond c.args.alone) ex ns cond.node.0 c.len-count.ensures.lawful pair.closed
-    below.0).narrowed
-    (Some c.propagate_back.new.nodes.known) one).closed
+    below.0).narrowed (Some c.propagate_back.new.nodes.known) one).closed
 
 pub propagate-requires : goal.propagate-requires
 propagate-requires c =
-    let ks = c.args.nodes.now.known in
-    let ex = c.args.excluded.now in
-    let ns = c.args.pool.now in
-    let cond = c.args.cond.now in
-    let p = c.len-count.ensures.lawful in
-    let h = c.requires.closed in
+    let ks = c.args.nodes.now.known in let ex = c.args.excluded.now in let ns = c.args.pool.now in
+    let cond = c.args.cond.now in let p = c.len-count.ensures.lawful in let h = c.requires.closed in
     let below = c.requires.below in
     let pair = pair-narrowed ks ex ns cond h below c.args.alone c.requires.left in
     let mid = with_pair ks cond c.args.alone in
@@ -82,8 +62,7 @@ propagate-requires c =
     c.propagate_back.ensures.back in
     let two = rw c.if-not-propagate_back-2.false at c.propagate_back-2.ensures.back in
     let back = both-back mid c.propagate_back.new.nodes.known c.propagate_back-2.new.nodes.known ex ns
-    cond p pair.closed
-    below one two in
+    cond p pair.closed below one two in
     record {
       closed = back.closed;
       words = back.kept c.requires.words;

@@ -1,8 +1,4 @@
-use Rattle.std.proofs.Common.{refl}
-use Rattle.std.specs.Prelude.{Some, None}
-use Rattle.sf_dom.specs.Facts.{known_at}
-use Rattle.sf_dom.specs.Rules.{met}
-use Rattle.sf_dom.specs.Learning.{assumed_of}
+use Rattle.sf_dom.proofs.Common.{refl, Some, None, known_at, met, assumed_of}
 use Rattle.sf_dom.proofs.Passes.{met-left}
 use Rattle.sf_dom.proofs.Reductions.{IsNarrower-trans}
 use Rattle.sf_dom.proofs.ConditionSteps.{told-left}
@@ -10,9 +6,7 @@ use Rattle.sf_dom.proofs.assuming.pair_left.Goals as goal
 
 pub returns : goal.returns
 returns c =
-    let ks = c.args.nodes.now.known in
-    let cond = c.args.cond.now in
-    let v = known_at ks cond.node.0 in
+    let ks = c.args.nodes.now.known in let cond = c.args.cond.now in let v = known_at ks cond.node.0 in
     let pair = rw (c.get.ensures, c.get-2.ensures) at c.assume_test-pair.ensures in
     let node = rw pair at c.in_ok-node.ensures in
     let narrower = IsNarrower-trans v (met v (assumed_of ks cond).node) c.in_ok-node.node
@@ -23,16 +17,9 @@ returns c =
     c.in_ok-other.ensures in
     (Some c.in_ok-node.node, node, (Some c.in_ok-other.other, other, refl))
 
-pub returns-in_err-node : goal.returns-in_err-node
-returns-in_err-node c =
-    let pair = rw (c.get.ensures, c.get-2.ensures) at c.assume_test-pair.ensures in
-    rw c.from_residual.ensures (None, rw pair at c.in_err-node.ensures, refl)
-
 pub returns-in_err-other : goal.returns-in_err-other
 returns-in_err-other c =
-    let ks = c.args.nodes.now.known in
-    let cond = c.args.cond.now in
-    let v = known_at ks cond.node.0 in
+    let ks = c.args.nodes.now.known in let cond = c.args.cond.now in let v = known_at ks cond.node.0 in
     let pair = rw (c.get.ensures, c.get-2.ensures) at c.assume_test-pair.ensures in
     let node = rw pair at c.in_ok-node.ensures in
     let narrower = IsNarrower-trans v (met v (assumed_of ks cond).node) c.in_ok-node.node

@@ -1,8 +1,4 @@
-use Rattle.std.proofs.Common.{◌≡◌, ◌<◌, List, length}
-use Rattle.std.specs.Prelude.{Option}
-use Rattle.sf_dom.specs.declared.known.Known.{Known}
-use Rattle.sf_dom.specs.GoingBack.{GoingBackGives}
-use Rattle.sf_dom.specs.Propagation.{IsNarrowed}
+use Rattle.sf_dom.proofs.Common.{◌≡◌, ◌<◌, List, length, Option, Known, GoingBackGives, IsNarrowed}
 use Rattle.sf_dom.proofs.assuming.propagate_back.Given as goal
 
 -- what it gives to go on from here, it gives from the beginning

@@ -1,26 +1,14 @@
-use Rattle.std.proofs.Common.{arith, refl}
-use Rattle.std.specs.Prelude.{Some, None}
+use Rattle.sf_dom.proofs.Common.{arith, Some}
 use Rattle.sf_dom.proofs.ConditionSteps.{pair-left, words-written}
 use Rattle.sf_dom.proofs.changes.learn_cond.Goals as goal
 
-pub assume_cond-requires-clause-closed : goal.assume_cond-requires-clause-closed
-assume_cond-requires-clause-closed c =
-    rw c.in_ok-left.ensures (record { count = c.requires.count; each = λ i l. (c.requires.rest i l).closed.known })
-
 pub assume_cond-requires-clause-words : goal.assume_cond-requires-clause-words
 assume_cond-requires-clause-words c =
-    let ks = c.args.nodes.now.known in
-    let lists = c.in_ok-lists.lists in
-    let cond = c.args.cond.now in
-    let p = c.len-count.ensures.lawful in
-    let words = p.words in
+    let ks = c.args.nodes.now.known in let lists = c.in_ok-lists.lists in let cond = c.args.cond.now in
+    let p = c.len-count.ensures.lawful in let words = p.words in
     rw c.in_ok-left.ensures (words-written ks c.args.excluded.now lists c.args.pool.now cond c.in-Some.alone p
     c.requires.count c.requires.below (λ w l. (c.requires.rest w (omega arith)).closed) c.in_ok-lists.ensures
     (pair-left ks lists cond (Some c.in-Some.alone) c.in-Some.ensures))
-
-pub returns-in_default-clause-rule : goal.returns-in_default-clause-rule
-returns-in_default-clause-rule c =
-    (c.in_ok-lists.lists, c.in_ok-lists.ensures, (None, c.in_default.ensures, refl))
 
 pub returns-then-not-assume_cond-clause-rule : goal.returns-then-not-assume_cond-clause-rule
 returns-then-not-assume_cond-clause-rule c =

@@ -1,6 +1,4 @@
-use Rattle.std.proofs.Common.{ℕ, ◌<◌}
-use Rattle.std.specs.Prelude.{slice_index}
-use Rattle.sf_dom.specs.Known.{Has}
+use Rattle.sf_dom.proofs.Common.{ℕ, ◌<◌, slice_index, Has}
 use Rattle.sf_dom.proofs.exclusions.are_among.Given as goal
 
 abbrev pub invariant-loop-place : goal.invariant-loop-place

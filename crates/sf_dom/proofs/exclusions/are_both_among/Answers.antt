@@ -1,7 +1,4 @@
-use Rattle.std.proofs.Common.{sym, ◌∙◌, ◌++◌}
-use Rattle.std.proofs.lemmas.Bool.{false≢true}
-use Rattle.std.proofs.lemmas.List.Elements.{Contains-append_left}
-use Rattle.sf_dom.specs.Known.{Has}
+use Rattle.sf_dom.proofs.Common.{sym, ◌∙◌, ◌++◌, false≢true, Contains-append_left, Has}
 use Rattle.sf_dom.proofs.AscendingLemmas.{among-second, contains-in}
 use Rattle.sf_dom.proofs.exclusions.are_both_among.Goals as goal
 

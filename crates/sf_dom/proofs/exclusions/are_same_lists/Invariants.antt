@@ -1,5 +1,4 @@
-use Rattle.std.proofs.Common.{◌≡◌, ℕ, ◌<◌}
-use Rattle.sf_dom.specs.Reading.{numbers_at}
+use Rattle.sf_dom.proofs.Common.{◌≡◌, ℕ, ◌<◌, numbers_at}
 use Rattle.sf_dom.proofs.exclusions.are_same_lists.Given as goal
 
 abbrev pub invariant-loop-word : goal.invariant-loop-word

@@ -1,6 +1,4 @@
-use Rattle.std.proofs.Common.{arith, refl}
-use Rattle.std.proofs.lemmas.List.{ext_get_or}
-use Rattle.sf_dom.specs.Known.{known_of}
+use Rattle.sf_dom.proofs.Common.{arith, refl, ext_get_or, known_of}
 use Rattle.sf_dom.proofs.facts.are_same_known.Goals as goal
 
 pub returns : goal.returns

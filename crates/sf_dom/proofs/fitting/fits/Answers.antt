@@ -1,4 +1,4 @@
-use Rattle.std.proofs.lemmas.Bool.{eqb-true}
+use Rattle.sf_dom.proofs.Common.{eqb-true}
 use Rattle.sf_dom.proofs.fitting.NextFitting.{HasBits-fits}
 use Rattle.sf_dom.proofs.fitting.fits.Goals as goal
 

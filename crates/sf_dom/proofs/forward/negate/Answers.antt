@@ -1,5 +1,4 @@
-use Rattle.std.proofs.Common.{arith, ◌∙◌}
-use Rattle.std.proofs.lemmas.Grind.{common_steps}
+use Rattle.sf_dom.proofs.Common.{arith, ◌∙◌, common_steps}
 use Rattle.sf_dom.proofs.RuleLemmas.{negate-some, negate-zero, negate-full}
 use Rattle.sf_dom.proofs.forward.negate.Goals as goal
 
@@ -8,8 +7,7 @@ returns-then-a-ge1-2 c = λ oa. c.interval.ensures
     ∙ negate-some c.args.a _ _ (omega arith) oa (omega arith) (omega arith) (omega arith)
 
 pub returns-then-a-eq0 : goal.returns-then-a-eq0
-returns-then-a-eq0 c = λ oa. c.interval-then-a-eq0.ensures
-    ∙ negate-zero c.args.a (omega arith) (omega arith)
+returns-then-a-eq0 c = λ oa. c.interval-then-a-eq0.ensures ∙ negate-zero c.args.a (omega arith) (omega arith)
 
 pub returns-else-a-eq0 : goal.returns-else-a-eq0
 returns-else-a-eq0 c = λ oa. let t = c.if-a-eq0.false in

@@ -1,4 +1,4 @@
-use Rattle.std.proofs.Common.{◌%◌, ap, ◌∙◌}
+use Rattle.sf_dom.proofs.Common.{◌%◌, ap, ◌∙◌}
 use Rattle.sf_dom.proofs.RuleLemmas.{right-decided, right-full}
 use Rattle.sf_dom.proofs.forward.shift_right.Goals as goal
 

@@ -1,5 +1,4 @@
-use Rattle.std.proofs.lemmas.Grind.{common_steps}
-use Rattle.std.proofs.Common.{arith}
+use Rattle.sf_dom.proofs.Common.{common_steps, arith}
 use Rattle.sf_dom.proofs.Reductions.{IsNarrower-trans, freedom-falls}
 use Rattle.sf_dom.proofs.known.reduce_known.Goals as goal
 
@@ -8,8 +7,7 @@ loop-next-smaller c = grind (arith, common_steps, freedom-falls)
 
 pub loop-next-preserved : goal.loop-next-preserved
 loop-next-preserved c =
-    let v = c.loop-next.invariant in
-    let r = c.in-Some.ensures in
+    let v = c.loop-next.invariant in let r = c.in-Some.ensures in
     record {
       narrower = IsNarrower-trans c.args.known c.loop-next.at c.in-Some.next v.narrower r.narrower;
       widest = λ k h n. r.widest k h (v.widest k h n);

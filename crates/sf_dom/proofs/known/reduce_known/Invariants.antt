@@ -1,8 +1,5 @@
-use Rattle.sf_dom.specs.Known.{IsNarrower}
-use Rattle.sf_dom.specs.Rules.{IsClosed}
-use Rattle.sf_dom.specs.declared.known.Known.{Known}
+use Rattle.sf_dom.proofs.Common.{IsNarrower, IsClosed, Known, freedom}
 use Rattle.sf_dom.proofs.known.reduce_known.Given as goal
-use Rattle.sf_dom.specs.Reduction.{freedom}
 
 abbrev pub invariant-loop-next : goal.invariant-loop-next
 invariant-loop-next l = record {

@@ -1,5 +1,4 @@
-use Rattle.std.proofs.Common.{◌-◌, arith, refl}
-use Rattle.std.specs.Prelude.{bit_and}
+use Rattle.sf_dom.proofs.Common.{◌-◌, arith, refl, bit_and}
 use Rattle.sf_dom.proofs.Reductions.{narrowed}
 use Rattle.sf_dom.proofs.ClosedLemmas.{none-between, none-both, round-widest, round-last}
 use Rattle.sf_dom.proofs.known.reduce_once.Goals as goal
@@ -13,12 +12,8 @@ returns-then-known-ne0 c = none-both c.args.known c.if-known-ne0.true
 
 pub returns : goal.returns
 returns c =
-    let k = c.args.known in
-    let low = c.max-low.result in
-    let high = c.min-high.result in
-    let el = c.max-low.ensures in
-    let eh = c.min-high.ensures in
-    let m = c.leading_mask-mask.ensures in
+    let k = c.args.known in let low = c.max-low.result in let high = c.min-high.result in let el = c.max-low.ensures in
+    let eh = c.min-high.ensures in let m = c.leading_mask-mask.ensures in
     record {
       narrower = narrowed k low high (bit_and (4294967295 - low) c.leading_mask-mask.result)
           (bit_and low c.leading_mask-mask.result) (omega arith) (omega arith);

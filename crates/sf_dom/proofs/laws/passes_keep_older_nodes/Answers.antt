@@ -1,4 +1,4 @@
-use Rattle.std.proofs.Common.{arith, refl}
+use Rattle.sf_dom.proofs.Common.{arith, refl}
 use Rattle.sf_dom.proofs.Passes.{rest-passed, same-up_to}
 use Rattle.sf_dom.proofs.laws.passes_keep_older_nodes.Goals as goal
 

@@ -5,7 +5,7 @@ use Rattle.sf_dom.proofs.Covering.{covers-resting, known-back, results-decided}
 use Rattle.sf_dom.proofs.laws.Forced.{forced-holds}
 use Rattle.sf_dom.proofs.Sampled.{grown-takes-in, none-agreed}
 use Rattle.sf_dom.proofs.RuleLaws.{forward-sound, negate-sound, reduction-sound, reduction-none, word-sound, word-none-sound, one-reduction}
-use Rattle.sf_dom.specs.Rules.{IsClosed, IsClosedWord}
+use Rattle.sf_dom.proofs.Common.{IsClosed, IsClosedWord}
 use Rattle.sf_dom.proofs.laws.rules_are_sound.Goals as goal
 
 pub returns-clause-forward : goal.returns-clause-forward
@@ -36,8 +36,7 @@ returns-clause-learning c = record {
   confines = confines-range;
   cant_confine = cant-confine-range;
   confines_bits = λ f new ns w mask value h l fits inside covers x.
-      confines-masked mask value fits inside f new ns w h l
-      covers x;
+      confines-masked mask value fits inside f new ns w h l covers x;
   cant_confine_bits = λ f ns w mask value h l fits inside x. cant-confine-masked mask value fits inside f ns w h l x;
   grows = λ f new before ns h longer covers x. grown-takes-in f before ns h longer new covers x;
   cant_grow = λ f before ns h longer p x. none-agreed f before ns h longer p x;

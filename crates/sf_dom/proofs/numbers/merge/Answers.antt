@@ -1,5 +1,4 @@
-use Rattle.std.proofs.Common.{◌++◌}
-use Rattle.std.proofs.lemmas.List.Sorted.{Contains-permutation, IsPermutation-sym}
+use Rattle.sf_dom.proofs.Common.{◌++◌, Contains-permutation, IsPermutation-sym}
 use Rattle.sf_dom.proofs.AscendingLemmas.{sorted-rising}
 use Rattle.sf_dom.proofs.numbers.merge.Goals as goal
 

@@ -1,12 +1,4 @@
-use Rattle.std.proofs.Common.{◌≡◌, length, arith, ◌∷◌, [], sym, ap, ◌∙◌, inl, inr}
-use Rattle.std.proofs.lemmas.Bool.{and_parts, cases_lt, eqb-true}
-use Rattle.std.specs.Prelude.{◌&&◌}
-use Rattle.sf_dom.specs.Known.{is_decided}
-use Rattle.std.proofs.lemmas.List.{length_push, take-append-le}
-use Rattle.sf_sym.specs.Pool.{node_at}
-use Rattle.sf_dom.specs.Propagation.{AreConsistent}
-use Rattle.sf_dom.specs.Rules.{forward_node}
-use Rattle.sf_dom.specs.laws.FactsLaws.{closed-consistent}
+use Rattle.sf_dom.proofs.Common.{◌≡◌, length, arith, ◌∷◌, [], sym, ap, ◌∙◌, inl, inr, and_parts, cases_lt, eqb-true, ◌&&◌, is_decided, length_push, take-append-le, node_at, AreConsistent, forward_node, closed-consistent}
 use Rattle.sf_dom.proofs.Passes.{one-number, operands-below}
 use Rattle.sf_dom.proofs.propagation.Propagations.{fixed-push, listed-push, ruled-push, consistent-operands, taken-consistent}
 use Rattle.sf_dom.proofs.propagation.append.Goals.{then-fixed, else-fixed}
@@ -14,13 +6,8 @@ use Rattle.sf_dom.proofs.propagation.append.Goals as goal
 
 pub loop-i-preserved : goal.loop-i-preserved
 loop-i-preserved c =
-    let ks = c.loop-i.nodes.known in
-    let old = c.args.nodes.now.known in
-    let ns = c.args.pool.now in
-    let ex = c.args.excluded.now in
-    let i = c.loop-i.i in
-    let inv = c.loop-i.invariant in
-    let count = inv.count in
+    let ks = c.loop-i.nodes.known in let old = c.args.nodes.now.known in let ns = c.args.pool.now in
+    let ex = c.args.excluded.now in let i = c.loop-i.i in let inv = c.loop-i.invariant in let count = inv.count in
     let longer = inv.longer in
     let lawful = c.node_at-node.ensures.lawful in
     let is : AreConsistent old → c.transfer-known.result ≡ forward_node ks (node_at ns i)
@@ -46,8 +33,7 @@ loop-i-preserved c =
       listed = listed-push c.args.nodes.now.variables c.loop-i.nodes.variables c.push.new.self.variables ks ns
           (length old) i c.if-fixed.push next lawful count (omega arith) (omega arith)
           (both ∙ rw c.node_at-node.ensures.node at
-          (ap (λ b. b && is_decided next) c.is_fixed-fixed.ensures)) inv.listed
-          c.in_ok-push-in-Some.ensures.variables;
+          (ap (λ b. b && is_decided next) c.is_fixed-fixed.ensures)) inv.listed c.in_ok-push-in-Some.ensures.variables;
       ruled = λ consistent.
           ruled-push ks ex ns (length old) i c.transfer-known.result next lawful count (omega arith)
           (inv.ruled consistent) (is consistent) c.in-Some.ensures;
@@ -55,13 +41,8 @@ loop-i-preserved c =
 
 pub returns-in-None-clause-rule : goal.returns-in-None-clause-rule
 returns-in-None-clause-rule c = λ consistent.
-    let ks = c.loop-i.nodes.known in
-    let old = c.args.nodes.now.known in
-    let ns = c.args.pool.now in
-    let ex = c.args.excluded.now in
-    let i = c.loop-i.i in
-    let inv = c.loop-i.invariant in
-    let count = inv.count in
+    let ks = c.loop-i.nodes.known in let old = c.args.nodes.now.known in let ns = c.args.pool.now in
+    let ex = c.args.excluded.now in let i = c.loop-i.i in let inv = c.loop-i.invariant in let count = inv.count in
     let longer = inv.longer in
     let lawful = c.node_at-node.ensures.lawful in
     let is : AreConsistent old → c.transfer-known.result ≡ forward_node ks (node_at ns i)
@@ -90,9 +71,7 @@ returns-clause-rule c = λ consistent.
 
 pub push-requires : goal.push-requires
 push-requires c =
-    let inv = c.loop-i.invariant in
-    let count = inv.count in
-    let next = c.in-Some.next in
+    let inv = c.loop-i.invariant in let count = inv.count in let next = c.in-Some.next in
     let both : c.if-fixed.push ≡ (c.is_fixed-fixed.result && is_decided next) = elim c.if-fixed.branch [
       | then-fixed w ↦ rw w.if-fixed.true w.push-is
       | else-fixed w ↦ rw w.if-fixed.false (w.push-is ∙ w.if-fixed.false)

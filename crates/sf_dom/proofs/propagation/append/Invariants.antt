@@ -1,10 +1,5 @@
-use Rattle.std.proofs.Common.{◌≡◌, ℕ, ◌-◌, ◌<◌, ◌≤◌, ◌⊎◌, length, take}
-use Rattle.sf_sym.specs.Pool.{node_at}
-use Rattle.sf_dom.specs.Rules.{forward_node, IsReduction}
-use Rattle.sf_dom.specs.Passes.{variables_to, IsVariableAt, IsFixedAt}
-use Rattle.sf_dom.specs.Propagation.{AreConsistent}
+use Rattle.sf_dom.proofs.Common.{◌≡◌, ℕ, ◌-◌, ◌<◌, ◌≤◌, ◌⊎◌, length, take, node_at, forward_node, IsReduction, variables_to, IsVariableAt, IsFixedAt, AreConsistent, known_at}
 use Rattle.sf_dom.proofs.propagation.append.Given as goal
-use Rattle.sf_dom.specs.Facts.{known_at}
 
 abbrev pub invariant-loop-i : goal.invariant-loop-i
 invariant-loop-i l = record {

@@ -1,5 +1,4 @@
-use Rattle.std.proofs.Common.{◌<◌, length, arith, refl, ap}
-use Rattle.std.specs.Prelude.{slice_index}
+use Rattle.sf_dom.proofs.Common.{◌<◌, length, arith, refl, ap, slice_index}
 use Rattle.sf_dom.proofs.propagation.Propagations.{variable-before, OperandsBelow-more}
 use Rattle.sf_dom.proofs.Steps.{through-words, through-step, pass-met}
 use Rattle.sf_dom.proofs.propagation.propagate.Goals as goal
@@ -11,19 +10,11 @@ loop-rank-init c =
 
 pub returns-in_default-clause-pass : goal.returns-in_default-clause-pass
 returns-in_default-clause-pass c =
-    let n = c.loop-rank.nodes in
-    let old = c.args.nodes.now in
-    let ns = c.args.pool.now in
-    let ex = c.args.excluded.now in
-    let t = c.loop-rank.invariant in
-    let rank = c.loop-rank.rank in
+    let n = c.loop-rank.nodes in let old = c.args.nodes.now in let ns = c.args.pool.now in
+    let ex = c.args.excluded.now in let t = c.loop-rank.invariant in let rank = c.loop-rank.rank in
     let i = slice_index n.variables rank in
-    let told : rank < length n.variables = omega (
-      arith,
-      c.loop-rank-test.true,
-      c.variable_count-rank-end.ensures.count,
-      ap length t.variables,
-    ) in
+    let all = c.variable_count-rank-end.ensures.count in
+    let told : rank < length n.variables = omega (arith, c.loop-rank-test.true, all, ap length t.variables) in
     let count = t.narrowed.closed.count in
     let below : i < length n.known = t.laid_out.within rank told in
     let here : i < length ns = omega arith in
@@ -43,19 +34,11 @@ returns-in_default-clause-pass c =
 
 pub loop-rank-preserved : goal.loop-rank-preserved
 loop-rank-preserved c =
-    let n = c.loop-rank.nodes in
-    let old = c.args.nodes.now in
-    let ns = c.args.pool.now in
-    let ex = c.args.excluded.now in
-    let t = c.loop-rank.invariant in
-    let rank = c.loop-rank.rank in
+    let n = c.loop-rank.nodes in let old = c.args.nodes.now in let ns = c.args.pool.now in
+    let ex = c.args.excluded.now in let t = c.loop-rank.invariant in let rank = c.loop-rank.rank in
     let i = slice_index n.variables rank in
-    let told : rank < length n.variables = omega (
-      arith,
-      c.loop-rank-test.true,
-      c.variable_count-rank-end.ensures.count,
-      ap length t.variables,
-    ) in
+    let all = c.variable_count-rank-end.ensures.count in
+    let told : rank < length n.variables = omega (arith, c.loop-rank-test.true, all, ap length t.variables) in
     let count = t.narrowed.closed.count in
     let below : i < length n.known = t.laid_out.within rank told in
     let here : i < length ns = omega arith in
@@ -71,29 +54,9 @@ loop-rank-preserved c =
 
 pub transfer-requires : goal.transfer-requires
 transfer-requires c =
-    let n = c.loop-rank.nodes in
-    let t = c.loop-rank.invariant in
-    let rank = c.loop-rank.rank in
-    let told : rank < length n.variables = omega (
-      arith,
-      c.loop-rank-test.true,
-      c.variable_count-rank-end.ensures.count,
-      ap length t.variables,
-    ) in
+    let n = c.loop-rank.nodes in let t = c.loop-rank.invariant in let rank = c.loop-rank.rank in
+    let all = c.variable_count-rank-end.ensures.count in
+    let told : rank < length n.variables = omega (arith, c.loop-rank-test.true, all, ap length t.variables) in
     let below : slice_index n.variables rank < length n.known = t.laid_out.within rank told in
     OperandsBelow-more _ (length n.known) _ (omega (arith, c.variable-here.ensures.place, below))
     c.node_at-node.ensures.operands
-
-pub returns-clause-pass : goal.returns-clause-pass
-returns-clause-pass c =
-    let t = c.loop-rank.invariant in
-    let count = t.narrowed.closed.count in
-    record {
-      count = count;
-      each = λ i l. t.passed i (omega arith) (λ j a lj. absurd (omega (
-        arith,
-        c.loop-rank-test.false,
-        c.variable_count-rank-end.ensures.count,
-        ap length t.variables,
-      )));
-    }

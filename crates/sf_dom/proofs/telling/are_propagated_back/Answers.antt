@@ -1,14 +1,11 @@
-use Rattle.std.proofs.Common.{arith, refl, sym, ◌∙◌}
-use Rattle.std.proofs.lemmas.Bool.{false≢true}
-use Rattle.sf_dom.specs.Facts.{known_at}
+use Rattle.sf_dom.proofs.Common.{arith, refl, sym, ◌∙◌, false≢true, known_at}
 use Rattle.sf_dom.proofs.BackLaws.{back-step, goes_back-end, goes_back-other, back-hands, back-on, gained-same, gained-hands}
 use Rattle.sf_dom.proofs.telling.are_propagated_back.Goals as goal
 
 pub returns-in-None : goal.returns-in-None
 returns-in-None c = (
   λ t. (let ks = c.args.nodes.now.known in
-      let ns = c.args.pool.now in
-      let o = c.in-Some in
+      let ns = c.args.pool.now in let o = c.in-Some in
       c.loop-op.invariant.back (goes_back-other ks ns c.loop-op.at o.x o.c o.op
       (sym o.ensures.operand) c.in-None.ensures)),
   λ h. refl,
@@ -16,14 +13,11 @@ returns-in-None c = (
 
 pub returns-then-not-is_same : goal.returns-then-not-is_same
 returns-then-not-is_same c =
-    let ks = c.args.nodes.now.known in
-    let ns = c.args.pool.now in
-    let o = c.in-Some in
+    let ks = c.args.nodes.now.known in let ns = c.args.pool.now in let o = c.in-Some in
     let gain = rw (c.get.ensures, c.get-operand.ensures) at c.in-Some-backward.ensures in (
       (λ t. absurd (false≢true t)),
       (λ h.
-          let at = c.loop-op.invariant.on h in
-          let e = sym o.ensures.operand in
+          let at = c.loop-op.invariant.on h in let e = sym o.ensures.operand in
           let hands = back-hands ks ns c.loop-op.at o.x o.c o.op e gain.0 at in
           let same = gained-same o.op o.c (known_at ks c.loop-op.at) (known_at ks o.x) hands in
           absurd (false≢true (sym c.if-not-is_same.true
@@ -32,12 +26,8 @@ returns-then-not-is_same c =
 
 pub loop-op-preserved : goal.loop-op-preserved
 loop-op-preserved c =
-    let ks = c.args.nodes.now.known in
-    let ns = c.args.pool.now in
-    let o = c.in-Some in
-    let inv = c.loop-op.invariant in
-    let within = inv.within in
-    let e = sym o.ensures.operand in
+    let ks = c.args.nodes.now.known in let ns = c.args.pool.now in let o = c.in-Some in let inv = c.loop-op.invariant in
+    let within = inv.within in let e = sym o.ensures.operand in
     let gain = rw (c.get.ensures, c.get-operand.ensures) at c.in-Some-backward.ensures in
     let same = sym gain.1 ∙ c.is_same.ensures.0 c.if-not-is_same.false ∙ c.get-operand.ensures in
     let hands = gained-hands o.op o.c (known_at ks c.loop-op.at) (known_at ks o.x) same in

@@ -1,5 +1,4 @@
-use Rattle.std.proofs.Common.{ℕ, ◌<◌, length}
-use Rattle.sf_dom.specs.Backward.{IsPropagatedBack}
+use Rattle.sf_dom.proofs.Common.{ℕ, ◌<◌, length, IsPropagatedBack}
 use Rattle.sf_dom.proofs.telling.are_propagated_back.Given as goal
 
 abbrev pub invariant-loop-op : goal.invariant-loop-op

@@ -1,6 +1,4 @@
-use Rattle.std.specs.Prelude.{Some}
-use Rattle.sf_sym.specs.laws.ValueLaws.{word-place}
-use Rattle.sf_dom.specs.Facts.{known_at}
+use Rattle.sf_dom.proofs.Common.{Some, word-place, known_at}
 use Rattle.sf_dom.proofs.telling.Forcing.{forced-at, excluded-node}
 use Rattle.sf_dom.proofs.telling.tell_at.Goals as goal
 
@@ -12,8 +10,7 @@ returns-in-Some-clause-rule c = λ h.
 
 pub returns-then-is_excluded-clause-rule : goal.returns-then-is_excluded-clause-rule
 returns-then-is_excluded-clause-rule c = λ h.
-    let ns = c.args.pool.now in
-    let at = c.args.at in
+    let ns = c.args.pool.now in let at = c.args.at in
     rw c.in-Equal.is (excluded-node c.args.excluded.now at (known_at c.args.nodes.now.known at) c.args.number
     c.node_at.result c.node_at.ensures.operands
     (rw c.node_at.ensures.node (λ w e. word-place ns c.node_at.ensures.lawful at w c.requires.place e)) h

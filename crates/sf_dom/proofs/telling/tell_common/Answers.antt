@@ -1,7 +1,4 @@
-use Rattle.std.proofs.lemmas.Grind.{common_steps}
-use Rattle.std.proofs.Common.{not, ap, ◌∙◌, arith, eq-eqb}
-use Rattle.std.proofs.lemmas.Bool.{ne_eqb}
-use Rattle.std.specs.Prelude.{bit_and}
+use Rattle.sf_dom.proofs.Common.{common_steps, not, ap, ◌∙◌, arith, eq-eqb, ne_eqb, bit_and}
 use Rattle.sf_dom.proofs.CommonBits.{common-known, common-open, none-open, and-zero}
 use Rattle.sf_dom.proofs.telling.Forcing.{common-true, common-false}
 use Rattle.sf_dom.proofs.telling.tell_common.Goals as goal

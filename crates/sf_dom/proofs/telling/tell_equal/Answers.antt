@@ -1,8 +1,4 @@
-use Rattle.std.proofs.Common.{◌≢◌, ℕ, ◌≤◌, arith, refl, inl, inr}
-use Rattle.std.proofs.lemmas.Bool.{cases_eq}
-use Rattle.sf_insn.specs.declared.ops.Test.TheVariants.{Equal}
-use Rattle.sf_dom.specs.declared.known.Known.{Known}
-use Rattle.sf_dom.specs.Telling.{IsOpen}
+use Rattle.sf_dom.proofs.Common.{◌≢◌, ℕ, ◌≤◌, arith, refl, inl, inr, cases_eq, Equal, Known, IsOpen}
 use Rattle.sf_dom.proofs.TestLaws.{differs-gives, equal-gives}
 use Rattle.sf_dom.proofs.telling.Forcing.{equal-apart, equal-one}
 use Rattle.sf_dom.proofs.telling.tell_equal.Goals as goal
@@ -27,7 +23,5 @@ returns-then-number-known-clause-rule c = λ h.
 
 pub returns-then-known-clause-rule : goal.returns-then-known-clause-rule
 returns-then-known-clause-rule c = λ h.
-    let below = c.if-number-known.false in
-    let above = c.if-known-number.false in
-    let one = c.if-known.true in
+    let below = c.if-number-known.false in let above = c.if-known-number.false in let one = c.if-known.true in
     equal-one c.args.known c.args.number h (omega arith) (omega arith)

@@ -1,5 +1,3 @@
-use Rattle.std.proofs.Common.{sym, ◌∙◌}
-use Rattle.std.proofs.lemmas.Bool.{false≢true}
 use Rattle.sf_dom.proofs.AscendingLemmas.{same-set}
 use Rattle.sf_dom.proofs.exclusions.Exclusions.is_same.Goals as goal
 
@@ -8,10 +6,4 @@ returns-then-is_among c = (
   (λ t. same-set c.args.self.now c.args.other.now (c.is_among.ensures.0 c.if-is_among.true)
       (c.is_among-then-is_among.ensures.0 t)),
   (λ e. c.is_among-then-is_among.ensures.1 (λ n k. rw e k)),
-)
-
-pub returns-else-is_among : goal.returns-else-is_among
-returns-else-is_among c = (
-  (λ t. absurd (false≢true (sym c.if-is_among.false ∙ t))),
-  (λ e. absurd (false≢true (sym c.if-is_among.false ∙ c.is_among.ensures.1 (λ n k. rw (← e) k)))),
 )

@@ -1,6 +1,4 @@
-use Rattle.std.proofs.Common.{arith}
-use Rattle.std.specs.Arc.{arc_value}
-use Rattle.sf_dom.specs.Facts.{Agrees, known_at}
+use Rattle.sf_dom.proofs.Common.{arith, arc_value, Agrees, known_at}
 use Rattle.sf_dom.proofs.Sampled.{undecided, decided-some, decided-none}
 use Rattle.sf_dom.proofs.facts.Facts.decided.Goals as goal
 

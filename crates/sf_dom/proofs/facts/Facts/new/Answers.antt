@@ -1,5 +1,4 @@
-use Rattle.std.proofs.Common.{arith}
-use Rattle.sf_dom.specs.laws.FactsLaws.{covers-facts}
+use Rattle.sf_dom.proofs.Common.{arith, covers-facts}
 use Rattle.sf_dom.proofs.Sampled.{first-covers, first-sound, first-fails}
 use Rattle.sf_dom.proofs.facts.Facts.new.Goals as goal
 

@@ -1,5 +1,4 @@
-use Rattle.std.proofs.Common.{arith}
-use Rattle.std.proofs.lemmas.List.{take_all}
+use Rattle.sf_dom.proofs.Common.{arith, take_all}
 use Rattle.sf_dom.proofs.Builds.{built-more, none-built}
 use Rattle.sf_dom.proofs.facts.Facts.of.Goals as goal
 

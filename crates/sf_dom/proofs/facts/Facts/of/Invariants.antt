@@ -1,6 +1,4 @@
-use Rattle.std.proofs.Common.{take}
-use Rattle.sf_dom.specs.Facts.{Covers}
-use Rattle.sf_dom.specs.Learning.{AreBuiltBy}
+use Rattle.sf_dom.proofs.Common.{take, Covers, AreBuiltBy}
 use Rattle.sf_dom.proofs.facts.Facts.of.Given as goal
 
 abbrev pub invariant-loop-cond : goal.invariant-loop-cond

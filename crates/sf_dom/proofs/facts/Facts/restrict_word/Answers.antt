@@ -1,18 +1,10 @@
-use Rattle.std.proofs.Common.{arith, refl}
-use Rattle.sf_dom.specs.laws.FactsLaws.{covers-facts}
+use Rattle.sf_dom.proofs.Common.{arith, refl, covers-facts}
 use Rattle.sf_dom.proofs.Assumed.{confines-covers}
 use Rattle.sf_dom.proofs.facts.Facts.restrict_word.Goals as goal
 
 pub returns-in-None-clause-rule : goal.returns-in-None-clause-rule
 returns-in-None-clause-rule c =
     rw (← c.self.view_is) (rw (c.in-None.is, c.deref.ensures) at c.in_ok-restrict.ensures.rule)
-
-pub returns-in_ok-self-inside-in-Some-clause-rule : goal.returns-in_ok-self-inside-in-Some-clause-rule
-returns-in_ok-self-inside-in-Some-clause-rule c =
-    let told = rw (c.in-Some.is, c.deref.ensures) at c.in_ok-restrict.ensures.rule in
-    let places = rw (c.in-Some.is, c.deref.ensures) at c.in_ok-restrict.ensures.variables in
-    rw (← c.self.view_is, c.in_ok-self-inside-in-Some.ensures.ok)
-    (record { known = told; variables = places; excluded = refl })
 
 pub returns-in_ok-self-inside-in-Some-clause-covers : goal.returns-in_ok-self-inside-in-Some-clause-covers
 returns-in_ok-self-inside-in-Some-clause-covers c =

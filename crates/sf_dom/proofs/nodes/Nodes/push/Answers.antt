@@ -1,7 +1,5 @@
-use Rattle.std.proofs.lemmas.Grind.{common_steps}
-use Rattle.std.proofs.Common.{◌≡◌, length, arith}
-use Rattle.std.specs.Arc.{arc_value}
-use Rattle.sf_dom.proofs.nodes.KeptNodes.{variables-fit, kept-number, known-variable, kept-variable, places-variable}
+use Rattle.sf_dom.proofs.Common.{common_steps, ◌≡◌, length, arith, arc_value}
+use Rattle.sf_dom.proofs.nodes.KeptNodes.{variables-fit, kept-number, known-variable, kept-variable}
 use Rattle.sf_dom.proofs.nodes.Nodes.push.Goals as goal
 
 pub overflow_cast-rank : goal.overflow_cast-rank
@@ -20,8 +18,7 @@ invariant_of-self-2 c =
       c.len-place.ensures.value,
       c.deref.ensures,
       count,
-    )
-    (kept-variable (arc_value c.self.inside.slots) items c.args.known c.self.invariant)
+    ) (kept-variable (arc_value c.self.inside.slots) items c.args.known c.self.invariant)
 
 pub returns-clause-ok : goal.returns-clause-ok
 returns-clause-ok c =
@@ -34,16 +31,4 @@ returns-clause-ok c =
       c.len-place.ensures.value,
       c.deref.ensures,
       count,
-    )
-    (known-variable (arc_value c.self.inside.slots) items c.args.known c.self.invariant)
-
-pub returns-clause-variables : goal.returns-clause-variables
-returns-clause-variables c =
-    let items = c.self.inside.variables.items in
-    rw (
-      ← c.self.view_is,
-      c.if-fixed.false,
-      c.in_ok-add_variable.ensures.variable,
-      c.len-place.ensures.value,
-      c.deref.ensures,
-    ) (places-variable (arc_value c.self.inside.slots) items c.args.known)
+    ) (known-variable (arc_value c.self.inside.slots) items c.args.known c.self.invariant)

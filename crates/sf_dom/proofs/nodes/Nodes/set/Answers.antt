@@ -1,5 +1,4 @@
-use Rattle.std.proofs.Common.{arith}
-use Rattle.std.specs.Arc.{arc_value}
+use Rattle.sf_dom.proofs.Common.{arith, arc_value}
 use Rattle.sf_dom.proofs.nodes.KeptNodes.{variable-here, places-length}
 use Rattle.sf_dom.proofs.nodes.Nodes.set.Goals as goal
 

@@ -1,8 +1,4 @@
-use Rattle.std.proofs.Common.{◌≡◌, ◌<◌, length, arith}
-use Rattle.std.proofs.lemmas.List.{get_or_read}
-use Rattle.std.specs.Arc.{arc_value}
-use Rattle.sf_dom.specs.Known.{known_of}
-use Rattle.sf_dom.specs.Variables.{variable_at}
+use Rattle.sf_dom.proofs.Common.{◌≡◌, ◌<◌, length, arith, get_or_read, arc_value, known_of, variable_at}
 use Rattle.sf_dom.proofs.nodes.KeptNodes.{laid-out, known-set_known, places-set_known, kept-set_known, places-length}
 use Rattle.sf_dom.proofs.nodes.Nodes.set_variable.Goals as goal
 

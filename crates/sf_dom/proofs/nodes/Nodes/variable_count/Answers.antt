@@ -1,5 +1,4 @@
-use Rattle.std.proofs.Common.{arith}
-use Rattle.std.proofs.lemmas.Grind.{common_steps}
+use Rattle.sf_dom.proofs.Common.{arith, common_steps}
 use Rattle.sf_dom.proofs.nodes.KeptNodes.{laid-out}
 use Rattle.sf_dom.proofs.nodes.Nodes.variable_count.Goals as goal
 

@@ -1,6 +1,4 @@
-use Rattle.std.proofs.Common.{refl, ◌+◌, ◌%◌, ◌++◌}
-use Rattle.std.proofs.lemmas.Bool.{false≢true}
-use Rattle.std.proofs.lemmas.List.Elements.{Contains-append_right}
+use Rattle.sf_dom.proofs.Common.{refl, ◌+◌, ◌%◌, ◌++◌, false≢true, Contains-append_right}
 use Rattle.sf_dom.proofs.AscendingLemmas.{contains-in, in-contains, in-first-at}
 use Rattle.sf_dom.proofs.numbers.Lookup.has.Goals as goal
 

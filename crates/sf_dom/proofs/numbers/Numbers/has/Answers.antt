@@ -1,7 +1,4 @@
-use Rattle.std.proofs.Common.{sym, ◌∙◌, ◌++◌}
-use Rattle.std.proofs.lemmas.Bool.{false≢true}
-use Rattle.std.proofs.lemmas.List.Elements.{Contains-append_left}
-use Rattle.sf_dom.specs.Ascending.{shared_items}
+use Rattle.sf_dom.proofs.Common.{sym, ◌∙◌, ◌++◌, false≢true, Contains-append_left, shared_items}
 use Rattle.sf_dom.proofs.AscendingLemmas.{as-in, contains-in, in-second}
 use Rattle.sf_dom.proofs.numbers.Numbers.has.Goals as goal
 

@@ -1,6 +1,4 @@
-use Rattle.std.proofs.lemmas.List.{append-nil}
-use Rattle.std.specs.Arc.{arc_slice_items}
-use Rattle.sf_dom.specs.Ascending.{shared_items}
+use Rattle.sf_dom.proofs.Common.{append-nil, arc_slice_items, shared_items}
 use Rattle.sf_dom.proofs.AscendingLemmas.{has-more, more-behind}
 use Rattle.sf_dom.proofs.numbers.Numbers.with_number.Goals as goal
 
