@@ -1,22 +1,6 @@
 -- The instructions that meet nothing, one by one.
-use Rattle.std.proofs.lemmas.Grind.{common_steps}
-use Rattle.std.proofs.Common.{arith, ◌≡◌, ℕ, zero, suc, ◌+◌, ◌<◌, List, [], ◌∷◌, length, map, Option, Some, slice_get, refl, sym, ap, subst, ◌∙◌, inl}
-use Rattle.std.specs.Prelude.{option_map, slice_set}
-use Rattle.std.proofs.lemmas.List.{length-map}
-use Rattle.std.proofs.lemmas.Option.{same_Some}
-use Rattle.sf_insn.specs.declared.input.Input.{Input}
-use Rattle.sf_check.specs.declared.insn.Insn.{Insn}
-use Rattle.sf_check.specs.declared.insn.Insn.TheVariants.{LoadScratch, LoadXScratch, StoreA, StoreX}
-use Rattle.sf_run.specs.Machine.{goes, insn_progress}
-use Rattle.sf_sym.specs.declared.pool.Node.{Node}
-use Rattle.sf_sym.specs.declared.pool.Node.TheVariants.{Const}
-use Rattle.sf_sym.specs.declared.pool.NodeId.{NodeId}
-use Rattle.sf_sym.specs.Pool.{value_of}
-use Rattle.sf_piece.specs.declared.machine.SymbolicMachine.{SymbolicMachine}
-use Rattle.sf_piece.specs.Machines.{on}
-use Rattle.sf_piece.specs.Pieces.{PieceData}
-use Rattle.sf_piece.specs.SymbolicRun.{concrete_state, AreNodesBelow}
-use Rattle.sf_piece.specs.Works.{GoesTo, GoesBy, SetsA, SetsX, IsPushed, HasAtHand}
+use Rattle.sf_piece.proofs.Common.{common_steps, arith, ◌≡◌, ℕ, zero, suc, ◌+◌, ◌<◌, List, [], ◌∷◌, length, map, Some, slice_get, refl, sym, ap, ◌∙◌, inl, option_map, slice_set, length-map, same_Some, Input, Insn, LoadScratch, LoadXScratch, StoreA, StoreX, goes, insn_progress, Node, Const, NodeId, value_of, SymbolicMachine, on, PieceData, concrete_state, AreNodesBelow, GoesTo, GoesBy, SetsA, SetsX, IsPushed, HasAtHand}
+use Rattle.std.proofs.Common.{Option}
 use Rattle.sf_piece.proofs.Kept.{some_input}
 
 abbrev on_a : SymbolicMachine → NodeId → SymbolicMachine
@@ -66,10 +50,7 @@ pub set_below : (n : ℕ) (ws : List (Option NodeId)) (j : ℕ) (v : NodeId)
     → ((k : ℕ) (w : NodeId) → slice_get ws k ≡ Some (Some w) → w.0 < n) → v.0 < n → (k : ℕ) (w : NodeId)
     → slice_get (slice_set ws j (Some v)) k ≡ Some (Some w) → w.0 < n
 set_below n [] j v h l k w e = absurd cc
-set_below n (o ∷ ws) zero v h l zero w e =
-    let a : Some v ≡ Some w = same_Some (Some v) (Some w) e in
-    let b : v ≡ w = same_Some v w a in
-    subst (λ (x : NodeId). x.0 < n) b l
+set_below n (o ∷ ws) zero v h l zero w e = grind (arith, common_steps, same_Some)
 set_below n (o ∷ ws) zero v h l (suc k) w e = h (suc k) w e
 set_below n (o ∷ ws) (suc j) v h l zero w e = h zero w e
 set_below n (o ∷ ws) (suc j) v h l (suc k) w e = set_below n ws j v (λ i x y. h (suc i) x y) l k w e

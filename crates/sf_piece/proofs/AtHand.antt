@@ -1,30 +1,6 @@
 -- The instruction at hand, the end, and the first piece.
-use Rattle.std.proofs.lemmas.Grind.{common_steps}
-use Rattle.std.proofs.Common.{◌≡◌, ℕ, zero, suc, ◌+◌, ◌-◌, ◌*◌, ◌<◌, ◌≤◌, ◌^◌, Bool, true, false, List, [], ◌∷◌, ◌++◌, length, drop, map, reverse, get_or, Option, Some, None, slice_get, refl, sym, ap, subst, ◌∙◌, arith, append-nil, length-drop}
-use Rattle.std.specs.Prelude.{option_map, if◌then◌else◌}
-use Rattle.std.proofs.lemmas.List.{get_or-reverse, length-reverse}
-use Rattle.std.proofs.lemmas.Option.{same_Some, slice_get-get_or}
-use Rattle.std.proofs.Math.Nat.{pow-le-pow_right}
-use Rattle.std.proofs.lemmas.List.{get_or_default}
-use Rattle.sf_insn.specs.declared.input.Input.{Input}
-use Rattle.sf_insn.specs.Inputs.{IsInput}
-use Rattle.sf_check.specs.declared.insn.Insn.{Insn}
-use Rattle.sf_check.specs.Programs.{IsAt}
-use Rattle.sf_check.specs.Stacks.{IsLawfulStack}
-use Rattle.sf_run.specs.Machine.{start}
-use Rattle.sf_run.specs.Answers.{IsAnswer}
-use Rattle.sf_run.specs.laws.AnswerLaws.{answer_none}
-use Rattle.sf_run.specs.Routes.{IsWholeRoute}
-use Rattle.sf_run.specs.laws.RunLaws.{load_is_set}
-use Rattle.sf_run.specs.laws.TraceLaws.{newest_first}
-use Rattle.sf_sym.specs.declared.pool.Node.{Node}
-use Rattle.sf_sym.specs.declared.pool.NodeId.{NodeId}
-use Rattle.sf_sym.specs.Pool.{IsPool, value_of}
-use Rattle.sf_dom.specs.Facts.{FactsView, Covers, Agrees}
-use Rattle.sf_piece.specs.Machines.{first_machine}
-use Rattle.sf_piece.specs.Pieces.{PieceData, is_member, IsRightAnswer, IsRoot}
-use Rattle.sf_piece.specs.SymbolicRun.{concrete_state, number_from, StandsAt, IsPiece, IsLawfulPiece}
-use Rattle.sf_piece.specs.Works.{HasAtHand}
+use Rattle.sf_piece.proofs.Common.{common_steps, ◌≡◌, ℕ, zero, suc, ◌+◌, ◌-◌, ◌*◌, ◌<◌, ◌≤◌, ◌^◌, Bool, true, false, List, [], ◌∷◌, ◌++◌, length, drop, map, reverse, get_or, Some, None, slice_get, refl, sym, ap, subst, ◌∙◌, arith, append-nil, length-drop, option_map, if◌then◌else◌, get_or-reverse, length-reverse, same_Some, slice_get-get_or, pow-le-pow_right, get_or_default, Input, IsInput, Insn, IsAt, IsLawfulStack, start, IsAnswer, answer_none, IsWholeRoute, load_is_set, newest_first, Node, NodeId, IsPool, value_of, FactsView, Covers, Agrees, first_machine, PieceData, is_member, IsRightAnswer, IsRoot, concrete_state, number_from, StandsAt, IsPiece, IsLawfulPiece, HasAtHand}
+use Rattle.std.proofs.Common.{Option}
 use Rattle.sf_piece.proofs.Moves.{runs_whole, route_whole, starts_in, none_taken}
 use Rattle.sf_piece.proofs.Kept.{some_input, none_set, pre_short}
 

@@ -1,31 +1,6 @@
 -- Pieces with one more truth value in their names; names are routes.
-use Rattle.std.proofs.lemmas.Grind.{common_steps}
-use Rattle.std.proofs.Common.{◌≡◌, ℕ, zero, suc, ◌+◌, ◌-◌, ◌<◌, ◌&&◌, not, Bool, true, false, List, [], ◌∷◌, ◌++◌, length, refl, sym, ap, subst, ◌∙◌, inl, inr, arith, append_assoc, append-nil, length-append}
-use Rattle.std.proofs.lemmas.Bool.{false≢true}
-use Rattle.std.specs.List.{AllByRecursion, list_all}
-use Rattle.std.specs.Prelude.{if◌then◌else◌}
-use Rattle.sf_insn.specs.declared.input.Input.{Input}
-use Rattle.sf_insn.specs.Inputs.{IsInput}
-use Rattle.sf_insn.specs.declared.ops.Test.{Test}
-use Rattle.sf_insn.specs.declared.ops.BinOp.{BinOp}
-use Rattle.sf_insn.specs.declared.ops.BinOp.TheVariants.{Div}
-use Rattle.sf_check.specs.declared.insn.Insn.{Insn}
-use Rattle.sf_check.specs.declared.insn.Insn.TheVariants.{Alu, Branch, ReturnA}
-use Rattle.sf_check.specs.declared.insn.Operand.{Operand}
-use Rattle.sf_check.specs.declared.insn.Operand.TheVariants.{Constant, X}
-use Rattle.sf_check.specs.Programs.{IsLawfulProgram}
-use Rattle.sf_check.specs.laws.ProgramLaws.{successors_inside}
-use Rattle.sf_run.specs.Machine.{bits, trace_of, insn_progress}
-use Rattle.sf_run.specs.Routes.{IsWay, returns_at, goes_on, AreWays, IsWholeRoute, IsRoute}
-use Rattle.sf_run.specs.laws.CompletionLaws.{some_way}
-use Rattle.sf_sym.specs.declared.pool.Node.{Node}
-use Rattle.sf_sym.specs.declared.pool.Cond.{Cond}
-use Rattle.sf_sym.specs.Pool.{is_met, same, IsCondBelow}
-use Rattle.sf_dom.specs.Facts.{FactsView}
-use Rattle.sf_piece.specs.declared.machine.SymbolicMachine.{SymbolicMachine}
-use Rattle.sf_piece.specs.Pieces.{PieceData, is_member, is_prefix, IsTrulyNamed, HasNoMember}
-use Rattle.sf_piece.specs.SymbolicRun.{IsPending, StandsAt, IsPiece, IsLawfulPiece, concrete_state}
-use Rattle.sf_piece.specs.Works.{HasAtHand, Asks, NextIs, IsQuery, IsForeseen, AfterTruthValue, with_sense, IsNever, IsImplied, AreChildFacts, IsChild, HasAdvanced}
+use Rattle.sf_piece.proofs.Common.{common_steps, ◌≡◌, ℕ, zero, suc, ◌+◌, ◌-◌, ◌<◌, ◌&&◌, not, Bool, true, false, List, [], ◌∷◌, ◌++◌, length, refl, sym, ap, subst, ◌∙◌, inl, inr, arith, append_assoc, append-nil, length-append, false≢true, AllByRecursion, list_all, if◌then◌else◌, Input, IsInput, Test, BinOp, Div, Insn, Alu, Branch, ReturnA, Operand, Constant, X, IsLawfulProgram, successors_inside, bits, trace_of, insn_progress, IsWay, returns_at, goes_on, AreWays, IsWholeRoute, IsRoute, some_way, Node, Cond, is_met, same, IsCondBelow, FactsView, SymbolicMachine, PieceData, is_member, is_prefix, IsTrulyNamed, HasNoMember, IsPending, StandsAt, IsPiece, IsLawfulPiece, concrete_state, HasAtHand, Asks, NextIs, IsQuery, IsForeseen, IsNever, IsImplied, AreChildFacts, IsChild, HasAdvanced}
+use Rattle.sf_piece.specs.Works.{AfterTruthValue, with_sense}
 use Rattle.sf_piece.proofs.Moves.{made}
 use Rattle.sf_piece.proofs.Kept.{assembled, returned_nodes, some_input}
 use Rattle.sf_piece.proofs.Queries.{Turned, Meets, branch_turned, return_turned, zero_turned, nonzero_turned, entry_trace}
@@ -88,11 +63,7 @@ never_implies p cond b h d inp member = search (arith, other_way)
 
 -- where no member has either truth value, there is no member
 pub never_both : (p : PieceData) (cond : Cond) → IsNever p cond false → IsNever p cond true → HasNoMember p
-never_both p cond f t = record { none = λ d i. none d i (is_member p d) refl }
-  where
-    none : (d : Input) → IsInput d → (b : Bool) → is_member p d ≡ b → is_member p d ≡ false
-    none d i false e = e
-    none d i true e = absurd (false≢true (sym (t d i e) ∙ never_implies p cond true f d i e))
+never_both p cond f t = grind (arith, common_steps, false≢true, never_implies)
 
 -- after a test
 pub branch_after : (p : PieceData) (i : Insn) (test : Test) (other : Operand) (t f next : ℕ) (b : Bool)

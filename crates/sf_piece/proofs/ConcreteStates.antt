@@ -1,18 +1,7 @@
 -- A machine's concrete states while its pool grows.
-use Rattle.std.proofs.lemmas.Grind.{common_steps}
-use Rattle.std.proofs.Common.{arith, ◌≡◌, ℕ, zero, suc, ◌&&◌, Bool, List, [], ◌∷◌, ◌++◌, length, map, Option, Some, None, refl, ap, subst, ◌∙◌}
-use Rattle.std.specs.Prelude.{option_map, slice_get}
-use Rattle.std.proofs.lemmas.Option.{same_Some}
-use Rattle.std.specs.List.{list_all, AllByRecursion}
-use Rattle.sf_insn.specs.declared.input.Input.{Input}
-use Rattle.sf_run.specs.Machine.{State}
-use Rattle.sf_sym.specs.declared.pool.Node.{Node}
-use Rattle.sf_sym.specs.declared.pool.NodeId.{NodeId}
-use Rattle.sf_sym.specs.declared.pool.Cond.{Cond}
-use Rattle.sf_sym.specs.Pool.{value_of, is_met, IsCondBelow}
-use Rattle.sf_sym.specs.laws.ValueLaws.{value-older}
-use Rattle.sf_piece.specs.declared.machine.SymbolicMachine.{SymbolicMachine}
-use Rattle.sf_piece.specs.SymbolicRun.{concrete_state, AreNodesBelow}
+use Rattle.sf_piece.proofs.Common.{common_steps, arith, ◌≡◌, ℕ, zero, suc, List, [], ◌∷◌, ◌++◌, length, map, Some, None, refl, ap, subst, ◌∙◌, option_map, same_Some, list_all, AllByRecursion, Input, State, Node, NodeId, Cond, value_of, is_met, IsCondBelow, value-older, SymbolicMachine, concrete_state, AreNodesBelow}
+use Rattle.std.proofs.Common.{Option}
+use Rattle.std.specs.Prelude.{slice_get}
 
 pub scratch_same : (ws : List (Option NodeId)) (f g : NodeId → ℕ)
     → ((k : ℕ) (w : NodeId) → slice_get ws k ≡ Some (Some w) → f w ≡ g w)
@@ -44,10 +33,7 @@ met_grown pool added d c b = grind (arith, common_steps, value-older)
 pub all_grown : (pool added : List Node) (d : Input) (cs : List Cond) → AllByRecursion (IsCondBelow (length pool)) cs
     → list_all (is_met (pool ++ added) d) cs ≡ list_all (is_met pool d) cs
 all_grown pool added d [] b = refl
-all_grown pool added d (c ∷ cs) b =
-    let here : is_met (pool ++ added) d c ≡ is_met pool d c = met_grown pool added d c b.0 in
-    let rest : list_all (is_met (pool ++ added) d) cs ≡ list_all (is_met pool d) cs = all_grown pool added d cs b.1 in
-    ap (λ (x : Bool). x && list_all (is_met (pool ++ added) d) cs) here ∙ ap (λ (x : Bool). is_met pool d c && x) rest
+all_grown pool added d (c ∷ cs) b = grind (arith, common_steps, met_grown, all_grown pool added d cs b.1)
 
 pub below_at : (n : ℕ) (cs : List Cond) (k : ℕ) (c : Cond) → AllByRecursion (IsCondBelow n) cs → slice_get cs k ≡ Some c
     → IsCondBelow n c

@@ -1,37 +1,8 @@
 -- Small steps of a piece, as the rules have them.
-use Rattle.std.proofs.Common.{◌≡◌, ℕ, zero, suc, ◌-◌, ◌^◌, ◌<◌, Bool, true, false, refl, sym, ap, subst, ◌∙◌, inl, inr, ◌+◌, [], ◌∷◌, ◌++◌}
-use Rattle.std.specs.Prelude.{Option, Some, None, Result, Ok, Err, IfOk, if◌then◌else◌}
-use Rattle.sf_insn.specs.declared.ops.BinOp.{BinOp}
-use Rattle.sf_insn.specs.declared.ops.Test.{Test}
-use Rattle.sf_insn.specs.declared.ops.Test.TheVariants.{Equal, AnyBit}
-use Rattle.sf_check.specs.declared.insn.Insn.{Insn}
-use Rattle.sf_check.specs.declared.insn.Insn.TheVariants.{Alu, Branch, ReturnA}
-use Rattle.sf_check.specs.declared.insn.Operand.{Operand}
-use Rattle.sf_check.specs.declared.insn.Operand.TheVariants.{Constant}
-use Rattle.sf_sym.specs.declared.pool.Cond.{Cond}
-use Rattle.sf_sym.specs.declared.pool.Node.TheVariants.{Const, Bin}
-use Rattle.sf_sym.specs.declared.pool.NodeId.{NodeId}
-use Rattle.sf_sym.specs.Pool.{node_at}
-use Rattle.sf_dom.specs.Backward.{IsPropagatedBack}
-use Rattle.sf_dom.specs.Facts.{known_at}
-use Rattle.sf_dom.specs.laws.FactsLaws.{closed-consistent, constant-known}
-use Rattle.sf_dom.specs.Rules.{IsClosedAt, number_known}
-use Rattle.sf_dom.specs.SoundRules.{ForcedIsLearnt}
-use Rattle.sf_dom.specs.Telling.{IsForcedBy}
-use Rattle.sf_piece.specs.declared.deciding.Decision.{Decision}
-use Rattle.sf_piece.specs.declared.deciding.Decision.TheVariants.{Implied, Neither}
+use Rattle.sf_piece.proofs.Common.{common_steps, arith, ◌≡◌, ℕ, zero, suc, ◌-◌, ◌^◌, ◌<◌, Bool, false, refl, sym, ap, subst, ◌∙◌, inl, inr, ◌+◌, [], ◌∷◌, ◌++◌, Option, Result, Ok, Err, IfOk, if◌then◌else◌, BinOp, Test, Equal, AnyBit, Insn, Alu, Branch, ReturnA, Operand, Constant, Cond, Const, Bin, NodeId, node_at, IsPropagatedBack, known_at, closed-consistent, constant-known, IsClosedAt, number_known, ForcedIsLearnt, IsForcedBy, Decision, Implied, Neither, SmallStep, On, Settled, Empty, Fault, SymbolicMachine, PieceData, AsksTest, IsAPropagatedBack, IsPiece, GetsOperand, with_machine, LoadsA, Computes, MovesTo, divides_at, query, HasQuery, LeavesOnly, IsNamedOn, IsAtHand, IsForetold, after_return, IsMade, IsDecision, IsCarriedOut, IsTidy, IsExecuted}
+use Rattle.std.specs.Prelude.{Some, None}
 use Rattle.sf_piece.specs.declared.deciding.Decision.TheVariants as decided
-use Rattle.sf_piece.specs.declared.deciding.SmallStep.{SmallStep}
-use Rattle.sf_piece.specs.declared.deciding.SmallStep.TheVariants.{On, Split, Settled, Empty}
-use Rattle.sf_piece.specs.declared.fault.Fault.{Fault}
-use Rattle.sf_piece.specs.declared.machine.SymbolicMachine.{SymbolicMachine}
-use Rattle.sf_piece.specs.Pieces.{PieceData}
-use Rattle.sf_piece.specs.Works.{AsksTest, IsAPropagatedBack}
-use Rattle.sf_piece.specs.SymbolicRun.{IsPiece}
-use Rattle.sf_piece.specs.Execution.{GetsOperand, with_machine, LoadsA, Computes, MovesTo, divides_at, query, HasQuery, LeavesOnly, IsSide, IsNamedOn, IsAtHand}
-use Rattle.sf_piece.specs.Foresight.{IsForetold}
-use Rattle.sf_piece.specs.Machines.{after_return}
-use Rattle.sf_piece.specs.SmallSteps.{IsMade, IsDecision, IsCarriedOut, IsTidy, IsExecuted}
+use Rattle.sf_piece.specs.declared.deciding.SmallStep.TheVariants.{Split}
 use Rattle.sf_piece.proofs.Foretold.{leaves_only, one_number}
 
 -- an implied truth value is added to the name
@@ -46,14 +17,7 @@ pub carried_executed : (p r : PieceData) (i : Insn) (asked : PieceData × Cond) 
     → IsExecuted p r step
 carried_executed p r i asked (Implied b) On at asks h named =
     (1, (r, (i, at, inr (inr (asked, b, asks, h, named))), refl))
-carried_executed p r i asked (decided.Split f t) (Split g u) at asks h same = (
-  i,
-  asked,
-  at,
-  asks,
-  subst (λ (x : PieceData). IsSide asked i false x) same.0 h.0,
-  subst (λ (x : PieceData). IsSide asked i true x) same.1 h.1,
-)
+carried_executed p r i asked (decided.Split f t) (Split g u) at asks h same = grind (arith, common_steps)
 carried_executed p r i asked Neither Empty at asks h done = (i, at, inr (inr (asked, asks, h)))
 carried_executed p r i asked _ _ at asks h none = absurd none
 
@@ -75,11 +39,7 @@ asked_for p i test other given (inr (e, et, eo, more)) gets = rw (e, et) (more, 
 -- its second word contradicts
 pub asks_none : (p q : PieceData) (i : Insn) (test : Test) (other : Operand) → AsksTest p i test other → IsAtHand p i
     → GetsOperand p other None → IsExecuted p q Empty
-asks_none p q i test other asks at none = (i, at, inr (inl (by asks)))
-  where
-    by : AsksTest p i test other → HasQuery p i None
-    by (inl (t, f, e)) = rw e (None, none, refl)
-    by (inr (e, et, eo, more)) = rw e (more, (None, rw eo at none, refl))
+asks_none p q i test other asks at none = grind (arith, common_steps)
 
 -- its result is implied, and the piece goes on
 pub test_executed : (p q r : PieceData) (test : Test) (other : Operand) (t f : ℕ) (b : Bool)
@@ -106,12 +66,7 @@ behind_test p b place = record p { name = p.name ++ b ∷ []; machine = record p
 is_behind : (p q : PieceData) (test : Test) (other : Operand) (t f : ℕ) (b : Bool)
     → IsNamedOn p (Branch test other t f) b q → q ≡ behind_test p b (p.machine.place + 1 + (if b then t else f))
 unfolding behind_test
-is_behind p q test other t f b named =
-    named.rest ∙ ap (λ (m : SymbolicMachine). let r : PieceData = record p {
-      name = p.name ++ b ∷ [];
-      machine = m;
-    } in r)
-    named.machine
+is_behind p q test other t f b named = grind (arith, common_steps)
 
 pub back_behind : (p q : PieceData) (test : Test) (other : Operand) (t f : ℕ) (b : Bool)
     → IsNamedOn p (Branch test other t f) b q → IsAPropagatedBack p → IsAPropagatedBack q

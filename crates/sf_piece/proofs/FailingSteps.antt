@@ -1,22 +1,5 @@
 -- Tests that fail, one behind the other, by the rules.
-use Rattle.std.proofs.Common.{◌≡◌, ℕ, zero, suc, ◌+◌, ◌<◌, Bool, false, List, [], ◌∷◌, ◌++◌, length, get_or, replicate, Some, refl, sym, ap, subst, inr, arith, append_assoc, append-nil}
-use Rattle.std.proofs.lemmas.List.{replicate_more}
-use Rattle.std.proofs.lemmas.Option.{slice_get-get_or, get_or_from_slice_get}
-use Rattle.sf_insn.specs.declared.ops.Test.TheVariants.{Equal}
-use Rattle.sf_check.specs.declared.insn.Insn.{Insn}
-use Rattle.sf_check.specs.declared.insn.Insn.TheVariants.{LoadWord, Branch}
-use Rattle.sf_check.specs.declared.insn.Operand.TheVariants.{Constant}
-use Rattle.sf_check.specs.Programs.{IsAt}
-use Rattle.sf_sym.specs.declared.pool.Cond.{Cond}
-use Rattle.sf_dom.specs.declared.known.Known.{Known}
-use Rattle.sf_dom.specs.Facts.{known_at}
-use Rattle.sf_dom.specs.Rules.{IsClosed}
-use Rattle.sf_dom.specs.SoundRules.{ForcedIsLearnt}
-use Rattle.sf_dom.specs.Telling.{IsForcedBy}
-use Rattle.sf_piece.specs.Pieces.{PieceData}
-use Rattle.sf_piece.specs.SymbolicRun.{IsLawfulPiece}
-use Rattle.sf_piece.specs.Execution.{query, GoesOn, GoesOnFor, code_at}
-use Rattle.sf_piece.specs.Works.{HasGoneOn, IsFailing, AreFailing, IsCodeAtHand, IsAPropagatedBack, behind_chain}
+use Rattle.sf_piece.proofs.Common.{common_steps, ◌≡◌, ℕ, zero, suc, ◌+◌, ◌<◌, Bool, false, List, [], ◌∷◌, ◌++◌, length, get_or, replicate, Some, refl, sym, ap, subst, inr, arith, append_assoc, append-nil, replicate_more, slice_get-get_or, get_or_from_slice_get, Equal, Insn, LoadWord, Branch, Constant, IsAt, Cond, Known, known_at, IsClosed, ForcedIsLearnt, IsForcedBy, PieceData, IsLawfulPiece, query, GoesOn, GoesOnFor, code_at, HasGoneOn, IsFailing, AreFailing, IsCodeAtHand, IsAPropagatedBack, behind_chain}
 use Rattle.sf_piece.proofs.AtHand.{at_hand}
 use Rattle.sf_piece.proofs.Children.{taken_on}
 use Rattle.sf_piece.proofs.FailingTests.{next_place, over_none, inside_behind, over_one_more}
@@ -50,12 +33,9 @@ goes_end zero p q r h g = (r, subst (λ (x : PieceData). GoesOn x r) h g, refl)
 goes_end (suc n) p q r h g = (h.0, h.1, goes_end n h.0 q r h.2 g)
 
 pub goes_more : (n m : ℕ) (p q r : PieceData) → GoesOnFor n p q → GoesOnFor m q r → GoesOnFor (n + m) p r
-goes_more n zero p q r h g =
-    let e : n ≡ n + 0 = omega arith in
-    subst (λ (k : ℕ). GoesOnFor k p r) e (subst (λ (x : PieceData). GoesOnFor n p x) (sym g) h)
+goes_more n zero p q r h g = grind (arith, common_steps)
 goes_more n (suc m) p q r h g =
-    let e : suc n + m ≡ n + suc m = omega arith in
-    subst (λ (k : ℕ). GoesOnFor k p r) e (goes_more (suc n) m p g.0 r (goes_end n p q g.0 h g.1) g.2)
+    grind (arith, common_steps, goes_end, goes_more (suc n) m p g.0 r (goes_end n p q g.0 h g.1) g.2)
 
 -- over no test a piece stays where it is
 pub steps_none : (p : PieceData) → GoesOnFor 0 p (behind_chain p 0 p.machine.place)

@@ -1,24 +1,7 @@
 -- A piece goes on over tests that fail: over one, and over a chain of them at once.
-use Rattle.std.proofs.Common.{◌≡◌, ◌≢◌, ◌==◌, ℕ, zero, suc, ◌+◌, ◌<◌, ◌≤◌, Bool, false, List, [], ◌∷◌, ◌++◌, length, get_or, replicate, refl, sym, ap, subst, ◌∙◌, arith, append_assoc, append-nil}
-use Rattle.std.proofs.lemmas.Grind.{common_steps}
-use Rattle.std.proofs.lemmas.List.{replicate_more}
-use Rattle.std.proofs.lemmas.Bool.Decides.{nat_tests}
-use Rattle.std.proofs.lemmas.Option.{slice_get-get_or}
-use Rattle.sf_insn.specs.declared.ops.Test.TheVariants.{Equal}
-use Rattle.sf_check.specs.declared.insn.Insn.{Insn}
-use Rattle.sf_check.specs.declared.insn.Insn.TheVariants.{LoadWord}
-use Rattle.sf_check.specs.declared.insn.Operand.TheVariants.{Constant}
-use Rattle.sf_check.specs.Programs.{IsAt}
-use Rattle.sf_check.specs.EqualTests.{AreSkipped}
-use Rattle.sf_dom.specs.declared.known.Known.{Known}
-use Rattle.sf_dom.specs.Known.{Admits}
-use Rattle.sf_dom.specs.Rules.{assumed, IsClosed}
-use Rattle.sf_dom.specs.Telling.{IsForcedBy}
-use Rattle.sf_dom.specs.Facts.{known_at}
-use Rattle.sf_piece.specs.Pieces.{PieceData}
-use Rattle.sf_piece.specs.declared.machine.SymbolicMachine.{SymbolicMachine}
-use Rattle.sf_piece.specs.SymbolicRun.{IsLawfulPiece}
-use Rattle.sf_piece.specs.Works.{HasGoneOn, IsFailing, AreFailing, IsCodeAtHand, AfterTruthValue, behind_chain, code_at}
+use Rattle.sf_piece.proofs.Common.{◌≡◌, ◌≢◌, ℕ, zero, suc, ◌+◌, ◌<◌, ◌≤◌, Bool, false, List, [], ◌∷◌, ◌++◌, length, get_or, replicate, refl, sym, ap, subst, ◌∙◌, arith, append_assoc, append-nil, common_steps, replicate_more, nat_tests, slice_get-get_or, Equal, Insn, LoadWord, Constant, IsAt, AreSkipped, Known, Admits, assumed, IsClosed, IsForcedBy, known_at, PieceData, SymbolicMachine, IsLawfulPiece, HasGoneOn, IsFailing, AreFailing, IsCodeAtHand, behind_chain}
+use Rattle.std.proofs.Common.{◌==◌}
+use Rattle.sf_piece.specs.Works.{AfterTruthValue, code_at}
 use Rattle.sf_piece.proofs.AtHand.{at_hand, place_inside}
 use Rattle.sf_piece.proofs.Children.{taken_on, take_gone, branch_after}
 use Rattle.sf_piece.proofs.Joined.{on_same, on_trans, branch_foreseen}
@@ -91,11 +74,7 @@ over_one_more p code known n place f next at is gone fails leads =
 -- a number that isn't the only one of A: the rules forbid that A is equal to it
 other_number : (k : Known) (m n : ℕ) → k.low ≡ m → k.high ≡ m → n ≢ m → IsForcedBy IsClosed k Equal n false
 unfolding assumed
-other_number k m n low high ne = record {
-  other = λ s is g. omega (arith, g.low, g.high, is.ordered, low, high, ne);
-  this = grind (arith, common_steps, nat_tests);
-  that = grind (arith, common_steps, nat_tests);
-}
+other_number k m n low high ne = grind (arith, common_steps, nat_tests)
 
 -- tests for other numbers than the one that A has fail
 pub others_fail : (code : List Insn) (known : Known) (number n place behind : ℕ)

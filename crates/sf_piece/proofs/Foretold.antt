@@ -1,64 +1,15 @@
 -- What facts tell of a test of A is what the rules leave of it.
-use Rattle.std.proofs.Common.{◌≡◌, ◌≢◌, ℕ, zero, suc, ◌-◌, ◌<◌, ◌^◌, ◌⊎◌, Bool, true, false, not, List, [], ◌∷◌, ◌++◌, length, refl, sym, ap, ◌∙◌, inl, inr, arith}
-use Rattle.std.proofs.lemmas.Bool.{cases_lt, cases_eq, eqb-true}
-use Rattle.std.proofs.lemmas.List.{take_all}
-use Rattle.std.specs.Prelude.{Option, Some, None, IfSome, if◌then◌else◌, ◌==◌}
-use Rattle.sf_insn.specs.declared.input.Input.{Input}
-use Rattle.sf_insn.specs.declared.ops.Test.{Test}
-use Rattle.sf_insn.specs.Inputs.{IsInput}
-use Rattle.sf_insn.specs.Words.{passes}
-use Rattle.sf_check.specs.declared.insn.Operand.{Operand}
-use Rattle.sf_check.specs.declared.insn.Operand.TheVariants.{Constant, X}
-use Rattle.sf_sym.specs.declared.pool.Cond.{Cond}
-use Rattle.sf_sym.specs.declared.pool.Node.{Node}
-use Rattle.sf_sym.specs.declared.pool.Node.TheVariants.{Const, Word, Bin, Neg}
-use Rattle.sf_sym.specs.declared.pool.NodeId.{NodeId}
-use Rattle.sf_sym.specs.Pool.{node_at, value_of}
-use Rattle.sf_dom.specs.declared.known.Known.{Known}
-use Rattle.sf_dom.specs.Backward.{IsPropagatedBack}
-use Rattle.sf_dom.specs.Facts.{FactsView, Covers, Agrees, known_at}
-use Rattle.sf_dom.specs.Known.{IsConsistent, IsDecided}
-use Rattle.sf_dom.specs.Learning.{CantLearn, GrowsBy}
-use Rattle.sf_dom.specs.Passes.{variables_to}
-use Rattle.sf_dom.specs.Rules.{IsClosedAt, number_known}
-use Rattle.sf_dom.specs.Telling.{IsForcedBy}
-use Rattle.sf_dom.specs.SoundRules.{ForcedIsLearnt, IsForcedCondition, IsForcedTest}
-use Rattle.sf_piece.specs.Pieces.{PieceData}
-use Rattle.sf_piece.specs.Execution.{Gets, query, with_sense, CanLearn, LeavesOnly}
-use Rattle.sf_piece.specs.SymbolicRun.{IsPiece}
-use Rattle.sf_piece.specs.Works.{IsOperandNumber, PassesAlways}
-use Rattle.sf_piece.specs.Foresight.{IsTestedNumber, IsForetold}
+use Rattle.sf_piece.proofs.Common.{common_steps, ◌≡◌, ◌≢◌, ℕ, zero, suc, ◌-◌, ◌<◌, ◌^◌, ◌⊎◌, Bool, true, false, not, List, [], ◌∷◌, ◌++◌, length, refl, ap, inl, inr, arith, cases_lt, cases_eq, eqb-true, take_all, Option, IfSome, if◌then◌else◌, ◌==◌, Input, Test, IsInput, passes, Operand, Constant, X, Cond, Node, Const, Word, Bin, Neg, NodeId, node_at, value_of, Known, IsPropagatedBack, FactsView, Covers, Agrees, known_at, IsConsistent, IsDecided, CantLearn, GrowsBy, IsClosedAt, number_known, IsForcedBy, ForcedIsLearnt, IsForcedCondition, IsForcedTest, PieceData, Gets, query, with_sense, CanLearn, LeavesOnly, IsPiece, IsOperandNumber, PassesAlways, IsTestedNumber, IsForetold}
+use Rattle.std.specs.Prelude.{Some, None}
 
 -- a word with one number is known in full
 pub one_number : (k : Known) → IsConsistent k → IsDecided k → k ≡ number_known k.low
-one_number k h e = made k.low k.high k.zeros k.ones k.low k.low (4294967295 - k.low) k.low refl (sym e) (h.zeros e)
-    (h.ones e)
-  where
-    known : ℕ → ℕ → ℕ → ℕ → Known
-    known low high zeros ones = record { low = low; high = high; zeros = zeros; ones = ones }
-
-    made : (l h z o m i y p : ℕ) → l ≡ m → h ≡ i → z ≡ y → o ≡ p
-        → known l h z o ≡ known m i y p
-    made l h z o m i y p a b c d = cc
+one_number k h e = grind (arith, common_steps)
 
 -- the number of a word that has only one
 pub decided_number : (k : Known) (n : ℕ) → Some n ≡ (if k.low == k.high then Some k.low else None) → IsConsistent k
     → k ≡ number_known n
-decided_number k n e h = by (k.low == k.high) refl e
-  where
-    by : (b : Bool) → (k.low == k.high) ≡ b → Some n ≡ (if b then Some k.low else None) → k ≡ number_known n
-    by true d s =
-        let same : n ≡ k.low = cc in
-        one_number k h (eqb-true k.low k.high d) ∙ ap number_known (sym same)
-    by false d s = absurd cc
-
--- X is tested by its only number
-pub against_x : (p : PieceData) (o : Option ℕ)
-    → IfSome o (λ n. known_at p.facts.known p.machine.x.0 ≡ number_known n)
-    → IfSome o (λ n. (m : ℕ) → IsPropagatedBack m p.facts.known p.pool p.machine.x.0)
-    → IfSome o (λ n. IsTestedNumber p X n)
-against_x p None known back = tt
-against_x p (Some n) known back = (known, back)
+decided_number k n e h = grind (arith, common_steps, eqb-true, one_number)
 
 -- ---- a constant's node
 
@@ -88,19 +39,7 @@ find ns k (suc n) = elim (is_constant (node_at ns n) k) [
 
 -- facts that take in no node stay as they are
 grows_not_at_all : (f : FactsView) (ns : List Node) → Covers f ns → GrowsBy f f ns
-grows_not_at_all f ns h = record {
-  known = record {
-    count = h.count;
-    kept = take_all (length f.known) f.known (omega arith);
-    each = λ i g l. absurd (omega (arith, h.count));
-  };
-  variables = none_new (length ns - length f.known) (omega (arith, h.count));
-  excluded = refl;
-}
-  where
-    none_new : (n : ℕ) → n ≡ 0 → f.variables ≡ variables_to f.variables f.known ns (length f.known) n
-    none_new zero e = refl
-    none_new (suc n) e = absurd cc
+grows_not_at_all f ns h = grind (arith, common_steps, take_all)
 
 -- a forced condition leaves its query only one truth value
 pub leaves_only : (laws : ForcedIsLearnt) (p : PieceData) (cond : Cond) (number : ℕ) (b : Bool)
@@ -191,16 +130,7 @@ pub forced_test : (p : PieceData) (test : Test) (number : ℕ) (b : Bool) → Is
     → IsForcedBy (IsClosedAt p.facts.excluded p.machine.a.0) (known_at p.facts.known p.machine.a.0) test number b
     → ((n : ℕ) → IsPropagatedBack n p.facts.known p.pool p.machine.a.0)
     → IsForcedTest p.facts p.pool p.machine.a test number b
-forced_test p test number b h fits forced back = record {
-  pool = h.pool;
-  count = h.covers.count;
-  lists = h.covers.words;
-  rest = h.covers.rest;
-  below = h.nodes.a;
-  fits = fits;
-  forced = forced;
-  back = back;
-}
+forced_test p test number b h fits forced back = grind (arith, common_steps)
 
 -- what is told of a test of A is foretold
 pub told_foretold : (laws : ForcedIsLearnt) (p : PieceData) (test : Test) (other : Operand) (number : ℕ)

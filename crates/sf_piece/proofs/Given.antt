@@ -1,20 +1,6 @@
 -- A piece is given a word, by the rules.
-use Rattle.std.proofs.Common.{◌≡◌, ◌≢◌, ℕ, ◌<◌, ◌≤◌, Bool, List, [], ◌∷◌, ◌++◌, length, refl, sym, ap, ◌∙◌, inl, inr, arith, length-append}
-use Rattle.std.specs.Prelude.{Some, None}
-use Rattle.std.proofs.lemmas.Bool.{cases_lt}
-use Rattle.std.proofs.lemmas.List.{get_or_append_left, length_push}
-use Rattle.sf_check.specs.declared.insn.Insn.{Insn}
-use Rattle.sf_sym.specs.declared.pool.Cond.{Cond}
-use Rattle.sf_sym.specs.declared.pool.Node.{Node}
-use Rattle.sf_sym.specs.declared.pool.Node.TheVariants.{Const}
-use Rattle.sf_sym.specs.declared.pool.NodeId.{NodeId}
-use Rattle.sf_sym.specs.Pool.{IsPool, node_at, folded_node, Extends}
-use Rattle.sf_dom.specs.Facts.{FactsView, Covers}
-use Rattle.sf_dom.specs.Learning.{GrowsBy}
-use Rattle.sf_piece.specs.declared.machine.SymbolicMachine.{SymbolicMachine}
-use Rattle.sf_piece.specs.Pieces.{PieceData}
-use Rattle.sf_piece.specs.Execution.{IsNodeAt, IsPutIn, IsGiven, CantBeGiven, LoadsA, LoadsX, piece_with_a, piece_with_x, AfterTruthValue, IsSide, IsNamedOn}
-use Rattle.sf_piece.specs.Works.{AreChildFacts}
+use Rattle.sf_piece.proofs.Common.{◌≡◌, ◌≢◌, ℕ, ◌<◌, ◌≤◌, Bool, List, [], ◌∷◌, ◌++◌, length, refl, sym, ap, ◌∙◌, inl, inr, arith, length-append, cases_lt, get_or_append_left, length_push, Insn, Cond, Node, Const, NodeId, IsPool, node_at, folded_node, Extends, FactsView, Covers, GrowsBy, SymbolicMachine, PieceData, IsNodeAt, IsPutIn, IsGiven, CantBeGiven, LoadsA, AfterTruthValue, IsSide, IsNamedOn, AreChildFacts}
+use Rattle.std.specs.Prelude.{None}
 use Rattle.sf_piece.proofs.Children.{child_of, taken_on}
 
 -- what a pool does when a node is pushed
@@ -47,19 +33,8 @@ pub given : (p : PieceData) (node : Node) (pool : List Node) (id : NodeId) (fs :
     → IsGiven p node (record p { pool = pool; facts = fs }) id
 given p node pool id fs put lawful grows = record { pool = put; lawful = lawful; facts = grows; rest = refl }
 
-pub loads_a : (p : PieceData) (node : Node) (q : PieceData) (id : NodeId) → IsGiven p node q id
-    → LoadsA p node (Some (piece_with_a (q, id)))
-loads_a p node q id h = (Some (q, id), h, refl)
-
-pub loads_x : (p : PieceData) (k : ℕ) (q : PieceData) (id : NodeId) → IsGiven p (Const k) q id
-    → LoadsX p k (Some (piece_with_x (q, id)))
-loads_x p k q id h = (Some (q, id), h, refl)
-
 pub loads_none : (p : PieceData) (node : Node) → CantBeGiven p node → LoadsA p node None
 loads_none p node h = (None, h, refl)
-
-pub loads_x_none : (p : PieceData) (k : ℕ) → CantBeGiven p (Const k) → LoadsX p k None
-loads_x_none p k h = (None, h, refl)
 
 -- a side of a query
 pub side : (p : PieceData) (i : Insn) (cond : Cond) (b : Bool) (m : SymbolicMachine) (fs : FactsView)

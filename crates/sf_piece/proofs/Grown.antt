@@ -1,22 +1,5 @@
 -- Pieces whose pools have grown.
-use Rattle.std.proofs.lemmas.Grind.{common_steps}
-use Rattle.std.proofs.Common.{◌≡◌, ℕ, ◌<◌, ◌≤◌, Bool, List, [], ◌∷◌, ◌++◌, length, refl, sym, subst, ◌∙◌, arith, length-append}
-use Rattle.std.proofs.lemmas.Bool.{false_from_ne_true}
-use Rattle.std.specs.List.{AllByRecursion}
-use Rattle.sf_insn.specs.declared.input.Input.{Input}
-use Rattle.sf_check.specs.declared.insn.Insn.{Insn}
-use Rattle.sf_run.specs.Reachable.{IsReachable}
-use Rattle.sf_sym.specs.declared.pool.Node.{Node}
-use Rattle.sf_sym.specs.declared.pool.NodeId.{NodeId}
-use Rattle.sf_sym.specs.declared.pool.Cond.{Cond}
-use Rattle.sf_sym.specs.declared.pool.Node.TheVariants.{Const}
-use Rattle.sf_sym.specs.Pool.{node_at, IsPool, value_of, values_of, node_value, IsCondBelow}
-use Rattle.sf_sym.specs.laws.ValueLaws.{value-older}
-use Rattle.sf_dom.specs.Facts.{FactsView, TakesIn, NoneAgrees}
-use Rattle.sf_piece.specs.declared.machine.SymbolicMachine.{SymbolicMachine}
-use Rattle.sf_piece.specs.Pieces.{PieceData, is_member, HasNoMember}
-use Rattle.sf_piece.specs.SymbolicRun.{InProgram, AreNodesBelow, StandsAt, IsPiece, IsLawfulPiece}
-use Rattle.sf_piece.specs.Works.{HasGrown, IsPushed}
+use Rattle.sf_piece.proofs.Common.{common_steps, ◌≡◌, ℕ, ◌<◌, ◌≤◌, Bool, List, [], ◌∷◌, ◌++◌, length, refl, sym, subst, ◌∙◌, arith, length-append, AllByRecursion, Input, Insn, IsReachable, Node, NodeId, Cond, Const, node_at, IsPool, value_of, values_of, node_value, IsCondBelow, value-older, FactsView, TakesIn, SymbolicMachine, PieceData, is_member, InProgram, AreNodesBelow, StandsAt, IsPiece, IsLawfulPiece, HasGrown, IsPushed}
 use Rattle.sf_piece.proofs.ConcreteStates.{valued_grown, all_grown}
 
 -- ---- a grown pool
@@ -101,6 +84,3 @@ pub pushed : (p : PieceData) (added : List Node) (fs : FactsView) (node : Node) 
     → ((d : Input) → value_of (p.pool ++ added) d id.0 ≡ node_value d (values_of p.pool d) node)
     → ((c : ℕ) → node ≡ Const c → node_at (p.pool ++ added) id.0 ≡ Const c) → IsPushed p node (grown p added fs) id
 pushed p added fs node id h lawful within value constant = search (arith, has_grown)
-
-pub none_member : (p : PieceData) → IsPiece p → NoneAgrees p.facts p.pool → HasNoMember p
-none_member p h none = grind (arith, common_steps, false_from_ne_true)

@@ -1,35 +1,7 @@
 -- Pieces that go on by an instruction.
-use Rattle.std.proofs.lemmas.Grind.{common_steps}
-use Rattle.std.proofs.Common.{◌≡◌, ℕ, zero, suc, ◌+◌, ◌*◌, ◌/◌, ◌%◌, ◌^◌, ◌<◌, ◌≤◌, Bool, true, false, List, [], ◌∷◌, ◌++◌, length, take, Option, Some, None, slice_get, refl, sym, ap, subst, ◌∙◌, inl, inr, arith, append-nil}
-use Rattle.std.specs.Prelude.{if◌then◌else◌, ◌==◌, Contains, replicate}
-use Rattle.std.specs.List.{AllByRecursion}
-use Rattle.std.proofs.lemmas.Option.{same_Some}
-use Rattle.std.proofs.lemmas.Nat.{mod-pow-add}
-use Rattle.sf_insn.specs.declared.input.Input.{Input}
-use Rattle.sf_insn.specs.Inputs.{IsInput}
-use Rattle.sf_insn.specs.Words.{apply}
-use Rattle.sf_insn.specs.declared.ops.BinOp.TheVariants.{Div}
-use Rattle.sf_check.specs.declared.insn.Insn.{Insn}
-use Rattle.sf_check.specs.declared.insn.Insn.TheVariants.{Alu, ReturnConstant, ReturnA}
-use Rattle.sf_check.specs.declared.insn.Operand.TheVariants.{X}
-use Rattle.sf_check.specs.Insns.{successors, stored_by}
-use Rattle.sf_check.specs.Programs.{IsAt, IsLawfulProgram, Stores}
-use Rattle.sf_check.specs.laws.ContainsLaws.{contains_here, any_cons}
-use Rattle.sf_check.specs.laws.ProgramLaws.{successors_inside, below_in}
-use Rattle.sf_run.specs.Machine.{State, Progress, goes, returns, bits, insn_progress, step, trace_of}
-use Rattle.sf_run.specs.laws.RunLaws.{safe_next, step_is}
-use Rattle.sf_run.specs.Reachable.{IsReachable}
-use Rattle.sf_run.specs.laws.TraceLaws.{may_go}
-use Rattle.sf_sym.specs.declared.pool.Cond.{Cond}
-use Rattle.sf_sym.specs.declared.pool.NodeId.{NodeId}
-use Rattle.sf_sym.specs.Pool.{value_of, IsCondBelow}
-use Rattle.sf_sym.specs.laws.SizeLaws.{value-small}
-use Rattle.sf_dom.specs.Facts.{FactsView, Covers, Agrees}
-use Rattle.sf_piece.specs.declared.machine.SymbolicMachine.{SymbolicMachine}
-use Rattle.sf_piece.specs.Machines.{after_return}
-use Rattle.sf_piece.specs.Pieces.{PieceData, is_member, is_prefix}
-use Rattle.sf_piece.specs.SymbolicRun.{concrete_state, met_of, number_from, IsPending, AreNodesBelow, StandsAt, IsPiece}
-use Rattle.sf_piece.specs.Works.{HasAtHand, GoesTo, GoesBy, ReturnsNow, HasAdvanced, IsContinuation}
+use Rattle.sf_piece.proofs.Common.{common_steps, ◌≡◌, ℕ, zero, suc, ◌+◌, ◌*◌, ◌/◌, ◌%◌, ◌^◌, ◌<◌, ◌≤◌, Bool, true, false, List, [], ◌∷◌, ◌++◌, length, take, Some, None, slice_get, refl, sym, ap, subst, ◌∙◌, inl, inr, arith, append-nil, if◌then◌else◌, ◌==◌, Contains, AllByRecursion, same_Some, mod-pow-add, Input, IsInput, apply, Div, Insn, Alu, ReturnConstant, ReturnA, X, successors, stored_by, IsAt, IsLawfulProgram, Stores, contains_here, any_cons, successors_inside, below_in, State, Progress, goes, returns, bits, insn_progress, step, trace_of, safe_next, step_is, IsReachable, may_go, Cond, NodeId, value_of, IsCondBelow, value-small, FactsView, Covers, Agrees, SymbolicMachine, after_return, PieceData, is_member, is_prefix, concrete_state, met_of, number_from, IsPending, AreNodesBelow, StandsAt, IsPiece, HasAtHand, GoesTo, GoesBy, ReturnsNow, HasAdvanced, IsContinuation}
+use Rattle.std.proofs.Common.{Option}
+use Rattle.std.specs.Prelude.{replicate}
 use Rattle.sf_piece.proofs.Moves.{made, stands_moved, stands_returned}
 
 pub at_same : (code : List Insn) (place : ℕ) (i j : Insn) → IsAt code place i → IsAt code place j → i ≡ j

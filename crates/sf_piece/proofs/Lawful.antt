@@ -1,33 +1,7 @@
 -- Pieces stay lawful: the symbolic run stands where it should, and on a plain stack nothing is lost.
-use Rattle.std.proofs.lemmas.Grind.{common_steps}
-use Rattle.std.proofs.Common.{◌≡◌, ℕ, ◌<◌, Bool, List, [], ◌∷◌, ◌++◌, length, replicate, refl, arith}
-use Rattle.std.specs.Prelude.{Option, Some, None, IfSome, MatchOption}
-use Rattle.std.proofs.lemmas.Bool.{false_from_ne_true}
-use Rattle.std.proofs.lemmas.List.Elements.{All-nil}
-use Rattle.sf_insn.specs.declared.input.Input.{Input}
-use Rattle.sf_insn.specs.Inputs.{IsInput}
-use Rattle.sf_insn.specs.Words.{passes}
-use Rattle.sf_insn.specs.declared.ops.Test.{Test}
-use Rattle.sf_check.specs.declared.insn.Insn.{Insn}
-use Rattle.sf_check.specs.declared.insn.Operand.{Operand}
-use Rattle.sf_check.specs.declared.insn.Operand.TheVariants.{Constant}
-use Rattle.sf_check.specs.Stacks.{IsLawfulStack, IsPlain}
-use Rattle.sf_sym.specs.declared.pool.Node.{Node}
-use Rattle.sf_sym.specs.declared.pool.NodeId.{NodeId}
-use Rattle.sf_sym.specs.declared.pool.Cond.{Cond}
-use Rattle.sf_sym.specs.Pool.{IsPool, IsCondBelow, ArePlainNodes, value_of}
-use Rattle.sf_dom.specs.declared.known.Known.{Known}
-use Rattle.sf_dom.specs.Known.{Admits}
-use Rattle.sf_dom.specs.Facts.{FactsView, known_at, Covers, Agrees, TakesIn}
-use Rattle.sf_dom.specs.Learning.{LearnsBy, CantLearn}
-use Rattle.sf_dom.specs.SoundRules.{IsLearningSound}
-use Rattle.sf_dom.specs.Facts.{IsPlainCondition}
-use Rattle.sf_piece.specs.declared.machine.SymbolicMachine.{SymbolicMachine}
-use Rattle.sf_piece.specs.Pieces.{PieceData, is_member}
-use Rattle.sf_piece.specs.PlainPieces.{IsPlainPiece}
-use Rattle.sf_piece.specs.SymbolicRun.{IsPiece, IsLawfulPiece}
-use Rattle.sf_piece.specs.Works.{HasAtHand, GoesTo, ReturnsNow, IsQuery, IsForeseen, PassesAlways, AfterTruthValue, AreChildFacts, IsChild, IsNever, with_sense}
-use Rattle.sf_piece.specs.Machines.{after_return}
+use Rattle.sf_piece.proofs.Common.{common_steps, ◌≡◌, ℕ, ◌<◌, Bool, List, [], ◌∷◌, ◌++◌, length, replicate, refl, arith, Option, IfSome, MatchOption, false_from_ne_true, All-nil, Input, IsInput, passes, Test, Insn, Operand, Constant, IsLawfulStack, IsPlain, Node, NodeId, Cond, IsPool, IsCondBelow, ArePlainNodes, value_of, Known, Admits, FactsView, known_at, Covers, Agrees, TakesIn, LearnsBy, CantLearn, IsLearningSound, IsPlainCondition, SymbolicMachine, PieceData, is_member, IsPlainPiece, IsPiece, IsLawfulPiece, HasAtHand, GoesTo, ReturnsNow, IsQuery, IsForeseen, PassesAlways, AreChildFacts, IsChild, IsNever, after_return}
+use Rattle.std.specs.Prelude.{Some, None}
+use Rattle.sf_piece.specs.Works.{AfterTruthValue, with_sense}
 use Rattle.sf_piece.proofs.Kept.{gone, go_piece, return_piece}
 use Rattle.sf_piece.proofs.Children.{taken_on, take_piece, child_of, child_piece, child_is, piece_named}
 use Rattle.sf_piece.proofs.Grown.{grown, grown_piece}

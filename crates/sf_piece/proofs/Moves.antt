@@ -1,26 +1,5 @@
 -- Where a piece's run stands after a step.
-use Rattle.std.proofs.Common.{◌≡◌, ℕ, zero, suc, ◌+◌, Bool, true, List, [], ◌∷◌, ◌++◌, length, take, drop, map, reverse, Some, None, refl, sym, ap, subst, ◌∙◌, inl, arith, append_assoc, append-nil}
-use Rattle.std.specs.Prelude.{IsSome}
-use Rattle.std.specs.List.{flat_map, AllByRecursion}
-use Rattle.sf_insn.specs.declared.input.Input.{Input}
-use Rattle.sf_insn.specs.Inputs.{IsInput}
-use Rattle.sf_check.specs.declared.insn.Insn.{Insn}
-use Rattle.sf_check.specs.Programs.{IsAt, IsLawfulProgram}
-use Rattle.sf_run.specs.declared.action.Answer.{Answer}
-use Rattle.sf_run.specs.Machine.{State, goes, returns, start, insn_progress, step, Outcome, run_for, outcome_of, met_by, return_of}
-use Rattle.sf_run.specs.Answers.{IsAnswer}
-use Rattle.sf_run.specs.laws.AnswerLaws.{answer_more}
-use Rattle.sf_run.specs.Routes.{MayMeet, returns_at, goes_on, AreWays, IsWholeRoute}
-use Rattle.sf_run.specs.laws.RunLaws.{safe_start, run_more, run_ends, run_same, lawful_ends}
-use Rattle.sf_run.specs.Reachable.{IsReachable}
-use Rattle.sf_sym.specs.declared.pool.Cond.{Cond}
-use Rattle.sf_sym.specs.declared.pool.Node.{Node}
-use Rattle.sf_sym.specs.Pool.{value_of}
-use Rattle.sf_dom.specs.Facts.{FactsView}
-use Rattle.sf_piece.specs.declared.machine.SymbolicMachine.{SymbolicMachine}
-use Rattle.sf_piece.specs.Machines.{after_return}
-use Rattle.sf_piece.specs.Pieces.{PieceData, is_member}
-use Rattle.sf_piece.specs.SymbolicRun.{concrete_state, met_of, number_from, IsPending, InProgram, RouteFrom, RunsOn, HasTaken, StandsAt}
+use Rattle.sf_piece.proofs.Common.{common_steps, ◌≡◌, ℕ, zero, suc, ◌+◌, Bool, true, List, [], ◌∷◌, ◌++◌, length, take, drop, map, reverse, Some, None, refl, sym, ap, subst, ◌∙◌, inl, arith, append_assoc, append-nil, IsSome, flat_map, AllByRecursion, Input, IsInput, Insn, IsAt, IsLawfulProgram, Answer, State, goes, returns, start, insn_progress, step, Outcome, run_for, outcome_of, met_by, return_of, IsAnswer, answer_more, MayMeet, returns_at, goes_on, AreWays, IsWholeRoute, safe_start, run_more, run_ends, run_same, lawful_ends, IsReachable, Cond, Node, value_of, FactsView, SymbolicMachine, after_return, PieceData, is_member, concrete_state, met_of, number_from, IsPending, InProgram, RouteFrom, RunsOn, HasTaken, StandsAt}
 
 -- a piece of the same stack and pool
 abbrev pub made : PieceData → List Bool → List Cond → SymbolicMachine → FactsView → PieceData
@@ -113,11 +92,7 @@ pub runs_whole : (later : List (List Insn)) (d : Input) (s : State) (more : List
     → AllByRecursion IsLawfulProgram later → RunsOn later d s more vs → (more ≡ flat_map (λ q. met_by q d) later)
     × (vs ≡ map (λ q. return_of q d) later)
 runs_whole [] d s more vs at laws (e, v) = (e, v)
-runs_whole (code ∷ later) d s more vs at laws (n, o, ran, e, v) =
-    let alike = outcome_same code d n o laws.0 (subst (λ (t : State). run_for n code d t ≡ Some o) at ran) in (
-      e ∙ ap (λ (l : List Bool). l ++ flat_map (λ q. met_by q d) later) alike.0,
-      v ∙ ap (λ (n : ℕ). n ∷ map (λ q. return_of q d) later) alike.1,
-    )
+runs_whole (code ∷ later) d s more vs at laws (n, o, ran, e, v) = grind (arith, common_steps, outcome_same)
 
 pub route_whole : (later : List (List Insn)) (more : List Bool) → RouteFrom later 0 more → AreWays later more
 route_whole [] more r = r

@@ -1,21 +1,6 @@
 -- Names, stacks, pools and words of what is made of a piece.
-use Rattle.std.proofs.Common.{append_assoc, append-nil, length-append, ◌≡◌, ℕ, zero, suc, ◌+◌, ◌-◌, ◌^◌, ◌≤◌, Bool, true, false, List, [], ◌∷◌, ◌++◌, length, refl, sym, ap, subst, ◌∙◌, inl, inr, arith}
-use Rattle.std.specs.Prelude.{Option, Some, None, MatchOption, if◌then◌else◌}
-use Rattle.std.proofs.lemmas.Option.{same_Some}
-use Rattle.sf_insn.specs.declared.ops.Test.TheVariants.{Equal, AnyBit}
-use Rattle.sf_check.specs.declared.insn.Insn.{Insn}
-use Rattle.sf_check.specs.declared.insn.Insn.TheVariants.{LoadWord, LoadConstant, LoadLength, LoadXConstant, LoadXLength, Alu, Negate, Branch, ReturnA}
-use Rattle.sf_check.specs.declared.insn.Operand.{Operand}
-use Rattle.sf_check.specs.declared.insn.Operand.TheVariants.{Constant, X}
-use Rattle.sf_sym.specs.declared.pool.Cond.{Cond}
-use Rattle.sf_sym.specs.declared.pool.Node.{Node}
-use Rattle.sf_sym.specs.declared.pool.Node.TheVariants.{Const, Word, Bin, Neg}
-use Rattle.sf_sym.specs.declared.pool.NodeId.{NodeId}
-use Rattle.sf_sym.specs.Pool.{IsPool, folded_node}
-use Rattle.sf_dom.specs.Rules.{Then}
-use Rattle.sf_piece.specs.declared.machine.SymbolicMachine.{SymbolicMachine}
-use Rattle.sf_piece.specs.Pieces.{PieceData, Split}
-use Rattle.sf_piece.specs.Execution.{IsPutIn, IsGiven, Gets, GetsOperand, with_machine, piece_with_a, piece_with_x, LoadsA, LoadsX, Computes, query, HasQuery, IsSide, MakesOf, GoesOnFor, SplitsInto, HasStep, IsBelow}
+use Rattle.sf_piece.proofs.Common.{common_steps, append_assoc, append-nil, length-append, ◌≡◌, ℕ, zero, suc, ◌+◌, ◌-◌, ◌≤◌, Bool, true, false, List, [], ◌∷◌, ◌++◌, length, refl, sym, ap, subst, ◌∙◌, inl, inr, arith, Option, if◌then◌else◌, same_Some, Insn, LoadWord, LoadConstant, LoadLength, LoadXConstant, LoadXLength, Alu, Negate, Branch, ReturnA, Operand, Constant, X, Cond, Node, Const, Word, Neg, NodeId, IsPool, Then, SymbolicMachine, PieceData, Split, IsGiven, GetsOperand, with_machine, LoadsA, LoadsX, Computes, query, HasQuery, IsSide, MakesOf, GoesOnFor, SplitsInto, HasStep, IsBelow}
+use Rattle.std.specs.Prelude.{Some}
 
 -- ---- words
 
@@ -29,12 +14,7 @@ same_more : (p : PieceData) → IsMore p p
 same_more p = record { rest = refl; pool = omega arith; lawful = λ l. l }
 
 given_more : (p q : PieceData) (node : Node) (id : NodeId) → IsGiven p node q id → IsMore p q
-given_more p q node id h = record { rest = h.rest; pool = by h.pool; lawful = λ _. h.lawful }
-  where
-    by : IsPutIn p.pool node q.pool id → length q.pool ≤ length p.pool + 1
-    by (inl there) = omega (arith, ap length there.1)
-    by (inr new) =
-        omega (arith, ap length new.2, length-append p.pool (folded_node p.pool node ∷ []))
+given_more p q node id h = grind (arith, common_steps, length-append)
 
 pub operand_more : (p : PieceData) (other : Operand) (given : PieceData × NodeId) → GetsOperand p other (Some given)
     → IsMore p given.0
@@ -45,26 +25,12 @@ operand_more p X given h =
 -- where two steps give something, so did the first
 both_gave : {A B : Type 0} (first : Option A → Type 0) (second : A → Option B → Type 0) (b : B)
     → Then first second (Some b) → (a : A) × first (Some a) × second a (Some b)
-both_gave {A} {B} first second b h = on h.0 h.1 h.2
-  where
-    on : (o : Option A) → first o → MatchOption o (Some b ≡ None) (λ a. second a (Some b))
-        → (a : A) × first (Some a) × second a (Some b)
-    on None i x = let clash : Some b ≡ None = x in absurd cc
-    on (Some a) i x = (a, i, x)
+both_gave {A} {B} first second b h = grind (arith, common_steps)
 
 pub query_more : (p : PieceData) (i : Insn) (asked : PieceData × Cond) → HasQuery p i (Some asked) → IsMore p asked.0
-query_more p (Branch test other t f) asked h =
-    let m = both_gave (GetsOperand p other) (λ right q. q ≡ Some (right.0, query p.machine.a test right.1)) asked h in
-    subst (λ (a : PieceData × Cond). IsMore p a.0) (sym (same_Some asked (m.0.0, query p.machine.a test m.0.1) m.2))
-    (operand_more p other m.0 m.1)
-query_more p ReturnA asked h =
-    let bit : Node = Const (2 ^ (31 - p.machine.taken)) in
-    let m = both_gave (Gets p bit) (λ bit q. q ≡ Some (bit.0, query p.machine.a AnyBit bit.1)) asked h.1 in
-    subst (λ (a : PieceData × Cond). IsMore p a.0) (sym (same_Some asked (m.0.0, query p.machine.a AnyBit m.0.1) m.2))
-    (given_more p m.0.0 bit m.0.1 m.1)
-query_more p (Alu op other) asked h =
-    subst (λ (a : PieceData × Cond). IsMore p a.0)
-    (sym (same_Some asked (p, query p.machine.x Equal p.machine.zero) h.1)) (same_more p)
+query_more p (Branch test other t f) asked h = grind (arith, common_steps, same_Some, operand_more, both_gave)
+query_more p ReturnA asked h = grind (arith, common_steps, same_Some, given_more, both_gave)
+query_more p (Alu op other) asked h = grind (arith, common_steps, same_Some, same_more)
 query_more p _ asked h = absurd h
 
 -- the piece goes on to the next instruction with a word that it made, with at most two nodes more
@@ -81,37 +47,13 @@ pub record HasWord (p q : PieceData) : Type 0 where
 -- so it does where what a piece with one node more is given one more, and the machine goes on
 word_of : (p mid given q : PieceData) (m : SymbolicMachine) → IsMore p mid → IsMore mid given → q ≡ with_machine given m
     → m.program ≡ given.machine.program → m.place ≡ given.machine.place + 1 → m.taken ≡ 0 → HasWord p q
-word_of p mid given q m one two same program place taken =
-    let machine : given.machine ≡ p.machine = ap (λ (r : PieceData). r.machine) two.rest
-    ∙ ap (λ (r : PieceData). r.machine) one.rest in
-    let mine : q.machine ≡ m = ap (λ (r : PieceData). r.machine) same in
-    record {
-      stack = ap (λ (r : PieceData). r.stack) same ∙ ap (λ (r : PieceData). r.stack) two.rest
-          ∙ ap (λ (r : PieceData). r.stack) one.rest;
-      name = ap (λ (r : PieceData). r.name) same ∙ ap (λ (r : PieceData). r.name) two.rest
-          ∙ ap (λ (r : PieceData). r.name) one.rest;
-      conditions = ap (λ (r : PieceData). r.conditions) same ∙ ap (λ (r : PieceData). r.conditions) two.rest
-          ∙ ap (λ (r : PieceData). r.conditions) one.rest;
-      pool = omega (arith, ap (λ (r : PieceData). length r.pool) same, two.pool, one.pool);
-      lawful = λ l. subst (λ (r : PieceData). IsPool r.pool) (sym same) (two.lawful (one.lawful l));
-      program = ap (λ (n : SymbolicMachine). n.program) mine ∙ program
-          ∙ ap (λ (n : SymbolicMachine). n.program) machine;
-      place = ap (λ (n : SymbolicMachine). n.place) mine ∙ place
-          ∙ ap (λ (n : SymbolicMachine). n.place + 1) machine;
-      taken = ap (λ (n : SymbolicMachine). n.taken) mine ∙ taken;
-    }
+word_of p mid given q m one two same program place taken = grind (arith, common_steps)
 
 loads_word : (p mid q : PieceData) (node : Node) → IsMore p mid → LoadsA mid node (Some q) → HasWord p q
-loads_word p mid q node more h =
-    let m = both_gave (Gets mid node) (λ given next. next ≡ Some (piece_with_a given)) q h in
-    word_of p mid m.0.0 q (piece_with_a m.0).machine more (given_more mid m.0.0 node m.0.1 m.1)
-    (same_Some q (piece_with_a m.0) m.2) refl refl refl
+loads_word p mid q node more h = grind (arith, common_steps, same_Some, given_more, both_gave, word_of)
 
 loads_x_word : (p q : PieceData) (k : ℕ) → LoadsX p k (Some q) → HasWord p q
-loads_x_word p q k h =
-    let m = both_gave (Gets p (Const k)) (λ given next. next ≡ Some (piece_with_x given)) q h in
-    word_of p p m.0.0 q (piece_with_x m.0).machine (same_more p) (given_more p m.0.0 (Const k) m.0.1 m.1)
-    (same_Some q (piece_with_x m.0) m.2) refl refl refl
+loads_x_word p q k h = grind (arith, common_steps, same_Some, same_more, given_more, both_gave, word_of)
 
 pub computes_word : (p q : PieceData) (i : Insn) → Computes p i (Some q) → HasWord p q
 computes_word p q (LoadWord w) h = loads_word p p q (Word w) (same_more p) h
@@ -120,9 +62,7 @@ computes_word p q LoadLength h = loads_word p p q (Const 64) (same_more p) h
 computes_word p q (LoadXConstant k) h = loads_x_word p q k h
 computes_word p q LoadXLength h = loads_x_word p q 64 h
 computes_word p q Negate h = loads_word p p q (Neg p.machine.a) (same_more p) h
-computes_word p q (Alu op other) h =
-    let m = both_gave (GetsOperand p other) (λ right. LoadsA right.0 (Bin op p.machine.a right.1)) q h.1 in
-    loads_word p m.0.0 q (Bin op p.machine.a m.0.1) (operand_more p other m.0 m.1) m.2
+computes_word p q (Alu op other) h = grind (arith, common_steps, operand_more, both_gave, loads_word)
 computes_word p q _ h = absurd h
 
 -- ---- names
@@ -135,21 +75,9 @@ pub record HasGoneOn (p q : PieceData) : Type 0 where
   pub pool : IsPool p.pool → IsPool q.pool
 
 pub made_on : (p : PieceData) (i : Insn) (q : PieceData) → MakesOf p i q → HasGoneOn p q
-made_on p i q (inl m) = record {
-  on = [];
-  name = ap (λ (r : PieceData). r.name) m.2 ∙ sym (append-nil p.name);
-  stack = ap (λ (r : PieceData). r.stack) m.2;
-  pool = λ l. subst (λ (r : PieceData). IsPool r.pool) (sym m.2) l;
-}
-made_on p i q (inr (inl m)) =
-    let w = computes_word p q i m in
-    record { on = []; name = w.name ∙ sym (append-nil p.name); stack = w.stack; pool = w.lawful }
-made_on p i q (inr (inr m)) = record {
-  on = m.1 ∷ [];
-  name = ap (λ (r : PieceData). r.name) m.4.rest;
-  stack = ap (λ (r : PieceData). r.stack) m.4.rest;
-  pool = λ l. subst (λ (r : PieceData). IsPool r.pool) (sym m.4.rest) l;
-}
+made_on p i q (inl m) = grind (arith, common_steps, append-nil)
+made_on p i q (inr (inl m)) = grind (arith, common_steps, append-nil, computes_word)
+made_on p i q (inr (inr m)) = grind (arith, common_steps)
 
 goes_named : (n : ℕ) (p q : PieceData) → GoesOnFor n p q → HasGoneOn p q
 goes_named zero p q h = record {
@@ -181,20 +109,7 @@ pub record AreNamedSides (r f t : PieceData) : Type 0 where
   pub pool : (b : Bool) → IsPool r.pool → IsPool (if b then t else f).pool
 
 pub sides_named : (r f t : PieceData) (name : List Bool) → HasStep r (Split f t) name → AreNamedSides r f t
-sides_named r f t name h =
-    let q = h.1 in
-    let went = goes_named h.0 r q h.2 in
-    let s = h.3.0 in
-    let asked = query_more q s.0 s.1 s.3 in
-    record {
-      on = went.on;
-      name = λ b. ap (λ (c : PieceData). c.name) (side_of q f t s b).rest
-          ∙ ap (λ (l : List Bool). l ++ b ∷ []) (ap (λ (c : PieceData). c.name) asked.rest ∙ went.name);
-      stack = λ b. ap (λ (c : PieceData). c.stack) (side_of q f t s b).rest
-          ∙ ap (λ (c : PieceData). c.stack) asked.rest ∙ went.stack;
-      pool = λ b l. subst IsPool (sym (ap (λ (c : PieceData). c.pool) (side_of q f t s b).rest))
-          (asked.lawful (went.pool l));
-    }
+sides_named r f t name h = grind (arith, common_steps, query_more, goes_named, side_of)
 
 group : (xs on x : List Bool) (b : Bool) → (xs ++ on ++ b ∷ []) ++ x ≡ xs ++ ((on ++ b ∷ []) ++ x)
 group xs on x b =

@@ -1,25 +1,6 @@
 -- What is made of a piece is one thing, if facts learn and grow in one way at most.
-use Rattle.std.proofs.Common.{◌≡◌, ℕ, ◌-◌, ◌^◌, Bool, true, false, List, [], ◌∷◌, ◌++◌, refl, sym, ap, subst, ◌∙◌, inl, inr}
-use Rattle.std.specs.Prelude.{Option, Some, None}
-use Rattle.sf_insn.specs.declared.ops.BinOp.{BinOp}
-use Rattle.sf_insn.specs.declared.ops.BinOp.TheVariants.{Div}
-use Rattle.sf_insn.specs.declared.ops.Test.TheVariants.{AnyBit}
-use Rattle.sf_check.specs.declared.insn.Insn.{Insn}
-use Rattle.sf_check.specs.declared.insn.Insn.TheVariants.{LoadWord, LoadConstant, LoadLength, LoadXConstant, LoadXLength, Alu, Negate, Branch, ReturnA}
-use Rattle.sf_check.specs.declared.insn.Operand.{Operand}
-use Rattle.sf_check.specs.declared.insn.Operand.TheVariants.{Constant, X}
-use Rattle.sf_sym.specs.declared.pool.Cond.{Cond}
-use Rattle.sf_sym.specs.declared.pool.Node.{Node}
-use Rattle.sf_sym.specs.declared.pool.Node.TheVariants.{Const, Word, Bin, Neg}
-use Rattle.sf_sym.specs.declared.pool.NodeId.{NodeId}
-use Rattle.sf_sym.specs.Pool.{IsPool}
-use Rattle.sf_dom.specs.Facts.{FactsView}
-use Rattle.sf_dom.specs.Learning.{CantLearn, GrowsBy, CantGrow}
-use Rattle.sf_dom.specs.SoundRules.{HaveOneResult}
-use Rattle.sf_dom.specs.laws.ThenLaws.{then-one}
-use Rattle.sf_piece.specs.declared.machine.SymbolicMachine.{SymbolicMachine}
-use Rattle.sf_piece.specs.Pieces.{PieceData}
-use Rattle.sf_piece.specs.Execution.{IsPutIn, IsGiven, Gets, GetsOperand, piece_with_a, piece_with_x, LoadsA, LoadsX, Computes, query, HasQuery, with_sense, AfterTruthValue, CanLearn, LeavesOnly, IsSide, IsNamedOn}
+use Rattle.sf_piece.proofs.Common.{◌≡◌, ℕ, ◌-◌, ◌^◌, Bool, true, false, List, [], ◌∷◌, ◌++◌, refl, sym, ap, subst, ◌∙◌, inl, inr, Option, BinOp, Div, AnyBit, Insn, LoadWord, LoadConstant, LoadLength, LoadXConstant, LoadXLength, Alu, Negate, Branch, ReturnA, Operand, Constant, X, Cond, Node, Const, Word, Bin, Neg, NodeId, IsPool, FactsView, CantLearn, GrowsBy, CantGrow, HaveOneResult, then-one, SymbolicMachine, PieceData, IsPutIn, IsGiven, Gets, GetsOperand, piece_with_a, piece_with_x, LoadsA, LoadsX, Computes, query, HasQuery, with_sense, AfterTruthValue, CanLearn, LeavesOnly, IsSide, IsNamedOn}
+use Rattle.std.specs.Prelude.{Some, None}
 use Rattle.sf_piece.proofs.Named.{operand_more}
 
 -- ---- pools

@@ -1,20 +1,5 @@
 -- The rules reach one piece of a name at most.
-use Rattle.std.proofs.Common.{length-append, ◌≡◌, ℕ, ◌<◌, ◌⊎◌, Bool, true, false, List, [], ◌∷◌, ◌++◌, length, refl, sym, ap, subst, ◌∙◌, inl, inr, arith}
-use Rattle.std.specs.Prelude.{if◌then◌else◌}
-use Rattle.std.proofs.lemmas.Bool.{cases_lt}
-use Rattle.std.proofs.lemmas.List.{ext_get_or}
-use Rattle.sf_check.specs.declared.insn.Insn.{Insn}
-use Rattle.sf_sym.specs.declared.pool.Cond.{Cond}
-use Rattle.sf_sym.specs.declared.pool.Node.{Node}
-use Rattle.sf_sym.specs.declared.pool.Node.TheVariants.{Const, Word}
-use Rattle.sf_sym.specs.Pool.{IsPool, node_at}
-use Rattle.sf_dom.specs.Facts.{FactsView}
-use Rattle.sf_dom.specs.Learning.{StartsBy}
-use Rattle.sf_dom.specs.SoundRules.{HaveOneResult}
-use Rattle.sf_piece.specs.declared.machine.SymbolicMachine.{SymbolicMachine}
-use Rattle.sf_piece.specs.Pieces.{PieceData, Split}
-use Rattle.sf_piece.specs.Execution.{HasStep, IsFirst, IsBelow, IsInTree}
-use Rattle.sf_piece.specs.Machines.{first_machine}
+use Rattle.sf_piece.proofs.Common.{length-append, ◌≡◌, ℕ, ◌<◌, ◌⊎◌, Bool, true, false, List, [], ◌∷◌, ◌++◌, length, refl, sym, ap, subst, ◌∙◌, inl, inr, arith, if◌then◌else◌, cases_lt, ext_get_or, Insn, Cond, Node, Const, Word, IsPool, node_at, FactsView, StartsBy, HaveOneResult, SymbolicMachine, PieceData, Split, HasStep, IsFirst, IsBelow, IsInTree, first_machine}
 use Rattle.sf_piece.proofs.Named.{AreNamedSides, below_named, regroup, sides_named}
 use Rattle.sf_piece.proofs.OneMade.{same_id}
 use Rattle.sf_piece.proofs.OneStep.{one_step}

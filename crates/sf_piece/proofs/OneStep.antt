@@ -1,17 +1,8 @@
 -- A piece has one step at most.
-use Rattle.std.proofs.Common.{◌≡◌, ℕ, zero, suc, ◌≤◌, ◌⊎◌, Bool, true, false, List, length, refl, sym, ap, subst, ◌∙◌, inl, inr, arith}
-use Rattle.std.specs.Prelude.{Option, Some, None, slice_get}
-use Rattle.std.proofs.lemmas.Option.{same_Some}
-use Rattle.sf_check.specs.declared.insn.Insn.{Insn}
-use Rattle.sf_check.specs.declared.insn.Insn.TheVariants.{LoadScratch, LoadXScratch, StoreA, StoreX, Alu, Jump, Branch, ReturnConstant, ReturnA, Tax, Txa}
-use Rattle.sf_sym.specs.declared.pool.Cond.{Cond}
-use Rattle.sf_sym.specs.declared.pool.NodeId.{NodeId}
-use Rattle.sf_sym.specs.Pool.{IsPool}
-use Rattle.sf_dom.specs.Learning.{CantLearn}
-use Rattle.sf_dom.specs.SoundRules.{HaveOneResult}
-use Rattle.sf_piece.specs.declared.machine.SymbolicMachine.{SymbolicMachine}
-use Rattle.sf_piece.specs.Pieces.{PieceData, StepData, Split, Settled, Empty}
-use Rattle.sf_piece.specs.Execution.{on, with_machine, Computes, MovesTo, HasQuery, with_sense, LeavesOnly, LeavesNeither, IsSide, IsNamedOn, code_at, IsAtHand, MakesOf, GoesOn, SplitsInto, IsEmptied, GoesOnFor, EndsAs, HasStep}
+use Rattle.sf_piece.proofs.Common.{common_steps, ◌≡◌, ℕ, zero, suc, ◌≤◌, ◌⊎◌, Bool, true, false, List, length, refl, sym, ap, subst, ◌∙◌, inl, inr, arith, Option, same_Some, Insn, LoadScratch, LoadXScratch, StoreA, StoreX, Alu, Jump, Branch, ReturnConstant, ReturnA, Tax, Txa, Cond, NodeId, IsPool, CantLearn, HaveOneResult, SymbolicMachine, PieceData, StepData, Split, with_machine, Computes, MovesTo, HasQuery, with_sense, LeavesOnly, LeavesNeither, IsSide, IsNamedOn, code_at, IsAtHand, MakesOf, GoesOn, SplitsInto, IsEmptied, GoesOnFor, EndsAs, HasStep}
+use Rattle.std.specs.Prelude.{Some, None, slice_get}
+use Rattle.sf_piece.specs.Pieces.{Settled, Empty}
+use Rattle.sf_piece.specs.Execution.{on}
 use Rattle.sf_piece.proofs.Kept.{at_same}
 use Rattle.sf_piece.proofs.Named.{made_on, query_more}
 use Rattle.sf_piece.proofs.OneMade.{can_or_cant, computes_one, forced_one, named_one, query_one, side_one}
@@ -23,12 +14,8 @@ same_word : (m : SymbolicMachine) (k : ℕ) (v w : NodeId) → slice_get m.scrat
 same_word m k v w h g = same_Some v w (same_Some (Some v) (Some w) (sym h ∙ g))
 
 moves_once : (m : SymbolicMachine) (i : Insn) (a b : SymbolicMachine) → MovesTo m i a → MovesTo m i b → a ≡ b
-moves_once m (LoadScratch k) a b h g =
-    h.2 ∙ ap (λ (w : NodeId). let n : SymbolicMachine = record (on m) { a = w } in n) (same_word m k h.0 g.0 h.1 g.1)
-    ∙ sym g.2
-moves_once m (LoadXScratch k) a b h g =
-    h.2 ∙ ap (λ (w : NodeId). let n : SymbolicMachine = record (on m) { x = w } in n) (same_word m k h.0 g.0 h.1 g.1)
-    ∙ sym g.2
+moves_once m (LoadScratch k) a b h g = grind (arith, common_steps, same_word)
+moves_once m (LoadXScratch k) a b h g = grind (arith, common_steps, same_word)
 moves_once m (StoreA k) a b h g = h ∙ sym g
 moves_once m (StoreX k) a b h g = h ∙ sym g
 moves_once m Tax a b h g = h ∙ sym g

@@ -1,37 +1,6 @@
 -- Pieces of plain stacks.
-use Rattle.std.proofs.lemmas.Grind.{common_steps}
-use Rattle.std.proofs.Common.{◌≡◌, ℕ, zero, suc, ◌<◌, ◌&&◌, Bool, true, false, List, [], ◌∷◌, ◌++◌, length, drop, reverse, Some, slice_get, refl, sym, subst, ◌∙◌, inl, inr, arith}
-use Rattle.std.specs.Prelude.{All}
-use Rattle.std.specs.List.{AllByRecursion}
-use Rattle.std.proofs.lemmas.List.{get_or_append_left, get_or-reverse, length-reverse}
-use Rattle.std.proofs.lemmas.Option.{same_Some}
-use Rattle.std.proofs.lemmas.Bool.{cases_lt}
-use Rattle.std.proofs.lemmas.List.Elements.{All-push, All-head, All-tail, All-drop, recursion_from_All}
-use Rattle.sf_insn.specs.declared.input.Input.{Input}
-use Rattle.sf_insn.specs.Inputs.{IsInput}
-use Rattle.sf_insn.specs.declared.ops.Test.{Test}
-use Rattle.sf_insn.specs.declared.ops.Test.TheVariants.{Equal, Greater, GreaterOrEqual, AnyBit}
-use Rattle.sf_check.specs.declared.insn.Insn.{Insn}
-use Rattle.sf_check.specs.declared.insn.Insn.TheVariants.{Branch}
-use Rattle.sf_check.specs.declared.insn.Operand.{Operand}
-use Rattle.sf_check.specs.declared.insn.Operand.TheVariants.{Constant, X}
-use Rattle.sf_run.specs.declared.action.Answer.{Answer}
-use Rattle.sf_check.specs.Stacks.{IsPlain, IsPlainInsn}
-use Rattle.sf_run.specs.Machine.{trace_of}
-use Rattle.sf_sym.specs.declared.pool.Node.{Node}
-use Rattle.sf_sym.specs.declared.pool.Node.TheVariants.{Const, Word, Bin, Neg}
-use Rattle.sf_sym.specs.declared.pool.NodeId.{NodeId}
-use Rattle.sf_sym.specs.declared.pool.Cond.{Cond}
-use Rattle.sf_sym.specs.Pool.{IsPool, ArePlainNodes, OperandsBelow, folded_node, node_at, IsCondBelow}
-use Rattle.sf_dom.specs.Facts.{FactsView, Agrees, KeepsOnly, TakesIn, IsWordOrConst, IsPlainTest}
-use Rattle.sf_dom.specs.Propagation.{Meets}
-use Rattle.sf_dom.specs.laws.FactsLaws.{some-input}
-use Rattle.sf_dom.specs.Facts.{IsPlainCondition}
-use Rattle.sf_piece.specs.declared.machine.SymbolicMachine.{SymbolicMachine}
-use Rattle.sf_piece.specs.Pieces.{PieceData, is_member, HasNoMember, IsRightAnswer}
-use Rattle.sf_piece.specs.SymbolicRun.{IsPiece}
-use Rattle.sf_piece.specs.Works.{HasAtHand, AreChildFacts, with_sense}
-use Rattle.sf_piece.specs.PlainPieces.{IsPlainPiece}
+use Rattle.sf_piece.proofs.Common.{common_steps, ◌≡◌, ℕ, zero, suc, ◌<◌, ◌&&◌, Bool, true, false, List, [], ◌∷◌, ◌++◌, length, drop, reverse, Some, slice_get, refl, sym, subst, ◌∙◌, inl, inr, arith, All, AllByRecursion, get_or_append_left, get_or-reverse, length-reverse, same_Some, cases_lt, All-push, All-head, All-tail, All-drop, recursion_from_All, Input, IsInput, Test, Equal, Greater, GreaterOrEqual, AnyBit, Insn, Branch, Operand, Constant, X, Answer, IsPlain, IsPlainInsn, trace_of, Node, Const, Word, Bin, Neg, NodeId, Cond, IsPool, ArePlainNodes, OperandsBelow, folded_node, node_at, IsCondBelow, FactsView, Agrees, KeepsOnly, TakesIn, IsWordOrConst, IsPlainTest, Meets, some-input, IsPlainCondition, SymbolicMachine, PieceData, is_member, HasNoMember, IsRightAnswer, IsPiece, HasAtHand, AreChildFacts, IsPlainPiece}
+use Rattle.sf_piece.specs.Works.{with_sense}
 use Rattle.sf_piece.proofs.Moves.{made}
 use Rattle.sf_piece.proofs.Grown.{grown, members_grown}
 use Rattle.sf_piece.proofs.Children.{child_of, child_members}
@@ -142,12 +111,7 @@ plain_test AnyBit k t f h = h
 pub plain_asked : (q : PieceData) (test : Test) (o : Operand) (t f : ℕ) (id : NodeId) → IsPiece q → IsPlainPiece q
     → IsPlainInsn (Branch test o t f) → ((k : ℕ) → o ≡ Constant k → node_at q.pool id.0 ≡ Const k)
     → IsPlainCondition q.pool (record { node = q.machine.a; test = test; other = id; sense = true })
-plain_asked q test (Constant k) t f id h plain insn constant = record {
-  node = word_or_const q.pool q.machine.a.0 h.pool plain.nodes h.nodes.a;
-  number = k;
-  other = constant k refl;
-  test = plain_test test k t f insn;
-}
+plain_asked q test (Constant k) t f id h plain insn constant = grind (arith, common_steps, word_or_const, plain_test)
 plain_asked q Equal X t f id h plain insn constant = absurd insn
 plain_asked q Greater X t f id h plain insn constant = absurd insn
 plain_asked q GreaterOrEqual X t f id h plain insn constant = absurd insn

@@ -1,31 +1,6 @@
 -- Pieces that take a truth value of the trace into their names.
-use Rattle.std.proofs.lemmas.Grind.{common_steps}
-use Rattle.std.proofs.Common.{◌≡◌, ℕ, zero, suc, ◌+◌, ◌-◌, ◌*◌, ◌<◌, Bool, true, false, List, [], ◌∷◌, ◌++◌, length, take, drop, map, Option, Some, None, slice_get, refl, sym, ap, subst, ◌∙◌, inl, inr, arith, append_assoc, append-nil}
-use Rattle.std.specs.Prelude.{if◌then◌else◌, ◌==◌, Contains, IsSome}
-use Rattle.std.specs.List.{flat_map, list_all}
-use Rattle.std.proofs.lemmas.Option.{same_Some}
-use Rattle.std.proofs.lemmas.List.{length_push}
-use Rattle.sf_insn.specs.declared.input.Input.{Input}
-use Rattle.sf_insn.specs.Inputs.{IsInput}
-use Rattle.sf_insn.specs.Words.{apply, passes}
-use Rattle.sf_insn.specs.declared.ops.BinOp.TheVariants.{Div}
-use Rattle.sf_insn.specs.declared.ops.Test.{Test}
-use Rattle.sf_check.specs.declared.insn.Insn.{Insn}
-use Rattle.sf_check.specs.declared.insn.Insn.TheVariants.{Alu, Branch, ReturnA}
-use Rattle.sf_check.specs.declared.insn.Operand.{Operand}
-use Rattle.sf_check.specs.declared.insn.Operand.TheVariants.{X}
-use Rattle.sf_check.specs.Programs.{IsAt}
-use Rattle.sf_check.specs.laws.ContainsLaws.{contains_here, contains_there}
-use Rattle.sf_run.specs.Machine.{State, Progress, goes, returns, stuck, insn_progress, outcome_from, run_for, operand_of, test_progress, met_by, return_of, trace_of}
-use Rattle.sf_run.specs.laws.RunLaws.{step_is, ends_from, option_map_some}
-use Rattle.sf_run.specs.Reachable.{put}
-use Rattle.sf_sym.specs.declared.pool.Cond.{Cond}
-use Rattle.sf_sym.specs.Pool.{value_of, is_met}
-use Rattle.sf_dom.specs.Facts.{FactsView}
-use Rattle.sf_piece.specs.Machines.{after_return}
-use Rattle.sf_piece.specs.Pieces.{PieceData, is_member}
-use Rattle.sf_piece.specs.SymbolicRun.{concrete_state, met_of, number_from, AreNodesBelow, StandsAt, IsPiece}
-use Rattle.sf_piece.specs.Works.{HasAtHand, NextIs, work_left}
+use Rattle.sf_piece.proofs.Common.{common_steps, ◌≡◌, ℕ, zero, suc, ◌+◌, ◌-◌, ◌*◌, ◌<◌, Bool, true, false, List, [], ◌∷◌, ◌++◌, length, take, drop, map, Some, None, slice_get, refl, sym, ap, subst, ◌∙◌, inl, inr, arith, append_assoc, append-nil, if◌then◌else◌, ◌==◌, Contains, IsSome, flat_map, list_all, same_Some, length_push, Input, IsInput, apply, passes, Div, Test, Insn, Alu, Branch, ReturnA, Operand, X, IsAt, contains_here, contains_there, State, Progress, goes, returns, stuck, insn_progress, outcome_from, run_for, operand_of, test_progress, met_by, return_of, trace_of, step_is, ends_from, option_map_some, put, Cond, value_of, is_met, FactsView, after_return, PieceData, is_member, concrete_state, met_of, number_from, AreNodesBelow, StandsAt, IsPiece, HasAtHand, NextIs, work_left}
+use Rattle.std.proofs.Common.{Option}
 use Rattle.sf_piece.proofs.Moves.{made, stands_moved, stands_kept, stands_returned}
 use Rattle.sf_piece.proofs.Kept.{at_same, none_pending, pre_short, safe_moved}
 

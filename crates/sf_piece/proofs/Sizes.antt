@@ -1,24 +1,6 @@
 -- The pieces of an execution tree stay small. Each small step adds at most two nodes to a pool, and leaves less to do.
-use Rattle.std.proofs.Common.{length-append, ◌≡◌, ℕ, zero, suc, ◌+◌, ◌-◌, ◌*◌, ◌^◌, ◌<◌, ◌≤◌, Bool, true, false, List, [], ◌∷◌, length, replicate, refl, sym, ap, subst, ◌∙◌, inl, inr, arith}
-use Rattle.std.specs.Prelude.{Some, if◌then◌else◌}
-use Rattle.std.proofs.lemmas.Bool.Decides.{nat_tests}
-use Rattle.std.proofs.lemmas.List.{length-replicate}
-use Rattle.std.proofs.lemmas.Option.{slice_get_within}
-use Rattle.sf_insn.specs.declared.ops.BinOp.{BinOp}
-use Rattle.sf_insn.specs.declared.ops.BinOp.TheVariants.{Div}
-use Rattle.sf_check.specs.declared.insn.Insn.{Insn}
-use Rattle.sf_check.specs.declared.insn.Insn.TheVariants.{LoadScratch, LoadXScratch, StoreA, StoreX, Alu, Jump, Branch, ReturnConstant, ReturnA, Tax, Txa}
-use Rattle.sf_check.specs.declared.insn.Operand.{Operand}
-use Rattle.sf_check.specs.declared.insn.Operand.TheVariants.{Constant, X}
-use Rattle.sf_check.specs.Stacks.{IsLawfulStack}
-use Rattle.sf_run.specs.laws.RouteLaws.{route_is_short}
-use Rattle.sf_sym.specs.declared.pool.Cond.{Cond}
-use Rattle.sf_piece.specs.declared.machine.SymbolicMachine.{SymbolicMachine}
-use Rattle.sf_piece.specs.Pieces.{PieceData, IsTrulyNamed}
-use Rattle.sf_piece.specs.Execution.{with_machine, divides_at, MovesTo, HasQuery, AfterTruthValue, with_sense, IsSide, code_at, IsAtHand, MakesOf, GoesOn, GoesOnFor, IsFirst, IsBelow, IsInTree}
-use Rattle.sf_piece.specs.Sizes.{IsSmall}
-use Rattle.sf_piece.specs.SymbolicRun.{IsLawfulPiece}
-use Rattle.sf_piece.specs.Works.{behind_chain, work_left}
+use Rattle.sf_piece.proofs.Common.{common_steps, length-append, ◌≡◌, ℕ, zero, suc, ◌+◌, ◌-◌, ◌*◌, ◌^◌, ◌<◌, ◌≤◌, Bool, false, List, [], ◌∷◌, length, replicate, refl, sym, ap, subst, ◌∙◌, inl, inr, arith, if◌then◌else◌, nat_tests, length-replicate, slice_get_within, Insn, LoadScratch, LoadXScratch, StoreA, StoreX, Jump, ReturnConstant, ReturnA, Tax, Txa, IsLawfulStack, route_is_short, Cond, SymbolicMachine, PieceData, IsTrulyNamed, with_machine, MovesTo, HasQuery, AfterTruthValue, with_sense, IsSide, code_at, IsAtHand, MakesOf, GoesOn, GoesOnFor, IsFirst, IsBelow, IsInTree, IsSmall, IsLawfulPiece, behind_chain, work_left}
+use Rattle.std.specs.Prelude.{Some}
 use Rattle.sf_piece.proofs.AtHand.{short_program}
 use Rattle.sf_piece.proofs.Named.{computes_word, query_more, side_of}
 
@@ -46,31 +28,7 @@ moves_left p _ m running small to = absurd to
 query_falls : (p r : PieceData) (i : Insn) (asked : PieceData × Cond) (b : Bool) (m : SymbolicMachine)
     → r.machine ≡ p.machine → p.machine.program < length p.stack → p.machine.place < 4096 → HasQuery p i (Some asked)
     → AfterTruthValue r i b m → work_left (with_machine p m) < work_left p
-query_falls p r i asked b m same running small asks after = by i asks after
-  where
-    program : r.machine.program ≡ p.machine.program
-    program = ap (λ (n : SymbolicMachine). n.program) same
-
-    place : r.machine.place ≡ p.machine.place
-    place = ap (λ (n : SymbolicMachine). n.place) same
-
-    taken : r.machine.taken ≡ p.machine.taken
-    taken = ap (λ (n : SymbolicMachine). n.taken) same
-
-    by : (i : Insn) → HasQuery p i (Some asked) → AfterTruthValue r i b m → work_left (with_machine p m) < work_left p
-    by (Branch test other t f) asks after = rw after (omega (arith, running, small, program, place, taken))
-    by ReturnA asks after = rw after (omega (arith, asks.0, program, place, taken))
-    by (Alu op other) asks after = alu op other b asks.0 after
-      where
-        alu : (op : BinOp) (other : Operand) (b : Bool) → divides_at op other p.machine.taken ≡ true
-            → AfterTruthValue r (Alu op other) b m → work_left (with_machine p m) < work_left p
-        alu Div X true asks after = rw after (omega (arith, running, program, place, taken))
-        alu Div X false asks after =
-            let none : p.machine.taken ≡ 0 = grind (arith, nat_tests) in
-            rw after (omega (arith, none, program, place, taken))
-        alu Div (Constant k) b asks after = absurd after
-        alu _ other b asks after = absurd after
-    by _ asks after = absurd after
+query_falls p r i asked b m same running small asks after = grind (arith, common_steps, nat_tests)
 
 -- ---- the tree
 

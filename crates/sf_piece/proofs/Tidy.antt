@@ -1,25 +1,5 @@
 -- A piece stays tidy as it goes on.
-use Rattle.std.proofs.Common.{◌≡◌, ◌^◌, ◌-◌, ◌<◌, ◌≤◌, length, append-nil, ℕ, zero, suc, Bool, true, false, List, [], ◌∷◌, Some, None, refl, sym, ap, subst, ◌∙◌, inl, inr, arith}
-use Rattle.std.specs.Prelude.{if◌then◌else◌}
-use Rattle.std.proofs.lemmas.Option.{same_Some}
-use Rattle.std.proofs.lemmas.List.{get_or_append_left, length_push}
-use Rattle.sf_insn.specs.declared.ops.BinOp.TheVariants.{Div}
-use Rattle.sf_insn.specs.declared.ops.Test.TheVariants.{Equal, AnyBit}
-use Rattle.sf_check.specs.declared.insn.Insn.{Insn}
-use Rattle.sf_check.specs.declared.insn.Insn.TheVariants.{LoadWord, LoadConstant, LoadLength, LoadScratch, LoadXConstant, LoadXLength, LoadXScratch, StoreA, StoreX, Alu, Negate, Jump, Branch, ReturnConstant, ReturnA, Tax, Txa}
-use Rattle.sf_check.specs.declared.insn.Operand.{Operand}
-use Rattle.sf_check.specs.declared.insn.Operand.TheVariants.{Constant, X}
-use Rattle.sf_sym.specs.declared.pool.Cond.{Cond}
-use Rattle.sf_sym.specs.declared.pool.Node.{Node}
-use Rattle.sf_sym.specs.declared.pool.Node.TheVariants.{Const, Word, Bin, Neg}
-use Rattle.sf_sym.specs.declared.pool.NodeId.{NodeId}
-use Rattle.sf_sym.specs.Pool.{Extends, IsCondBelow, node_at, folded_node}
-use Rattle.sf_dom.specs.SoundRules.{started, learnt, grown}
-use Rattle.sf_piece.specs.declared.machine.SymbolicMachine.{SymbolicMachine}
-use Rattle.sf_piece.specs.Pieces.{PieceData, Split}
-use Rattle.sf_piece.specs.Execution.{IsNodeAt, IsPutIn, IsGiven, GetsOperand, with_machine, piece_with_a, piece_with_x, LoadsA, LoadsX, Computes, MovesTo, AfterTruthValue, MakesOf, GoesOnFor, IsFirst, query, HasQuery, IsSide, with_sense, HasStep, IsBelow, IsInTree}
-use Rattle.sf_piece.specs.SmallSteps.{IsTidy}
-use Rattle.sf_piece.specs.SymbolicRun.{AreNodesBelow}
+use Rattle.sf_piece.proofs.Common.{common_steps, ◌≡◌, ◌^◌, ◌-◌, ◌<◌, ◌≤◌, length, append-nil, ℕ, zero, suc, Bool, true, false, List, [], ◌∷◌, Some, None, refl, sym, ap, subst, ◌∙◌, inl, inr, arith, if◌then◌else◌, same_Some, get_or_append_left, length_push, Div, Equal, AnyBit, Insn, LoadWord, LoadConstant, LoadLength, LoadScratch, LoadXConstant, LoadXLength, LoadXScratch, StoreA, StoreX, Alu, Negate, Jump, Branch, ReturnConstant, ReturnA, Tax, Txa, Operand, Constant, X, Cond, Node, Const, Word, Bin, Neg, NodeId, Extends, IsCondBelow, node_at, folded_node, started, learnt, grown, SymbolicMachine, PieceData, Split, IsNodeAt, IsPutIn, IsGiven, GetsOperand, with_machine, piece_with_x, LoadsA, LoadsX, Computes, MovesTo, AfterTruthValue, MakesOf, GoesOnFor, IsFirst, query, HasQuery, IsSide, with_sense, HasStep, IsBelow, IsInTree, IsTidy, AreNodesBelow}
 use Rattle.sf_piece.proofs.Arms.{set_below}
 use Rattle.sf_piece.proofs.Grown.{nodes_le}
 use Rattle.sf_piece.proofs.Kept.{returned_nodes, none_set}
@@ -29,10 +9,7 @@ use Rattle.sf_piece.proofs.Named.{side_of}
 put_after : (old new : List Node) (node other : Node) (id at : NodeId) → IsNodeAt old other at → IsPutIn old node new id
     → IsNodeAt new other at
 put_after old new node other id at h (inl k) = subst (λ (ns : List Node). IsNodeAt ns other at) (sym k.1) h
-put_after old new node other id at h (inr k) = subst (λ (ns : List Node). IsNodeAt ns other at) (sym k.2) (
-  omega (arith, h.0, length_push old (folded_node old node)),
-  get_or_append_left old (folded_node old node ∷ []) (Const 0) at.0 h.0 ∙ h.1,
-)
+put_after old new node other id at h (inr k) = grind (arith, common_steps, get_or_append_left, length_push)
 
 -- a pool that gets a node goes on from what it was, and has the node
 put_extends : (old new : List Node) (node : Node) (id : NodeId) → IsPutIn old node new id → Extends old new
@@ -43,9 +20,7 @@ put_below : (old new : List Node) (node : Node) (id : NodeId) → IsPutIn old no
     → (length old ≤ length new) × (id.0 < length new)
 put_below old new node id (inl k) =
     let same = ap (λ (ns : List Node). length ns) k.1 in let l = k.0.0 in (omega arith, omega arith)
-put_below old new node id (inr k) =
-    let size = ap (λ (ns : List Node). length ns) k.2 ∙ length_push old (folded_node old node) in
-    let last = k.1 in (omega arith, omega arith)
+put_below old new node id (inr k) = grind (arith, common_steps, length_push)
 
 tidy_given : (p : PieceData) (node : Node) (q : PieceData) (id : NodeId) → IsTidy p → IsGiven p node q id → IsTidy q
 tidy_given p node q id tidy h =
@@ -58,22 +33,11 @@ tidy_given p node q id tidy h =
 
 tidy_with : (p : PieceData) (m : SymbolicMachine) → IsTidy p → m.zero ≡ p.machine.zero
     → AreNodesBelow (length p.pool) m → IsTidy (with_machine p m)
-tidy_with p m tidy e below = record {
-  zero = subst (λ (z : NodeId). IsNodeAt p.pool (Const 0) z) (sym e) tidy.zero;
-  nodes = below;
-  carried = tidy.carried;
-}
+tidy_with p m tidy e below = grind (arith, common_steps)
 
 tidy_loads_a : (p : PieceData) (node : Node) (q : PieceData) → IsTidy p → LoadsA p node (Some q) → IsTidy q
 tidy_loads_a p node q tidy (None, h, e) = absurd cc
-tidy_loads_a p node q tidy (Some a, h, e) =
-    let given = tidy_given p node a.0 a.1 tidy h in
-    subst IsTidy (sym (same_Some q (piece_with_a a) e)) (tidy_with a.0 (piece_with_a a).machine given refl (record {
-      a = (put_below p.pool a.0.pool node a.1 h.pool).1;
-      x = given.nodes.x;
-      zero = given.nodes.zero;
-      scratch = given.nodes.scratch;
-    }))
+tidy_loads_a p node q tidy (Some a, h, e) = grind (arith, common_steps, same_Some, put_below, tidy_given, tidy_with)
 
 tidy_loads_x : (p : PieceData) (k : ℕ) (q : PieceData) → IsTidy p → LoadsX p k (Some q) → IsTidy q
 tidy_loads_x p k q tidy (None, h, e) = absurd cc
@@ -156,13 +120,7 @@ tidy_makes : (p : PieceData) (i : Insn) (q : PieceData) → IsTidy p → MakesOf
 tidy_makes p i q tidy (inl (m, moves, is)) =
     let next = nodes_moves p i m tidy.nodes moves in subst IsTidy (sym is) (tidy_with p m tidy next.1 next.0)
 tidy_makes p i q tidy (inr (inl h)) = tidy_computes p i q tidy h
-tidy_makes p i q tidy (inr (inr (asked, b, has, only, named))) =
-    let next = nodes_after p i b q.machine tidy.nodes named.machine in
-    subst IsTidy (sym named.rest) (record {
-      zero = subst (λ (z : NodeId). IsNodeAt p.pool (Const 0) z) (sym next.1) tidy.zero;
-      nodes = next.0;
-      carried = tidy.carried;
-    })
+tidy_makes p i q tidy (inr (inr (asked, b, has, only, named))) = grind (arith, common_steps, nodes_after)
 
 -- a piece stays tidy, however far it goes on
 pub tidy_on : (n : ℕ) (p q : PieceData) → IsTidy p → GoesOnFor n p q → IsTidy q
@@ -220,10 +178,7 @@ tidy_side asked i b c tidy below h =
 
 tidy_split : (r f t : PieceData) (name : List Bool) → IsTidy r → HasStep r (Split f t) name → (b : Bool)
     → IsTidy (if b then t else f)
-tidy_split r f t name tidy h b =
-    let s = h.3.0 in
-    let asked = tidy_query h.1 s.0 s.1 (tidy_on h.0 r h.1 tidy h.2) s.3 in
-    tidy_side s.1 s.0 b (if b then t else f) asked.0 asked.1 (side_of h.1 f t s b)
+tidy_split r f t name tidy h b = grind (arith, common_steps, side_of, tidy_on, tidy_query, tidy_side)
 
 tidy_below : (bs : List Bool) (r p : PieceData) → IsTidy r → IsBelow bs r p → IsTidy p
 tidy_below [] r p tidy h = subst IsTidy (sym h) tidy

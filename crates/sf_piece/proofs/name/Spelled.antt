@@ -1,14 +1,6 @@
 -- Names by their runs of false: what is added to one, and how two compare.
-use Rattle.std.proofs.lemmas.Grind.{common_steps}
-use Rattle.std.proofs.Common.{◌≡◌, ℕ, zero, suc, ◌+◌, ◌<◌, ◌≤◌, Bool, true, false, List, [], ◌∷◌, ◌++◌, length, length-append, replicate, refl, sym, ap, ◌∙◌, arith, append_assoc, take, get_or}
-use Rattle.std.specs.declared.cmp.Ordering.{Ordering}
-use Rattle.std.specs.declared.cmp.Reverse.{Reverse}
-use Rattle.std.specs.declared.cmp.Ordering.TheVariants.{Less, Equal, Greater}
-use Rattle.std.specs.Ordering.{bool_cmp, nat_cmp, ordering_then}
-use Rattle.std.specs.Cmp.Lexicographic.{slice_cmp}
-use Rattle.std.proofs.lemmas.Bool.Decides.{nat_tests}
-use Rattle.std.proofs.lemmas.List.{take_more, length-replicate, replicate-append-replicate}
-use Rattle.sf_piece.specs.Names.{spelled}
+use Rattle.sf_piece.proofs.Common.{common_steps, ◌≡◌, ℕ, zero, suc, ◌+◌, ◌<◌, ◌≤◌, Bool, true, false, List, [], ◌∷◌, ◌++◌, length, length-append, replicate, refl, sym, ap, ◌∙◌, arith, append_assoc, take, get_or, Ordering, Reverse, Less, bool_cmp, nat_cmp, ordering_then, slice_cmp, nat_tests, take_more, length-replicate, replicate-append-replicate, spelled}
+use Rattle.std.specs.declared.cmp.Ordering.TheVariants.{Equal, Greater}
 
 -- ---- what is added
 
@@ -16,16 +8,12 @@ use Rattle.sf_piece.specs.Names.{spelled}
 pub run_more : (runs : List (Reverse ℕ)) (run : Reverse ℕ) → spelled (runs ++ run ∷ []) 0
     ≡ spelled runs run.0 ++ true ∷ []
 run_more [] run = refl
-run_more (m ∷ runs) run =
-    ap (λ l. replicate m.0 false ++ true ∷ l) (run_more runs run)
-    ∙ sym (append_assoc (replicate m.0 false) (true ∷ spelled runs run.0) (true ∷ []))
+run_more (m ∷ runs) run = grind (arith, common_steps, replicate, append_assoc, run_more runs run)
 
 -- so many falses more
 pub falses_more : (runs : List (Reverse ℕ)) (m n : ℕ) → spelled runs (m + n) ≡ spelled runs m ++ replicate n false
 falses_more [] m n = sym (replicate-append-replicate m n false)
-falses_more (k ∷ runs) m n =
-    ap (λ l. replicate k.0 false ++ true ∷ l) (falses_more runs m n)
-    ∙ sym (append_assoc (replicate k.0 false) (true ∷ spelled runs m) (replicate n false))
+falses_more (k ∷ runs) m n = grind (arith, common_steps, replicate, append_assoc, falses_more runs m n)
 
 -- a name's runs, and then the falses at its end
 pub with_rest : (runs : List (Reverse ℕ)) (n : ℕ) → spelled runs n ≡ spelled runs 0 ++ replicate n false
@@ -40,12 +28,7 @@ with_run runs i run xs ys l so_far = grind (arith, common_steps, take_more, run_
 -- the falses at a name's end are some of its truth values
 pub rest_within : (runs : List (Reverse ℕ)) (n : ℕ) → n ≤ length (spelled runs n)
 rest_within [] n = omega (arith, length-replicate n false)
-rest_within (m ∷ runs) n =
-    omega (
-      arith,
-      rest_within runs n,
-      length-append (replicate m.0 false) (true ∷ spelled runs n),
-    )
+rest_within (m ∷ runs) n = grind (arith, common_steps, length-append, replicate, rest_within runs n)
 
 -- ---- how two compare
 
@@ -64,9 +47,7 @@ by_falses : (m n : ℕ) (xs ys : List Bool)
 by_falses zero zero xs ys = refl
 by_falses zero (suc n) xs ys = rw (at_greater (suc n) 0 (omega arith)) refl
 by_falses (suc m) zero xs ys = rw (at_less 0 (suc m) (omega arith)) refl
-by_falses (suc m) (suc n) xs ys =
-    let same : nat_cmp (suc n) (suc m) ≡ nat_cmp n m = grind (arith, nat_tests) in
-    rw same (by_falses m n xs ys)
+by_falses (suc m) (suc n) xs ys = grind (arith, common_steps, nat_tests, by_falses m n xs ys)
 
 -- falses without a true are before what has one
 falses_before : (m n : ℕ) (ys : List Bool) → cmp (replicate m false) (replicate n false ++ true ∷ ys) ≡ Less
@@ -85,9 +66,7 @@ falses_both : (m n : ℕ) → cmp (replicate m false) (replicate n false) ≡ na
 falses_both zero zero = refl
 falses_both zero (suc n) = sym (at_less 0 (suc n) (omega arith))
 falses_both (suc m) zero = sym (at_greater (suc m) 0 (omega arith))
-falses_both (suc m) (suc n) =
-    let same : nat_cmp (suc m) (suc n) ≡ nat_cmp m n = grind (arith, nat_tests) in
-    rw same (falses_both m n)
+falses_both (suc m) (suc n) = grind (arith, common_steps, nat_tests, falses_both m n)
 
 -- the first run that differs decides, and else what is behind the runs of one of them
 pub by_runs : (ls rs : List (Reverse ℕ)) (m n : ℕ)

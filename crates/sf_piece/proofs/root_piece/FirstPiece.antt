@@ -1,16 +1,5 @@
 -- The first piece of a stack, by the rules.
-use Rattle.std.proofs.Common.{◌≡◌, ◌≢◌, ℕ, ◌<◌, List, [], ◌∷◌, ◌++◌, length, refl, sym, ap, subst, ◌∙◌, inl, inr, arith}
-use Rattle.std.proofs.lemmas.Bool.{cases_lt}
-use Rattle.std.proofs.lemmas.List.{get_or_append_left, get_or_push, length_push}
-use Rattle.sf_check.specs.declared.insn.Insn.{Insn}
-use Rattle.sf_sym.specs.declared.pool.Node.{Node}
-use Rattle.sf_sym.specs.declared.pool.Node.TheVariants.{Const, Word}
-use Rattle.sf_sym.specs.declared.pool.NodeId.{NodeId}
-use Rattle.sf_sym.specs.Pool.{IsPool, node_at, Extends}
-use Rattle.sf_dom.specs.Facts.{FactsView}
-use Rattle.sf_dom.specs.Learning.{StartsBy}
-use Rattle.sf_piece.specs.Pieces.{PieceData}
-use Rattle.sf_piece.specs.Execution.{IsFirst, IsInTree}
+use Rattle.sf_piece.proofs.Common.{◌≡◌, ◌≢◌, ℕ, ◌<◌, List, [], ◌∷◌, ◌++◌, length, refl, sym, ap, subst, ◌∙◌, inl, inr, arith, cases_lt, get_or_append_left, get_or_push, length_push, Insn, Node, Const, Word, NodeId, IsPool, node_at, Extends, FactsView, StartsBy, PieceData, IsFirst, IsInTree}
 use Rattle.sf_piece.proofs.AtHand.{first_piece}
 
 word_clash : (a c : ℕ) → Word a ≡ Const c → ⊥

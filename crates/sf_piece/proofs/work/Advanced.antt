@@ -1,9 +1,7 @@
 -- The step of a piece, by the rules, from how far it has gone on.
-use Rattle.std.proofs.Common.{◌+◌, refl, sym, subst}
+use Rattle.sf_piece.proofs.Common.{◌+◌, refl, sym, subst, PieceData, Split, HasStep, SplitsInto, IsEmptied, HasGoneFor, IsExecuted}
 use Rattle.sf_piece.specs.declared.deciding.SmallStep.TheVariants as small
-use Rattle.sf_piece.specs.Pieces.{PieceData, Split, Settled, Empty}
-use Rattle.sf_piece.specs.Execution.{HasStep, SplitsInto, IsEmptied}
-use Rattle.sf_piece.specs.SmallSteps.{HasGoneFor, IsExecuted}
+use Rattle.sf_piece.specs.Pieces.{Settled, Empty}
 use Rattle.sf_piece.proofs.FailingSteps.{goes_more}
 
 pub gone_more : (p q r : PieceData) → HasGoneFor p q → IsExecuted q r small.On → HasGoneFor p r

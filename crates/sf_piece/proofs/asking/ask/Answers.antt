@@ -1,9 +1,4 @@
-use Rattle.std.proofs.Common.{◌≡◌, ◌∙◌, sym, ap, subst}
-use Rattle.sf_sym.specs.declared.pool.NodeId.{NodeId}
-use Rattle.sf_piece.specs.Pieces.{PieceData}
-use Rattle.sf_piece.specs.Execution.{query}
-use Rattle.sf_piece.specs.SmallSteps.{IsDecision}
-use Rattle.sf_piece.specs.Works.{IsQuery}
+use Rattle.sf_piece.proofs.Common.{common_steps, arith, ◌≡◌, ◌∙◌, sym, ap, subst, NodeId, PieceData, query, IsDecision, IsQuery}
 use Rattle.sf_piece.proofs.Joined.{asked_entry, decision_on}
 use Rattle.sf_piece.proofs.Executed.{asked_for, asks_none, carried_ok}
 use Rattle.sf_piece.proofs.asking.ask.Goals as goal
@@ -20,10 +15,7 @@ decide-requires-clause-query c =
     subst (λ (w : NodeId). IsQuery q c.args.insn (query w c.args.test right)) a e
 
 pub carry_out-requires-clause-right : goal.carry_out-requires-clause-right
-carry_out-requires-clause-right c =
-    let h = rw c.in_ok-asked.ensures at (rw c.in-Some.is at c.in_ok-right.ensures.made) in
-    decision_on c.args.run.now c.operand.new.run c.args.insn c.in_ok-decision.decision h.grown
-    c.in_ok-decision.ensures.right
+carry_out-requires-clause-right c = grind (arith, common_steps, decision_on)
 
 pub returns-in_default-clause-rule : goal.returns-in_default-clause-rule
 returns-in_default-clause-rule c = λ at.

@@ -1,12 +1,4 @@
-use Rattle.std.proofs.Common.{ℕ, subst}
-use Rattle.std.specs.Prelude.{IfSome}
-use Rattle.sf_dom.specs.Backward.{IsPropagatedBack}
-use Rattle.sf_dom.specs.Facts.{known_at}
-use Rattle.sf_dom.specs.laws.LearningLaws.{told-by}
-use Rattle.sf_dom.specs.Rules.{IsClosedAt}
-use Rattle.sf_dom.specs.Telling.{IsForcedBy}
-use Rattle.sf_piece.specs.Pieces.{PieceData}
-use Rattle.sf_piece.specs.Works.{IsAPropagatedBack}
+use Rattle.sf_piece.proofs.Common.{common_steps, arith, subst, IfSome, known_at, told-by, IsClosedAt, IsForcedBy, PieceData, IsAPropagatedBack}
 use Rattle.sf_piece.proofs.Foretold.{told_foretold, told_always}
 use Rattle.sf_piece.proofs.asking.foresee.Goals as goal
 
@@ -22,15 +14,7 @@ returns-clause-value c =
     h.nodes.a c.in_ok-number.ensures.fits forced)
 
 pub returns-clause-rule : goal.returns-clause-rule
-returns-clause-rule c = λ laws.
-    let n = c.in_ok-number.number in
-    let o = c.tell.result in
-    let forced = subst (λ (q : PieceData). IfSome o (λ b. IsForcedBy (IsClosedAt q.facts.excluded q.machine.a.0)
-    (known_at q.facts.known q.machine.a.0) c.args.test n b)) c.run.view_is c.tell.ensures.rule in
-    let back = subst (λ (q : PieceData). IfSome o (λ b. (m : ℕ)
-    → IsPropagatedBack m q.facts.known q.pool q.machine.a.0)) c.run.view_is c.tell.ensures.goes_back in
-    told_foretold laws c.args.run.now c.args.test c.args.other n o c.requires.run c.in_ok-number.ensures.fits
-    c.in_ok-number.ensures.rule forced back
+returns-clause-rule c = grind (arith, common_steps, told_foretold)
 
 pub returns-clause-propagated : goal.returns-clause-propagated
 returns-clause-propagated c =

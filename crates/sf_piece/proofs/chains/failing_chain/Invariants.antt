@@ -1,7 +1,4 @@
-use Rattle.std.proofs.Common.{◌-◌, ◌≤◌, length}
-use Rattle.sf_dom.specs.SoundRules.{ForcedIsLearnt}
-use Rattle.sf_piece.specs.Execution.{GoesOnFor}
-use Rattle.sf_piece.specs.Works.{HasGoneOn, IsAPropagatedBack, behind_chain}
+use Rattle.sf_piece.proofs.Common.{◌-◌, ◌≤◌, length, ForcedIsLearnt, GoesOnFor, HasGoneOn, IsAPropagatedBack, behind_chain}
 use Rattle.sf_piece.proofs.chains.failing_chain.Given as goal
 
 abbrev pub invariant-loop-skips : goal.invariant-loop-skips

@@ -1,5 +1,4 @@
-use Rattle.std.proofs.Common.{arith}
-use Rattle.std.proofs.lemmas.Grind.{common_steps}
+use Rattle.sf_piece.proofs.Common.{arith, common_steps}
 use Rattle.sf_piece.proofs.FailingTests.{others_fail}
 use Rattle.sf_piece.proofs.chains.skip_failing.Goals as goal
 

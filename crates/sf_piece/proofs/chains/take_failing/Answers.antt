@@ -1,5 +1,4 @@
-use Rattle.std.proofs.Common.{length, ap, arith}
-use Rattle.sf_piece.specs.Pieces.{PieceData}
+use Rattle.sf_piece.proofs.Common.{length, ap, arith, PieceData}
 use Rattle.sf_piece.proofs.Sizes.{chain_fits}
 use Rattle.sf_piece.proofs.chains.take_failing.Goals as goal
 

@@ -1,19 +1,11 @@
-use Rattle.std.proofs.Common.{◌++◌, ◌∷◌, [], length, sym, ap, subst, ◌∙◌, arith}
-use Rattle.sf_piece.specs.Execution.{with_sense, IsSide}
-use Rattle.sf_piece.specs.Pieces.{PieceData}
-use Rattle.sf_piece.specs.SymbolicRun.{IsLawfulPiece}
-use Rattle.sf_piece.specs.Works.{IsChild}
+use Rattle.sf_piece.proofs.Common.{common_steps, ◌++◌, ◌∷◌, [], sym, subst, ◌∙◌, arith, with_sense, IsSide, PieceData, IsLawfulPiece, IsChild}
 use Rattle.sf_piece.proofs.Lawful.{lawful_child, right_child}
 use Rattle.sf_piece.proofs.Given.{side}
 use Rattle.sf_piece.proofs.Sizes.{short_name}
 use Rattle.sf_piece.proofs.deciding.child.Goals as goal
 
 pub push-requires : goal.push-requires
-push-requires c =
-    let short = short_name c.args.run.now c.requires.lawful in
-    let same = ap (λ (r : PieceData). length r.name)
-    (c.side.view_is ∙ (rw c.in_ok-side.ensures at c.meet.ensures.rest)) in
-    omega (arith, short, same)
+push-requires c = grind (arith, common_steps, side, short_name)
 
 pub returns : goal.returns
 returns c =

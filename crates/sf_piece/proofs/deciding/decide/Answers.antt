@@ -1,4 +1,4 @@
-use Rattle.std.proofs.Common.{true, false}
+use Rattle.sf_piece.proofs.Common.{true, false}
 use Rattle.sf_piece.proofs.Children.{entry_foreseen, never_implies, never_both}
 use Rattle.sf_piece.proofs.Joined.{split_right}
 use Rattle.sf_piece.proofs.deciding.decide.Goals as goal

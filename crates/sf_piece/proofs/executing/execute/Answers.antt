@@ -1,17 +1,6 @@
-use Rattle.std.proofs.Common.{arith, refl, subst}
-use Rattle.std.specs.Prelude.{IfOk}
-use Rattle.sf_sym.specs.declared.pool.Node.TheVariants.{Const, Word, Neg}
-use Rattle.sf_piece.specs.Pieces.{PieceData}
-use Rattle.sf_piece.specs.Machines.{after_return}
-use Rattle.sf_piece.specs.Execution.{LoadsA, LoadsX}
-use Rattle.sf_piece.specs.SmallSteps.{IsMade}
+use Rattle.sf_piece.proofs.Common.{refl, subst, IfOk, Const, Word, Neg, PieceData, after_return, LoadsA, LoadsX, IsMade}
 use Rattle.sf_piece.proofs.Executed.{made_ok, moved_executed}
-use Rattle.std.proofs.lemmas.Grind.{common_steps}
-use Rattle.sf_piece.proofs.Plain.{plain_insn}
 use Rattle.sf_piece.proofs.executing.execute.Goals as goal
-
-pub set_a-requires-in-Negate-clause-plain : goal.set_a-requires-in-Negate-clause-plain
-set_a-requires-in-Negate-clause-plain c = grind (arith, common_steps, plain_insn)
 
 pub returns-in-LoadWord-clause-rule : goal.returns-in-LoadWord-clause-rule
 returns-in-LoadWord-clause-rule c = λ laws tidy.

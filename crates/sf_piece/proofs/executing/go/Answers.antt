@@ -1,4 +1,4 @@
-use Rattle.sf_piece.specs.Machines.{updated}
+use Rattle.sf_piece.proofs.Common.{updated}
 use Rattle.sf_piece.proofs.Lawful.{lawful_gone}
 use Rattle.sf_piece.proofs.Kept.{go_gone}
 use Rattle.sf_piece.proofs.executing.go.Goals as goal

@@ -1,4 +1,4 @@
-use Rattle.std.proofs.Common.{arith}
+use Rattle.sf_piece.proofs.Common.{arith}
 use Rattle.sf_piece.proofs.name.Spelled.{with_run}
 use Rattle.sf_piece.proofs.name.add_runs.Goals as goal
 

@@ -1,5 +1,4 @@
-use Rattle.std.proofs.Common.{◌≡◌, ◌++◌, take}
-use Rattle.sf_piece.specs.Names.{spelled}
+use Rattle.sf_piece.proofs.Common.{◌≡◌, ◌++◌, take, spelled}
 use Rattle.sf_piece.proofs.name.add_runs.Given as goal
 
 abbrev pub invariant-loop-place : goal.invariant-loop-place

@@ -1,4 +1,4 @@
-use Rattle.std.proofs.Common.{refl}
+use Rattle.sf_piece.proofs.Common.{refl}
 use Rattle.sf_piece.proofs.Lawful.{lawful_first}
 use Rattle.sf_piece.proofs.AtHand.{first_root}
 use Rattle.sf_piece.proofs.root_piece.FirstPiece.{first_rule, first_reached}

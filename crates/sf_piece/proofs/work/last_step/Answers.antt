@@ -1,11 +1,8 @@
-use Rattle.std.proofs.Common.{refl}
-use Rattle.sf_piece.proofs.Joined.{on_same, on_trans}
+use Rattle.sf_piece.proofs.Common.{common_steps, arith}
+use Rattle.sf_piece.proofs.Joined.{on_trans}
 use Rattle.sf_piece.proofs.work.Advanced.{gone_more}
 use Rattle.sf_piece.proofs.Tidy.{tidy_on}
 use Rattle.sf_piece.proofs.work.last_step.Goals as goal
-
-pub loop-last-init : goal.loop-last-init
-loop-last-init c = record { is_on = on_same _; lawful = c.requires.lawful; goes = (0, refl) }
 
 pub loop-last-preserved : goal.loop-last-preserved
 loop-last-preserved c =
@@ -20,14 +17,4 @@ loop-last-preserved c =
     }
 
 pub returns-in_default : goal.returns-in_default
-returns-in_default c =
-    let goes = c.loop-last.invariant.goes in
-    record {
-      last = c.loop-last.run;
-      is_on = c.loop-last.invariant.is_on;
-      goes = goes;
-      step = c.in_ok-last.ensures.step;
-      rule = c.in_ok-last.ensures.rule c.forced_results_are_learnt.ensures
-          (tidy_on goes.0 _ _ c.requires.tidy goes.1);
-      ends = c.in_default.not-On;
-    }
+returns-in_default c = grind (arith, common_steps, tidy_on)

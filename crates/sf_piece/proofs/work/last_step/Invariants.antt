@@ -1,6 +1,4 @@
-use Rattle.sf_piece.specs.SymbolicRun.{IsLawfulPiece}
-use Rattle.sf_piece.specs.Works.{IsContinuation, work_left}
-use Rattle.sf_piece.specs.SmallSteps.{HasGoneFor}
+use Rattle.sf_piece.proofs.Common.{IsLawfulPiece, IsContinuation, work_left, HasGoneFor}
 use Rattle.sf_piece.proofs.work.last_step.Given as goal
 
 abbrev pub invariant-loop-last : goal.invariant-loop-last

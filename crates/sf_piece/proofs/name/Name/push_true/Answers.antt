@@ -1,5 +1,4 @@
-use Rattle.std.proofs.Common.{arith}
-use Rattle.std.proofs.lemmas.Grind.{common_steps}
+use Rattle.sf_piece.proofs.Common.{arith, common_steps}
 use Rattle.sf_piece.proofs.name.Spelled.{run_more}
 use Rattle.sf_piece.proofs.name.Name.push_true.Goals as goal
 

@@ -1,5 +1,4 @@
-use Rattle.std.proofs.Common.{◌∙◌, Some, sym, ap}
-use Rattle.std.proofs.lemmas.Option.{slice_get-get_or}
+use Rattle.sf_piece.proofs.Common.{◌∙◌, Some, sym, ap, slice_get-get_or}
 use Rattle.sf_piece.proofs.ConcreteStates.{below_at}
 use Rattle.sf_piece.proofs.piece.Piece.cond.Goals as goal
 

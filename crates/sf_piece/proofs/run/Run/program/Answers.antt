@@ -1,4 +1,4 @@
-use Rattle.std.proofs.Common.{◌∙◌, ◌<◌, length, ap, arith}
+use Rattle.sf_piece.proofs.Common.{◌∙◌, ◌<◌, length, ap, arith}
 use Rattle.sf_piece.proofs.AtHand.{place_inside, at_program, short_program}
 use Rattle.sf_piece.proofs.run.Run.program.Goals as goal
 
