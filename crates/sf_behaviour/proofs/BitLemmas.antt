@@ -1,31 +1,21 @@
 -- Operations and tests with one more bit, and what the loops over the bits of words keep. Trees ts are those at first,
 -- us those so far, and vs those with one more bit.
-use Rattle.sf_behaviour.proofs.Common.{◌≡◌, ℕ, zero, suc, ◌+◌, ◌*◌, ◌%◌, ◌<◌, ◌^◌, ◌==◌, Bool, true, false, refl, sym, ap, ◌∙◌, arith, if◌then◌else◌, bit_at, nat_tests, pow_pos, pow-add, passes, Test, not, bit_and, and_block, and_le_l, mod-pow-add, AnyBit, tested_bits, ◌-◌, ◌/◌, List, length, ap₂, bit_at-lt, Tree, Leaf, Fork, Bits, value, tree_at, KeepsTrees, chosen_of, IsTruthOf, or_lt, xor_lt, and_shr, or_shr, xor_shr, and_mod, or_mod, xor_mod, mod_below, combined, IsBitwise, Bitwise, And, Or, Xor, Choose}
-use Rattle.sf_behaviour.proofs.words.WordLemmas.{truth-kept, value-kept}
+use Rattle.sf_behaviour.proofs.Common.{◌≡◌, ℕ, zero, suc, ◌+◌, ◌*◌, ◌%◌, ◌<◌, ◌^◌, ◌==◌, Bool, refl, sym, ap, ◌∙◌, arith, if◌then◌else◌, bit_at, nat_tests, pow_pos, pow-add, passes, Test, not, bit_and, and_block, and_le_l, mod-pow-add, AnyBit, tested_bits, ◌-◌, ◌/◌, List, length, ap₂, bit_at-lt, Tree, Leaf, Fork, Bits, value, tree_at, KeepsTrees, chosen_of, IsTruthOf, or_lt, xor_lt, and_shr, or_shr, xor_shr, and_mod, or_mod, xor_mod, mod_below, combined, IsBitwise, Bitwise, And, Or, Xor, Choose}
+use Rattle.sf_behaviour.proofs.words.WordLemmas.{value-kept}
 
 pub more-small : (n v w : ℕ) → v < 2 → w < 2 ^ n → v * 2 ^ n + w < 2 ^ (n + 1)
-more-small n zero w lv lw = omega (arith, lw, pow-add 2 n 1)
-more-small n (suc zero) w lv lw = omega (arith, lw, pow-add 2 n 1)
-more-small n (suc (suc v)) w lv lw = absurd (omega arith)
+more-small n v w lv lw = grind (arith, lw, pow-add 2 n 1)
 
 -- ---- a number by its bits
-
--- no bits of a number, and all bits
-pub low-none : (a : ℕ) → 0 ≡ a % 2 ^ 0
-low-none a = omega arith
 
 pub low-all : (n a : ℕ) → n ≡ 32 → a < 2 ^ 32 → a % 2 ^ n ≡ a
 low-all n a e l = rw e (omega arith)
 
 pub low-more : (a n : ℕ) → bit_at a n * 2 ^ n + a % 2 ^ n ≡ a % 2 ^ (n + 1)
-low-more a n =
-    let next : n + 1 ≡ 1 + n = omega arith in
-    sym (mod-pow-add a 1 n) ∙ ap (λ (m : ℕ). a % 2 ^ m) (sym next)
+low-more a n = grind (arith, mod-pow-add a 1 n)
 
 pub bit-if : (n : ℕ) → n < 2 → (if n == 1 then 1 else 0) ≡ n
-bit-if zero l = refl
-bit-if (suc zero) l = refl
-bit-if (suc (suc n)) l = absurd (omega arith)
+bit-if n l = grind (arith, nat_tests)
 
 -- ---- tests
 
@@ -36,11 +26,7 @@ truth_of test a b = if passes test a b then 1 else 0
 -- some bit is set among n bits or in one more
 any-one : (n m c : ℕ) → c < 2
     → chosen_of c c (if not (m == 0) then 1 else 0) ≡ (if not (c * 2 ^ n + m == 0) then 1 else 0)
-any-one n m zero lc = grind (arith, nat_tests)
-any-one n m (suc zero) lc =
-    let some : 0 < 2 ^ n = pow_pos n in
-    grind (arith, nat_tests)
-any-one n m (suc (suc c)) lc = absurd (omega arith)
+any-one n m c lc = grind (arith, nat_tests, pow_pos n)
 
 bit-tested : (test : Test) (n a b x y : ℕ) → a < 2 ^ n → b < 2 ^ n → x < 2 → y < 2
     → tested_bits test x y (truth_of test a b) ≡ truth_of test (x * 2 ^ n + a) (y * 2 ^ n + b)
@@ -65,12 +51,10 @@ test-more test n a b =
 -- ---- operations that treat each bit by itself
 
 chosen-bit : (t a b n : ℕ) → bit_at (chosen_of t a b) n ≡ chosen_of t (bit_at a n) (bit_at b n)
-chosen-bit zero a b n = refl
-chosen-bit (suc t) a b n = refl
+chosen-bit t a b n = grind arith
 
 chosen-small : (t a b m : ℕ) → a < m → b < m → chosen_of t a b < m
-chosen-small zero a b m la lb = lb
-chosen-small (suc t) a b m la lb = la
+chosen-small t a b m la lb = grind arith
 
 pub combined-bit : (ts : List Tree) (bits : Bits) (o : Bitwise) (a b n : ℕ)
     → bit_at (combined ts bits o a b) n ≡ combined ts bits o (bit_at a n) (bit_at b n)
@@ -91,10 +75,6 @@ pub combined-kept : (ts us : List Tree) (bits : Bits) (o : Bitwise) (a b : ℕ) 
 combined-kept ts us bits (Choose test) a b k h = ap (λ (t : ℕ). chosen_of t a b) (value-kept bits k h)
 combined-kept ts us bits o a b k h = refl
 
-pub bitwise-kept : (ts us : List Tree) (o : Bitwise) → KeepsTrees ts us → IsBitwise ts o → IsBitwise us o
-bitwise-kept ts us (Choose test) k h = truth-kept k h
-bitwise-kept ts us o k h = tt
-
 -- ---- differences
 
 -- a difference of n bits, with one more bit
@@ -103,17 +83,14 @@ pub less-step : (n a b c d z e : ℕ) {x y : ℕ} → x ≡ bit_at a n → y ≡
 less-step n a b c d z e {x} {y} ex ey high low =
     let scaled : (z + y + c) * 2 ^ n ≡ (x + 2 * e) * 2 ^ n = ap (λ (m : ℕ). m * 2 ^ n) high in
     let last : e * 2 ^ (n + 1) ≡ e * (2 ^ n * 2) = ap (λ (m : ℕ). e * m) (pow-add 2 n 1) in
-    let more_a : x * 2 ^ n + a % 2 ^ n ≡ a % 2 ^ (n + 1) = ap (λ (m : ℕ). m * 2 ^ n + a % 2 ^ n) ex ∙ low-more a n in
-    let more_b : y * 2 ^ n + b % 2 ^ n ≡ b % 2 ^ (n + 1) = ap (λ (m : ℕ). m * 2 ^ n + b % 2 ^ n) ey ∙ low-more b n in
+    let more_a : x * 2 ^ n + a % 2 ^ n ≡ a % 2 ^ (n + 1) = rw ex (low-more a n) in
+    let more_b : y * 2 ^ n + b % 2 ^ n ≡ b % 2 ^ (n + 1) = rw ey (low-more b n) in
     omega (arith, low, scaled, last, more_a, more_b)
 
 -- a difference of all bits
 pub less-all : (n a b c d : ℕ) → n ≡ 32 → a < 2 ^ 32 → b < 2 ^ 32 → d < 2 ^ n
     → d + b % 2 ^ n ≡ a % 2 ^ n + c * 2 ^ n → d ≡ (a + (2 ^ 32 - b)) % 2 ^ 32
-less-all n a b c d e la lb ld so_far =
-    let small : d < 2 ^ 32 = rw e at ld in
-    let all : d + b % 2 ^ 32 ≡ a % 2 ^ 32 + c * 2 ^ 32 = rw e at so_far in
-    omega arith
+less-all n a b c d e la lb ld so_far = grind arith
 
 -- ---- single bits
 
@@ -125,8 +102,7 @@ leaf-truth n l e small = record {
 }
 
 pub if-small : (b : Bool) → (if b then 1 else 0) < 2
-if-small true = omega arith
-if-small false = omega arith
+if-small b = grind arith
 
 pub literal-truth : (ts : List Tree) (id v : ℕ) → id < length ts → tree_at ts id ≡ Fork v (Leaf 0) (Leaf 1)
     → IsTruthOf ts id (λ bits. if bits v then 1 else 0)

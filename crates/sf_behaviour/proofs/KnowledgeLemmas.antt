@@ -1,9 +1,8 @@
 -- What registers are known to have, from place to place.
-use Rattle.sf_behaviour.proofs.Common.{◌≡◌, ℕ, ◌<◌, ◌^◌, List, length, length-set, replicate, Option, Some, None, refl, sym, ap, ap₂, ◌∙◌, inl, inr, arith, slice_index, slice_set, same_Some, get_or-set_same, get_or-set_other, cases_eq, apply, negation_of, Operand, Tree, Bits, KeepsTrees, State, input_by, A, X, IsRegister, with_register, next_with, Known, known_word, held_in, IsInputWord, IsKnowledge, IsLess, source_number, operand_in, source_in, word_value, IsWord, Word, Source, set-get_or, operand_of, Fits, Held, Negation, Result}
+use Rattle.sf_behaviour.proofs.Common.{◌≡◌, ℕ, ◌<◌, ◌^◌, List, length, length-set, Option, Some, None, refl, sym, ap, ap₂, ◌∙◌, arith, slice_set, get_or-set_same, get_or-set_other, apply, negation_of, Operand, Tree, Bits, KeepsTrees, State, input_by, A, X, IsRegister, with_register, next_with, Known, known_word, held_in, IsInputWord, IsKnowledge, IsLess, source_number, operand_in, source_in, word_value, IsWord, Word, Source, set-get_or, operand_of, Fits, Held, Negation, Result}
 use Rattle.sf_check.specs.declared.insn.Operand.TheVariants.{Constant as Fixed, X as OfX}
-use Rattle.sf_behaviour.specs.declared.effects.Source.TheVariants.{Constant, Word as InputWord}
 use Rattle.sf_behaviour.proofs.words.WordLemmas.{set-each, word-kept, word-small, number-kept}
-use Rattle.sf_behaviour.proofs.VariableLemmas.{with-register-own, with-register-other, none-there, number-after, number-elsewhere}
+use Rattle.sf_behaviour.proofs.VariableLemmas.{with-register-own, with-register-other, number-after, number-elsewhere}
 
 -- a register has the word that was set
 pub set-own : (k : Known) (r : ℕ) (word : Option Word) → IsRegister r → length k ≡ 18
@@ -13,11 +12,9 @@ set-own k r word there count = get_or-set_same k r word None (omega (arith, ther
 -- the variables of one register do not change the number of another one
 in-with : (ts : List Tree) (k : Known) (r q n : ℕ) (bits : Bits) → IsKnowledge ts k → IsRegister r → (q ≡ r → ⊥)
     → held_in ts k (with_register r n bits) q ≡ held_in ts k bits q
-in-with ts k r q n bits knows there ne = by (known_word k q) refl
-  where
-    by : (o : Option Word) → known_word k q ≡ o → held_in ts k (with_register r n bits) q ≡ held_in ts k bits q
-    by (Some w) e = rw e ((knows.each q w e).same r n bits there)
-    by None e = rw e (with-register-other r q n bits ne)
+in-with ts k r q n bits knows there ne =
+    let same = λ (w : Word) (e : known_word k q ≡ Some w). (knows.each q w e).same r n bits there in
+    grind (arith, with-register-other r q n bits, same)
 
 -- ---- from one place to the next
 
@@ -25,34 +22,31 @@ in-with ts k r q n bits knows there ne = by (known_word k q) refl
 pub fits-set : (ts : List Tree) (k : Known) (bits : Bits) (s : State) (r n : ℕ) (word : Option Word) → IsKnowledge ts k
     → IsRegister r → n < 2 ^ 32 → ((w : Word) → word ≡ Some w → word_value ts w.bits (with_register r n bits) ≡ n)
     → Fits ts k bits s → Fits ts (slice_set k r word) (with_register r n bits) (next_with s r n)
-fits-set ts k bits s r n word knows there small is fits q m e = elim (cases_eq q r) [
-  | inl same ↦ rw same (number-after s r n m (rw same at e) ∙ sym (by word refl))
-  | inr ne ↦ rw (get_or-set_other k r q word None ne)
-      (fits q m (sym (number-elsewhere s r q n ne) ∙ e) ∙ sym (in-with ts k r q n bits knows there ne))
-]
-  where
-    by : (o : Option Word) → word ≡ o → held_in ts (slice_set k r word) (with_register r n bits) r ≡ n
-    by (Some w) e = rw (set-own k r word there knows.count ∙ e) (is w e)
-    by None e = rw (set-own k r word there knows.count ∙ e) (with-register-own r n bits small)
+fits-set ts k bits s r n word knows there small is fits q m e =
+    let own = set-own k r word there knows.count in
+    let other = get_or-set_other k r q word None in
+    let elsewhere = in-with ts k r q n bits knows there in
+    let number = with-register-own r n bits small in
+    grind (arith, number-after s r n m, own, is, number, other, elsewhere, fits q m, number-elsewhere s r q n)
 
 -- where one register more is known, its variables may have its number too
 pub fits-less : (ts : List Tree) (k : Known) (bits : Bits) (s : State) (r : ℕ) (w : Word) → IsKnowledge ts k
     → IsRegister r → known_word k r ≡ None → IsWord ts w.bits → Fits ts (slice_set k r (Some w)) bits s
     → Fits ts k (with_register r (word_value ts w.bits bits) bits) s
-fits-less ts k bits s r w knows there unknown word fits q m e = elim (cases_eq q r) [
-  | inl same ↦ rw (same, unknown) ((rw (set-own k r (Some w) there knows.count) at (fits r m (rw same at e)))
-      ∙ sym (with-register-own r (word_value ts w.bits bits) bits (word-small bits word)))
-  | inr ne ↦ (rw (get_or-set_other k r q (Some w) None ne) at (fits q m e))
-      ∙ sym (in-with ts k r q (word_value ts w.bits bits) bits knows there ne)
-]
+fits-less ts k bits s r w knows there unknown word fits q m e =
+    let own = set-own k r (Some w) there knows.count in
+    let other = get_or-set_other k r q (Some w) None in
+    let number = with-register-own r (word_value ts w.bits bits) bits (word-small bits word) in
+    let elsewhere = in-with ts k r q (word_value ts w.bits bits) bits knows there in
+    grind (arith, fits q m e, own, other, number, elsewhere)
 
 -- ---- stores that have grown
 
 pub input-word-kept : {ts us : List Tree} {ids : List ℕ} → KeepsTrees ts us → IsInputWord ts ids → IsInputWord us ids
 input-word-kept k h = record {
   word = word-kept k h.word;
-  same = λ r n bits there. number-kept (with_register r n bits) k h.word ∙ h.same r n bits there
-      ∙ sym (number-kept bits k h.word);
+  same = λ r n bits there.
+      rw (number-kept (with_register r n bits) k h.word, number-kept bits k h.word) (h.same r n bits there);
 }
 
 pub knowledge-kept : {ts us : List Tree} {k : Known} → KeepsTrees ts us → IsKnowledge ts k → IsKnowledge us k
@@ -63,11 +57,9 @@ knowledge-kept keeps h = record {
 
 pub in-kept : {ts us : List Tree} {k : Known} (bits : Bits) (r : ℕ) → KeepsTrees ts us → IsKnowledge ts k
     → held_in us k bits r ≡ held_in ts k bits r
-in-kept {ts} {us} {k} bits r keeps h = by (known_word k r) refl
-  where
-    by : (o : Option Word) → known_word k r ≡ o → held_in us k bits r ≡ held_in ts k bits r
-    by (Some w) e = rw e (number-kept bits keeps (h.each r w e).word)
-    by None e = rw e refl
+in-kept {ts} {us} {k} bits r keeps h =
+    let same = λ (w : Word) (e : known_word k r ≡ Some w). number-kept bits keeps (h.each r w e).word in
+    grind (arith, same)
 
 pub fits-kept : {ts us : List Tree} {k : Known} (bits : Bits) (s : State) → KeepsTrees ts us → IsKnowledge ts k
     → Fits us k bits s → Fits ts k bits s
@@ -80,12 +72,10 @@ operand-kept bits OfX keeps h = in-kept bits X keeps h
 
 pub source-kept : {ts us : List Tree} {k : Known} (bits : Bits) (source : Source) → KeepsTrees ts us
     → IsKnowledge ts k → source_in us k bits source ≡ source_in ts k bits source
-source-kept bits (Constant n) keeps h = refl
-source-kept bits (InputWord i) keeps h = refl
 source-kept bits (Held r) keeps h = in-kept bits r keeps h
 source-kept bits Negation keeps h = ap negation_of (in-kept bits A keeps h)
-source-kept bits (Result op other) keeps h =
-    ap₂ (apply op) (in-kept bits A keeps h) (operand-kept bits other keeps h)
+source-kept bits (Result op other) keeps h = ap₂ (apply op) (in-kept bits A keeps h) (operand-kept bits other keeps h)
+source-kept bits source keeps h = refl
 
 -- ---- numbers of sources
 
@@ -97,13 +87,7 @@ operand-in ts k bits s OfX fits = fits X s.x refl
 -- a source has this number where it has one
 pub source-in : (ts : List Tree) (k : Known) (bits : Bits) (s : State) (source : Source) (n : ℕ) → Fits ts k bits s
     → source_number (input_by bits) s source ≡ Some n → n ≡ source_in ts k bits source
-source-in ts k bits s (Constant m) n fits e = sym (same_Some m n e)
-source-in ts k bits s (InputWord i) n fits e = sym (same_Some (slice_index (input_by bits).words i) n e)
-source-in ts k bits s (Held r) n fits e = fits r n e
-source-in ts k bits s Negation n fits e = sym (same_Some (negation_of s.a) n e) ∙ ap negation_of (fits A s.a refl)
-source-in ts k bits s (Result op other) n fits e =
-    sym (same_Some (apply op s.a (operand_of s other)) n e)
-    ∙ ap₂ (apply op) (fits A s.a refl) (operand-in ts k bits s other fits)
+source-in ts k bits s source n fits e = grind (arith, fits A s.a refl, operand-in, fits)
 
 -- ---- what is known more, and less
 
@@ -120,16 +104,12 @@ set-knowledge ts k r word there knows new = record {
 
 pub set-less : (k l : Known) (r : ℕ) (word : Option Word) → IsRegister r → length k ≡ 18 → IsLess k l
     → ((w : Word) → word ≡ Some w → known_word l r ≡ Some w) → IsLess (slice_set k r word) l
-set-less k l r word there count less new q =
-    set-each (λ (p : ℕ) (o : Option Word). (w : Word) → o ≡ Some w → known_word l p ≡ Some w) None k r word q
-    (omega (arith, there, count)) new (λ ne. less q)
+set-less k l r word there count less new q w e =
+    grind (arith, get_or-set_same k r word None, get_or-set_other k r q word None, less q w, new w, there)
 
 abbrev no_word : Option Word
 no_word = None
 
-pub nothing-less : (k : Known) → IsLess (replicate 18 no_word) k
-nothing-less k r w e = absurd (none-there no_word 18 r w refl e)
-
 -- what is known stays if a register is set to the word that it has
 pub set-same : (k : Known) (r : ℕ) {word : Option Word} → word ≡ known_word k r → k ≡ slice_set k r word
-set-same k r same = sym (ap (λ (o : Option Word). slice_set k r o) same ∙ set-get_or k r None)
+set-same k r same = rw same (sym (set-get_or k r None))

@@ -1,15 +1,14 @@
 -- Words whose bits are moved, and their products, bit by bit.
-use Rattle.sf_behaviour.proofs.Common.{◌≡◌, ℕ, zero, suc, ◌+◌, ◌-◌, ◌*◌, ◌/◌, ◌%◌, ◌<◌, ◌≤◌, ◌^◌, List, length, refl, sym, ap, ◌∙◌, inl, inr, arith, slice_index, bit_at, cases_lt, lt-ltb, le-ltb, pow_pos, pow-add, bit_at-lt, bit_at_cat_low, apply, Tree, Bits, chosen_of, IsTruthOf, IsWordOf, moved, pow-le-pow_right, div-add-mod', mul-mod_first, shr-shr, shr_le, bit_at-zero, bit_at_above, bit_at_cat_high, shift_of, shifted_by, Direction, Left, Right, add-mod, mod-mod, Mul}
+use Rattle.sf_behaviour.proofs.Common.{◌≡◌, ℕ, ◌+◌, ◌-◌, ◌*◌, ◌/◌, ◌%◌, ◌<◌, ◌≤◌, ◌^◌, List, length, refl, sym, ap, ◌∙◌, inl, inr, arith, slice_index, bit_at, cases_lt, lt-ltb, le-ltb, pow_pos, pow-add, bit_at-lt, bit_at_cat_low, apply, Tree, Bits, chosen_of, IsTruthOf, IsWordOf, moved, pow-le-pow_right, div-add-mod', mul-mod_first, shr-shr, shr_le, bit_at-zero, bit_at_above, bit_at_cat_high, shifted_by, Direction, Left, Right, add-mod, mod-mod, Mul}
 use Rattle.sf_behaviour.proofs.words.WordLemmas.{bit-of, number-small, truth-of-same, word-made}
-use Rattle.sf_behaviour.proofs.BitLemmas.{low-all, low-more, low-none}
+use Rattle.sf_behaviour.proofs.BitLemmas.{low-all, low-more}
 
 -- ---- bits of shifted numbers
 
 left-bit : (a by i : ℕ) → i < 32 → bit_at ((a * 2 ^ by) % 2 ^ 32) i ≡ bit_at (a * 2 ^ by + 0) i
 left-bit a by i l =
-    let clean : a * 2 ^ by ≡ a * 2 ^ by + 0 = omega arith in
     sym (bit_at_cat_low (a * 2 ^ by / 2 ^ 32) 32 ((a * 2 ^ by) % 2 ^ 32) i l)
-    ∙ ap (λ (n : ℕ). bit_at n i) (div-add-mod' (a * 2 ^ by) (2 ^ 32) ∙ clean)
+    ∙ ap (λ (n : ℕ). bit_at n i) (omega (arith, div-add-mod' (a * 2 ^ by) (2 ^ 32)))
 
 right-bit : (a by i : ℕ) → bit_at (a / 2 ^ by) i ≡ bit_at a (by + i)
 right-bit a by i = ap (λ (n : ℕ). n % 2) (shr-shr a by i)
@@ -33,8 +32,7 @@ moved-truth Right {f} by i w h l = elim (cases_lt (by + i) 32) [
 ]
 
 shifted-small : (d : Direction) (a by : ℕ) → a < 2 ^ 32 → shifted_by d a by < 2 ^ 32
-shifted-small Left a by l = omega arith
-shifted-small Right a by l = omega (arith, l, shr_le a by)
+shifted-small d a by l = grind (arith, shr_le a by)
 
 pub moved-word : (d : Direction) {ts : List Tree} {ids new : List ℕ} {f : Bits → ℕ} (by : ℕ) {z : ℕ} → length new ≡ 32
     → ((i : ℕ) → i < 32 → slice_index new i ≡ moved d ids by z i) → IsWordOf ts ids f
@@ -47,66 +45,31 @@ moved-word d {f} by count each w h =
 
 shift-twice : (d : Direction) (a m k : ℕ) → shifted_by d (shifted_by d a m) k ≡ shifted_by d a (k + m)
 shift-twice Left a m k =
-    let both : a * 2 ^ m * 2 ^ k ≡ a * (2 ^ k * 2 ^ m) = omega arith in
-    let sum : 2 ^ (k + m) ≡ 2 ^ k * 2 ^ m = pow-add 2 k m in
-    mul-mod_first (a * 2 ^ m) (2 ^ k) (2 ^ 32) ∙ ap (λ (n : ℕ). n % 2 ^ 32) (both ∙ ap (λ (n : ℕ). a * n) (sym sum))
-shift-twice Right a m k =
-    let sum : m + k ≡ k + m = omega arith in
-    shr-shr a m k ∙ ap (λ (n : ℕ). a / 2 ^ n) sum
+    mul-mod_first (a * 2 ^ m) (2 ^ k) (2 ^ 32) ∙ ap (λ (n : ℕ). n % 2 ^ 32) (rw (pow-add 2 k m) (omega arith))
+shift-twice Right a m k = shr-shr a m k ∙ ap (λ (n : ℕ). a / 2 ^ n) (omega arith)
 
 -- one more bit of the number of places
 shift-more : (d : Direction) (a m b p : ℕ) → b < 2
     → chosen_of b (shifted_by d (shifted_by d a m) p) (shifted_by d a m) ≡ shifted_by d a (b * p + m)
-shift-more d a m zero p l =
-    let same : m ≡ 0 * p + m = omega arith in
-    ap (shifted_by d a) same
-shift-more d a m (suc zero) p l =
-    let same : p + m ≡ 1 * p + m = omega arith in
-    shift-twice d a m p ∙ ap (shifted_by d a) same
-shift-more d a m (suc (suc b)) p l = absurd (omega arith)
+shift-more d a m b p l = grind (arith, shift-twice d a m p)
 
 pub few-places : (i p : ℕ) → i < 5 → p ≡ 2 ^ i → p ≤ 32
 few-places i p l e = omega (arith, e, pow-le-pow_right {n = 2} (omega arith) {i = i} {j = 5} (omega arith))
 
-shift-none : (d : Direction) (a : ℕ) → a < 2 ^ 32 → a ≡ shifted_by d a 0
-shift-none Left a l = omega arith
-shift-none Right a l = omega arith
-
 -- before the first bit, with one more bit, and behind the last one
 pub shift-begun : (d : Direction) (a b : ℕ) → a < 2 ^ 32 → a ≡ shifted_by d a (b % 2 ^ 0)
-shift-begun d a b l = shift-none d a l ∙ ap (shifted_by d a) (low-none b)
+shift-begun d a b l = grind arith
 
 pub shift-step : (d : Direction) (n a b p : ℕ) → p ≡ 2 ^ n
     → chosen_of (bit_at b n) (shifted_by d (shifted_by d a (b % 2 ^ n)) p) (shifted_by d a (b % 2 ^ n))
     ≡ shifted_by d a (b % 2 ^ (n + 1))
 shift-step d n a b p e =
-    rw e (shift-more d a (b % 2 ^ n) (bit_at b n) (2 ^ n) (bit_at-lt b n) ∙ ap (shifted_by d a) (low-more b n))
-
--- the low five bits are the number modulo 32
-shift-whole : (d : Direction) (a b : ℕ) → shifted_by d a (b % 32) ≡ apply (shift_of d) a b
-shift-whole Left a b = refl
-shift-whole Right a b = refl
-
-pub shift-made : (d : Direction) (n a b : ℕ) → n ≡ 5 → shifted_by d a (b % 2 ^ n) ≡ apply (shift_of d) a b
-shift-made d n a b e = ap (λ (m : ℕ). shifted_by d a (b % 2 ^ m)) e ∙ shift-whole d a b
+    grind (arith, shift-more d a (b % 2 ^ n) (bit_at b n) (2 ^ n) (bit_at-lt b n), low-more b n)
 
 -- one more bit of the second number
 product-more : (a m b p : ℕ) → b < 2
     → ((a * m) % 2 ^ 32 + chosen_of b ((a * p) % 2 ^ 32) 0) % 2 ^ 32 ≡ (a * (b * p + m)) % 2 ^ 32
-product-more a m zero p l =
-    let clean : (a * m) % 2 ^ 32 + 0 ≡ (a * m) % 2 ^ 32 = omega arith in
-    let same : m ≡ 0 * p + m = omega arith in
-    ap (λ (n : ℕ). n % 2 ^ 32) clean ∙ mod-mod (a * m) (2 ^ 32) ∙ ap (λ (n : ℕ). (a * n) % 2 ^ 32) same
-product-more a m (suc zero) p l =
-    let both : a * m + a * p ≡ a * (1 * p + m) = omega arith in
-    sym (add-mod (a * m) (a * p) (2 ^ 32)) ∙ ap (λ (n : ℕ). n % 2 ^ 32) both
-product-more a m (suc (suc b)) p l = absurd (omega arith)
-
--- before the first bit, with one more bit, and behind the last one
-pub product-begun : (a b : ℕ) → 0 ≡ (a * (b % 2 ^ 0)) % 2 ^ 32
-product-begun a b =
-    let empty : 0 ≡ (a * 0) % 2 ^ 32 = omega arith in
-    empty ∙ ap (λ (m : ℕ). (a * m) % 2 ^ 32) (low-none b)
+product-more a m b p l = grind (arith, mod-mod (a * m) (2 ^ 32), add-mod (a * m) (a * p) (2 ^ 32))
 
 pub product-step : (n a b : ℕ)
     → ((a * (b % 2 ^ n)) % 2 ^ 32 + chosen_of (bit_at b n) ((a * 2 ^ n) % 2 ^ 32) 0) % 2 ^ 32

@@ -1,7 +1,7 @@
 -- What a diagram tells of the runs from a place, by what the diagrams of the places behind tell.
-use Rattle.sf_behaviour.proofs.Common.{◌≡◌, ℕ, zero, suc, ◌+◌, ◌<◌, ◌==◌, ◌^◌, Bool, true, false, List, [], length, Option, Some, None, refl, sym, ap, ap₂, subst, ◌∙◌, arith, ◌&&◌, slice_set, if◌then◌else◌, same_Some, Input, Test, passes, Insn, Operand, IsLawfulProgram, Tree, Bits, value, tree_at, KeepsTrees, State, start, return_of, input_by, A, X, IsRegister, next_with, with_register, Known, known_word, held_in, IsInputWord, IsKnowledge, IsLess, divides, source_number, operand_in, source_in, set_progress, effect_progress, IsEffectOf, Tells, IsReplaced, word_value, IsDiagramOf, Effect, Tests, Source, Word, IsSome, IsAt, Progress, goes, returns, stuck, operand_of, insn_progress, Outcome, outcome_from, put, option_map_some, step_is, safe_start, ends_from, value_is, Fits, return_progress, unmet, IsSetTo}
+use Rattle.sf_behaviour.proofs.Common.{◌≡◌, ℕ, zero, suc, ◌+◌, ◌<◌, ◌==◌, ◌^◌, Bool, List, [], length, Option, Some, None, refl, sym, ap, subst, ◌∙◌, arith, ◌&&◌, slice_set, if◌then◌else◌, same_Some, Input, Test, passes, Insn, Operand, IsLawfulProgram, Tree, Bits, value, tree_at, KeepsTrees, State, start, return_of, input_by, A, X, IsRegister, next_with, with_register, Known, known_word, held_in, IsInputWord, IsKnowledge, IsLess, divides, source_number, operand_in, source_in, set_progress, effect_progress, IsEffectOf, Tells, IsReplaced, word_value, IsDiagramOf, Effect, Tests, Source, Word, IsSome, IsAt, Progress, goes, returns, stuck, insn_progress, Outcome, outcome_from, put, option_map_some, step_is, safe_start, ends_from, value_is, Fits, return_progress, unmet, IsSetTo}
 use Rattle.sf_run.specs.Machine.{run_for}
-use Rattle.sf_behaviour.proofs.replacing.ReplacingLemmas.{less-if, replaced-value}
+use Rattle.sf_behaviour.proofs.replacing.ReplacingLemmas.{replaced-value}
 use Rattle.sf_behaviour.proofs.VariableLemmas.{with-register-input, start-number, start-there}
 use Rattle.sf_behaviour.proofs.KnowledgeLemmas.{fits-set, fits-less, fits-kept, operand-in, source-in, knowledge-less, set-knowledge}
 
@@ -17,8 +17,8 @@ ends-of : (n : ℕ) (code : List Insn) (d : Input) (p : Progress) (o : List Bool
     → outcome_from (run_for n code d) p ≡ Some o → Ends code d (unmet p) o.1
 ends-of n code d (goes met s) o e =
     let rest = option_map_some (put met) (run_for n code d s) o e in
-    (n, rest.0, rest.1, ap (λ (q : List Bool × ℕ). q.1) rest.2)
-ends-of n code d (returns met m) o e = ap (λ (q : List Bool × ℕ). q.1) (same_Some (met, m) o e)
+    (n, rest.0, rest.1, ap (λ q. q.1) rest.2)
+ends-of n code d (returns met m) o e = cc
 ends-of n code d stuck o e = absurd cc
 
 -- the first step of a run that comes to an end
@@ -54,17 +54,15 @@ tells-step {code} {i} there is f = record {
 -- a store that has grown
 pub tells-kept : {code : List Insn} {place : ℕ} {ts us : List Tree} {k : Known} {id : ℕ} → KeepsTrees ts us
     → IsKnowledge ts k → Tells code place ts k id → Tells code place us k id
-tells-kept {id} keeps knows t = record {
+tells-kept {id = id} keeps knows t = record {
   within = omega (arith, keeps.longer, t.within);
   small = λ bits. rw (keeps.same id t.within) (t.small bits);
-  values = λ bits s n o here fits e. ap (λ (u : Tree). value u bits) (keeps.same id t.within)
-      ∙ t.values bits s n o here (fits-kept bits s keeps knows fits) e;
+  values = λ bits s n o here fits e.
+      rw (keeps.same id t.within) (t.values bits s n o here (fits-kept bits s keeps knows fits) e);
 }
 
 placed : (s : State) (r : ℕ) (n place : ℕ) → s.place ≡ place → (next_with s r n).place ≡ place + 1
-placed s zero n place here = ap (λ (p : ℕ). p + 1) here
-placed s (suc zero) n place here = ap (λ (p : ℕ). p + 1) here
-placed s (suc (suc k)) n place here = ap (λ (p : ℕ). p + 1) here
+placed s r n place here = grind arith
 
 -- where a register is set
 pub follows-set : (code : List Insn) (place r : ℕ) (source : Source) {ts us : List Tree} {k l : Known} {next id : ℕ}
@@ -111,22 +109,13 @@ pub follows-guard : (code : List Insn) (place : ℕ) (source : Source) (does : I
     → IsDiagramOf us new (λ bits. if divides source && (held_in ts k bits X == 0) then 0
     else value (tree_at ts id) bits)
     → Follows code place (λ d s. if divides source && (s.x == 0) then returns [] 0 else does d s) us k new
-follows-guard code place source does {ts} {k} {id} keeps knows f h = record {
+follows-guard code place source does {ts} {k = k} {id = id} keeps knows f h = record {
   within = h.within;
-  small = λ bits. rw (h.values bits) (less-if (divides source && (held_in ts k bits X == 0)) 0
-      (value (tree_at ts id) bits) (omega arith) (f.small bits));
+  small = λ bits. grind (arith, h.values bits, f.small bits);
   values = λ bits s v here fits' e.
       let fits : Fits ts k bits s = fits-kept bits s keeps knows fits' in
-      h.values bits
-      ∙ ap (λ (x : ℕ). if divides source && (x == 0) then 0 else value (tree_at ts id) bits) (sym (fits X s.x refl))
-      ∙ by bits s v here fits (divides source && (s.x == 0)) e;
+      grind (arith, h.values bits, fits X s.x refl, f.values bits s v here fits);
 }
-  where
-    by : (bits : Bits) (s : State) (v : ℕ) → s.place ≡ place → Fits ts k bits s → (b : Bool)
-        → Ends code (input_by bits) (if b then returns [] 0 else does (input_by bits) s) v
-        → (if b then 0 else value (tree_at ts id) bits) ≡ v
-    by bits s v here fits true e = e
-    by bits s v here fits false e = f.values bits s v here fits e
 
 -- where instructions are skipped
 pub follows-skip : {code : List Insn} (place n : ℕ) {ts : List Tree} {k : Known} {id : ℕ}
@@ -146,41 +135,27 @@ pub follows-test : (code : List Insn) (place : ℕ) (test : Test) (other : Opera
     → IsDiagramOf us id (λ bits. if passes test (held_in ts k bits A) (operand_in ts k bits other)
     then value (tree_at ts one_way) bits else value (tree_at ts other_way) bits)
     → Follows code place (λ d s. effect_progress d s (Tests test other t f)) us k id
-follows-test code place test other t f {ts} {k} {one_way} {other_way} keeps knows taken skipped h = record {
+follows-test code place test other t f {ts} {k = k} keeps knows taken skipped h = record {
   within = h.within;
-  small = λ bits. rw (h.values bits) (less-if (passes test (held_in ts k bits A) (operand_in ts k bits other))
-      (value (tree_at ts one_way) bits) (value (tree_at ts other_way) bits) (taken.small bits) (skipped.small bits));
+  small = λ bits. grind (arith, h.values bits, taken.small bits, skipped.small bits);
   values = λ bits s v here fits' e.
       let fits : Fits ts k bits s = fits-kept bits s keeps knows fits' in
-      h.values bits
-      ∙ ap₂ (λ (a b : ℕ). if passes test a b then value (tree_at ts one_way) bits
-      else value (tree_at ts other_way) bits) (sym (fits A s.a refl)) (sym (operand-in ts k bits s other fits))
-      ∙ by bits s v here fits (passes test s.a (operand_of s other)) e;
+      let one = (follows-skip place t taken).values bits s v here fits in
+      let two = (follows-skip place f skipped).values bits s v here fits in
+      grind (arith, h.values bits, fits A s.a refl, operand-in ts k bits s other fits, one, two);
 }
-  where
-    by : (bits : Bits) (s : State) (v : ℕ) → s.place ≡ place → Fits ts k bits s → (b : Bool)
-        → Ends code (input_by bits) (goes [] (record s { place = s.place + 1 + (if b then t else f) })) v
-        → (if b then value (tree_at ts one_way) bits else value (tree_at ts other_way) bits) ≡ v
-    by bits s v here fits true e = (follows-skip place t taken).values bits s v here fits e
-    by bits s v here fits false e = (follows-skip place f skipped).values bits s v here fits e
 
 -- where a number is returned
 pub follows-return : (code : List Insn) (place : ℕ) (source : Source) {ts us : List Tree} {k : Known} {id : ℕ}
     → KeepsTrees ts us → IsKnowledge ts k → IsDiagramOf us id (λ bits. source_in ts k bits source)
     → ((bits : Bits) → value (tree_at us id) bits < 2 ^ 32)
     → Follows code place (λ d s. return_progress (source_number d s source)) us k id
-follows-return code place source {ts} {k} keeps knows h small = record {
+follows-return code place source {ts} {k = k} keeps knows h small = record {
   within = h.within;
   small = small;
-  values = λ bits s v here fits e. h.values bits ∙ by bits s v (fits-kept bits s keeps knows fits)
-      (source_number (input_by bits) s source) refl e;
+  values = λ bits s v here fits e.
+      grind (arith, h.values bits, λ (n : ℕ). source-in ts k bits s source n (fits-kept bits s keeps knows fits));
 }
-  where
-    by : (bits : Bits) (s : State) (v : ℕ) → Fits ts k bits s → (from : Option ℕ)
-        → source_number (input_by bits) s source ≡ from → Ends code (input_by bits) (return_progress from) v
-        → source_in ts k bits source ≡ v
-    by bits s v fits None from e = absurd e
-    by bits s v fits (Some n) from e = sym (source-in ts k bits s source n fits from) ∙ e
 
 -- ---- what is known at a place
 

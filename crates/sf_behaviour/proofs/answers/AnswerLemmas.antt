@@ -1,33 +1,26 @@
 -- Diagrams of numbers, and their fold to an answer.
-use Rattle.sf_behaviour.proofs.Common.{◌≡◌, ℕ, ◌+◌, ◌*◌, ◌/◌, ◌%◌, ◌<◌, ◌≤◌, ◌^◌, Bool, true, false, List, [], ◌∷◌, ◌++◌, length, map, refl, sym, ap, ap₂, subst, ◌∙◌, arith, bit_at, if◌then◌else◌, Input, Insn, return_of, Tree, Bits, value, tree_at, KeepsTrees, input_by, IsDiagramOf, nat_lt, and_mask, shr_le, shr-shr, and_high_mask, map_push, IsInput, action_bits, data_bits, action_number, rank, Answers, IsAnswer, folded_answer, number-action_of, answer_more, one, returns_of, Answer, IsMerged, folded_of, Fold, answer_with, HasAnswers, IsBehaviour}
+use Rattle.sf_behaviour.proofs.Common.{◌≡◌, ℕ, ◌+◌, ◌*◌, ◌/◌, ◌%◌, ◌<◌, ◌^◌, Bool, List, [], ◌∷◌, ◌++◌, length, map, refl, sym, ap, ap₂, ◌∙◌, arith, bit_at, if◌then◌else◌, Input, Insn, return_of, Tree, Bits, value, tree_at, KeepsTrees, input_by, IsDiagramOf, nat_lt, and_mask, shr_le, shr-shr, and_high_mask, map_push, IsInput, action_bits, data_bits, action_number, rank, Answers, folded_answer, number-action_of, answer_more, one, returns_of, Answer, IsMerged, folded_of, Fold, answer_with, HasAnswers, IsBehaviour}
 use Rattle.sf_behaviour.proofs.VariableLemmas.{input-is}
 use Rattle.sf_behaviour.proofs.replacing.ReplacingLemmas.{less-if}
 
 -- ---- a number, from its highest bit on
 
-next-bit : (q r x s v : ℕ) → q / 2 ≡ r → x ≡ q % 2 → q < 2 ^ 32 → s ≡ r → v ≡ (2 * s + x) % 2 ^ 64 → v ≡ q
-next-bit q r x s v half bit small before one = omega arith
-
 -- one bit more; m is n + 1
 pub number-more : (m n number : ℕ) {x s v : ℕ} → m ≡ n + 1 → number < 2 ^ 32 → x ≡ bit_at number n
     → v ≡ (2 * s + x) % 2 ^ 64 → s ≡ number / 2 ^ m → v ≡ number / 2 ^ n
-number-more m n number {x} {s} {v} e less bit one before =
-    let most : number / 2 ^ n ≤ number = shr_le number n in
-    next-bit (number / 2 ^ n) (number / 2 ^ m) x s v (shr-shr number n 1 ∙ ap (λ (j : ℕ). number / 2 ^ j) (sym e)) bit
-    (omega arith) before one
+number-more m n number e less bit one before =
+    grind (arith, shr_le number n, shr-shr number n 1)
 
 -- ---- the fold
 
 with-if : (b : Bool) (m n : ℕ) → answer_with (if b then m else n) ≡ (if b then answer_with m else answer_with n)
-with-if true m n = refl
-with-if false m n = refl
+with-if b m n = grind arith
 
 -- the fold of two numbers is the fold of the answer that the first one names with the second
 folded-with : (newer older : ℕ) → answer_with (folded_of newer older) ≡ folded_answer (answer_with newer) older
 folded-with newer older =
     with-if (nat_lt (rank (action_bits older)) (rank (action_bits newer))) older newer
-    ∙ sym (ap (λ (k : ℕ). if nat_lt (rank (action_bits older)) (rank k) then answer_with older else answer_with newer)
-    (number-action_of (action_bits newer)))
+    ∙ rw (number-action_of (action_bits newer)) refl
 
 -- what programs return, the newest first
 abbrev pub returns_on : List (List Insn) → Bits → List ℕ
@@ -43,11 +36,9 @@ fold-more ps p ts us vs so_far id new before k h small within merged = record {
   small = λ bits. rw (is bits) (less-if (nat_lt (rank (action_bits (older bits))) (rank (action_bits (newer bits))))
       (older bits) (newer bits) (rw (h.values bits) at (small bits)) (before.small bits));
   answers = λ bits.
-      subst (λ (ns : List ℕ). IsAnswer ns (answer_with (value (tree_at vs new) bits)))
-      (sym (map_push (λ (q : List Insn). return_of q (input_by bits)) ps p))
-      (subst (λ (a : Answer). IsAnswer (returns_on ps bits ++ older bits ∷ []) a)
-      (sym (ap answer_with (is bits) ∙ folded-with (newer bits) (older bits)))
-      (answer_more (returns_on ps bits) (answer_with (newer bits)) (older bits) (before.answers bits)));
+      let listed = map_push (λ (q : List Insn). return_of q (input_by bits)) ps p in
+      rw (listed, is bits, folded-with (newer bits) (older bits))
+      (answer_more (returns_on ps bits) (answer_with (newer bits)) (older bits) (before.answers bits));
 }
   where
     newer : Bits → ℕ
@@ -69,11 +60,9 @@ same-answer m n lm ln e =
     = sym (number-action_of (action_bits m)) ∙ ap (λ (a : Answer). action_number a.action) e
     ∙ number-action_of (action_bits n) in
     let data_is : data_bits m ≡ data_bits n = ap (λ (a : Answer). a.info) e in
-    let high_m : action_bits m ≡ m / 65536 * 65536 = and_high_mask 32 16 (omega arith) m lm in
-    let high_n : action_bits n ≡ n / 65536 * 65536 = and_high_mask 32 16 (omega arith) n ln in
-    let low_m : data_bits m ≡ m % 65536 = and_mask m 16 in
-    let low_n : data_bits n ≡ n % 65536 = and_mask n 16 in
-    omega (arith, action, data_is, high_m, high_n, low_m, low_n)
+    let high_m = and_high_mask 32 16 (omega arith) m lm in
+    let high_n = and_high_mask 32 16 (omega arith) n ln in
+    omega (arith, action, data_is, high_m, high_n, and_mask m 16, and_mask n 16)
 
 -- stacks that answer alike have diagrams with one value
 pub same-values : (p q : List (List Insn)) (ts : List Tree) (i j : ℕ) → IsBehaviour p ts i → IsBehaviour q ts j

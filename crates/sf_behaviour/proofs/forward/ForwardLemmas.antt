@@ -41,8 +41,7 @@ AreMet steps known = (p q : ℕ) (s : Step) → slice_get steps p ≡ Some s →
 
 -- where something is known it is taken, and else the start
 pub met-less : (o : Option Known) (start k : Known) → IsMet o k → IsLess (unwrap_or o start) k
-met-less (Some l) start k h = h
-met-less None start k h = absurd h
+met-less o start k h = grind arith
 
 pub met-knowledge : (ts : List Tree) (o : Option Known) (start : Known) → ((k : Known) → o ≡ Some k → IsKnowledge ts k)
     → IsKnowledge ts start → IsKnowledge ts (unwrap_or o start)

@@ -1,5 +1,5 @@
 -- Diagrams in which a word stands in the place of a register.
-use Rattle.sf_behaviour.proofs.Common.{◌≡◌, ℕ, ◌<◌, ◌^◌, Bool, true, false, Some, None, List, length, refl, sym, ap, subst, ◌∙◌, inl, inr, arith, if◌then◌else◌, cases_eq, Tree, Fork, Bits, value, tree_at, KeepsTrees, chosen_of, IsTruthOf, with_register, IsReplaced, BTreeMap, get, is_at, Updates, IsEmpty, lookup, nat_cmp, nat_tests, IsChosen, AreReplaced}
+use Rattle.sf_behaviour.proofs.Common.{◌≡◌, ℕ, ◌<◌, ◌^◌, Bool, false, Some, List, length, sym, ◌∙◌, inl, inr, arith, if◌then◌else◌, cases_eq, Tree, Fork, Bits, value, tree_at, KeepsTrees, chosen_of, IsTruthOf, with_register, IsReplaced, BTreeMap, is_at, Updates, nat_cmp, nat_tests, IsChosen, AreReplaced}
 
 -- ---- one diagram
 
@@ -8,24 +8,20 @@ pub replaced-kept : {r : ℕ} {ts us : List Tree} {f : Bits → ℕ} {id new : �
 replaced-kept {r} {f} {id} {new} k h = record {
   id_within = omega (arith, k.longer, h.id_within);
   within = omega (arith, k.longer, h.within);
-  values = λ bits. ap (λ (t : Tree). value t bits) (k.same new h.within) ∙ h.values bits
-      ∙ sym (ap (λ (t : Tree). value t (with_register r (f bits) bits)) (k.same id h.id_within));
+  values = λ bits. rw (k.same new h.within, k.same id h.id_within) (h.values bits);
 }
 
 -- its value, by the tree that was there before
 pub replaced-value : {r : ℕ} {ts us : List Tree} {f : Bits → ℕ} {id new : ℕ} (bits : Bits) → KeepsTrees ts us
     → id < length ts → IsReplaced r us f id new
     → value (tree_at us new) bits ≡ value (tree_at ts id) (with_register r (f bits) bits)
-replaced-value {r} {f} {id} bits k within h =
-    h.values bits ∙ ap (λ (t : Tree). value t (with_register r (f bits) bits)) (k.same id within)
+replaced-value {id = id} bits k within h = rw (← k.same id within) (h.values bits)
 
 pub choice-if : (b : Bool) (p q : ℕ) → chosen_of (if b then 1 else 0) p q ≡ (if b then p else q)
-choice-if true p q = refl
-choice-if false p q = refl
+choice-if b p q = grind arith
 
 pub less-if : (b : Bool) (m n : ℕ) → m < 2 ^ 32 → n < 2 ^ 32 → (if b then m else n) < 2 ^ 32
-less-if true m n l k = l
-less-if false m n l k = k
+less-if b m n l k = grind arith
 
 -- What is chosen of the two sides of a fork, replaced, is the fork, replaced: s0 has the fork, s3 the sides, and what
 -- stands in the place of the variable.
@@ -41,12 +37,11 @@ replaced-made {r} {f} {s0} {v} {id} {lower} {higher} new k m inside ll lh fork l
       within = within;
       values = λ bits.
           let there : Bits = with_register r (f bits) bits in
-          chosen.values bits ∙ rw (
-            bit_is.values bits,
-            replaced-value bits k lh high_is,
-            replaced-value bits k ll low_is,
-            m.same id (omega (arith, inside, k.longer)) ∙ k.same id inside ∙ fork,
-          ) (choice-if (there v) (value (tree_at s0 higher) there) (value (tree_at s0 lower) there));
+          let higher_value = replaced-value bits k lh high_is in
+          let lower_value = replaced-value bits k ll low_is in
+          let same = m.same id (omega (arith, inside, k.longer)) ∙ k.same id inside ∙ fork in
+          chosen.values bits ∙ rw (bit_is.values bits, higher_value, lower_value, same)
+          (choice-if (there v) (value (tree_at s0 higher) there) (value (tree_at s0 lower) there));
     }
 
 -- ---- all that were made
@@ -57,13 +52,6 @@ all-kept k h = record {
   each = λ id new at. replaced-kept k (h.each id new at);
 }
 
-pub none-made : (r : ℕ) (ts : List Tree) (f : Bits → ℕ) (m : BTreeMap ℕ ℕ) → IsEmpty m → AreReplaced r ts f m
-none-made r ts f m e = record {
-  each = λ id new at.
-      let none : get nat_cmp m id ≡ None = ap (λ (es : List (ℕ × ℕ)). lookup (is_at (nat_cmp id)) es) e in
-      absurd (cc (at, none));
-}
-
 other-key : (i j : ℕ) → (j ≡ i → ⊥) → is_at (nat_cmp i) j ≡ false
 other-key i j ne = grind (arith, nat_tests)
 
@@ -72,11 +60,7 @@ pub all-put : {r : ℕ} {ts : List Tree} {f : Bits → ℕ} {m : BTreeMap ℕ �
     → Updates nat_cmp m n id (Some new) → AreReplaced r ts f m → IsReplaced r ts f id new → AreReplaced r ts f n
 all-put {r} {ts} {f} n {id} {new} put h one = record {
   each = λ q made at. elim (cases_eq q id) [
-    | inl e ↦ (
-        let here : get nat_cmp n id ≡ Some new = put.1 in
-        let there : get nat_cmp n id ≡ Some made = ap (λ (k : ℕ). get nat_cmp n k) (sym e) ∙ at in
-        let same : made ≡ new = cc in
-        subst (λ (k : ℕ). IsReplaced r ts f k made) (sym e) (subst (λ (k : ℕ). IsReplaced r ts f id k) (sym same) one))
+    | inl e ↦ (let same : made ≡ new = grind (arith, put.1) in rw (e, same) one)
     | inr ne ↦ h.each q made (sym (put.2 q (other-key id q ne)) ∙ at)
   ];
 }

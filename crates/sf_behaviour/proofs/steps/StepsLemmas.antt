@@ -1,5 +1,5 @@
 -- Steps, the places to which they lead, and the diagrams of the last places.
-use Rattle.sf_behaviour.proofs.Common.{◌≡◌, ℕ, zero, suc, ◌+◌, ◌<◌, List, [], ◌∷◌, ◌++◌, length, Option, Some, None, refl, sym, ap, subst, ◌∙◌, inl, inr, arith, Contains, slice_get, slice_index, slice_set, cases_lt, length-map, length-set, same_Some, Insn, IsLawfulProgram, Tree, KeepsTrees, insns_of, AreSteps, Tells, TellFrom, return_of, input_by, IsDiagramOf, places_after, IsEffectOf, Known, IsKnowledge, Step, Effect, Sets, Tests, ◌⊎◌, length-append, get_or, get_or_push, get_or_append_left, slice_get-get_or, slice_get_within, get_or_from_slice_get, contains_cons, contains_here, contains_nil, IsAt, IsStep, IsAfter, Skips, Returns, effect_progress, successors, below_in, successors_inside, IsNext, IsPlace}
+use Rattle.sf_behaviour.proofs.Common.{◌≡◌, ℕ, zero, suc, ◌+◌, ◌<◌, List, [], ◌∷◌, ◌++◌, length, Some, refl, sym, ap, subst, ◌∙◌, arith, Contains, slice_get, slice_index, slice_set, length-map, length-set, same_Some, Insn, IsLawfulProgram, Tree, KeepsTrees, insns_of, AreSteps, Tells, TellFrom, return_of, input_by, IsDiagramOf, places_after, IsEffectOf, Known, IsKnowledge, Step, Effect, Sets, ◌⊎◌, slice_get-get_or, slice_get_within, get_or_from_slice_get, contains_cons, contains_here, contains_nil, IsAt, IsStep, IsAfter, effect_progress, successors, below_in, successors_inside, IsNext, IsPlace, common_steps}
 use Rattle.sf_behaviour.proofs.words.WordLemmas.{set-each, word-of-kept, word-of-same}
 use Rattle.sf_behaviour.proofs.KnowledgeLemmas.{in-kept, input-word-kept, knowledge-kept, set-knowledge, source-kept}
 use Rattle.sf_behaviour.proofs.TellLemmas.{tells-kept, tells-program, Follows, tells-step}
@@ -7,16 +7,10 @@ use Rattle.sf_behaviour.proofs.TellLemmas.{tells-kept, tells-program, Follows, t
 -- an element of a list with one more at its end
 pub at-push : {B : Type 0} (xs : List B) (x y : B) (i : ℕ) → slice_get (xs ++ x ∷ []) i ≡ Some y
     → ((i < length xs) × (slice_get xs i ≡ Some y)) ⊎ ((i ≡ length xs) × (x ≡ y))
-at-push xs x y i e = elim (cases_lt i (length xs)) [
-  | inl lt ↦
-      let same : get_or xs i x ≡ y
-      = sym (get_or_append_left xs (x ∷ []) x i lt) ∙ get_or_from_slice_get (xs ++ x ∷ []) i y x e in
-      inl (lt, slice_get-get_or xs i x lt ∙ ap Some same)
-  | inr ge ↦
-      let within : i < length (xs ++ x ∷ []) = slice_get_within (xs ++ x ∷ []) i y e in
-      let here : length xs ≡ i = omega (arith, length-append xs (x ∷ [])) in
-      inr (sym here, sym (get_or_push xs x x i here) ∙ get_or_from_slice_get (xs ++ x ∷ []) i y x e)
-]
+at-push xs x y i e =
+    let within = slice_get_within (xs ++ x ∷ []) i y e in
+    let here = get_or_from_slice_get (xs ++ x ∷ []) i y x e in
+    grind (arith, common_steps, slice_get-get_or xs i x, within, here)
 
 -- ---- places to which steps lead
 
@@ -24,17 +18,11 @@ pub first-place : (p : ℕ) (ps : List ℕ) → Contains (p ∷ ps) p
 first-place p ps = contains_here p ps p refl
 
 pub one-place : (p q : ℕ) → Contains (p ∷ []) q → p ≡ q
-one-place p q c = elim (contains_cons p [] q c) [ inl e ↦ e | inr none ↦ absurd (contains_nil q none) ]
+one-place p q c = grind (arith, contains_cons p [] q c, contains_nil q)
 
 -- a step leads to later places
 pub leads-later : (at q : ℕ) (e : Effect) → Contains (places_after at e) q → at < q
-leads-later at q (Sets r source) c = let e : at + 1 ≡ q = one-place (at + 1) q c in omega arith
-leads-later at q (Skips n) c = let e : at + 1 + n ≡ q = one-place (at + 1 + n) q c in omega arith
-leads-later at q (Tests test other t f) c = elim (contains_cons (at + 1 + t) ((at + 1 + f) ∷ []) q c) [
-  | inl e ↦ omega arith
-  | inr more ↦ omega (arith, one-place (at + 1 + f) q more)
-]
-leads-later at q (Returns source) c = absurd (contains_nil q c)
+leads-later at q e c = grind (arith, contains_cons, contains_nil)
 
 -- ---- steps
 
@@ -42,20 +30,16 @@ leads-later at q (Returns source) c = absurd (contains_nil q c)
 pub step-at : (steps : List Step) (place : ℕ) (step : Step) → slice_get steps place ≡ Some step
     → IsAt (insns_of steps) place step.insn
 step-at [] place step e = absurd cc
-step-at (s ∷ steps) zero step e = ap (λ (o : Option Step). insn_of o) e
-  where
-    insn_of : Option Step → Option Insn
-    insn_of (Some t) = Some t.insn
-    insn_of None = None
+step-at (s ∷ steps) zero step e = cc
 step-at (s ∷ steps) (suc place) step e = step-at steps place step e
 
 -- what is known behind a step that sets no register, and behind one that does
 pub after-same : {ts : List Tree} {step : Step} {e : Effect} → IsStep ts step → step.effect ≡ e
     → IsAfter ts step.known e step.after
-after-same {ts} {step} h is = subst (λ (f : Effect). IsAfter ts step.known f step.after) is h.after
+after-same h is = rw is at h.after
 
 pub effect-is : {ts : List Tree} {step : Step} {e : Effect} → IsStep ts step → step.effect ≡ e → IsEffectOf step.insn e
-effect-is {step} h is = subst (λ (f : Effect). IsEffectOf step.insn f) is h.effect
+effect-is h is = rw is at h.effect
 
 pub after-knowledge : {ts : List Tree} {step : Step} → IsStep ts step → IsKnowledge ts step.after
 after-knowledge {ts} {step} h = by step.effect refl
@@ -118,19 +102,14 @@ from-more ts us steps ids first place id now e keeps are h here new = record {
 
 pub steps-some : (steps : List Step) (program : List Insn) → insns_of steps ≡ program → 0 < length program
     → 0 < length steps
-steps-some steps program code some =
-    omega (arith, some, ap (λ (xs : List Insn). length xs) code, length-map steps (λ (s : Step). s.insn))
+steps-some steps program code some = omega (arith, ap length code, length-map steps (λ (s : Step). s.insn))
 
 -- the diagram of the first place
 pub first-tells : {ts : List Tree} (steps : List Step) {ids : List ℕ} (first : ℕ) {id : ℕ} → first ≡ 0
     → 0 < length steps → TellFrom ts steps ids first → id ≡ slice_index ids 0
     → (s : Step) × (slice_get steps 0 ≡ Some s) × Tells (insns_of steps) 0 ts s.known id
 first-tells [] first e some h is = absurd (omega arith)
-first-tells {ts} (s ∷ steps) first e some h is = (
-  s,
-  refl,
-  subst (λ (x : ℕ). Tells (insns_of (s ∷ steps)) 0 ts s.known x) (sym is) (h.each 0 s (omega arith) refl),
-)
+first-tells (s ∷ steps) first e some h is = (s, refl, rw is (h.each 0 s (omega arith) refl))
 
 -- it has the number that the program returns
 pub program-diagram : (program : List Insn) (ts : List Tree) (steps : List Step) (ids : List ℕ) (first id : ℕ)
@@ -184,10 +163,9 @@ next-inside {steps} {step} {next} h =
 pub next-tells : {ts : List Tree} {steps : List Step} {ids : List ℕ} {step there : Step} {next id : ℕ}
     → IsNext ts steps ids step next → slice_get steps next ≡ Some there → id ≡ slice_index ids next
     → Tells (insns_of steps) next ts there.known id
-next-tells {ts} {steps} {step} {there} {next} h at is =
-    subst (λ (x : ℕ). Tells (insns_of steps) next ts there.known x) (sym is)
-    (h.is.behind.each next there (omega (arith, leads-later h.place next step.effect h.leads)) at)
+next-tells {step} {there} {next} h at is =
+    rw is (h.is.behind.each next there (omega (arith, leads-later h.place next step.effect h.leads)) at)
 
 pub same-tells : {code : List Insn} {place : ℕ} {ts : List Tree} {k l : Known} {id : ℕ} → l ≡ k
     → Tells code place ts l id → Tells code place ts k id
-same-tells {code} {place} {ts} {id} same = subst (λ (m : Known). Tells code place ts m id) same
+same-tells same t = rw same at t

@@ -1,12 +1,12 @@
 -- Words by their bits, in stores that grow.
-use Rattle.sf_behaviour.proofs.Common.{◌≡◌, ℕ, zero, suc, ◌+◌, ◌-◌, ◌*◌, ◌/◌, ◌%◌, ◌<◌, ◌^◌, List, [], ◌∷◌, length, refl, sym, ap, ap₂, subst, ◌∙◌, inl, inr, arith, slice_index, slice_set, bit_at, pow-suc, cases_eq, length-set, get_or-set_same, get_or-set_other, bit_at_cat_low, Tree, Bits, value, tree_at, KeepsTrees, chosen_of, word_value, IsTruth, IsTruthOf, IsWord, IsWordOf, ◌≢◌, get_or, bit_at_lowest, bit_at-suc, bit_at-zero, bit_at_cat_high, same_from_bits_below}
+use Rattle.sf_behaviour.proofs.Common.{◌≡◌, ℕ, zero, suc, ◌+◌, ◌*◌, ◌<◌, ◌^◌, List, [], ◌∷◌, length, refl, sym, ap, ap₂, ◌∙◌, arith, slice_index, slice_set, bit_at, pow-suc, length-set, get_or-set_same, get_or-set_other, bit_at_cat_low, Tree, Bits, value, tree_at, KeepsTrees, chosen_of, word_value, IsTruth, IsTruthOf, IsWord, IsWordOf, ◌≢◌, get_or, bit_at_lowest, bit_at-suc, bit_at-zero, bit_at_cat_high, same_from_bits_below}
 
 -- ---- stores that grow
 
 pub truth-kept : {ts us : List Tree} {id : ℕ} → KeepsTrees ts us → IsTruth ts id → IsTruth us id
 truth-kept {id} k t = record {
   within = omega (arith, k.longer, t.within);
-  small = λ bits. subst (λ (n : ℕ). n < 2) (sym (ap (λ (u : Tree). value u bits) (k.same id t.within))) (t.small bits);
+  small = λ bits. rw (k.same id t.within) (t.small bits);
 }
 
 pub value-kept : {ts us : List Tree} {id : ℕ} (bits : Bits) → KeepsTrees ts us → IsTruth ts id
@@ -33,30 +33,23 @@ list-kept : (ts us : List Tree) (ids : List ℕ) (bits : Bits) → KeepsTrees ts
     → word_value us ids bits ≡ word_value ts ids bits
 list-kept ts us [] bits k h = refl
 list-kept ts us (id ∷ ids) bits k h =
-    ap₂ (λ (v w : ℕ). v + 2 * w) (ap (λ (t : Tree). value t bits) (k.same id (h 0 (omega arith)).within))
-    (list-kept ts us ids bits k (λ i l. h (suc i) (omega arith)))
+    grind (arith, k.same id (h 0 (omega arith)).within, list-kept ts us ids bits k (λ i l. h (suc i) (omega arith)))
 
 list-small : (ts : List Tree) (ids : List ℕ) (bits : Bits) → AreTruths ts ids → word_value ts ids bits < 2 ^ length ids
 list-small ts [] bits h = omega arith
 list-small ts (id ∷ ids) bits h =
-    let first : value (tree_at ts id) bits < 2 = (h 0 (omega arith)).small bits in
-    let rest : word_value ts ids bits < 2 ^ length ids = list-small ts ids bits (λ i l. h (suc i) (omega arith)) in
-    let double : 2 ^ suc (length ids) ≡ 2 ^ length ids * 2 = pow-suc 2 (length ids) in
-    omega (arith, first, rest, double)
+    let rest = list-small ts ids bits (λ i l. h (suc i) (omega arith)) in
+    omega (arith, (h 0 (omega arith)).small bits, rest, pow-suc 2 (length ids))
 
 list-bit : (ts : List Tree) (ids : List ℕ) (bits : Bits) (i : ℕ) → AreTruths ts ids → i < length ids
     → bit_at (word_value ts ids bits) i ≡ value (tree_at ts (slice_index ids i)) bits
 list-bit ts [] bits i h l = absurd (omega arith)
 list-bit ts (id ∷ ids) bits zero h l =
-    let first : value (tree_at ts id) bits < 2 = (h 0 (omega arith)).small bits in
-    let last : (value (tree_at ts id) bits + 2 * word_value ts ids bits) % 2 ≡ value (tree_at ts id) bits
-    = omega (arith, first) in
-    bit_at_lowest (value (tree_at ts id) bits + 2 * word_value ts ids bits) ∙ last
+    bit_at_lowest (value (tree_at ts id) bits + 2 * word_value ts ids bits)
+    ∙ omega (arith, (h 0 (omega arith)).small bits)
 list-bit ts (id ∷ ids) bits (suc i) h l =
-    let first : value (tree_at ts id) bits < 2 = (h 0 (omega arith)).small bits in
-    let half : (value (tree_at ts id) bits + 2 * word_value ts ids bits) / 2 ≡ word_value ts ids bits
-    = omega (arith, first) in
-    bit_at-suc (value (tree_at ts id) bits + 2 * word_value ts ids bits) i ∙ ap (λ (n : ℕ). bit_at n i) half
+    bit_at-suc (value (tree_at ts id) bits + 2 * word_value ts ids bits) i
+    ∙ ap (λ (n : ℕ). bit_at n i) (omega (arith, (h 0 (omega arith)).small bits))
     ∙ list-bit ts ids bits i (λ j lj. h (suc j) (omega arith)) (omega arith)
 
 -- ---- words
@@ -65,8 +58,7 @@ are-truths : {ts : List Tree} {ids : List ℕ} → IsWord ts ids → AreTruths t
 are-truths w i l = w.each i (omega (arith, w.count))
 
 pub word-small : {ts : List Tree} {ids : List ℕ} (bits : Bits) → IsWord ts ids → word_value ts ids bits < 2 ^ 32
-word-small {ts} {ids} bits w =
-    subst (λ (n : ℕ). word_value ts ids bits < 2 ^ n) w.count (list-small ts ids bits (are-truths w))
+word-small {ts} {ids} bits w = rw w.count at (list-small ts ids bits (are-truths w))
 
 -- one bit of the number of a word
 pub bit-of-word : {ts : List Tree} {ids : List ℕ} (bits : Bits) (i : ℕ) → IsWord ts ids → i < 32
@@ -125,7 +117,7 @@ pub bit-of : {ts : List Tree} {ids : List ℕ} {f : Bits → ℕ} (i : ℕ) → 
     → IsTruthOf ts (slice_index ids i) (λ bits. bit_at (f bits) i)
 bit-of i w l = record {
   truth = w.word.each i l;
-  values = λ bits. sym (bit-of-word bits i w.word l) ∙ ap (λ (n : ℕ). bit_at n i) (w.values bits);
+  values = λ bits. rw (w.values bits) at (sym (bit-of-word bits i w.word l));
 }
 
 pub none-bit : {ts : List Tree} {none : List ℕ} (i : ℕ) → IsWordOf ts none (λ bits. 0) → i < 32
@@ -147,10 +139,7 @@ bit-chosen n {us} {b} {f} {g} k wb l x y w =
 -- what holds of each element of a list holds after one was set
 pub set-each : {B : Type 0} (P : ℕ → B → Type 0) (d : B) (xs : List B) (n : ℕ) (x : B) (i : ℕ) → n < length xs → P n x
     → (i ≢ n → P i (get_or xs i d)) → P i (get_or (slice_set xs n x) i d)
-set-each P d xs n x i l here there = elim (cases_eq i n) [
-  | inl e ↦ rw (e, get_or-set_same xs n x d l) here
-  | inr ne ↦ rw (get_or-set_other xs n i x d ne) (there ne)
-]
+set-each P d xs n x i l here there = grind (arith, get_or-set_same, get_or-set_other)
 
 pub word-set : {ts us : List Tree} {ids : List ℕ} (n : ℕ) {id : ℕ} → KeepsTrees ts us → n < 32 → IsWord ts ids
     → IsTruth us id → IsWord us (slice_set ids n id)
@@ -176,10 +165,7 @@ begun-more n {us} {ids} {id} {f} k l b t = record {
 
 -- the bit above n others
 pub top-bit : (x n low : ℕ) → x < 2 → low < 2 ^ n → bit_at (x * 2 ^ n + low) n ≡ x
-top-bit x n low lx ll =
-    let none : n - n ≡ 0 = omega arith in
-    let small : x % 2 ≡ x = omega arith in
-    bit_at_cat_high x n low n ll (omega arith) ∙ ap (λ (i : ℕ). bit_at x i) none ∙ bit_at_lowest x ∙ small
+top-bit x n low lx ll = grind (arith, bit_at_cat_high x n low n ll, bit_at_lowest)
 
 -- one more, above numbers of n bits
 pub begun-above : (n : ℕ) {ts us : List Tree} {ids : List ℕ} {id : ℕ} {f : Bits → ℕ} → KeepsTrees ts us → n < 32

@@ -1,20 +1,6 @@
-use Rattle.sf_behaviour.proofs.Common.{subst, sym, Tree, IsAnswer, answer_none, answer_with, value, [], ◌∷◌, ◌++◌, arith, keeps_more, common_steps}
+use Rattle.sf_behaviour.proofs.Common.{[], ◌∷◌, ◌++◌, arith, keeps_more, common_steps}
 use Rattle.sf_behaviour.proofs.answers.AnswerLemmas.{fold-more}
 use Rattle.sf_behaviour.proofs.answers.behaviour.Goals as goal
-
-pub loop-program-init : goal.loop-program-init
-loop-program-init c =
-    let leaf = c.in_ok-so_far.ensures.tree in
-    record {
-      keeps = c.in_ok-so_far.ensures.keeps;
-      programs = [];
-      given = grind (arith, common_steps);
-      answers = record {
-        within = c.in_ok-so_far.ensures.within;
-        small = λ bits. rw leaf (omega arith);
-        answers = λ bits. subst (λ (t : Tree). IsAnswer [] (answer_with (value t bits))) (sym leaf) answer_none;
-      };
-    }
 
 pub loop-program-preserved : goal.loop-program-preserved
 loop-program-preserved c =

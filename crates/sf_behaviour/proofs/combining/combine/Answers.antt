@@ -1,12 +1,7 @@
 use Rattle.sf_behaviour.proofs.Common.{◌∙◌, ap₂, bit_at, combined, sym, arith, keeps_more, word_value}
 use Rattle.sf_behaviour.proofs.words.WordLemmas.{begun-more, bit-now, truth-of-same, word-made, word-small}
-use Rattle.sf_behaviour.proofs.BitLemmas.{bitwise-kept, combined-bit, combined-kept, combined-small}
+use Rattle.sf_behaviour.proofs.BitLemmas.{combined-bit, combined-kept, combined-small}
 use Rattle.sf_behaviour.proofs.combining.combine.Goals as goal
-
-pub combine_bits-requires-clause-operation : goal.combine_bits-requires-clause-operation
-combine_bits-requires-clause-operation c =
-    bitwise-kept c.args.store.now.trees c.loop-i.store.trees c.args.operation c.loop-i.invariant.keeps.trees
-    c.requires.operation
 
 pub loop-i-preserved : goal.loop-i-preserved
 loop-i-preserved c =

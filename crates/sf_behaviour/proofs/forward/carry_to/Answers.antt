@@ -1,4 +1,4 @@
-use Rattle.sf_behaviour.proofs.Common.{◌≡◌, ◌∙◌, ◌<◌, ℕ, Option, Some, None, ap, length, length-set, refl, subst, arith, get_or_default, get_or-set_same, same_Some, Known, known_of, IsKnowledge, IsMet, slice_set, unwrap_or}
+use Rattle.sf_behaviour.proofs.Common.{◌≡◌, ◌∙◌, ◌<◌, ℕ, Option, Some, None, ap, length, length-set, subst, arith, get_or_default, get_or-set_same, same_Some, Known, known_of, IsKnowledge, IsMet, slice_set, unwrap_or}
 use Rattle.sf_behaviour.proofs.words.WordLemmas.{set-each}
 use Rattle.sf_behaviour.proofs.KnowledgeLemmas.{knowledge-less}
 use Rattle.sf_behaviour.proofs.steps.StepsLemmas.{one-place}
@@ -27,11 +27,3 @@ returns-then-place-len c =
           (λ k e. subst (λ (l : Known). IsKnowledge ts l) (same_Some c.meet.result k e)
           (knowledge-less ts c.meet.result after both.second both.count knows)) (λ ne. are q);
     }
-
-pub returns-else-place-len : goal.returns-else-place-len
-returns-else-place-len c = record {
-  count = refl;
-  leads = λ q inside to. absurd (omega (arith, one-place c.args.place q to, c.if-place-len.false, c.len.ensures));
-  stays = λ q k h. h;
-  right = λ ts knows old. old;
-}

@@ -1,4 +1,4 @@
-use Rattle.sf_behaviour.proofs.Common.{inl, inr, [], ◌∷◌, ◌++◌, List, Insn, ap₂, map-append, take_more, slice_get-get_or, ◌≡◌, ◌∙◌, ◌<◌, ap, length, unwrap_or, Option, Some, None, replicate, refl, sym, arith, rules, keeps_more, Step, Known, known_of, length-append, length-replicate, get_or-replicate, get_or_default, take_all}
+use Rattle.sf_behaviour.proofs.Common.{inl, inr, [], ◌∷◌, ◌++◌, List, Insn, ap₂, map-append, take_more, ◌≡◌, ◌∙◌, ◌<◌, ap, length, unwrap_or, Option, Some, None, replicate, refl, sym, arith, rules, keeps_more, Step, Known, known_of, length-append, length-replicate, get_or-replicate, get_or_default}
 use Rattle.sf_behaviour.proofs.VariableLemmas.{none-there}
 use Rattle.sf_behaviour.proofs.KnowledgeLemmas.{knowledge-kept}
 use Rattle.sf_behaviour.proofs.steps.StepsLemmas.{after-knowledge, at-push}
@@ -26,10 +26,6 @@ loop-i-init c =
       known = rw made (λ q k e. absurd (none-there none places q k refl e));
       first = rw made (λ e. get_or-replicate places 0 none None c.requires.some);
     }
-
-pub step_of-requires-clause-range : goal.step_of-requires-clause-range
-step_of-requires-clause-range c =
-    c.requires.in_range c.loop-i.i _ (slice_get-get_or c.args.insns.now c.loop-i.i _ (omega arith))
 
 pub step_of-requires-clause-known : goal.step_of-requires-clause-known
 step_of-requires-clause-known c =
@@ -75,9 +71,3 @@ loop-i-preserved c =
       known = carried.right us (after-knowledge e.step) (λ q k is. knowledge-kept e.keeps.trees (h.known q k is));
       first = λ none. absurd (omega arith);
     }
-
-pub returns-clause-steps : goal.returns-clause-steps
-returns-clause-steps c = c.loop-i.invariant.steps
-
-pub returns-clause-code : goal.returns-clause-code
-returns-clause-code c = c.loop-i.invariant.code ∙ take_all c.loop-i.i c.args.insns.now (omega arith)

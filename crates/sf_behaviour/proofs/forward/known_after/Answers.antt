@@ -12,12 +12,3 @@ returns-in_ok-word-in-Sets-clause-after c = rw c.in-Sets.is (record {
       let kept = c.in_ok-word-in-Sets.ensures.keeps.trees in
       (fixed.0, word-of-same fixed.1 (λ bits. sym (source-kept bits c.in-Sets.source kept c.requires.known)));
 })
-
-pub returns-in-Skips-clause-after : goal.returns-in-Skips-clause-after
-returns-in-Skips-clause-after c = rw c.in-Skips.is refl
-
-pub returns-in-Tests-clause-after : goal.returns-in-Tests-clause-after
-returns-in-Tests-clause-after c = rw c.in-Tests.is refl
-
-pub returns-in-Returns-clause-after : goal.returns-in-Returns-clause-after
-returns-in-Returns-clause-after c = rw c.in-Returns.is refl

@@ -1,13 +1,9 @@
 use Rattle.sf_behaviour.proofs.KnowledgeLemmas.{knowledge-kept}
 use Rattle.sf_behaviour.proofs.forward.step_of.Goals as goal
 
-pub known_after-requires-clause-there : goal.known_after-requires-clause-there
-known_after-requires-clause-there c = c.effect_of-effect.ensures.there
-
 pub returns-clause-step : goal.returns-clause-step
 returns-clause-step c = record {
   effect = c.effect_of-effect.ensures;
-  known = knowledge-kept
-      c.in_ok-after.ensures.keeps.trees c.requires.known;
+  known = knowledge-kept c.in_ok-after.ensures.keeps.trees c.requires.known;
   after = c.in_ok-after.ensures.after;
 }

@@ -7,16 +7,6 @@ use Rattle.sf_behaviour.proofs.places.diagram_of_place.Goals as goal
 
 -- ---- a register is set
 
-pub diagram_behind-requires : goal.diagram_behind-requires
-diagram_behind-requires c =
-    next-of c.requires (rw c.in-Sets.is (first-place (c.args.place + 1) []))
-
-pub set_diagram-requires-clause-register : goal.set_diagram-requires-clause-register
-set_diagram-requires-clause-register c = (effect-is (this-step c.requires) c.in-Sets.is).there.0
-
-pub set_diagram-requires-clause-source : goal.set_diagram-requires-clause-source
-set_diagram-requires-clause-source c = (effect-is (this-step c.requires) c.in-Sets.is).there.1
-
 pub set_diagram-requires-clause-known : goal.set_diagram-requires-clause-known
 set_diagram-requires-clause-known c =
     knowledge-kept c.in_ok-next-in-Sets.ensures.keeps.trees (this-step c.requires).known
@@ -43,22 +33,12 @@ returns-in_ok-guarded_diagram-in-Sets-clause-tells c =
 
 -- ---- instructions are skipped
 
-pub diagram_behind-requires-in-Skips : goal.diagram_behind-requires-in-Skips
-diagram_behind-requires-in-Skips c =
-    next-of c.requires (rw c.in-Skips.is (first-place (c.args.place + 1 + c.in-Skips.k) []))
-
 pub returns-in_ok-diagram_behind-in-Skips-clause-tells : goal.returns-in_ok-diagram_behind-in-Skips-clause-tells
 returns-in_ok-diagram_behind-in-Skips-clause-tells c =
     place-step c.requires c.in-Skips.is (follows-skip c.args.place c.in-Skips.k
     (same-tells (after-same (this-step c.requires) c.in-Skips.is) c.in_ok-diagram_behind-in-Skips.ensures.tells))
 
 -- ---- A is tested
-
-pub diagram_behind-requires-in-Tests : goal.diagram_behind-requires-in-Tests
-diagram_behind-requires-in-Tests c =
-    let hit = c.args.place + 1 + c.in-Tests.on_true in
-    let miss = c.args.place + 1 + c.in-Tests.on_false in
-    next-of c.requires (rw c.in-Tests.is (first-place hit (miss ∷ [])))
 
 pub diagram_behind-requires-in-Tests-2 : goal.diagram_behind-requires-in-Tests-2
 diagram_behind-requires-in-Tests-2 c =
@@ -73,17 +53,7 @@ test_diagram-requires-clause-known c =
     (this-step c.requires).known
 
 pub choose-requires-clause-taken : goal.choose-requires-clause-taken
-choose-requires-clause-taken c =
-    omega (
-      arith,
-      c.in_ok-taken-in-Tests.ensures.tells.within,
-      c.in_ok-other-in-Tests.ensures.keeps.trees.longer,
-      c.in_ok-passed-in-Tests.ensures.keeps.trees.longer,
-    )
-
-pub choose-requires-clause-other : goal.choose-requires-clause-other
-choose-requires-clause-other c =
-    omega (arith, c.in_ok-other-in-Tests.ensures.tells.within, c.in_ok-passed-in-Tests.ensures.keeps.trees.longer)
+choose-requires-clause-taken c = grind arith
 
 pub returns-in_ok-tested-in-Tests-clause-tells : goal.returns-in_ok-tested-in-Tests-clause-tells
 returns-in_ok-tested-in-Tests-clause-tells c =

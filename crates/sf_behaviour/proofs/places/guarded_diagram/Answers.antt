@@ -16,18 +16,9 @@ returns-clause-values c =
     c.in_ok-is_zero.is_zero c.in_ok-zero.zero c.args.id c.in_ok-guarded.guarded c.in_ok-is_zero.ensures.keeps.trees
     zero.within (omega (arith, c.requires.within, zero.keeps.trees.longer)) c.in_ok-is_zero.ensures.truth
     c.in_ok-guarded.ensures.within c.in_ok-guarded.ensures.chosen in
+    let same = zero.keeps.trees.same c.args.id c.requires.within in
     rw (sym c.is_quotient.ensures ∙ c.if-not-is_quotient.false) (record {
       within = chosen.within;
-      values = λ bits. chosen.values bits ∙ rw (
-        in-kept bits X zero.keeps.trees c.requires.known,
-        zero.tree,
-        zero.keeps.trees.same c.args.id c.requires.within,
-      ) refl;
-    })
-
-pub returns-then-not-is_quotient-clause-values : goal.returns-then-not-is_quotient-clause-values
-returns-then-not-is_quotient-clause-values c =
-    rw (sym c.is_quotient.ensures ∙ c.if-not-is_quotient.true) (record {
-      within = c.requires.within;
-      values = λ bits. refl;
+      values = λ bits.
+          chosen.values bits ∙ rw (in-kept bits X zero.keeps.trees c.requires.known, zero.tree, same) refl;
     })

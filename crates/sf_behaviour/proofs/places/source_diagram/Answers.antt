@@ -1,15 +1,6 @@
-use Rattle.sf_behaviour.proofs.Common.{◌∙◌, refl, arith}
+use Rattle.sf_behaviour.proofs.Common.{◌∙◌}
 use Rattle.sf_behaviour.proofs.words.WordLemmas.{word-small}
 use Rattle.sf_behaviour.proofs.places.source_diagram.Goals as goal
-
-pub returns-in_ok-leaf-in-Constant-clause-values : goal.returns-in_ok-leaf-in-Constant-clause-values
-returns-in_ok-leaf-in-Constant-clause-values c = rw c.in-Constant.is (record {
-  within = c.in_ok-leaf-in-Constant.ensures.within;
-  values = λ bits. rw c.in_ok-leaf-in-Constant.ensures.tree refl;
-})
-
-pub returns-in_ok-leaf-in-Constant-clause-small : goal.returns-in_ok-leaf-in-Constant-clause-small
-returns-in_ok-leaf-in-Constant-clause-small c = λ bits. rw c.in_ok-leaf-in-Constant.ensures.tree (omega arith)
 
 pub returns-in_ok-id-in_default-clause-values : goal.returns-in_ok-id-in_default-clause-values
 returns-in_ok-id-in_default-clause-values c = record {

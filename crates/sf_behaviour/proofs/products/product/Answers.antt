@@ -1,31 +1,13 @@
 use Rattle.sf_behaviour.proofs.Common.{◌≡◌, arith, apply, keeps_more, word_value, Add}
-use Rattle.sf_behaviour.proofs.words.WordLemmas.{bit-chosen, none-bit, number-now, truth-kept, word-by, word-of-kept, word-of-same, word-small}
-use Rattle.sf_behaviour.proofs.ShiftLemmas.{product-begun, product-step, product-made}
+use Rattle.sf_behaviour.proofs.words.WordLemmas.{bit-chosen, none-bit, number-now, word-by, word-of-kept, word-of-same, word-small}
+use Rattle.sf_behaviour.proofs.ShiftLemmas.{product-step, product-made}
 use Rattle.sf_behaviour.proofs.products.product.Goals as goal
-
-pub loop-i-init : goal.loop-i-init
-loop-i-init c =
-    let ts = c.args.store.now.trees in
-    let none = c.in_ok-none.ensures.word in
-    record {
-      keeps = c.in_ok-none.ensures.keeps;
-      none = none;
-      total = word-of-same none (λ bits. product-begun (word_value ts c.args.a.now.bits bits)
-          (word_value ts c.args.b.now.bits bits));
-    }
-
-pub combine-requires-clause-operation : goal.combine-requires-clause-operation
-combine-requires-clause-operation c =
-    truth-kept c.loop-i.invariant.keeps.trees (c.requires.b.each c.loop-i.i (omega arith))
 
 pub combine-requires-clause-a : goal.combine-requires-clause-a
 combine-requires-clause-a c =
     let h = c.loop-i.invariant in
     (c.move_bits-moved.ensures c.loop-i.store.trees _ (number-now h.keeps.trees c.requires.a)
     (none-bit 0 h.none (omega arith))).word
-
-pub sum-requires-clause-a : goal.sum-requires-clause-a
-sum-requires-clause-a c = (word-of-kept c.in_ok-row.ensures.keeps.trees c.loop-i.invariant.total).word
 
 pub loop-i-preserved : goal.loop-i-preserved
 loop-i-preserved c =

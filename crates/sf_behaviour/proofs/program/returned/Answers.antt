@@ -2,9 +2,6 @@ use Rattle.sf_behaviour.proofs.Common.{slice_get_within, List, ap, rules, slice_
 use Rattle.sf_behaviour.proofs.steps.StepsLemmas.{first-tells, from-more, program-diagram, steps-kept, steps-some}
 use Rattle.sf_behaviour.proofs.program.returned.Goals as goal
 
-pub forward_steps-requires : goal.forward_steps-requires
-forward_steps-requires c = subst IsLawfulProgram (sym c.insns.ensures.same) c.insns.ensures.lawful
-
 pub loop-i-init : goal.loop-i-init
 loop-i-init c =
     let made = c.in_ok-ids.ensures.items_if_clones_equal (search rules) in
@@ -50,9 +47,6 @@ loop-i-preserved c =
           c.diagram_of_place.new.store.trees steps c.loop-i.ids.items (length steps - c.loop-i.i) place c.in_ok-id.id
           c.step_at-step.result (omega arith) e.keeps.trees h.steps h.behind c.step_at-step.ensures e.tells);
     }
-
-pub id_at-requires : goal.id_at-requires
-id_at-requires c = omega (arith, c.loop-i.invariant.behind.count, c.loop-i.invariant.some)
 
 pub returns-clause-small : goal.returns-clause-small
 returns-clause-small c =

@@ -7,23 +7,9 @@ pub test_words-requires-clause-a : goal.test_words-requires-clause-a
 test_words-requires-clause-a c =
     (c.move_bits-high.ensures c.args.store.now.trees _ (own-number c.requires.rest) c.requires.zero).word
 
-pub difference-requires-clause-a : goal.difference-requires-clause-a
-difference-requires-clause-a c = word-kept c.in_ok-fits.ensures.keeps.trees c.requires.rest
-
 pub difference-requires-clause-b : goal.difference-requires-clause-b
 difference-requires-clause-b c = word-kept c.in_ok-fits.ensures.keeps.trees
     (c.move_bits-moved.ensures c.args.store.now.trees _ (own-number c.requires.b) c.requires.zero).word
-
-pub combine-requires-clause-operation : goal.combine-requires-clause-operation
-combine-requires-clause-operation c = truth-kept c.in_ok-reduced.ensures.keeps.trees c.in_ok-fits.ensures.truth.truth
-
-pub combine-requires-clause-b : goal.combine-requires-clause-b
-combine-requires-clause-b c =
-    word-kept (keeps_both c.in_ok-fits.ensures.keeps.trees c.in_ok-reduced.ensures.keeps.trees) c.requires.rest
-
-pub returns-clause-bit : goal.returns-clause-bit
-returns-clause-bit c = truth-kept (keeps_both c.in_ok-reduced.ensures.keeps.trees c.in_ok-left.ensures.keeps.trees)
-    c.in_ok-fits.ensures.truth.truth
 
 pub returns-clause-digit : goal.returns-clause-digit
 returns-clause-digit c = λ f b_is bits less.

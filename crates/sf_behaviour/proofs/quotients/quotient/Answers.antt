@@ -19,9 +19,6 @@ loop-i-init c =
           number-kept bits kept.trees c.requires.a ∙ sym (mod-eq_of_lt small);
     }
 
-pub divide_bit-requires-clause-b : goal.divide_bit-requires-clause-b
-divide_bit-requires-clause-b c = word-kept c.loop-i.invariant.keeps.trees c.requires.b
-
 pub divide_bit-requires-clause-zero : goal.divide_bit-requires-clause-zero
 divide_bit-requires-clause-zero c = none-bit 0 c.loop-i.invariant.none (omega arith)
 
@@ -48,9 +45,6 @@ loop-i-preserved c =
           (λ ne at. value-kept bits kept (h.made.each j l) ∙ h.digits j bits (omega arith) l some) low;
       left = λ bits some. rw (← before) (next bits some).1;
     }
-
-pub combine-requires-clause-operation : goal.combine-requires-clause-operation
-combine-requires-clause-operation c = c.in_ok-by_zero.ensures.truth.truth
 
 pub returns-clause-word : goal.returns-clause-word
 returns-clause-word c =

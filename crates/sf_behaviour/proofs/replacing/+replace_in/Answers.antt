@@ -12,9 +12,6 @@ returns-in-Number-clause-replaced t c = λ f h. record {
   values = λ bits. rw c.in-Number.ensures.tree refl;
 }
 
-pub returns-in-Number-clause-made : goal.returns-in-Number-clause-made
-returns-in-Number-clause-made t c = λ f h. c.requires.made f h
-
 pub returns-then-variable-past-clause-replaced : goal.returns-then-variable-past-clause-replaced
 returns-then-variable-past-clause-replaced t c = λ f h.
     let tree = tree_at c.args.store.now.trees c.args.id in
@@ -29,9 +26,6 @@ returns-then-variable-past-clause-replaced t c = λ f h.
           (c.first_past-past.ensures w (omega (arith, le, c.if-variable-past.true)))));
     }
 
-pub returns-then-variable-past-clause-made : goal.returns-then-variable-past-clause-made
-returns-then-variable-past-clause-made t c = λ f h. c.requires.made f h
-
 pub returns-in-Some-clause-replaced : goal.returns-in-Some-clause-replaced
 returns-in-Some-clause-replaced t c = λ f h. (c.requires.made f h).each c.args.id c.in-Some.known.now
     (sym c.in-Some.ensures.value)
@@ -41,9 +35,6 @@ returns-in-Some-clause-within t c =
     ((c.requires.made (word_value c.args.store.now.trees c.args.by.now.bits)
     (record { word = c.requires.by; values = λ bits. refl })).each c.args.id c.in-Some.known.now
     (sym c.in-Some.ensures.value)).within
-
-pub returns-in-Some-clause-made : goal.returns-in-Some-clause-made
-returns-in-Some-clause-made t c = λ f h. c.requires.made f h
 
 pub replace_in-requires-2 : goal.replace_in-requires-2
 replace_in-requires-2 t c =

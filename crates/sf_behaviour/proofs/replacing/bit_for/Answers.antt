@@ -1,7 +1,7 @@
 use Rattle.sf_behaviour.proofs.Common.{Bool, ap, sym, ◌∙◌, bit_at, bit_at-lt, if◌then◌else◌}
 use Rattle.sf_behaviour.proofs.words.WordLemmas.{bit-of, truth-of-same}
-use Rattle.sf_behaviour.proofs.BitLemmas.{bit-if, literal-truth}
-use Rattle.sf_behaviour.proofs.VariableLemmas.{with-other, with-own}
+use Rattle.sf_behaviour.proofs.BitLemmas.{bit-if}
+use Rattle.sf_behaviour.proofs.VariableLemmas.{with-own}
 use Rattle.sf_behaviour.proofs.replacing.bit_for.Goals as goal
 
 -- a bit of the word that stands in the place of the register
@@ -11,11 +11,3 @@ returns-in-Some-clause-truth c = λ f h.
     truth-of-same (bit-of bit h c.in-Some.ensures.few) (λ bits. sym (ap (λ (b : Bool). if b then 1 else 0)
     (with-own c.args.register (f bits) bit c.args.variable bits (sym c.in-Some.ensures.bit))
     ∙ bit-if (bit_at (f bits) bit) (bit_at-lt (f bits) bit)))
-
--- a variable that is none of the register's
-pub returns-in_ok-literal-in-None-clause-truth : goal.returns-in_ok-literal-in-None-clause-truth
-returns-in_ok-literal-in-None-clause-truth c = λ f h.
-    let literal = c.in_ok-literal-in-None.ensures in
-    truth-of-same (literal-truth _ c.in_ok-literal-in-None.literal c.args.variable literal.within literal.tree)
-    (λ bits. ap (λ (b : Bool). if b then 1 else 0)
-    (sym (with-other c.args.register (f bits) c.args.variable bits (sym c.in-None.ensures.bit))))

@@ -1,7 +1,7 @@
-use Rattle.sf_behaviour.proofs.Common.{pow-add, ◌≡◌, arith, keeps_more, word_value}
-use Rattle.sf_behaviour.proofs.words.WordLemmas.{bit-chosen, number-now, truth-kept, truth-of-kept, word-of-same, word-small}
+use Rattle.sf_behaviour.proofs.Common.{pow-add, arith, keeps_more, word_value}
+use Rattle.sf_behaviour.proofs.words.WordLemmas.{bit-chosen, number-now, truth-of-kept, word-of-same, word-small}
 use Rattle.sf_behaviour.proofs.BitLemmas.{leaf-truth}
-use Rattle.sf_behaviour.proofs.ShiftLemmas.{few-places, shift-begun, shift-step, shift-made}
+use Rattle.sf_behaviour.proofs.ShiftLemmas.{few-places, shift-begun, shift-step}
 use Rattle.sf_behaviour.proofs.shifting.shift.Goals as goal
 
 pub loop-i-init : goal.loop-i-init
@@ -19,10 +19,6 @@ loop-i-init c =
 
 pub move_bits-moved-requires : goal.move_bits-moved-requires
 move_bits-moved-requires c = few-places c.loop-i.i c.loop-i.places c.loop-i-test.true c.loop-i.invariant.places
-
-pub combine-requires-clause-operation : goal.combine-requires-clause-operation
-combine-requires-clause-operation c =
-    truth-kept c.loop-i.invariant.keeps.trees (c.requires.by.each c.loop-i.i (omega arith))
 
 pub combine-requires-clause-a : goal.combine-requires-clause-a
 combine-requires-clause-a c =
@@ -42,10 +38,3 @@ loop-i-preserved c =
           (λ bits. shift-step c.args.direction c.loop-i.i (word_value ts c.args.word.now.bits bits)
           (word_value ts c.args.by.now.bits bits) c.loop-i.places h.places);
     }
-
-pub returns-clause-word : goal.returns-clause-word
-returns-clause-word c =
-    let ts = c.args.store.now.trees in
-    let all : c.loop-i.i ≡ 5 = omega arith in
-    word-of-same c.loop-i.invariant.word (λ bits. shift-made c.args.direction c.loop-i.i
-    (word_value ts c.args.word.now.bits bits) (word_value ts c.args.by.now.bits bits) all)

@@ -1,18 +1,7 @@
-use Rattle.sf_behaviour.proofs.Common.{ℕ, ap, ◌∙◌, bit_at, tested_bits, tree_at, value, ◌≡◌, ap₂, arith, rules, keeps_more, word_value, IsTruthOf}
+use Rattle.sf_behaviour.proofs.Common.{ℕ, ap, ◌∙◌, bit_at, tested_bits, tree_at, value, ◌≡◌, ap₂, arith, keeps_more, word_value}
 use Rattle.sf_behaviour.proofs.words.WordLemmas.{bit-now, truth-of-same, word-small}
-use Rattle.sf_behaviour.proofs.BitLemmas.{low-all, low-none, test-more, truth_of}
+use Rattle.sf_behaviour.proofs.BitLemmas.{low-all, test-more, truth_of}
 use Rattle.sf_behaviour.proofs.testing.test_words.Goals as goal
-
-pub loop-i-init : goal.loop-i-init
-loop-i-init c =
-    let ts = c.args.store.now.trees in
-    let none : IsTruthOf c.leaf.new.self.trees c.in_ok-passed.passed (λ bits. truth_of c.args.test 0 0)
-    = record { truth = search rules; values = λ bits. search rules } in
-    record {
-      keeps = search rules;
-      passed = truth-of-same none (λ bits. ap₂ (truth_of c.args.test) (low-none (word_value ts c.args.a.now.bits bits))
-          (low-none (word_value ts c.args.b.now.bits bits)));
-    }
 
 pub loop-i-preserved : goal.loop-i-preserved
 loop-i-preserved c =

@@ -1,4 +1,4 @@
-use Rattle.sf_behaviour.proofs.Common.{◌≡◌, ◌+◌, ◌-◌, ◌∙◌, arith, keeps_more, word_value}
+use Rattle.sf_behaviour.proofs.Common.{◌≡◌, ◌+◌, ◌-◌, arith, keeps_more, word_value}
 use Rattle.sf_behaviour.proofs.words.WordLemmas.{bit-now, word-small}
 use Rattle.sf_behaviour.proofs.answers.AnswerLemmas.{number-more}
 use Rattle.sf_behaviour.proofs.words.number_diagram.Goals as goal
@@ -9,11 +9,6 @@ loop-i-init c = record {
   within = c.in_ok-number.ensures.within;
   so_far = λ bits. rw c.in_ok-number.ensures.tree (omega (arith, word-small bits c.requires));
 }
-
-pub merge-requires-clause-second : goal.merge-requires-clause-second
-merge-requires-clause-second c =
-    let bit = c.requires.each (31 - c.loop-i.i) (omega arith) in
-    omega (arith, bit.within, c.loop-i.invariant.keeps.trees.longer)
 
 pub loop-i-preserved : goal.loop-i-preserved
 loop-i-preserved c =
@@ -28,11 +23,3 @@ loop-i-preserved c =
           (word_value c.args.store.now.trees c.args.word.now.bits bits) (omega arith) (word-small bits c.requires)
           (bit-now (31 - i) bits h.keeps.trees c.requires (omega arith)) (new.merged.values bits) (h.so_far bits));
     }
-
-pub returns-clause-number : goal.returns-clause-number
-returns-clause-number c = record {
-  within = c.loop-i.invariant.within;
-  values = λ bits.
-      let none : 32 - c.loop-i.i ≡ 0 = omega arith in
-      c.loop-i.invariant.so_far bits ∙ rw none (omega arith);
-}

@@ -1,17 +1,7 @@
-use Rattle.sf_behaviour.proofs.Common.{◌-◌, ◌≤◌, mul-le-mul, arith, keeps_more}
+use Rattle.sf_behaviour.proofs.Common.{arith, keeps_more}
 use Rattle.sf_behaviour.proofs.words.WordLemmas.{begun-more, word-made}
 use Rattle.sf_behaviour.proofs.VariableLemmas.{number_by-small, variable-truth}
 use Rattle.sf_behaviour.proofs.words.variable_word.Goals as goal
-
-pub overflow_mul-behind : goal.overflow_mul-behind
-overflow_mul-behind c =
-    let most : 31 - c.loop-i.i ≤ 31 = omega arith in
-    omega (arith, mul-le-mul c.requires.distance most)
-
-pub overflow_add-first : goal.overflow_add-first
-overflow_add-first c =
-    let most : 31 - c.loop-i.i ≤ 31 = omega arith in
-    omega (arith, mul-le-mul c.requires.distance most)
 
 pub loop-i-preserved : goal.loop-i-preserved
 loop-i-preserved c =
