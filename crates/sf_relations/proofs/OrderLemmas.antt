@@ -1,15 +1,5 @@
 -- Inputs before others, by their bits and by their variables.
-use Rattle.std.proofs.Common.{◌≡◌, ◌⊎◌, ℕ, zero, suc, ◌+◌, ◌-◌, ◌*◌, ◌/◌, ◌%◌, ◌^◌, ◌<◌, ◌≤◌, ◌==◌, Bool, true, false, refl, sym, ap, ◌∙◌, inl, inr, arith}
-use Rattle.std.specs.Prelude.{nat_lt, slice_index, if◌then◌else◌}
-use Rattle.std.proofs.lemmas.Bool.{agree_below_at, cases_eq, cases_lt, eqb-true, lt-ltb, le-ltb, ltb-true}
-use Rattle.std.proofs.Math.Nat.{pow-le-pow_right, pow-suc}
-use Rattle.sf_insn.specs.declared.input.Input.{Input}
-use Rattle.sf_insn.specs.Inputs.{IsInput}
-use Rattle.sf_diagram.specs.Trees.{Bits}
-use Rattle.sf_diagram.specs.LeastInputs.{IsEarlierInput}
-use Rattle.sf_behaviour.specs.InputBits.{number_by, places_of_words, words_in_order, input_by, input_bits}
-use Rattle.sf_relations.specs.laws.InputLaws.{input-word, same-input}
-use Rattle.sf_relations.specs.Order.{bit_in_order, ComesBefore}
+use Rattle.sf_relations.proofs.Common.{common_steps, ◌≡◌, ◌⊎◌, ℕ, zero, suc, ◌+◌, ◌-◌, ◌*◌, ◌/◌, ◌%◌, ◌^◌, ◌<◌, ◌≤◌, ◌==◌, Bool, true, false, refl, sym, ap, ◌∙◌, inl, inr, arith, nat_lt, slice_index, if◌then◌else◌, agree_below_at, cases_eq, cases_lt, eqb-true, lt-ltb, le-ltb, ltb-true, pow-le-pow_right, pow-suc, Input, IsInput, Bits, IsEarlierInput, number_by, places_of_words, words_in_order, input_by, input_bits, input-word, same-input, bit_in_order, ComesBefore}
 
 -- ---- a word by its variables
 
@@ -20,46 +10,26 @@ bit-more false p m l = omega arith
 pub number-small : (first n : ℕ) (bits : Bits) → number_by first 1 n bits < 2 ^ n
 unfolding number_by
 number-small first zero bits = omega arith
-number-small first (suc n) bits =
-    rw (pow-suc 2 n) (bit-more (bits (first + 1 * (31 - n))) (2 ^ n) (number_by first 1 n bits)
-    (number-small first n bits))
+number-small first (suc n) bits = grind (arith, common_steps, pow-suc, bit-more, number-small first n bits)
 
 -- one more bit
 number-more : (first n : ℕ) (bits : Bits) → number_by first 1 (n + 1) bits
     ≡ (if bits (first + 1 * (31 - n)) then 1 else 0) * 2 ^ n + number_by first 1 n bits
 unfolding number_by
-number-more first n bits =
-    let next : n + 1 ≡ suc n = omega arith in
-    ap (λ (m : ℕ). number_by first 1 m bits) next
+number-more first n bits = grind (arith, common_steps)
 
 pub number-none : (first : ℕ) (bits : Bits) → 0 ≡ number_by first 1 0 bits
 unfolding number_by
 number-none first bits = refl
 
 pub half-small : (n : ℕ) → n < 32 → 2 ^ n * 2 ≤ 2 ^ 32
-half-small n l =
-    let two : zero < 2 = omega arith in
-    let most : suc n ≤ 32 = omega arith in
-    let bound : 2 ^ suc n ≤ 2 ^ 32 = pow-le-pow_right {n = 2} two {i = suc n} {j = 32} most in
-    omega (arith, bound, pow-suc 2 n)
+half-small n l = grind (arith, common_steps, pow-le-pow_right, pow-suc)
 
 -- a number with one more bit, as it is added
 pub number-step : (first n : ℕ) (bits : Bits) (b : Bool) (m k : ℕ) → n < 32 → bits (first + (31 - n)) ≡ b
     → m ≡ number_by first 1 n bits → k ≡ (if b then m + 1 * 2 ^ n % 2 ^ 32 else m)
     → k ≡ number_by first 1 (n + 1) bits
-number-step first n bits b m k l at so_far e =
-    let place : first + 1 * (31 - n) ≡ first + (31 - n) = omega arith in
-    let here : bits (first + 1 * (31 - n)) ≡ b = ap bits place ∙ at in
-    let more : number_by first 1 (n + 1) bits ≡ (if b then 1 else 0) * 2 ^ n + number_by first 1 n bits
-    = number-more first n bits
-    ∙ ap (λ (x : Bool). (if x then 1 else 0) * 2 ^ n + number_by first 1 n bits) here in
-    by b e more
-  where
-    by : (b : Bool) → k ≡ (if b then m + 1 * 2 ^ n % 2 ^ 32 else m)
-        → number_by first 1 (n + 1) bits ≡ (if b then 1 else 0) * 2 ^ n + number_by first 1 n bits
-        → k ≡ number_by first 1 (n + 1) bits
-    by true e more = omega (arith, e, more, so_far, half-small n l, number-small first n bits)
-    by false e more = omega (arith, e, more, so_far)
+number-step first n bits b m k l at so_far e = grind (arith, common_steps, number-small, number-more, half-small)
 
 -- the lowest n bits are the same
 abbrev AgreeBelow : ℕ → ℕ → Bits → Bits → Type 0
@@ -67,10 +37,7 @@ AgreeBelow first n a b = (i : ℕ) → i < n → a (first + 1 * (31 - i)) ≡ b 
 
 agree-more : (first n : ℕ) (a b : Bits) → a (first + 1 * (31 - n)) ≡ b (first + 1 * (31 - n)) → AgreeBelow first n a b
     → AgreeBelow first (suc n) a b
-agree-more first n a b here below i l = elim (cases_eq i n) [
-  | inl e ↦ rw e here
-  | inr ne ↦ below i (omega arith)
-]
+agree-more first n a b here below i l = grind (arith, common_steps, cases_eq)
 
 -- variables of one number agree
 agree : (first n : ℕ) (a b : Bits) → number_by first 1 n a ≡ number_by first 1 n b → AgreeBelow first n a b
@@ -134,9 +101,7 @@ abbrev behind : Bits → Input → Bits
 behind front d v = if nat_lt v 576 then front v else input_bits d v
 
 behind-bit : (front : Bits) (d : Input) (p : ℕ) → behind front d (576 + p) ≡ bit_in_order d p
-behind-bit front d p =
-    let not_before : 576 ≤ 576 + p = omega arith in
-    rw (le-ltb (576 + p) 576 not_before) refl
+behind-bit front d p = grind (arith, common_steps, le-ltb)
 
 -- variables of an input that come before others
 pub record AreEarlierVariables (d : Input) (others : Bits) : Type 0 where

@@ -1,38 +1,11 @@
 -- What a diagram says of two stacks: what is changed, or that they answer alike; and which filters are kept.
-use Rattle.std.proofs.Common.{◌≡◌, ℕ, ◌<◌, List, length, Option, Some, None, refl, sym, subst, ap, ap₂, ◌∙◌, inl, inr, arith, zero, suc, ◌+◌, ◌≤◌, [], ◌∷◌, ◌++◌, drop}
-use Rattle.std.specs.Prelude.{slice_index_or}
-use Rattle.std.proofs.lemmas.List.{append_assoc, append-nil, drop_all, drop_more, map_push}
-use Rattle.sf_insn.specs.declared.input.Input.{Input}
-use Rattle.sf_check.specs.declared.insn.Insn.{Insn}
-use Rattle.sf_run.specs.declared.action.Answer.{Answer}
-use Rattle.sf_run.specs.Answers.{Answers}
-use Rattle.sf_run.specs.laws.AnswerLaws.{one}
-use Rattle.sf_run.specs.Machine.{returns_of}
-use Rattle.sf_diagram.specs.Trees.{Tree, Bits, value}
-use Rattle.sf_diagram.specs.Stores.{tree_at, KeepsTrees}
-use Rattle.sf_diagram.specs.Merges.{IsMerged}
-use Rattle.sf_diagram.specs.LeastInputs.{IsLeastNonzero}
-use Rattle.sf_behaviour.specs.InputBits.{input_by, input_bits}
-use Rattle.sf_behaviour.specs.Answering.{answer_with, IsBehaviour}
-use Rattle.sf_relations.specs.declared.relation.Relation.{Relation}
-use Rattle.sf_relations.specs.declared.examples.Example.{Example}
-use Rattle.sf_relations.specs.Relations.{AreRelated}
-use Rattle.sf_relations.specs.Numbers.{operation_of, IsExampleAt}
-use Rattle.sf_relations.specs.laws.KeepLaws.{value_kept}
-use Rattle.sf_relations.specs.Changes.{IsChange, IsUnchanged, IsFinding, IsLeastChange}
-use Rattle.sf_relations.specs.laws.NumberLaws.{related-not-0, not-0-related}
-use Rattle.sf_relations.specs.laws.InputLaws.{same-input}
-use Rattle.sf_relations.specs.Needs.{AnswerTheSame, filters_at, IsKeptOrDropped, drops, keeps, AreKeptUpTo}
+use Rattle.sf_relations.proofs.Common.{common_steps, ◌≡◌, ℕ, ◌<◌, List, length, Option, Some, None, refl, sym, subst, ap, ◌∙◌, inl, inr, arith, zero, suc, ◌+◌, ◌≤◌, [], ◌∷◌, ◌++◌, drop, slice_index_or, append_assoc, append-nil, drop_all, drop_more, map_push, Input, Insn, Answer, Answers, one, returns_of, Tree, Bits, value, tree_at, KeepsTrees, IsMerged, IsLeastNonzero, input_by, input_bits, answer_with, IsBehaviour, Relation, Example, AreRelated, operation_of, IsExampleAt, value_kept, IsChange, IsUnchanged, IsFinding, IsLeastChange, related-not-0, not-0-related, same-input, AnswerTheSame, filters_at, IsKeptOrDropped, drops, keeps, AreKeptUpTo}
 use Rattle.sf_relations.proofs.OrderLemmas.{HaveVariables, AreInputs, AreEarlierVariables, earlier-variables, first-difference}
 
 -- an example is the same by the store that was
 pub example-back : (ts us : List Tree) (before after : ℕ) (bits : Bits) (e : Example) → KeepsTrees ts us
     → before < length ts → after < length ts → IsExampleAt us before after bits e → IsExampleAt ts before after bits e
-example-back ts us before after bits e k lb la h = record {
-  input = h.input;
-  before_is = h.before_is ∙ ap answer_with (value_kept ts us before bits k lb);
-  after_is = h.after_is ∙ ap answer_with (value_kept ts us after bits k la);
-}
+example-back ts us before after bits e k lb la h = grind (arith, common_steps, value_kept)
 
 -- ---- related answers
 
@@ -65,9 +38,7 @@ abbrev example_of : Input → Answer → Answer → Example
 example_of input before after = record { input = input; before = before; after = after }
 
 same-example : (e f : Example) → e.input ≡ f.input → e.before ≡ f.before → e.after ≡ f.after → e ≡ f
-same-example e f input before after =
-    ap (λ (d : Input). example_of d e.before e.after) input
-    ∙ ap₂ (λ (a b : Answer). example_of f.input a b) before after
+same-example e f input before after = grind (arith, common_steps, example_of)
 
 -- the first input for which it isn't 0 is the least that is changed
 pub least-change : (ts : List Tree) (r : Relation) (before after : ℕ) (t : Tree) (old new : List (List Insn))
@@ -198,13 +169,8 @@ one-kept programs (suc place) a b h k = decided h.2 k.2 (one-kept programs place
 -- one more filter is kept
 pub filters-more : (programs : List (List Insn)) (kept more : List ℕ) (place : ℕ) → more ≡ kept ++ place ∷ []
     → filters_at programs kept ++ slice_index_or programs place [] ∷ [] ≡ filters_at programs more
-filters-more programs kept more place e =
-    sym (ap (λ (ns : List ℕ). filters_at programs ns) e
-    ∙ map_push (λ (n : ℕ). slice_index_or programs n []) kept place)
+filters-more programs kept more place e = grind (arith, common_steps, map_push)
 
 pub kept-more : (programs : List (List Insn)) (place : ℕ) (kept more : List ℕ) → AreKeptUpTo programs place kept
     → IsKeptOrDropped programs kept place more → AreKeptUpTo programs (place + 1) more
-kept-more programs place kept more h d =
-    let next : place + 1 ≡ suc place = omega arith in
-    let made : AreKeptUpTo programs (suc place) more = (kept, h, d) in
-    subst (λ (n : ℕ). AreKeptUpTo programs n more) (sym next) made
+kept-more programs place kept more h d = grind (arith, common_steps)

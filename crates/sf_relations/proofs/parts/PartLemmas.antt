@@ -1,25 +1,5 @@
 -- The answers of older filters and newer ones, joined; and the diagrams of the answers of parts of a stack.
-use Rattle.std.proofs.Common.{◌≡◌, ℕ, ◌<◌, ◌≤◌, ◌^◌, Bool, true, false, List, [], ◌∷◌, ◌++◌, length, map, refl, sym, ap, ap₂, subst, ◌∙◌, inl, inr, arith, suc, ◌+◌, ◌-◌, take, drop}
-use Rattle.std.specs.Prelude.{nat_lt, reverse, if◌then◌else◌, slice_index, slice_index_or}
-use Rattle.std.proofs.lemmas.Bool.{cases_lt, cond_both, lt-ltb, le-ltb, cases_eq}
-use Rattle.std.proofs.lemmas.List.{append-nil, append_assoc, map-append, reverse-append, drop_all, drop_more, get_or_append_left, get_or_push, length_push}
-use Rattle.std.proofs.lemmas.List.Elements.{All-head}
-use Rattle.sf_insn.specs.declared.input.Input.{Input}
-use Rattle.sf_check.specs.declared.insn.Insn.{Insn}
-use Rattle.sf_run.specs.declared.action.Action.TheVariants.{Allow}
-use Rattle.sf_run.specs.declared.action.Answer.{Answer}
-use Rattle.sf_run.specs.Answers.{IsAnswer, action_bits, action_number, rank, folded_answer}
-use Rattle.sf_run.specs.laws.AnswerLaws.{answer_more, answer_none, number-action_of, one}
-use Rattle.sf_run.specs.Machine.{return_of, returns_of}
-use Rattle.sf_diagram.specs.Trees.{Tree, value}
-use Rattle.sf_diagram.specs.Stores.{tree_at, KeepsTrees}
-use Rattle.sf_diagram.specs.Operations.{folded_of}
-use Rattle.sf_diagram.specs.Merges.{IsMerged}
-use Rattle.sf_diagram.specs.declared.operation.Operation.TheVariants.{Fold}
-use Rattle.sf_behaviour.specs.InputBits.{input_by}
-use Rattle.sf_behaviour.specs.Answering.{answer_with, IsBehaviour}
-use Rattle.sf_relations.specs.Parts.{AreParts}
-use Rattle.sf_relations.specs.laws.KeepLaws.{behaviour_kept}
+use Rattle.sf_relations.proofs.Common.{common_steps, ◌≡◌, ℕ, ◌<◌, ◌≤◌, ◌^◌, Bool, true, false, List, [], ◌∷◌, ◌++◌, length, map, refl, sym, ap, subst, ◌∙◌, inl, inr, arith, suc, ◌+◌, ◌-◌, take, drop, nat_lt, if◌then◌else◌, slice_index, slice_index_or, cases_lt, cond_both, lt-ltb, le-ltb, cases_eq, append-nil, append_assoc, map-append, reverse-append, drop_all, drop_more, get_or_append_left, get_or_push, length_push, All-head, Input, Insn, Allow, Answer, IsAnswer, action_bits, action_number, rank, folded_answer, answer_more, answer_none, number-action_of, one, returns_of, Tree, value, tree_at, KeepsTrees, folded_of, IsMerged, Fold, input_by, answer_with, IsBehaviour, AreParts, behaviour_kept}
 
 -- ---- of two the lower one by f, the first one where neither is
 
@@ -60,9 +40,7 @@ allowed = record { action = Allow; info = 0 }
 
 -- one more value is folded in as its answer is joined
 folded-joined : (a : Answer) (n : ℕ) → folded_answer a n ≡ joined_answer a (answer_with n)
-folded-joined a n =
-    sym (ap (λ (k : ℕ). if nat_lt (rank k) (rank (action_number a.action)) then answer_with n else a)
-    (number-action_of (action_bits n)))
+folded-joined a n = grind (arith, common_steps, number-action_of)
 
 -- the answer with more values, one after the other
 abbrev folded_all : Answer → List ℕ → Answer
@@ -99,9 +77,7 @@ joined-answers vs ns a b h k =
 
 returns-joined : (older newer : List (List Insn)) (d : Input)
     → returns_of (older ++ newer) d ≡ returns_of newer d ++ returns_of older d
-returns-joined older newer d =
-    ap (λ (ps : List (List Insn)). map (λ (p : List Insn). return_of p d) ps) (reverse-append older newer)
-    ∙ map-append (λ (p : List Insn). return_of p d) (reverse newer) (reverse older)
+returns-joined older newer d = grind (arith, common_steps, map-append, reverse-append)
 
 -- ---- diagrams of answers
 
@@ -111,10 +87,7 @@ with-if false m n = refl
 
 folded-with : (newer older : ℕ) → answer_with (folded_of newer older)
     ≡ joined_answer (answer_with newer) (answer_with older)
-folded-with newer older =
-    with-if (nat_lt (rank (action_bits older)) (rank (action_bits newer))) older newer
-    ∙ sym (ap₂ (λ (j k : ℕ). if nat_lt (rank j) (rank k) then answer_with older else answer_with newer)
-    (number-action_of (action_bits older)) (number-action_of (action_bits newer)))
+folded-with newer older = grind (arith, common_steps, number-action_of, with-if)
 
 pub behaviours-joined : (ts us : List Tree) (first last : List (List Insn)) (older newer id : ℕ) → id < length us
     → IsMerged Fold (tree_at ts newer) (tree_at ts older) (tree_at us id) → IsBehaviour first ts older
@@ -170,25 +143,12 @@ last_programs programs k = drop (length programs - k) programs
 
 pub parts-kept : (ts us : List Tree) (programs : List (List Insn)) (many : ℕ) (alone last : List ℕ) → KeepsTrees ts us
     → AreParts ts programs many alone last → AreParts us programs many alone last
-parts-kept ts us programs many alone last k h = record {
-  alone_count = h.alone_count;
-  last_count = h.last_count;
-  each_alone = λ n l. behaviour_kept ts us (newest programs n ∷ []) (slice_index alone n) k (h.each_alone n l);
-  each_last = λ n l. behaviour_kept ts us (last_programs programs n) (slice_index last n) k (h.each_last n l);
-}
+parts-kept ts us programs many alone last k h = grind (arith, common_steps, behaviour_kept, newest, last_programs)
 
 -- no filter
 pub parts-begun : (ts : List Tree) (programs : List (List Insn)) (alone nothing last : List ℕ) (id : ℕ)
     → IsBehaviour [] ts id → alone ≡ [] → nothing ≡ [] → last ≡ nothing ++ id ∷ [] → AreParts ts programs 0 alone last
-parts-begun ts programs alone nothing last id h none empty e = record {
-  alone_count = ap length none;
-  last_count = count-pushed nothing last id 0 (ap length empty) e;
-  each_alone = λ n l. absurd (omega arith);
-  each_last = pushed (λ (k i : ℕ). IsBehaviour (last_programs programs k) ts i) nothing last id 0 0 (ap length empty)
-      (λ k l. absurd (omega arith))
-      (subst (λ (ps : List (List Insn)). IsBehaviour ps ts id)
-      (sym (drop_all (length programs - 0) programs (omega arith))) h) e;
-}
+parts-begun ts programs alone nothing last id h none empty e = grind (arith, common_steps, drop_all, last_programs)
 
 -- one filter more
 pub parts-more : (ts us : List Tree) (programs : List (List Insn)) (i one joined : ℕ)
@@ -210,34 +170,23 @@ parts-more ts us programs i one joined alone last more_alone more_last k h of_on
 -- the program at a place, cut out
 pub one-program : (programs : List (List Insn)) (place : ℕ) → place < length programs
     → take (place + 1 - place) (drop place programs) ≡ slice_index_or programs place [] ∷ []
-one-program programs place l =
-    let only : place + 1 - place ≡ 1 = omega arith in
-    ap₂ (λ (n : ℕ) (ps : List (List Insn)). take n ps) only (drop_more programs place [] l)
+one-program programs place l = grind (arith, common_steps, take, drop_more)
 
 -- the last programs with the next older one
 pub one-more-last : (programs : List (List Insn)) (i : ℕ) → i < length programs
     → (newest programs i ∷ []) ++ last_programs programs i ≡ last_programs programs (i + 1)
-one-more-last programs i l =
-    let at : length programs - 1 - i ≡ length programs - (i + 1) = omega arith in
-    let behind : length programs - (i + 1) + 1 ≡ length programs - i = omega arith in
-    ap₂ (λ (m n : ℕ). slice_index_or programs m [] ∷ drop n programs) at (sym behind)
-    ∙ sym (drop_more programs (length programs - (i + 1)) [] (omega arith))
+one-more-last programs i l = grind (arith, common_steps, drop, drop_more)
 
 -- ---- parts by the place of a filter
 
 pub of-none : (ts : List Tree) (programs : List (List Insn)) (alone last : List ℕ)
     → AreParts ts programs (length programs) alone last → IsBehaviour [] ts (slice_index last 0)
-of-none ts programs alone last h =
-    subst (λ (ps : List (List Insn)). IsBehaviour ps ts (slice_index last 0))
-    (drop_all (length programs - 0) programs (omega arith)) (h.each_last 0 (omega arith))
+of-none ts programs alone last h = grind (arith, common_steps, drop_all)
 
 pub of-all : (ts : List Tree) (programs : List (List Insn)) (alone last : List ℕ)
     → AreParts ts programs (length programs) alone last
     → IsBehaviour programs ts (slice_index last (length programs))
-of-all ts programs alone last h =
-    let none : length programs - length programs ≡ 0 = omega arith in
-    subst (λ (n : ℕ). IsBehaviour (drop n programs) ts (slice_index last (length programs))) none
-    (h.each_last (length programs) (omega arith))
+of-all ts programs alone last h = grind (arith, common_steps, drop)
 
 pub of-one : (ts : List Tree) (programs : List (List Insn)) (alone last : List ℕ) (place : ℕ)
     → AreParts ts programs (length programs) alone last → place < length programs

@@ -1,14 +1,9 @@
-use Rattle.sf_diagram.specs.Trees.{bits_with}
-use Rattle.sf_diagram.specs.Stores.{tree_at}
+use Rattle.sf_relations.proofs.Common.{common_steps, arith, bits_with, tree_at}
 use Rattle.sf_relations.proofs.findings.FindingLemmas.{example-back, unchanged, least-change}
 use Rattle.sf_relations.proofs.examples.least_example.Goals as goal
 
 pub returns-in_default-clause-found : goal.returns-in_default-clause-found
-returns-in_default-clause-found c = λ old new was is.
-    let none = rw c.in_default.is at c.in_ok-variables.ensures.least in
-    unchanged c.args.store.now.trees c.args.relation c.args.before c.args.after
-    (tree_at c.merge.new.store.trees c.in_ok-related.related) old new c.each_input_has_variables.ensures.variables
-    (rw c.operation_of.ensures at c.in_ok-related.ensures.merged) was is none
+returns-in_default-clause-found c = grind (arith, common_steps, unchanged)
 
 pub returns-clause-found : goal.returns-clause-found
 returns-clause-found c = λ old new was is.

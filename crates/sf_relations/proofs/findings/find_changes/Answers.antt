@@ -1,5 +1,4 @@
-use Rattle.sf_diagram.specs.laws.KeepLaws.{keeps_more}
-use Rattle.sf_relations.specs.laws.KeepLaws.{behaviour_kept}
+use Rattle.sf_relations.proofs.Common.{keeps_more, behaviour_kept}
 use Rattle.sf_relations.proofs.findings.find_changes.Goals as goal
 
 pub returns-clause-found : goal.returns-clause-found

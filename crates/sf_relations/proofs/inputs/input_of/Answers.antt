@@ -1,9 +1,4 @@
-use Rattle.std.proofs.Common.{◌≡◌, ℕ, List, map, ap, arith}
-use Rattle.std.specs.List.{range_with_len}
-use Rattle.std.proofs.lemmas.List.FromFn.{fill_by_all}
-use Rattle.sf_insn.specs.declared.input.Input.{Input}
-use Rattle.sf_diagram.specs.Trees.{bits_with}
-use Rattle.sf_behaviour.specs.InputBits.{input_number}
+use Rattle.sf_relations.proofs.Common.{◌≡◌, ℕ, List, map, ap, arith, range_with_len, fill_by_all, Input, bits_with, input_number}
 use Rattle.sf_relations.proofs.inputs.input_of.Goals as goal
 
 pub returns : goal.returns

@@ -1,6 +1,4 @@
-use Rattle.std.proofs.Common.{◌≡◌, ℕ, ◌<◌, length, get_or}
-use Rattle.sf_diagram.specs.Trees.{bits_with}
-use Rattle.sf_behaviour.specs.InputBits.{input_number}
+use Rattle.sf_relations.proofs.Common.{◌≡◌, ℕ, ◌<◌, length, get_or, bits_with, input_number}
 use Rattle.sf_relations.proofs.inputs.input_of.Given as goal
 
 abbrev pub invariant-loop-word : goal.invariant-loop-word

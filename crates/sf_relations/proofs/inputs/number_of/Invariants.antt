@@ -1,6 +1,4 @@
-use Rattle.std.proofs.Common.{◌≡◌}
-use Rattle.sf_diagram.specs.Trees.{bits_with}
-use Rattle.sf_behaviour.specs.InputBits.{number_by}
+use Rattle.sf_relations.proofs.Common.{◌≡◌, bits_with, number_by}
 use Rattle.sf_relations.proofs.inputs.number_of.Given as goal
 
 abbrev pub invariant-loop-bit : goal.invariant-loop-bit

@@ -1,4 +1,4 @@
-use Rattle.std.proofs.Common.{length}
+use Rattle.sf_relations.proofs.Common.{length}
 use Rattle.sf_relations.proofs.findings.FindingLemmas.{one-kept}
 use Rattle.sf_relations.proofs.laws.one_list_of_kept_filters.Goals as goal
 

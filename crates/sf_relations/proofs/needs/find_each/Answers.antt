@@ -1,38 +1,18 @@
-use Rattle.std.proofs.Common.{◌≡◌, ℕ, suc, List, [], ◌∷◌, Option, None, length, take, drop, refl, sym, ap, subst, arith}
-use Rattle.std.specs.Prelude.{remove, slice_index, slice_index_or}
-use Rattle.std.proofs.lemmas.List.{take_more}
-use Rattle.sf_check.specs.declared.insn.Insn.{Insn}
-use Rattle.sf_diagram.specs.laws.KeepLaws.{keeps_more}
-use Rattle.sf_behaviour.specs.Answering.{IsBehaviour}
-use Rattle.sf_relations.specs.declared.relation.Relation.TheVariants.{Looser}
-use Rattle.sf_relations.specs.declared.examples.Example.{Example}
-use Rattle.sf_relations.specs.Changes.{IsFinding}
-use Rattle.sf_relations.specs.laws.KeepLaws.{behaviour_kept}
+use Rattle.sf_relations.proofs.Common.{common_steps, ℕ, suc, List, [], ◌∷◌, Option, None, length, take, drop, sym, subst, arith, remove, slice_index, slice_index_or, take_more, Insn, keeps_more, IsBehaviour, Looser, Example, IsFinding, behaviour_kept}
 use Rattle.sf_relations.proofs.parts.PartLemmas.{count-pushed, of-all, of-behind, of-none, of-one, parts-kept, pushed}
 use Rattle.sf_relations.proofs.needs.find_each.Goals as goal
 
 pub loop-place-init : goal.loop-place-init
-loop-place-init c = record {
-  keeps = record { trees = record { longer = omega arith; same = λ i l. refl }; most = refl };
-  parts = c.requires;
-  older = of-none c.args.store.now.trees c.args.programs.now c.args.alone.now c.args.last.now c.requires;
-  count = ap length c.new-findings.ensures.items;
-  found = λ k l. absurd (omega arith);
-}
+loop-place-init c = grind (arith, common_steps, of-none)
 
 pub join-requires-clause-newer : goal.join-requires-clause-newer
-join-requires-clause-newer c =
-    (of-behind c.loop-place.store.trees c.args.programs.now c.args.alone.now c.args.last.now c.loop-place.place
-    c.loop-place.invariant.parts (omega arith)).within
+join-requires-clause-newer c = grind (arith, common_steps, of-behind)
 
 pub join-requires-clause-older : goal.join-requires-clause-older
 join-requires-clause-older c = c.loop-place.invariant.older.within
 
 pub least_example-requires-clause-before : goal.least_example-requires-clause-before
-least_example-requires-clause-before c =
-    let all = of-all c.loop-place.store.trees c.args.programs.now c.args.alone.now c.args.last.now
-    c.loop-place.invariant.parts in
-    omega (arith, all.within, c.in_ok-without.ensures.keeps.trees.longer)
+least_example-requires-clause-before c = grind (arith, common_steps, of-all)
 
 pub least_example-requires-clause-after : goal.least_example-requires-clause-after
 least_example-requires-clause-after c =
@@ -43,24 +23,10 @@ least_example-requires-clause-after c =
     (omega arith))).within
 
 pub join-requires-in-loop-place-clause-newer : goal.join-requires-in-loop-place-clause-newer
-join-requires-in-loop-place-clause-newer c =
-    let there = of-one c.loop-place.store.trees c.args.programs.now c.args.alone.now c.args.last.now c.loop-place.place
-    c.loop-place.invariant.parts (omega arith) in
-    omega (
-      arith,
-      there.within,
-      c.in_ok-without.ensures.keeps.trees.longer,
-      c.in_ok-found.ensures.keeps.trees.longer,
-    )
+join-requires-in-loop-place-clause-newer c = grind (arith, common_steps, of-one)
 
 pub join-requires-in-loop-place-clause-older : goal.join-requires-in-loop-place-clause-older
-join-requires-in-loop-place-clause-older c =
-    omega (
-      arith,
-      c.loop-place.invariant.older.within,
-      c.in_ok-without.ensures.keeps.trees.longer,
-      c.in_ok-found.ensures.keeps.trees.longer,
-    )
+join-requires-in-loop-place-clause-older c = grind (arith, common_steps)
 
 pub loop-place-preserved : goal.loop-place-preserved
 loop-place-preserved c =
@@ -99,9 +65,4 @@ loop-place-preserved c =
     }
 
 pub returns-clause-found : goal.returns-clause-found
-returns-clause-found c =
-    let all : c.loop-place.place ≡ length c.args.programs.now = omega arith in
-    record {
-      count = omega (arith, c.loop-place.invariant.count, all);
-      each = λ place l. c.loop-place.invariant.found place (omega (arith, l, all));
-    }
+returns-clause-found c = grind (arith, common_steps)

@@ -1,10 +1,4 @@
-use Rattle.std.proofs.Common.{◌≡◌, ℕ, ◌<◌, None, length, take}
-use Rattle.std.specs.Prelude.{remove, slice_index_or}
-use Rattle.sf_diagram.specs.Stores.{KeepsStore}
-use Rattle.sf_behaviour.specs.Answering.{IsBehaviour}
-use Rattle.sf_relations.specs.declared.relation.Relation.TheVariants.{Looser}
-use Rattle.sf_relations.specs.Changes.{IsFinding}
-use Rattle.sf_relations.specs.Parts.{AreParts}
+use Rattle.sf_relations.proofs.Common.{◌≡◌, ℕ, ◌<◌, None, length, take, remove, slice_index_or, KeepsStore, IsBehaviour, Looser, IsFinding, AreParts}
 use Rattle.sf_relations.proofs.needs.find_each.Given as goal
 
 abbrev pub invariant-loop-place : goal.invariant-loop-place

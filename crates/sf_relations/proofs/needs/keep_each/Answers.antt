@@ -1,42 +1,19 @@
-use Rattle.std.proofs.Common.{◌≡◌, ◌+◌, ◌-◌, ◌<◌, ℕ, suc, List, [], ◌∷◌, length, drop, refl, sym, subst, arith}
-use Rattle.std.specs.Prelude.{All, slice_index, slice_index_or}
-use Rattle.std.proofs.lemmas.List.Elements.{All-nil, All-push, All-weaker}
-use Rattle.sf_check.specs.declared.insn.Insn.{Insn}
-use Rattle.sf_diagram.specs.laws.KeepLaws.{keeps_more}
-use Rattle.sf_behaviour.specs.Answering.{IsBehaviour}
-use Rattle.sf_relations.specs.Needs.{AreKeptUpTo, AnswerTheSame, drops, keeps, filters_at, left_without}
-use Rattle.sf_relations.specs.laws.KeepLaws.{behaviour_kept}
+use Rattle.sf_relations.proofs.Common.{common_steps, ◌+◌, ◌-◌, ◌<◌, ℕ, suc, List, [], ◌∷◌, length, drop, refl, sym, subst, arith, All, slice_index, slice_index_or, All-nil, All-push, All-weaker, Insn, keeps_more, IsBehaviour, AnswerTheSame, drops, keeps, filters_at, left_without, behaviour_kept}
 use Rattle.sf_relations.proofs.findings.FindingLemmas.{alike, filters-more, kept-more}
 use Rattle.sf_relations.proofs.parts.PartLemmas.{of-all, of-behind, of-none, of-one, parts-kept}
 use Rattle.sf_relations.proofs.needs.keep_each.Goals as goal
 
 pub loop-place-init : goal.loop-place-init
-loop-place-init c =
-    let ts = c.args.store.now.trees in
-    let ps = c.args.programs.now in
-    let none = c.new-kept.ensures.items in
-    record {
-      keeps = record { trees = record { longer = omega arith; same = λ i l. refl }; most = refl };
-      parts = c.requires;
-      older = subst (λ (ns : List ℕ). IsBehaviour (filters_at ps ns) ts (slice_index c.args.last.now 0)) (sym none)
-          (of-none ts ps c.args.alone.now c.args.last.now c.requires);
-      below = subst (λ (ns : List ℕ). All (λ (p : ℕ). p < 0) ns) (sym none) (All-nil (λ (p : ℕ). p < 0));
-      kept = none;
-    }
+loop-place-init c = grind (arith, common_steps, All-nil, of-none)
 
 pub join-requires-clause-newer : goal.join-requires-clause-newer
-join-requires-clause-newer c =
-    (of-behind c.loop-place.store.trees c.args.programs.now c.args.alone.now c.args.last.now c.loop-place.place
-    c.loop-place.invariant.parts (omega arith)).within
+join-requires-clause-newer c = grind (arith, common_steps, of-behind)
 
 pub join-requires-clause-older : goal.join-requires-clause-older
 join-requires-clause-older c = c.loop-place.invariant.older.within
 
 pub join-requires-in-loop-place-clause-newer : goal.join-requires-in-loop-place-clause-newer
-join-requires-in-loop-place-clause-newer c =
-    let there = of-one c.loop-place.store.trees c.args.programs.now c.args.alone.now c.args.last.now c.loop-place.place
-    c.loop-place.invariant.parts (omega arith) in
-    omega (arith, there.within, c.in_ok-others.ensures.keeps.trees.longer)
+join-requires-in-loop-place-clause-newer c = grind (arith, common_steps, of-one)
 
 pub join-requires-in-loop-place-clause-older : goal.join-requires-in-loop-place-clause-older
 join-requires-in-loop-place-clause-older c =
@@ -114,11 +91,7 @@ loop-place-preserved c =
     }
 
 pub returns-clause-below : goal.returns-clause-below
-returns-clause-below c =
-    let all : c.loop-place.place ≡ length c.args.programs.now = omega arith in
-    subst (λ (n : ℕ). All (λ (p : ℕ). p < n) c.loop-place.kept.items) all c.loop-place.invariant.below
+returns-clause-below c = grind (arith, common_steps)
 
 pub returns-clause-kept : goal.returns-clause-kept
-returns-clause-kept c =
-    let all : c.loop-place.place ≡ length c.args.programs.now = omega arith in
-    subst (λ (n : ℕ). AreKeptUpTo c.args.programs.now n c.loop-place.kept.items) all c.loop-place.invariant.kept
+returns-clause-kept c = grind (arith, common_steps)

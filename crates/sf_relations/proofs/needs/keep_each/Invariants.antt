@@ -1,9 +1,4 @@
-use Rattle.std.proofs.Common.{ℕ, ◌<◌, length}
-use Rattle.std.specs.Prelude.{All}
-use Rattle.sf_diagram.specs.Stores.{KeepsStore}
-use Rattle.sf_behaviour.specs.Answering.{IsBehaviour}
-use Rattle.sf_relations.specs.Parts.{AreParts}
-use Rattle.sf_relations.specs.Needs.{AreKeptUpTo, filters_at}
+use Rattle.sf_relations.proofs.Common.{ℕ, ◌<◌, length, All, KeepsStore, IsBehaviour, AreParts, AreKeptUpTo, filters_at}
 use Rattle.sf_relations.proofs.needs.keep_each.Given as goal
 
 abbrev pub invariant-loop-place : goal.invariant-loop-place

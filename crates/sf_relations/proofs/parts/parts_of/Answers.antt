@@ -1,26 +1,9 @@
-use Rattle.std.proofs.Common.{◌≡◌, ◌+◌, ◌-◌, ℕ, List, [], ◌∷◌, length, drop, sym, subst, arith}
-use Rattle.std.specs.Prelude.{slice_index_or}
-use Rattle.std.proofs.lemmas.List.{drop_all}
-use Rattle.sf_check.specs.declared.insn.Insn.{Insn}
-use Rattle.sf_diagram.specs.laws.KeepLaws.{keeps_more}
-use Rattle.sf_behaviour.specs.Answering.{IsBehaviour}
-use Rattle.sf_relations.specs.Parts.{AreParts}
-use Rattle.sf_relations.specs.laws.KeepLaws.{behaviour_kept}
+use Rattle.sf_relations.proofs.Common.{common_steps, ◌+◌, ◌-◌, List, [], ◌∷◌, length, drop, subst, arith, slice_index_or, drop_all, Insn, keeps_more, IsBehaviour, behaviour_kept}
 use Rattle.sf_relations.proofs.parts.PartLemmas.{parts-begun, parts-more, one-program, one-more-last}
 use Rattle.sf_relations.proofs.parts.parts_of.Goals as goal
 
 pub loop-i-init : goal.loop-i-init
-loop-i-init c =
-    let ps = c.args.programs.now in
-    let us = c.behaviour.new.store.trees in
-    let none = c.in_ok-so_far.ensures.answers in
-    record {
-      keeps = c.in_ok-so_far.ensures.keeps;
-      so_far = subst (λ (qs : List (List Insn)). IsBehaviour qs us c.in_ok-so_far.so_far)
-          (sym (drop_all (length ps - 0) ps (omega arith))) none;
-      parts = parts-begun us ps _ _ _ c.in_ok-so_far.so_far none c.new-alone.ensures.items c.new-last.ensures.items
-          c.in_ok-push.ensures.items;
-    }
+loop-i-init c = grind (arith, common_steps, drop_all, parts-begun)
 
 pub join-requires-clause-newer : goal.join-requires-clause-newer
 join-requires-clause-newer c =
@@ -60,7 +43,4 @@ loop-i-preserved c =
     }
 
 pub returns-clause-parts : goal.returns-clause-parts
-returns-clause-parts c =
-    let all : c.loop-i.i ≡ length c.args.programs.now = omega arith in
-    subst (λ (n : ℕ). AreParts c.loop-i.store.trees c.args.programs.now n c.loop-i.alone.items c.loop-i.last.items) all
-    c.loop-i.invariant.parts
+returns-clause-parts c = grind (arith, common_steps)

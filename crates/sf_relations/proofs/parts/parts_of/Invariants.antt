@@ -1,7 +1,4 @@
-use Rattle.std.proofs.Common.{◌-◌, length, drop}
-use Rattle.sf_diagram.specs.Stores.{KeepsStore}
-use Rattle.sf_behaviour.specs.Answering.{IsBehaviour}
-use Rattle.sf_relations.specs.Parts.{AreParts}
+use Rattle.sf_relations.proofs.Common.{◌-◌, length, drop, KeepsStore, IsBehaviour, AreParts}
 use Rattle.sf_relations.proofs.parts.parts_of.Given as goal
 
 abbrev pub invariant-loop-i : goal.invariant-loop-i
