@@ -1,65 +1,70 @@
 -- Lists of outstanding pieces in the order of their ids.
-use Rattle.std.proofs.Common.{◌≡◌, ℕ, zero, suc, ◌<◌, ◌==◌, Bool, true, false, cond, List, [], ◌∷◌, ◌++◌, length, map, get_or, refl, sym, ◌∙◌, ap, subst, arith}
-use Rattle.std.specs.List.{All, AllByRecursion, filter, remove, sum_by}
-use Rattle.std.proofs.lemmas.Bool.Decides.{nat_tests}
-use Rattle.std.proofs.lemmas.List.Elements.{All-head, All-tail}
-use Rattle.std.proofs.lemmas.List.Sums.{sum_by-cons}
-use Rattle.sf_book.specs.Books.{OutstandingData, HasRisingIds}
-use Rattle.sf_book.specs.Changes.{without}
-
-above-get : (a : ℕ) (es : List OutstandingData) (i : ℕ) (d : OutstandingData)
-    → AllByRecursion (λ f. a < f.id) es → i < length es
-    → a < (get_or es i d).id
-above-get a [] i d h l = absurd (omega arith)
-above-get a (e ∷ es) zero d h l = h.0
-above-get a (e ∷ es) (suc i) d h l = above-get a es i d h.1 (omega arith)
-
-differ : (a b : ℕ) → a < b → (a == b) ≡ false
-differ a b h = grind (arith, nat_tests)
-
-differ' : (a b : ℕ) → a < b → (b == a) ≡ false
-differ' a b h = grind (arith, nat_tests)
-
-itself : (a : ℕ) → (a == a) ≡ true
-itself a = grind (arith, nat_tests)
+use Rattle.sf_book.proofs.Common.{common_steps, ◌≡◌, ℕ, ◌+◌, ◌<◌, ◌≤◌, ◌==◌, not, Bool, true, false, cond, List, [], ◌∷◌, ◌++◌, length, map, Some, refl, sym, ◌∙◌, ap, subst, arith, All, AllByRecursion, filter, All-head, All-tail, recursion_from_All, sum_by-cons, OutstandingData, HasRisingIds, outstanding_at, without}
+use Rattle.std.specs.List.{sum_by}
+use Rattle.sf_book.proofs.MapLemmas.{num_no, num_same, some_inj}
 
 pub without-above : (a : ℕ) (es : List OutstandingData) → AllByRecursion (λ f. a < f.id) es → without a es ≡ es
 without-above a [] h = refl
-without-above a (e ∷ es) h = rw (differ' a e.id h.0) (ap (λ k. e ∷ k) (without-above a es h.1))
+without-above a (e ∷ es) h =
+    let l = h.0 in rw (num_no e.id a (λ k. let e = k in omega arith)) (ap (λ k. e ∷ k) (without-above a es h.1))
 
--- to take the piece out at its place is to take its id out
-pub remove_without : (es : List OutstandingData) (i : ℕ) (d : OutstandingData) → HasRisingIds es → i < length es
-    → remove es i ≡ without (get_or es i d).id es
-remove_without [] i d h l = absurd (omega arith)
-remove_without (e ∷ es) zero d h l = rw (itself e.id) (sym (without-above e.id es h.0))
-remove_without (e ∷ es) (suc i) d h l =
-    rw (differ e.id (get_or es i d).id (above-get e.id es i d h.0 (omega arith)))
-    (ap (λ k. e ∷ k) (remove_without es i d h.1 (omega arith)))
+-- the piece under an id is taken out
+pub sum_by-without : (f : OutstandingData → ℕ) (es : List OutstandingData) (id : ℕ) (x : OutstandingData)
+    → HasRisingIds es → outstanding_at id es ≡ Some x → sum_by f (without id es) + f x ≡ sum_by f es
+sum_by-without f [] id x h at = absurd cc
+sum_by-without f (e ∷ es) id x h at = by (e.id == id) refl at (sum_by-without f es id x h.1)
+  where
+    by : (b : Bool) → (e.id == id) ≡ b → cond b (Some e) (outstanding_at id es) ≡ Some x
+        → (outstanding_at id es ≡ Some x → sum_by f (without id es) + f x ≡ sum_by f es)
+        → sum_by f (cond (not b) (e ∷ without id es) (without id es)) + f x ≡ sum_by f (e ∷ es)
+    by true is k rest =
+        let same : e.id ≡ id = num_same e.id id is in
+        let gone : without id es ≡ es = subst (λ k. without k es ≡ es) same (without-above e.id es h.0) in
+        let all = sum_by-cons f e es in
+        let one : f e ≡ f x = ap f (some_inj e x k) in
+        rw gone (omega arith)
+    by false is k rest =
+        let all = sum_by-cons f e es in
+        let less = sum_by-cons f e (without id es) in
+        let r = rest k in
+        omega arith
 
-all_without : (p : OutstandingData → Bool) (a : ℕ) (es : List OutstandingData) → AllByRecursion (λ f. a < f.id) es
-    → AllByRecursion (λ f. a < f.id) (filter p es)
-all_without p a [] h = tt
-all_without p a (e ∷ es) h =
-    elim (p e) as (λ b. AllByRecursion (λ f. a < f.id) (cond b (e ∷ filter p es) (filter p es)))
-    [ true ↦ (h.0, all_without p a es h.1) | false ↦ all_without p a es h.1 ]
+pub low_id : (es : List OutstandingData) (id next : ℕ) (x : OutstandingData) → All (λ e. e.id < next) es
+    → outstanding_at id es ≡ Some x → id < next
+low_id [] id next x h at = absurd cc
+low_id (e ∷ es) id next x h at = by (e.id == id) refl at
+    (low_id es id next x (All-tail (λ (e : OutstandingData). e.id < next) e es h))
+  where
+    by : (b : Bool) → (e.id == id) ≡ b → cond b (Some e) (outstanding_at id es) ≡ Some x
+        → (outstanding_at id es ≡ Some x → id < next) → id < next
+    by true is k rest =
+        let low : e.id < next = All-head (λ (e : OutstandingData). e.id < next) e es h in
+        let same = num_same e.id id is in omega arith
+    by false is k rest = rest k
+
+pub all_filtered : (P : OutstandingData → Type 0) (p : OutstandingData → Bool) (es : List OutstandingData)
+    → AllByRecursion P es → AllByRecursion P (filter p es)
+all_filtered P p [] h = tt
+all_filtered P p (e ∷ es) h = elim (p e) as (λ b. AllByRecursion P (cond b (e ∷ filter p es) (filter p es)))
+    [ true ↦ (h.0, all_filtered P p es h.1) | false ↦ all_filtered P p es h.1 ]
 
 pub HasRisingIds-filter : (p : OutstandingData → Bool) (es : List OutstandingData) → HasRisingIds es
     → HasRisingIds (filter p es)
 HasRisingIds-filter p [] h = tt
-HasRisingIds-filter p (e ∷ es) h = elim (p e) as (λ b. HasRisingIds (cond b (e ∷ filter p es) (filter p es)))
-    [ true ↦ (all_without p e.id es h.0, HasRisingIds-filter p es h.1) | false ↦ HasRisingIds-filter p es h.1 ]
+HasRisingIds-filter p (e ∷ es) h = grind (arith, common_steps, cond, all_filtered, HasRisingIds-filter p es h.1)
 
-above-push : (a : ℕ) (es : List OutstandingData) (x : OutstandingData) → AllByRecursion (λ f. a < f.id) es → a < x.id
-    → AllByRecursion (λ f. a < f.id) (es ++ x ∷ [])
-above-push a [] x h l = (l, tt)
-above-push a (e ∷ es) x h l = (h.0, above-push a es x h.1 l)
+above-append : (a n : ℕ) (es fs : List OutstandingData) → AllByRecursion (λ f. a < f.id) es → a < n
+    → All (λ f. n ≤ f.id) fs → AllByRecursion (λ f. a < f.id) (es ++ fs)
+above-append a n (e ∷ es) fs h l m = (h.0, above-append a n es fs h.1 l m)
+above-append a n [] fs h l m = recursion_from_All (λ (f : OutstandingData). a < f.id) fs
+    (λ k d less. let x = m k d less in omega arith)
 
-pub HasRisingIds-push : (es : List OutstandingData) (x : OutstandingData) → HasRisingIds es → All (λ e. e.id < x.id) es
-    → HasRisingIds (es ++ x ∷ [])
-HasRisingIds-push [] x h l = (tt, tt)
-HasRisingIds-push (e ∷ es) x h l = (
-  above-push e.id es x h.0 (All-head (λ f. f.id < x.id) e es l),
-  HasRisingIds-push es x h.1 (All-tail (λ f. f.id < x.id) e es l),
+pub HasRisingIds-append : (n : ℕ) (es fs : List OutstandingData) → HasRisingIds es → All (λ e. e.id < n) es
+    → HasRisingIds fs → All (λ f. n ≤ f.id) fs → HasRisingIds (es ++ fs)
+HasRisingIds-append n [] fs h l k m = k
+HasRisingIds-append n (e ∷ es) fs h l k m = (
+  above-append e.id n es fs h.0 (All-head (λ f. f.id < n) e es l) m,
+  HasRisingIds-append n es fs h.1 (All-tail (λ f. f.id < n) e es l) k m,
 )
 
 above-map : (g : OutstandingData → OutstandingData) → ((e : OutstandingData) → (g e).id ≡ e.id)
@@ -85,3 +90,7 @@ pub sum_by-map_same : (f : OutstandingData → ℕ) (g : OutstandingData → Out
 sum_by-map_same f g same [] = refl
 sum_by-map_same f g same (e ∷ es) =
     sum_by-cons f (g e) (map g es) ∙ (rw (same e, sum_by-map_same f g same es) (sym (sum_by-cons f e es)))
+
+pub ones : {A : Type 0} (xs : List A) → sum_by (λ x. 1) xs ≡ length xs
+ones [] = refl
+ones (x ∷ xs) = let a = sum_by-cons (λ y. 1) x xs in let r = ones xs in omega arith

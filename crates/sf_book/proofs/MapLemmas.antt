@@ -1,28 +1,5 @@
 -- The outstanding pieces that two maps stand for.
-use Rattle.std.proofs.lemmas.Grind.{common_steps}
-use Rattle.std.proofs.Common.{◌≡◌, ℕ, ◌==◌, Bool, true, false, cond, List, [], ◌∷◌, map, get_or, Option, None, Some, refl, sym, ◌∙◌, ap, subst, arith, ◌⊎◌, inl, inr, ⊎_elim}
-use Rattle.std.specs.List.{All}
-use Rattle.std.specs.List.Sorted.{IsStrictlySortedBy}
-use Rattle.std.specs.Option.{option_map, option_map_or, unwrap_or}
-use Rattle.std.specs.Ordering.{bool_cmp, is_eq, nat_cmp, eq_by_cmp}
-use Rattle.std.specs.Cmp.{IsEquivalence, eq_by_cmp_equiv, nat_cmp_total}
-use Rattle.std.specs.Cmp.Lexicographic.{slice_cmp}
-use Rattle.std.specs.BTreeMap.{is_at}
-use Rattle.std.specs.Map.{lookup, keys_of, set_value}
-use Rattle.std.proofs.lemmas.Bool.{cases_eq}
-use Rattle.std.proofs.lemmas.Bool.Decides.{nat_tests}
-use Rattle.std.proofs.lemmas.Map.{lookup-set_value, keys-set_value}
-use Rattle.std.proofs.lemmas.Map.Entries.{lookup_from_place}
-use Rattle.std.proofs.lemmas.Map.Keys.{IsDistinct-from_sorted}
-use Rattle.std.proofs.lemmas.Map.Made.{lookup-map_values}
-use Rattle.std.proofs.lemmas.Option.{slice_get-get_or}
-use Rattle.std.proofs.lemmas.List.Elements.{All-head, All-tail}
-use Rattle.sf_run.specs.laws.FeasibleLaws.{names_exact}
-use Rattle.sf_piece.specs.Pieces.{PieceData}
-use Rattle.sf_book.specs.Books.{OutstandingData}
-use Rattle.sf_book.specs.Changes.{outstanding_at, with_lease, with_lease_at}
-use Rattle.sf_book.specs.OutstandingMaps.{name_cmp, name_total, piece_at, lease_state_of, outstanding_of, outstanding_list, AreMatchingMaps}
-use Rattle.sf_book.specs.declared.outstanding.LeaseState.{LeaseState}
+use Rattle.sf_book.proofs.Common.{common_steps, ◌≡◌, ℕ, ◌==◌, Bool, true, false, cond, List, [], ◌∷◌, map, get_or, Option, None, Some, refl, sym, ◌∙◌, ap, subst, arith, ◌⊎◌, ⊎_elim, All, IsStrictlySortedBy, option_map, option_map_or, unwrap_or, bool_cmp, is_eq, nat_cmp, eq_by_cmp, IsEquivalence, eq_by_cmp_equiv, nat_cmp_total, slice_cmp, is_at, lookup, keys_of, set_value, cases_eq, nat_tests, lookup-set_value, keys-set_value, lookup_from_place, IsDistinct-from_sorted, keys_of-map_values, lookup-map_values, map-id, slice_get-get_or, All-head, All-tail, names_exact, PieceData, OutstandingData, outstanding_at, with_lease, with_lease_at, name_cmp, name_total, piece_at, lease_state_of, outstanding_of, outstanding_list, AreMatchingMaps, LeaseState}
 
 abbrev pub Ids : Type 0
 Ids = List (ℕ × PieceData)
@@ -32,7 +9,7 @@ Names = List (PieceData × LeaseState)
 
 -- ---- tests
 
-same_bool : (b c : Bool) → (b ≡ true → c ≡ true) → (c ≡ true → b ≡ true) → b ≡ c
+pub same_bool : (b c : Bool) → (b ≡ true → c ≡ true) → (c ≡ true → b ≡ true) → b ≡ c
 same_bool true c f g = sym (f refl)
 same_bool false true f g = g refl
 same_bool false false f g = refl
@@ -73,11 +50,7 @@ pub entry_at_is : (ids : Ids) (names : Names) (i : ℕ) → outstanding_at i (ou
     ≡ option_map (λ p. outstanding_of names (i, p)) (piece_at ids i)
 entry_at_is [] names i = refl
 entry_at_is (e ∷ ids) names i =
-    ⊎_elim
-    (λ (h : i ≡ e.0). rw (num_yes e.0 i (sym h), id_yes i e.0 h)
-    (ap (λ k. Some (outstanding_of names (k, e.1))) (sym h)))
-    (λ (h : i ≡ e.0 → ⊥). rw (num_no e.0 i (λ k. h (sym k)), id_no i e.0 h) (entry_at_is ids names i))
-    (cases_eq i e.0)
+    grind (arith, common_steps, ⊎_elim, cases_eq, id_yes, id_no, num_yes, num_no, entry_at_is ids names i)
 
 -- each outstanding piece is the one under its id
 pub own : (ids : Ids) → IsStrictlySortedBy nat_cmp (keys_of ids) → All (λ e. piece_at ids e.0 ≡ Some e.1) ids
@@ -94,6 +67,54 @@ pub test_of : (ids : Ids) (names : Names) (i j : ℕ) (p q : PieceData) → AreM
 test_of ids names i j p q h at_i at_j =
     grind (arith, common_steps, same_bool, some_inj, mark_by_name, same_name, num_yes, num_same, name_yes)
 
+pub id_same : (i j : ℕ) → is_at (nat_cmp i) j ≡ true → i ≡ j
+id_same i j h = grind (arith, nat_tests)
+
+same_test : (i j : ℕ) → (j == i) ≡ is_at (nat_cmp i) j
+same_test i j = same_bool (j == i) (is_at (nat_cmp i) j) (λ t. id_yes i j (sym (num_same j i t)))
+    (λ t. num_yes j i (sym (id_same i j t)))
+
+-- of two outstanding pieces, the names are equal where the ids are
+pub tests_as : (ids : Ids) (names : Names) (i : ℕ) (p : PieceData) → AreMatchingMaps ids names
+    → piece_at ids i ≡ Some p → (j : ℕ) (q : PieceData) → piece_at ids j ≡ Some q
+    → is_at (name_cmp p) q ≡ is_at (nat_cmp i) j
+tests_as ids names i p h at j q k = test_of ids names i j p q h at k ∙ same_test i j
+
+-- what stands under one id and one name is put in, put in anew or taken out
+pub changed_maps : (ids : Ids) (names : Names) (i : ℕ) (p : PieceData) (c : Option LeaseState) (ids' : Ids)
+    (names' : Names) → AreMatchingMaps ids names
+    → ((j : ℕ) (q : PieceData) → piece_at ids j ≡ Some q → is_at (name_cmp p) q ≡ is_at (nat_cmp i) j)
+    → ((w : LeaseState) → c ≡ Some w → w.id ≡ i)
+    → ((j : ℕ) → piece_at ids' j ≡ cond (is_at (nat_cmp i) j) (option_map (λ w. p) c) (piece_at ids j))
+    → ((q : PieceData) → lease_state_of names' q ≡ cond (is_at (name_cmp p) q) c (lease_state_of names q))
+    → IsStrictlySortedBy nat_cmp (keys_of ids') → IsStrictlySortedBy name_cmp (keys_of names')
+    → AreMatchingMaps ids' names'
+changed_maps ids names i p c ids' names' h test own at_id at_name rising sorted = record {
+  rising = rising;
+  sorted = sorted;
+  named = λ j q at. under_id j q (is_at (nat_cmp i) j) c refl refl (sym (at_id j) ∙ at);
+  known = λ q n at. under_name q n (is_at (name_cmp p) q) refl (sym (at_name q) ∙ at);
+}
+  where
+    under_id : (j : ℕ) (q : PieceData) (b : Bool) (o : Option LeaseState) → is_at (nat_cmp i) j ≡ b → c ≡ o
+        → cond b (option_map (λ w. p) o) (piece_at ids j) ≡ Some q → (m : LeaseState)
+        × (lease_state_of names' q ≡ Some m) × (m.id ≡ j)
+    under_id j q true None is e k = absurd cc
+    under_id j q true (Some w) is e k =
+        (w, at_name q ∙ rw (name_yes p q (ap (λ x. x.name) (some_inj p q k))) e, own w e ∙ id_same i j is)
+    under_id j q false o is e k =
+        let n = h.named j q k in (n.0, at_name q ∙ rw (test j q k ∙ is) n.1, n.2)
+
+    under_name : (q : PieceData) (n : LeaseState) (b : Bool) → is_at (name_cmp p) q ≡ b
+        → cond b c (lease_state_of names q) ≡ Some n → (x : PieceData) × (piece_at ids' n.id ≡ Some x)
+        × (x.name ≡ q.name)
+    under_name q n true is k = (p, at_id n.id ∙ rw (id_yes i n.id (sym (own n k)), k) refl, same_name p q is)
+    under_name q n false is k =
+        let r = h.known q n k in
+        let same : is_at (name_cmp p) r.0 ≡ is_at (name_cmp p) q =
+        ap (λ m. is_eq (slice_cmp bool_cmp p.name m)) r.2 in
+        (r.0, at_id n.id ∙ rw (sym (test n.id r.0 r.1) ∙ (same ∙ is)) r.1, r.2)
+
 -- ---- lists
 
 views : (f : OutstandingData → OutstandingData) (ids : Ids) (a b : Names)
@@ -105,10 +126,6 @@ views f (e ∷ ids) a b h =
     ap (λ x. x ∷ outstanding_list ids b) (All-head P e ids h) ∙ ap (λ l. f (outstanding_of a e) ∷ l)
     (views f ids a b (All-tail P e ids h))
 
-map_same : (es : List OutstandingData) → map (λ e. e) es ≡ es
-map_same [] = refl
-map_same (e ∷ es) = ap (λ l. e ∷ l) (map_same es)
-
 pub same_view : (ids : Ids) (a b : Names) → All (λ e. lease_state_of b e.1 ≡ lease_state_of a e.1) ids
     → outstanding_list ids b ≡ outstanding_list ids a
 same_view ids a b h =
@@ -117,7 +134,7 @@ same_view ids a b h =
       piece = (get_or ids k d).1;
       leased = option_map_or (λ (m : LeaseState). m.leased) o true;
     }) (h k d l))
-    ∙ map_same (outstanding_list ids a)
+    ∙ map-id (outstanding_list ids a)
 
 -- ---- leases
 
@@ -152,40 +169,21 @@ marked_view ids names i p m on h at is =
           (lease_state_of names e.1),
     ) refl)
 
-marked_named : (b : Bool) (w m n : LeaseState) (o : Option LeaseState) (j : ℕ) → o ≡ Some n → n.id ≡ j → w.id ≡ m.id
-    → (b ≡ true → m ≡ n)
-    → (x : LeaseState) × (cond b (Some w) o ≡ Some x) × (x.id ≡ j)
-marked_named true w m n o j h is same one = (w, refl, same ∙ (ap (λ x. x.id) (one refl) ∙ is))
-marked_named false w m n o j h is same one = (n, h, is)
-
-marked_known : (b : Bool) (w m n : LeaseState) (o : Option LeaseState) → cond b (Some w) o ≡ Some n → w.id ≡ m.id
-    → ((b ≡ true) × (m.id ≡ n.id)) ⊎ ((b ≡ false) × (o ≡ Some n))
-marked_known true w m n o h same = inl (refl, sym same ∙ ap (λ x. x.id) (some_inj w n h))
-marked_known false w m n o h same = inr (refl, h)
-
 pub leased_maps : (ids : Ids) (names : Names) (i : ℕ) (p : PieceData) (m : LeaseState) (on : Bool)
     → AreMatchingMaps ids names
     → piece_at ids i ≡ Some p → lease_state_of names p ≡ Some m
     → AreMatchingMaps ids (marked names p m on)
 leased_maps ids names i p m on h at is =
-    let w : LeaseState = record { id = m.id; leased = on } in
-    record {
-      rising = h.rising;
-      sorted = search (arith, keys-set_value);
-      named = λ j q at_j.
-          let n = h.named j q at_j in
-          rw (marked_mark names p q m on is) (marked_named (is_at (name_cmp p) q) w m n.0
-          (lease_state_of names q) j n.1 n.2 refl
-          (λ t. some_inj m n.0 (sym is ∙ (mark_by_name names p q (same_name p q t) ∙ n.1))));
-      known = λ q n k.
-          ⊎_elim
-          (λ (a : (is_at (name_cmp p) q ≡ true) × (m.id ≡ n.id)).
-          let r = h.known p m is in
-          (r.0, ap (λ x. piece_at ids x) (sym a.1) ∙ r.1, r.2 ∙ same_name p q a.0))
-          (λ (a : (is_at (name_cmp p) q ≡ false) × (lease_state_of names q ≡ Some n)). h.known q n a.1)
-          (marked_known (is_at (name_cmp p) q) w m n (lease_state_of names q)
-          (sym (marked_mark names p q m on is) ∙ k) refl);
-    }
+    let n = h.named i p at in
+    let own : m.id ≡ i = ap (λ (x : LeaseState). x.id) (some_inj m n.0 (sym is ∙ n.1)) ∙ n.2 in
+    changed_maps ids names i p (Some (record { id = m.id; leased = on })) ids (marked names p m on) h
+    (tests_as ids names i p h at) (λ w e. sym (ap (λ (x : LeaseState). x.id) (some_inj _ w e)) ∙ own)
+    (λ j. there j (is_at (nat_cmp i) j) refl) (λ q. marked_mark names p q m on is) h.rising
+    (search (arith, keys-set_value))
+  where
+    there : (j : ℕ) (b : Bool) → is_at (nat_cmp i) j ≡ b → piece_at ids j ≡ cond b (Some p) (piece_at ids j)
+    there j true t = ap (λ k. piece_at ids k) (sym (id_same i j t)) ∙ at
+    there j false t = refl
 
 abbrev off : LeaseState → LeaseState
 off m = record { id = m.id; leased = false }
@@ -196,10 +194,6 @@ all_off names = map (λ e. (e.0, off e.1)) names
 off_mark : (names : Names) (q : PieceData) → lease_state_of (all_off names) q ≡ option_map off (lease_state_of names q)
 off_mark names q = lookup-map_values off (is_at (name_cmp q)) names
 
-keys_off : (names : Names) → keys_of (all_off names) ≡ keys_of names
-keys_off [] = refl
-keys_off (e ∷ names) = ap (λ l. e.0 ∷ l) (keys_off names)
-
 from_off : (o : Option LeaseState) (n : LeaseState) → option_map off o ≡ Some n → (m : LeaseState)
     × (o ≡ Some m) × (m.id ≡ n.id)
 from_off None n h = absurd (cc)
@@ -208,7 +202,7 @@ from_off (Some m) n h = (m, refl, ap (λ x. x.id) (some_inj (off m) n h))
 pub recalled_maps : (ids : Ids) (names : Names) → AreMatchingMaps ids names → AreMatchingMaps ids (all_off names)
 recalled_maps ids names h = record {
   rising = h.rising;
-  sorted = subst (λ ks. IsStrictlySortedBy name_cmp ks) (sym (keys_off names)) h.sorted;
+  sorted = subst (λ ks. IsStrictlySortedBy name_cmp ks) (sym (keys_of-map_values off names)) h.sorted;
   named = λ j q at. let n = h.named j q at in (off n.0, off_mark names q ∙ ap (option_map off) n.1, n.2);
   known = search (arith, from_off, off_mark);
 }

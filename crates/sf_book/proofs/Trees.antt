@@ -1,36 +1,11 @@
 -- An execution tree that is explored to the end is one.
-use Rattle.std.proofs.Common.{◌≡◌, ℕ, ◌+◌, Bool, List, [], ◌∷◌, ◌++◌, refl, sym, ap, ◌∙◌, subst, arith, sum_by, map, zero, suc, ◌≤◌, Some, None, length}
-use Rattle.std.proofs.lemmas.List.Sums.{sum_by-cons}
-use Rattle.std.proofs.lemmas.Option.{same_Some}
-use Rattle.std.specs.List.{All, AllByRecursion, slice_get}
-use Rattle.std.specs.List.Sorted.{IsStrictlySortedBy}
-use Rattle.std.proofs.lemmas.List.{length-map}
-use Rattle.std.proofs.lemmas.List.Elements.{All-head, All-tail}
-use Rattle.std.specs.Ordering.{bool_cmp}
-use Rattle.std.specs.Cmp.Lexicographic.{slice_cmp}
-use Rattle.std.specs.declared.cmp.Ordering.TheVariants.{Less}
-use Rattle.sf_run.specs.Feasible.{AreInNameOrder}
-use Rattle.sf_run.specs.laws.FeasibleLaws.{before_one_way}
-use Rattle.sf_check.specs.declared.insn.Insn.{Insn}
-use Rattle.sf_run.specs.declared.action.Answer.{Answer}
-use Rattle.sf_piece.specs.Pieces.{PieceData, StepData, Split, Settled, Empty}
-use Rattle.sf_piece.specs.Execution.{HasStep}
-use Rattle.sf_piece.specs.OneExecution.{IsExecutionOne}
-use Rattle.sf_book.specs.Books.{RegionData, OutstandingData, BookData, IsSettled}
-use Rattle.sf_book.specs.laws.NameOrderLaws.{strictly_in_order}
-use Rattle.sf_book.specs.laws.PartitionLaws.{some_there, sum_by-map}
-use Rattle.sf_book.specs.laws.ExactLaws.{at_place}
-use Rattle.sf_book.specs.PrefixCounts.{bit, prefix_bit}
+use Rattle.sf_book.proofs.Common.{◌≡◌, ℕ, ◌+◌, Bool, List, [], ◌∷◌, ◌++◌, refl, sym, ap, ◌∙◌, subst, arith, sum_by, map, zero, suc, ◌≤◌, Some, None, sum_by-cons, same_Some, All, AllByRecursion, slice_get, IsStrictlySortedBy, length-map, All-head, All-tail, bool_cmp, slice_cmp, Less, AreInNameOrder, before_one_way, Insn, Answer, PieceData, StepData, Split, Settled, Empty, HasStep, IsExecutionOne, RegionData, OutstandingData, BookData, IsSettled, strictly_in_order, some_there, sum_by-map, at_place, bit, prefix_bit, Unfolding, Outstanding, Region, Emptied, Fork, IsFringe, IsRegionOf, HaveOneOutcome, top_of, IsPieceOf, IsUnfolding, outstanding_in, emptied_in, regions_in, forks_in}
+use Rattle.sf_book.proofs.Lists.{ones}
 use Rattle.sf_book.proofs.NameLists.{HaveSameElements, weighed, permuted, weighs-none, is-name, own-name, the-name}
-use Rattle.sf_book.specs.Unfoldings.{Unfolding, Outstanding, Region, Emptied, Fork, IsFringe, IsRegionOf, HaveOneOutcome, top_of, IsPieceOf, IsUnfolding, outstanding_in, emptied_in, regions_in, forks_in}
 
-none-left : {A : Type 0} (xs ys : List A) → xs ++ ys ≡ [] → xs ≡ []
-none-left [] ys e = refl
-none-left (x ∷ xs) ys e = let clash : x ∷ (xs ++ ys) ≡ [] = e in absurd cc
-
-none-right : {A : Type 0} (xs ys : List A) → xs ++ ys ≡ [] → ys ≡ []
-none-right [] ys e = e
-none-right (x ∷ xs) ys e = let clash : x ∷ (xs ++ ys) ≡ [] = e in absurd cc
+none-both : {A : Type 0} (xs ys : List A) → xs ++ ys ≡ [] → (xs ≡ []) × (ys ≡ [])
+none-both [] ys e = (refl, e)
+none-both (x ∷ xs) ys e = let clash : x ∷ (xs ++ ys) ≡ [] = e in absurd cc
 
 module _ (one : IsExecutionOne) (stack : List (List Insn)) where
   -- pieces of one stack with one name are one, and so is their step
@@ -56,33 +31,28 @@ module _ (one : IsExecutionOne) (stack : List (List Insn)) where
       let step : Settled a ≡ Settled b = s.0 in
       let name : n ≡ m = s.1 in cc
   trees-one (Region p n a) (Emptied q) h k e x y =
-      let clash : Settled a ≡ Empty = (steps-one p q (Settled a) Empty n q.name h.0 k.0 e h.1 k.1).0 in absurd cc
-  trees-one (Region p n a) (Fork q g s) h k e x y =
-      let clash : Settled a ≡ Split (top_of g) (top_of s)
-      = (steps-one p q (Settled a) (Split (top_of g) (top_of s)) n q.name h.0 k.0 e h.1 k.1).0 in absurd cc
+      let s = (steps-one p q (Settled a) Empty n q.name h.0 k.0 e h.1 k.1).0 in absurd cc
+  trees-one (Region p n a) (Fork q g t) h k e x y =
+      let s = (steps-one p q (Settled a) (Split (top_of g) (top_of t)) n q.name h.0 k.0 e h.1 k.1).0 in absurd cc
   trees-one (Emptied p) (Region q m b) h k e x y =
-      let clash : Empty ≡ Settled b = (steps-one p q Empty (Settled b) p.name m h.0 k.0 e h.1 k.1).0 in absurd cc
+      let s = (steps-one p q Empty (Settled b) p.name m h.0 k.0 e h.1 k.1).0 in absurd cc
   trees-one (Emptied p) (Emptied q) h k e x y = ap Emptied (pieces-one p q h.0 k.0 e)
-  trees-one (Emptied p) (Fork q g s) h k e x y =
-      let clash : Empty ≡ Split (top_of g) (top_of s)
-      = (steps-one p q Empty (Split (top_of g) (top_of s)) p.name q.name h.0 k.0 e h.1 k.1).0 in absurd cc
+  trees-one (Emptied p) (Fork q g t) h k e x y =
+      let s = (steps-one p q Empty (Split (top_of g) (top_of t)) p.name q.name h.0 k.0 e h.1 k.1).0 in absurd cc
   trees-one (Fork p f t) (Region q m b) h k e x y =
-      let clash : Split (top_of f) (top_of t) ≡ Settled b
-      = (steps-one p q (Split (top_of f) (top_of t)) (Settled b) p.name m h.0 k.0 e h.1 k.1).0 in absurd cc
+      let s = (steps-one p q (Split (top_of f) (top_of t)) (Settled b) p.name m h.0 k.0 e h.1 k.1).0 in absurd cc
   trees-one (Fork p f t) (Emptied q) h k e x y =
-      let clash : Split (top_of f) (top_of t) ≡ Empty
-      = (steps-one p q (Split (top_of f) (top_of t)) Empty p.name q.name h.0 k.0 e h.1 k.1).0 in absurd cc
+      let s = (steps-one p q (Split (top_of f) (top_of t)) Empty p.name q.name h.0 k.0 e h.1 k.1).0 in absurd cc
   trees-one (Fork p f t) (Fork q g s) h k e x y =
-      let both : Split (top_of f) (top_of t) ≡ Split (top_of g) (top_of s)
-      = (steps-one p q (Split (top_of f) (top_of t)) (Split (top_of g) (top_of s)) p.name q.name h.0 k.0 e h.1 k.1).0
-      in
+      let both = (steps-one p q (Split (top_of f) (top_of t)) (Split (top_of g) (top_of s)) p.name q.name h.0 k.0 e h.1
+      k.1).0 in
       let fs : top_of f ≡ top_of g = cc in
       let ts : top_of t ≡ top_of s = cc in
       let piece = pieces-one p q h.0 k.0 e in
-      let left = trees-one f g h.2 k.2 (ap (λ (z : PieceData). z.name) fs)
-      (none-left (outstanding_in f) (outstanding_in t) x) (none-left (outstanding_in g) (outstanding_in s) y) in
-      let right = trees-one t s h.3 k.3 (ap (λ (z : PieceData). z.name) ts)
-      (none-right (outstanding_in f) (outstanding_in t) x) (none-right (outstanding_in g) (outstanding_in s) y) in cc
+      let none = none-both (outstanding_in f) (outstanding_in t) x in
+      let none' = none-both (outstanding_in g) (outstanding_in s) y in
+      let left = trees-one f g h.2 k.2 (ap (λ (z : PieceData). z.name) fs) none.0 none'.0 in
+      let right = trees-one t s h.3 k.3 (ap (λ (z : PieceData). z.name) ts) none.1 none'.1 in cc
 
 -- ---- the books
 
@@ -217,10 +187,6 @@ results-one one b c s t h k e x y =
       commits = commits-one b c s t splits rs es;
     }
   where
-    ones : {A : Type 0} (xs : List A) → sum_by (λ x. 1) xs ≡ length xs
-    ones [] = refl
-    ones (x ∷ xs) = let a = sum_by-cons (λ y. 1) x xs in let r = ones xs in omega arith
-
     commits-one : (b c : BookData) → IsSettled b → IsSettled c → b.splits ≡ c.splits
         → sum_by (λ n. 1) (piece-names b.regions) ≡ sum_by (λ n. 1) (piece-names c.regions)
         → sum_by (λ n. 1) b.emptied ≡ sum_by (λ n. 1) c.emptied → b.commits ≡ c.commits

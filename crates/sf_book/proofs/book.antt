@@ -1,5 +1,4 @@
 pub mod Growing
 pub mod Kept
-pub mod Lawful
 pub mod Names
 pub mod Plain

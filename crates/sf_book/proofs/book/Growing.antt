@@ -1,25 +1,8 @@
 -- An unfolding grows where the step of an outstanding piece takes its place, and the book stays its fringe.
-use Rattle.std.proofs.Common.{◌≡◌, ℕ, zero, suc, ◌+◌, Bool, false, List, [], ◌∷◌, ◌++◌, map, sum_by, refl, sym, ap, ◌∙◌, subst, arith, inl, inr, get_or}
-use Rattle.std.proofs.lemmas.List.Elements.{Contains-append_cases, All-push, All-filter, All-map, All-nil, All-cons}
-use Rattle.std.proofs.lemmas.List.Sums.{sum_by-cons, sum_by-append, sum_by_push, sum_by-remove}
-use Rattle.std.proofs.lemmas.List.Sorted.{sum_by-IsPermutation, All-permutation}
-use Rattle.std.proofs.lemmas.Option.{get_or_from_slice_get, slice_get_within}
-use Rattle.std.specs.List.{All, Contains}
-use Rattle.std.specs.List.Sorted.{IsPermutation}
-use Rattle.sf_check.specs.declared.insn.Insn.{Insn}
-use Rattle.sf_run.specs.declared.action.Answer.{Answer}
-use Rattle.sf_piece.specs.Pieces.{PieceData, WorkData, Split, Settled, Empty, IsRightSplit}
-use Rattle.sf_piece.specs.Execution.{HasStep}
-use Rattle.sf_piece.specs.OneExecution.{IsExecutionOne}
-use Rattle.sf_book.specs.Books.{OutstandingData, RegionData, BookData, IsLawfulBook, fresh}
-use Rattle.sf_book.specs.Changes.{MayCommit, without}
-use Rattle.sf_book.specs.laws.PartitionLaws.{some_there, sum_by-map}
-use Rattle.sf_book.specs.PrefixCounts.{bit}
-use Rattle.sf_book.specs.Unfoldings.{Unfolding, Outstanding, Region, Emptied, Fork, top_of, IsPieceOf, IsUnfolding, outstanding_in, emptied_in, regions_in, forks_in, IsRegionOf, IsFringe}
-use Rattle.sf_book.proofs.book.Kept.{may_place, left_over}
-use Rattle.sf_book.proofs.Lists.{sum_by-map_same}
-use Rattle.sf_book.proofs.book.Lawful.{leased_piece, after_split, after_answer, after_empty}
-use Rattle.sf_book.proofs.NameLists.{weighed, permuted, is-name, own-name, the-name}
+use Rattle.sf_book.proofs.Common.{◌≡◌, ℕ, zero, suc, ◌+◌, Bool, false, List, [], ◌∷◌, map, sum_by, refl, sym, ap, ◌∙◌, subst, arith, inl, inr, get_or, map-append, Contains-append_cases, All-append, All-from_recursion, All-filter, All-map, All-nil, All-cons, sum_by-cons, sum_by-append, sum_by-IsPermutation, All-permutation, Contains, IsPermutation, Insn, PieceData, WorkData, IsExecutionOne, OutstandingData, RegionData, BookData, IsLawfulBook, fresh, MayCommit, without, sum_by-map, bit, Unfolding, Outstanding, Region, Emptied, Fork, top_of, IsPieceOf, IsUnfolding, outstanding_in, emptied_in, regions_in, forks_in, IsRegionOf, IsFringe}
+use Rattle.sf_book.proofs.book.Kept.{Replaces, committed}
+use Rattle.sf_book.proofs.Lists.{sum_by-map_same, sum_by-without}
+use Rattle.sf_book.proofs.NameLists.{weighed, permuted, is-name, own-name, contained}
 use Rattle.sf_book.proofs.Trees.{pieces-one}
 
 -- an unfolding in which another one took the place of the outstanding piece of a name
@@ -69,57 +52,27 @@ module _ (one : IsExecutionOne) (stack : List (List Insn)) where
         let g = grow f w n x h.2 k e in
         record {
           tree = Fork p g.tree t;
-          unfolds = (
-            h.0,
-            subst (λ (z : PieceData). HasStep p (Split z (top_of t)) p.name) (sym g.same) h.1,
-            g.unfolds,
-            h.3,
-          );
+          unfolds = (h.0, rw g.same h.1, g.unfolds, h.3);
           same = refl;
-          outstanding = λ z. let a = g.outstanding z in
-              let b = sum_by-append z (outstanding_in g.tree) (outstanding_in t) in
-              let d = sum_by-append z (outstanding_in f) (outstanding_in t) in omega arith;
-          regions = λ z. let a = g.regions z in let b = sum_by-append z (regions_in g.tree) (regions_in t) in
-              let d = sum_by-append z (regions_in f) (regions_in t) in omega arith;
-          emptied = λ z. let a = g.emptied z in let b = sum_by-append z (emptied_in g.tree) (emptied_in t) in
-              let d = sum_by-append z (emptied_in f) (emptied_in t) in omega arith;
+          outstanding = λ z. let a = g.outstanding z in rw (sum_by-append, sum_by-append) (omega arith);
+          regions = λ z. let a = g.regions z in rw (sum_by-append, sum_by-append) (omega arith);
+          emptied = λ z. let a = g.emptied z in rw (sum_by-append, sum_by-append) (omega arith);
           forks = let a = g.forks in omega arith;
         }
     | inr x ↦
         let g = grow t w n x h.3 k e in
         record {
           tree = Fork p f g.tree;
-          unfolds = (
-            h.0,
-            subst (λ (z : PieceData). HasStep p (Split (top_of f) z) p.name) (sym g.same) h.1,
-            h.2,
-            g.unfolds,
-          );
+          unfolds = (h.0, rw g.same h.1, h.2, g.unfolds);
           same = refl;
-          outstanding = λ z. let a = g.outstanding z in
-              let b = sum_by-append z (outstanding_in f) (outstanding_in g.tree) in
-              let d = sum_by-append z (outstanding_in f) (outstanding_in t) in omega arith;
-          regions = λ z. let a = g.regions z in let b = sum_by-append z (regions_in f) (regions_in g.tree) in
-              let d = sum_by-append z (regions_in f) (regions_in t) in omega arith;
-          emptied = λ z. let a = g.emptied z in let b = sum_by-append z (emptied_in f) (emptied_in g.tree) in
-              let d = sum_by-append z (emptied_in f) (emptied_in t) in omega arith;
+          outstanding = λ z. let a = g.outstanding z in rw (sum_by-append, sum_by-append) (omega arith);
+          regions = λ z. let a = g.regions z in rw (sum_by-append, sum_by-append) (omega arith);
+          emptied = λ z. let a = g.emptied z in rw (sum_by-append, sum_by-append) (omega arith);
           forks = let a = g.forks in omega arith;
         }
   ]
 
 -- ---- the book
-
--- the names of outstanding pieces weigh as much as before with the piece that is taken out
-taken-out : (b : BookData) (id : ℕ) (w : WorkData) (f : List Bool → ℕ) → IsLawfulBook b → MayCommit b id w
-    → sum_by (λ (e : OutstandingData). f e.piece.name) (without id b.outstanding) + f w.piece.name
-    ≡ sum_by (λ (e : OutstandingData). f e.piece.name) b.outstanding
-taken-out b id w f h m =
-    let g : OutstandingData → ℕ = λ e. f e.piece.name in
-    let r = may_place b id w m in
-    let there = r.1.there in
-    let out = sum_by-remove g b.outstanding r.0 m.under_id there in
-    let same : f (get_or b.outstanding r.0 m.under_id).piece.name ≡ f w.piece.name = ap f (r.1.has_name m.under_id) in
-    rw (← left_over b id w r.0 m.under_id h r.1) (omega arith)
 
 -- the name of a work that may be committed is outstanding in the tree
 is-outstanding : (b : BookData) (id : ℕ) (w : WorkData) → IsLawfulBook b → MayCommit b id w → (h : IsFringe b)
@@ -127,125 +80,58 @@ is-outstanding : (b : BookData) (id : ℕ) (w : WorkData) → IsLawfulBook b →
 is-outstanding b id w l m h =
     let n : List Bool = w.piece.name in
     let f : List Bool → ℕ = λ k. bit (is-name n k) in
-    let one : f n ≡ 1 = ap bit (own-name n) in
-    let out = taken-out b id w f l m in
+    let one : f m.under_id.piece.name ≡ 1 = ap f (sym m.same_name) ∙ ap bit (own-name n) in
+    let out = sum_by-without (λ e. f e.piece.name) b.outstanding id m.under_id l.ids m.there in
     let names = sum_by-map f (λ (e : OutstandingData). e.piece.name) b.outstanding in
     let same = weighed h.outstanding f in
-    let found = some_there (λ k. is-name n k) (outstanding_in h.tree) (omega arith) in (
-      found.0,
-      slice_get_within (outstanding_in h.tree) found.0 found.1 found.2,
-      get_or_from_slice_get (outstanding_in h.tree) found.0 found.1 n found.2 ∙ the-name n found.1 found.3,
-    )
+    contained n (outstanding_in h.tree) (omega arith)
 
 -- an outstanding piece that the rules reach
 abbrev IsReachedIn : List (List Insn) → OutstandingData → Type 0
 IsReachedIn stack e = IsPieceOf stack e.piece
 
-module _ (one : IsExecutionOne) (b : BookData) (id : ℕ) (w : WorkData) (l : IsLawfulBook b) (m : MayCommit b id w)
-    (h : IsFringe b) (p : IsPieceOf b.stack w.piece) where
-  left-reached : All (IsReachedIn b.stack) (without id b.outstanding)
-  left-reached = All-filter _ (IsReachedIn b.stack) b.outstanding h.reached
-
-  -- the tree in which this took the work's place
-  grown-by : (u : Unfolding) → IsUnfolding b.stack u → top_of u ≡ w.piece → HasGrown b.stack h.tree u w.piece.name
-  grown-by u k e =
-      grow one b.stack h.tree u w.piece.name (is-outstanding b id w l m h) h.unfolds k
-      (ap (λ (q : PieceData). q.name) e)
-
-  pub fringe-split : (f t : PieceData) (i j : ℕ) → HasStep w.piece (Split f t) w.piece.name
-      → IsRightSplit w.piece f t
-      → IsFringe (after_split b ((without id b.outstanding ++ leased_piece i f ∷ []) ++ leased_piece j t ∷ []))
-  fringe-split f t i j step right =
-      let sides = one.sides w.piece f t p.reached step in
-      let pf : IsPieceOf b.stack f = record { reached = sides.0; of = right.false_stack ∙ p.of } in
-      let pt : IsPieceOf b.stack t = record { reached = sides.1; of = right.true_stack ∙ p.of } in
-      let g = grown-by (Fork w.piece (Outstanding f) (Outstanding t)) (p, step, pf, pt) refl in
-      let es = without id b.outstanding in
-      record {
-        tree = g.tree;
-        unfolds = g.unfolds;
-        first = ap (λ (q : PieceData). q.name) g.same ∙ h.first;
-        outstanding = permuted (λ z.
-            let name : OutstandingData → List Bool = λ e. e.piece.name in
-            let v : OutstandingData → ℕ = λ e. z e.piece.name in
-            let a = sum_by-map z name ((es ++ leased_piece i f ∷ []) ++ leased_piece j t ∷ []) in
-            let c = sum_by_push v (es ++ leased_piece i f ∷ []) (leased_piece j t) in
-            let d = sum_by_push v es (leased_piece i f) in
-            let out = taken-out b id w z l m in
-            let before = weighed h.outstanding z in
-            let old = sum_by-map z name b.outstanding in
-            let now = g.outstanding z in
-            let two = sum_by-cons z f.name (t.name ∷ []) in
-            let last = sum_by-cons z t.name [] in
-            omega arith);
-        regions = permuted (λ z. let a = weighed h.regions z in let c = g.regions z in omega arith);
-        emptied = permuted (λ z. let a = weighed h.emptied z in let c = g.emptied z in omega arith);
-        splits = let a = h.splits in let c = g.forks in omega arith;
-        reached = All-push (IsReachedIn b.stack) (es ++ leased_piece i f ∷ []) (leased_piece j t)
-            (All-push (IsReachedIn b.stack) es (leased_piece i f) left-reached pf) pt;
-        settled = h.settled;
-      }
-
-  pub fringe-answer : (a : Answer) → HasStep w.piece (Settled a) w.name
-      → IsFringe (after_answer b (without id b.outstanding) (record { piece = w.piece; name = w.name; answer = a }))
-  fringe-answer a step =
-      let g = grown-by (Region w.piece w.name a) (p, step) refl in
-      let r : RegionData = record { piece = w.piece; name = w.name; answer = a } in
-      record {
-        tree = g.tree;
-        unfolds = g.unfolds;
-        first = ap (λ (q : PieceData). q.name) g.same ∙ h.first;
-        outstanding = permuted (λ z.
-            let name : OutstandingData → List Bool = λ e. e.piece.name in
-            let x = sum_by-map z name (without id b.outstanding) in
-            let out = taken-out b id w z l m in
-            let before = weighed h.outstanding z in
-            let old = sum_by-map z name b.outstanding in
-            let now = g.outstanding z in
-            omega arith);
-        regions = permuted (λ z.
-            let name : RegionData → List Bool = λ r. r.piece.name in
-            let v : RegionData → ℕ = λ r. z r.piece.name in
-            let x = sum_by-map z name (b.regions ++ r ∷ []) in
-            let c = sum_by_push v b.regions r in
-            let before = weighed h.regions z in
-            let old = sum_by-map z name b.regions in
-            let now = g.regions z in
-            let last = sum_by-cons z w.piece.name [] in
-            omega arith);
-        emptied = permuted (λ z. let x = weighed h.emptied z in let c = g.emptied z in omega arith);
-        splits = let x = h.splits in let c = g.forks in omega arith;
-        reached = left-reached;
-        settled = All-push (IsRegionOf b.stack) b.regions r h.settled (p, step);
-      }
-
-  pub fringe-empty : HasStep w.piece Empty w.piece.name
-      → IsFringe (after_empty b (without id b.outstanding) w.piece.name)
-  fringe-empty step =
-      let g = grown-by (Emptied w.piece) (p, step) refl in
-      record {
-        tree = g.tree;
-        unfolds = g.unfolds;
-        first = ap (λ (q : PieceData). q.name) g.same ∙ h.first;
-        outstanding = permuted (λ z.
-            let name : OutstandingData → List Bool = λ e. e.piece.name in
-            let x = sum_by-map z name (without id b.outstanding) in
-            let out = taken-out b id w z l m in
-            let before = weighed h.outstanding z in
-            let old = sum_by-map z name b.outstanding in
-            let now = g.outstanding z in
-            omega arith);
-        regions = permuted (λ z. let x = weighed h.regions z in let c = g.regions z in omega arith);
-        emptied = permuted (λ z.
-            let c = sum_by_push z b.emptied w.piece.name in
-            let x = weighed h.emptied z in
-            let now = g.emptied z in
-            let last = sum_by-cons z w.piece.name [] in
-            omega arith);
-        splits = let x = h.splits in let c = g.forks in omega arith;
-        reached = left-reached;
-        settled = h.settled;
-      }
+pub commit_fringe : IsExecutionOne → (b : BookData) (next id : ℕ) (w : WorkData) (u : Unfolding)
+    (es : List OutstandingData) (rs : List RegionData) (ns : List (List Bool)) (splits : ℕ) → IsLawfulBook b
+    → MayCommit b id w → IsFringe b → Replaces b.stack w.piece next u es rs ns splits
+    → IsFringe (committed b id es rs ns splits)
+commit_fringe one b next id w u es rs ns splits l m h r =
+    let name : OutstandingData → List Bool = λ e. e.piece.name in
+    let whole : RegionData → List Bool = λ r. r.piece.name in
+    let left = without id b.outstanding in
+    let g = grow one b.stack h.tree u w.piece.name (is-outstanding b id w l m h) h.unfolds r.unfolds
+    (ap (λ (q : PieceData). q.name) r.shape.0) in
+    record {
+      tree = g.tree;
+      unfolds = g.unfolds;
+      first = ap (λ (q : PieceData). q.name) g.same ∙ h.first;
+      outstanding = permuted (λ z.
+          let same : z m.under_id.piece.name ≡ z w.piece.name = ap z (sym m.same_name) in
+          let out = sum_by-without (λ e. z e.piece.name) b.outstanding id m.under_id l.ids m.there in
+          let now = g.outstanding z in
+          let old = weighed h.outstanding z in
+          let new = ap (sum_by z) r.shape.1 in
+          let a = sum_by-map z name left in
+          let c = sum_by-map z name b.outstanding in
+          let x = sum_by-append z (map name left) (map name es) in
+          rw map-append (omega arith));
+      regions = permuted (λ z.
+          let now = g.regions z in
+          let old = weighed h.regions z in
+          let new = ap (sum_by z) r.shape.2 in
+          let x = sum_by-append z (map whole b.regions) (map whole rs) in
+          rw map-append (omega arith));
+      emptied = permuted (λ z.
+          let now = g.emptied z in
+          let old = weighed h.emptied z in
+          let new = ap (sum_by z) r.shape.3 in
+          let x = sum_by-append z b.emptied ns in
+          omega arith);
+      splits = let old = h.splits in let now = g.forks in let new = r.shape.4 in omega arith;
+      reached = All-append (IsReachedIn b.stack) left es (All-filter _ (IsReachedIn b.stack) b.outstanding h.reached)
+          (All-from_recursion (IsReachedIn b.stack) es r.reached);
+      settled = All-append (IsRegionOf b.stack) b.regions rs h.settled
+          (All-from_recursion (IsRegionOf b.stack) rs r.settled);
+    }
 
 pub fringe-fresh : (stack : List (List Insn)) (r : PieceData) (budget : ℕ) → IsPieceOf stack r → r.name ≡ []
     → IsFringe (fresh stack r budget)

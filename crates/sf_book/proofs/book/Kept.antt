@@ -1,181 +1,190 @@
 -- What a book keeps through its calls.
-use Rattle.std.proofs.lemmas.Grind.{common_steps}
-use Rattle.std.proofs.Common.{◌≡◌, ℕ, zero, suc, ◌⊎◌, inl, inr, ⊎_elim, cond, length-append, ◌+◌, ◌==◌, ◌<◌, ◌≤◌, Bool, true, false, List, [], ◌∷◌, ◌++◌, length, map, get_or, refl, sym, ◌∙◌, ap, subst, arith, append_assoc, Option, Some}
-use Rattle.std.specs.List.{All, remove, HoldsAt, sum_by}
-use Rattle.std.proofs.lemmas.List.Elements.{All-push, All-map, All-filter}
-use Rattle.std.proofs.lemmas.Bool.Decides.{nat_tests}
-use Rattle.std.proofs.lemmas.List.{get_or_default, get_or_push}
-use Rattle.std.proofs.lemmas.Option.{slice_get-get_or}
-use Rattle.sf_run.specs.declared.action.Answer.{Answer}
-use Rattle.sf_check.specs.declared.insn.Insn.{Insn}
-use Rattle.sf_check.specs.Stacks.{IsLawfulStack}
-use Rattle.sf_book.specs.laws.PartitionLaws.{no_second, prefix-refl}
-use Rattle.sf_book.specs.PrefixCounts.{prefix_bit}
-use Rattle.sf_book.proofs.book.Names.{prefix-append}
-use Rattle.sf_book.proofs.MapLemmas.{some_inj}
-use Rattle.sf_piece.specs.Pieces.{PieceData, WorkData, is_prefix, IsTrulyNamed, IsRightSplit, IsRightAnswer, HasNoMember, IsRoot}
-use Rattle.sf_book.specs.Books.{OutstandingData, BookData, IsLawfulBook, IsKeptBook, fresh}
-use Rattle.sf_book.specs.Changes.{outstanding_at, without, MayCommit, Refuses}
-use Rattle.sf_book.specs.declared.fault.Fault.{Fault}
-use Rattle.sf_book.specs.declared.fault.Fault.TheVariants.{Memory}
-use Rattle.std.specs.Prelude.{Result, Ok, Err, IfErr}
-use Rattle.sf_book.proofs.Lists.{remove_without}
-use Rattle.sf_book.proofs.book.Lawful.{fresh_lawful, IsReplaced, leased_piece, after_split, after_answer, after_empty, split_lawful, answer_lawful, empty_lawful, marks_lawful}
+use Rattle.sf_book.proofs.Common.{common_steps, ◌≡◌, ℕ, length-append, ◌+◌, ◌*◌, ◌<◌, ◌≤◌, ◌==◌, Bool, true, false, List, [], ◌∷◌, ◌++◌, length, map, get_or, refl, sym, ◌∙◌, ap, subst, arith, append_assoc, Result, Ok, Err, IfErr, All, AllByRecursion, slice_get, IsPermutation, get_or_push, length-map, All-append, All-filter, All-map, All-from_recursion, find_at, sum_by-IsPermutation, All-permutation, length_permutation, sum_by-append, slice_get-get_or, same_Some, Input, IsInput, Insn, IsLawfulStack, PieceData, WorkData, is_member, is_prefix, IsTrulyNamed, IsRightSplit, IsRoot, OutstandingData, RegionData, BookData, IsOutstanding, IsRightRegion, IsNoBeginning, HasRisingIds, IsLawfulBook, IsKeptBook, fresh, members_of, count_beginnings, without, MayCommit, Refuses, bit, prefix_bit, Unfolding, IsUnfolding, IsPieceOf, IsRegionOf, top_of, outstanding_in, regions_in, emptied_in, forks_in, Fault, Memory, all_at, no_second, prefix-refl}
+use Rattle.std.specs.List.{sum_by}
+use Rattle.sf_book.proofs.Lists.{sum_by-without, HasRisingIds-filter, HasRisingIds-append, HasRisingIds-map, sum_by-map_same, ones}
+use Rattle.sf_book.proofs.book.Names.{prefix-append, same_members}
 
--- where in the list the work's piece is
-pub record IsPlace (es : List OutstandingData) (id : ℕ) (w : WorkData) (place : ℕ) : Type 0 where
-  pub there : place < length es
-  pub has_id : HoldsAt (λ e. e.id ≡ id) es place
-  pub has_name : HoldsAt (λ e. e.piece.name ≡ w.piece.name) es place
+-- what comes in the place of a piece, as an unfolding, in the lists of a book, and as a number of splits
+pub record Replaces (stack : List (List Insn)) (p : PieceData) (next : ℕ) (tree : Unfolding)
+    (es : List OutstandingData) (rs : List RegionData) (ns : List (List Bool)) (splits : ℕ) : Type 0 where
+  pub outstanding : AllByRecursion (IsOutstanding stack) es
+  pub regions : AllByRecursion (IsRightRegion stack) rs
+  pub emptied : AllByRecursion (IsNoBeginning stack) ns
+  pub one : (d : Input) → IsInput d → members_of es rs d ≡ bit (is_member p d)
+  pub apart : (t : List Bool) → count_beginnings es rs ns t ≤ prefix_bit p.name t
+  pub counts : (length es ≡ 2 * splits) × (splits + length rs + length ns ≡ 1)
+  pub rising : HasRisingIds es
+  pub new : AllByRecursion (λ e. (next ≤ e.id) × (e.id < next + 2 * splits)) es
+  pub unfolds : IsUnfolding stack tree
+  pub shape : (top_of tree ≡ p) × (outstanding_in tree ≡ map (λ (e : OutstandingData). e.piece.name) es)
+      × (regions_in tree ≡ map (λ (r : RegionData). r.piece.name) rs) × (emptied_in tree ≡ ns)
+      × (forks_in tree ≡ splits)
+  pub reached : AllByRecursion (λ (e : OutstandingData). IsPieceOf stack e.piece) es
+  pub settled : AllByRecursion (IsRegionOf stack) rs
 
-pub kept_marks : (b : BookData) (next : ℕ) (g : OutstandingData → OutstandingData)
-    → ((e : OutstandingData) → (g e).id ≡ e.id)
-    → ((e : OutstandingData) → (g e).piece ≡ e.piece) → IsKeptBook b next
-    → IsKeptBook (record b { outstanding = map g b.outstanding }) next
-kept_marks b next g ids pieces h = record {
-  lawful = marks_lawful b g ids pieces h.lawful;
-  below = All-map (λ e. e.id < next) g b.outstanding (λ k d l. let o = h.below k d l in
-      rw (ids (get_or b.outstanding k d)) o);
-  few = h.few;
+-- the book once these came in the place of the piece under the id
+abbrev pub committed : BookData → ℕ → List OutstandingData → List RegionData → List (List Bool) → ℕ → BookData
+committed b id es rs ns splits = record b {
+  outstanding = without id b.outstanding ++ es;
+  regions = b.regions ++ rs;
+  emptied = b.emptied ++ ns;
+  splits = b.splits + splits;
+  commits = b.commits + 1;
 }
 
-pub kept_split : (b : BookData) (p f t : PieceData) (i next : ℕ) (e : OutstandingData) → IsKeptBook b next
-    → IsReplaced b p i e
-    → IsRightSplit p f t
-    → IsKeptBook (after_split b ((remove b.outstanding i ++ leased_piece next f ∷ [])
-    ++ leased_piece (next + 1) t ∷ []))
-    (next + 2)
-kept_split b p f t i next e h r s =
-    let few = h.few in
-    let es = remove b.outstanding i in
-    let low : All (λ x. x.id < next + 2) es =
-    rw (remove_without b.outstanding i e h.lawful.ids r.there)
-    (All-filter _ (λ x. x.id < next + 2) b.outstanding (λ k d l. let o = h.below k d l in omega arith)) in
+pub commit_kept : (b : BookData) (next id : ℕ) (w : WorkData) (u : Unfolding) (es : List OutstandingData)
+    (rs : List RegionData) (ns : List (List Bool)) (splits : ℕ) → IsKeptBook b next → MayCommit b id w
+    → b.commits < b.budget → IsTrulyNamed w.piece → Replaces b.stack w.piece next u es rs ns splits
+    → IsKeptBook (committed b id es rs ns splits) (next + 2 * splits)
+commit_kept b next id w u es rs ns splits k m room named r =
+    let h = k.lawful in
+    let few = k.few in
+    let two = r.counts.0 in
+    let single = r.counts.1 in
+    let new = All-from_recursion (λ (e : OutstandingData). (next ≤ e.id) × (e.id < next + 2 * splits)) es r.new in
+    let left = without id b.outstanding in
+    let o = all_at (IsOutstanding b.stack) b.outstanding id m.under_id h.outstanding m.there in
+    let low : All (λ e. e.id < next) left = All-filter _ (λ e. e.id < next) b.outstanding k.below in
+    let out = λ (f : OutstandingData → ℕ). sum_by-without f b.outstanding id m.under_id h.ids m.there in
+    let less : length left + 1 ≡ length b.outstanding =
+    let l = out (λ e. 1) in let x = ones left in let y = ones b.outstanding in omega arith in
+    let more_es = length-append left es in
+    let more_rs = length-append b.regions rs in
+    let more_ns = length-append b.emptied ns in
+    let pieces = h.pieces in
+    let commits = h.committed in
     record {
-      lawful = split_lawful b p f t i next (next + 1) e h.lawful r s h.below (omega arith);
-      below = All-push (λ x. x.id < next + 2) (es ++ leased_piece next f ∷ []) (leased_piece (next + 1) t)
-          (All-push (λ x. x.id < next + 2) es (leased_piece next f) low (omega arith)) (omega arith);
+      lawful = record {
+        stack = h.stack;
+        outstanding = All-append (IsOutstanding b.stack) left es
+            (All-filter _ (IsOutstanding b.stack) b.outstanding h.outstanding)
+            (All-from_recursion (IsOutstanding b.stack) es r.outstanding);
+        regions = All-append (IsRightRegion b.stack) b.regions rs h.regions
+            (All-from_recursion (IsRightRegion b.stack) rs r.regions);
+        one = λ d i.
+            let e : OutstandingData → ℕ = λ x. bit (is_member x.piece d) in
+            let g : RegionData → ℕ = λ x. bit (is_member x.piece d) in
+            let same : e m.under_id ≡ bit (is_member w.piece d) =
+            ap bit (same_members m.under_id.piece w.piece o.named named (o.of ∙ sym m.same_stack) (sym m.same_name) d i)
+            in
+            let gone = out e in
+            let a = sum_by-append e left es in
+            let c = sum_by-append g b.regions rs in
+            let before = h.one d i in
+            let now = r.one d i in
+            omega arith;
+        emptied = All-append (IsNoBeginning b.stack) b.emptied ns h.emptied
+            (All-from_recursion (IsNoBeginning b.stack) ns r.emptied);
+        apart = λ l.
+            let e : OutstandingData → ℕ = λ x. prefix_bit x.piece.name l in
+            let g : RegionData → ℕ = λ x. prefix_bit x.name l in
+            let n : List Bool → ℕ = λ x. prefix_bit x l in
+            let same : e m.under_id ≡ prefix_bit w.piece.name l = ap n (sym m.same_name) in
+            let gone = out e in
+            let a = sum_by-append e left es in
+            let c = sum_by-append g b.regions rs in
+            let f = sum_by-append n b.emptied ns in
+            let before = h.apart l in
+            let now = r.apart l in
+            omega arith;
+        pieces = omega arith;
+        committed = omega arith;
+        within = omega arith;
+        ids = HasRisingIds-append next left es (HasRisingIds-filter _ b.outstanding h.ids) low r.rising
+            (λ q d l. (new q d l).0);
+      };
+      below = All-append (λ e. e.id < next + 2 * splits) left es
+          (λ q d l. let x = low q d l in omega arith) (λ q d l. (new q d l).1);
       few = omega arith;
     }
 
-below_less : (b : BookData) (i next : ℕ) (e : OutstandingData) → IsKeptBook b next → i < length b.outstanding
-    → All (λ x. x.id < next) (remove b.outstanding i)
-below_less b i next e h l = rw (remove_without b.outstanding i e h.lawful.ids l)
-    (All-filter _ (λ x. x.id < next) b.outstanding h.below)
+-- a book stays lawful where only leases change
+pub kept_marks : (b : BookData) (next : ℕ) (g : OutstandingData → OutstandingData)
+    → ((e : OutstandingData) → (g e).id ≡ e.id) → ((e : OutstandingData) → (g e).piece ≡ e.piece)
+    → IsKeptBook b next → IsKeptBook (record b { outstanding = map g b.outstanding }) next
+kept_marks b next g ids pieces k =
+    let h = k.lawful in
+    let len : length (map g b.outstanding) ≡ length b.outstanding = length-map b.outstanding g in
+    record {
+      lawful = record {
+        stack = h.stack;
+        outstanding = All-map (IsOutstanding b.stack) g b.outstanding (λ q d l.
+            let o = h.outstanding q d l in
+            record {
+              of = rw (pieces (get_or b.outstanding q d)) o.of;
+              named = rw (pieces (get_or b.outstanding q d)) o.named;
+            });
+        regions = h.regions;
+        one = search (arith, sum_by-map_same);
+        emptied = h.emptied;
+        apart = λ l.
+            let m : OutstandingData → ℕ = λ x. prefix_bit x.piece.name l in
+            let same : sum_by m (map g b.outstanding) ≡ sum_by m b.outstanding =
+            sum_by-map_same m g (λ e. ap (λ p. prefix_bit p.name l) (pieces e)) b.outstanding in
+            let before = h.apart l in
+            omega arith;
+        pieces = let before = h.pieces in omega arith;
+        committed = h.committed;
+        within = h.within;
+        ids = HasRisingIds-map g ids b.outstanding h.ids;
+      };
+      below = All-map (λ e. e.id < next) g b.outstanding (λ q d l. let o = k.below q d l in
+          rw (ids (get_or b.outstanding q d)) o);
+      few = k.few;
+    }
 
-pub kept_answer : (b : BookData) (p : PieceData) (n : List Bool) (a : Answer) (i next : ℕ) (e : OutstandingData)
-    → IsKeptBook b next → IsReplaced b p i e → IsRightAnswer p n a
-    → IsKeptBook (after_answer b (remove b.outstanding i) (record { piece = p; name = n; answer = a })) next
-kept_answer b p n a i next e h r s = search (arith, answer_lawful, below_less)
+-- a book stays lawful with its regions in another order
+pub permuted_lawful : (b : BookData) (rs : List RegionData) → IsPermutation b.regions rs → IsLawfulBook b
+    → IsLawfulBook (record b { regions = rs })
+permuted_lawful b rs p h =
+    let len : length rs ≡ length b.regions = length_permutation b.regions rs p in
+    record {
+      stack = h.stack;
+      outstanding = h.outstanding;
+      regions = All-permutation (IsRightRegion b.stack) b.regions rs p h.regions;
+      one = search (arith, sum_by-IsPermutation);
+      emptied = h.emptied;
+      apart = λ l.
+          let g : RegionData → ℕ = λ x. prefix_bit x.name l in
+          let same : sum_by g rs ≡ sum_by g b.regions = sum_by-IsPermutation g b.regions rs p in
+          let before = h.apart l in
+          omega arith;
+      pieces = let before = h.pieces in omega arith;
+      committed = let before = h.committed in omega arith;
+      within = h.within;
+      ids = h.ids;
+    }
 
-pub kept_empty : (b : BookData) (p : PieceData) (i next : ℕ) (e : OutstandingData) → IsKeptBook b next
-    → IsReplaced b p i e → HasNoMember p
-    → IsKeptBook (after_empty b (remove b.outstanding i) p.name) next
-kept_empty b p i next e h r s = search (arith, empty_lawful, below_less)
+pub kept_fresh : (stack : List (List Insn)) (r : PieceData) (budget : ℕ) → IsLawfulStack stack → IsRoot stack r
+    → IsKeptBook (fresh stack r budget) 1
+kept_fresh stack r budget lawful h = grind (arith, common_steps)
 
--- no outstanding piece has a longer name that begins with another's
-no_child : (b : BookData) (p : PieceData) (i : ℕ) (d : OutstandingData) (n : List Bool) → IsLawfulBook b
-    → i < length b.outstanding → (get_or b.outstanding i d).piece.name ≡ p.name
-    → is_prefix p.name n ≡ true → (p.name ≡ n → ⊥) → All (λ e. e.piece.name ≡ n → ⊥) b.outstanding
-no_child b p i d n h l is begins other = λ j e lj same.
-    let apart : i ≡ j → ⊥ = search (arith, get_or_default) in
+-- no outstanding piece has a longer name that begins with the one under the id
+no_child : (b : BookData) (id : ℕ) (w : WorkData) (n : List Bool) → IsLawfulBook b → MayCommit b id w
+    → is_prefix w.piece.name n ≡ true → (w.piece.name ≡ n → ⊥) → All (λ e. e.piece.name ≡ n → ⊥) b.outstanding
+no_child b id w n h m begins other = λ j e lj same.
     let few : sum_by (λ (x : OutstandingData). prefix_bit x.piece.name n) b.outstanding ≤ 1 =
     let before = h.apart n in omega arith in
-    apart (no_second (λ (x : OutstandingData). is_prefix x.piece.name n) b.outstanding few i j
-    (get_or b.outstanding i d) (get_or b.outstanding j e) (slice_get-get_or b.outstanding i d l)
-    (slice_get-get_or b.outstanding j e lj) (ap (λ k. is_prefix k n) is ∙ begins)
-    (ap (λ k. is_prefix k n) same ∙ prefix-refl n))
+    let x = get_or b.outstanding j e in
+    let there = sym (find_at (λ (e : OutstandingData). e.id == id) b.outstanding) ∙ m.there in
+    let at = slice_get-get_or b.outstanding j e lj in
+    let i = no_second (λ (x : OutstandingData). is_prefix x.piece.name n) b.outstanding few _ j m.under_id x there at
+    (ap (λ k. is_prefix k n) (sym m.same_name) ∙ begins) (ap (λ k. is_prefix k n) same ∙ prefix-refl n) in
+    let is : m.under_id ≡ x = same_Some m.under_id x (sym there ∙ ap (λ k. slice_get b.outstanding k) i ∙ at) in
+    other (m.same_name ∙ ap (λ (x : OutstandingData). x.piece.name) is ∙ same)
 
 longer : (xs on : List Bool) (b : Bool) → xs ≡ xs ++ on ++ b ∷ [] → ⊥
 longer xs on b h = grind (arith, common_steps, length-append)
 
 -- the children's names are new
-pub new_names : (b : BookData) (p f t : PieceData) (i : ℕ) (d : OutstandingData) → IsLawfulBook b
-    → i < length b.outstanding
-    → (get_or b.outstanding i d).piece.name ≡ p.name → IsRightSplit p f t
-    → All (λ e. (e.piece.name ≡ f.name → ⊥) × (e.piece.name ≡ t.name → ⊥)) b.outstanding
-new_names b p f t i d h l is s = λ j e lj. (
-  no_child b p i d f.name h l is (rw s.false_name (rw append_assoc (prefix-append p.name (s.on ++ false ∷ []))))
-      (λ k. longer p.name s.on false (k ∙ s.false_name)) j e lj,
-  no_child b p i d t.name h l is (rw s.true_name (rw append_assoc (prefix-append p.name (s.on ++ true ∷ []))))
-      (λ k. longer p.name s.on true (k ∙ s.true_name)) j e lj,
-)
-
--- where the piece under an id is
-find_place : (es : List OutstandingData) (id : ℕ) (x : OutstandingData) → outstanding_at id es ≡ Some x → (i : ℕ)
-    × (i < length es)
-    × (get_or es i x ≡ x) × (x.id ≡ id)
-find_place [] id x h = absurd (cc)
-find_place (e ∷ es) id x h =
-    ⊎_elim
-    (λ (k : (e ≡ x) × (e.id ≡ id)). (zero, omega arith, k.0, ap (λ (y : OutstandingData). y.id) (sym k.0) ∙ k.1))
-    (λ (k : outstanding_at id es ≡ Some x). let r = find_place es id x k in
-    (suc r.0, let l = r.1 in omega arith, r.2, r.3))
-    (found_here (e.id == id) e x (outstanding_at id es) id refl h)
-  where
-    found_here : (b : Bool) (e x : OutstandingData) (o : Option OutstandingData) (id : ℕ) → (e.id == id) ≡ b
-        → cond b (Some e) o ≡ Some x → ((e ≡ x) × (e.id ≡ id)) ⊎ (o ≡ Some x)
-    found_here true e x o id is h = inl (some_inj e x h, grind (arith, nat_tests))
-    found_here false e x o id is h = inr h
-
--- the place of a piece that may be committed
-pub may_place : (b : BookData) (id : ℕ) (w : WorkData) → MayCommit b id w → (i : ℕ) × IsPlace b.outstanding id w i
-may_place b id w m = grind (arith, common_steps, find_place, get_or_default)
-
--- the id of an outstanding piece is below the next one
-pub low_id : (b : BookData) (next id : ℕ) (w : WorkData) → IsKeptBook b next → MayCommit b id w → id < next
-low_id b next id w h m =
-    let r = may_place b id w m in
-    let low : (get_or b.outstanding r.0 m.under_id).id < next = h.below r.0 m.under_id r.1.there in
-    let is = r.1.has_id m.under_id in
-    omega arith
-
--- what a commit replaces, from the place that was found
-pub replaced : (b : BookData) (id : ℕ) (w : WorkData) (i : ℕ) (d : OutstandingData) → IsPlace b.outstanding id w i
-    → w.piece.stack ≡ b.stack → b.commits < b.budget → IsTrulyNamed w.piece → IsReplaced b w.piece i d
-replaced b id w i d p s r n = record { there = p.there; of = s; named = n; same_name = p.has_name d; room = r }
-
--- the pieces that are left, by place and by id
-pub left_over : (b : BookData) (id : ℕ) (w : WorkData) (i : ℕ) (d : OutstandingData) → IsLawfulBook b
-    → IsPlace b.outstanding id w i → remove b.outstanding i ≡ without id b.outstanding
-left_over b id w i d h p = search (arith, remove_without)
-
--- ---- what a commit leaves, where it may
-
-pub split_kept : (b : BookData) (next id : ℕ) (w : WorkData) (f t : PieceData) → IsKeptBook b next → MayCommit b id w
-    → b.commits < b.budget → IsTrulyNamed w.piece → IsRightSplit w.piece f t
-    → IsKeptBook (after_split b ((without id b.outstanding ++ leased_piece next f ∷ [])
-    ++ leased_piece (next + 1) t ∷ []))
-    (next + 2)
-split_kept b next id w f t h m room named right =
-    let r = may_place b id w m in
-    rw (← left_over b id w r.0 m.under_id h.lawful r.1)
-    (kept_split b w.piece f t r.0 next m.under_id h (replaced b id w r.0 m.under_id r.1 m.same_stack room named) right)
-
-pub answer_kept : (b : BookData) (next id : ℕ) (w : WorkData) (a : Answer) → IsKeptBook b next → MayCommit b id w
-    → b.commits < b.budget → IsTrulyNamed w.piece → IsRightAnswer w.piece w.name a
-    → IsKeptBook (after_answer b (without id b.outstanding)
-    (record { piece = w.piece; name = w.name; answer = a })) next
-answer_kept b next id w a h m room named right =
-    let r = may_place b id w m in
-    rw (← left_over b id w r.0 m.under_id h.lawful r.1)
-    (kept_answer b w.piece w.name a r.0 next m.under_id h
-    (replaced b id w r.0 m.under_id r.1 m.same_stack room named) right)
-
-pub empty_kept : (b : BookData) (next id : ℕ) (w : WorkData) → IsKeptBook b next → MayCommit b id w
-    → b.commits < b.budget
-    → IsTrulyNamed w.piece → HasNoMember w.piece
-    → IsKeptBook (after_empty b (without id b.outstanding) w.piece.name) next
-empty_kept b next id w h m room named right =
-    let r = may_place b id w m in
-    rw (← left_over b id w r.0 m.under_id h.lawful r.1)
-    (kept_empty b w.piece r.0 next m.under_id h (replaced b id w r.0 m.under_id r.1 m.same_stack room named) right)
-
 pub child_names : (b : BookData) (id : ℕ) (w : WorkData) (f t : PieceData) → IsLawfulBook b → MayCommit b id w
     → IsRightSplit w.piece f t → All (λ e. (e.piece.name ≡ f.name → ⊥) × (e.piece.name ≡ t.name → ⊥)) b.outstanding
-child_names b id w f t h m right =
-    let r = may_place b id w m in
-    new_names b w.piece f t r.0 m.under_id h r.1.there (r.1.has_name m.under_id) right
+child_names b id w f t h m s = λ j e lj. (
+  no_child b id w f.name h m (rw (s.false_name, append_assoc) (prefix-append w.piece.name (s.on ++ false ∷ [])))
+      (λ k. longer w.piece.name s.on false (k ∙ s.false_name)) j e lj,
+  no_child b id w t.name h m (rw (s.true_name, append_assoc) (prefix-append w.piece.name (s.on ++ true ∷ [])))
+      (λ k. longer w.piece.name s.on true (k ∙ s.true_name)) j e lj,
+)
 
 -- the children's names differ
 pub children_differ : (p f t : PieceData) → IsRightSplit p f t → f.name ≡ t.name → ⊥
@@ -185,10 +194,6 @@ children_differ p f t s e =
     let clash : false ≡ true = sym (get_or_push stem false false (length stem) refl)
     ∙ ap (λ (n : List Bool). get_or n (length stem) false) same
     ∙ get_or_push stem true false (length stem) refl in absurd cc
-
-pub kept_fresh : (stack : List (List Insn)) (r : PieceData) (budget : ℕ) → IsLawfulStack stack → IsRoot stack r
-    → IsKeptBook (fresh stack r budget) 1
-kept_fresh stack r budget lawful h = grind (arith, common_steps, fresh_lawful)
 
 -- refused memory is a right reason to refuse what may be committed
 pub memory_refuses : {A : Type 0} (r : Result A Fault) (b c : BookData) (id : ℕ) (w : WorkData) → MayCommit b id w

@@ -1,13 +1,5 @@
 -- Names as beginnings of lists of truth values.
-use Rattle.std.proofs.lemmas.Grind.{common_steps}
-use Rattle.std.proofs.Common.{◌≡◌, ◌+◌, ◌≤◌, Bool, true, false, not, List, [], ◌∷◌, ◌++◌, refl, sym, arith, append_assoc}
-use Rattle.sf_insn.specs.declared.input.Input.{Input}
-use Rattle.sf_insn.specs.Inputs.{IsInput}
-use Rattle.sf_run.specs.declared.action.Answer.{Answer}
-use Rattle.sf_run.specs.Machine.{trace_of}
-use Rattle.sf_book.specs.laws.PartitionLaws.{prefix-refl}
-use Rattle.sf_book.specs.PrefixCounts.{bit, prefix_bit}
-use Rattle.sf_piece.specs.Pieces.{PieceData, is_member, is_prefix, IsTrulyNamed, IsRightSplit, IsRightAnswer}
+use Rattle.sf_book.proofs.Common.{common_steps, ◌≡◌, ◌+◌, ◌≤◌, Bool, true, false, not, List, [], ◌∷◌, ◌++◌, refl, sym, arith, append_assoc, Input, IsInput, Answer, trace_of, prefix-refl, bit, prefix_bit, PieceData, is_member, is_prefix, IsTrulyNamed, IsRightSplit, IsRightAnswer}
 
 pub bit-le : (b : Bool) → bit b ≤ 1
 bit-le true = omega arith

@@ -1,23 +1,9 @@
 -- What the type of books keeps, through its calls.
-use Rattle.std.proofs.Common.{arith, refl, sym, ap, ◌∙◌, ◌≡◌, ℕ, ◌+◌, ◌<◌, List, ◌∷◌, ◌++◌, [], map, Some}
+use Rattle.sf_book.proofs.Common.{common_steps, arith, add-zero, refl, sym, ap, subst, ◌∙◌, ◌≡◌, ℕ, ◌+◌, ◌*◌, ◌<◌, Bool, true, List, ◌∷◌, ◌++◌, [], map, Some, append-nil, Insn, IsLawfulStack, IsPlain, Answer, PieceData, WorkData, StepData, Split, Settled, Empty, IsRightStep, IsRightWork, IsRoot, is_member, IsPlainPiece, IsPlainWork, OutstandingData, RegionData, BookData, fresh, without, MayCommit, CommitsAs, IsBook, IsPlainWhereStackIs, bit, plain_fresh, plain_marks, split_plain, answer_plain, empty_plain, HasStep, IsInTree, IsFirst, IsExecutionOne, Unfolding, IsPieceOf, Outstanding, Region, Emptied, Fork}
 use Rattle.std.proofs.lemmas.List.{append_assoc}
-use Rattle.sf_check.specs.declared.insn.Insn.{Insn}
-use Rattle.sf_check.specs.Stacks.{IsLawfulStack}
-use Rattle.sf_check.specs.Stacks.{IsPlain}
-use Rattle.sf_run.specs.declared.action.Answer.{Answer}
-use Rattle.sf_piece.specs.Pieces.{PieceData, WorkData, StepData, Split, Settled, Empty, IsRightStep, IsRightWork, IsRoot}
-use Rattle.sf_piece.specs.PlainPieces.{IsPlainPiece, IsPlainWork}
-use Rattle.std.proofs.Common.{subst}
-use Rattle.sf_book.specs.Books.{OutstandingData, BookData, fresh}
-use Rattle.sf_book.specs.Changes.{without, MayCommit, CommitsAs}
-use Rattle.sf_book.specs.PlainBooks.{IsBook}
-use Rattle.sf_book.specs.laws.PlainLaws.{plain_fresh, plain_marks, split_plain, answer_plain, empty_plain}
-use Rattle.sf_book.proofs.book.Lawful.{leased_piece, after_split, after_answer, after_empty}
-use Rattle.sf_piece.specs.Execution.{HasStep, IsInTree, IsFirst}
-use Rattle.sf_piece.specs.OneExecution.{IsExecutionOne}
-use Rattle.sf_book.specs.Unfoldings.{IsPieceOf}
-use Rattle.sf_book.proofs.book.Growing.{fringe-fresh, fringe-marks, fringe-split, fringe-answer, fringe-empty}
-use Rattle.sf_book.proofs.book.Kept.{kept_fresh, kept_marks, split_kept, answer_kept, empty_kept}
+use Rattle.sf_book.proofs.book.Growing.{fringe-fresh, fringe-marks, commit_fringe}
+use Rattle.sf_book.proofs.book.Kept.{Replaces, committed, commit_kept, kept_fresh, kept_marks}
+use Rattle.sf_book.proofs.book.Names.{split_members, split_names, answer_members, answer_begins, prefix_bit-le}
 
 pub fresh_book : (stack : List (List Insn)) (r : PieceData) (budget : ℕ) → IsLawfulStack stack → IsRoot stack r
     → IsFirst stack r → (IsPlain r.stack → IsPlainPiece r) → IsBook (fresh stack r budget) 1
@@ -54,55 +40,125 @@ pub record IsLawfulWork (w : WorkData) (step : StepData) : Type 0 where
   pub plain : IsPlain w.piece.stack → IsPlainWork w
   pub is : w.step ≡ step
 
-right_step : (w : WorkData) (step : StepData) → IsLawfulWork w step → IsRightStep w.piece step w.name
-right_step w step h = subst (λ (s : StepData). IsRightStep w.piece s w.name) h.is h.right.1
+abbrev pub leased_piece : ℕ → PieceData → OutstandingData
+leased_piece k p = record { id = k; piece = p; leased = true }
 
-rule_step : (w : WorkData) (step : StepData) → IsLawfulWork w step → HasStep w.piece step w.name
-rule_step w step h = subst (λ (s : StepData). HasStep w.piece s w.name) h.is h.rule
+abbrev pub after_split : BookData → List OutstandingData → BookData
+after_split b es = record b { outstanding = es; splits = b.splits + 1; commits = b.commits + 1 }
 
-piece_of : (b : BookData) (id : ℕ) (w : WorkData) (step : StepData) → MayCommit b id w → IsLawfulWork w step
-    → IsPieceOf b.stack w.piece
-piece_of b id w step m h = record { reached = h.reached; of = m.same_stack }
+module _ (b : BookData) (next id : ℕ) (w : WorkData) (h : IsBook b next) (m : MayCommit b id w)
+    (room : b.commits < b.budget) where
+  right_step : (step : StepData) → IsLawfulWork w step → IsRightStep w.piece step w.name
+  right_step step k = subst (λ (s : StepData). IsRightStep w.piece s w.name) k.is k.right.1
 
-pub split_book : (b : BookData) (next id : ℕ) (w : WorkData) (f t : PieceData) → IsBook b next → MayCommit b id w
-    → b.commits < b.budget → IsLawfulWork w (Split f t)
-    → IsBook (after_split b ((without id b.outstanding ++ leased_piece next f ∷ []) ++ leased_piece (next + 1) t ∷ []))
-    (next + 2)
-split_book b next id w f t h m room work = record {
-  kept = split_kept b next id w f t h.kept m room work.right.0 (right_step w (Split f t) work).0;
-  plain = split_plain b id next (next + 1) w f t h.plain m work.plain work.is;
-  fringe = fringe-split work.one b id w h.kept.lawful m h.fringe
-      (piece_of b id w (Split f t) m work) f t next (next + 1)
-      (rw (right_step w (Split f t) work).1 at (rule_step w (Split f t) work)) (right_step w (Split f t) work).0;
-}
+  rule_step : (step : StepData) → IsLawfulWork w step → HasStep w.piece step w.name
+  rule_step step k = subst (λ (s : StepData). HasStep w.piece s w.name) k.is k.rule
+
+  replaced : (c : BookData) (n : ℕ) (step : StepData) (u : Unfolding) (es : List OutstandingData)
+      (rs : List RegionData) (ns : List (List Bool)) (splits : ℕ) → IsLawfulWork w step
+      → c ≡ committed b id es rs ns splits → n ≡ next + 2 * splits → IsPlainWhereStackIs c
+      → Replaces b.stack w.piece next u es rs ns splits → IsBook c n
+  replaced c n step u es rs ns splits k is up plain r = record {
+    kept = rw (is, up) (commit_kept b next id w u es rs ns splits h.kept m room k.right.0 r);
+    plain = plain;
+    fringe = rw is (commit_fringe k.one b next id w u es rs ns splits h.kept.lawful m h.fringe r);
+  }
+
+  pub split_book : (f t : PieceData) → IsLawfulWork w (Split f t)
+      → IsBook (after_split b
+      ((without id b.outstanding ++ leased_piece next f ∷ []) ++ leased_piece (next + 1) t ∷ [])) (next + 2)
+  split_book f t k =
+      let s = (right_step (Split f t) k).0 in
+      let step : HasStep w.piece (Split f t) w.piece.name =
+      rw (right_step (Split f t) k).1 at (rule_step (Split f t) k) in
+      let sides = k.one.sides w.piece f t k.reached step in
+      let left : IsPieceOf b.stack f = record { reached = sides.0; of = s.false_stack ∙ m.same_stack } in
+      let right : IsPieceOf b.stack t = record { reached = sides.1; of = s.true_stack ∙ m.same_stack } in
+      replaced _ _ (Split f t) (Fork w.piece (Outstanding f) (Outstanding t))
+      (leased_piece next f ∷ leased_piece (next + 1) t ∷ []) [] [] 1 k (simp (append-nil, append_assoc)) (omega arith)
+      (split_plain b id next (next + 1) w f t h.plain m k.plain k.is) (record {
+        outstanding = (
+          record { of = left.of; named = s.false_named },
+          (record { of = right.of; named = s.true_named }, tt),
+        );
+        regions = tt;
+        emptied = tt;
+        one = λ d i. let both = split_members w.piece f t k.right.0 s d i in omega arith;
+        apart = λ l. let both = split_names w.piece f t s l in omega arith;
+        counts = (refl, refl);
+        rising = ((omega arith, tt), (tt, tt));
+        new = ((omega arith, omega arith), ((omega arith, omega arith), tt));
+        unfolds = (record { reached = k.reached; of = m.same_stack }, step, left, right);
+        shape = (refl, refl, refl, refl, refl);
+        reached = (left, (right, tt));
+        settled = tt;
+      })
+
+  pub answer_book : (a : Answer) → IsLawfulWork w (Settled a)
+      → IsBook (record b {
+        outstanding = without id b.outstanding;
+        regions = b.regions ++ record { piece = w.piece; name = w.name; answer = a } ∷ [];
+        commits = b.commits + 1;
+      }) next
+  answer_book a k =
+      let s = right_step (Settled a) k in
+      let of : IsPieceOf b.stack w.piece = record { reached = k.reached; of = m.same_stack } in
+      let region : RegionData = record { piece = w.piece; name = w.name; answer = a } in
+      replaced _ _ (Settled a) (Region w.piece w.name a) [] (region ∷ []) [] 0 k (simp (append-nil, add-zero))
+      (omega arith) (answer_plain b id w a h.plain m k.plain k.is) (record {
+        outstanding = tt;
+        regions = (
+          rw (← m.same_stack) (record {
+            of = refl;
+            route = s.route;
+            members = answer_members w.piece w.name a k.right.0 s;
+            answers = s.answers;
+          }),
+          tt,
+        );
+        emptied = tt;
+        one = λ d i. omega arith;
+        apart = λ l.
+            let less = prefix_bit-le w.piece.name w.name l (answer_begins w.piece w.name a s) in omega arith;
+        counts = (refl, refl);
+        rising = tt;
+        new = tt;
+        unfolds = (of, rule_step (Settled a) k);
+        shape = (refl, refl, refl, refl, refl);
+        reached = tt;
+        settled = ((of, rule_step (Settled a) k), tt);
+      })
+
+  pub empty_book : IsLawfulWork w Empty
+      → IsBook (record b {
+        outstanding = without id b.outstanding;
+        emptied = b.emptied ++ w.piece.name ∷ [];
+        commits = b.commits + 1;
+      }) next
+  empty_book k =
+      let s = (right_step Empty k).0 in
+      replaced _ _ Empty (Emptied w.piece) [] [] (w.piece.name ∷ []) 0 k (simp (append-nil, add-zero)) (omega arith)
+      (empty_plain b id w m k.plain k.is) (record {
+        outstanding = tt;
+        regions = tt;
+        emptied = (rw (← m.same_stack) (record { none = λ d i. sym (k.right.0.members d i) ∙ s.none d i }), tt);
+        one = λ d i. let none : bit (is_member w.piece d) ≡ 0 = ap bit (s.none d i) in omega arith;
+        apart = λ l. omega arith;
+        counts = (refl, refl);
+        rising = tt;
+        new = tt;
+        unfolds = (
+          record { reached = k.reached; of = m.same_stack },
+          rw (right_step Empty k).1 at (rule_step Empty k),
+        );
+        shape = (refl, refl, refl, refl, refl);
+        reached = tt;
+        settled = tt;
+      })
 
 -- the book in which both children stand in the place of their piece is the one that the commit of a split leaves
 pub split_commits : (b : BookData) (next id : ℕ) (w : WorkData) (f t : PieceData) (es : List OutstandingData)
     → IsBook b next → w.step ≡ Split f t
     → es ≡ (without id b.outstanding ++ leased_piece next f ∷ []) ++ leased_piece (next + 1) t ∷ []
     → CommitsAs b id w.piece w.name w.step (Some (next, next + 1)) (after_split b es)
-split_commits b next id w f t es h is put = rw is (
-  (h.kept.below, omega arith),
-  ap (after_split b) (put ∙ append_assoc (without id b.outstanding) (leased_piece next f ∷ [])
-      (leased_piece (next + 1) t ∷ [])),
-)
-
-pub answer_book : (b : BookData) (next id : ℕ) (w : WorkData) (a : Answer) → IsBook b next → MayCommit b id w
-    → b.commits < b.budget → IsLawfulWork w (Settled a)
-    → IsBook (after_answer b (without id b.outstanding) (record { piece = w.piece; name = w.name; answer = a })) next
-answer_book b next id w a h m room work = record {
-  kept = answer_kept b next id w a h.kept m room work.right.0 (right_step w (Settled a) work);
-  plain = answer_plain b id w a h.plain m work.plain work.is;
-  fringe = fringe-answer work.one b id w h.kept.lawful m h.fringe (piece_of b id w (Settled a) m work) a
-      (rule_step w (Settled a) work);
-}
-
-pub empty_book : (b : BookData) (next id : ℕ) (w : WorkData) → IsBook b next → MayCommit b id w → b.commits < b.budget
-    → IsLawfulWork w Empty
-    → IsBook (after_empty b (without id b.outstanding) w.piece.name) next
-empty_book b next id w h m room work = record {
-  kept = empty_kept b next id w h.kept m room work.right.0 (right_step w Empty work).0;
-  plain = empty_plain b id w m work.plain work.is;
-  fringe = fringe-empty work.one b id w h.kept.lawful m h.fringe (piece_of b id w Empty m work)
-      (rw (right_step w Empty work).1 at (rule_step w Empty work));
-}
+split_commits b next id w f t es h is put = grind (arith, common_steps, append_assoc, leased_piece, after_split)

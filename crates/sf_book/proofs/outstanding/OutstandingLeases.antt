@@ -1,19 +1,5 @@
 -- The first free name among those of the outstanding pieces.
-use Rattle.std.proofs.lemmas.Grind.{common_steps}
-use Rattle.std.proofs.Common.{arith, ◌≡◌, ℕ, Bool, true, false, not, cond, [], ◌∷◌, get_or, Option, None, Some, refl, sym, ◌∙◌, ap, subst, ◌⊎◌, inl, inr, ⊎_elim}
-use Rattle.std.specs.List.{All, find}
-use Rattle.std.specs.List.Sorted.{IsStrictlySortedBy}
-use Rattle.std.specs.Option.{option_map, option_map_or}
-use Rattle.std.specs.BTreeMap.{is_at}
-use Rattle.std.specs.Map.{keys_of, values_of}
-use Rattle.std.proofs.lemmas.Map.{lookup-none}
-use Rattle.std.proofs.lemmas.Map.Entries.{none_below_head, none_past_head}
-use Rattle.std.proofs.lemmas.Map.Keys.{IsDistinct-from_sorted, sorted_tail}
-use Rattle.std.proofs.lemmas.List.Elements.{All-map}
-use Rattle.sf_piece.specs.Pieces.{PieceData}
-use Rattle.sf_book.specs.Changes.{IsBefore, IsFirstFree}
-use Rattle.sf_book.specs.OutstandingMaps.{name_cmp, name_total, piece_at, lease_state_of, outstanding_of, outstanding_list, AreMatchingMaps, LeasesFirst}
-use Rattle.sf_book.specs.declared.outstanding.LeaseState.{LeaseState}
+use Rattle.sf_book.proofs.Common.{common_steps, arith, ◌≡◌, ℕ, Bool, true, false, not, cond, [], ◌∷◌, get_or, Option, None, Some, refl, sym, ◌∙◌, ap, subst, ◌⊎◌, inl, inr, ⊎_elim, All, find, IsStrictlySortedBy, option_map, option_map_or, is_at, keys_of, values_of, lookup-none, none_below_head, none_past_head, IsDistinct-from_sorted, sorted_tail, All-map, PieceData, IsBefore, IsFirstFree, name_cmp, name_total, piece_at, lease_state_of, outstanding_of, outstanding_list, AreMatchingMaps, LeasesFirst, LeaseState}
 use Rattle.sf_book.proofs.MapLemmas.{Ids, Names, entry_at_is, mark_by_name, marked, marked_view, name_laws, some_inj}
 
 pub record IsFirst (names : Names) (m : LeaseState) : Type 0 where

@@ -1,28 +1,8 @@
 -- One outstanding piece more, and one less.
-use Rattle.std.proofs.lemmas.Grind.{common_steps}
-use Rattle.std.proofs.Common.{◌≡◌, ◌≢◌, ℕ, ◌<◌, ◌==◌, Bool, true, false, not, cond, List, [], ◌∷◌, ◌++◌, map, get_or, Option, None, Some, refl, sym, ◌∙◌, ap, subst, arith, append-nil, ◌⊎◌, inl, inr, ⊎_elim}
-use Rattle.std.specs.List.{All, AllByRecursion, slice_get}
-use Rattle.std.specs.List.Sorted.{IsStrictlySortedBy}
-use Rattle.std.specs.Option.{option_map}
-use Rattle.std.specs.Ordering.{is_eq, nat_cmp, match_ordering}
-use Rattle.std.specs.declared.cmp.Ordering.{Ordering}
-use Rattle.std.specs.declared.cmp.Ordering.TheVariants.{Less, Equal, Greater}
-use Rattle.std.specs.BTreeMap.{is_at, insert_entry}
-use Rattle.std.specs.Map.{keys_of, remove_entry}
-use Rattle.std.proofs.lemmas.Bool.{cases_eq}
-use Rattle.std.proofs.lemmas.Bool.Decides.{nat_tests}
-use Rattle.std.proofs.lemmas.Map.Keys.{sorted_head, sorted_tail}
-use Rattle.std.proofs.lemmas.Simd.{map-map}
-use Rattle.std.proofs.lemmas.List.{map-append}
-use Rattle.std.proofs.lemmas.List.Elements.{All-head, All-tail, All-nil, All-cons}
-use Rattle.sf_piece.specs.Pieces.{PieceData}
-use Rattle.sf_book.specs.Books.{OutstandingData}
-use Rattle.sf_book.specs.Changes.{outstanding_at, with_lease_at, without}
-use Rattle.sf_book.specs.laws.ChangesLaws.{all_at}
-use Rattle.sf_book.specs.OutstandingMaps.{name_cmp, piece_at, lease_state_of, outstanding_of, outstanding_list, AreMatchingMaps}
-use Rattle.sf_book.specs.declared.outstanding.LeaseState.{LeaseState}
+use Rattle.sf_book.proofs.Common.{common_steps, ◌≡◌, ◌≢◌, ℕ, ◌<◌, ◌==◌, Bool, true, false, not, cond, List, [], ◌∷◌, ◌++◌, map, get_or, Option, None, Some, refl, sym, ◌∙◌, ap, subst, arith, ◌⊎◌, ⊎_elim, All, AllByRecursion, slice_get, IsStrictlySortedBy, option_map, is_eq, nat_cmp, match_ordering, Ordering, Less, Equal, Greater, is_at, insert_entry, keys_of, remove_entry, cases_eq, nat_tests, sorted_head, sorted_tail, map-map, map-append, All-head, All-tail, All-nil, All-cons, PieceData, OutstandingData, outstanding_at, with_lease_at, without, all_at, name_cmp, piece_at, lease_state_of, outstanding_of, outstanding_list, AreMatchingMaps, LeaseState}
+use Rattle.std.proofs.Common.{append-nil}
 use Rattle.sf_book.proofs.Lists.{without-above}
-use Rattle.sf_book.proofs.MapLemmas.{Ids, Names, entry_at_is, id_no, id_yes, mark_by_name, name_yes, num_no, num_same, num_yes, own, same_name, same_view, some_inj, test_of}
+use Rattle.sf_book.proofs.MapLemmas.{Ids, Names, changed_maps, entry_at_is, id_no, id_same, id_yes, mark_by_name, name_yes, num_no, num_yes, own, same_bool, same_name, same_view, some_inj, tests_as}
 use Rattle.sf_book.proofs.outstanding.OutstandingLeases.{none_some, true_false}
 
 nat_at : (i j : ℕ) → j < i → nat_cmp i j ≡ Greater
@@ -84,11 +64,6 @@ pub record IsAdded (ids : Ids) (names : Names) (i : ℕ) (p : PieceData) (on : B
   pub rising : IsStrictlySortedBy nat_cmp (keys_of ids')
   pub sorted : IsStrictlySortedBy name_cmp (keys_of names')
 
-cond_some : {A : Type 0} (b : Bool) (a x : A) (o : Option A) → cond b (Some a) o ≡ Some x → ((b ≡ true) × (a ≡ x))
-    ⊎ ((b ≡ false) × (o ≡ Some x))
-cond_some true a x o h = inl (refl, some_inj a x h)
-cond_some false a x o h = inr (refl, h)
-
 cond_none : {A : Type 0} (b : Bool) (x : A) (o : Option A) → cond b None o ≡ Some x → (b ≡ false) × (o ≡ Some x)
 cond_none true x o h = absurd (cc)
 cond_none false x o h = (refl, h)
@@ -101,51 +76,18 @@ pick_yes : {A : Type 0} (b : Bool) (a : Option A) (o : Option A) → b ≡ true 
 pick_yes true a o h = refl
 pick_yes false a o h = absurd (cc)
 
-id_same : (i j : ℕ) → is_at (nat_cmp i) j ≡ true → i ≡ j
-id_same i j h = grind (arith, nat_tests)
+added_tests : (ids : Ids) (names : Names) (i : ℕ) (p : PieceData) (on : Bool) (ids' : Ids) (names' : Names)
+    → AreMatchingMaps ids names → IsAdded ids names i p on ids' names' → (j : ℕ) (q : PieceData)
+    → piece_at ids j ≡ Some q → is_at (name_cmp p) q ≡ is_at (nat_cmp i) j
+added_tests ids names i p on ids' names' h a j q at =
+    grind (arith, common_steps, id_same, mark_by_name, same_bool, same_name, none_some)
 
 pub added_maps : (ids : Ids) (names : Names) (i : ℕ) (p : PieceData) (on : Bool) (ids' : Ids) (names' : Names)
     → AreMatchingMaps ids names → IsAdded ids names i p on ids' names' → AreMatchingMaps ids' names'
-added_maps ids names i p on ids' names' h a = record {
-  rising = a.rising;
-  sorted = a.sorted;
-  named = λ j q at.
-      ⊎_elim
-      (λ (k : (is_at (nat_cmp i) j ≡ true) × (p ≡ q)). (
-        record { id = i; leased = on },
-        a.at_name q ∙ pick_yes (is_at (name_cmp p) q)
-            (Some (record { id = i; leased = on })) (lease_state_of names q) (name_yes p q (ap (λ x. x.name) k.1)),
-        id_same i j k.0,
-      ))
-      (λ (k : (is_at (nat_cmp i) j ≡ false) × (piece_at ids j ≡ Some q)).
-      let n = h.named j q k.1 in (
-        n.0,
-        a.at_name q ∙ (pick_no (is_at (name_cmp p) q) (Some (record { id = i; leased = on })) (lease_state_of names q)
-            (λ t. none_some n.0 (lease_state_of names q) (sym (mark_by_name names p q (same_name p q t))
-            ∙ a.no_name) n.1)
-            ∙ n.1),
-        n.2,
-      ))
-      (cond_some (is_at (nat_cmp i) j) p q (piece_at ids j) (sym (a.at_id j) ∙ at));
-  known = λ q n at.
-      ⊎_elim
-      (λ (k : (is_at (name_cmp p) q ≡ true) × (record { id = i; leased = on } ≡ n)).
-      let same : i ≡ n.id = ap (λ (x : LeaseState). x.id) k.1 in (
-        p,
-        a.at_id n.id ∙ pick_yes (is_at (nat_cmp i) n.id) (Some p) (piece_at ids n.id) (id_yes i n.id same),
-        same_name p q k.0,
-      ))
-      (λ (k : (is_at (name_cmp p) q ≡ false) × (lease_state_of names q ≡ Some n)).
-      let r = h.known q n k.1 in (
-        r.0,
-        a.at_id n.id ∙ (pick_no (is_at (nat_cmp i) n.id) (Some p) (piece_at ids n.id)
-            (λ t. none_some r.0 (piece_at ids n.id) (ap (λ x. piece_at ids x) (sym (id_same i n.id t)) ∙ a.no_id) r.1)
-            ∙ r.1),
-        r.2,
-      ))
-      (cond_some (is_at (name_cmp p) q) (record { id = i; leased = on }) n (lease_state_of names q)
-      (sym (a.at_name q) ∙ at));
-}
+added_maps ids names i p on ids' names' h a =
+    changed_maps ids names i p (Some (record { id = i; leased = on })) ids' names' h
+    (added_tests ids names i p on ids' names' h a) (λ w e. sym (ap (λ (x : LeaseState). x.id) (some_inj _ w e)))
+    a.at_id a.at_name a.rising a.sorted
 
 pub added_view : (ids : Ids) (names : Names) (i : ℕ) (p : PieceData) (on : Bool) (ids' : Ids) (names' : Names)
     → AreMatchingMaps ids names → IsAdded ids names i p on ids' names' → ids' ≡ ids ++ (i, p) ∷ []
@@ -174,28 +116,7 @@ pub record IsTaken (ids : Ids) (names : Names) (i : ℕ) (p : PieceData) (ids' :
 pub taken_maps : (ids : Ids) (names : Names) (i : ℕ) (p : PieceData) (ids' : Ids) (names' : Names)
     → AreMatchingMaps ids names
     → IsTaken ids names i p ids' names' → AreMatchingMaps ids' names'
-taken_maps ids names i p ids' names' h a = record {
-  rising = a.rising;
-  sorted = a.sorted;
-  named = λ j q at.
-      let k = cond_none (is_at (nat_cmp i) j) q (piece_at ids j) (sym (a.at_id j) ∙ at) in
-      let n = h.named j q k.1 in (
-        n.0,
-        a.at_name q ∙ (pick_no (is_at (name_cmp p) q) None (lease_state_of names q)
-            (λ t. true_false (is_at (nat_cmp i) j) (id_yes i j
-            (sym (num_same j i (sym (test_of ids names i j p q h a.there k.1) ∙ t)))) k.0) ∙ n.1),
-        n.2,
-      );
-  known = λ q n at.
-      let k = cond_none (is_at (name_cmp p) q) n (lease_state_of names q) (sym (a.at_name q) ∙ at) in
-      let r = h.known q n k.1 in (
-        r.0,
-        a.at_id n.id ∙ (pick_no (is_at (nat_cmp i) n.id) None (piece_at ids n.id) (λ t.
-            let same : p ≡ r.0 = some_inj p r.0 (sym a.there ∙ (ap (λ x. piece_at ids x) (id_same i n.id t) ∙ r.1)) in
-            true_false (is_at (name_cmp p) q) (name_yes p q (ap (λ x. x.name) same ∙ r.2)) k.0) ∙ r.1),
-        r.2,
-      );
-}
+taken_maps ids names i p ids' names' h a = grind (arith, common_steps, changed_maps, tests_as, none_some)
 
 rising_above : (i : ℕ) (ids : Ids) (names : Names) → AllByRecursion (λ k. nat_cmp i k ≡ Less) (keys_of ids)
     → AllByRecursion (λ f. i < f.id) (outstanding_list ids names)
@@ -228,8 +149,7 @@ taken_view ids names i p ids' names' h a is =
     let q = (get_or ids' k d).1 in
     let m = cond_none (is_at (nat_cmp i) j) q (piece_at ids j) (sym (a.at_id j) ∙ own ids' a.rising k d l) in
     a.at_name q ∙ pick_no (is_at (name_cmp p) q) None (lease_state_of names q)
-    (λ t. true_false (is_at (nat_cmp i) j) (id_yes i j
-    (sym (num_same j i (sym (test_of ids names i j p q h a.there m.1) ∙ t)))) m.0))
+    (λ t. true_false (is_at (nat_cmp i) j) (sym (tests_as ids names i p h a.there j q m.1) ∙ t) m.0))
     ∙ (ap (λ l. outstanding_list l names) is ∙ removed_view ids names i h.rising)
 
 -- an id that no piece has

@@ -1,5 +1,4 @@
-use Rattle.sf_book.specs.laws.ExactLaws.{one_for_each_trace}
-use Rattle.sf_book.specs.laws.PlainLaws.{plain_has_members}
+use Rattle.sf_book.proofs.Common.{one_for_each_trace, plain_has_members}
 use Rattle.sf_book.proofs.laws.at_most_one_for_each_trace.Goals as goal
 
 pub returns : goal.returns

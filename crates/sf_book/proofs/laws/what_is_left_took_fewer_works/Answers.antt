@@ -1,5 +1,4 @@
-use Rattle.sf_book.specs.laws.ExactLaws.{left_unworked}
-use Rattle.sf_book.specs.laws.PlainLaws.{plain_has_members}
+use Rattle.sf_book.proofs.Common.{left_unworked, plain_has_members}
 use Rattle.sf_book.proofs.laws.what_is_left_took_fewer_works.Goals as goal
 
 pub returns : goal.returns

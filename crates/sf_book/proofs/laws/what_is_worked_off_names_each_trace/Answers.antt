@@ -1,5 +1,4 @@
-use Rattle.sf_book.specs.laws.ExactLaws.{worked_off}
-use Rattle.sf_book.specs.laws.PlainLaws.{plain_has_members}
+use Rattle.sf_book.proofs.Common.{worked_off, plain_has_members}
 use Rattle.sf_book.proofs.laws.what_is_worked_off_names_each_trace.Goals as goal
 
 pub returns : goal.returns

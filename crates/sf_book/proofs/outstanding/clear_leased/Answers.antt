@@ -1,6 +1,4 @@
-use Rattle.std.proofs.Common.{rules, false}
-use Rattle.std.proofs.lemmas.Map.Made.{map_same_pairs}
-use Rattle.sf_book.specs.declared.outstanding.LeaseState.{LeaseState}
+use Rattle.sf_book.proofs.Common.{rules, false, map_same_pairs, LeaseState}
 use Rattle.sf_book.proofs.outstanding.clear_leased.Goals as goal
 
 pub returns : goal.returns

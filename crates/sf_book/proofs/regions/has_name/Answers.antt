@@ -1,7 +1,4 @@
-use Rattle.std.proofs.Common.{◌≡◌, refl, sym, ◌∙◌}
-use Rattle.std.specs.BTreeMap.{is_at}
-use Rattle.std.specs.Arc.{arc_value}
-use Rattle.sf_book.specs.OutstandingMaps.{name_cmp}
+use Rattle.sf_book.proofs.Common.{◌≡◌, refl, sym, ◌∙◌, is_at, arc_value, name_cmp}
 use Rattle.sf_book.proofs.MapLemmas.{same_name, name_yes}
 use Rattle.sf_book.proofs.regions.has_name.Goals as goal
 

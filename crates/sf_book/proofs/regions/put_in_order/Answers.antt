@@ -1,9 +1,4 @@
-use Rattle.std.proofs.Common.{rules, ◌≡◌, is_lt}
-use Rattle.std.specs.Ordering.{bool_cmp}
-use Rattle.std.specs.Cmp.Lexicographic.{slice_cmp}
-use Rattle.std.proofs.lemmas.List.Sorted.{ranks_by, answers_always}
-use Rattle.sf_book.specs.Books.{RegionData}
-use Rattle.sf_run.specs.laws.FeasibleLaws.{names_total}
+use Rattle.sf_book.proofs.Common.{rules, ◌≡◌, is_lt, bool_cmp, slice_cmp, ranks_by, answers_always, RegionData, names_total}
 use Rattle.sf_book.proofs.regions.put_in_order.Goals as goal
 
 pub returns-clause-sorted : goal.returns-clause-sorted

@@ -1,5 +1,4 @@
-use Rattle.std.proofs.Common.{◌≡◌, ◌≤◌, arith, refl, sym, ap, ◌∙◌}
-use Rattle.sf_book.specs.Books.{BookData}
+use Rattle.sf_book.proofs.Common.{◌≡◌, ◌≤◌, arith, refl, sym, ap, ◌∙◌, BookData}
 use Rattle.sf_book.proofs.book.Book.admit.Goals as goal
 
 pub returns-then-self-clause-err : goal.returns-then-self-clause-err

@@ -1,4 +1,4 @@
-use Rattle.std.proofs.lemmas.Result.{IfOk-weaker}
+use Rattle.sf_book.proofs.Common.{IfOk-weaker}
 use Rattle.sf_book.proofs.book.Kept.{memory_refuses}
 use Rattle.sf_book.proofs.book.Book.commit_of_stack.Goals as goal
 

@@ -1,6 +1,6 @@
-use Rattle.sf_book.specs.laws.PlainLaws.{plain_permuted}
+use Rattle.sf_book.proofs.Common.{plain_permuted}
 use Rattle.sf_book.proofs.book.Growing.{fringe-permuted}
-use Rattle.sf_book.proofs.book.Lawful.{permuted_lawful}
+use Rattle.sf_book.proofs.book.Kept.{permuted_lawful}
 use Rattle.sf_book.proofs.book.Book.finish.Goals as goal
 
 pub invariant_of-settled : goal.invariant_of-settled

@@ -1,6 +1,5 @@
-use Rattle.std.proofs.Common.{refl, false}
+use Rattle.sf_book.proofs.Common.{refl, false, with_lease_at}
 use Rattle.sf_book.proofs.book.Plain.{marks_book}
-use Rattle.sf_book.specs.Changes.{with_lease_at}
 use Rattle.sf_book.proofs.book.Book.give_back.Goals as goal
 
 pub invariant_of-self : goal.invariant_of-self

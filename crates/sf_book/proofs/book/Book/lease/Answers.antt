@@ -1,6 +1,5 @@
-use Rattle.std.proofs.Common.{refl, true}
+use Rattle.sf_book.proofs.Common.{common_steps, arith, refl, true, with_lease_at}
 use Rattle.sf_book.proofs.book.Plain.{marks_book}
-use Rattle.sf_book.specs.Changes.{with_lease_at}
 use Rattle.sf_book.proofs.book.Book.lease.Goals as goal
 
 pub invariant_of-self-2 : goal.invariant_of-self-2
@@ -9,9 +8,7 @@ invariant_of-self-2 c =
     rw l.after (marks_book _ _ (with_lease_at c.in-Some.id true) (λ e. refl) (λ e. refl) c.self.invariant)
 
 pub returns-in_default-clause-ok : goal.returns-in_default-clause-ok
-returns-in_default-clause-ok c =
-    let l = rw c.in_default.is at c.in_ok-id.ensures.ok in
-    rw (← c.self.view_is) (rw l.0 refl, l.1)
+returns-in_default-clause-ok c = grind (arith, common_steps)
 
 pub returns-clause-ok : goal.returns-clause-ok
 returns-clause-ok c =

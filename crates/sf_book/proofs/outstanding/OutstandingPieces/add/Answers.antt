@@ -1,4 +1,4 @@
-use Rattle.std.proofs.Common.{◌∙◌, refl}
+use Rattle.sf_book.proofs.Common.{◌∙◌, refl}
 use Rattle.sf_book.proofs.outstanding.OutstandingLists.{is_added, added_ids, added_maps, added_view, put_back}
 use Rattle.sf_book.proofs.outstanding.OutstandingPieces.add.Goals as goal
 

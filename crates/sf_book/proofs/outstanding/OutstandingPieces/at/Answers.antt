@@ -1,5 +1,4 @@
-use Rattle.std.proofs.Common.{arith}
-use Rattle.std.proofs.lemmas.Grind.{common_steps}
+use Rattle.sf_book.proofs.Common.{arith, common_steps}
 use Rattle.sf_book.proofs.outstanding.OutstandingLists.{piece_place}
 use Rattle.sf_book.proofs.outstanding.OutstandingPieces.at.Goals as goal
 

@@ -1,7 +1,6 @@
-use Rattle.std.proofs.Common.{arith, ◌≡◌, false, sym, Some}
+use Rattle.sf_book.proofs.Common.{arith, ◌≡◌, false, sym, Some, piece_at}
 use Rattle.sf_book.proofs.MapLemmas.{leased_maps, marked_view, entry_at_is}
 use Rattle.sf_book.proofs.outstanding.OutstandingLists.{same_none}
-use Rattle.sf_book.specs.OutstandingMaps.{piece_at}
 use Rattle.sf_book.proofs.outstanding.OutstandingPieces.give_back.Goals as goal
 
 pub invariant_of-self : goal.invariant_of-self

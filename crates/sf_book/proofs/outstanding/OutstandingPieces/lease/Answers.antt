@@ -1,6 +1,4 @@
-use Rattle.std.proofs.lemmas.Grind.{common_steps}
-use Rattle.std.proofs.Common.{arith, ◌≡◌, sym, ◌∙◌, true}
-use Rattle.sf_book.specs.OutstandingMaps.{piece_at}
+use Rattle.sf_book.proofs.Common.{common_steps, arith, ◌≡◌, sym, ◌∙◌, true, piece_at}
 use Rattle.sf_book.proofs.MapLemmas.{leased_maps, some_inj}
 use Rattle.sf_book.proofs.outstanding.OutstandingLeases.{first_piece, leases_entry, all_leased, none_some}
 use Rattle.sf_book.proofs.outstanding.OutstandingPieces.lease.Goals as goal

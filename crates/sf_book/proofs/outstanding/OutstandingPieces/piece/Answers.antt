@@ -1,8 +1,5 @@
-use Rattle.std.proofs.Common.{arith, sym, ◌∙◌, ap}
-use Rattle.std.specs.Option.{option_map}
+use Rattle.sf_book.proofs.Common.{arith, sym, ◌∙◌, ap, option_map, outstanding_of, PieceData}
 use Rattle.sf_book.proofs.MapLemmas.{entry_at_is}
-use Rattle.sf_book.specs.OutstandingMaps.{outstanding_of}
-use Rattle.sf_piece.specs.Pieces.{PieceData}
 use Rattle.sf_book.proofs.outstanding.OutstandingPieces.piece.Goals as goal
 
 pub returns-in-Some : goal.returns-in-Some

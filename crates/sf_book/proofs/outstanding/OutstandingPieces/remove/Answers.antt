@@ -1,5 +1,4 @@
-use Rattle.std.proofs.lemmas.Grind.{common_steps}
-use Rattle.std.proofs.Common.{arith, sym, ◌∙◌}
+use Rattle.sf_book.proofs.Common.{common_steps, arith, sym, ◌∙◌}
 use Rattle.sf_book.proofs.MapLemmas.{entry_at_is}
 use Rattle.sf_book.proofs.outstanding.OutstandingLists.{taken_maps, taken_view, without_none}
 use Rattle.sf_book.proofs.outstanding.OutstandingPieces.remove.Goals as goal

@@ -1,4 +1,4 @@
-use Rattle.sf_book.specs.laws.PlainLaws.{region_plain}
+use Rattle.sf_book.proofs.Common.{region_plain}
 use Rattle.sf_book.proofs.settled.Settled.region.Goals as goal
 
 pub returns-clause-plain : goal.returns-clause-plain
