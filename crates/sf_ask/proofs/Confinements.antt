@@ -1,21 +1,6 @@
 -- Facts that take in a question word by word, by the rules.
-use Rattle.std.proofs.Common.{◌≡◌, ℕ, zero, suc, ◌+◌, ◌<◌, ◌≤◌, inl, inr, Bool, true, false, List, length, set, refl, sym, ap, subst, ◌∙◌, arith, add-one, MatchBool}
-use Rattle.std.specs.Prelude.{◌==◌, Option, Some, None, MatchOption}
-use Rattle.std.proofs.lemmas.Bool.{cases_eq, cases_lt, eqb-true}
-use Rattle.std.proofs.lemmas.List.{get_or-set_same, get_or-set_other}
-use Rattle.std.proofs.lemmas.Option.{same_Some}
-use Rattle.sf_sym.specs.declared.pool.Node.{Node}
-use Rattle.sf_sym.specs.Pool.{IsPool, node_at}
-use Rattle.sf_dom.specs.declared.known.Known.{Known}
-use Rattle.sf_dom.specs.Facts.{FactsView, Covers, known_at}
-use Rattle.sf_dom.specs.Learning.{TakesInBy, CantTakeInBy}
-use Rattle.sf_dom.specs.Passes.{IsPass, PassGives}
-use Rattle.sf_dom.specs.Rules.{IsReduction, ReductionGives, between, masked, met, forward_node}
-use Rattle.sf_dom.specs.GoingBack.{WritingGives}
-use Rattle.sf_dom.specs.SoundRules.{HaveOneResult}
-use Rattle.sf_question.specs.QuestionData.{QuestionData, range_at, mask_at, is_whole}
-use Rattle.sf_ask.specs.Judging.{TakeInRange, TakeInMask, TakeInWord, TakeInBefore, CantTakeInQuestion}
-use Rattle.sf_ask.specs.Searches.{CantTakeInRange, CantTakeInMask, CantTakeInWord, IsOutside}
+use Rattle.sf_ask.proofs.Common.{common_steps, ◌≡◌, ℕ, zero, suc, ◌+◌, ◌<◌, ◌≤◌, inl, inr, Bool, true, false, List, length, set, refl, sym, ap, subst, ◌∙◌, arith, add-one, MatchBool, ◌==◌, Option, None, MatchOption, cases_eq, cases_lt, eqb-true, get_or-set_same, get_or-set_other, same_Some, Node, IsPool, node_at, Known, FactsView, Covers, known_at, TakesInBy, CantTakeInBy, IsPass, PassGives, IsReduction, ReductionGives, between, masked, met, forward_node, WritingGives, HaveOneResult, QuestionData, range_at, mask_at, is_whole, TakeInRange, TakeInMask, TakeInWord, TakeInBefore, CantTakeInQuestion, CantTakeInMask, CantTakeInWord, IsOutside}
+use Rattle.std.specs.Prelude.{Some}
 
 -- ---- one result
 
@@ -65,20 +50,7 @@ of-false A true clash x = absurd cc
 of-false A false is x = x
 
 pub is-other : (a b : ℕ) → (a ≡ b → ⊥) → (a == b) ≡ false
-is-other a b ne = by (a == b) refl
-  where
-    by : (t : Bool) → (a == b) ≡ t → (a == b) ≡ false
-    by true e = absurd (ne (eqb-true a b e))
-    by false e = e
-
--- a range that leaves a number out is taken in by the rules, or can't be
-pub range-rule : (b : Bool) (q : QuestionData) (word : ℕ) (ns : List Node) (f g : FactsView)
-    → is_whole (range_at q word) ≡ false
-    → MatchBool b (TakesInBy f g ns word (between (range_at q word).0 (range_at q word).1))
-    (CantTakeInBy f ns word (between (range_at q word).0 (range_at q word).1))
-    → MatchBool b (TakeInRange q word ns f g) (CantTakeInRange q word ns f)
-range-rule true q word ns f g part h = to-false (g ≡ f) (is_whole (range_at q word)) part h
-range-rule false q word ns f g part h = (part, h)
+is-other a b ne = grind (arith, common_steps, eqb-true)
 
 -- so are the bits of a mask
 pub mask-rule : (b : Bool) (q : QuestionData) (word : ℕ) (ns : List Node) (f g : FactsView)
@@ -106,9 +78,7 @@ none-before q ns f = refl
 pub one-more : (q : QuestionData) (word : ℕ) (ns : List Node) (f g h : FactsView) → TakeInBefore q word ns f g
     → TakeInWord q word ns g h → TakeInBefore q (word + 1) ns f h
 unfolding TakeInBefore
-one-more q word ns f g h a b =
-    let more : TakeInBefore q (suc word) ns f h = (g, a, b) in
-    subst (λ (n : ℕ). TakeInBefore q n ns f h) (sym (add-one word)) more
+one-more q word ns f g h a b = grind (arith, common_steps, add-one)
 
 -- a word before a place was taken in at its turn
 pub record TookIn (q : QuestionData) (word : ℕ) (ns : List Node) (f : FactsView) : Type 0 where
@@ -152,17 +122,10 @@ record TakesInMore (f g : FactsView) (ns : List Node) (word : ℕ) (more : Known
   ordered : (known_at g.known word).low ≤ (known_at g.known word).high
 
 within-met : (a b c : Known) → (met a b).low ≤ c.low → c.high ≤ (met a b).high → IsWithin a c × IsWithin b c
-within-met a b c low high = (
-  record { low = omega arith; high = omega arith },
-  record { low = omega arith; high = omega arith },
-)
+within-met a b c low high = grind (arith, common_steps)
 
 within-on : (a b c : Known) → IsWithin a b → IsWithin b c → IsWithin a c
-within-on a b c h k = record {
-  low = let x = h.low in let y = k.low in omega arith;
-  high = let x = h.high in
-      let y = k.high in omega arith;
-}
+within-on a b c h k = grind (arith, common_steps)
 
 takes-more : (f g : FactsView) (ns : List Node) (word : ℕ) (more : Known) → word < 16 → 16 ≤ length ns
     → length f.known ≡ length ns → TakesInBy f g ns word more → TakesInMore f g ns word more
@@ -221,10 +184,7 @@ record IsWithinFacts (f g : FactsView) (ns : List Node) : Type 0 where
   each : (i : ℕ) → i < 16 → IsWithin (known_at f.known i) (known_at g.known i)
 
 within-same : (f g : FactsView) (ns : List Node) → length f.known ≡ length ns → f.known ≡ g.known → IsWithinFacts f g ns
-within-same f g ns count same = record {
-  count = rw (← same) count;
-  each = λ i l. rw (← same) (record { low = omega arith; high = omega arith });
-}
+within-same f g ns count same = grind (arith, common_steps)
 
 step-within : (b : Bool) (word : ℕ) (more : Known) (f g : FactsView) (ns : List Node) → word < 16 → 16 ≤ length ns
     → length f.known ≡ length ns → MatchBool b (g ≡ f) (TakesInBy f g ns word more) → IsWithinFacts f g ns
@@ -233,20 +193,14 @@ step-within false word more f g ns lw long count h =
     let t = takes-more f g ns word more lw long count h in record { count = t.count; each = t.each }
 
 within-again : (f g h : FactsView) (ns : List Node) → IsWithinFacts f g ns → IsWithinFacts g h ns → IsWithinFacts f h ns
-within-again f g h ns a b = record {
-  count = b.count;
-  each = λ i l. within-on (known_at f.known i) (known_at g.known i) (known_at h.known i) (a.each i l) (b.each i l);
-}
+within-again f g h ns a b = grind (arith, common_steps, within-on)
 
 before-within : (q : QuestionData) (end : ℕ) (ns : List Node) (f g : FactsView) → end ≤ 16 → 16 ≤ length ns
     → length f.known ≡ length ns → TakeInBefore q end ns f g → IsWithinFacts f g ns
 unfolding TakeInBefore
 before-within q zero ns f g l long count h = within-same f g ns count (ap (λ (x : FactsView). x.known) h)
 before-within q (suc word) ns f g l long count h =
-    let a = before-within q word ns f h.0 (omega arith) long count h.1 in
-    let b = step-within _ word _ h.0 h.2.ranged ns (omega arith) long a.count h.2.range in
-    let c = step-within _ word _ h.2.ranged g ns (omega arith) long b.count h.2.mask in
-    within-again f h.0 g ns a (within-again h.0 h.2.ranged g ns b c)
+    grind (arith, common_steps, step-within, within-again, before-within q word ns f h.0 (omega arith) long count h.1)
 
 ranged-within : (b : Bool) (word low high : ℕ) (f g : FactsView) (ns : List Node) → word < 16 → 16 ≤ length ns
     → length f.known ≡ length ns → b ≡ false → MatchBool b (g ≡ f) (TakesInBy f g ns word (between low high))

@@ -1,16 +1,5 @@
 -- The input that has in each word the least number that facts leave for it.
-use Rattle.std.proofs.Common.{arith, ◌≡◌, ℕ, ◌<◌, ◌≤◌, true, List, length, sym, ap, ◌∙◌}
-use Rattle.std.proofs.lemmas.List.{ext_get_or}
-use Rattle.std.specs.Prelude.{slice_index}
-use Rattle.sf_insn.specs.declared.input.Input.{Input}
-use Rattle.sf_sym.specs.Pool.{ArePlainNodes}
-use Rattle.sf_sym.specs.declared.pool.Node.{Node}
-use Rattle.sf_dom.specs.Known.{Admits}
-use Rattle.sf_dom.specs.Facts.{FactsView, Agrees, Covers, known_at}
-use Rattle.sf_dom.specs.laws.FactsLaws.{agreeing-word, low-left, words-agree}
-use Rattle.sf_piece.specs.Pieces.{PieceData, is_member}
-use Rattle.sf_piece.specs.PlainPieces.{IsPlainPiece}
-use Rattle.sf_ask.specs.Trying.{IsLeastInput}
+use Rattle.sf_ask.proofs.Common.{arith, ◌≡◌, ℕ, ◌<◌, ◌≤◌, true, List, length, sym, ap, ◌∙◌, ext_get_or, slice_index, Input, ArePlainNodes, Node, Admits, FactsView, Agrees, Covers, known_at, agreeing-word, low-left, words-agree, PieceData, is_member, IsPlainPiece, IsLeastInput}
 
 -- inputs of the same numbers are one
 pub same-input : (d e : Input) → length d.words ≡ 16 → length e.words ≡ 16

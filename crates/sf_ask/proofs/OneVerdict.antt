@@ -1,16 +1,5 @@
 -- The rules give one verdict on a region.
-use Rattle.std.proofs.Common.{◌≡◌, Bool, true, false, refl, sym, ap, ◌∙◌, true≢false, MatchBool}
-use Rattle.sf_insn.specs.declared.input.Input.{Input}
-use Rattle.sf_sym.specs.Pool.{IsPool}
-use Rattle.sf_dom.specs.Facts.{FactsView, known_at}
-use Rattle.sf_dom.specs.SoundRules.{HaveOneResult}
-use Rattle.sf_piece.specs.Pieces.{PieceData, is_member}
-use Rattle.sf_book.specs.Books.{RegionData}
-use Rattle.sf_ask.specs.declared.verdict.Verdict.{Verdict}
-use Rattle.sf_ask.specs.declared.verdict.Verdict.TheVariants.{Clear, Hit, Doubt}
-use Rattle.sf_question.specs.Actions.{has_action}
-use Rattle.sf_question.specs.QuestionData.{QuestionData}
-use Rattle.sf_ask.specs.Judging.{FindsInQuestion, HasVerdict, IsTriedBy}
+use Rattle.sf_ask.proofs.Common.{◌≡◌, Bool, true, false, refl, sym, ap, ◌∙◌, true≢false, MatchBool, Input, IsPool, FactsView, known_at, HaveOneResult, PieceData, is_member, RegionData, Verdict, Clear, Hit, Doubt, has_action, QuestionData, FindsInQuestion, HasVerdict, IsTriedBy}
 use Rattle.sf_ask.proofs.Confinements.{same-before}
 use Rattle.sf_ask.proofs.Leasts.{same-input}
 

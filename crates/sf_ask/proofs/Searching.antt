@@ -1,28 +1,6 @@
 -- What a search for a member in a question tells.
-use Rattle.std.proofs.lemmas.Grind.{common_steps}
-use Rattle.std.proofs.Common.{◌≡◌, ℕ, ◌+◌, ◌<◌, ◌≤◌, Bool, true, false, List, take, arith, refl, ap, ◌∙◌, Some}
-use Rattle.std.specs.Prelude.{slice_index, slice_get}
-use Rattle.std.specs.List.{list_all}
-use Rattle.std.proofs.lemmas.List.Folds.{list_all_more, list_all_at}
-use Rattle.std.proofs.lemmas.Option.{get_or_from_slice_get, slice_get_within}
-use Rattle.sf_insn.specs.declared.input.Input.{Input}
-use Rattle.sf_insn.specs.Inputs.{IsInput}
-use Rattle.sf_sym.specs.declared.pool.Node.{Node}
-use Rattle.sf_sym.specs.declared.pool.Cond.{Cond}
-use Rattle.sf_dom.specs.Facts.{FactsView, Agrees, AreConfined}
-use Rattle.sf_run.specs.laws.AnswerLaws.{one}
-use Rattle.sf_book.specs.Books.{BookData, RegionData, IsRightRegion}
-use Rattle.sf_ask.specs.declared.verdict.Verdict.{Verdict}
-use Rattle.sf_ask.specs.declared.verdict.Verdict.TheVariants.{Clear, Hit, Doubt}
-use Rattle.sf_question.specs.Actions.{has_action}
-use Rattle.sf_piece.specs.Pieces.{PieceData, is_member}
-use Rattle.sf_piece.specs.PlainPieces.{IsPlainPiece}
-use Rattle.sf_question.specs.QuestionData.{QuestionData}
-use Rattle.sf_question.specs.Breaking.{IsInQuestion}
-use Rattle.sf_ask.specs.Verdicts.{IsLowInput, IsMemberAt, IsBreakAt, IsRightVerdict}
+use Rattle.sf_ask.proofs.Common.{common_steps, ◌≡◌, ℕ, ◌+◌, ◌<◌, ◌≤◌, Bool, true, false, List, take, arith, refl, ap, ◌∙◌, Some, slice_index, slice_get, list_all, list_all_more, list_all_at, get_or_from_slice_get, slice_get_within, Input, IsInput, Node, Cond, FactsView, Agrees, AreConfined, one, BookData, RegionData, IsRightRegion, Verdict, Clear, Hit, Doubt, has_action, PieceData, is_member, IsPlainPiece, QuestionData, IsInQuestion, IsLowInput, IsMemberAt, IsBreakAt, IsRightVerdict, IsNumberBefore, IsLeastInput, IsRightSearch}
 use Rattle.sf_ask.proofs.Leasts.{least-admitted, least-below, least-agrees, same-input}
-use Rattle.sf_ask.specs.Trying.{IsNumberBefore, IsLeastInput}
-use Rattle.sf_ask.specs.Searches.{IsRightSearch}
 
 -- ---- conditions, one after the other
 
@@ -96,9 +74,6 @@ pub region-right : (s : BookData) (place : ℕ) (q : QuestionData) (r : RegionDa
     → IsRightSearch r.piece q v → IsRightVerdict s place q v
 region-right s place q r Clear there right asked found =
     λ d h. found d h.member.input (in-piece s place r d there h.member) h.breaks.inside
-region-right s place q r (Hit d) there right asked found = record {
-  member = record { region = r; there = there; input = found.0; member = found.1 };
-  breaks = record { inside = found.2; answer = r.answer; answers = right.answers d found.0 found.1; asked = asked };
-}
+region-right s place q r (Hit d) there right asked found = grind (arith, common_steps)
 region-right s place q r Doubt there right asked found =
     λ d low h. found d h.member.input low (in-piece s place r d there h.member)

@@ -1,19 +1,6 @@
 -- Facts confined to a question, word by word.
-use Rattle.std.proofs.lemmas.Grind.{common_steps}
-use Rattle.std.proofs.Common.{◌≡◌, ℕ, ◌+◌, ◌<◌, ◌^◌, Bool, true, false, List, arith, sym, ap, subst, inl, inr, ◌∙◌, MatchBool, MatchResult, Result, Ok, Err, IfOk, IsErrAnd}
-use Rattle.std.specs.Prelude.{slice_index, bit_and, ◌==◌}
-use Rattle.std.proofs.lemmas.Bool.{cases_eq, and_parts, eqb-true}
-use Rattle.std.proofs.lemmas.Result.{IfOk-at_ok, err_from_is_err_and}
-use Rattle.std.specs.Int.Bits.{and_zero_r}
-use Rattle.sf_insn.specs.declared.input.Input.{Input}
-use Rattle.sf_insn.specs.Inputs.{IsInput}
-use Rattle.sf_sym.specs.declared.pool.Node.{Node}
-use Rattle.sf_dom.specs.Facts.{FactsView, Covers, known_at, AreNarrower, AreConfined, ConfinesWord, HasIn, LiesIn, KeepsOnly, NoInput}
-use Rattle.sf_dom.specs.laws.FactsLaws.{narrower-admits, agreeing-word, some-input, some-such}
-use Rattle.sf_question.specs.QuestionData.{QuestionData, range_at, mask_at, is_whole}
-use Rattle.sf_question.specs.Breaking.{IsNumberOf, IsInQuestion}
-use Rattle.sf_ask.specs.Searches.{IsInWordRange, HasMaskBits, IsInBefore, IsOutside}
-use Rattle.sf_ask.specs.Trying.{IsNumberBefore}
+use Rattle.sf_ask.proofs.Common.{common_steps, ◌≡◌, ℕ, ◌+◌, ◌<◌, ◌^◌, Bool, true, false, List, arith, sym, ap, subst, inl, inr, ◌∙◌, MatchBool, MatchResult, Result, Ok, Err, IfOk, IsErrAnd, slice_index, ◌==◌, cases_eq, and_parts, eqb-true, IfOk-at_ok, err_from_is_err_and, and_zero_r, Input, IsInput, Node, FactsView, Covers, known_at, AreNarrower, AreConfined, ConfinesWord, HasIn, LiesIn, KeepsOnly, NoInput, narrower-admits, agreeing-word, some-input, some-such, QuestionData, range_at, mask_at, is_whole, IsNumberOf, IsInQuestion, IsInWordRange, HasMaskBits, IsInBefore, IsOutside, IsNumberBefore}
+use Rattle.std.specs.Prelude.{bit_and}
 
 pub of-true : {A : Type 0} (B : Type 0) (b : Bool) → b ≡ true → MatchBool b A B → A
 of-true B true e h = h
@@ -151,14 +138,6 @@ before-more q at f g h ns of a b = again f g h ns (IsInBefore q at) (HasIn at (I
       | inl same ↦ subst (λ (i : ℕ). IsNumberOf q i n) (sym same) (here same)
       | inr other ↦ early (omega arith)
     ])
-
--- where no number of the question is left for a word at its turn, no input is in the question
-pub before-fails : (q : QuestionData) (at : ℕ) (f g : FactsView) (ns : List Node) → at < 16
-    → AreConfined f g ns (IsInBefore q at) (IsNumberBefore q at) → NoInput g ns (HasIn at (IsNumberOf q at))
-    → NoInput f ns (IsInQuestion q)
-before-fails q at f g ns l a none =
-    none-again f g ns (IsInBefore q at) (HasIn at (IsNumberOf q at)) (IsInQuestion q) (IsNumberBefore q at) a none
-    (λ d all word w. all word (omega arith)) (λ d all. all at l)
 
 -- when the last word is confined, the facts are confined to the question
 pub before-all : (q : QuestionData) (at : ℕ) (f g : FactsView) (ns : List Node) → at ≡ 16

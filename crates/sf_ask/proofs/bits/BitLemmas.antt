@@ -1,13 +1,6 @@
 -- The bits of questions.
-use Rattle.std.proofs.lemmas.Grind.{common_steps}
-use Rattle.std.proofs.Common.{◌≡◌, ℕ, ◌*◌, ◌/◌, ◌%◌, ◌^◌, ◌<◌, ◌==◌, min, bit_and, bit_or, true, false, List, slice_index, set, length, w64, sym, ap, ◌∙◌, subst, arith, if◌then◌else◌}
-use Rattle.std.specs.Int.{bit_at}
-use Rattle.std.proofs.lemmas.Bool.Decides.{nat_tests}
-use Rattle.std.proofs.lemmas.Nat.Bits.{bit_at-zero, bit_at_and, bit_at_set_same, bit_at_set_other}
-use Rattle.std.proofs.lemmas.List.{get_or-set_same, get_or-set_other}
-use mathlib.Core.Logic.{dite}
-use native.Mathlib.Decide.{ℕ_discrete}
-use Rattle.sf_ask.specs.QuestionBits.{bit_of, has_bit}
+use Rattle.sf_ask.proofs.Common.{common_steps, ◌≡◌, ℕ, ◌*◌, ◌/◌, ◌%◌, ◌^◌, ◌<◌, min, bit_and, bit_or, true, false, List, set, length, w64, sym, ap, ◌∙◌, subst, arith, bit_at, nat_tests, bit_at-zero, bit_at_and, bit_at_set_same, bit_at_set_other, get_or-set_same, get_or-set_other, dite, ℕ_discrete, bit_of, has_bit}
+use Rattle.std.proofs.Common.{◌==◌, slice_index, if◌then◌else◌}
 
 -- the bit of q is set in four words, and no other is changed
 pub bits-more : (words : List ℕ) (p q : ℕ) → length words ≡ 4 → q < 256

@@ -1,19 +1,5 @@
 -- The rules give one reply to a question.
-use Rattle.std.proofs.Common.{◌≡◌, ℕ, ◌<◌, [], length, refl, sym, ap, subst, ◌⊎◌, inl, inr, arith}
-use Rattle.std.proofs.lemmas.Bool.{cases_lt}
-use Rattle.std.proofs.lemmas.Option.{slice_get_within}
-use Rattle.sf_insn.specs.declared.input.Input.{Input}
-use Rattle.sf_piece.specs.OneExecution.{IsExecutionOne}
-use Rattle.sf_book.specs.Books.{BookData}
-use Rattle.sf_book.specs.Unfoldings.{IsFringe, ExplorationsHaveOneResult}
-use Rattle.sf_ask.specs.declared.verdict.Verdict.{Verdict}
-use Rattle.sf_ask.specs.declared.verdict.Verdict.TheVariants.{Clear, Hit, Doubt}
-use Rattle.sf_ask.specs.declared.verdict.Reply.{Reply}
-use Rattle.sf_ask.specs.declared.verdict.Reply.TheVariants.{Never, Allowed, Unsettled}
-use Rattle.sf_question.specs.QuestionData.{QuestionData}
-use Rattle.sf_ask.specs.Judging.{HasVerdictAt, HasNoHitAt, HasReply}
-use Rattle.sf_ask.specs.OneResult.{HaveOneVerdict, IsWholeFringe}
-use Rattle.sf_ask.specs.laws.OneResultLaws.{one_verdict_at}
+use Rattle.sf_ask.proofs.Common.{◌≡◌, ℕ, ◌<◌, [], length, refl, sym, ap, subst, ◌⊎◌, inl, inr, arith, cases_lt, slice_get_within, Input, IsExecutionOne, BookData, IsFringe, ExplorationsHaveOneResult, Verdict, Clear, Hit, Doubt, Reply, Never, Allowed, Unsettled, QuestionData, HasVerdictAt, HasNoHitAt, HasReply, HaveOneVerdict, IsWholeFringe, one_verdict_at}
 
 -- the regions and the question of two explorations, of which the first is a fringe
 module _ (tree : IsExecutionOne) (verdict : HaveOneVerdict) (s t : BookData) (q : QuestionData) (fringe : IsFringe s)

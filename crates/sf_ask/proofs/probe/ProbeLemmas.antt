@@ -1,20 +1,5 @@
 -- Probes of questions, and the questions that ask about an action.
-use Rattle.std.proofs.Common.{◌≡◌, ℕ, zero, suc, ◌+◌, ◌-◌, ◌<◌, ◌≤◌, ltb, leb, eq-eqb, min, ◌⊎◌, inl, inr, Bool, true, false, List, [], ◌∷◌, ◌++◌, length, take, drop, get_or, Some, refl, sym, ap, ◌∙◌, arith}
-use Rattle.std.specs.Prelude.{◌==◌, ◌&&◌, if◌then◌else◌, All, slice_get, slice_range, Contains, IsPermutation}
-use Rattle.std.specs.List.Sorted.{IsPartitionPoint}
-use Rattle.std.proofs.lemmas.Bool.{ltb-true, leb-false, eqb-true, cases_lt}
-use Rattle.std.proofs.lemmas.List.{length-take-le, length-drop, get_or-take, get_or-drop}
-use Rattle.std.proofs.lemmas.List.Elements.{All-more, All-push, Contains-push, Contains-append_left}
-use Rattle.std.proofs.lemmas.List.Sorted.{All-permutation, Contains-permutation}
-use mathlib.Core.Logic.{dite}
-use native.Mathlib.Decide.{ℕ_discrete}
-use Rattle.sf_run.specs.declared.action.Action.{Action}
-use Rattle.sf_dom.specs.Facts.{FactsView, known_at}
-use Rattle.sf_ask.specs.Searches.{IsOutside}
-use Rattle.sf_ask.specs.Probing.{IsRuledOut, IsRuledOutIfAsked, IsProbeIn, has_one_call, HasProbe, AreProbes}
-use Rattle.sf_ask.specs.QuestionBits.{bit_of, has_bit}
-use Rattle.sf_question.specs.QuestionData.{QuestionData, range_at, is_whole}
-use Rattle.sf_ask.specs.declared.probe.Probe.{Probe}
+use Rattle.sf_ask.proofs.Common.{common_steps, ◌≡◌, ℕ, zero, suc, ◌+◌, ◌-◌, ◌<◌, ◌≤◌, ltb, leb, eq-eqb, min, ◌⊎◌, inl, inr, true, false, List, [], ◌∷◌, ◌++◌, length, take, drop, get_or, Some, refl, sym, ap, ◌∙◌, arith, ◌==◌, if◌then◌else◌, All, slice_get, slice_range, Contains, IsPermutation, IsPartitionPoint, ltb-true, leb-false, eqb-true, cases_lt, length-take-le, length-drop, get_or-take, get_or-drop, All-more, All-push, Contains-push, Contains-append_left, All-permutation, Contains-permutation, dite, ℕ_discrete, Action, FactsView, known_at, IsOutside, IsRuledOut, IsRuledOutIfAsked, IsProbeIn, has_one_call, HasProbe, AreProbes, bit_of, has_bit, QuestionData, range_at, is_whole, Probe}
 use Rattle.sf_ask.proofs.Words.{outside-range}
 use Rattle.sf_ask.proofs.Confinements.{cant-outside}
 
@@ -128,42 +113,23 @@ added-more P probes old new i d l kept before here =
 -- a bit that isn't set now wasn't set before another one was
 pub bit-kept : (old new : List ℕ) (q p : ℕ) → ((k : ℕ) → bit_of new k ≡ (if k == q then 1 else bit_of old k))
     → has_bit new p ≡ false → has_bit old p ≡ false
-bit-kept old new q p set none = by (p == q) (set p)
-  where
-    by : (b : Bool) → bit_of new p ≡ (if b then 1 else bit_of old p) → has_bit old p ≡ false
-    by true e = let clash : has_bit new p ≡ true = ap (λ (n : ℕ). n == 1) e in absurd cc
-    by false e = sym (ap (λ (n : ℕ). n == 1) e) ∙ none
+bit-kept old new q p set none = grind (arith, common_steps)
 
 -- the bit that was set is set
 pub bit-set : (old new : List ℕ) (q : ℕ) → ((k : ℕ) → bit_of new k ≡ (if k == q then 1 else bit_of old k))
     → has_bit new q ≡ false → ⊥
-bit-set old new q set none = by (q == q) (eq-eqb q q refl) (set q)
-  where
-    by : (b : Bool) → b ≡ true → bit_of new q ≡ (if b then 1 else bit_of old q) → ⊥
-    by true same e = let clash : has_bit new q ≡ true = ap (λ (n : ℕ). n == 1) e in absurd cc
-    by false same e = absurd cc
+bit-set old new q set none = grind (arith, common_steps, eq-eqb)
 
 -- ---- what is ruled out
 
 -- where what is known of a word leaves no number of its range, the question is ruled out
 pub rules-out-at : (q : QuestionData) (word : ℕ) (f : FactsView) → word < 16 → is_whole (range_at q word) ≡ false
     → IsOutside (known_at f.known word) (range_at q word).0 (range_at q word).1 → IsRuledOut f q
-rules-out-at q word f l part out pool covers = record {
-  none = outside-range q word f pool l out covers;
-  rule = cant-outside q word pool f l covers part out;
-}
+rules-out-at q word f l part out pool covers = grind (arith, common_steps, outside-range, cant-outside)
 
 -- one number is not all of them
 not-whole : (low high : ℕ) → low ≡ high → is_whole (low, high) ≡ false
-not-whole low high e = by (low == 0) (high == 4294967295) refl refl
-  where
-    by : (a b : Bool) → (low == 0) ≡ a → (high == 4294967295) ≡ b → ((low == 0) && (high == 4294967295)) ≡ false
-    by true true p q =
-        let x : low ≡ 0 = eqb-true low 0 p in
-        let y : high ≡ 4294967295 = eqb-true high 4294967295 q in
-        absurd (omega arith)
-    by true false p q = rw (p, q) refl
-    by false b p q = rw p refl
+not-whole low high e = grind (arith, common_steps, eqb-true)
 
 -- a question about one call is ruled out where what is known of the first word leaves out the call's number
 pub call-misses : (f : FactsView) (questions : List QuestionData) (action : Action) (p : Probe) → IsProbeIn questions p

@@ -1,29 +1,10 @@
 -- The verdicts on questions that are clear at once.
-use Rattle.std.proofs.lemmas.Grind.{common_steps}
-use Rattle.std.proofs.Common.{◌≡◌, ℕ, ◌<◌, not, Bool, true, false, List, [], ◌∷◌, length, Some, None, refl, subst, arith, Result, Ok, Err, IfOk}
-use Rattle.std.specs.Prelude.{slice_get, map, if◌then◌else◌}
-use Rattle.std.specs.List.{list_all, range_with_len}
-use Rattle.std.proofs.lemmas.List.FromFn.{get_or-map-range_with_len, length-map-range_with_len}
-use Rattle.sf_insn.specs.declared.input.Input.{Input}
-use Rattle.sf_insn.specs.Inputs.{IsInput}
-use Rattle.sf_dom.specs.Facts.{Agrees, Covers}
-use Rattle.sf_piece.specs.Pieces.{PieceData, is_member}
-use Rattle.sf_book.specs.Books.{BookData, RegionData, IsRightRegion}
-use Rattle.sf_question.specs.Actions.{has_action}
-use Rattle.sf_ask.specs.Probing.{LeaveNone, IsRuledOutIfAsked}
-use Rattle.sf_ask.specs.Judging.{FindsInQuestion, HasVerdictAt}
-use Rattle.sf_ask.specs.Searches.{IsRightSearch}
+use Rattle.sf_ask.proofs.Common.{common_steps, ◌≡◌, ℕ, ◌<◌, not, Bool, true, false, List, [], ◌∷◌, length, Some, refl, subst, arith, Result, Ok, Err, IfOk, slice_get, if◌then◌else◌, list_all, range_with_len, get_or-map-range_with_len, length-map-range_with_len, Input, IsInput, Agrees, Covers, PieceData, is_member, BookData, RegionData, IsRightRegion, has_action, LeaveNone, IsRuledOutIfAsked, FindsInQuestion, HasVerdictAt, IsRightSearch, Clear, QuestionData, has_bit, IsRightVerdict, TellsTriedAt, IsDecisive, Fault, Verdict, IsPlain, verdict_at, is_skipped, is_clear_or_skipped, clear_if_wanted, first_verdicts, IsRightOn, IsRightWhereGiven}
+use Rattle.std.proofs.Common.{None}
+use Rattle.std.specs.Prelude.{map}
 use Rattle.sf_ask.proofs.probe.ProbeLemmas.{there-is}
 use Rattle.sf_ask.proofs.Searching.{not-asked, region-right}
 use Rattle.sf_ask.proofs.OneVerdict.{unasked-verdict, asked-verdict}
-use Rattle.sf_ask.specs.declared.verdict.Verdict.TheVariants.{Clear}
-use Rattle.sf_question.specs.QuestionData.{QuestionData}
-use Rattle.sf_ask.specs.QuestionBits.{has_bit}
-use Rattle.sf_ask.specs.Verdicts.{IsRightVerdict, TellsTriedAt, IsDecisive}
-use Rattle.sf_question.specs.declared.fault.Fault.{Fault}
-use Rattle.sf_ask.specs.declared.verdict.Verdict.{Verdict}
-use Rattle.sf_check.specs.Stacks.{IsPlain}
-use Rattle.sf_ask.specs.Sheets.{verdict_at, is_skipped, is_clear_or_skipped, clear_if_wanted, first_verdicts, IsRightOn, IsRightWhereGiven}
 
 pub first-length : (wanted : List ℕ) (n : ℕ) → length (first_verdicts wanted n) ≡ n
 first-length wanted n = length-map-range_with_len (clear_if_wanted wanted) 0 n

@@ -1,4 +1,4 @@
-use Rattle.std.proofs.Common.{arith}
+use Rattle.sf_ask.proofs.Common.{arith}
 use Rattle.sf_ask.proofs.bits.BitLemmas.{apart}
 use Rattle.sf_ask.proofs.bits.share_none.Goals as goal
 

@@ -1,7 +1,4 @@
-use Rattle.std.proofs.lemmas.Grind.{common_steps}
-use Rattle.std.proofs.Common.{arith, rules}
-use Rattle.std.proofs.lemmas.Bool.{eqb-true}
-use Rattle.sf_dom.specs.laws.LearningLaws.{masked-by}
+use Rattle.sf_ask.proofs.Common.{common_steps, arith, rules, eqb-true, masked-by}
 use Rattle.sf_ask.proofs.Words.{mapped-ok, mask-stays}
 use Rattle.sf_ask.proofs.Confinements.{mask-rule, is-other}
 use Rattle.sf_ask.proofs.confining.confine_mask.Goals as goal

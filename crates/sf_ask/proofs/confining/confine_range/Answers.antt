@@ -1,8 +1,5 @@
-use Rattle.std.proofs.lemmas.Grind.{common_steps}
-use Rattle.std.proofs.Common.{arith, sym, ◌∙◌}
-use Rattle.sf_dom.specs.laws.LearningLaws.{confined-by}
+use Rattle.sf_ask.proofs.Common.{common_steps, arith, confined-by}
 use Rattle.sf_ask.proofs.Words.{mapped-ok, range-stays}
-use Rattle.sf_ask.proofs.Confinements.{range-rule}
 use Rattle.sf_ask.proofs.confining.confine_range.Goals as goal
 
 pub returns-then-is_whole-clause-confined : goal.returns-then-is_whole-clause-confined
@@ -13,9 +10,3 @@ returns-clause-confined c =
     mapped-ok _ c.confine.result c.map_err.result c.map_err.ensures.cases c.confine.ensures.rule
     (λ b rule. rw c.range-low.ensures at (confined-by c.rules_are_sound.ensures.learning b c.args.facts.now
     c.confine.new.self c.args.pool.now c.args.word _ _ c.requires.covers c.requires.word c.confine.ensures.covers rule))
-
-pub returns-clause-rule : goal.returns-clause-rule
-returns-clause-rule c =
-    mapped-ok _ c.confine.result c.map_err.result c.map_err.ensures.cases c.confine.ensures.rule
-    (λ b rule. range-rule b c.args.question.now c.args.word c.args.pool.now c.args.facts.now c.confine.new.self
-    (rw c.range-low.ensures at (sym c.is_whole.ensures ∙ c.if-is_whole.false)) (rw c.range-low.ensures at rule))

@@ -1,6 +1,5 @@
-use Rattle.std.proofs.Common.{◌≡◌, ℕ, arith, subst}
-use Rattle.sf_ask.specs.Judging.{TakeInBefore}
-use Rattle.sf_ask.proofs.Words.{mapped-at, of-true, before-none, before-more, before-fails, before-all}
+use Rattle.sf_ask.proofs.Common.{◌≡◌, arith}
+use Rattle.sf_ask.proofs.Words.{mapped-at, of-true, before-none, before-more, before-all}
 use Rattle.sf_ask.proofs.Confinements.{none-before, one-more, of-false, cant-at-turn}
 use Rattle.sf_ask.proofs.confining.facts_in_question.Goals as goal
 
@@ -30,18 +29,6 @@ loop-word-preserved c =
 pub returns-clause-confined : goal.returns-clause-confined
 returns-clause-confined c = before-all c.args.question.now c.loop-word.word c.args.facts.now c.loop-word.confined
     c.args.pool.now (omega arith) c.loop-word.invariant.confined
-
-pub returns-clause-rule : goal.returns-clause-rule
-returns-clause-rule c =
-    let end : c.loop-word.word ≡ 16 = omega arith in
-    subst (λ (n : ℕ). TakeInBefore c.args.question.now n c.args.pool.now c.args.facts.now c.loop-word.confined) end
-    c.loop-word.invariant.rule
-
-pub returns-then-not-branch-clause-confined : goal.returns-then-not-branch-clause-confined
-returns-then-not-branch-clause-confined c =
-    before-fails c.args.question.now c.loop-word.word c.args.facts.now c.loop-word.confined c.args.pool.now
-    c.loop-word-test.true c.loop-word.invariant.confined (of-false _ c.in_ok-confine_word.field-0 c.if-not-branch.true
-    c.in_ok-confine_word.ensures.confined)
 
 pub returns-then-not-branch-clause-rule : goal.returns-then-not-branch-clause-rule
 returns-then-not-branch-clause-rule c =

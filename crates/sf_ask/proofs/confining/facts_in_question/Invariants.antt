@@ -1,7 +1,4 @@
-use Rattle.sf_dom.specs.Facts.{AreConfined}
-use Rattle.sf_ask.specs.Judging.{TakeInBefore}
-use Rattle.sf_ask.specs.Searches.{IsInBefore}
-use Rattle.sf_ask.specs.Trying.{IsNumberBefore}
+use Rattle.sf_ask.proofs.Common.{AreConfined, TakeInBefore, IsInBefore, IsNumberBefore}
 use Rattle.sf_ask.proofs.confining.facts_in_question.Given as goal
 
 abbrev pub invariant-loop-word : goal.invariant-loop-word

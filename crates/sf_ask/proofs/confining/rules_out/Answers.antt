@@ -1,4 +1,4 @@
-use Rattle.std.proofs.Common.{sym, ◌∙◌}
+use Rattle.sf_ask.proofs.Common.{sym, ◌∙◌}
 use Rattle.sf_ask.proofs.probe.ProbeLemmas.{rules-out-at}
 use Rattle.sf_ask.proofs.confining.rules_out.Goals as goal
 

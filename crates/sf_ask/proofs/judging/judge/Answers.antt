@@ -1,4 +1,4 @@
-use Rattle.std.proofs.Common.{sym, ◌∙◌}
+use Rattle.sf_ask.proofs.Common.{common_steps, arith, sym, ◌∙◌}
 use Rattle.sf_ask.proofs.Words.{map-ok}
 use Rattle.sf_ask.proofs.Searching.{not-asked, region-right}
 use Rattle.sf_ask.proofs.judging.judge.Goals as goal
@@ -11,9 +11,4 @@ returns-then-not-has-clause-right c =
     (rw (c.actions.ensures, c.answer.ensures) at (sym c.has.ensures ∙ c.if-not-has.true))
 
 pub returns-clause-right : goal.returns-clause-right
-returns-clause-right c =
-    let r = c.region-settled_region in
-    let asked = rw (c.actions.ensures, c.answer.ensures) at (sym c.has.ensures ∙ c.if-not-has.false) in
-    map-ok c.search.result _ _ (λ v found. region-right c.args.settled.now c.args.region c.args.question.now
-    r.result.now v r.ensures.value r.ensures.right asked found)
-    (rw (c.deref.ensures, c.piece.ensures) at c.search.ensures.right)
+returns-clause-right c = grind (arith, common_steps, map-ok, region-right)

@@ -1,5 +1,4 @@
-use Rattle.std.proofs.Common.{◌≡◌, ℕ, ◌<◌, ◌^◌, length, get_or}
-use Rattle.sf_dom.specs.Facts.{known_at}
+use Rattle.sf_ask.proofs.Common.{◌≡◌, ℕ, ◌<◌, ◌^◌, length, get_or, known_at}
 use Rattle.sf_ask.proofs.judging.least_input.Given as goal
 
 abbrev pub invariant-loop-word : goal.invariant-loop-word

@@ -1,8 +1,4 @@
-use Rattle.std.proofs.lemmas.Grind.{common_steps}
-use Rattle.std.proofs.Common.{◌≡◌, arith, sym, ◌∙◌, ap}
-use Rattle.std.proofs.lemmas.List.{take_all}
-use Rattle.sf_sym.specs.Pool.{is_met, is_met_by}
-use Rattle.sf_piece.specs.Pieces.{is_member}
+use Rattle.sf_ask.proofs.Common.{common_steps, ◌≡◌, arith, sym, ◌∙◌, ap, take_all, is_met, is_met_by, is_member}
 use Rattle.sf_ask.proofs.Searching.{met-more, not-met}
 use Rattle.sf_ask.proofs.Words.{mapped-at}
 use Rattle.sf_ask.proofs.judging.meets_by_computing.Goals as goal

@@ -1,6 +1,4 @@
-use Rattle.std.proofs.Common.{◌≡◌, true, take}
-use Rattle.std.specs.List.{list_all}
-use Rattle.sf_sym.specs.Pool.{is_met}
+use Rattle.sf_ask.proofs.Common.{◌≡◌, true, take, list_all, is_met}
 use Rattle.sf_ask.proofs.judging.meets_without_computing.Given as goal
 
 abbrev pub invariant-loop-i : goal.invariant-loop-i

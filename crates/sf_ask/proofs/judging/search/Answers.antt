@@ -1,7 +1,4 @@
-use Rattle.std.proofs.Common.{sym, ◌∙◌}
-use Rattle.sf_question.specs.Breaking.{IsInQuestion}
-use Rattle.sf_dom.specs.Facts.{AreConfined}
-use Rattle.sf_ask.specs.Trying.{IsNumberBefore}
+use Rattle.sf_ask.proofs.Common.{sym, ◌∙◌, IsInQuestion, AreConfined, IsNumberBefore}
 use Rattle.sf_ask.proofs.Searching.{doubtful, least-hit, exact-hit}
 use Rattle.sf_ask.proofs.judging.search.Goals as goal
 

@@ -1,4 +1,4 @@
-use Rattle.std.proofs.Common.{sym, ◌∙◌}
+use Rattle.sf_ask.proofs.Common.{sym, ◌∙◌}
 use Rattle.sf_ask.proofs.probe.ProbeLemmas.{one-call-more, other-more}
 use Rattle.sf_ask.proofs.probe.probes_of.Goals.{then-has_one_call+in_ok-push, else-has_one_call+in_ok-push-2}
 use Rattle.sf_ask.proofs.probe.probes_of.Goals as goal

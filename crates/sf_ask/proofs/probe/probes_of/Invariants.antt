@@ -1,4 +1,4 @@
-use Rattle.sf_ask.specs.Probing.{AreProbes}
+use Rattle.sf_ask.proofs.Common.{AreProbes}
 use Rattle.sf_ask.proofs.probe.probes_of.Given as goal
 
 abbrev pub invariant-loop-place : goal.invariant-loop-place

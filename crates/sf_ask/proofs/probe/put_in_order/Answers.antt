@@ -1,6 +1,4 @@
-use Rattle.std.proofs.Common.{rules}
-use Rattle.std.proofs.lemmas.List.Sorted.{IsNonDecreasingBy-from_sort_by_key}
-use Rattle.sf_ask.specs.declared.probe.Probe.{Probe}
+use Rattle.sf_ask.proofs.Common.{rules, IsNonDecreasingBy-from_sort_by_key, Probe}
 use Rattle.sf_ask.proofs.probe.put_in_order.Goals as goal
 
 pub returns-clause-ascending : goal.returns-clause-ascending

@@ -1,9 +1,4 @@
-use Rattle.std.proofs.Common.{◌≡◌, ℕ, false, arith, subst}
-use Rattle.std.specs.Prelude.{All}
-use Rattle.std.proofs.lemmas.List.{take_all}
-use Rattle.sf_ask.specs.QuestionBits.{has_bit}
-use Rattle.sf_ask.specs.Probing.{IsRuledOutIfAsked}
-use Rattle.sf_ask.specs.declared.probe.Probe.{Probe}
+use Rattle.sf_ask.proofs.Common.{◌≡◌, ℕ, false, arith, subst, All, take_all, has_bit, IsRuledOutIfAsked, Probe}
 use Rattle.sf_ask.proofs.probe.ProbeLemmas.{no_probe, added-more, bit-kept, bit-set}
 use Rattle.sf_ask.proofs.probing.add_questions_left.Goals.{then-is_left_to_judge, else-is_left_to_judge}
 use Rattle.sf_ask.proofs.probing.add_questions_left.Goals as goal

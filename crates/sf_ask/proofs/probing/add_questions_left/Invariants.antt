@@ -1,8 +1,5 @@
-use Rattle.std.proofs.Common.{◌≡◌, ℕ, false}
-use Rattle.std.specs.Prelude.{All, take}
-use Rattle.sf_ask.specs.QuestionBits.{has_bit}
-use Rattle.sf_ask.specs.Probing.{IsRuledOutIfAsked}
-use Rattle.sf_ask.specs.declared.probe.Probe.{Probe}
+use Rattle.sf_ask.proofs.Common.{◌≡◌, ℕ, false, All, has_bit, IsRuledOutIfAsked, Probe}
+use Rattle.std.specs.Prelude.{take}
 use Rattle.sf_ask.proofs.probing.add_questions_left.Given as goal
 
 abbrev pub invariant-loop-probe : goal.invariant-loop-probe

@@ -1,10 +1,4 @@
-use Rattle.std.proofs.Common.{◌≡◌, inl, inr, true, false, sym, subst}
-use Rattle.std.proofs.lemmas.Bool.{cases_lt}
-use Rattle.std.proofs.lemmas.List.Elements.{All-contains, Contains-get_or}
-use Rattle.sf_dom.specs.Facts.{known_at}
-use Rattle.sf_ask.specs.Probing.{IsProbeIn, IsRuledOutIfAsked, has_one_call}
-use Rattle.sf_ask.specs.QuestionBits.{has_bit}
-use Rattle.sf_ask.specs.declared.probe.Probe.{Probe}
+use Rattle.sf_ask.proofs.Common.{◌≡◌, inl, inr, true, false, sym, subst, cases_lt, All-contains, Contains-get_or, known_at, IsProbeIn, IsRuledOutIfAsked, has_one_call, has_bit, Probe}
 use Rattle.sf_ask.proofs.probe.ProbeLemmas.{call-misses}
 use Rattle.sf_ask.proofs.probing.questions_left.Goals as goal
 

@@ -1,4 +1,4 @@
-use Rattle.std.proofs.Common.{arith}
+use Rattle.sf_ask.proofs.Common.{arith}
 use Rattle.sf_ask.proofs.sheet.SheetLemmas.{clear-if-asked}
 use Rattle.sf_ask.proofs.probing.questions_to_judge.Goals as goal
 

@@ -1,5 +1,4 @@
-use Rattle.std.proofs.Common.{◌≡◌, ◌≤◌, length, map, take, vec_len}
-use Rattle.std.specs.Vec.{vec_capacity}
+use Rattle.sf_ask.proofs.Common.{◌≡◌, ◌≤◌, length, map, take, vec_len, vec_capacity}
 use Rattle.sf_ask.proofs.sheet.snapshots.Given as goal
 
 abbrev pub invariant-loop-question : goal.invariant-loop-question

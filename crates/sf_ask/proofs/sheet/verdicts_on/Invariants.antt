@@ -1,7 +1,5 @@
-use Rattle.std.proofs.Common.{◌≡◌, ℕ, ◌<◌, length}
+use Rattle.sf_ask.proofs.Common.{◌≡◌, ℕ, ◌<◌, length, has_bit, IsRightWhereGiven, is_skipped, verdict_at}
 use Rattle.std.specs.Prelude.{not}
-use Rattle.sf_ask.specs.QuestionBits.{has_bit}
-use Rattle.sf_ask.specs.Sheets.{IsRightWhereGiven, is_skipped, verdict_at}
 use Rattle.sf_ask.proofs.sheet.verdicts_on.Given as goal
 
 abbrev pub invariant-loop-q : goal.invariant-loop-q

@@ -1,4 +1,4 @@
-use Rattle.std.proofs.Common.{length}
+use Rattle.sf_ask.proofs.Common.{length}
 use Rattle.sf_ask.proofs.probe.ProbeLemmas.{probes-ordered}
 use Rattle.sf_ask.proofs.probe.Probes.of.Goals as goal
 

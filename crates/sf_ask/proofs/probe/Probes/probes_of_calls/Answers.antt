@@ -1,6 +1,4 @@
-use Rattle.std.proofs.Common.{rules, ltb, leb}
-use Rattle.std.proofs.lemmas.List.Sorted.{IsPartitionPoint-from_clause, IsPartitionedBy-ltb, IsPartitionedBy-leb}
-use Rattle.sf_ask.specs.declared.probe.Probe.{Probe}
+use Rattle.sf_ask.proofs.Common.{rules, ltb, leb, IsPartitionPoint-from_clause, IsPartitionedBy-ltb, IsPartitionedBy-leb, Probe}
 use Rattle.sf_ask.proofs.probe.ProbeLemmas.{found-between}
 use Rattle.sf_ask.proofs.probe.Probes.probes_of_calls.Goals as goal
 

@@ -1,6 +1,4 @@
-use Rattle.std.proofs.lemmas.Grind.{common_steps}
-use Rattle.std.proofs.Common.{arith}
-use Rattle.std.proofs.lemmas.List.{length-map}
+use Rattle.sf_ask.proofs.Common.{common_steps, arith, length-map}
 use Rattle.sf_ask.proofs.sheet.SheetLemmas.{first-length, first-at, first-clear, skipped, right-if-wanted}
 use Rattle.sf_ask.proofs.sheet.Sheet.judge.Goals as goal
 

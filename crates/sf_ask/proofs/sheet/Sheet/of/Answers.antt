@@ -1,6 +1,4 @@
-use Rattle.std.proofs.lemmas.Grind.{common_steps}
-use Rattle.std.proofs.Common.{arith}
-use Rattle.sf_ask.specs.laws.QuestionBitsLaws.{all-bits}
+use Rattle.sf_ask.proofs.Common.{common_steps, arith, all-bits}
 use Rattle.sf_ask.proofs.sheet.Sheet.of.Goals as goal
 
 pub judge-requires-clause-clear : goal.judge-requires-clause-clear

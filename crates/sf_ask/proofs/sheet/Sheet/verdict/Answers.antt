@@ -1,8 +1,5 @@
-use Rattle.std.proofs.lemmas.Grind.{common_steps}
-use Rattle.std.proofs.Common.{◌<◌, Option, length, map, sym, subst, ◌∙◌, arith}
-use Rattle.std.proofs.lemmas.List.{length-map}
-use Rattle.sf_ask.specs.declared.verdict.Verdict.{Verdict}
-use Rattle.sf_ask.specs.Sheets.{IsRightWhereGiven}
+use Rattle.sf_ask.proofs.Common.{common_steps, ◌<◌, length, map, sym, subst, ◌∙◌, arith, length-map, Verdict, IsRightWhereGiven}
+use Rattle.std.proofs.Common.{Option}
 use Rattle.sf_ask.proofs.sheet.SheetLemmas.{first-at}
 use Rattle.sf_ask.proofs.sheet.Sheet.verdict.Goals as goal
 
