@@ -1,13 +1,5 @@
 -- The questions in doubt, and their bits.
-use Rattle.std.proofs.lemmas.Grind.{common_steps}
-use Rattle.std.proofs.Common.{◌≡◌, ◌≢◌, ℕ, ◌+◌, ◌*◌, ◌/◌, ◌%◌, ◌^◌, ◌<◌, ◌≤◌, ◌==◌, if◌then◌else◌, max, bit_or, List, [], ◌∷◌, ◌++◌, w64, ap, arith}
-use Rattle.std.specs.Int.{bit_at}
-use Rattle.std.proofs.lemmas.Bool.Decides.{nat_tests}
-use Rattle.std.proofs.lemmas.Nat.Bits.{bit_at-lt, bit_at-zero, bit_at_set_same, bit_at_set_other}
-use mathlib.Core.Logic.{dite}
-use native.Mathlib.Decide.{ℕ_discrete}
-use Rattle.sf_crew.specs.declared.board.view.EnteredSheet.{EnteredSheet}
-use Rattle.sf_crew.specs.Views.{has, has_doubt}
+use Rattle.sf_crew.proofs.Common.{common_steps, ◌≡◌, ◌≢◌, ℕ, ◌+◌, ◌*◌, ◌/◌, ◌%◌, ◌^◌, ◌<◌, ◌≤◌, ◌==◌, if◌then◌else◌, max, bit_or, List, [], ◌∷◌, ◌++◌, w64, ap, arith, bit_at, nat_tests, bit_at-lt, bit_at-zero, bit_at_set_same, bit_at_set_other, dite, ℕ_discrete, EnteredSheet, has, has_doubt}
 
 pub has_same : (x : ℕ) (xs : List ℕ) → has x (x ∷ xs) ≡ max 1 (has x xs)
 has_same x xs = let t : (if x == x then 1 else 0) ≡ 1 = grind (arith, nat_tests) in ap (λ n. max n (has x xs)) t
@@ -15,12 +7,9 @@ has_same x xs = let t : (if x == x then 1 else 0) ≡ 1 = grind (arith, nat_test
 pub has_other : (x y : ℕ) (xs : List ℕ) → x ≢ y → has x (y ∷ xs) ≡ has x xs
 has_other x y xs ne = grind (arith, common_steps, nat_tests)
 
-one_at_most : (x y : ℕ) → (if x == y then 1 else 0) ≤ 1
-one_at_most x y = grind (arith, nat_tests)
-
 pub has_most : (x : ℕ) (xs : List ℕ) → has x xs ≤ 1
 has_most x [] = omega arith
-has_most x (y ∷ ys) = let rest = has_most x ys in let one = one_at_most x y in omega arith
+has_most x (y ∷ ys) = grind (arith, nat_tests, has_most x ys)
 
 pub has_doubt_most : (q : ℕ) (es : List EnteredSheet) → has_doubt q es ≤ 1
 has_doubt_most q [] = omega arith

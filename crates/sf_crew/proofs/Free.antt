@@ -1,41 +1,22 @@
 -- Pieces on lease through a turn.
-use Rattle.std.proofs.lemmas.Grind.{common_steps}
-use Rattle.std.proofs.Common.{◌≡◌, ◌≢◌, ℕ, ◌<◌, ◌==◌, Bool, true, false, true≢false, not, cond, List, [], ◌∷◌, ◌++◌, length, map, Option, Some, None, MatchOption, MatchBool, eq-eqb, refl, sym, ◌∙◌, ap, arith, inl, inr}
+use Rattle.sf_crew.proofs.Common.{common_steps, ◌≡◌, ◌≢◌, ℕ, ◌<◌, ◌==◌, Bool, true, false, true≢false, not, cond, List, [], ◌∷◌, ◌++◌, length, map, Option, Some, None, MatchOption, MatchBool, eq-eqb, refl, ◌∙◌, ap, arith, inl, eqb-true, nat_tests, arc_value, All-head, All-tail, All-append, All-cons, All-nil, All-map, All-weaker, PieceData, StepData, WorkData, Split, Settled, Empty, OutstandingData, BookData, IsLawfulBook, IsOutstanding, Lease, IsExhausted, IsFree, MayWork, TakesTurn}
 use Rattle.std.specs.List.{All}
-use Rattle.std.proofs.lemmas.Bool.{eqb-true}
-use Rattle.std.proofs.lemmas.Bool.Decides.{nat_tests}
-use Rattle.std.specs.Arc.{arc_value}
-use Rattle.std.proofs.lemmas.List.Elements.{All-head, All-tail, All-append, All-cons, All-nil, All-map, All-weaker}
-use Rattle.sf_piece.specs.Pieces.{PieceData, StepData, WorkData, Split, Settled, Empty}
-use Rattle.sf_book.specs.Books.{OutstandingData, BookData, IsLawfulBook, IsOutstanding}
 use Rattle.sf_book.specs.Changes.{outstanding_at, with_lease_at, with_lease, without, CommitsAs, Leases, MayCommit, Refuses}
 use Rattle.sf_book.specs.declared.fault.Fault.{Fault}
 use Rattle.sf_book.specs.declared.fault.Fault.TheVariants.{Foreign, Stale, Spent, Memory}
 use Rattle.sf_book.specs.laws.ChangesLaws.{all_at, leased_at}
-use Rattle.sf_book.specs.declared.book.Lease.{Lease}
-use Rattle.sf_crew.specs.Explorations.{IsExhausted, IsFree, MayWork, TakesTurn}
 
 -- where something is outstanding, a book is exhausted where its commits are spent, and only there
 pub exhausted_by_commits : (s : BookData) → (length s.outstanding ≡ 0 → ⊥)
     → MatchBool (s.commits == s.budget) (IsExhausted s) (¬ IsExhausted s)
-exhausted_by_commits s some = by (s.commits == s.budget) refl
-  where
-    by : (b : Bool) → (s.commits == s.budget) ≡ b → MatchBool b (IsExhausted s) (¬ IsExhausted s)
-    by true e = inr (eqb-true s.commits s.budget e)
-    by false e = λ h. elim h [
-      | inl none ↦ some (ap length none)
-      | inr same ↦ absurd (true≢false (sym (eq-eqb s.commits s.budget same) ∙ e))
-    ]
+exhausted_by_commits s some = grind (arith, common_steps, true≢false, eq-eqb, eqb-true)
 
 abbrev Free : OutstandingData → Type 0
 Free e = e.leased ≡ false
 
 pub none_left : (es : List OutstandingData) → IsFree es → All (λ e. e.leased ≡ true) es → es ≡ []
 none_left [] h k = refl
-none_left (e ∷ es) h k =
-    let off : e.leased ≡ false = All-head Free e es h in
-    let on : e.leased ≡ true = All-head (λ e. e.leased ≡ true) e es k in
-    absurd (cc)
+none_left (e ∷ es) h k = grind (arith, common_steps, All-head)
 
 marked_free : (i : ℕ) (e : OutstandingData) → e.leased ≡ false → (with_lease_at i false e).leased ≡ false
 marked_free i e h = elim (e.id == i) as (λ b. cond b false e.leased ≡ false) [ true ↦ refl | false ↦ h ]
@@ -43,14 +24,7 @@ marked_free i e h = elim (e.id == i) as (λ b. cond b false e.leased ≡ false) 
 left_free : (id : ℕ) (es : List OutstandingData) → IsFree es → IsFree (without id (map (with_lease_at id true) es))
 left_free id [] h = All-nil Free
 left_free id (e ∷ es) h =
-    let R = without id (map (with_lease_at id true) es) in
-    let rest : IsFree R = left_free id es (All-tail Free e es h) in
-    elim (e.id == id) as (λ b. IsFree (cond (not b)
-    (record { id = e.id; piece = e.piece; leased = cond b true e.leased } ∷ R) R)) [
-      | true ↦ rest
-      | false ↦ All-cons Free (record { id = e.id; piece = e.piece; leased = e.leased }) R
-          (All-head Free e es h) rest
-    ]
+    grind (arith, common_steps, not, cond, All-head, All-tail, All-cons, Free, left_free id es (All-tail Free e es h))
 
 -- ---- a lease of the first piece, where none was on lease
 
@@ -88,8 +62,7 @@ pub may_commit : (b : BookData) (x : Lease) (w : WorkData) → IsLawfulBook b �
     → w.piece ≡ arc_value x.piece → MayCommit b x.id w
 may_commit b x w h m is =
     let e : OutstandingData = record { id = x.id; piece = arc_value x.piece; leased = true } in
-    let o : IsOutstanding b.stack e = all_at (IsOutstanding b.stack) b.outstanding x.id e h.outstanding
-    m.there in
+    let o : IsOutstanding b.stack e = all_at (IsOutstanding b.stack) b.outstanding x.id e h.outstanding m.there in
     record {
       same_stack = ap (λ (q : PieceData). q.stack) is ∙ o.of;
       under_id = e;
@@ -101,9 +74,7 @@ may_commit b x w h m is =
 pub only_memory : (b : BookData) (id : ℕ) (w : WorkData) (f : Fault) → MayCommit b id w → b.commits < b.budget
     → Refuses b id w f → f ≡ Memory
 only_memory b id w Foreign m room h = absurd (h m.same_stack)
-only_memory b id w Stale m room h =
-    let stale : MatchOption (outstanding_at id b.outstanding) (Unit {0}) (λ e. e.piece.name ≢ w.piece.name) = h.1 in
-    absurd ((rw m.there at stale) (sym m.same_name))
+only_memory b id w Stale m room h = grind (arith, common_steps)
 only_memory b id w Spent m room h = absurd (let spent = h.1 in omega arith)
 only_memory b id w Memory m room h = refl
 
@@ -130,9 +101,7 @@ children_free es i j f t free =
 
 pub split_turn : (b c : BookData) (x : Lease) (i j : ℕ) (p : PieceData) (n : List Bool) (s : StepData) → MayWork b x
     → CommitsAs b x.id p n s (Some (i, j)) c
-    → TakesTurn b (record c {
-      outstanding = map (with_lease_at j false) (map (with_lease_at i false) c.outstanding);
-    })
+    → TakesTurn b (record c { outstanding = map (with_lease_at j false) (map (with_lease_at i false) c.outstanding) })
 split_turn b c x i j p n (Split f t) m k =
     rw k.1 (record { commits = refl; free = children_free (without x.id b.outstanding) i j f t m.others })
 split_turn b c x i j p n (Settled a) m k = absurd k

@@ -1,21 +1,6 @@
 -- Each step of a handle keeps the rule of the bench.
-use Rattle.std.proofs.Common.{◌≡◌, ◌≢◌, ℕ, zero, suc, ◌+◌, ◌-◌, ◌<◌, ◌≤◌, min, List, [], ◌∷◌, ◌++◌, All, get_or, length, drop, set, slice_get, Option, Some, None, MatchOption, Result, Ok, Err, MatchResult, sym, refl, ap, ◌∙◌, subst, inl, inr, append_assoc, append-nil, length-append, length-drop, length-set, add-one, arith}
-use mathlib.Core.Option.{some, some-injective, some-ne-none}
-use lib.ListN.{get_elem?}
-use Rattle.std.proofs.lemmas.List.{length-map, drop-append-le}
-use Rattle.std.proofs.lemmas.List.Elements.{All-nil, All-cons, All-push}
-use Rattle.atomic_table.proofs.Lists.{at_set}
-use Rattle.crossbeam_deque.proofs.Phases.{at_lt}
-use Rattle.crossbeam_deque.specs.Tasks.{Pushes, Takes, Finds, FindsFew, Forks, Learns}
-use Rattle.crossbeam_deque.specs.Steals.{MatchSteal}
-use Rattle.crossbeam_deque.specs.declared.steal.Steal.{Steal}
+use Rattle.sf_crew.proofs.Common.{◌≡◌, ◌≢◌, ℕ, zero, suc, ◌+◌, ◌-◌, ◌<◌, ◌≤◌, min, List, [], ◌∷◌, ◌++◌, All, get_or, length, drop, set, slice_get, Option, Some, None, MatchOption, Result, Ok, Err, MatchResult, sym, refl, ap, ◌∙◌, subst, append_assoc, append-nil, length-append, length-drop, length-set, add-one, arith, some, some-injective, some-ne-none, get_elem?, length-map, drop-append-le, All-nil, All-cons, All-push, at_set, at_lt, Pushes, Takes, Finds, FindsFew, Forks, Learns, MatchSteal, Steal, Event, Put, Got, End, HandleView, handle_view, new_view, handle_of, put_items, got_count, IsLawfulFrom, IsLawfulHistory, FitsEnd, FitEnds, HasHistory, own_number, with_own, view_after, AllGot, numbers_of, KeepsHandles, AreAt, Sits, BenchKept, PutsAll, GetsAll, WereLeft, owner_with_thief, new_thief_view, common_steps}
 use Rattle.crossbeam_deque.specs.declared.steal.Steal.TheVariants.{Empty, Success, Retry}
-use Rattle.sf_crew.specs.declared.benches.history.Event.{Event}
-use Rattle.sf_crew.specs.declared.benches.history.Event.TheVariants.{Put, Got}
-use Rattle.sf_crew.specs.declared.benches.history.End.{End}
-use Rattle.sf_crew.specs.declared.benches.history.HandleView.{HandleView}
-use Rattle.sf_crew.specs.History.{handle_view, new_view, handle_of, put_items, got_count, IsLawfulFrom, IsLawfulHistory, FitsEnd, FitEnds, HasHistory, own_number, with_own, view_after, AllGot, numbers_of, KeepsHandles}
-use Rattle.sf_crew.specs.BenchRule.{AreAt, Sits, BenchKept, PutsAll, GetsAll, WereLeft, owner_with_thief, new_thief_view}
 
 module _ {T : Type 0} where
   -- no step of these was made by the handle i
@@ -72,10 +57,7 @@ module _ {T : Type 0} where
   pub set_each : (P : ℕ → HandleView T → Type 0) (views : List (HandleView T)) (port : ℕ) (w : HandleView T) → P port w
       → ((j : ℕ) (u : HandleView T) → j ≢ port → get_elem? views j ≡ some u → P j u) → (j : ℕ) (u : HandleView T)
       → get_elem? (set views port w) j ≡ some u → P j u
-  set_each P views port w mine others j u there = elim (at_set views port j w u there) [
-    | inl x ↦ subst (λ (y : ℕ × HandleView T). P y.0 y.1) (λ i. (sym x.0 i, x.1 i)) mine
-    | inr x ↦ others j u x.0 x.1
-  ]
+  set_each P views port w mine others j u there = grind (arith, common_steps, at_set)
 
   -- and where one comes to them
   snoc_each : (P : ℕ → HandleView T → Type 0) (views : List (HandleView T)) (w : HandleView T)
@@ -106,8 +88,7 @@ module _ {T : Type 0} where
   pub not_here : (home : ℕ → ℕ) (port other : ℕ) (es : List (End T)) → home port ≡ port → other ≢ port
       → AreAt home other es → All (λ (o : End T). o.number ≢ port) es
   not_here home port other [] here ne at = All-nil (λ (o : End T). o.number ≢ port)
-  not_here home port other (e ∷ es) here ne at = All-cons (λ (o : End T). o.number ≢ port) e es
-      (λ (is : e.number ≡ port). ne (sym at.0 ∙ ap home is ∙ here)) (not_here home port other es here ne at.1)
+  not_here home port other (e ∷ es) here ne at = search (arith, All-cons, not_here home port other es here ne at.1)
 
   -- so do ends of other handles
   fit_others : (port : ℕ) (h : List (Event T)) (s : Event T) (es : List (End T)) → handle_of s ≡ port
@@ -169,12 +150,7 @@ module _ {T : Type 0} where
 
   pub moment : (items : List T) (views : List (HandleView T)) (port : ℕ) (v : HandleView T) (k : BenchKept items views)
       (at : get_elem? views port ≡ some v) → HasHistory v k.history
-  moment items views port v k at = record {
-    lawful = k.lawful;
-    ends = (k.each port v at).fits;
-    made = λ some_made. let m = k.all_made port v at some_made in
-        subst (λ n. AllByHandlesBelow n k.history) (sym m.1) k.ports;
-  }
+  moment items views port v k at = grind (arith, common_steps)
 
   pub pushes : (port : ℕ) (v : HandleView T) (x : T) → port ≡ 0 → 0 < length v.ends
       → Pushes BenchKept port v (x ∷ []) (PutsAll v (x ∷ []))
@@ -214,8 +190,7 @@ module _ {T : Type 0} where
   takes port v live (x ∷ y ∷ xs) items views some_one one k at = absurd (omega arith)
 
   all_got : (port : ℕ) (v : HandleView T) (items : List T) (views : List (HandleView T)) → length items ≡ 0
-      → BenchKept items views
-      → get_elem? views port ≡ some v → AllGot v
+      → BenchKept items views → get_elem? views port ≡ some v → AllGot v
   all_got port v items views none k at =
       let h : List (Event T) = k.history in let le = lawful_le 0 0 h (omega arith) k.lawful in
       let e : length items ≡ length (put_items h) - got_count h = ap (λ (l : List T). length l) k.left
@@ -252,10 +227,7 @@ module _ {T : Type 0} where
         fresh = λ i le. k.fresh i (omega arith);
         each = snoc_each (Sits h k.home) vs r (set_each (Sits h k.home) views port l
             (record { fits = mine.fits; at = mine.at; own = mine.own }) (λ j u other there. k.each j u there)) (record {
-              fits = (
-                (h, refl, below_notby v.made h (subst (λ n. AllByHandlesBelow n h) (sym made) k.ports)),
-                tt,
-              );
+              fits = ((h, refl, below_notby v.made h (subst (λ n. AllByHandlesBelow n h) (sym made) k.ports)), tt);
               at = (k.fresh v.made (omega arith) ∙ made ∙ sym long, tt);
               own = (made ∙ sym long, All-nil (λ (o : End T). o.number ≢ length vs));
             });
@@ -276,13 +248,8 @@ module _ {T : Type 0} where
     left = refl;
     ports = All-nil (λ (e : Event T). handle_of e < 1);
     fresh = λ i le. refl;
-    each = snoc_each (Sits [] (λ i. i)) [] (new_view 0 1) (λ j u none. absurd (some-ne-none u (sym none))) (record {
-      fits = (([], refl, All-nil (λ (y : Event T). handle_of y ≢ 0)), tt);
-      at = (refl, tt);
-      own = (refl, All-nil (λ (o : End T). o.number ≢ 0));
-    });
-    all_made = snoc_each (IsMaker 1) [] (new_view 0 1) (λ j u none. absurd (some-ne-none u (sym none)))
-        (λ _. (refl, refl));
+    each = grind (arith, common_steps, All-nil, snoc_each);
+    all_made = grind (arith, common_steps, snoc_each);
   }
 
   numbers_own : (es : List (End T)) (h : List (Event T)) → numbers_of (with_own es h) ≡ numbers_of es
@@ -290,16 +257,10 @@ module _ {T : Type 0} where
   numbers_own (e ∷ es) h = refl
 
   keeps_after : (v w : HandleView T) (h : List (Event T)) → w ≡ view_after v h → KeepsHandles v w
-  keeps_after v w h is = record {
-    made = ap (λ (u : HandleView T). u.made) is;
-    numbers = ap (λ (u : HandleView T). numbers_of u.ends) is ∙ numbers_own v.ends h;
-  }
+  keeps_after v w h is = grind (arith, common_steps, numbers_own)
 
   keeps_same : (v w : HandleView T) → w ≡ v → KeepsHandles v w
-  keeps_same v w is = record {
-    made = ap (λ (u : HandleView T). u.made) is;
-    numbers = ap (λ (u : HandleView T). numbers_of u.ends) is;
-  }
+  keeps_same v w is = grind (arith, common_steps)
 
   -- a put, a take and a steal keep the handles, whatever becomes of them
   pub put_keeps : (v w : HandleView T) (x : T) (X A B C : Type 0) (done : Result X T)
@@ -321,9 +282,7 @@ module _ {T : Type 0} where
 
   -- a view that has an end keeps one
   pub live_kept : (v w : HandleView T) → 0 < length v.ends → KeepsHandles v w → 0 < length w.ends
-  live_kept v w live keeps =
-      let n : length (numbers_of w.ends) ≡ length (numbers_of v.ends) = ap (λ (l : List ℕ). length l) keeps.numbers in
-      omega (arith, length-map w.ends (λ (e : End T). e.number), length-map v.ends (λ (e : End T). e.number))
+  live_kept v w live keeps = grind (arith, common_steps, length-map)
 
   -- where a steal came too late, that is all that became of it
   pub steal_late : (w v : HandleView T) (P : Type 0) (found : Steal T)

@@ -1,13 +1,5 @@
 -- The jobs of one view among all.
-use Rattle.std.proofs.lemmas.Grind.{common_steps}
-use Rattle.std.proofs.Common.{◌≡◌, ℕ, ◌≤◌, min, List, length, ap, ◌∙◌, arith}
-use mathlib.Core.Option.{some}
-use lib.ListN.{get_elem?}
-use Rattle.sf_crew.specs.declared.board.view.BoardKey.{BoardKey}
-use Rattle.sf_crew.specs.declared.board.view.View.{View}
-use Rattle.sf_crew.specs.Views.{count_of_regions, jobs, once_below}
-use Rattle.sf_crew.specs.BoardRule.{Sound, Kept}
-use Rattle.sf_crew.specs.BoardSteps.{HasAllJobs}
+use Rattle.sf_crew.proofs.Common.{common_steps, ◌≡◌, ℕ, ◌≤◌, min, List, length, ap, ◌∙◌, arith, some, get_elem?, BoardKey, View, count_of_regions, jobs, once_below, Sound, Kept, HasAllJobs}
 use Rattle.sf_crew.proofs.Totals.{times, total_at, total_only}
 
 pub jobs_once : (k : BoardKey) (n e : ℕ) (d least : ℕ → ℕ) (views : List View) (port : ℕ) (v : View)

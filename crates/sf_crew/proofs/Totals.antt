@@ -1,12 +1,5 @@
 -- Sums and greatest values over all views, and lists read by place.
-use Rattle.std.proofs.lemmas.Grind.{common_steps}
-use Rattle.std.proofs.Common.{◌≡◌, ℕ, zero, suc, ◌+◌, ◌≤◌, ◌==◌, if◌then◌else◌, cond, max, List, [], ◌∷◌, ◌++◌, sum_by, count_by, set, sym, refl, ap, arith}
-use Rattle.std.proofs.lemmas.List.Sums.{sum_by-cons, sum_by-append}
-use mathlib.Core.Option.{some, some-injective, some-ne-none}
-use lib.ListN.{get_elem?}
-use Rattle.atomic_table.proofs.Lists.{at_set, at_snoc}
-use Rattle.sf_crew.specs.declared.board.view.View.{View}
-use Rattle.sf_crew.specs.Views.{top}
+use Rattle.sf_crew.proofs.Common.{common_steps, ◌≡◌, ℕ, zero, suc, ◌+◌, ◌≤◌, ◌==◌, if◌then◌else◌, cond, max, List, [], ◌∷◌, ◌++◌, sum_by, count_by, set, sym, refl, ap, arith, sum_by-cons, sum_by-append, some, some-injective, some-ne-none, get_elem?, at_set, at_snoc, View, top}
 
 -- how often x stands in the list
 abbrev pub times : ℕ → List ℕ → ℕ
@@ -21,18 +14,14 @@ times_append x xs ys = sum_by-append (λ (z : ℕ). cond (x == z) 1 0) xs ys
 pub total_set : (f : View → ℕ) (views : List View) (port : ℕ) (v w : View) → get_elem? views port ≡ some v
     → sum_by f (set views port w) + f v ≡ sum_by f views + f w
 total_set f [] port v w e = absurd (some-ne-none v (sym e))
-total_set f (x ∷ xs) zero v w e = let same : f x ≡ f v = ap f (some-injective x v e) in
-    let old = sum_by-cons f x xs in let new = sum_by-cons f w xs in omega arith
-total_set f (x ∷ xs) (suc port) v w e = let rest = total_set f xs port v w e in
-    let old = sum_by-cons f x xs in let new = sum_by-cons f x (set xs port w) in omega arith
+total_set f (x ∷ xs) zero v w e = grind (arith, common_steps, sum_by-cons, some-injective)
+total_set f (x ∷ xs) (suc port) v w e = grind (arith, common_steps, sum_by-cons, total_set f xs port v w e)
 
 pub total_at : (f : View → ℕ) (views : List View) (port : ℕ) (v : View) → get_elem? views port ≡ some v
     → f v ≤ sum_by f views
 total_at f [] port v e = absurd (some-ne-none v (sym e))
-total_at f (x ∷ xs) zero v e = let same : f x ≡ f v = ap f (some-injective x v e) in
-    let all = sum_by-cons f x xs in omega arith
-total_at f (x ∷ xs) (suc port) v e = let rest = total_at f xs port v e in
-    let all = sum_by-cons f x xs in omega arith
+total_at f (x ∷ xs) zero v e = grind (arith, common_steps, sum_by-cons, some-injective)
+total_at f (x ∷ xs) (suc port) v e = grind (arith, common_steps, sum_by-cons, total_at f xs port v e)
 
 -- where one view has all of f, and g is 0 wherever f is, it has all of g
 total_none : (f g : View → ℕ) (views : List View)

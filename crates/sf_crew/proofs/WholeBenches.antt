@@ -1,14 +1,6 @@
 -- Where all handles are joined there is just one history.
-use Rattle.std.proofs.Common.{◌≡◌, ◌≢◌, ℕ, zero, suc, ◌+◌, ◌<◌, ◌⊎◌, List, [], ◌∷◌, ◌++◌, Any, Contains, get_or, length, Option, Some, None, MatchOption, sym, refl, ap, ◌∙◌, subst, inl, inr, ⊎_elim, append_assoc, append-nil, length-append, arith}
-use Rattle.std.proofs.lemmas.List.{nil_from_length, same_from_push}
-use Rattle.std.proofs.lemmas.List.Elements.{All-pop}
-use Rattle.std.proofs.lemmas.Option.{slice_get_past}
+use Rattle.sf_crew.proofs.Common.{common_steps, ◌≡◌, ◌≢◌, ℕ, zero, suc, ◌+◌, ◌<◌, ◌⊎◌, List, [], ◌∷◌, ◌++◌, Any, Contains, get_or, length, Option, Some, None, MatchOption, sym, refl, ap, ◌∙◌, subst, inl, inr, ⊎_elim, append_assoc, append-nil, length-append, arith, nil_from_length, same_from_push, All-pop, slice_get_past, Event, End, HandleView, handle_of, put_items, got_count, first_left, FitsEnd, FitEnds, HasHistory, numbers_of, AllGot, IsWhole, IsKnownFirst, GetsAll}
 use Rattle.crossbeam_deque.proofs.Shelves.{last_of_some}
-use Rattle.sf_crew.specs.declared.benches.history.Event.{Event}
-use Rattle.sf_crew.specs.declared.benches.history.End.{End}
-use Rattle.sf_crew.specs.declared.benches.history.HandleView.{HandleView}
-use Rattle.sf_crew.specs.History.{handle_of, put_items, got_count, first_left, FitsEnd, FitEnds, HasHistory, numbers_of, AllGot, IsWhole, IsKnownFirst}
-use Rattle.sf_crew.specs.BenchRule.{GetsAll}
 
 module _ {T : Type 0} where
   -- a list is empty or has a last element
@@ -31,8 +23,7 @@ module _ {T : Type 0} where
       → (e : End T) × (k < length es) × (get_or es k e ≡ e) × (e.number ≡ i)
   end_at [] i k within is = absurd (omega arith)
   end_at (x ∷ es) i zero within is = (x, omega arith, refl, is)
-  end_at (x ∷ es) i (suc k) within is = let r = end_at es i k (omega arith) is in
-      (r.0, (let lt = r.1 in omega arith), r.2, r.3)
+  end_at (x ∷ es) i (suc k) within is = grind (arith, common_steps, end_at es i k (omega arith) is)
 
   pub joined_end : (es : List (End T)) (i : ℕ) → Contains (numbers_of es) i → Any (λ (e : End T). e.number ≡ i) es
   joined_end es i there = let r = end_at es i there.0 there.1 there.2 in (there.0, r.0, r.1, r.2, r.3)
@@ -41,22 +32,18 @@ module _ {T : Type 0} where
   knows_all : (a : List (Event T)) (s : Event T) (e : End T) → handle_of s ≡ e.number → FitsEnd (a ++ s ∷ []) e
       → a ++ s ∷ [] ≡ e.events
   knows_all a s e by f = ⊎_elim
-      (λ (x : f.0 ≡ []). f.1 ∙ ap (λ (l : List (Event T)). e.events ++ l) x ∙ append-nil e.events)
-      (λ (x : HasLast f.0).
+      (λ (x : f.0 ≡ []). f.1 ∙ ap (λ (l : List (Event T)). e.events ++ l) x ∙ append-nil e.events) (λ (x : HasLast f.0).
       let whole : a ++ s ∷ [] ≡ (e.events ++ x.0) ++ x.1 ∷ [] =
       f.1 ∙ ap (λ (l : List (Event T)). e.events ++ l) x.2 ∙ sym (append_assoc e.events x.0 (x.1 ∷ [])) in
       let same : s ≡ x.1 = (same_from_push a (e.events ++ x.0) s x.1 whole).1 in
       let other : handle_of x.1 ≢ e.number =
       (All-pop (λ (y : Event T). handle_of y ≢ e.number) f.0 x.0 (Some x.1) x.2 f.2).1 in
-      absurd (other (ap (λ (y : Event T). handle_of y) (sym same) ∙ by)))
-      (last_of f.0)
+      absurd (other (ap (λ (y : Event T). handle_of y) (sym same) ∙ by))) (last_of f.0)
 
   -- each history that fits all ends begins each other such history
   begins : (v : HandleView T) (h k : List (Event T)) → IsWhole v → HasHistory v h → HasHistory v k
       → (rest : List (Event T)) × (k ≡ h ++ rest)
-  begins v h k whole p q = ⊎_elim
-      (λ (x : h ≡ []). (k, ap (λ (l : List (Event T)). l ++ k) (sym x)))
-      (λ (x : HasLast h).
+  begins v h k whole p q = ⊎_elim (λ (x : h ≡ []). (k, ap (λ (l : List (Event T)). l ++ k) (sym x))) (λ (x : HasLast h).
       let lt : handle_of x.1 < v.made =
       (All-pop (λ (y : Event T). handle_of y < v.made) h x.0 (Some x.1) x.2 (p.made whole.0)).1 in
       let j = joined_end v.ends (handle_of x.1) (whole.1 (handle_of x.1) lt) in
@@ -64,8 +51,7 @@ module _ {T : Type 0} where
       let qk : FitsEnd k j.1 = fits_at k v.ends j.0 j.1 j.2 j.3 q.ends in
       let all : x.0 ++ x.1 ∷ [] ≡ j.1.events = knows_all x.0 x.1 j.1 (sym j.4)
       (subst (λ (l : List (Event T)). FitsEnd l j.1) x.2 ph) in
-      (qk.0, qk.1 ∙ ap (λ (l : List (Event T)). l ++ qk.0) (sym all ∙ sym x.2)))
-      (last_of h)
+      (qk.0, qk.1 ∙ ap (λ (l : List (Event T)). l ++ qk.0) (sym all ∙ sym x.2))) (last_of h)
 
   -- where all handles are joined, all that is known fits one history only
   pub pinned : (v : HandleView T) (h k : List (Event T)) → IsWhole v → HasHistory v h → HasHistory v k → h ≡ k

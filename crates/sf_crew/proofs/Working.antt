@@ -1,28 +1,14 @@
 -- What a worker's turn does to the handles of benches.
-use Rattle.std.proofs.lemmas.Grind.{common_steps}
-use Rattle.std.proofs.Common.{◌≡◌, ◌⊎◌, ⊎_elim, ℕ, ◌<◌, List, arith, get_or, set, slice_get, length, Some, ap, ◌∙◌}
-use Rattle.std.specs.Arc.{arc_value}
+use Rattle.sf_crew.proofs.Common.{common_steps, ◌≡◌, ◌⊎◌, ℕ, ◌<◌, List, arith, get_or, set, slice_get, length, Some, ap, ◌∙◌, arc_value, some_pair_parts, slice_get-map, slice_get-get_or, map-set, MatchSteal, Steal, StepData, Split, Settled, Empty, children_of, Lease, HandleView, Thief, GetsFirst, AllGot, thief_view, thief_views, GetsOne, PutsOrNot, PutsChildren}
 use Rattle.std.specs.Option.{option_map}
-use Rattle.std.proofs.lemmas.Option.{some_pair_parts, slice_get-map, slice_get-get_or}
-use Rattle.std.proofs.lemmas.List.{map-set}
 use Rattle.std.proofs.Math.Seq.{map-set_same}
-use Rattle.crossbeam_deque.specs.Steals.{MatchSteal}
-use Rattle.crossbeam_deque.specs.declared.steal.Steal.{Steal}
 use Rattle.crossbeam_deque.specs.declared.steal.Steal.TheVariants as steal
-use Rattle.sf_piece.specs.Pieces.{StepData, Split, Settled, Empty, children_of}
-use Rattle.sf_book.specs.declared.book.Lease.{Lease}
-use Rattle.sf_crew.specs.declared.benches.history.HandleView.{HandleView}
-use Rattle.sf_crew.specs.declared.benches.handles.Thief.{Thief}
-use Rattle.sf_crew.specs.History.{GetsFirst, AllGot}
-use Rattle.sf_crew.specs.Benches.{thief_view}
-use Rattle.sf_crew.specs.Workers.{thief_views, GetsOne, PutsOrNot, PutsChildren}
 
 -- both pieces of a split were put
 pub both_put : (s : StepData) (x y : Lease) (v u w : HandleView Lease)
     → Some (arc_value x.piece, arc_value y.piece) ≡ children_of s
     → PutsOrNot v x u → PutsOrNot u y w → PutsChildren v s w
-both_put (Split f t) x y v u w e a b = let same = some_pair_parts (arc_value x.piece) f (arc_value y.piece) t e in
-    (u, (x, same.0, a), (y, same.1, b))
+both_put (Split f t) x y v u w e a b = grind (arith, common_steps, some_pair_parts)
 both_put (Settled z) x y v u w e a b = absurd cc
 both_put Empty x y v u w e a b = absurd cc
 
@@ -31,8 +17,7 @@ pub got_nothing : (v w : HandleView Lease) (r : Steal Lease) → (r ≡ steal.Em
     → MatchSteal r ((w ≡ v) × AllGot v) (w ≡ v) (λ x. GetsFirst v x w) → w ≡ v
 got_nothing v w steal.Empty e h = h.0
 got_nothing v w steal.Retry e h = h
-got_nothing v w (steal.Success x) e h = ⊎_elim (λ (k : steal.Success x ≡ steal.Empty). absurd cc)
-    (λ (k : steal.Success x ≡ steal.Retry). absurd cc) e
+got_nothing v w (steal.Success x) e h = grind (arith, common_steps)
 
 pub none_stolen : (ts : List (Thief Lease)) (i : ℕ) (t d : Thief Lease) → thief_view t ≡ thief_view (get_or ts i d)
     → thief_views (set ts i t) ≡ thief_views ts

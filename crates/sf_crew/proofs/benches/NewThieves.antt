@@ -1,8 +1,5 @@
 -- One more thief.
-use Rattle.std.proofs.Common.{◌≡◌, ℕ, ◌+◌, List, [], ◌∷◌, ◌++◌, length, ap, ◌∙◌, arith}
-use Rattle.sf_crew.specs.declared.benches.handles.Thief.{Thief}
-use Rattle.sf_crew.specs.History.{new_view}
-use Rattle.sf_crew.specs.Benches.{thief_view, AreThieves}
+use Rattle.sf_crew.proofs.Common.{◌≡◌, ℕ, ◌+◌, List, [], ◌∷◌, ◌++◌, length, ap, ◌∙◌, arith, Thief, new_view, thief_view, AreThieves}
 
 pub one_thief_more : {T : Type 0} (n m : ℕ) (ts : List (Thief T)) (t : Thief T) → AreThieves n ts → m ≡ n + length ts
     → thief_view t ≡ new_view m 0 → AreThieves n (ts ++ t ∷ [])

@@ -1,16 +1,5 @@
 -- What drawing a job keeps of the rule of a board.
-use Rattle.std.proofs.Common.{◌≡◌, ℕ, suc, ◌+◌, ◌%◌, ◌<◌, ◌≤◌, ◌==◌, if◌then◌else◌, min, List, ◌++◌, sum_by, map, length, set, slice_index, Some, None, IfSome, refl, ap, ◌∙◌, subst, inl, inr, length-set, lt_of_not-le, arith}
-use Rattle.std.proofs.lemmas.Bool.Decides.{nat_tests}
-use Rattle.std.proofs.lemmas.List.{get_or-set_same, get_or-set_other}
-use mathlib.Core.Option.{some}
-use native.Mathlib.Decide.{dec_le}
-use lib.ListN.{get_elem?}
-use Rattle.atomic_table.specs.Table.{Me, Allows, keeps}
-use Rattle.sf_crew.specs.declared.board.view.BoardKey.{BoardKey}
-use Rattle.sf_crew.specs.declared.board.view.View.{View}
-use Rattle.sf_crew.specs.Views.{questions_of, count_of_regions, jobs, owed_jobs, once_below}
-use Rattle.sf_crew.specs.BoardRule.{Sound, Kept, BoardKept, least_in, doubts_in}
-use Rattle.sf_crew.specs.BoardSteps.{view_with_job, view_without_job, HasAllJobs, Draws}
+use Rattle.sf_crew.proofs.Common.{◌≡◌, ℕ, suc, ◌+◌, ◌%◌, ◌<◌, ◌≤◌, ◌==◌, if◌then◌else◌, min, List, ◌++◌, sum_by, map, length, set, slice_index, Some, None, IfSome, refl, ap, ◌∙◌, subst, inl, inr, length-set, lt_of_not-le, arith, nat_tests, get_or-set_same, get_or-set_other, some, dec_le, get_elem?, Me, Allows, keeps, BoardKey, View, questions_of, count_of_regions, jobs, owed_jobs, once_below, Sound, Kept, BoardKept, least_in, doubts_in, view_with_job, view_without_job, HasAllJobs, Draws}
 use Rattle.sf_crew.proofs.Jobs.{all_jobs}
 use Rattle.sf_crew.proofs.Totals.{times, times_cons, total_set, total_at, total_le, every_set}
 use Rattle.sf_crew.proofs.board.OneView.{one_view, same_marks, later, in_words}
@@ -19,9 +8,8 @@ below_next : (x n : ℕ) → once_below x (n + 1) ≡ once_below x n + (if x == 
 below_next x n = grind (arith, nat_tests)
 
 draw_kept : (k : BoardKey) (n e : ℕ) (d least : ℕ → ℕ) (views : List View) (port : ℕ) (v : View)
-    → n < count_of_regions k
-    → v.owes ≡ None → 0 < v.joined_seats → get_elem? views port ≡ some v → Kept k n e d least views
-    → Kept k (n + 1) e d least (set views port (view_with_job v n))
+    → n < count_of_regions k → v.owes ≡ None → 0 < v.joined_seats → get_elem? views port ≡ some v
+    → Kept k n e d least views → Kept k (n + 1) e d least (set views port (view_with_job v n))
 draw_kept k n e d least views port v below free part at h = let w : View = view_with_job v n in
     let mine = h.each port v at in
     one_view k n (n + 1) e e d d least least views port v w at (record {
@@ -55,9 +43,8 @@ draw_kept k n e d least views port v below free part at h = let w : View = view_
     }) h
 
 pass_kept : (k : BoardKey) (n e : ℕ) (d least : ℕ → ℕ) (views : List View) (port : ℕ) (v : View)
-    → count_of_regions k ≤ n
-    → v.exhausted_seats ≡ 0 → 0 < v.joined_seats → get_elem? views port ≡ some v → Kept k n e d least views
-    → Kept k (n + 1) e d least (set views port (view_without_job v))
+    → count_of_regions k ≤ n → v.exhausted_seats ≡ 0 → 0 < v.joined_seats → get_elem? views port ≡ some v
+    → Kept k n e d least views → Kept k (n + 1) e d least (set views port (view_without_job v))
 pass_kept k n e d least views port v past fresh part at h = let w : View = view_without_job v in
     let mine = h.each port v at in
     one_view k n (n + 1) e e d d least least views port v w at (record {
@@ -79,8 +66,7 @@ pass_kept k n e d least views port v past fresh part at h = let w : View = view_
 
 -- the word of the next job stays far below 2 ^ 64
 nones_below : (k : BoardKey) (n e : ℕ) (d least : ℕ → ℕ) (views : List View) (port : ℕ) (v : View)
-    → v.exhausted_seats ≡ 0
-    → 0 < v.joined_seats → get_elem? views port ≡ some v → Kept k n e d least views
+    → v.exhausted_seats ≡ 0 → 0 < v.joined_seats → get_elem? views port ≡ some v → Kept k n e d least views
     → n + 1 ≤ count_of_regions k + k.seats
 nones_below k n e d least views port v fresh part at h =
     let w : View = view_without_job v in let mine = h.each port v at in
@@ -93,24 +79,20 @@ nones_below k n e d least views port v fresh part at h =
     let p = h.joined_seats in let q = h.past_end in omega arith
 
 draw_step : (k : BoardKey) (words : List ℕ) (views : List View) (id : ℕ) (v : View) → v.owes ≡ None
-    → v.exhausted_seats ≡ 0
-    → 0 < v.joined_seats → count_of_regions k + k.seats < 18446744073709551616
+    → v.exhausted_seats ≡ 0 → 0 < v.joined_seats → count_of_regions k + k.seats < 18446744073709551616
     → length words ≡ length (questions_of k) + 6 → Kept k (slice_index words 0) (slice_index words 1) (doubts_in words)
-    (least_in words) views → get_elem? views id ≡ some v
-    → Dec (count_of_regions k ≤ slice_index words 0)
+    (least_in words) views → get_elem? views id ≡ some v → Dec (count_of_regions k ≤ slice_index words 0)
     → (w : View) × Kept k ((slice_index words 0 + 1) % 18446744073709551616) (slice_index words 1) (doubts_in words)
     (least_in words) (set views id w)
     × (slice_index words 0 < count_of_regions k → (times (slice_index words 0) (jobs v) ≡ 0)
-    × (length (jobs v) < count_of_regions k)
-    × (w ≡ view_with_job v (slice_index words 0)))
+    × (length (jobs v) < count_of_regions k) × (w ≡ view_with_job v (slice_index words 0)))
     × (count_of_regions k ≤ slice_index words 0 → (w ≡ view_without_job v) × HasAllJobs k w)
 draw_step k words views id v free fresh part small long h at (yes past) =
     let n = slice_index words 0 in let most = nones_below k n _ _ _ views id v fresh part at h in
     let e : n + 1 ≡ (n + 1) % 18446744073709551616 = omega arith in (
       view_without_job v,
       subst (λ m. Kept k m (slice_index words 1) (doubts_in words) (least_in words)
-          (set views id (view_without_job v))) e
-          (pass_kept k n _ _ _ views id v past fresh part at h),
+          (set views id (view_without_job v))) e (pass_kept k n _ _ _ views id v past fresh part at h),
       (λ below. absurd (omega arith)),
       (λ _. (refl, all_jobs k n _ _ _ views id v at h past)),
     )
@@ -130,8 +112,7 @@ draw_step k words views id v free fresh part small long h at (no not_past) =
     )
 
 pub draws : (k : BoardKey) (slots id : ℕ) (me : Me ℕ View) → me.0.about ≡ Some k → me.0.owes ≡ None
-    → me.0.exhausted_seats ≡ 0
-    → 0 < me.0.joined_seats → count_of_regions k + k.seats < 18446744073709551616
+    → me.0.exhausted_seats ≡ 0 → 0 < me.0.joined_seats → count_of_regions k + k.seats < 18446744073709551616
     → Allows (BoardKept k) slots id me 0 (λ n. (n + 1) % 18446744073709551616) (λ n w. Draws me.0 n w.0 × (w.1 ≡ me.1))
 draws k slots id me is free fresh part small s h homes at fits =
     let v : View = me.0 in let n : ℕ = slice_index s.words 0 in

@@ -1,22 +1,5 @@
 -- What a seat knows of its jobs, and how seats are split and joined.
-use Rattle.std.proofs.lemmas.Grind.{common_steps}
-use Rattle.std.proofs.Common.{◌≡◌, ◌≢◌, ℕ, ◌+◌, ◌<◌, ◌≤◌, ◌⊎◌, min, max, List, [], ◌∷◌, ◌++◌, sum_by, map, length, set, slice_index, Some, None, IfSome, sym, refl, ap, ◌∙◌, subst, inl, inr, ⊎_elim, length-append, lt_of_not-le, arith}
-use Rattle.std.proofs.lemmas.Bool.Decides.{nat_tests}
-use Rattle.std.proofs.lemmas.List.{set-get_or, length-map, map-append}
-use Rattle.std.proofs.lemmas.List.Elements.{All-nil, All-append}
-use Rattle.std.proofs.lemmas.List.Sums.{sum_by_push}
-use mathlib.Core.Option.{some}
-use lib.ListN.{get_elem?}
-use Rattle.atomic_table.specs.Table.{Me, Allows, Splits, Joins, keeps}
-use Rattle.atomic_table.proofs.Lists.{set_else, set_again, set_here}
-use Rattle.crossbeam_deque.proofs.Phases.{at_lt}
-use Rattle.sf_crew.specs.declared.board.view.BoardKey.{BoardKey}
-use Rattle.sf_crew.specs.declared.board.view.View.{View}
-use Rattle.sf_crew.specs.declared.board.view.EnteredSheet.{EnteredSheet}
-use Rattle.sf_crew.specs.declared.board.view.Note.{Note}
-use Rattle.sf_crew.specs.Views.{has, has_doubt, count_of_regions, jobs, owed_jobs, Noted, Covered, once_below, top, doubt_at}
-use Rattle.sf_crew.specs.BoardRule.{Sound, Kept, BoardKept}
-use Rattle.sf_crew.specs.BoardSteps.{idle_view, kept_view, shared_view, joined_view, HasAllJobs, Knows}
+use Rattle.sf_crew.proofs.Common.{common_steps, ◌≡◌, ◌≢◌, ℕ, ◌+◌, ◌<◌, ◌≤◌, ◌⊎◌, min, max, List, [], ◌∷◌, ◌++◌, sum_by, length, set, slice_index, Some, None, IfSome, sym, refl, ap, ◌∙◌, subst, inr, length-append, lt_of_not-le, arith, nat_tests, set-get_or, length-map, map-append, All-nil, All-append, sum_by_push, some, get_elem?, Me, Allows, Splits, Joins, keeps, set_else, set_again, set_here, at_lt, BoardKey, View, Note, has, has_doubt, count_of_regions, jobs, Noted, Covered, once_below, top, doubt_at, Sound, Kept, BoardKept, idle_view, kept_view, shared_view, joined_view, HasAllJobs, Knows}
 use Rattle.sf_crew.proofs.Doubts.{has_doubt_append}
 use Rattle.sf_crew.proofs.Totals.{times, total_set, top_set, top_at, top_snoc, top_change, times_append, every_set, every_snoc}
 use Rattle.sf_crew.proofs.board.Moves.{noted_more}
@@ -84,8 +67,7 @@ splits k id v joined_seats fresh is s h at = (h.0, split_kept k _ _ _ _ s.views 
 
 noted_left : (ns ms : List Note) (q r : ℕ) → Noted ns q r → Noted (ns ++ ms) q r
 noted_left [] ms q r x = absurd x
-noted_left (n ∷ ns) ms q r x = ⊎_elim (λ (y : (n.question ≡ q) × (n.place ≡ r)). inl y)
-    (λ (y : Noted ns q r). inr (noted_left ns ms q r y)) x
+noted_left (n ∷ ns) ms q r x = grind (arith, noted_left ns ms q r)
 
 noted_right : (ns ms : List Note) (q r : ℕ) → Noted ms q r → Noted (ns ++ ms) q r
 noted_right [] ms q r x = x
@@ -93,21 +75,11 @@ noted_right (n ∷ ns) ms q r x = inr (noted_right ns ms q r x)
 
 pub noted_either : (ns ms : List Note) (q r : ℕ) → Noted (ns ++ ms) q r → Noted ns q r ⊎ Noted ms q r
 noted_either [] ms q r x = inr x
-noted_either (n ∷ ns) ms q r x = ⊎_elim (λ (y : (n.question ≡ q) × (n.place ≡ r)). inl (inl y))
-    (λ (y : Noted (ns ++ ms) q r). ⊎_elim (λ (z : Noted ns q r). inl (inr z)) (λ (z : Noted ms q r). inr z)
-    (noted_either ns ms q r y)) x
+noted_either (n ∷ ns) ms q r x = grind (arith, noted_either ns ms q r)
 
 joint_jobs : (x : ℕ) (v w : View) → v.owes ≡ None → w.owes ≡ None
     → times x (jobs (joined_view v w)) ≡ times x (jobs v) + times x (jobs w)
-joint_jobs x v w a b =
-    let f : EnteredSheet → ℕ = λ e. e.job in
-    let l : times x (jobs v) ≡ times x (map f v.entered_sheets) =
-    ap (λ o. times x (owed_jobs o ++ map f v.entered_sheets)) a in
-    let r : times x (jobs w) ≡ times x (map f w.entered_sheets) =
-    ap (λ o. times x (owed_jobs o ++ map f w.entered_sheets)) b in
-    let both : times x (map f (v.entered_sheets ++ w.entered_sheets)) ≡ times x (map f v.entered_sheets)
-    + times x (map f w.entered_sheets) = search (arith, map-append, times_append) in
-    omega arith
+joint_jobs x v w a b = grind (arith, common_steps, map-append, times_append)
 
 joint_count : (v w : View) → v.owes ≡ None → w.owes ≡ None → length (jobs (joined_view v w)) ≡ length (jobs v)
     + length (jobs w)
@@ -180,6 +152,5 @@ join_kept k n e d least views i j v w free free' is part apart at at' h =
     }
 
 pub joins : (k : BoardKey) (id other : ℕ) (v w : View) → v.owes ≡ None → w.owes ≡ None → v.about ≡ Some k
-    → 0 < v.joined_seats
-    → Joins {S = ℕ} (BoardKept k) id v other w (joined_view v w) idle_view
+    → 0 < v.joined_seats → Joins {S = ℕ} (BoardKept k) id v other w (joined_view v w) idle_view
 joins k id other v w free free' is part s h at apart at' = search (arith, join_kept)

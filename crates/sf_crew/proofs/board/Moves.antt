@@ -1,21 +1,5 @@
 -- Each step of a seat keeps the rule of its board.
-use Rattle.std.proofs.Common.{◌≡◌, ◌≢◌, ℕ, ◌+◌, ◌-◌, ◌*◌, ◌/◌, ◌%◌, ◌^◌, ◌<◌, ◌≤◌, min, max, bit_or, List, [], ◌∷◌, ◌++◌, All, sum_by, map, length, set, slice_index, Some, IfSome, sym, refl, ap, ◌∙◌, subst, inr, ⊎_elim, length-set, length-append, lt_of_not-le, arith}
-use Rattle.std.specs.Int.{bit_at}
-use Rattle.std.proofs.lemmas.List.{get_or-set_same, get_or-set_other, set-get_or, length-map}
-use Rattle.std.proofs.lemmas.List.Elements.{All-cons}
-use mathlib.Core.Option.{some}
-use mathlib.Core.Logic.{dite}
-use native.Mathlib.Decide.{dec_le}
-use lib.ListN.{get_elem?}
-use Rattle.atomic_table.specs.Table.{Me, Allows, keeps}
-use Rattle.sf_crew.specs.declared.board.view.BoardKey.{BoardKey}
-use Rattle.sf_crew.specs.declared.board.view.View.{View}
-use Rattle.sf_crew.specs.declared.board.view.EnteredSheet.{EnteredSheet}
-use Rattle.sf_crew.specs.declared.board.view.Note.{Note}
-use Rattle.sf_ask.specs.Sheets.{HasHit}
-use Rattle.sf_crew.specs.Views.{note, entered_sheet, has, has_doubt, regions_of, questions_of, count_of_regions, jobs, owed_jobs, Noted, Covered, RightPlace, top, doubt_at}
-use Rattle.sf_crew.specs.BoardRule.{Kept, BoardKept, least_in, doubts_in}
-use Rattle.sf_crew.specs.BoardSteps.{with_notes, view_with_note, view_with_mark, view_with_sheet, Looks}
+use Rattle.sf_crew.proofs.Common.{◌≡◌, ◌≢◌, ℕ, ◌+◌, ◌-◌, ◌*◌, ◌/◌, ◌%◌, ◌^◌, ◌<◌, ◌≤◌, min, max, bit_or, List, [], ◌∷◌, ◌++◌, All, sum_by, map, length, set, slice_index, Some, IfSome, sym, refl, ap, ◌∙◌, subst, inr, ⊎_elim, length-set, length-append, lt_of_not-le, arith, bit_at, get_or-set_same, get_or-set_other, set-get_or, length-map, All-cons, some, dite, dec_le, get_elem?, Me, Allows, keeps, BoardKey, View, EnteredSheet, Note, HasHit, note, entered_sheet, has, has_doubt, regions_of, questions_of, count_of_regions, jobs, owed_jobs, Noted, Covered, RightPlace, top, doubt_at, Kept, BoardKept, least_in, doubts_in, with_notes, view_with_note, view_with_mark, view_with_sheet, Looks}
 use Rattle.sf_crew.proofs.Doubts.{has_same, has_other, has_most, has_doubt_most, question_is, bit_set, bit_kept, bit_most}
 use Rattle.sf_crew.proofs.Totals.{total_set, total_le, top_set, top_kept}
 use Rattle.sf_crew.proofs.board.OneView.{one_view, marks_and_notes, same_marks, later, in_words}
@@ -50,8 +34,7 @@ looks k slots id q me is there s h homes at fits =
     let same : set s.words (q + 6) n ≡ s.words = set-get_or s.words (q + 6) 0 in
     let mine = (h.1).each id v at in
     let kept = renoted k _ _ _ (least_in s.words) (least_in s.words) s.views id v (note q n ∷ v.notes) at
-    (λ p. omega arith) (h.1).right
-    (λ p r x. ⊎_elim (λ (y : (q ≡ p) × (n ≡ r)). let a : slice_index s.words (p + 6)
+    (λ p. omega arith) (h.1).right (λ p r x. ⊎_elim (λ (y : (q ≡ p) × (n ≡ r)). let a : slice_index s.words (p + 6)
     ≡ n = ap (λ j. slice_index s.words (j + 6)) (sym y.0) in let b = y.1 in omega arith) (λ y. mine.noted p r y) x)
     (λ p r x. inr x) h.1 in (
       w,
@@ -70,8 +53,7 @@ looks k slots id q me is there s h homes at fits =
     )
 
 pub hits : (k : BoardKey) (slots id q j : ℕ) (me : Me ℕ View) → q < length (questions_of k) → j < count_of_regions k
-    → HasHit (regions_of k) (questions_of k) j q
-    → Allows (BoardKept k) slots id me (q + 6) (λ n. min n j)
+    → HasHit (regions_of k) (questions_of k) j q → Allows (BoardKept k) slots id me (q + 6) (λ n. min n j)
     (λ n w. (w.0 ≡ view_with_note me.0 (q + 6 - 6) j) × (w.1 ≡ me.1))
 hits k slots id q j me there below breaks s h homes at fits =
     let v : View = me.0 in let n : ℕ = slice_index s.words (q + 6) in let m : ℕ = min n j in
@@ -88,18 +70,14 @@ hits k slots id q j me there below breaks s h homes at fits =
     let kept = renoted k _ _ _ (least_in s.words) (least_in words) s.views id v (note q j ∷ v.notes) at
     (by (λ p x. x ≤ least_in s.words p) (omega arith) (λ p ne. omega arith))
     (by (λ p x. p < length (questions_of k) → RightPlace k p x) (λ _.
-    dite (dec_le n j) (λ le. subst (RightPlace k q) (omega arith) ((h.1).right q there))
-    (λ gt. inr (
+    dite (dec_le n j) (λ le. subst (RightPlace k q) (omega arith) ((h.1).right q there)) (λ gt. inr (
       (let lt = lt_of_not-le gt in omega arith),
       subst (λ x. HasHit (regions_of k) (questions_of k) x q) (let lt = lt_of_not-le gt in omega arith) breaks,
-    )))
-    (λ p ne. (h.1).right p))
-    (by (λ p x. (r : ℕ) → Noted (note q j ∷ v.notes) p r → x ≤ r)
+    ))) (λ p ne. (h.1).right p)) (by (λ p x. (r : ℕ) → Noted (note q j ∷ v.notes) p r → x ≤ r)
     (λ r x. ⊎_elim (λ (y : (q ≡ q) × (j ≡ r)). let e = y.1 in omega arith)
     (λ (y : Noted v.notes q r). let le = mine.noted q r y in omega arith) x)
     (λ p ne r x. ⊎_elim (λ (y : (q ≡ p) × (j ≡ r)). absurd (ne (sym y.0)))
-    (λ (y : Noted v.notes p r). mine.noted p r y) x))
-    (λ p r x. inr x) h.1 in (
+    (λ (y : Noted v.notes p r). mine.noted p r y) x)) (λ p r x. inr x) h.1 in (
       w,
       keeps,
       tt,
@@ -121,9 +99,8 @@ new_mark d d' views port v q at here others was p few =
     search (arith, has_same, has_most, has_doubt_most, top_set, bit_most, top_kept, has_other)
 
 mark_kept : (k : BoardKey) (n e j q : ℕ) (d d' least : ℕ → ℕ) (views : List View) (port : ℕ) (v : View)
-    → v.owes ≡ Some j
-    → bit_at (d' (q / 64)) (q % 64) ≡ 1 → ((p : ℕ) → p < 256 → p ≢ q
-    → bit_at (d' (p / 64)) (p % 64) ≡ bit_at (d (p / 64)) (p % 64))
+    → v.owes ≡ Some j → bit_at (d' (q / 64)) (q % 64) ≡ 1
+    → ((p : ℕ) → p < 256 → p ≢ q → bit_at (d' (p / 64)) (p % 64) ≡ bit_at (d (p / 64)) (p % 64))
     → get_elem? views port ≡ some v → Kept k n e d least views
     → Kept k n e d' least (set views port (view_with_mark v q))
 mark_kept k n e j q d d' least views port v owing here others at h = let mine = h.each port v at in
@@ -164,8 +141,7 @@ marks k slots q j id me owing few s h homes at fits =
 
 enter_kept : (k : BoardKey) (n e j : ℕ) (d least : ℕ → ℕ) (views : List View) (port : ℕ) (v : View) → v.owes ≡ Some j
     → 0 < v.joined_seats → Covered k v.notes (entered_sheet j v.marked) → get_elem? views port ≡ some v
-    → Kept k n e d least views
-    → Kept k n (e + 1) d least (set views port (view_with_sheet v j))
+    → Kept k n e d least views → Kept k n (e + 1) d least (set views port (view_with_sheet v j))
 enter_kept k n e j d least views port v owing part covered at h = let w : View = view_with_sheet v j in
     let mine = h.each port v at in
     one_view k n n e (e + 1) d d least least views port v w at (record {

@@ -1,15 +1,5 @@
 -- When the rule stays where one view and the words of the board change.
-use Rattle.std.proofs.lemmas.Grind.{common_steps}
-use Rattle.std.proofs.Common.{◌≡◌, ℕ, ◌+◌, ◌/◌, ◌%◌, ◌<◌, ◌≤◌, ◌⊎◌, min, List, length, set, slice_index, sym, ◌∙◌, subst, arith}
-use Rattle.std.specs.Int.{bit_at}
-use mathlib.Core.Option.{some}
-use lib.ListN.{get_elem?}
-use Rattle.sf_crew.specs.declared.board.view.BoardKey.{BoardKey}
-use Rattle.sf_crew.specs.declared.board.view.View.{View}
-use Rattle.sf_crew.specs.declared.board.view.Note.{Note}
-use Rattle.sf_crew.specs.Views.{questions_of, count_of_regions, jobs, RightPlace, once_below, top, doubt_at}
-use Rattle.sf_crew.specs.BoardRule.{Sound, Kept, least_in, doubts_in}
-use Rattle.sf_crew.specs.BoardSteps.{with_notes, with_marks}
+use Rattle.sf_crew.proofs.Common.{common_steps, ◌≡◌, ℕ, ◌+◌, ◌/◌, ◌%◌, ◌<◌, ◌≤◌, ◌⊎◌, min, List, length, set, slice_index, sym, ◌∙◌, arith, bit_at, some, get_elem?, BoardKey, View, Note, questions_of, count_of_regions, jobs, RightPlace, once_below, top, doubt_at, Sound, Kept, least_in, doubts_in, with_notes, with_marks}
 use Rattle.sf_crew.proofs.Totals.{times, total_set, top_kept, every_set}
 
 -- What view v counts for, beside the view w that it becomes, where the word of the next job goes from n to m, and that
@@ -67,10 +57,4 @@ pub in_words : (k : BoardKey) (words : List ℕ) (n e : ℕ) (d least : ℕ → 
     → ((w : ℕ) → w < 4 → doubts_in words w ≡ d w) → ((q : ℕ) → least_in words q ≡ least q)
     → Kept k n e d least views → (length words ≡ length (questions_of k) + 6)
     × Kept k (slice_index words 0) (slice_index words 1) (doubts_in words) (least_in words) views
-in_words k words n e d least views long next entered doubts places h = (
-  long,
-  redoubted k (slice_index words 0) (slice_index words 1) d (doubts_in words) (least_in words) views
-      (λ w few. sym (doubts w few))
-      (subst (λ (x : ℕ × ℕ × (ℕ → ℕ)). Kept k x.0 x.1 d x.2 views)
-      (λ i. (sym next i, sym entered i, λ q. sym (places q) i)) h),
-)
+in_words k words n e d least views long next entered doubts places h = grind (arith, common_steps, redoubted)

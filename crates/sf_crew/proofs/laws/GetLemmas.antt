@@ -1,12 +1,5 @@
 -- Which handle of a bench got which item.
-use Rattle.std.proofs.Common.{◌≡◌, ◌≢◌, ℕ, zero, suc, ◌+◌, ◌<◌, ◌≤◌, true, List, [], ◌∷◌, ◌++◌, All, Any, length, Some, None, is_some, IsSome, slice_get, sym, refl, ap, ◌∙◌, subst, append_assoc, arith}
-use Rattle.std.proofs.lemmas.List.Elements.{All-nil, All-cons, All-tail}
-use Rattle.std.proofs.lemmas.Option.{same_Some}
-use Rattle.sf_crew.specs.declared.benches.history.Event.{Event}
-use Rattle.sf_crew.specs.declared.benches.history.Event.TheVariants.{Put, Got}
-use Rattle.sf_crew.specs.declared.benches.history.End.{End}
-use Rattle.sf_crew.specs.declared.benches.history.HandleView.{HandleView}
-use Rattle.sf_crew.specs.History.{handle_of, put_items, got_count, first_left, IsLawfulFrom, IsLawfulHistory, FitsEnd, FitEnds, HasHistory, IsWhole}
+use Rattle.sf_crew.proofs.Common.{◌≡◌, ◌≢◌, ℕ, zero, suc, ◌+◌, ◌<◌, ◌≤◌, true, List, [], ◌∷◌, ◌++◌, All, Any, length, Some, None, is_some, IsSome, slice_get, sym, refl, ap, ◌∙◌, subst, append_assoc, arith, All-nil, All-cons, same_Some, Event, Put, Got, End, HandleView, handle_of, put_items, got_count, first_left, IsLawfulFrom, IsLawfulHistory, FitsEnd, FitEnds, HasHistory, IsWhole, common_steps}
 use Rattle.sf_crew.specs.Gets.{getter, IsSharedOut, IsAllKnown}
 use Rattle.sf_crew.proofs.Histories.{NotBy, puts_append, lawful_le}
 use Rattle.sf_crew.proofs.WholeBenches.{fits_at, joined_end, pinned}
@@ -37,11 +30,9 @@ module _ {T : Type 0} where
   getter_is : (P : ℕ → Type 0) (h : List (Event T)) (k i : ℕ) → All (λ (s : Event T). P (handle_of s)) h
       → getter h k ≡ Some i → P i
   getter_is P [] k i all e = absurd (cc)
-  getter_is P (Put x ∷ h) k i all e =
-      getter_is P h k i (All-tail (λ (s : Event T). P (handle_of s)) (Put x) h all) e
+  getter_is P (Put x ∷ h) k i all e = getter_is P h k i (λ n d lt. all (suc n) d (omega arith)) e
   getter_is P (Got j ∷ h) zero i all e = subst P (same_Some j i e) (all 0 (Got j) (omega arith))
-  getter_is P (Got j ∷ h) (suc k) i all e =
-      getter_is P h k i (All-tail (λ (s : Event T). P (handle_of s)) (Got j) h all) e
+  getter_is P (Got j ∷ h) (suc k) i all e = getter_is P h k i (λ n d lt. all (suc n) d (omega arith)) e
 
   -- what a handle got, it got by its own last step or before
   getter_own : (a b : List (Event T)) (k n : ℕ) → NotBy n b → getter (a ++ b) k ≡ Some n → getter a k ≡ Some n
@@ -54,8 +45,7 @@ module _ {T : Type 0} where
   getter_at : (a b : List (Event T)) (i : ℕ) → getter (a ++ Got i ∷ b) (got_count a) ≡ Some i
   getter_at [] b i = refl
   getter_at (Put x ∷ a) b i = getter_at a b i
-  getter_at (Got j ∷ a) b i = let n : 1 + got_count a ≡ suc (got_count a) = omega arith in
-      ap (λ k. getter (Got j ∷ (a ++ Got i ∷ b)) k) n ∙ getter_at a b i
+  getter_at (Got j ∷ a) b i = grind (arith, common_steps, getter_at a b i)
 
   -- at a lawful get something is left
   left_at : (p g : ℕ) (a b : List (Event T)) (i : ℕ) → IsLawfulFrom p g (a ++ Got i ∷ b)
@@ -82,8 +72,7 @@ module _ {T : Type 0} where
 
   own_get : (h : List (Event T)) (e : End T) → FitsEnd h e → (k : ℕ) → getter h k ≡ Some e.number
       → getter e.events k ≡ Some e.number
-  own_get h e f k got = getter_own e.events f.0 k e.number f.2
-      (sym (ap (λ (l : List (Event T)). getter l k) f.1) ∙ got)
+  own_get h e f k got = getter_own e.events f.0 k e.number f.2 (sym (ap (λ (l : List (Event T)). getter l k) f.1) ∙ got)
 
   got_le : (h : List (Event T)) → IsLawfulHistory h → got_count h ≤ length (put_items h)
   got_le h lawful = let le = lawful_le 0 0 h (omega arith) lawful in omega arith
@@ -123,8 +112,7 @@ module _ {T : Type 0} where
         j.1,
         j.2,
         j.3,
-        own_get h j.1 (fits_at h v.ends j.0 j.1 j.2 j.3 has.ends) k
-            (got.1 ∙ ap (λ (n : ℕ). Some n) (sym j.4)),
+        own_get h j.1 (fits_at h v.ends j.0 j.1 j.2 j.3 has.ends) k (got.1 ∙ ap (λ (n : ℕ). Some n) (sym j.4)),
       )
 
   pub all_known : (v : HandleView T) (h : List (Event T)) → IsWhole v → HasHistory v h → IsAllKnown v h

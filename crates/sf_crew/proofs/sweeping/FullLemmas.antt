@@ -1,23 +1,5 @@
 -- The tally of all regions is full.
-use Rattle.std.proofs.Common.{◌≡◌, ◌≢◌, ℕ, suc, ◌<◌, ◌≤◌, inl, inr, All, ◌==◌, if◌then◌else◌, List, [], ◌∷◌, get_or, map, length, Some, None, IfSome, sym, ap, ◌∙◌, subst, ⊎_elim, arith}
-use Rattle.std.proofs.lemmas.Bool.Decides.{nat_tests}
-use Rattle.std.proofs.lemmas.List.{length-map}
-use Rattle.std.proofs.lemmas.List.Elements.{All-cons, All-nil}
-use mathlib.Core.Logic.{dite}
-use native.Mathlib.Decide.{ℕ_discrete}
-use Rattle.sf_book.specs.Books.{BookData}
-use Rattle.sf_question.specs.QuestionData.{QuestionData}
-use Rattle.sf_ask.specs.declared.verdict.Verdict.TheVariants.{Clear}
-use Rattle.sf_ask.specs.Sheets.{IsRightOn}
-use Rattle.sf_crew.specs.declared.board.view.BoardKey.{BoardKey}
-use Rattle.sf_crew.specs.declared.board.view.View.{View}
-use Rattle.sf_crew.specs.declared.board.view.EnteredSheet.{EnteredSheet}
-use Rattle.sf_crew.specs.declared.board.Tally.{Tally}
-use Rattle.sf_ask.specs.QuestionBits.{bit_of}
-use Rattle.sf_crew.specs.Views.{regions_of, questions_of, count_of_regions, jobs, has, has_doubt, IsInDoubt, once_below}
-use Rattle.sf_crew.specs.BoardSteps.{HasAllJobs, Knows}
-use Rattle.sf_crew.specs.Tallies.{RightTally, IsBelowLeast}
-use Rattle.sf_crew.specs.Sweeps.{IsFullTally}
+use Rattle.sf_crew.proofs.Common.{◌≡◌, ◌≢◌, ℕ, suc, ◌<◌, ◌≤◌, inl, inr, All, ◌==◌, if◌then◌else◌, List, [], ◌∷◌, get_or, map, length, Some, None, IfSome, sym, ap, ◌∙◌, subst, ⊎_elim, arith, nat_tests, length-map, All-cons, All-nil, dite, ℕ_discrete, BookData, QuestionData, Clear, IsRightOn, BoardKey, View, EnteredSheet, Tally, bit_of, regions_of, questions_of, count_of_regions, jobs, has, has_doubt, IsInDoubt, once_below, HasAllJobs, Knows, RightTally, IsBelowLeast, IsFullTally}
 use Rattle.sf_crew.proofs.Doubts.{has_most}
 use Rattle.sf_crew.proofs.Totals.{times, times_cons}
 
@@ -37,12 +19,6 @@ job_place r (e ∷ es) one = dite (ℕ_discrete e.job r) (λ same. (0, e, omega 
     let rest = job_place r es (omega arith) in
     (suc rest.0, rest.1, (let there = rest.2 in omega arith), rest.3))
 
-one_same : (x : ℕ) → one_if x x ≡ 1
-one_same x = grind (arith, nat_tests)
-
-below_of : (x n : ℕ) → 1 ≤ once_below x n → x < n
-below_of x n h = grind (arith, nat_tests)
-
 once_one : (x n : ℕ) → x < n → once_below x n ≡ 1
 once_one x n h = grind (arith, nat_tests)
 
@@ -52,8 +28,8 @@ jobs_below : (n : ℕ) (es : List EnteredSheet) → ((x : ℕ) → times x (map 
 jobs_below n [] h = All-nil (λ (e : EnteredSheet). e.job < n)
 jobs_below n (e ∷ es) h =
     let all = λ (x : ℕ). times_cons x e.job (map (λ (y : EnteredSheet). y.job) es) in
-    All-cons (λ (y : EnteredSheet). y.job < n) e es
-    (below_of e.job n (let one = h e.job in let t = one_same e.job in let a = all e.job in omega arith))
+    let low : e.job < n = grind (arith, nat_tests, h e.job, all e.job) in
+    All-cons (λ (y : EnteredSheet). y.job < n) e es low
     (jobs_below n es (λ x. let one = h x in let a = all x in omega arith))
 
 -- an entered sheet with a doubt
@@ -66,8 +42,7 @@ doubt_place q (e ∷ es) one = dite (ℕ_discrete (has q e.doubts) 1) (λ is. (0
 
 pub full_tally : (s : BookData) (qs : List QuestionData) (k : BoardKey) (v : View) (t : Tally) → RightTally k v t
     → v.about ≡ Some k → v.owes ≡ None → v.joined_seats ≡ k.seats → 0 < v.exhausted_seats → Knows v → regions_of k ≡ s
-    → questions_of k ≡ qs
-    → length qs ≤ 256 → IsFullTally s qs t
+    → questions_of k ≡ qs → length qs ≤ 256 → IsFullTally s qs t
 full_tally s qs k v t right is free whole past knows regions questions few =
     let long : length (questions_of k) ≡ length qs = ap (λ (l : List QuestionData). length l) questions in
     let all : 0 < v.exhausted_seats → HasAllJobs k v =
@@ -78,8 +53,7 @@ full_tally s qs k v t right is free whole past knows regions questions few =
     let here : IsFullTally (regions_of k) (questions_of k) t = record {
       breaks = right.breaks;
       cleared = λ q r lt below under.
-          (let there = job_place r v.entered_sheets
-          (right.complete count r ∙ once_one r (count_of_regions k) below) in
+          (let there = job_place r v.entered_sheets (right.complete count r ∙ once_one r (count_of_regions k) below) in
           let e : EnteredSheet = get_or v.entered_sheets there.0 there.1 in
           ⊎_elim (λ (x : IsRightOn (regions_of k) (questions_of k) e.job q Clear).
           inl (subst (λ j. IsRightOn (regions_of k) (questions_of k) j q Clear) there.3 x))

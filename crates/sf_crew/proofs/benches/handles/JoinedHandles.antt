@@ -1,17 +1,5 @@
 -- A thief that joins its owner keeps the rule of the bench.
-use Rattle.std.proofs.lemmas.Bool.Decides.{nat_tests}
-use Rattle.std.proofs.Common.{◌≡◌, ◌≢◌, ℕ, ◌<◌, List, [], ◌∷◌, ◌++◌, length, set, ◌==◌, if◌then◌else◌, sym, refl, ap, ◌∙◌, subst, ⊎_elim, length-set, arith}
-use mathlib.Core.Option.{some}
-use lib.ListN.{get_elem?}
-use Rattle.std.proofs.lemmas.List.Elements.{All-append}
-use Rattle.atomic_table.proofs.Lists.{at_set}
-use Rattle.crossbeam_deque.proofs.Phases.{at_lt}
-use Rattle.crossbeam_deque.specs.Tasks.{Merges}
-use Rattle.sf_crew.specs.declared.benches.history.Event.{Event}
-use Rattle.sf_crew.specs.declared.benches.history.End.{End}
-use Rattle.sf_crew.specs.declared.benches.history.HandleView.{HandleView}
-use Rattle.sf_crew.specs.History.{handle_view, FitEnds, view_of_both}
-use Rattle.sf_crew.specs.BenchRule.{AreAt, Sits, BenchKept, spent_view}
+use Rattle.sf_crew.proofs.Common.{nat_tests, ◌≡◌, ◌≢◌, ℕ, ◌<◌, List, [], ◌∷◌, ◌++◌, length, set, ◌==◌, if◌then◌else◌, sym, refl, ap, ◌∙◌, subst, ⊎_elim, length-set, arith, some, get_elem?, All-append, at_set, at_lt, Merges, Event, End, HandleView, handle_view, FitEnds, view_of_both, AreAt, Sits, BenchKept, spent_view, common_steps}
 use Rattle.sf_crew.proofs.Histories.{AllByHandlesBelow, IsMaker, set_each, not_here}
 
 -- what lay at the place `from` lies at `to` now
@@ -39,14 +27,11 @@ module _ {T : Type 0} where
   at_same : (home : ℕ → ℕ) (from to port : ℕ) (es : List (End T)) → port ≢ from → AreAt home port es
       → AreAt (rehomed home from to) port es
   at_same home from to port [] other a = tt
-  at_same home from to port (e ∷ es) other a = (
-    rehomed_same home from to e.number (λ (x : home e.number ≡ from). other (sym a.0 ∙ x)) ∙ a.0,
-    at_same home from to port es other a.1,
-  )
+  at_same home from to port (e ∷ es) other a =
+      grind (arith, common_steps, rehomed_same, at_same home from to port es other a.1)
 
   -- an end that lay at the place that is emptied lies at the other one now
-  at_moved : (home : ℕ → ℕ) (from to : ℕ) (es : List (End T)) → AreAt home from es
-      → AreAt (rehomed home from to) to es
+  at_moved : (home : ℕ → ℕ) (from to : ℕ) (es : List (End T)) → AreAt home from es → AreAt (rehomed home from to) to es
   at_moved home from to [] a = tt
   at_moved home from to (e ∷ es) a = (rehomed_moved home from to e.number a.0, at_moved home from to es a.1)
 
@@ -74,8 +59,7 @@ module _ {T : Type 0} where
       let long : length (set vs other spent_view) ≡ length views =
       length-set vs other spent_view ∙ length-set views port b in
       let homes : ℕ → ℕ = rehomed k.home other port in
-      let others : get_elem? views other ≡ some w = ⊎_elim
-      (λ (x : (other ≡ port) × (b ≡ w)). absurd (ne x.0))
+      let others : get_elem? views other ≡ some w = ⊎_elim (λ (x : (other ≡ port) × (b ≡ w)). absurd (ne x.0))
       (λ (x : (other ≢ port) × (get_elem? views other ≡ some w)). x.1) (at_set views port other b w there) in
       let there_below : other < length views = at_lt views other w others in
       record {
@@ -89,8 +73,7 @@ module _ {T : Type 0} where
         each = set_each (Sits k.history homes) vs other spent_view (record { fits = tt; at = tt; own = tt })
             (λ j u apart here. set_each (λ i y. i ≢ other → Sits k.history homes i y) views port b
             (λ _. both_sit k.home port other k.history v.made w.made v.ends w.ends live ne (k.each port v at)
-            (k.each other w others))
-            (λ i y _ lies elsewhere. let s = k.each i y lies in record {
+            (k.each other w others)) (λ i y _ lies elsewhere. let s = k.each i y lies in record {
               fits = s.fits;
               at = at_same k.home other port i y.ends elsewhere s.at;
               own = s.own;

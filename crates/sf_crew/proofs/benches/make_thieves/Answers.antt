@@ -1,9 +1,4 @@
-use Rattle.std.proofs.Common.{◌≡◌, ◌+◌, length, length-append, sym, ap, ◌∙◌, arith}
-use Rattle.std.proofs.lemmas.List.Elements.{All-push, All-same}
-use Rattle.sf_crew.specs.declared.benches.history.HandleView.{HandleView}
-use Rattle.sf_crew.specs.declared.benches.handles.Thief.{Thief}
-use Rattle.sf_crew.specs.History.{new_view}
-use Rattle.sf_crew.specs.Benches.{IsOnBench, thief_view}
+use Rattle.sf_crew.proofs.Common.{◌≡◌, ◌+◌, length, length-append, sym, ap, ◌∙◌, arith, All-push, All-same, HandleView, Thief, new_view, IsOnBench, thief_view}
 use Rattle.sf_crew.proofs.benches.NewThieves.{one_thief_more}
 use Rattle.sf_crew.proofs.benches.make_thieves.Goals as goal
 

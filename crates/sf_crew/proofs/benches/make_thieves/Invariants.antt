@@ -1,6 +1,4 @@
-use Rattle.std.proofs.Common.{◌≡◌, ◌+◌, All, length, vec_len}
-use Rattle.sf_crew.specs.History.{new_view}
-use Rattle.sf_crew.specs.Benches.{owner_view, AreThieves, IsOnBench}
+use Rattle.sf_crew.proofs.Common.{◌≡◌, ◌+◌, All, length, vec_len, new_view, owner_view, AreThieves, IsOnBench}
 use Rattle.sf_crew.proofs.benches.make_thieves.Given as goal
 
 abbrev pub invariant-loop-given : goal.invariant-loop-given

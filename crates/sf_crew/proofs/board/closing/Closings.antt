@@ -1,24 +1,6 @@
 -- The tally is right.
-use Rattle.std.proofs.Common.{◌≡◌, ◌≢◌, ℕ, zero, suc, ◌+◌, ◌<◌, ◌≤◌, ◌/◌, ◌%◌, min, List, [], ◌∷◌, All, sum_by, length, get_or, set, slice_index, slice_get, Option, Some, None, sym, refl, ap, ◌∙◌, inl, inr, ⊎_elim, length-append, arith}
-use Rattle.std.specs.Int.{bit_at}
-use Rattle.std.proofs.lemmas.Bool.Decides.{nat_tests}
-use Rattle.std.proofs.lemmas.List.{length-map, nil_from_length}
-use Rattle.std.proofs.lemmas.Option.{slice_get_within}
-use mathlib.Core.Option.{some, some-injective, some-ne-none}
-use lib.ListN.{get_elem?, replicate}
-use Rattle.atomic_table.specs.Table.{State}
-use Rattle.sf_ask.specs.declared.verdict.Verdict.TheVariants.{Clear, Doubt}
-use Rattle.sf_ask.specs.Sheets.{IsRightOn}
-use Rattle.sf_crew.specs.declared.board.view.BoardKey.{BoardKey}
-use Rattle.sf_crew.specs.declared.board.view.View.{View}
-use Rattle.sf_crew.specs.declared.board.view.EnteredSheet.{EnteredSheet}
-use Rattle.sf_crew.specs.declared.board.view.Note.{Note}
-use Rattle.sf_crew.specs.declared.board.Tally.{Tally}
-use Rattle.sf_ask.specs.QuestionBits.{bit_of}
-use Rattle.sf_crew.specs.Views.{entered_jobs, has, has_doubt, IsInDoubt, regions_of, questions_of, count_of_regions, jobs, owed_jobs, Noted, Covered, once_below, top, doubt_at}
-use Rattle.sf_crew.specs.BoardRule.{Kept, BoardKept, least_in, doubts_in}
-use Rattle.sf_crew.specs.Tallies.{RightTally, IsBelowLeast, IsCleared}
-use Rattle.sf_crew.specs.LeastWords.{LeastIs}
+use Rattle.std.proofs.lemmas.Grind.{common_steps}
+use Rattle.sf_crew.proofs.Common.{◌≡◌, ◌≢◌, ℕ, zero, suc, ◌+◌, ◌<◌, ◌≤◌, ◌/◌, ◌%◌, min, List, [], ◌∷◌, All, sum_by, length, get_or, set, slice_index, slice_get, Option, Some, None, sym, refl, ap, ◌∙◌, ⊎_elim, length-append, arith, bit_at, nat_tests, length-map, nil_from_length, slice_get_within, some, some-injective, some-ne-none, get_elem?, replicate, State, Doubt, IsRightOn, BoardKey, View, EnteredSheet, Note, Tally, bit_of, entered_jobs, has, has_doubt, IsInDoubt, regions_of, questions_of, count_of_regions, jobs, owed_jobs, Noted, Covered, once_below, top, doubt_at, Kept, BoardKept, least_in, doubts_in, RightTally, IsBelowLeast, IsCleared, LeastIs}
 use Rattle.sf_crew.proofs.Doubts.{bit_most, has_most}
 use Rattle.sf_crew.proofs.Totals.{times, total_at, total_only, top_at, top_only, times_append}
 use Rattle.sf_crew.proofs.Jobs.{jobs_once}
@@ -38,18 +20,8 @@ cleared_all : (k : BoardKey) (t : Tally) (words : List ℕ) (ns : List Note) (es
     → LeastIs words (count_of_regions k) (length (questions_of k)) t.least
     → ((q : ℕ) → q < length (questions_of k) → has_doubt q es ≤ bit_of t.doubts q) → All (Covered k ns) es
     → All (λ e. (q : ℕ) → q < length (questions_of k) → IsBelowLeast t q e.job → IsCleared k t e q) es
-cleared_all k t words ns es noted least masked h = λ i d there q lt below.
-    let e : EnteredSheet = get_or es i d in let c : Covered k ns e = h i d there in
-    ⊎_elim
-    (λ (x : (r : ℕ) × Noted ns q r × (r ≤ e.job)). let place : ℕ = slice_index words (q + 6) in
-    let under = noted q x.0 x.1 in let le = x.2 in let small = c.there in
-    let here : place < count_of_regions k = omega arith in
-    absurd (let above = below place (least.1 q lt here) in omega arith))
-    (λ x. ⊎_elim (λ (y : IsRightOn (regions_of k) (questions_of k) e.job q Clear). inl y)
-    (λ (y : has q e.doubts ≡ 1). let m = masked q lt in let part = has_doubt_at q es i d there in
-    let one = bit_most (slice_index t.doubts (q / 64)) (q % 64) in
-    inr (y, omega arith)) x)
-    (c.cleared q lt)
+cleared_all k t words ns es noted least masked h =
+    grind (arith, common_steps, get_or, slice_index, ⊎_elim, bit_most, has_doubt_at)
 
 doubts_right : (k : BoardKey) (ns : List Note) (es : List EnteredSheet) → All (Covered k ns) es
     → All (λ e. (q : ℕ) → has q e.doubts ≡ 1 → IsInDoubt k e.job q) es

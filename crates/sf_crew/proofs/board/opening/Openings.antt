@@ -1,25 +1,11 @@
 -- A new board keeps its rule.
-use Rattle.std.proofs.lemmas.Grind.{common_steps}
-use Rattle.std.proofs.Common.{◌≡◌, ℕ, zero, suc, ◌+◌, ◌<◌, List, [], ◌∷◌, ◌++◌, length, slice_index, sym, refl, ap, ◌∙◌, subst, arith}
-use Rattle.std.proofs.lemmas.Nat.Bits.{bit_at-zero}
-use Rattle.std.proofs.lemmas.Bool.Decides.{nat_tests}
-use Rattle.std.proofs.lemmas.List.{get_or-append-add, get_or-replicate}
-use mathlib.Core.Option.{some, some-injective, some-ne-none}
-use lib.ListN.{get_elem?, replicate, length-replicate}
-use Rattle.sf_crew.specs.declared.board.view.BoardKey.{BoardKey}
-use Rattle.sf_crew.specs.Views.{questions_of, count_of_regions}
-use Rattle.sf_crew.specs.BoardRule.{Sound, Kept, BoardKept, least_in, doubts_in}
-use Rattle.sf_crew.specs.BoardSteps.{first_view}
+use Rattle.sf_crew.proofs.Common.{common_steps, ◌≡◌, ℕ, zero, suc, ◌+◌, ◌<◌, List, [], ◌∷◌, ◌++◌, length, slice_index, sym, ap, ◌∙◌, subst, arith, bit_at-zero, nat_tests, get_or-append-add, get_or-replicate, some, some-injective, some-ne-none, get_elem?, replicate, length-replicate, BoardKey, questions_of, count_of_regions, Sound, Kept, BoardKept, least_in, doubts_in, first_view}
 
 abbrev pub first_words : ℕ → ℕ → List ℕ
 first_words n regions = (0 ∷ 0 ∷ 0 ∷ 0 ∷ 0 ∷ 0 ∷ []) ++ replicate n regions
 
 first_doubts : (n regions w : ℕ) → w < 4 → doubts_in (first_words n regions) w ≡ 0
-first_doubts n regions zero lt = refl
-first_doubts n regions (suc zero) lt = refl
-first_doubts n regions (suc (suc zero)) lt = refl
-first_doubts n regions (suc (suc (suc zero))) lt = refl
-first_doubts n regions (suc (suc (suc (suc w)))) lt = absurd (omega arith)
+first_doubts n regions w lt = grind (arith, common_steps)
 
 first_least : (n regions q : ℕ) → q < n → least_in (first_words n regions) q ≡ regions
 first_least n regions q lt =
@@ -41,9 +27,8 @@ opens k = grind (arith, common_steps, nat_tests, first_doubts, bit_at-zero, firs
 
 -- words that are the first words of a board keep its rule
 pub opens_at : (k : BoardKey) (words : List ℕ) (n regions : ℕ) → words ≡ first_words n regions
-    → n ≡ length (questions_of k)
-    → regions ≡ count_of_regions k → BoardKept {S = ℕ} k
-    (record { words = words; homes = []; views = first_view k ∷ [] })
+    → n ≡ length (questions_of k) → regions ≡ count_of_regions k
+    → BoardKept {S = ℕ} k (record { words = words; homes = []; views = first_view k ∷ [] })
 opens_at k words n regions is same small =
     subst (λ (y : List ℕ). BoardKept {S = ℕ} k (record { words = y; homes = []; views = first_view k ∷ [] }))
     (sym (is ∙ (λ i. first_words (same i) (small i))))

@@ -1,7 +1,4 @@
-use Rattle.std.proofs.Common.{◌≡◌, ◌+◌, ◌<◌, vec_len, None, All}
-use Rattle.sf_crew.specs.BoardSteps.{Knows}
-use Rattle.sf_crew.specs.Boards.{seat_view, IsSeatOf}
-use Rattle.sf_crew.specs.Sweeps.{IsWorked}
+use Rattle.sf_crew.proofs.Common.{◌≡◌, ◌+◌, ◌<◌, vec_len, None, All, Knows, seat_view, IsSeatOf, IsWorked}
 use Rattle.sf_crew.proofs.sweeping.join_all.Given as goal
 
 abbrev pub invariant-loop-seat : goal.invariant-loop-seat

@@ -1,10 +1,5 @@
-use Rattle.std.proofs.lemmas.Grind.{common_steps}
-use Rattle.std.proofs.Common.{ℕ, ap, ◌∙◌, arith}
-use Rattle.std.proofs.lemmas.List.{length-set}
+use Rattle.sf_crew.proofs.Common.{common_steps, ℕ, ap, ◌∙◌, arith, length-set, View, with_notes, seat_view}
 use Rattle.sf_ask.specs.laws.QuestionBitsLaws.{all-bits}
-use Rattle.sf_crew.specs.declared.board.view.View.{View}
-use Rattle.sf_crew.specs.BoardSteps.{with_notes}
-use Rattle.sf_crew.specs.Boards.{seat_view}
 use Rattle.sf_crew.proofs.sweeping.Skips.{words_more}
 use Rattle.sf_crew.proofs.sweeping.look_at.Goals.{then-to_judge-word-ne0, else-to_judge-word-ne0}
 use Rattle.sf_crew.proofs.sweeping.look_at.Goals as goal

@@ -1,8 +1,4 @@
-use Rattle.std.proofs.Common.{◌≡◌, ℕ, ◌<◌, length}
-use Rattle.sf_ask.specs.QuestionBits.{bit_of}
-use Rattle.sf_crew.specs.BoardSteps.{with_notes}
-use Rattle.sf_crew.specs.Views.{Noted}
-use Rattle.sf_crew.specs.Boards.{seat_view, IsSeatOf}
+use Rattle.sf_crew.proofs.Common.{◌≡◌, ℕ, ◌<◌, length, bit_of, with_notes, Noted, seat_view, IsSeatOf}
 use Rattle.sf_crew.proofs.sweeping.Skips.{HasLowerHit}
 use Rattle.sf_crew.proofs.sweeping.look_at.Given as goal
 

@@ -1,10 +1,4 @@
-use Rattle.std.proofs.lemmas.Grind.{common_steps}
-use Rattle.std.proofs.Common.{ℕ, ◌<◌, w64, ap, ◌∙◌, arith}
-use Rattle.std.specs.Int.{trailing_zeros}
-use Rattle.std.proofs.lemmas.Nat.Bits.{bit_at-trailing_zeros}
-use Rattle.sf_crew.specs.declared.board.view.View.{View}
-use Rattle.sf_crew.specs.BoardSteps.{with_notes}
-use Rattle.sf_crew.specs.Boards.{seat_view}
+use Rattle.sf_crew.proofs.Common.{common_steps, ℕ, ◌<◌, w64, ap, ◌∙◌, arith, trailing_zeros, bit_at-trailing_zeros, View, with_notes, seat_view}
 use Rattle.sf_crew.proofs.sweeping.Skips.{skips_more, skips_none, skips_still}
 use Rattle.sf_crew.proofs.sweeping.look_at_word.Goals.{then-has_lower_hit, else-has_lower_hit}
 use Rattle.sf_crew.proofs.sweeping.look_at_word.Goals as goal
@@ -14,8 +8,7 @@ loop-left-init c = grind (arith, common_steps, skips_none)
 
 pub loop-left-preserved : goal.loop-left-preserved
 loop-left-preserved c =
-    let i = c.loop-left.invariant.skips in let e = c.has_lower_hit.ensures in
-    let left : ℕ = c.loop-left.left in
+    let i = c.loop-left.invariant.skips in let e = c.has_lower_hit.ensures in let left : ℕ = c.loop-left.left in
     let old : View = seat_view c.loop-left.seat in let new : View = seat_view c.has_lower_hit.new.seat in
     let at : ℕ = trailing_zeros w64 left in
     let low : at < 64 = (bit_at-trailing_zeros w64 left (omega (arith, c.loop-left-test.true))
@@ -30,8 +23,5 @@ loop-left-preserved c =
               (e.lower w.if-has_lower_hit.true);
         };
       })
-      | else-has_lower_hit w ↦ rw w.wanted-is (record {
-        seat = e.same;
-        skips = search (arith, skips_still);
-      })
+      | else-has_lower_hit w ↦ rw w.wanted-is (record { seat = e.same; skips = search (arith, skips_still) })
     ]

@@ -1,5 +1,4 @@
-use Rattle.sf_crew.specs.Boards.{seat_view, IsSeatOf}
-use Rattle.sf_crew.specs.Sweeps.{SkipsOnlyIn}
+use Rattle.sf_crew.proofs.Common.{seat_view, IsSeatOf, SkipsOnlyIn}
 use Rattle.sf_crew.proofs.sweeping.look_at_word.Given as goal
 
 abbrev pub invariant-loop-left : goal.invariant-loop-left

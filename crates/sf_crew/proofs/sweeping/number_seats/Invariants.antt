@@ -1,5 +1,4 @@
-use Rattle.std.proofs.Common.{◌≡◌, ◌+◌, All, vec_len}
-use Rattle.sf_crew.specs.Boards.{IsNewSeat}
+use Rattle.sf_crew.proofs.Common.{◌≡◌, ◌+◌, All, vec_len, IsNewSeat}
 use Rattle.sf_crew.proofs.sweeping.number_seats.Given as goal
 
 abbrev pub invariant-loop-seat : goal.invariant-loop-seat

@@ -1,31 +1,17 @@
 -- Why replies are right.
-use Rattle.std.proofs.Common.{◌≡◌, ℕ, zero, suc, ◌<◌, Bool, true, false, true≢false, List, [], ◌∷◌, ◌++◌, length, Option, Some, None, slice_get, get_or, ◌==◌, ◌⊎◌, sym, refl, ap, ◌∙◌, subst, inl, inr}
-use Rattle.std.proofs.lemmas.Bool.{eqb-true}
-use Rattle.std.proofs.lemmas.List.{nil_from_length}
-use Rattle.std.proofs.lemmas.Option.{same_Some, get_or_from_slice_get}
-use Rattle.sf_ask.specs.declared.verdict.Reply.{Reply}
+use Rattle.sf_crew.proofs.Common.{◌≡◌, ℕ, zero, suc, ◌<◌, Bool, true, false, true≢false, List, [], ◌∷◌, ◌++◌, length, Option, Some, None, slice_get, get_or, ◌==◌, ◌⊎◌, sym, refl, ap, ◌∙◌, subst, inl, inr, eqb-true, nil_from_length, same_Some, get_or_from_slice_get, Reply, BookData, IsSettled, Verdict, Hit, Doubt, QuestionData, IsPlain, Tally, bit_of, IsBelowLeast, HasDoubt, IsUnbroken, IsReplyTo, IsFullTally, arith, common_steps}
 use Rattle.sf_insn.specs.declared.input.Input.{Input}
 use Rattle.sf_piece.specs.OneExecution.{IsExecutionOne}
-use Rattle.sf_book.specs.Books.{BookData, IsSettled}
 use Rattle.sf_book.specs.Unfoldings.{IsFringe}
 use Rattle.sf_ask.specs.OneResult.{HaveOneVerdict}
 use Rattle.sf_ask.specs.laws.OneResultLaws.{one_verdict_at}
-use Rattle.sf_ask.specs.declared.verdict.Verdict.{Verdict}
-use Rattle.sf_ask.specs.declared.verdict.Verdict.TheVariants.{Hit, Doubt}
 use Rattle.sf_ask.specs.declared.verdict.Reply.TheVariants.{Never, Allowed, Unsettled}
-use Rattle.sf_question.specs.QuestionData.{QuestionData}
-use Rattle.sf_ask.specs.Verdicts.{IsRightVerdict, TellsTriedAt, IsDoubtful}
-use Rattle.sf_check.specs.Stacks.{IsPlain}
+use Rattle.sf_ask.specs.Verdicts.{IsRightVerdict, TellsTriedAt}
 use Rattle.sf_ask.specs.laws.MemberLaws.{in_some_region}
 use Rattle.sf_ask.specs.Judging.{HasVerdictAt}
-use Rattle.sf_crew.specs.declared.board.Tally.{Tally}
-use Rattle.sf_ask.specs.QuestionBits.{bit_of}
-use Rattle.sf_crew.specs.Tallies.{IsBelowLeast}
-use Rattle.sf_crew.specs.Sweeps.{HasDoubt, IsUnbroken, IsReplyTo, IsFullTally}
 
-pub reply_never : (s : BookData) (q : QuestionData) (doubt : Bool) → IsSettled s
-    → length s.outstanding ≡ 0 → doubt ≡ false
-    → ((r : ℕ) → r < length s.regions → IsUnbroken s q doubt r) → IsReplyTo s q Never
+pub reply_never : (s : BookData) (q : QuestionData) (doubt : Bool) → IsSettled s → length s.outstanding ≡ 0
+    → doubt ≡ false → ((r : ℕ) → r < length s.regions → IsUnbroken s q doubt r) → IsReplyTo s q Never
 reply_never s q doubt h none certain all = let left = nil_from_length s.outstanding none in record {
   rule = (left, λ r l. (all r l).clear certain);
   right = (
@@ -61,11 +47,7 @@ reply_allowed s q r d hit example verdict doubt passed certain = record {
   rule = (r, verdict, λ e l. (passed e l).rule);
   right = (hit.member.input, hit.breaks);
   found = (r, example, λ e l. (passed e l).passed);
-  plain = λ plain. (
-    r,
-    record { here = (d, hit); none_earlier = λ e l. (passed e l).none (certain plain) },
-    example,
-  );
+  plain = λ plain. (r, record { here = (d, hit); none_earlier = λ e l. (passed e l).none (certain plain) }, example);
 }
 
 -- a place that is read is there
@@ -77,9 +59,8 @@ place_there (y ∷ l) (suc q) x e = place_there l q x e
 -- ---- what the tally of all regions tells of the question of a number
 
 -- each region below the least place is unbroken, and every region where there is none
-pub tally_unbroken : (s : BookData) (qs : List QuestionData) (t : Tally) (q : ℕ)
-    (question : QuestionData) (doubt : Bool)
-    → IsFullTally s qs t → q < length qs → slice_get qs q ≡ Some question
+pub tally_unbroken : (s : BookData) (qs : List QuestionData) (t : Tally) (q : ℕ) (question : QuestionData)
+    (doubt : Bool) → IsFullTally s qs t → q < length qs → slice_get qs q ≡ Some question
     → doubt ≡ (bit_of t.doubts q == 1) → (r : ℕ) → r < length s.regions → IsBelowLeast t q r
     → IsUnbroken s question doubt r
 tally_unbroken s qs t q question doubt h lt asked is r within below = elim (h.cleared q r lt within below) [
@@ -104,15 +85,12 @@ tally_unbroken s qs t q question doubt h lt asked is r within below = elim (h.cl
 
 -- where there is no least place, every region lies below it
 pub below_none : (t : Tally) (q : ℕ) → get_or t.least q None ≡ None → (r : ℕ) → IsBelowLeast t q r
-below_none t q none r = λ p found.
-    let clash = sym (get_or_from_slice_get t.least q (Some p) None found) ∙ none in absurd cc
+below_none t q none r = grind (arith, common_steps, get_or_from_slice_get)
 
 -- a region below the least place
 pub below_place : (t : Tally) (q place : ℕ) → get_or t.least q None ≡ Some place → (r : ℕ) → r < place
     → IsBelowLeast t q r
-below_place t q place least r less = λ p found.
-    let same : Some p ≡ Some place = sym (get_or_from_slice_get t.least q (Some p) None found) ∙ least in
-    subst (λ (n : ℕ). r < n) (sym (same_Some p place same)) less
+below_place t q place least r less = grind (arith, common_steps, same_Some, get_or_from_slice_get)
 
 -- the verdict on the region at the least place is a hit, each time
 pub hit_again : IsExecutionOne → HaveOneVerdict → (s : BookData) (qs : List QuestionData) (t : Tally) (q : ℕ)
@@ -128,26 +106,16 @@ hit_again tree verdict s qs t q question place v fringe h least asked is =
     )
 
 -- a bit that is set tells of a region in doubt
-pub tally_doubtful : (s : BookData) (qs : List QuestionData) (t : Tally) (q : ℕ)
-    (question : QuestionData) (doubt : Bool)
-    → IsFullTally s qs t → q < length qs → slice_get qs q ≡ Some question
+pub tally_doubtful : (s : BookData) (qs : List QuestionData) (t : Tally) (q : ℕ) (question : QuestionData)
+    (doubt : Bool) → IsFullTally s qs t → q < length qs → slice_get qs q ≡ Some question
     → doubt ≡ (bit_of t.doubts q == 1) → doubt ≡ true → HasDoubt s question
-tally_doubtful s qs t q question doubt h lt asked is set =
-    let one : bit_of t.doubts q ≡ 1 = eqb-true (bit_of t.doubts q) 1 (sym is ∙ set) in
-    let d = h.doubts q lt one in
-    let same : d.2.question ≡ question = cc (d.2.asked, asked) in (
-      d.0,
-      d.1,
-      subst (IsDoubtful s d.0) same d.2.tried,
-      subst (λ (x : QuestionData). HasVerdictAt s d.0 x Doubt) same d.2.rule,
-    )
+tally_doubtful s qs t q question doubt h lt asked is set = grind (arith, common_steps, eqb-true)
 
 -- on a plain stack no bit is set
 pub tally_plain : (s : BookData) (qs : List QuestionData) (t : Tally) (q : ℕ) (doubt : Bool) → IsFullTally s qs t
     → q < length qs → doubt ≡ (bit_of t.doubts q == 1) → IsPlain s.stack → doubt ≡ false
 tally_plain s qs t q false h lt is plain = refl
-tally_plain s qs t q true h lt is plain = let d = h.doubts q lt (eqb-true (bit_of t.doubts q) 1 (sym is)) in
-    absurd (d.2.decisive plain)
+tally_plain s qs t q true h lt is plain = grind (arith, common_steps, eqb-true)
 
 -- with one reply more
 pub replies_more : (P : ℕ → Reply → Type 0) (xs : List Reply) (x : Reply)

@@ -1,6 +1,4 @@
-use Rattle.std.proofs.Common.{◌≡◌, ◌-◌, length, None}
-use Rattle.sf_crew.specs.Views.{count_of_regions, jobs}
-use Rattle.sf_crew.specs.Boards.{about, seat_view, IsSeatOf}
+use Rattle.sf_crew.proofs.Common.{◌≡◌, ◌-◌, length, None, count_of_regions, jobs, about, seat_view, IsSeatOf}
 use Rattle.sf_crew.proofs.sweeping.work.Given as goal
 
 abbrev pub invariant-loop-job : goal.invariant-loop-job

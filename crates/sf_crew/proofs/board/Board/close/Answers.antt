@@ -1,10 +1,4 @@
-use Rattle.std.proofs.Common.{arith, ◌≡◌, ℕ, List, length, slice_index, sym, ap, ◌∙◌}
-use mathlib.Core.Option.{some}
-use lib.ListN.{get_elem?}
-use Rattle.std.specs.Mem.Slots.{slots_items}
-use Rattle.sf_crew.specs.LeastWords.{LeastIs}
-use Rattle.sf_crew.specs.Views.{questions_of, count_of_regions}
-use Rattle.sf_crew.specs.Boards.{about}
+use Rattle.sf_crew.proofs.Common.{arith, ◌≡◌, ℕ, List, length, slice_index, sym, ap, ◌∙◌, some, get_elem?, slots_items, LeastIs, questions_of, count_of_regions, about}
 use Rattle.sf_crew.proofs.board.closing.Closings.{close_right, elem_index, four_words}
 use Rattle.sf_crew.proofs.board.Board.close.Goals as goal
 

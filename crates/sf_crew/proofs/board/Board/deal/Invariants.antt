@@ -1,6 +1,4 @@
-use Rattle.std.proofs.Common.{◌≡◌, ◌+◌, ◌-◌, ◌≤◌, Some, None, [], All, vec_len}
-use Rattle.sf_crew.specs.BoardSteps.{view_of}
-use Rattle.sf_crew.specs.Boards.{about, board_id, IsNewSeat}
+use Rattle.sf_crew.proofs.Common.{◌≡◌, ◌+◌, ◌-◌, ◌≤◌, Some, None, [], All, vec_len, view_of, about, board_id, IsNewSeat}
 use Rattle.sf_crew.proofs.board.Board.deal.Given as goal
 
 abbrev pub invariant-loop-given : goal.invariant-loop-given

@@ -1,5 +1,4 @@
-use Rattle.std.proofs.Common.{◌≡◌, ◌≤◌, sym, ◌∙◌, arith}
-use Rattle.std.proofs.lemmas.Bool.{ltb-false}
+use Rattle.sf_crew.proofs.Common.{◌≡◌, ◌≤◌, sym, ◌∙◌, arith, ltb-false}
 use Rattle.sf_crew.proofs.board.Draws.{draws}
 use Rattle.sf_crew.proofs.board.Board.draw.Goals as goal
 
@@ -10,6 +9,5 @@ fetch_add-found-requires c =
     let fresh : c.args.seat.now.seat.me.0.exhausted_seats ≡ 0 = omega arith in (
       c.requires.seat.0,
       omega arith,
-      draws _ _ _ _ c.requires.seat.1 c.requires.free fresh c.args.seat.now.present
-          c.args.self.now.small,
+      draws _ _ _ _ c.requires.seat.1 c.requires.free fresh c.args.seat.now.present c.args.self.now.small,
     )

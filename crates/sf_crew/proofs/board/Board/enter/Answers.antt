@@ -1,10 +1,4 @@
-use Rattle.std.proofs.Common.{◌≡◌, ◌<◌, List, [], Some, subst, sym, ap, ◌∙◌, arith}
-use Rattle.sf_crew.specs.declared.board.view.View.{View}
-use Rattle.sf_crew.specs.declared.board.view.Note.{Note}
-use Rattle.sf_crew.specs.Views.{entered_sheet, Covered}
-use Rattle.sf_crew.specs.BoardSteps.{view_of}
-use Rattle.sf_crew.specs.EnteredSheets.{AreDoubts}
-use Rattle.sf_crew.specs.Boards.{about}
+use Rattle.sf_crew.proofs.Common.{◌≡◌, ◌<◌, List, [], Some, subst, sym, ap, ◌∙◌, arith, View, Note, entered_sheet, Covered, view_of, AreDoubts, about}
 use Rattle.sf_crew.proofs.board.Moves.{enters}
 use Rattle.sf_crew.proofs.board.Sheets.{covers, marked_view}
 use Rattle.sf_crew.proofs.board.Board.enter.Goals as goal

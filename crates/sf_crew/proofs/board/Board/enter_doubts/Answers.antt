@@ -1,10 +1,4 @@
-use Rattle.std.proofs.Common.{◌≡◌, ◌<◌, ℕ, ◌+◌, List, ◌∷◌, length, Some, sym, ap, ◌∙◌, refl, arith}
-use Rattle.sf_question.specs.QuestionData.{QuestionData}
-use Rattle.sf_crew.specs.declared.board.view.View.{View}
-use Rattle.sf_crew.specs.Views.{questions_of}
-use Rattle.sf_crew.specs.BoardSteps.{with_marks, view_with_mark}
-use Rattle.sf_crew.specs.EnteredSheets.{MarksDoubts}
-use Rattle.sf_crew.specs.Boards.{about}
+use Rattle.sf_crew.proofs.Common.{◌≡◌, ◌<◌, ℕ, ◌+◌, List, ◌∷◌, length, Some, sym, ap, ◌∙◌, refl, arith, QuestionData, View, questions_of, with_marks, view_with_mark, MarksDoubts, about}
 use Rattle.sf_crew.proofs.board.Sheets.{marks_same, marks_more}
 use Rattle.sf_crew.proofs.board.Moves.{marks}
 use Rattle.sf_crew.proofs.board.Board.enter_doubts.Goals.{then-is_doubt, else-is_doubt}

@@ -1,6 +1,4 @@
-use Rattle.std.proofs.Common.{◌≡◌}
-use Rattle.sf_crew.specs.BoardSteps.{with_marks}
-use Rattle.sf_crew.specs.EnteredSheets.{MarksDoubts}
+use Rattle.sf_crew.proofs.Common.{◌≡◌, with_marks, MarksDoubts}
 use Rattle.sf_crew.proofs.board.Board.enter_doubts.Given as goal
 
 abbrev pub invariant-loop-q : goal.invariant-loop-q

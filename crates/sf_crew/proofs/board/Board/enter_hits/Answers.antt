@@ -1,9 +1,4 @@
-use Rattle.std.proofs.Common.{◌≡◌, ◌<◌, ℕ, List, length, subst, sym, ap, ◌∙◌, arith}
-use Rattle.sf_book.specs.Books.{BookData}
-use Rattle.sf_question.specs.QuestionData.{QuestionData}
-use Rattle.sf_ask.specs.Sheets.{HasHit}
-use Rattle.sf_crew.specs.Views.{questions_of, count_of_regions}
-use Rattle.sf_crew.specs.Boards.{about}
+use Rattle.sf_crew.proofs.Common.{◌≡◌, ◌<◌, ℕ, List, length, subst, sym, ap, ◌∙◌, arith, BookData, QuestionData, HasHit, questions_of, count_of_regions, about}
 use Rattle.sf_ask.specs.laws.SheetLaws.{hit-given}
 use Rattle.sf_crew.proofs.board.Moves.{hits}
 use Rattle.sf_crew.proofs.board.Board.enter_hits.Goals as goal

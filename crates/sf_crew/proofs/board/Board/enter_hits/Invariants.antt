@@ -1,6 +1,4 @@
-use Rattle.std.proofs.Common.{◌≡◌}
-use Rattle.sf_crew.specs.BoardSteps.{with_notes}
-use Rattle.sf_crew.specs.EnteredSheets.{NotesHits}
+use Rattle.sf_crew.proofs.Common.{◌≡◌, with_notes, NotesHits}
 use Rattle.sf_crew.proofs.board.Board.enter_hits.Given as goal
 
 abbrev pub invariant-loop-q : goal.invariant-loop-q

@@ -1,7 +1,4 @@
-use Rattle.std.proofs.Common.{◌≡◌, Some, sym, ap, ◌∙◌, subst, arith}
-use Rattle.sf_crew.specs.declared.board.view.View.{View}
-use Rattle.sf_crew.specs.BoardSteps.{Knows}
-use Rattle.sf_crew.specs.Boards.{about}
+use Rattle.sf_crew.proofs.Common.{◌≡◌, Some, sym, ap, ◌∙◌, subst, arith, View, Knows, about}
 use Rattle.sf_crew.proofs.board.Joins.{joins, glances}
 use Rattle.sf_crew.proofs.board.Board.join.Goals as goal
 

@@ -1,6 +1,4 @@
-use Rattle.std.proofs.Common.{length, sym, ap, ◌∙◌}
-use Rattle.sf_book.specs.Books.{BookData}
-use Rattle.sf_run.specs.declared.counts.Counts.{Counts}
+use Rattle.sf_crew.proofs.Common.{length, sym, ap, ◌∙◌, BookData, Counts}
 use Rattle.sf_crew.proofs.board.opening.Openings.{opens_at}
 use Rattle.sf_crew.proofs.board.Board.new.Goals as goal
 

@@ -1,5 +1,4 @@
-use Rattle.std.proofs.Common.{ℕ, ◌+◌, List, Some, length-set, sym, ◌∙◌, refl, arith}
-use Rattle.std.specs.Mem.Slots.{slots_items}
+use Rattle.sf_crew.proofs.Common.{ℕ, ◌+◌, List, Some, length-set, sym, ◌∙◌, refl, arith, slots_items}
 use Rattle.sf_crew.proofs.board.closing.Closings.{least_start, least_put, least_skip, elem_index}
 use Rattle.sf_crew.proofs.board.closing.least_places.Goals.{then-place-regions, else-place-regions}
 use Rattle.sf_crew.proofs.board.closing.least_places.Goals as goal

@@ -1,6 +1,4 @@
-use Rattle.std.proofs.Common.{◌≡◌, length}
-use Rattle.std.specs.Mem.Slots.{slots_items}
-use Rattle.sf_crew.specs.LeastWords.{LeastIs}
+use Rattle.sf_crew.proofs.Common.{◌≡◌, length, slots_items, LeastIs}
 use Rattle.sf_crew.proofs.board.closing.least_places.Given as goal
 
 abbrev pub invariant-loop-q : goal.invariant-loop-q

@@ -1,8 +1,5 @@
-use Rattle.std.proofs.Common.{ℕ, ◌<◌, ◌==◌, Bool, refl, sym, arith}
-use Rattle.std.proofs.lemmas.Option.{slice_get_read}
-use Rattle.sf_ask.specs.QuestionBits.{bit_of}
-use Rattle.sf_crew.specs.Sweeps.{IsUnbroken}
-use Rattle.sf_question.specs.QuestionData.{QuestionData}
+use Rattle.std.proofs.lemmas.Grind.{common_steps}
+use Rattle.sf_crew.proofs.Common.{ℕ, ◌<◌, ◌==◌, Bool, refl, sym, arith, slice_get_read, bit_of, IsUnbroken, QuestionData}
 use Rattle.sf_crew.proofs.sweeping.replying.Replies.{below_none, below_place, hit_again, place_there, reply_allowed, tally_doubtful, tally_plain, tally_unbroken}
 use Rattle.sf_crew.proofs.sweeping.replying.reply_of.Goals as goal
 
@@ -13,21 +10,13 @@ reply_without_hit-requires-clause-unbroken c = λ r within.
     (below_none c.args.tally.now c.args.q c.in_default.is r)
 
 pub reply_without_hit-requires-clause-doubtful : goal.reply_without_hit-requires-clause-doubtful
-reply_without_hit-requires-clause-doubtful c =
-    tally_doubtful c.args.settled.now _ c.args.tally.now c.args.q _ _ c.requires.tally c.requires.question.0
-    (slice_get_read _ _ c.args.q _ refl c.requires.question.0 c.index-questions-q.is) c.has_bit-doubt.ensures
+reply_without_hit-requires-clause-doubtful c = grind (arith, common_steps, slice_get_read, tally_doubtful)
 
 pub reply_without_hit-requires-clause-plain : goal.reply_without_hit-requires-clause-plain
-reply_without_hit-requires-clause-plain c =
-    tally_plain c.args.settled.now _ c.args.tally.now c.args.q _ c.requires.tally c.requires.question.0
-    c.has_bit-doubt.ensures
+reply_without_hit-requires-clause-plain c = grind (arith, common_steps, tally_plain)
 
 pub returns-in_default-clause-ok : goal.returns-in_default-clause-ok
-returns-in_default-clause-ok c = record {
-  question = c.index-questions-q.result;
-  asked = slice_get_read _ _ c.args.q _ refl c.requires.question.0 c.index-questions-q.is;
-  replies = c.reply_without_hit.ensures;
-}
+returns-in_default-clause-ok c = grind (arith, common_steps, slice_get_read)
 
 pub judge-requires : goal.judge-requires
 judge-requires c =

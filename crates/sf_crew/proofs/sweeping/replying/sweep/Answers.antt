@@ -1,6 +1,4 @@
-use Rattle.std.proofs.Common.{◌≡◌, ℕ, ◌+◌, List, [], ◌∷◌, ◌++◌, length, length-append, Some, slice_get, sym, ap, ◌∙◌, subst, arith}
-use Rattle.sf_ask.specs.declared.verdict.Reply.{Reply}
-use Rattle.sf_crew.specs.Sweeps.{IsRightReplyAt}
+use Rattle.sf_crew.proofs.Common.{◌≡◌, ℕ, ◌+◌, List, [], ◌∷◌, ◌++◌, length, length-append, Some, slice_get, sym, ap, ◌∙◌, subst, arith, Reply, IsRightReplyAt}
 use Rattle.sf_crew.proofs.sweeping.replying.Replies.{replies_more}
 use Rattle.sf_crew.proofs.sweeping.replying.sweep.Goals as goal
 

@@ -1,6 +1,4 @@
-use Rattle.std.proofs.Common.{◌≡◌, ℕ, length, Some, slice_get}
-use Rattle.sf_ask.specs.declared.verdict.Reply.{Reply}
-use Rattle.sf_crew.specs.Sweeps.{IsRightReplyAt}
+use Rattle.sf_crew.proofs.Common.{◌≡◌, ℕ, length, Some, slice_get, Reply, IsRightReplyAt}
 use Rattle.sf_crew.proofs.sweeping.replying.sweep.Given as goal
 
 abbrev pub invariant-loop-q : goal.invariant-loop-q

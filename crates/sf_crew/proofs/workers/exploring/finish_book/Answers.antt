@@ -1,5 +1,4 @@
-use Rattle.std.proofs.Common.{rules}
-use Rattle.sf_crew.specs.Explorations.{IsExplorationOf}
+use Rattle.sf_crew.proofs.Common.{rules, IsExplorationOf}
 use Rattle.sf_crew.proofs.workers.exploring.ExactExplorations.{exact_end}
 use Rattle.sf_crew.proofs.workers.exploring.finish_book.Goals as goal
 

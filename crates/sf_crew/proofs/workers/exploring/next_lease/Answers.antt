@@ -1,5 +1,4 @@
-use Rattle.std.proofs.Common.{◌≡◌, ◌≤◌, ap, arith}
-use Rattle.sf_run.specs.declared.counts.Counts.{Counts}
+use Rattle.sf_crew.proofs.Common.{◌≡◌, ◌≤◌, ap, arith, Counts}
 use Rattle.sf_crew.proofs.Free.{leased_or_end}
 use Rattle.sf_crew.proofs.workers.exploring.next_lease.Goals as goal
 

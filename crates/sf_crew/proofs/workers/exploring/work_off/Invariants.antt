@@ -1,5 +1,4 @@
-use Rattle.std.proofs.Common.{◌≡◌, ◌≤◌}
-use Rattle.sf_crew.specs.Explorations.{IsFree, IsSameExploration}
+use Rattle.sf_crew.proofs.Common.{◌≡◌, ◌≤◌, IsFree, IsSameExploration}
 use Rattle.sf_crew.proofs.workers.exploring.work_off.Given as goal
 
 abbrev pub invariant-loop-call : goal.invariant-loop-call

@@ -9,8 +9,7 @@ pub pop_as-requires-clause-empty : goal.pop_as-requires-clause-empty
 pop_as-requires-clause-empty g c = finds _ _
 
 pub invariant_of-self-clause-live : goal.invariant_of-self-clause-live
-invariant_of-self-clause-live g c = live_kept _ _ c.args.self.now.live
-    (take_keeps _ _ _ c.pop_as.ensures.rule)
+invariant_of-self-clause-live g c = live_kept _ _ c.args.self.now.live (take_keeps _ _ _ c.pop_as.ensures.rule)
 
 pub returns-clause-handles : goal.returns-clause-handles
 returns-clause-handles g c = take_keeps _ _ _ c.pop_as.ensures.rule

@@ -8,8 +8,7 @@ pub steal_as-requires-clause-empty : goal.steal_as-requires-clause-empty
 steal_as-requires-clause-empty g c = finds_few _ _ _ c.args.self.now.fifo
 
 pub invariant_of-self-clause-live : goal.invariant_of-self-clause-live
-invariant_of-self-clause-live g c = live_kept _ _ c.args.self.now.live
-    (steal_keeps _ _ _ _ c.steal_as.ensures.rule)
+invariant_of-self-clause-live g c = live_kept _ _ c.args.self.now.live (steal_keeps _ _ _ _ c.steal_as.ensures.rule)
 
 pub returns-clause-handles : goal.returns-clause-handles
 returns-clause-handles g c = steal_keeps _ _ _ _ c.steal_as.ensures.rule

@@ -1,5 +1,4 @@
-use Rattle.std.proofs.lemmas.Grind.{common_steps}
-use Rattle.std.proofs.Common.{arith}
+use Rattle.sf_crew.proofs.Common.{common_steps, arith}
 use Rattle.sf_crew.proofs.Working.{one_stolen, got_nothing, none_stolen}
 use Rattle.sf_crew.proofs.workers.hands.stealing.steal_at.Goals as goal
 

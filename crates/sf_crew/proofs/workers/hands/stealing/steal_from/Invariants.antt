@@ -1,5 +1,4 @@
-use Rattle.std.proofs.Common.{◌≡◌, length}
-use Rattle.sf_crew.specs.Workers.{thief_views}
+use Rattle.sf_crew.proofs.Common.{◌≡◌, length, thief_views}
 use Rattle.sf_crew.proofs.workers.hands.stealing.steal_from.Given as goal
 
 abbrev pub invariant-loop-place : goal.invariant-loop-place
