@@ -1,34 +1,5 @@
 -- Which rows an input lies in, and their numbers; trees of answers and of changes, which test words of inputs only.
-use Rattle.std.proofs.Common.{◌≡◌, ℕ, zero, suc, ◌+◌, ◌-◌, ◌*◌, ◌/◌, ◌%◌, ◌^◌, ◌<◌, ◌≤◌, ◌==◌, Bool, List, [], ◌∷◌, refl, sym, ap, ap₂, ◌∙◌, arith, true, false, inl, inr, ◌≢◌, Some, None, subst}
-use Rattle.std.specs.Prelude.{◌&&◌, count_by, slice_index, if◌then◌else◌, Contains, not, Option}
-use Rattle.std.specs.Int.{bit_at}
-use Rattle.std.specs.List.{list_all}
-use Rattle.std.proofs.lemmas.List.Sums.{sum_by-cons}
-use Rattle.std.proofs.lemmas.Nat.Bits.{bit_at-lt}
-use Rattle.std.proofs.lemmas.Bool.{cases_Bool, eqb-true, cases_eq, cond-false, cond-true, eq-eqb, ne_eqb, cases_lt}
-use Rattle.sf_insn.specs.declared.input.Input.{Input}
-use Rattle.sf_insn.specs.Inputs.{IsInput}
-use Rattle.sf_check.specs.laws.ContainsLaws.{contains_cons}
-use Rattle.sf_check.specs.declared.insn.Insn.{Insn}
-use Rattle.sf_run.specs.declared.action.Answer.{Answer}
-use Rattle.sf_run.specs.Answers.{Answers}
-use Rattle.sf_run.specs.laws.AnswerLaws.{one}
-use Rattle.sf_run.specs.Machine.{returns_of}
-use Rattle.sf_diagram.specs.Trees.{Tree, Bits, value, IsOrderedTree, IsReducedTree, Leaf, Fork, IsOrderedFrom}
-use Rattle.sf_diagram.specs.Operations.{merged_of, pair_of}
-use Rattle.sf_behaviour.specs.InputBits.{input_bits, words_in_order, input_by}
-use Rattle.sf_behaviour.specs.Answering.{answer_with}
-use Rattle.sf_parts.specs.Words.{low_number, word_number, behind, EndsBefore}
-use Rattle.sf_parts.specs.laws.WordLaws.{bit-if, low-more, ordered-weaker}
-use Rattle.sf_parts.specs.Parts.{form_has}
-use Rattle.sf_parts.specs.Rows.{ConditionData, RowData, is_in_row, meets}
-use Rattle.sf_names.specs.Names.{NamesData}
-use Rattle.sf_relations.specs.declared.relation.Relation.{Relation}
-use Rattle.sf_relations.specs.laws.InputLaws.{same-input}
-use Rattle.sf_relations.specs.Numbers.{operation_of}
-use Rattle.sf_relations.specs.laws.NumberLaws.{not-0-related, one-number, related-differ, related-not-0}
-use Rattle.sf_rows.specs.Rows.{lies_in, tree_word}
-use Rattle.sf_rows.specs.Trees.{AreAskedFor, IsAnswersTree, IsTreeOf, change_number, IsInputTree, is_named_call, unnamed_number}
+use Rattle.sf_rows.proofs.Common.{◌≡◌, ℕ, zero, suc, ◌+◌, ◌-◌, ◌*◌, ◌/◌, ◌%◌, ◌^◌, ◌<◌, ◌≤◌, ◌==◌, Bool, List, [], ◌∷◌, refl, sym, ap, ap₂, ◌∙◌, arith, true, false, inl, inr, ◌≢◌, Some, None, subst, ◌&&◌, count_by, slice_index, if◌then◌else◌, Contains, not, Option, bit_at, list_all, sum_by-cons, bit_at-lt, cases_Bool, eqb-true, cases_eq, cond-false, cond-true, eq-eqb, ne_eqb, cases_lt, Input, IsInput, contains_cons, Insn, Answer, Answers, one, returns_of, Tree, Bits, value, IsOrderedTree, IsReducedTree, Leaf, Fork, IsOrderedFrom, merged_of, pair_of, input_bits, words_in_order, input_by, answer_with, low_number, word_number, behind, EndsBefore, bit-if, low-more, ordered-weaker, form_has, ConditionData, RowData, is_in_row, meets, NamesData, Relation, same-input, operation_of, not-0-related, one-number, related-differ, related-not-0, lies_in, tree_word, AreAskedFor, IsAnswersTree, IsTreeOf, change_number, IsInputTree, is_named_call, unnamed_number}
 
 -- a variable of an input is a bit of one of its words
 bit-there : (d : Input) (w n : ℕ) → n < 32 → input_bits d (32 * w + (31 - n)) ≡ (bit_at (tree_word d w) n == 1)

@@ -1,12 +1,6 @@
 -- Texts with something between them, added one after the other.
-use Rattle.std.proofs.Common.{◌≡◌, ℕ, ◌<◌, ◌+◌, ◌||◌, Bool, true, false, List, [], ◌∷◌, ◌++◌, append_assoc, refl, sym, ap, ◌∙◌, drop, get_or, length, map}
-use Rattle.std.specs.Prelude.{codes, not}
-use Rattle.std.specs.Borrow.{Bor}
-use Rattle.std.specs.List.{list_any}
-use Rattle.std.proofs.lemmas.List.{drop_more}
-use Rattle.std.proofs.lemmas.Bool.{cond-true, cond-false}
-use Rattle.sf_parts.specs.Rows.{ConditionData}
-use Rattle.sf_rows.specs.Lines.{condition_words, further, is_on, joined}
+use Rattle.sf_rows.proofs.Common.{◌≡◌, ℕ, ◌<◌, ◌+◌, Bool, true, false, List, [], ◌∷◌, ◌++◌, append_assoc, refl, sym, ap, ◌∙◌, drop, get_or, length, map, codes, not, Bor, list_any, drop_more, cond-true, cond-false, ConditionData, condition_words, further, is_on, joined}
+use Rattle.std.proofs.Common.{◌||◌}
 
 -- one more text was added, before those that are left
 joined-first : (next text before middle after more : List ℕ) (left : List (List ℕ)) → middle ≡ text ++ before

@@ -1,28 +1,5 @@
 -- Diagrams of the inputs of named calls; the rows beside those of named calls; and that what is shown of a tree is one.
-use Rattle.std.proofs.Common.{◌≡◌, ℕ, zero, suc, ◌+◌, ◌-◌, ◌*◌, ◌%◌, ◌^◌, ◌<◌, ◌==◌, Bool, true, false, List, [], ◌∷◌, length, map, refl, sym, ap, ap₂, subst, ◌∙◌, inl, inr, arith, lit<, ◌≢◌, Some, None}
-use Rattle.std.specs.Prelude.{◌&&◌, ◌||◌, All, filter, not, if◌then◌else◌, Contains, Option, count_by}
-use Rattle.std.specs.Int.{bit_at}
-use Rattle.std.specs.List.{list_any}
-use Rattle.std.specs.Borrow.{Bor}
-use Rattle.std.proofs.lemmas.Bool.{cases_eq, cond-true, cond-false, eq-eqb, eqb-true, ne_eqb}
-use Rattle.std.proofs.lemmas.List.Elements.{All-head, All-tail}
-use Rattle.std.proofs.lemmas.Nat.{mod_below, pow_pos}
-use Rattle.std.proofs.lemmas.Nat.Bits.{bit_at-lt}
-use Rattle.sf_insn.specs.declared.input.Input.{Input}
-use Rattle.sf_insn.specs.Inputs.{IsInput}
-use Rattle.sf_diagram.specs.Trees.{Tree, Leaf, Fork, Bits, value}
-use Rattle.sf_diagram.specs.Stores.{KeepsTrees, tree_at}
-use Rattle.sf_diagram.specs.Choices.{IsChosen, chosen_of}
-use Rattle.sf_behaviour.specs.Words.{IsDiagramOf}
-use Rattle.sf_behaviour.specs.InputBits.{input_bits}
-use Rattle.sf_parts.specs.Words.{low_number}
-use Rattle.sf_parts.specs.laws.WordLaws.{low-more, low-small}
-use Rattle.sf_parts.specs.Rows.{RowData}
-use Rattle.sf_names.specs.Names.{CallData, NamesData}
-use Rattle.sf_rows.specs.Trees.{is_call_number, IsTreeOf, is_named_call, unnamed_number}
-use Rattle.sf_rows.specs.declared.subject.Subject.{Subject}
-use Rattle.sf_rows.specs.Rows.{rows_of, hidden_number, tree_word}
-use Rattle.sf_rows.specs.Shown.{AreOthers, CallRowData, IsShown, ShownData}
+use Rattle.sf_rows.proofs.Common.{◌≡◌, ℕ, zero, suc, ◌+◌, ◌-◌, ◌*◌, ◌%◌, ◌^◌, ◌<◌, ◌==◌, Bool, true, false, List, [], ◌∷◌, length, map, refl, sym, ap, ap₂, subst, ◌∙◌, inl, inr, arith, lit<, ◌≢◌, Some, None, ◌&&◌, ◌||◌, All, filter, not, if◌then◌else◌, Contains, Option, count_by, bit_at, list_any, Bor, cases_eq, cond-true, cond-false, eq-eqb, eqb-true, ne_eqb, All-head, All-tail, mod_below, pow_pos, bit_at-lt, Input, IsInput, Tree, Leaf, Fork, Bits, value, KeepsTrees, tree_at, IsChosen, chosen_of, IsDiagramOf, input_bits, low_number, low-more, low-small, RowData, CallData, NamesData, is_call_number, IsTreeOf, is_named_call, unnamed_number, Subject, rows_of, hidden_number, tree_word, AreOthers, CallRowData, IsShown, ShownData}
 use Rattle.sf_rows.proofs.RowLemmas.{AreOneTree, none-counted, one-tree-of, word-is}
 
 -- ---- diagrams by their values

@@ -1,8 +1,4 @@
-use Rattle.std.proofs.Common.{◌≡◌, map, take}
-use Rattle.std.specs.List.{flat_map}
-use Rattle.sf_diagram.specs.Stores.{tree_at}
-use Rattle.sf_names.specs.Names.{NamesData}
-use Rattle.sf_rows.specs.Shown.{rows_if_wanted}
+use Rattle.sf_rows.proofs.Common.{◌≡◌, map, take, flat_map, tree_at, NamesData, rows_if_wanted}
 use Rattle.sf_rows.proofs.calls.call_rows.Given as goal
 
 abbrev pub invariant-loop-names : goal.invariant-loop-names

@@ -1,5 +1,4 @@
-use Rattle.std.proofs.Common.{◌∙◌}
-use Rattle.std.specs.Str.{bytes_eq}
+use Rattle.sf_rows.proofs.Common.{◌∙◌, bytes_eq}
 use Rattle.sf_rows.proofs.TextLemmas.{any_now}
 use Rattle.sf_rows.proofs.calls.is_among.Goals as goal
 

@@ -1,5 +1,4 @@
-use Rattle.std.proofs.Common.{◌≡◌, ◌++◌, map}
-use Rattle.sf_rows.specs.Shown.{call_row}
+use Rattle.sf_rows.proofs.Common.{◌≡◌, ◌++◌, map, call_row}
 use Rattle.sf_rows.proofs.calls.push_rows.Given as goal
 
 abbrev pub invariant-loop-row : goal.invariant-loop-row

@@ -1,7 +1,4 @@
-use Rattle.std.proofs.Common.{◌≡◌, ◌++◌, map, take}
-use Rattle.std.specs.List.{flat_map}
-use Rattle.sf_diagram.specs.Stores.{tree_at}
-use Rattle.sf_rows.specs.Shown.{rows_if_wanted}
+use Rattle.sf_rows.proofs.Common.{◌≡◌, ◌++◌, map, take, flat_map, tree_at, rows_if_wanted}
 use Rattle.sf_rows.proofs.calls.push_set.Given as goal
 
 abbrev pub invariant-loop-call : goal.invariant-loop-call

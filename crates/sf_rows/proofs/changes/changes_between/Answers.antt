@@ -1,11 +1,5 @@
-use Rattle.std.proofs.Common.{◌∙◌, ap, ap₂, sym, Option}
-use Rattle.sf_diagram.specs.Trees.{Bits, Tree, value}
-use Rattle.sf_diagram.specs.Stores.{tree_at}
-use Rattle.sf_diagram.specs.Operations.{merged_of, pair_of}
-use Rattle.sf_diagram.specs.declared.operation.Operation.{Operation}
-use Rattle.sf_relations.specs.Numbers.{operation_of}
-use Rattle.sf_relations.specs.declared.relation.Relation.{Relation}
-use Rattle.sf_rows.specs.Trees.{change_number}
+use Rattle.sf_rows.proofs.Common.{◌∙◌, ap, ap₂, sym, Bits, Tree, value, tree_at, merged_of, pair_of, Operation, operation_of, Relation, change_number}
+use Rattle.std.proofs.Common.{Option}
 use Rattle.sf_rows.proofs.others.OtherLemmas.{chosen-diagram, chosen-some, diagram-kept, diagram-same, leaf-diagram}
 use Rattle.sf_rows.proofs.changes.changes_between.Goals as goal
 

@@ -1,10 +1,4 @@
-use Rattle.std.proofs.Common.{◌≡◌, [], ◌∷◌, ◌∙◌, ap, ap₂, map, rules}
-use Rattle.std.specs.Prelude.{codes}
-use Rattle.serde_json.specs.Data.{string}
-use Rattle.serde_json.specs.View.{view}
-use Rattle.sf_json.specs.Documents.{fields, list_of}
-use Rattle.sf_parts.specs.Rows.{RowData}
-use Rattle.sf_rows.specs.Documents.{condition_document, with_answers}
+use Rattle.sf_rows.proofs.Common.{◌≡◌, [], ◌∷◌, ◌∙◌, ap, ap₂, map, rules, codes, string, view, fields, list_of, RowData, condition_document, with_answers}
 use Rattle.sf_rows.proofs.document.call_row_document.Goals as goal
 
 pub returns : goal.returns

@@ -1,6 +1,4 @@
-use Rattle.std.proofs.Common.{◌≡◌, map, take}
-use Rattle.serde_json.specs.View.{view}
-use Rattle.sf_rows.specs.Documents.{call_row_document}
+use Rattle.sf_rows.proofs.Common.{◌≡◌, map, take, view, call_row_document}
 use Rattle.sf_rows.proofs.document.call_row_documents.Given as goal
 
 abbrev pub invariant-loop-row : goal.invariant-loop-row

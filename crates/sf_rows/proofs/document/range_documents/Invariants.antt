@@ -1,6 +1,4 @@
-use Rattle.std.proofs.Common.{◌≡◌, map, take}
-use Rattle.serde_json.specs.View.{view}
-use Rattle.sf_rows.specs.Documents.{range_document}
+use Rattle.sf_rows.proofs.Common.{◌≡◌, map, take, view, range_document}
 use Rattle.sf_rows.proofs.document.range_documents.Given as goal
 
 abbrev pub invariant-loop-span : goal.invariant-loop-span

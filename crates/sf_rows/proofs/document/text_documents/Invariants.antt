@@ -1,6 +1,4 @@
-use Rattle.std.proofs.Common.{◌≡◌, map, string_bytes}
-use Rattle.serde_json.specs.Data.{string}
-use Rattle.serde_json.specs.View.{view}
+use Rattle.sf_rows.proofs.Common.{◌≡◌, map, string_bytes, string, view}
 use Rattle.sf_rows.proofs.document.text_documents.Given as goal
 
 abbrev pub invariant-loop-text : goal.invariant-loop-text

@@ -1,9 +1,4 @@
-use Rattle.std.proofs.Common.{◌∙◌, sym, ◌==◌}
-use Rattle.std.specs.Prelude.{◌&&◌, not}
-use Rattle.sf_diagram.specs.Trees.{value}
-use Rattle.sf_behaviour.specs.InputBits.{input_bits}
-use Rattle.sf_parts.specs.Rows.{RowData, is_in_row}
-use Rattle.sf_rows.specs.Rows.{rows_of, hidden_number}
+use Rattle.sf_rows.proofs.Common.{◌∙◌, sym, ◌==◌, ◌&&◌, not, value, input_bits, RowData, is_in_row, rows_of, hidden_number}
 use Rattle.sf_rows.proofs.RowLemmas.{count-is, in-is, none-counted, number-of}
 use Rattle.sf_rows.proofs.laws.each_input_lies_in_its_row.Goals as goal
 

@@ -1,11 +1,4 @@
-use Rattle.std.proofs.Common.{◌∙◌, ap, arith, sym, ◌==◌}
-use Rattle.std.specs.Prelude.{◌&&◌, not, if◌then◌else◌}
-use Rattle.sf_diagram.specs.Trees.{value, IsOrderedFrom}
-use Rattle.sf_behaviour.specs.InputBits.{input_bits}
-use Rattle.sf_parts.specs.Words.{EndsBefore, behind}
-use Rattle.sf_parts.specs.laws.WordLaws.{behind-below, behind-ordered}
-use Rattle.sf_parts.specs.Rows.{RowData, is_in_row}
-use Rattle.sf_rows.specs.Rows.{rows_of_call, hidden_number}
+use Rattle.sf_rows.proofs.Common.{◌∙◌, ap, arith, sym, ◌==◌, ◌&&◌, not, if◌then◌else◌, value, IsOrderedFrom, input_bits, EndsBefore, behind, behind-below, behind-ordered, RowData, is_in_row, rows_of_call, hidden_number}
 use Rattle.sf_rows.proofs.RowLemmas.{count-is, in-is, none-counted, number-of, value-of-call, word-is}
 use Rattle.sf_rows.proofs.laws.each_input_of_a_call_lies_in_its_row.Goals as goal
 

@@ -1,8 +1,4 @@
-use Rattle.std.proofs.Common.{◌∙◌}
-use Rattle.sf_diagram.specs.Trees.{value}
-use Rattle.sf_behaviour.specs.InputBits.{input_bits}
-use Rattle.sf_rows.specs.Trees.{is_named_call}
-use Rattle.sf_rows.specs.Rows.{lies_in, rows_of, hidden_number, tree_word}
+use Rattle.sf_rows.proofs.Common.{◌∙◌, value, input_bits, is_named_call, lies_in, rows_of, hidden_number, tree_word}
 use Rattle.sf_rows.proofs.others.OtherLemmas.{not-hidden, other-count, other-number, unnamed-on}
 use Rattle.sf_rows.proofs.RowLemmas.{unnamed-input}
 use Rattle.sf_rows.proofs.laws.each_other_input_lies_in_its_row.Goals as goal

@@ -1,5 +1,4 @@
-use Rattle.std.proofs.Common.{arith}
-use Rattle.sf_behaviour.specs.InputBits.{input_bits}
+use Rattle.sf_rows.proofs.Common.{arith, input_bits}
 use Rattle.sf_rows.proofs.RowLemmas.{answers-input, has-answer}
 use Rattle.sf_rows.proofs.laws.trees_have_the_answers.Goals as goal
 

@@ -1,11 +1,4 @@
-use Rattle.std.proofs.Common.{◌≡◌, ◌∙◌, ap, subst, sym}
-use Rattle.sf_run.specs.declared.action.Answer.{Answer}
-use Rattle.sf_diagram.specs.Trees.{value}
-use Rattle.sf_diagram.specs.Operations.{pair_of}
-use Rattle.sf_behaviour.specs.InputBits.{input_bits}
-use Rattle.sf_behaviour.specs.Answering.{answer_with}
-use Rattle.sf_rows.specs.Rows.{after_of, before_of}
-use Rattle.sf_rows.specs.Trees.{AreAskedFor}
+use Rattle.sf_rows.proofs.Common.{◌≡◌, ◌∙◌, ap, subst, sym, Answer, value, pair_of, input_bits, answer_with, after_of, before_of, AreAskedFor}
 use Rattle.sf_rows.proofs.RowLemmas.{asked-number, change-input, has-answer, unasked-number}
 use Rattle.sf_rows.proofs.laws.trees_have_the_changes.Goals as goal
 

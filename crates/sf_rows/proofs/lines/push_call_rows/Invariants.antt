@@ -1,6 +1,4 @@
-use Rattle.std.proofs.Common.{◌≡◌, ◌++◌, take, string_bytes}
-use Rattle.std.specs.List.{flat_map}
-use Rattle.sf_rows.specs.Lines.{call_row_line}
+use Rattle.sf_rows.proofs.Common.{◌≡◌, ◌++◌, take, string_bytes, flat_map, call_row_line}
 use Rattle.sf_rows.proofs.lines.push_call_rows.Given as goal
 
 abbrev pub invariant-loop-row : goal.invariant-loop-row

@@ -1,7 +1,4 @@
-use Rattle.std.proofs.Common.{◌≡◌, map, take, string_bytes}
-use Rattle.std.specs.List.{flat_map}
-use Rattle.sf_names.specs.Names.{names_between}
-use Rattle.sf_parts.specs.declared.form.Span.{Span}
+use Rattle.sf_rows.proofs.Common.{◌≡◌, map, take, string_bytes, flat_map, names_between, Span}
 use Rattle.sf_rows.proofs.names.names_in_spans.Given as goal
 
 abbrev pub invariant-loop-span : goal.invariant-loop-span

@@ -1,6 +1,4 @@
-use Rattle.std.proofs.Common.{◌≡◌, ◌++◌, map, take, string_bytes}
-use Rattle.std.specs.List.{flat_map}
-use Rattle.sf_names.specs.Names.{name_between}
+use Rattle.sf_rows.proofs.Common.{◌≡◌, ◌++◌, map, take, string_bytes, flat_map, name_between}
 use Rattle.sf_rows.proofs.names.push_calls.Given as goal
 
 abbrev pub invariant-loop-call : goal.invariant-loop-call

@@ -1,5 +1,4 @@
-use Rattle.std.proofs.Common.{[], ◌∷◌, arith, refl, string_bytes}
-use Rattle.std.specs.Prelude.{codes}
+use Rattle.sf_rows.proofs.Common.{[], ◌∷◌, arith, refl, string_bytes, codes}
 use Rattle.sf_rows.proofs.TextLemmas.{joined-more}
 use Rattle.sf_rows.proofs.names.push_each.Goals as goal
 

@@ -1,6 +1,4 @@
-use Rattle.std.proofs.Common.{◌+◌, ◌-◌, ◌*◌, ◌∙◌, ap, arith, refl, sym}
-use Rattle.std.specs.Prelude.{if◌then◌else◌}
-use Rattle.std.specs.List.{list_any}
+use Rattle.sf_rows.proofs.Common.{◌+◌, ◌-◌, ◌*◌, ◌∙◌, ap, arith, refl, sym, if◌then◌else◌, list_any}
 use Rattle.sf_rows.proofs.others.OtherLemmas.{agrees, chosen-diagram, diagram-kept, diagram-same, flag, leaf-diagram, literal-diagram, one-of-all, one-of-none, one-of-step}
 use Rattle.sf_rows.proofs.others.+one_of.Goals as goal
 

@@ -1,7 +1,4 @@
-use Rattle.std.proofs.Common.{ℕ, ◌<◌, ◌^◌, List, [], ◌∷◌, ◌∙◌, ap, arith, map, subst, sym}
-use Rattle.std.specs.Prelude.{All, if◌then◌else◌}
-use Rattle.std.specs.List.{list_any}
-use Rattle.sf_names.specs.Names.{CallData}
+use Rattle.sf_rows.proofs.Common.{ℕ, ◌<◌, ◌^◌, List, [], ◌∷◌, ◌∙◌, ap, arith, map, subst, sym, All, if◌then◌else◌, list_any, CallData}
 use Rattle.sf_rows.proofs.others.OtherLemmas.{agrees, calls-step, chosen-diagram, diagram-kept, diagram-same, leaf-diagram}
 use Rattle.sf_rows.proofs.others.calls_of.Goals as goal
 

@@ -1,12 +1,5 @@
-use Rattle.std.proofs.Common.{◌+◌, ◌∙◌, Bool, ap, arith, sym, take}
-use Rattle.std.specs.Prelude.{◌&&◌, ◌||◌, ◌==◌, if◌then◌else◌}
-use Rattle.std.specs.List.{list_any}
-use Rattle.std.proofs.lemmas.List.Folds.{list_any_more}
-use Rattle.sf_diagram.specs.Trees.{Bits}
-use Rattle.sf_diagram.specs.laws.KeepLaws.{keeps_more}
-use Rattle.sf_names.specs.Names.{NamesData}
-use Rattle.sf_parts.specs.Words.{word_number}
-use Rattle.sf_rows.specs.Trees.{is_call_number}
+use Rattle.sf_rows.proofs.Common.{◌+◌, ◌∙◌, Bool, ap, arith, sym, take, ◌&&◌, ◌||◌, if◌then◌else◌, list_any, list_any_more, Bits, keeps_more, NamesData, word_number, is_call_number}
+use Rattle.std.specs.Prelude.{◌==◌}
 use Rattle.sf_rows.proofs.others.OtherLemmas.{chosen-diagram, diagram-kept, diagram-same, leaf-diagram, named-step}
 use Rattle.sf_rows.proofs.others.named_calls.Goals as goal
 

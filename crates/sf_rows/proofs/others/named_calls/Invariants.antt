@@ -1,9 +1,4 @@
-use Rattle.std.proofs.Common.{take}
-use Rattle.std.specs.Prelude.{if◌then◌else◌}
-use Rattle.sf_diagram.specs.Stores.{KeepsStore}
-use Rattle.sf_behaviour.specs.Words.{IsDiagramOf}
-use Rattle.sf_parts.specs.Words.{word_number}
-use Rattle.sf_rows.specs.Trees.{is_named_call}
+use Rattle.sf_rows.proofs.Common.{take, if◌then◌else◌, KeepsStore, IsDiagramOf, word_number, is_named_call}
 use Rattle.sf_rows.proofs.others.named_calls.Given as goal
 
 abbrev pub invariant-loop-names : goal.invariant-loop-names

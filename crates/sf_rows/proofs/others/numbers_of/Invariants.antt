@@ -1,6 +1,4 @@
-use Rattle.std.proofs.Common.{◌≡◌, ℕ, ◌<◌, ◌^◌, map, take}
-use Rattle.std.specs.Prelude.{All}
-use Rattle.sf_names.specs.Names.{CallData}
+use Rattle.sf_rows.proofs.Common.{◌≡◌, ℕ, ◌<◌, ◌^◌, map, take, All, CallData}
 use Rattle.sf_rows.proofs.others.numbers_of.Given as goal
 
 abbrev pub invariant-loop-call : goal.invariant-loop-call

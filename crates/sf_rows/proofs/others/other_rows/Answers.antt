@@ -1,6 +1,4 @@
-use Rattle.std.proofs.Common.{ℕ, ◌∙◌, ap, sym}
-use Rattle.sf_diagram.specs.Stores.{tree_at}
-use Rattle.sf_rows.specs.Trees.{unnamed_number}
+use Rattle.sf_rows.proofs.Common.{ℕ, ◌∙◌, ap, sym, tree_at, unnamed_number}
 use Rattle.sf_rows.proofs.others.OtherLemmas.{others-all, others-none}
 use Rattle.sf_rows.proofs.others.other_rows.Goals as goal
 

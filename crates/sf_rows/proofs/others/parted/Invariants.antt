@@ -1,6 +1,5 @@
-use Rattle.std.proofs.Common.{◌≡◌, ◌==◌, filter, take}
-use Rattle.std.specs.Prelude.{not}
-use Rattle.std.specs.Int.{bit_at}
+use Rattle.sf_rows.proofs.Common.{◌≡◌, ◌==◌, take, not, bit_at}
+use Rattle.std.proofs.Common.{filter}
 use Rattle.sf_rows.proofs.others.parted.Given as goal
 
 abbrev pub invariant-loop-number : goal.invariant-loop-number

@@ -1,9 +1,4 @@
-use Rattle.std.proofs.Common.{refl}
-use Rattle.std.specs.Prelude.{if◌then◌else◌}
-use Rattle.sf_diagram.specs.Trees.{Bits, value}
-use Rattle.sf_diagram.specs.Stores.{tree_at}
-use Rattle.sf_parts.specs.Words.{word_number}
-use Rattle.sf_rows.specs.Trees.{is_named_call}
+use Rattle.sf_rows.proofs.Common.{refl, if◌then◌else◌, Bits, value, tree_at, word_number, is_named_call}
 use Rattle.sf_rows.proofs.others.OtherLemmas.{chosen-diagram, diagram-kept, diagram-same, flag-chosen, leaf-diagram}
 use Rattle.sf_rows.proofs.others.without_named.Goals as goal
 

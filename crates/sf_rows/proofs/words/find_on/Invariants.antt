@@ -1,6 +1,4 @@
-use Rattle.std.proofs.Common.{◌≡◌, drop}
-use Rattle.std.specs.Prelude.{find}
-use Rattle.sf_rows.specs.Lines.{is_on}
+use Rattle.sf_rows.proofs.Common.{◌≡◌, drop, find, is_on}
 use Rattle.sf_rows.proofs.words.find_on.Given as goal
 
 abbrev pub invariant-loop-condition : goal.invariant-loop-condition

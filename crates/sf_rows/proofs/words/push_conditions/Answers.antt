@@ -1,4 +1,4 @@
-use Rattle.std.proofs.Common.{[], ◌∷◌, ◌∙◌, arith, refl, sym, string_bytes}
+use Rattle.sf_rows.proofs.Common.{[], ◌∷◌, ◌∙◌, arith, refl, sym, string_bytes}
 use Rattle.sf_rows.proofs.TextLemmas.{further-shown, further-placed}
 use Rattle.sf_rows.proofs.words.push_conditions.Goals as goal
 

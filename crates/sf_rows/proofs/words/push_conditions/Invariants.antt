@@ -1,8 +1,4 @@
-use denote.Shadow.{shadow}
-use denote.Text.{Utf8}
-use Rattle.std.proofs.Common.{◌≡◌, ◌++◌, drop, map, string_bytes}
-use Rattle.std.specs.Prelude.{codes}
-use Rattle.sf_rows.specs.Lines.{condition_words, conditions_words, further, joined}
+use Rattle.sf_rows.proofs.Common.{shadow, Utf8, ◌≡◌, ◌++◌, drop, map, string_bytes, codes, condition_words, conditions_words, further, joined}
 use Rattle.sf_rows.proofs.words.push_conditions.Given as goal
 
 abbrev pub invariant-loop-condition : goal.invariant-loop-condition

@@ -1,6 +1,4 @@
-use Rattle.std.proofs.Common.{[], ◌∷◌, arith, refl, string_bytes}
-use Rattle.std.specs.Prelude.{codes}
-use Rattle.sf_rows.specs.Lines.{span_words}
+use Rattle.sf_rows.proofs.Common.{[], ◌∷◌, arith, refl, string_bytes, codes, span_words}
 use Rattle.sf_rows.proofs.TextLemmas.{joined-more}
 use Rattle.sf_rows.proofs.words.push_spans.Goals as goal
 

@@ -1,8 +1,4 @@
-use denote.Shadow.{shadow}
-use denote.Text.{Utf8}
-use Rattle.std.proofs.Common.{◌≡◌, ◌++◌, [], drop, map, string_bytes}
-use Rattle.std.specs.Prelude.{codes}
-use Rattle.sf_rows.specs.Lines.{joined, span_words}
+use Rattle.sf_rows.proofs.Common.{shadow, Utf8, ◌≡◌, ◌++◌, [], drop, map, string_bytes, codes, joined, span_words}
 use Rattle.sf_rows.proofs.words.push_spans.Given as goal
 
 abbrev pub invariant-loop-span : goal.invariant-loop-span
