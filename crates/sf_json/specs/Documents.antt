@@ -1,7 +1,8 @@
 -- What several outputs have in common as JSON, and the text of a document.
-use Rattle.std.specs.Prelude.{ℕ, ◌-◌, ◌^◌, false, if◌then◌else◌, List, [], ◌∷◌, ◌++◌, codes, length, map, slice_index}
+use Rattle.std.specs.Prelude.{ℕ, ◌-◌, ◌^◌, false, if◌then◌else◌, List, [], ◌∷◌, ◌++◌, Option, codes, length, map, option_and_then, slice_index}
 use Rattle.std.specs.Fmt.{digits, format_spec, padded_integral}
 use Rattle.serde_json.specs.Data.{Data, null, number, unsigned, string, array, object, Members, no_members, member, put}
+use Rattle.serde_json.specs.Find.{as_str, get}
 use Rattle.serde_json.specs.View.{items_of}
 use Rattle.serde_json.specs.Written.{compact_text}
 use Rattle.sf_insn.specs.declared.input.Input.{Input}
@@ -50,6 +51,10 @@ long_word n = string (codes "0x" ++ long_digits n)
 abbrev pub with_field : List ℕ → Data → Data → Data
 with_field k d (object ms) = object (put k d ms)
 with_field k d other = other
+
+-- the text at a key of an object, if one stands there
+abbrev pub text_at : List ℕ → Data → Option (List ℕ)
+text_at key d = option_and_then as_str (get key d)
 
 -- ---- an input, an answer, sizes and counts
 

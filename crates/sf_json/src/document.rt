@@ -1,8 +1,8 @@
-ghost use Rattle.std.specs.Prelude.{◌≡◌, false, string_bytes, IfOk};
+ghost use Rattle.std.specs.Prelude.{◌≡◌, false, option_map, string_bytes, IfOk};
 ghost use Rattle.serde_json.specs.Data.{array, boolean, null, number, object, no_members, string, unsigned};
 ghost use Rattle.serde_json.specs.View.{items_view, view};
 ghost use Rattle.serde_json.specs.Written.{has_float, items_have_float};
-ghost use Rattle.sf_json.specs.Documents.{with_field};
+ghost use Rattle.sf_json.specs.Documents.{text_at, with_field};
 
 use serde_json::{Map, Value, put};
 use std::alloc::{AllocError, Global};
@@ -95,6 +95,13 @@ impl Document {
     {
         let value = self.value().clone()?;
         Ok(Document { value })
+    }
+
+    /// The text at a key of this object, if one stands there.
+    pub fn text_at(&self, key: &str) -> Option<&str>
+        ensures { option_map (λ t. t.now) result ≡ text_at key.now (view self.now) }
+    {
+        self.value().get(key).and_then(Value::as_str)
     }
 
     /// The array of these documents, in the same order.
