@@ -9,9 +9,8 @@ mod terminal;
 mod words;
 
 pub use options::{
-    budget_of, given_text, nodes_of, skips_unknown, text_of, wants_brief_trace, wants_digest,
-    wants_explanation, wants_instructions, wants_json, wants_newer, wants_notes, wants_progress,
-    wants_quiet, wants_regions, wants_rows, wants_same, wants_trace, wants_why, workers_of,
+    budget_of, given_text, is_on, nodes_of, skips_unknown, text_of, wants_explanation, wants_newer,
+    wants_notes, wants_quiet, workers_of,
 };
 pub use terminal::visible;
 pub use words::command_form;

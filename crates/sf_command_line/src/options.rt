@@ -47,46 +47,10 @@ pub fn workers_of(found: &ArgMatches<'_>) -> u8
 }
 
 /// Whether the switch with this name, given without `--`, is on.
-fn is_on(found: &ArgMatches<'_>, name: &str) -> bool
+pub fn is_on(found: &ArgMatches<'_>, name: &str) -> bool
     ensures { IsSwitch (one_of name.now (rows_of (found_of found.now))) result }
 {
     found.get_flag(name)
-}
-
-/// Whether the report of an audit also lists the settled regions.
-pub fn wants_regions(found: &ArgMatches<'_>) -> bool
-    ensures { IsSwitch (one_of (codes "regions") (rows_of (found_of found.now))) result }
-{
-    is_on(found, "regions")
-}
-
-/// Whether an evaluation also shows the input, and what each filter meets and returns.
-pub fn wants_trace(found: &ArgMatches<'_>) -> bool
-    ensures { IsSwitch (one_of (codes "trace") (rows_of (found_of found.now))) result }
-{
-    is_on(found, "trace")
-}
-
-/// Whether a trace leaves out failed tests and divisions by an X that isn't 0.
-pub fn wants_brief_trace(found: &ArgMatches<'_>) -> bool
-    ensures { IsSwitch (one_of (codes "trace-true") (rows_of (found_of found.now))) result }
-{
-    is_on(found, "trace-true")
-}
-
-/// Whether the exit status of a comparison tells whether answers differ at all, and not whether the new stack is
-/// looser.
-pub fn wants_same(found: &ArgMatches<'_>) -> bool
-    ensures { IsSwitch (one_of (codes "same") (rows_of (found_of found.now))) result }
-{
-    is_on(found, "same")
-}
-
-/// Whether a comparison lists rows in which the answers differ.
-pub fn wants_rows(found: &ArgMatches<'_>) -> bool
-    ensures { IsSwitch (one_of (codes "rows") (rows_of (found_of found.now))) result }
-{
-    is_on(found, "rows")
 }
 
 /// Whether a fault is explained under its line.
@@ -94,13 +58,6 @@ pub fn wants_explanation(found: &ArgMatches<'_>) -> bool
     ensures { IsSwitch (one_of (codes "explain-errors") (rows_of (found_of found.now))) result }
 {
     is_on(found, "explain-errors")
-}
-
-/// Whether a check lists the instructions of each filter too.
-pub fn wants_instructions(found: &ArgMatches<'_>) -> bool
-    ensures { IsSwitch (one_of (codes "instructions") (rows_of (found_of found.now))) result }
-{
-    is_on(found, "instructions")
 }
 
 /// Whether calls whose number is above all that the rules name fail with ENOSYS.
@@ -137,32 +94,4 @@ pub fn nodes_of(found: &ArgMatches<'_>) -> u32
         16000000 1000000 result }
 {
     found.get_one::<u32>("nodes").unwrap_or(1_000_000)
-}
-
-/// Whether a digest of all rows of a list is written in place of these.
-pub fn wants_digest(found: &ArgMatches<'_>) -> bool
-    ensures { IsSwitch (one_of (codes "digest") (rows_of (found_of found.now))) result }
-{
-    is_on(found, "digest")
-}
-
-/// Whether an audit shows for each example why the stack answers it as it does.
-pub fn wants_why(found: &ArgMatches<'_>) -> bool
-    ensures { IsSwitch (one_of (codes "why") (rows_of (found_of found.now))) result }
-{
-    is_on(found, "why")
-}
-
-/// Whether it is shown how far an exploration is.
-pub fn wants_progress(found: &ArgMatches<'_>) -> bool
-    ensures { IsSwitch (one_of (codes "progress") (rows_of (found_of found.now))) result }
-{
-    is_on(found, "progress")
-}
-
-/// Whether one JSON document is written in place of the text.
-pub fn wants_json(found: &ArgMatches<'_>) -> bool
-    ensures { IsSwitch (one_of (codes "json") (rows_of (found_of found.now))) result }
-{
-    is_on(found, "json")
 }
