@@ -1,21 +1,53 @@
 -- The summary of an audit, for a person.
-use Rattle.std.specs.Prelude.{ℕ, ◌+◌, ◌-◌, ◌==◌, nat_lt, not, ◌&&◌, Bool, true, false, List, [], ◌∷◌, ◌++◌, codes, count_by, length, position, if◌then◌else◌, Option, Some, None, unwrap_or}
+use Rattle.std.specs.Prelude.{ℕ, ◌+◌, ◌-◌, ◌==◌, nat_lt, not, ◌&&◌, Bool, true, false, List, [], ◌∷◌, ◌++◌, codes, count_by, length, map, position, if◌then◌else◌, Option, Some, None, option_and_then, slice_get, unwrap_or}
 use Rattle.std.specs.Fmt.{decimal}
+use Rattle.serde_json.specs.Data.{Data}
+use Rattle.serde_json.specs.View.{view}
 use Rattle.sf_insn.specs.declared.input.Input.{Input}
 use Rattle.sf_calls.specs.Texts.{call_words}
+use Rattle.sf_json.specs.Documents.{text_at}
 use Rattle.sf_names.specs.Names.{NamesData}
 use Rattle.sf_policy.specs.Actions.{is_text_among}
 use Rattle.sf_policy.specs.Groups.{GroupData}
 use Rattle.sf_question.specs.QuestionData.{QuestionData}
 use Rattle.sf_ask.specs.declared.verdict.Reply.{Reply}
 use Rattle.sf_ask.specs.declared.verdict.Reply.TheVariants.{Allowed}
+use Rattle.sf_audit.specs.declared.summary.Summary.{Summary}
 use Rattle.sf_audit.specs.declared.summary.lists.Kind.{Kind}
 use Rattle.sf_audit.specs.declared.summary.lists.Kind.TheVariants as kinds
 use Rattle.sf_audit.specs.Outcomes.{Found}
 use Rattle.sf_audit.specs.Reports.{is_never, is_allowed, is_unsettled}
-use Rattle.sf_audit.specs.Expectations.{ExpectedData, control_line, has_unexpected, is_accepted, is_unexpected}
+use Rattle.sf_audit.specs.Expectations.{ExpectedData, control_line, has_unexpected, is_accepted}
 
--- ---- which questions are listed
+-- How a summary is written: what stands before it; whether each allowed question has a line with its call; the names of
+-- calls; the groups; and for each question where it stands.
+pub record SummaryData : Type 0 where
+  pub head : List ℕ
+  pub all : Bool
+  pub names : List NamesData
+  pub groups : List GroupData
+  pub origins : List Data
+
+-- the same, by the values of the code
+abbrev pub summary_data : Summary → SummaryData
+summary_data s = record {
+  head = s.head.now;
+  all = s.all;
+  names = s.names.now;
+  groups = s.groups.now;
+  origins = map view s.origins.now;
+}
+
+-- A question of a summary: its name and reply, the place of its group, whether its name is an accepted one, and the
+-- comment above it in its policy.
+pub record RowData : Type 0 where
+  pub name : List ℕ
+  pub reply : Reply
+  pub place : ℕ
+  pub accepted : Bool
+  pub comment : List ℕ
+
+-- ---- the questions
 
 -- the group has a question of this name
 abbrev pub has_question : List ℕ → GroupData → Bool
@@ -25,41 +57,56 @@ has_question name g = is_text_among g.questions name
 abbrev pub section_of : List GroupData → List ℕ → ℕ
 section_of groups name = unwrap_or (position (has_question name) groups) (length groups)
 
--- the question stands under the group at the place, or behind all groups, if a place is given
-abbrev pub is_in : List GroupData → Option ℕ → List ℕ → Bool
-is_in groups (Some place) name = section_of groups name == place
-is_in groups None name = true
+-- the comment above the question at a place, by where the questions stand; empty where there is none
+abbrev pub comment_at : List Data → ℕ → List ℕ
+comment_at origins place = unwrap_or (option_and_then (text_at (codes "comment")) (slice_get origins place)) []
 
--- the question is one of the kind, where these names are accepted
-abbrev pub is_kind : Kind → List (List ℕ) → List ℕ → Reply → Bool
-is_kind kinds.Asked accepted name reply = true
-is_kind kinds.Allowed accepted name reply = is_allowed reply
-is_kind kinds.Accepted accepted name reply = is_allowed reply && is_accepted accepted name
-is_kind kinds.Unexpected accepted name reply = is_unexpected accepted name reply
-is_kind kinds.Unsettled accepted name reply = is_unsettled reply
+-- the question at a place
+abbrev pub row_of : SummaryData → ExpectedData → (place : ℕ) → List ℕ → Reply → RowData
+row_of s e place name reply = record {
+  name = name;
+  reply = reply;
+  place = section_of s.groups name;
+  accepted = is_accepted e.accepted name;
+  comment = comment_at s.origins place;
+}
+
+-- questions, the first of them at this place
+abbrev pub rows_of : SummaryData → ExpectedData → (place : ℕ) → List QuestionData → List Reply → List RowData
+rows_of s e place (q ∷ qs) (r ∷ rs) = row_of s e place q.name r ∷ rows_of s e (place + 1) qs rs
+rows_of s e place _ _ = []
+
+-- ---- which questions are listed
+
+-- the question stands under the group at the place, or behind all groups, if a place is given
+abbrev pub is_in : Option ℕ → RowData → Bool
+is_in (Some place) row = row.place == place
+is_in None row = true
+
+-- the question is one of the kind
+abbrev pub is_kind : Kind → RowData → Bool
+is_kind kinds.Asked row = true
+is_kind kinds.Allowed row = is_allowed row.reply
+is_kind kinds.Accepted row = is_allowed row.reply && row.accepted
+is_kind kinds.Unexpected row = is_allowed row.reply && not row.accepted
+is_kind kinds.Unsettled row = is_unsettled row.reply
 
 -- the question is of the kind, and stands there
-abbrev pub is_listed : List GroupData → Option ℕ → Kind → List (List ℕ) → List ℕ → Reply → Bool
-is_listed groups place kind accepted name reply = is_kind kind accepted name reply && is_in groups place name
+abbrev pub is_listed : Option ℕ → Kind → RowData → Bool
+is_listed place kind row = is_in place row && is_kind kind row
 
 -- a name, if it is listed
 abbrev pub listed_name : Bool → List ℕ → List (List ℕ)
 listed_name listed name = if listed then name ∷ [] else []
 
 -- the names of the questions that are listed
-abbrev pub names_in : List GroupData → Option ℕ → Kind → List (List ℕ) → List QuestionData → List Reply
-    → List (List ℕ)
-names_in groups place kind accepted (q ∷ qs) (r ∷ rs) =
-    listed_name (is_listed groups place kind accepted q.name r) q.name ++ names_in groups place kind accepted qs rs
-names_in groups place kind accepted _ _ = []
-
--- the same of an audit
-abbrev pub names_of : List GroupData → Option ℕ → Kind → ExpectedData → Found → List (List ℕ)
-names_of groups place kind e o = names_in groups place kind e.accepted o.questions o.replies
+abbrev pub names_of : Option ℕ → Kind → List RowData → List (List ℕ)
+names_of place kind [] = []
+names_of place kind (row ∷ rows) = listed_name (is_listed place kind row) row.name ++ names_of place kind rows
 
 -- how many they are
-abbrev pub count_of : List GroupData → Option ℕ → Kind → ExpectedData → Found → ℕ
-count_of groups place kind e o = length (names_of groups place kind e o)
+abbrev pub count_of : Option ℕ → Kind → List RowData → ℕ
+count_of place kind rows = count_by (is_listed place kind) rows
 
 -- ---- lists in lines of 100 columns
 
@@ -116,31 +163,35 @@ abbrev pub example_line : List NamesData → List ℕ → Reply → List ℕ
 example_line names name (Allowed input) = call_line names name input
 example_line names name _ = []
 
--- the line of a question, if it is listed
-abbrev pub listed_line : Bool → List NamesData → List ℕ → Reply → List ℕ
-listed_line listed names name reply = if listed then example_line names name reply else []
+-- the line of a comment; none where it is empty
+abbrev pub comment_line : List ℕ → List ℕ
+comment_line comment = if length comment == 0 then [] else codes "        " ++ (comment ++ 10 ∷ [])
+
+-- the line of a question, and that of its comment
+abbrev pub row_lines : List NamesData → RowData → List ℕ
+row_lines names row = example_line names row.name row.reply ++ comment_line row.comment
+
+-- the same, if it is listed
+abbrev pub listed_lines : Bool → List NamesData → RowData → List ℕ
+listed_lines listed names row = if listed then row_lines names row else []
 
 -- the lines of the questions at a place that are allowed and not accepted
-abbrev pub example_lines : List NamesData → List GroupData → ℕ → List (List ℕ) → List QuestionData → List Reply
-    → List ℕ
-example_lines names groups place accepted (q ∷ qs) (r ∷ rs) =
-    listed_line (is_listed groups (Some place) kinds.Unexpected accepted q.name r) names q.name r
-    ++ example_lines names groups place accepted qs rs
-example_lines names groups place accepted _ _ = []
+abbrev pub example_lines : List NamesData → ℕ → List RowData → List ℕ
+example_lines names place [] = []
+example_lines names place (row ∷ rows) =
+    listed_lines (is_listed (Some place) kinds.Unexpected row) names row ++ example_lines names place rows
 
--- the questions at a place that are allowed and not accepted: a line for each of them, or their names
-abbrev pub unexpected_text : (all : Bool) → List NamesData → List GroupData → ℕ → ExpectedData → Found → List ℕ
-unexpected_text true names groups place e o = example_lines names groups place e.accepted o.questions o.replies
-unexpected_text false names groups place e o =
-    list_text indent (names_of groups (Some place) kinds.Unexpected e o)
+-- the questions at a place that are allowed and not accepted: lines for each of them, or their names
+abbrev pub unexpected_text : (all : Bool) → List NamesData → ℕ → List RowData → List ℕ
+unexpected_text true names place rows = example_lines names place rows
+unexpected_text false names place rows = list_text indent (names_of (Some place) kinds.Unexpected rows)
 
 -- the group at a place, under its title, where one of its questions is allowed
-abbrev pub section_text : (all : Bool) → List NamesData → List GroupData → ℕ → ExpectedData → Found → List ℕ → List ℕ
-section_text all names groups place e o title =
-    if count_of groups (Some place) kinds.Allowed e o == 0 then []
-    else group_line title (count_of groups (Some place) kinds.Allowed e o)
-    (count_of groups (Some place) kinds.Asked e o) (count_of groups (Some place) kinds.Accepted e o)
-    ++ unexpected_text all names groups place e o
+abbrev pub section_text : (all : Bool) → List NamesData → List RowData → ℕ → List ℕ → List ℕ
+section_text all names rows place title =
+    if count_of (Some place) kinds.Allowed rows == 0 then []
+    else group_line title (count_of (Some place) kinds.Allowed rows) (count_of (Some place) kinds.Asked rows)
+    (count_of (Some place) kinds.Accepted rows) ++ unexpected_text all names place rows
 
 -- the title of the questions that stand behind all groups
 abbrev pub last_title : List GroupData → List ℕ
@@ -148,28 +199,25 @@ last_title [] = codes "Questions"
 last_title (g ∷ gs) = codes "Other questions"
 
 -- the groups from a place on
-abbrev pub section_texts : (all : Bool) → List NamesData → List GroupData → ℕ → ExpectedData → Found → List GroupData
-    → List ℕ
-section_texts all names groups place e o [] = []
-section_texts all names groups place e o (g ∷ gs) =
-    section_text all names groups place e o g.title ++ section_texts all names groups (place + 1) e o gs
+abbrev pub section_texts : (all : Bool) → List NamesData → List RowData → ℕ → List GroupData → List ℕ
+section_texts all names rows place [] = []
+section_texts all names rows place (g ∷ gs) =
+    section_text all names rows place g.title ++ section_texts all names rows (place + 1) gs
 
 -- all groups, and the questions that stand behind them
-abbrev pub groups_text : (all : Bool) → List NamesData → List GroupData → ExpectedData → Found → List ℕ
-groups_text all names groups e o =
-    section_texts all names groups 0 e o groups
-    ++ section_text all names groups (length groups) e o (last_title groups)
+abbrev pub groups_text : (all : Bool) → List NamesData → List RowData → List GroupData → List ℕ
+groups_text all names rows groups =
+    section_texts all names rows 0 groups ++ section_text all names rows (length groups) (last_title groups)
 
 -- questions are asked there, and none of them is allowed
-abbrev pub is_closed : List GroupData → ℕ → ExpectedData → Found → Bool
-is_closed groups place e o =
-    not (count_of groups (Some place) kinds.Asked e o == 0) && (count_of groups (Some place) kinds.Allowed e o == 0)
+abbrev pub is_closed : List RowData → ℕ → Bool
+is_closed rows place =
+    not (count_of (Some place) kinds.Asked rows == 0) && (count_of (Some place) kinds.Allowed rows == 0)
 
 -- the titles of such groups from a place on
-abbrev pub closed_titles : List GroupData → ℕ → ExpectedData → Found → List GroupData → List (List ℕ)
-closed_titles groups place e o [] = []
-closed_titles groups place e o (g ∷ gs) =
-    listed_name (is_closed groups place e o) g.title ++ closed_titles groups (place + 1) e o gs
+abbrev pub closed_titles : List RowData → ℕ → List GroupData → List (List ℕ)
+closed_titles rows place [] = []
+closed_titles rows place (g ∷ gs) = listed_name (is_closed rows place) g.title ++ closed_titles rows (place + 1) gs
 
 -- ---- the other lines
 
@@ -189,12 +237,12 @@ totals_words never allowed accepted unsettled =
     (decimal never ++ (codes " never, " ++ (decimal allowed ++ codes " allowed")))
     ++ (accepted_words accepted ++ (codes ", " ++ (decimal unsettled ++ codes " unsettled\n\n")))
 
--- the first line, and an empty one
-abbrev pub first_line : ExpectedData → Found → List ℕ
-first_line e o =
-    size_words (length o.settled.stack) (length o.questions)
-    ++ totals_words (count_by is_never o.replies) (count_by is_allowed o.replies) (count_of [] None kinds.Accepted e o)
-    (count_by is_unsettled o.replies)
+-- the first line, of so many filters, and an empty one
+abbrev pub first_line : (filters : ℕ) → List RowData → List Reply → List ℕ
+first_line filters rows rs =
+    size_words filters (length rows)
+    ++ totals_words (count_by is_never rs) (count_by is_allowed rs) (count_of None kinds.Accepted rows)
+    (count_by is_unsettled rs)
 
 -- the line of the first question of the control that isn't allowed; else that the control holds
 abbrev pub broken_text : List QuestionData → List Reply → List ℕ
@@ -217,14 +265,23 @@ advice all true = more_line all ++ codes "--accept FILE names those that may be 
 advice all false = []
 
 -- the lines behind those of the groups
-abbrev pub end_text : (all : Bool) → List GroupData → ExpectedData → Found → List ℕ
-end_text all groups e o =
-    list_text (codes "Unsettled (a greater --budget may settle them): ") (names_of groups None kinds.Unsettled e o)
-    ++ (control_text e ++ advice all (has_unexpected e.accepted o.questions o.replies))
+abbrev pub end_text : (all : Bool) → List RowData → ExpectedData → (unexpected : Bool) → List ℕ
+end_text all rows e unexpected =
+    list_text (codes "Unsettled (a greater --budget may settle them): ") (names_of None kinds.Unsettled rows)
+    ++ (control_text e ++ advice all unexpected)
 
--- The whole summary: how much there is; the groups with an allowed question, and the names of these questions or a line
--- for each; the groups without one; and what else there is to know.
-abbrev pub summary_text : (all : Bool) → List NamesData → List GroupData → ExpectedData → Found → List ℕ
-summary_text all names groups e o =
-    first_line e o ++ (groups_text all names groups e o
-    ++ (list_text (codes "Nothing allowed: ") (closed_titles groups 0 e o groups) ++ end_text all groups e o))
+-- A summary behind what stands before it, from the questions of so many filters: how much there is; the groups with an
+-- allowed question, and the names of these questions or lines for each; the groups without one; and what else there is
+-- to know.
+abbrev pub body_text : (all : Bool) → List NamesData → List GroupData → ExpectedData → (filters : ℕ)
+    → List QuestionData → List Reply → List RowData → List ℕ
+body_text all names groups e filters qs rs rows =
+    first_line filters rows rs ++ (groups_text all names rows groups
+    ++ (list_text (codes "Nothing allowed: ") (closed_titles rows 0 groups)
+    ++ end_text all rows e (has_unexpected e.accepted qs rs)))
+
+-- the whole summary of what an audit found
+abbrev pub summary_text : SummaryData → ExpectedData → Found → List ℕ
+summary_text s e o =
+    s.head ++ body_text s.all s.names s.groups e (length o.settled.stack) o.questions o.replies
+    (rows_of s e 0 o.questions o.replies)

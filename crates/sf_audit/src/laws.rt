@@ -8,9 +8,7 @@ ghost use Rattle.sf_audit.specs.Documents.{TellingData, audit_document};
 ghost use Rattle.sf_audit.specs.Expectations.{ExpectedData};
 ghost use Rattle.sf_audit.specs.Outcomes.{Found};
 ghost use Rattle.sf_audit.specs.Reports.{report_text};
-ghost use Rattle.sf_audit.specs.Summaries.{summary_text};
-ghost use Rattle.sf_names.specs.Names.{NamesData};
-ghost use Rattle.sf_policy.specs.Groups.{GroupData};
+ghost use Rattle.sf_audit.specs.Summaries.{SummaryData, summary_text};
 
 use sf_ask::laws::replies_have_one_result;
 use sf_book::laws::explorations_have_one_result;
@@ -44,16 +42,15 @@ pub fn one_report()
 }
 
 /// A law for the prover: two audits as in `one_report` have the same summary too, where the summaries are made with the
-/// same groups and names of calls, and the same `expected`.
+/// same `summary` and the same `expected`.
 pub fn one_summary()
     ensures { (files others : List (List ℕ)) (questions : List QuestionData)
         (b c : ℕ) (o p : Found) →
         IsAudit files questions b o → IsAudit others questions c p →
         o.settled.stack ≡ p.settled.stack →
         o.settled.outstanding ≡ [] → p.settled.outstanding ≡ [] →
-        (all : Bool) (names : List NamesData) (groups : List GroupData)
-        (expected : ExpectedData) →
-        summary_text all names groups expected o ≡ summary_text all names groups expected p }
+        (summary : SummaryData) (expected : ExpectedData) →
+        summary_text summary expected o ≡ summary_text summary expected p }
 {
     explorations_have_one_result();
     replies_have_one_result();

@@ -1,5 +1,5 @@
 -- Audits of one stack that end with nothing outstanding have one report, one summary, and one document.
-use Rattle.std.proofs.Common.{◌≡◌, ℕ, ◌+◌, ◌<◌, Bool, true, false, List, [], ◌∷◌, ◌++◌, length, get_or, refl, ap, sym, ◌∙◌, subst, arith}
+use Rattle.std.proofs.Common.{◌≡◌, ℕ, ◌<◌, Bool, List, [], ◌∷◌, ◌++◌, length, get_or, sym, ◌∙◌, subst, arith}
 use Rattle.std.specs.Prelude.{codes, if◌then◌else◌}
 use Rattle.std.proofs.lemmas.List.{same_lists}
 use Rattle.std.proofs.lemmas.Option.{same_Some, slice_get-get_or}
@@ -21,9 +21,7 @@ use Rattle.sf_json.specs.Documents.{count, counts_document, fields, list_of, siz
 use Rattle.sf_stack.specs.Texts.{counts_line}
 use Rattle.sf_audit.specs.Reports.{size_line, region_lines, title_line, question_lines, totals_line, report_text}
 use Rattle.sf_audit.specs.Expectations.{ExpectedData}
-use Rattle.sf_audit.specs.Summaries.{closed_titles, end_text, first_line, groups_text, is_closed, last_title, list_text, listed_name, section_text, section_texts, summary_text}
-use Rattle.sf_names.specs.Names.{NamesData}
-use Rattle.sf_policy.specs.Groups.{GroupData}
+use Rattle.sf_audit.specs.Summaries.{SummaryData, body_text, rows_of, summary_text}
 use Rattle.sf_audit.specs.Documents.{TellingData, region_documents, question_documents, shown_expected, totals_document, audit_document}
 
 -- what an audit that left nothing outstanding explored
@@ -92,63 +90,15 @@ same_report explored reply files others questions m n o p f g stack none none' s
 
 -- ---- the same summary
 
--- A summary's groups don't depend on what else was settled.
-sections_alike : (all : Bool) (names : List NamesData) (groups : List GroupData) (e : ExpectedData) (s t : BookData)
-    (qs : List QuestionData) (rs : List Reply) (place : ℕ) (gs : List GroupData)
-    → section_texts all names groups place e (record { settled = s; questions = qs; replies = rs }) gs
-    ≡ section_texts all names groups place e (record { settled = t; questions = qs; replies = rs }) gs
-sections_alike all names groups e s t qs rs place [] = refl
-sections_alike true names groups e s t qs rs place (g ∷ gs) =
-    ap (λ l. section_text true names groups place e (record { settled = s; questions = qs; replies = rs }) g.title ++ l)
-    (sections_alike true names groups e s t qs rs (place + 1) gs)
-sections_alike false names groups e s t qs rs place (g ∷ gs) =
-    ap (λ l. section_text false names groups place e (record { settled = s; questions = qs; replies = rs }) g.title
-    ++ l)
-    (sections_alike false names groups e s t qs rs (place + 1) gs)
-
-groups_alike : (all : Bool) (names : List NamesData) (groups : List GroupData) (e : ExpectedData) (s t : BookData)
-    (qs : List QuestionData) (rs : List Reply)
-    → groups_text all names groups e (record { settled = s; questions = qs; replies = rs })
-    ≡ groups_text all names groups e (record { settled = t; questions = qs; replies = rs })
-groups_alike true names groups e s t qs rs =
-    ap (λ l. l ++ section_text true names groups (length groups) e
-    (record { settled = s; questions = qs; replies = rs }) (last_title groups))
-    (sections_alike true names groups e s t qs rs 0 groups)
-groups_alike false names groups e s t qs rs =
-    ap (λ l. l ++ section_text false names groups (length groups) e
-    (record { settled = s; questions = qs; replies = rs }) (last_title groups))
-    (sections_alike false names groups e s t qs rs 0 groups)
-
-closed_alike : (groups : List GroupData) (e : ExpectedData) (s t : BookData)
-    (qs : List QuestionData) (rs : List Reply) (place : ℕ) (gs : List GroupData)
-    → closed_titles groups place e (record { settled = s; questions = qs; replies = rs }) gs
-    ≡ closed_titles groups place e (record { settled = t; questions = qs; replies = rs }) gs
-closed_alike groups e s t qs rs place [] = refl
-closed_alike groups e s t qs rs place (g ∷ gs) =
-    ap (λ l. listed_name (is_closed groups place e (record { settled = s; questions = qs; replies = rs })) g.title ++ l)
-    (closed_alike groups e s t qs rs (place + 1) gs)
-
 pub same_summary : ExplorationsHaveOneResult → HaveOneReply → (files others : List (List ℕ))
     (questions : List QuestionData) (m n : ℕ) (o p : Found)
     → IsAudit files questions m o → IsAudit others questions n p → o.settled.stack ≡ p.settled.stack
-    → o.settled.outstanding ≡ [] → p.settled.outstanding ≡ [] → (all : Bool) (names : List NamesData)
-    (groups : List GroupData) (e : ExpectedData) → summary_text all names groups e o ≡ summary_text all names groups e p
-same_summary explored reply files others questions m n o p f g stack none none' all names groups e =
+    → o.settled.outstanding ≡ [] → p.settled.outstanding ≡ [] → (s : SummaryData) (e : ExpectedData)
+    → summary_text s e o ≡ summary_text s e p
+same_summary explored reply files others questions m n o p f g stack none none' s e =
     let same = found_twice explored reply files others questions m n o p f g stack none none' in
-    let s : BookData = record o.settled { stack = p.settled.stack } in
-    let q : Found = record { settled = s; questions = p.questions; replies = p.replies } in
-    let first : summary_text all names groups e o ≡ summary_text all names groups e q = λ j.
-    summary_text all names groups e (record {
-      settled = record o.settled { stack = same.stack j };
-      questions = same.questions j;
-      replies = same.replies j;
-    }) in
-    let second : summary_text all names groups e q ≡ summary_text all names groups e p = λ j.
-    first_line e p
-    ++ (groups_alike all names groups e s p.settled p.questions p.replies j
-    ++ (list_text (codes "Nothing allowed: ") (closed_alike groups e s p.settled p.questions p.replies 0 groups j)
-    ++ end_text all groups e p)) in
-    first ∙ second
+    λ j. s.head ++ body_text s.all s.names s.groups e (length (same.stack j)) (same.questions j) (same.replies j)
+    (rows_of s e 0 (same.questions j) (same.replies j))
 
 -- ---- the same document
 

@@ -1,14 +1,18 @@
-//! The questions that a summary lists.
+//! The questions of a summary, each with all that is told of it, and which of them are listed where.
 
 ghost use Rattle.std.specs.Prelude.{◌≡◌, ◌++◌, IfOk, OnOk, length, map, position};
-ghost use Rattle.sf_audit.specs.Summaries.{count_of, has_question, is_in, is_kind, is_listed, listed_name, names_in, names_of, section_of};
+ghost use Rattle.serde_json.specs.View.{view};
+ghost use Rattle.sf_audit.specs.Summaries.{comment_at, count_of, has_question, is_in, is_kind, is_listed, listed_name, names_of, row_of, rows_of, section_of, summary_data};
 
+use super::Summary;
 use crate::counting::is_allowed;
 use crate::expecting::{Expected, is_accepted};
 use crate::outcome::Outcome;
 use sf_ask::{Question, Reply};
+use sf_json::Document;
 use sf_policy::Group;
 use std::alloc::{AllocError, Global};
+use std::marker::Model;
 
 /// Which questions are meant.
 #[derive(Clone, Copy)]
@@ -20,6 +24,81 @@ pub(super) enum Kind {
     /// Allowed, and not accepted.
     Unexpected,
     Unsettled,
+}
+
+/// A question of a summary.
+#[derive(Drop)]
+pub(super) struct Row<'q> {
+    name: &'q str,
+    reply: Reply,
+    /// The place of its group; behind all groups where none has it.
+    place: usize,
+    accepted: bool,
+    /// The comment that stands above it in its policy; empty where there is none.
+    comment: &'q str,
+}
+
+impl<'q> Model for Row<'q> {
+    ghost use Rattle.sf_audit.specs.Summaries.{RowData};
+
+    ghost Value = { RowData };
+
+    ghost view = { λ r. record {
+      name = r.name.now;
+      reply = r.reply;
+      place = r.place;
+      accepted = r.accepted;
+      comment = r.comment.now;
+    } };
+}
+
+impl Row<'_> {
+    pub(super) fn name(&self) -> &str
+        ensures { result.now ≡ self.now.name }
+    {
+        self.name
+    }
+
+    pub(super) fn reply(&self) -> Reply
+        ensures { result ≡ self.now.reply }
+    {
+        self.reply
+    }
+
+    pub(super) fn comment(&self) -> &str
+        ensures { result.now ≡ self.now.comment }
+    {
+        self.comment
+    }
+
+    fn is_kind(&self, kind: Kind) -> bool
+        ensures { result ≡ is_kind kind self.now }
+    {
+        match kind {
+            Kind::Asked => true,
+            Kind::Allowed => is_allowed(&self.reply),
+            Kind::Accepted => is_allowed(&self.reply) && self.accepted,
+            Kind::Unexpected => is_allowed(&self.reply) && !self.accepted,
+            Kind::Unsettled => matches!(self.reply, Reply::Unsettled),
+        }
+    }
+
+    fn is_in(&self, place: Option<usize>) -> bool
+        ensures { result ≡ is_in place self.now }
+    {
+        match place {
+            Some(place) => self.place == place,
+            None => true,
+        }
+    }
+
+    /// Whether the question is of the kind, and stands under the group at the place, or behind all groups. Without a
+    /// place it may stand anywhere.
+    pub(super) fn is_listed(&self, place: Option<usize>, kind: Kind) -> bool
+        ensures { result ≡ is_listed place kind self.now }
+    {
+        self.is_in(place) && self.is_kind(kind)
+    }
 }
 
 fn has_question(group: &Group, name: &str) -> bool
@@ -40,40 +119,67 @@ fn section_of(groups: &[Group], name: &str) -> usize
     place_of(groups, name).unwrap_or(groups.len())
 }
 
-fn is_in(groups: &[Group], place: Option<usize>, name: &str) -> bool
-    ensures { result ≡ is_in groups.now place name.now }
+fn comment_at<'o>(origins: &'o [Document], place: usize) -> &'o str
+    ensures { result.now ≡ comment_at (map view origins.now) place }
 {
-    match place {
-        Some(place) => section_of(groups, name) == place,
-        None => true,
+    match origins.get(place) {
+        Some(origin) => match origin.text_at("comment") {
+            Some(comment) => comment,
+            None => "",
+        },
+        None => "",
     }
 }
 
-fn is_kind(kind: Kind, expected: &Expected, name: &str, reply: Reply) -> bool
-    ensures { result ≡ is_kind kind expected.now.accepted name.now reply }
-{
-    match kind {
-        Kind::Asked => true,
-        Kind::Allowed => is_allowed(&reply),
-        Kind::Accepted => is_allowed(&reply) && expected.is_accepted(name),
-        Kind::Unexpected => expected.is_unexpected(name, reply),
-        Kind::Unsettled => matches!(reply, Reply::Unsettled),
-    }
-}
-
-/// Whether a question is of the kind, and stands under the group at the place, or behind all groups. Without a place it
-/// may stand anywhere.
-pub(super) fn is_listed(
-    groups: &[Group],
-    place: Option<usize>,
-    kind: Kind,
+/// The question at a place, from 0, with this name.
+fn row_of<'q>(
+    summary: &Summary<'q>,
     expected: &Expected,
-    name: &str,
+    place: usize,
+    name: &'q str,
     reply: Reply,
-) -> bool
-    ensures { result ≡ is_listed groups.now place kind expected.now.accepted name.now reply }
+) -> Row<'q>
+    ensures { result ≡ row_of (summary_data summary.now) expected.now place name.now reply }
 {
-    is_kind(kind, expected, name, reply) && is_in(groups, place, name)
+    Row {
+        name,
+        reply,
+        place: section_of(summary.groups, name),
+        accepted: expected.is_accepted(name),
+        comment: comment_at(summary.origins, place),
+    }
+}
+
+fn rows_in<'q>(
+    alloc: Global,
+    summary: &Summary<'q>,
+    expected: &Expected,
+    questions: &'q [Question],
+    replies: &[Reply],
+) -> Result<Vec<Row<'q>>, AllocError>
+    requires { length questions.now ≡ length replies.now }
+    ensures { IfOk result (λ v. v.items
+        ≡ rows_of (summary_data summary.now) expected.now 0 questions.now replies.now) }
+{
+    let mut rows = Vec::new(alloc);
+    for (i, question) in questions.iter().enumerate() {
+        rows.push(row_of(summary, expected, i, question.name(), replies[i]))?;
+    }
+    Ok(rows)
+}
+
+/// The questions of an audit, in their order.
+pub(super) fn rows_of<'q>(
+    alloc: Global,
+    summary: &Summary<'q>,
+    expected: &Expected,
+    outcome: &'q Outcome,
+) -> Result<Vec<Row<'q>>, AllocError>
+    ensures { IfOk result (λ v. v.items ≡ rows_of (summary_data summary.now) expected.now 0
+        outcome.now.questions outcome.now.replies) }
+{
+    let (questions, replies) = (outcome.questions(), outcome.replies());
+    rows_in(alloc, summary, expected, questions, replies)
 }
 
 pub(super) fn push_listed<'q>(
@@ -90,53 +196,24 @@ pub(super) fn push_listed<'q>(
     Ok(())
 }
 
-fn names_in<'q>(
+/// The names of the questions of a kind that stand at a place, as `is_listed` says.
+pub(super) fn names_of<'q>(
     alloc: Global,
-    groups: &[Group],
+    rows: &'q [Row<'_>],
     place: Option<usize>,
     kind: Kind,
-    expected: &Expected,
-    questions: &'q [Question],
-    replies: &[Reply],
 ) -> Result<Vec<&'q str>, AllocError>
-    requires { length questions.now ≡ length replies.now }
-    ensures { IfOk result (λ v. map (λ t. t.now) v.items ≡ names_in groups.now place kind
-        expected.now.accepted questions.now replies.now) }
+    ensures { IfOk result (λ v. map (λ t. t.now) v.items ≡ names_of place kind rows.now) }
 {
     let mut names = Vec::new(alloc);
-    for (i, question) in questions.iter().enumerate() {
-        let name = question.name();
-        let listed = is_listed(groups, place, kind, expected, name, replies[i]);
-        push_listed(&mut names, listed, name)?;
+    for row in rows {
+        push_listed(&mut names, row.is_listed(place, kind), row.name())?;
     }
     Ok(names)
 }
 
-/// The names of the questions of a kind that stand at a place, as `is_listed` says.
-pub(super) fn names_of<'q>(
-    alloc: Global,
-    groups: &[Group],
-    place: Option<usize>,
-    kind: Kind,
-    expected: &Expected,
-    outcome: &'q Outcome,
-) -> Result<Vec<&'q str>, AllocError>
-    ensures { IfOk result (λ v. map (λ t. t.now) v.items
-        ≡ names_of groups.now place kind expected.now outcome.now) }
+pub(super) fn count_of(rows: &[Row<'_>], place: Option<usize>, kind: Kind) -> usize
+    ensures { result ≡ count_of place kind rows.now }
 {
-    let (questions, replies) = (outcome.questions(), outcome.replies());
-    names_in(alloc, groups, place, kind, expected, questions, replies)
-}
-
-pub(super) fn count_of(
-    alloc: Global,
-    groups: &[Group],
-    place: Option<usize>,
-    kind: Kind,
-    expected: &Expected,
-    outcome: &Outcome,
-) -> Result<usize, AllocError>
-    ensures { IfOk result (λ n. n ≡ count_of groups.now place kind expected.now outcome.now) }
-{
-    Ok(names_of(alloc, groups, place, kind, expected, outcome)?.len())
+    rows.iter().filter(|row| row.is_listed(place, kind)).count()
 }

@@ -1,11 +1,11 @@
 //! The text of a summary, part by part. After an error a part of what was to be added may stand in the text;
 //! `summary_of` drops it.
 
-ghost use Rattle.std.specs.Prelude.{◌≡◌, ◌≤◌, ◌<◌, ◌^◌, ◌++◌, Some, IfOk, OnOk, length, map, string_bytes};
-ghost use Rattle.sf_audit.specs.Summaries.{accepted_words, advice, broken_text, call_line, closed_titles, control_text, end_text, ending, example_line, example_lines, first_line, gap, group_line, groups_text, is_closed, last_title, line_room, list_text, listed_line, more_line, next_word, next_words, room_behind, section_text, section_texts, size_words, summary_text, totals_words, unexpected_text};
+ghost use Rattle.std.specs.Prelude.{◌≡◌, ◌++◌, IfOk, OnOk, codes, length, map, string_bytes};
+ghost use Rattle.sf_audit.specs.Summaries.{accepted_words, advice, body_text, broken_text, call_line, closed_titles, comment_line, control_text, end_text, ending, example_line, example_lines, first_line, gap, group_line, groups_text, is_closed, last_title, line_room, list_text, listed_lines, more_line, next_word, next_words, room_behind, row_lines, section_text, section_texts, size_words, summary_data, summary_text, totals_words, unexpected_text};
 
 use super::Summary;
-use super::lists::{Kind, count_of, is_listed, names_of, push_listed};
+use super::lists::{Kind, Row, count_of, names_of, push_listed, rows_of};
 use crate::counting::{count_allowed, count_never, count_unsettled, is_allowed};
 use crate::expecting::{Expected, push_control};
 use crate::outcome::Outcome;
@@ -15,6 +15,16 @@ use sf_insn::Input;
 use sf_names::Names;
 use sf_policy::Group;
 use std::alloc::{AllocError, Global};
+
+/// What the groups of a summary are written from.
+#[derive(Drop)]
+struct Parts<'s> {
+    alloc: Global,
+    all: bool,
+    names: &'s [Names],
+    groups: &'s [Group],
+    rows: &'s [Row<'s>],
+}
 
 /// How many columns a list has in a line behind its indent.
 const COLUMNS: usize = 96;
@@ -126,88 +136,88 @@ fn push_example(
     }
 }
 
-fn push_listed_line(
+fn push_comment(text: &mut String, comment: &str) -> Result<(), AllocError>
+    ensures { OnOk result (string_bytes text.new ≡ string_bytes text.old
+        ++ comment_line comment.now) }
+{
+    if comment.is_empty() {
+        return Ok(());
+    }
+    write!(text, "        {comment}\n")
+}
+
+/// Adds the line of a question, and under it the comment that stands above it in its policy.
+fn push_row(text: &mut String, names: &[Names], row: &Row<'_>) -> Result<(), AllocError>
+    ensures { OnOk result (string_bytes text.new ≡ string_bytes text.old
+        ++ row_lines names.now row.now) }
+{
+    push_example(text, names, row.name(), row.reply())?;
+    push_comment(text, row.comment())
+}
+
+fn push_listed_lines(
     text: &mut String,
     listed: bool,
     names: &[Names],
-    name: &str,
-    reply: Reply,
+    row: &Row<'_>,
 ) -> Result<(), AllocError>
     ensures { OnOk result (string_bytes text.new ≡ string_bytes text.old
-        ++ listed_line listed names.now name.now reply) }
+        ++ listed_lines listed names.now row.now) }
 {
     if listed {
-        push_example(text, names, name, reply)?;
+        push_row(text, names, row)?;
     }
     Ok(())
 }
 
 fn push_examples(
     text: &mut String,
-    summary: Summary<'_>,
+    names: &[Names],
     place: usize,
-    expected: &Expected,
-    questions: &[Question],
-    replies: &[Reply],
+    rows: &[Row<'_>],
 ) -> Result<(), AllocError>
-    requires { length questions.now ≡ length replies.now }
     ensures { OnOk result (string_bytes text.new ≡ string_bytes text.old
-        ++ example_lines summary.entry.names.now summary.entry.groups.now place
-        expected.now.accepted questions.now replies.now) }
+        ++ example_lines names.now place rows.now) }
 {
-    let groups = summary.groups;
-    for (i, question) in questions.iter().enumerate() {
-        let (name, reply) = (question.name(), replies[i]);
-        let listed = is_listed(groups, Some(place), Kind::Unexpected, expected, name, reply);
-        push_listed_line(text, listed, summary.names, name, reply)?;
+    for row in rows {
+        let listed = row.is_listed(Some(place), Kind::Unexpected);
+        push_listed_lines(text, listed, names, row)?;
     }
     Ok(())
 }
 
-fn push_unexpected(
-    alloc: Global,
-    text: &mut String,
-    summary: Summary<'_>,
-    place: usize,
-    expected: &Expected,
-    outcome: &Outcome,
-) -> Result<(), AllocError>
+fn push_unexpected(text: &mut String, parts: &Parts<'_>, place: usize) -> Result<(), AllocError>
     ensures { OnOk result (string_bytes text.new ≡ string_bytes text.old
-        ++ unexpected_text summary.entry.all summary.entry.names.now summary.entry.groups.now
-        place expected.now outcome.now) }
+        ++ unexpected_text parts.now.all parts.now.names.now place parts.now.rows.now) }
 {
-    if summary.all {
-        let (questions, replies) = (outcome.questions(), outcome.replies());
-        return push_examples(text, summary, place, expected, questions, replies);
+    if parts.all {
+        return push_examples(text, parts.names, place, parts.rows);
     }
-    let (groups, kind) = (summary.groups, Kind::Unexpected);
-    let names = names_of(alloc, groups, Some(place), kind, expected, outcome)?;
+    let names = names_of(parts.alloc, parts.rows, Some(place), Kind::Unexpected)?;
     push_list(text, "    ", &names)
 }
 
 /// Adds the group at a place with its title, or the questions behind all groups, where one of these is allowed.
 fn push_section(
-    alloc: Global,
     text: &mut String,
-    summary: Summary<'_>,
+    parts: &Parts<'_>,
     place: usize,
-    expected: &Expected,
-    outcome: &Outcome,
     title: &str,
 ) -> Result<(), AllocError>
     ensures { OnOk result (string_bytes text.new ≡ string_bytes text.old
-        ++ section_text summary.entry.all summary.entry.names.now summary.entry.groups.now
-        place expected.now outcome.now title.now) }
+        ++ section_text parts.now.all parts.now.names.now parts.now.rows.now place title.now) }
 {
-    let (groups, at) = (summary.groups, Some(place));
-    let allowed = count_of(alloc, groups, at, Kind::Allowed, expected, outcome)?;
+    let (rows, at) = (parts.rows, Some(place));
+    let allowed = count_of(rows, at, Kind::Allowed);
     if allowed == 0 {
         return Ok(());
     }
-    let asked = count_of(alloc, groups, at, Kind::Asked, expected, outcome)?;
-    let accepted = count_of(alloc, groups, at, Kind::Accepted, expected, outcome)?;
+    let (asked, accepted) = (
+        count_of(rows, at, Kind::Asked),
+        count_of(rows, at, Kind::Accepted),
+    );
     push_group(text, title, allowed, asked, accepted)?;
-    push_unexpected(alloc, text, summary, place, expected, outcome)
+    push_unexpected(text, parts, place)
 }
 
 fn last_title(groups: &[Group]) -> &'static str
@@ -219,77 +229,54 @@ fn last_title(groups: &[Group]) -> &'static str
     }
 }
 
-fn push_sections(
-    alloc: Global,
-    text: &mut String,
-    summary: Summary<'_>,
-    expected: &Expected,
-    outcome: &Outcome,
-) -> Result<(), AllocError>
+fn push_sections(text: &mut String, parts: &Parts<'_>, groups: &[Group]) -> Result<(), AllocError>
     ensures { OnOk result (string_bytes text.new ≡ string_bytes text.old
-        ++ section_texts summary.entry.all summary.entry.names.now summary.entry.groups.now
-        0 expected.now outcome.now summary.entry.groups.now) }
+        ++ section_texts parts.now.all parts.now.names.now parts.now.rows.now 0 groups.now) }
 {
-    for (place, group) in summary.groups.iter().enumerate() {
-        push_section(
-            alloc,
-            text,
-            summary,
-            place,
-            expected,
-            outcome,
-            group.title(),
-        )?;
+    for (place, group) in groups.iter().enumerate() {
+        push_section(text, parts, place, group.title())?;
     }
     Ok(())
 }
 
-fn push_groups(
-    alloc: Global,
-    text: &mut String,
-    summary: Summary<'_>,
-    expected: &Expected,
-    outcome: &Outcome,
-) -> Result<(), AllocError>
+fn push_groups(text: &mut String, parts: &Parts<'_>) -> Result<(), AllocError>
     ensures { OnOk result (string_bytes text.new ≡ string_bytes text.old
-        ++ groups_text summary.entry.all summary.entry.names.now summary.entry.groups.now
-        expected.now outcome.now) }
+        ++ groups_text parts.now.all parts.now.names.now parts.now.rows.now parts.now.groups.now) }
 {
-    push_sections(alloc, text, summary, expected, outcome)?;
-    let (place, title) = (summary.groups.len(), last_title(summary.groups));
-    push_section(alloc, text, summary, place, expected, outcome, title)
+    let groups = parts.groups;
+    push_sections(text, parts, groups)?;
+    push_section(text, parts, groups.len(), last_title(groups))
 }
 
-fn is_closed(
-    alloc: Global,
-    groups: &[Group],
-    place: usize,
-    expected: &Expected,
-    outcome: &Outcome,
-) -> Result<bool, AllocError>
-    ensures { IfOk result (λ b. b ≡ is_closed groups.now place expected.now outcome.now) }
+fn is_closed(rows: &[Row<'_>], place: usize) -> bool
+    ensures { result ≡ is_closed rows.now place }
 {
-    let asked = count_of(alloc, groups, Some(place), Kind::Asked, expected, outcome)?;
-    let allowed = count_of(alloc, groups, Some(place), Kind::Allowed, expected, outcome)?;
-    Ok(asked != 0 && allowed == 0)
+    let at = Some(place);
+    count_of(rows, at, Kind::Asked) != 0 && count_of(rows, at, Kind::Allowed) == 0
 }
 
 /// The titles of the groups that have questions of which none is allowed.
 fn closed_titles<'g>(
     alloc: Global,
+    rows: &[Row<'_>],
     groups: &'g [Group],
-    expected: &Expected,
-    outcome: &Outcome,
 ) -> Result<Vec<&'g str>, AllocError>
-    ensures { IfOk result (λ v. map (λ t. t.now) v.items
-        ≡ closed_titles groups.now 0 expected.now outcome.now groups.now) }
+    ensures { IfOk result (λ v. map (λ t. t.now) v.items ≡ closed_titles rows.now 0 groups.now) }
 {
     let mut titles = Vec::new(alloc);
     for (place, group) in groups.iter().enumerate() {
-        let closed = is_closed(alloc, groups, place, expected, outcome)?;
-        push_listed(&mut titles, closed, group.title())?;
+        push_listed(&mut titles, is_closed(rows, place), group.title())?;
     }
     Ok(titles)
+}
+
+fn push_closed(text: &mut String, parts: &Parts<'_>) -> Result<(), AllocError>
+    ensures { OnOk result (string_bytes text.new ≡ string_bytes text.old
+        ++ list_text (codes "Nothing allowed: ") (closed_titles parts.now.rows.now 0
+        parts.now.groups.now)) }
+{
+    let closed = closed_titles(parts.alloc, parts.rows, parts.groups)?;
+    push_list(text, "Nothing allowed: ", &closed)
 }
 
 fn ending(count: usize) -> &'static str
@@ -324,19 +311,13 @@ fn push_totals(
     write!(text, ", {unsettled} unsettled\n\n")
 }
 
-fn push_first_line(
-    alloc: Global,
-    text: &mut String,
-    expected: &Expected,
-    outcome: &Outcome,
-) -> Result<(), AllocError>
+fn push_first_line(text: &mut String, rows: &[Row<'_>], outcome: &Outcome) -> Result<(), AllocError>
     ensures { OnOk result (string_bytes text.new ≡ string_bytes text.old
-        ++ first_line expected.now outcome.now) }
+        ++ first_line (length outcome.now.settled.stack) rows.now outcome.now.replies) }
 {
-    let filters = outcome.settled().stack().programs().len();
-    push_size(text, filters, outcome.questions().len())?;
-    let accepted = count_of(alloc, &[], None, Kind::Accepted, expected, outcome)?;
     let replies = outcome.replies();
+    push_size(text, outcome.settled().stack().programs().len(), rows.len())?;
+    let accepted = count_of(rows, None, Kind::Accepted);
     let (never, allowed) = (count_never(replies), count_allowed(replies));
     push_totals(text, never, allowed, accepted, count_unsettled(replies))
 }
@@ -391,41 +372,62 @@ fn push_advice(text: &mut String, all: bool, unexpected: bool) -> Result<(), All
     text.push_str("--accept FILE names those that may be allowed.\n")
 }
 
+/// Adds the lines behind those of the groups. `unexpected` tells whether a question is allowed and not accepted.
 fn push_end(
-    alloc: Global,
     text: &mut String,
-    summary: Summary<'_>,
+    parts: &Parts<'_>,
     expected: &Expected,
-    outcome: &Outcome,
+    unexpected: bool,
 ) -> Result<(), AllocError>
     ensures { OnOk result (string_bytes text.new ≡ string_bytes text.old
-        ++ end_text summary.entry.all summary.entry.groups.now expected.now outcome.now) }
+        ++ end_text parts.now.all parts.now.rows.now expected.now unexpected) }
 {
-    let kind = Kind::Unsettled;
-    let unsettled = names_of(alloc, summary.groups, None, kind, expected, outcome)?;
+    let unsettled = names_of(parts.alloc, parts.rows, None, Kind::Unsettled)?;
     push_list(
         text,
         "Unsettled (a greater --budget may settle them): ",
         &unsettled,
     )?;
     push_control_line(text, expected)?;
-    push_advice(text, summary.all, expected.has_unexpected(outcome))
+    push_advice(text, parts.all, unexpected)
+}
+
+fn push_body(
+    text: &mut String,
+    parts: &Parts<'_>,
+    expected: &Expected,
+    outcome: &Outcome,
+) -> Result<(), AllocError>
+    ensures { OnOk result (string_bytes text.new ≡ string_bytes text.old
+        ++ body_text parts.now.all parts.now.names.now parts.now.groups.now expected.now
+        (length outcome.now.settled.stack) outcome.now.questions outcome.now.replies
+        parts.now.rows.now) }
+{
+    push_first_line(text, parts.rows, outcome)?;
+    push_groups(text, parts)?;
+    push_closed(text, parts)?;
+    let unexpected = expected.has_unexpected(outcome);
+    push_end(text, parts, expected, unexpected)
 }
 
 pub(super) fn summary_of(
     alloc: Global,
     outcome: &Outcome,
     expected: &Expected,
-    summary: Summary<'_>,
+    summary: &Summary<'_>,
 ) -> Result<String, AllocError>
-    ensures { IfOk result (λ text. string_bytes text ≡ summary_text summary.entry.all
-        summary.entry.names.now summary.entry.groups.now expected.now outcome.now) }
+    ensures { IfOk result (λ text. string_bytes text
+        ≡ summary_text (summary_data summary.now) expected.now outcome.now) }
 {
-    let mut text = String::new(alloc);
-    push_first_line(alloc, &mut text, expected, outcome)?;
-    push_groups(alloc, &mut text, summary, expected, outcome)?;
-    let closed = closed_titles(alloc, summary.groups, expected, outcome)?;
-    push_list(&mut text, "Nothing allowed: ", &closed)?;
-    push_end(alloc, &mut text, summary, expected, outcome)?;
+    let rows = rows_of(alloc, summary, expected, outcome)?;
+    let parts = Parts {
+        alloc,
+        all: summary.all,
+        names: summary.names,
+        groups: summary.groups,
+        rows: &rows,
+    };
+    let mut text = String::from_str(alloc, summary.head)?;
+    push_body(&mut text, &parts, expected, outcome)?;
     Ok(text)
 }

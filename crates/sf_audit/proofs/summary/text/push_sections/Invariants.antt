@@ -4,7 +4,6 @@ use Rattle.sf_audit.proofs.summary.text.push_sections.Given as goal
 
 abbrev pub invariant-loop-place : goal.invariant-loop-place
 invariant-loop-place l =
-    let s = l.summary in
-    string_bytes l.text
-    ++ section_texts s.all s.names.now s.groups.now l.place l.expected l.outcome (drop l.place s.groups.now)
-    ≡ string_bytes l.initial.text ++ section_texts s.all s.names.now s.groups.now 0 l.expected l.outcome s.groups.now
+    let p = l.parts in
+    string_bytes l.text ++ section_texts p.all p.names.now p.rows.now l.place (drop l.place l.groups)
+    ≡ string_bytes l.initial.text ++ section_texts p.all p.names.now p.rows.now 0 l.groups

@@ -1,0 +1,8 @@
+use Rattle.std.proofs.Common.{◌≡◌, ◌++◌, drop}
+use Rattle.sf_audit.specs.Summaries.{rows_of, summary_data}
+use Rattle.sf_audit.proofs.summary.lists.rows_in.Given as goal
+
+abbrev pub invariant-loop-i : goal.invariant-loop-i
+invariant-loop-i l = l.rows.items
+    ++ rows_of (summary_data l.summary) l.expected l.i (drop l.i l.questions) (drop l.i l.replies)
+    ≡ rows_of (summary_data l.summary) l.expected 0 l.questions l.replies
