@@ -1,4 +1,3 @@
 pub mod Pairing
 pub mod KeptFiles
 pub mod KeptLemmas
-pub mod TraceLemmas

@@ -5,16 +5,11 @@ pub mod Names
 pub mod Policies
 pub mod Expecting
 pub mod Groups
-pub mod Instructions
-pub mod Texts
-pub mod Traces
 pub mod Outputs
 pub mod Status
 pub mod Faults
 pub mod Profiles
 pub mod Asking
 pub mod Wanted
-pub mod CheckDocuments
-pub mod TraceDocuments
 pub mod Origins
 pub mod laws

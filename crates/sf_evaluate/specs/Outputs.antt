@@ -11,13 +11,13 @@ use Rattle.sf_stack.specs.declared.fault.Fault.{Fault}
 use Rattle.sf_stack.specs.declared.fault.Fault.TheVariants.{Write}
 use Rattle.sf_names.specs.Names.{NamesData}
 use Rattle.sf_json.specs.Documents.{document_line}
+use Rattle.sf_trace.specs.CheckDocuments.{IsCheckDocument}
+use Rattle.sf_trace.specs.Texts.{IsCheckText}
+use Rattle.sf_trace.specs.TraceDocuments.{eval_document}
+use Rattle.sf_trace.specs.Traces.{eval_text}
 use Rattle.sf_evaluate.specs.Files.{HoldStack, RefusesFiles}
 use Rattle.sf_evaluate.specs.Identity.{HasFiles, identified}
-use Rattle.sf_evaluate.specs.Texts.{IsCheckText}
-use Rattle.sf_evaluate.specs.Traces.{eval_text}
 use Rattle.sf_evaluate.specs.declared.checking.Manner.{Manner}
-use Rattle.sf_evaluate.specs.CheckDocuments.{IsCheckDocument}
-use Rattle.sf_evaluate.specs.TraceDocuments.{eval_document}
 use Rattle.sf_evaluate.specs.declared.files.identity.FileRole.TheVariants.{Filter}
 
 -- what is told of a stack: a text; or one JSON document, with the line of this version and these documents of files

@@ -7,15 +7,12 @@ ghost use Rattle.serde_json.specs.View.{view};
 ghost use Rattle.sf_insn.specs.Inputs.{input_bytes};
 ghost use Rattle.sf_run.specs.Answers.{Answers};
 ghost use Rattle.sf_run.specs.declared.action.Answer.{Answer};
-ghost use Rattle.sf_evaluate.specs.Traces.{eval_text};
 ghost use Rattle.sf_evaluate.specs.Files.{RefusesFiles};
 ghost use Rattle.sf_evaluate.specs.Outputs.{AnswersFiles, ChecksFiles, IsCheckOutput, WritesAnswer, WritesCheck, eval_output};
 ghost use Rattle.sf_stack.specs.declared.fault.Fault.TheVariants.{Memory as MemoryFault, Input as InputFault, Write as WriteFault};
 
-use crate::document::{check_document, eval_document};
 use crate::explaining::Notes;
 use crate::files::{Files, Identity, identified, read_stack};
-use crate::texts::{Trace, answer_text, check_text, push_trace};
 use hex::FromHex;
 use sf_check::Stack;
 use sf_insn::{Input, input_of_bytes};
@@ -23,6 +20,7 @@ use sf_json::{Document, line_of};
 use sf_names::Names;
 use sf_run::answer;
 use sf_stack::{Fault, warnings_of_filters, write_bytes};
+use sf_trace::{Trace, check_document, check_text, eval_document, eval_text};
 use std::alloc::{AllocError, Global};
 use std::io::Write;
 
@@ -111,19 +109,6 @@ fn check_stack<O: Write>(
     notes.warnings = warnings_of_filters(alloc, stack.programs());
     let text = check_output(alloc, stack, how, identity)?;
     print(&text, out)
-}
-
-/// The text of `eval`: the answer, and under it the trace, where it is asked for.
-fn eval_text(alloc: Global, traced: bool, trace: &Trace<'_>) -> Result<String, sf_run::Fault>
-    ensures { IfOk result (λ text. string_bytes text ≡ eval_text traced trace.now.brief
-        trace.now.names.now trace.now.stack.now trace.now.input.now trace.now.answer) }
-{
-    let mut text = answer_text(alloc, trace.answer)?;
-    if !traced && !trace.brief {
-        return Ok(text);
-    }
-    push_trace(alloc, &mut text, trace)?;
-    Ok(text)
 }
 
 fn output_of(

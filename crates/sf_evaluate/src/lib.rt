@@ -8,15 +8,11 @@
 mod architectures;
 mod calls;
 mod checking;
-mod comparisons;
-mod document;
 mod explaining;
 mod fault;
 mod files;
-pub mod laws;
 mod profiling;
 mod telling;
-mod texts;
 mod words;
 
 pub use checking::{CheckManner, Evaluation, Manner, check, evaluate, print};
@@ -29,7 +25,6 @@ pub use files::{
 };
 pub use profiling::profile;
 pub use telling::{tell, tell_fault, warn};
-pub use texts::why_text;
 pub use words::{
     asked_input, calls_fit, digest_fits, eval_words_fit, known_calls, numbers_fit,
     profile_words_fit, rows_fit, tell_wrong_words,

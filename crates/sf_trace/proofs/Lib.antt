@@ -1,0 +1,2 @@
+pub mod ListingLemmas
+pub mod TraceLemmas

@@ -1,0 +1,6 @@
+pub mod Instructions
+pub mod Runs
+pub mod Texts
+pub mod Traces
+pub mod CheckDocuments
+pub mod TraceDocuments
