@@ -1,5 +1,5 @@
 -- What `audit` reads and writes.
-use Rattle.std.specs.Prelude.{◌≡◌, ◌⊎◌, ◌<◌, ◌||◌, ◌++◌, ℕ, Bool, true, false, List, [], ◌∷◌, Option, is_some, length, map, string_bytes, if◌then◌else◌}
+use Rattle.std.specs.Prelude.{◌≡◌, ◌⊎◌, ◌<◌, ◌||◌, ◌++◌, ℕ, Bool, true, false, List, [], ◌∷◌, Option, Some, None, codes, is_some, length, map, string_bytes, if◌then◌else◌}
 use Rattle.std.specs.Borrow.{Bor}
 use Rattle.std.specs.Io.KnownBytes.{Appends}
 use Rattle.serde_json.specs.Data.{Data}
@@ -23,7 +23,7 @@ use Rattle.sf_evaluate.specs.Groups.{AreGroupsIn, RefusesGroups}
 use Rattle.sf_evaluate.specs.Identity.{HasBothFiles, identified}
 use Rattle.sf_evaluate.specs.Origins.{HasOrigins}
 use Rattle.sf_evaluate.specs.Policies.{AreAsked, RefusesAsking}
-use Rattle.sf_evaluate.specs.Traces.{IsWhy}
+use Rattle.sf_trace.specs.Traces.{IsWhy}
 use Rattle.sf_evaluate.specs.declared.files.identity.FileRole.TheVariants.{Filter, Policy}
 use Rattle.sf_json.specs.Documents.{document_line}
 use Rattle.sf_policy.specs.Groups.{GroupData}
@@ -33,12 +33,13 @@ use Rattle.sf_command.specs.declared.auditing.TextForm.TheVariants.{Report, Summ
 use Rattle.sf_command.specs.Status.{audit_status}
 
 -- the files that an audit is asked by: policies, and where they are given that of a control, that of the questions that
--- may be allowed, and that of the groups of a summary
+-- may be allowed, that of the groups of a summary, and those of names of calls
 pub record AskedData : Type 0 where
   pub policies : List (Bor (List ℕ))
   pub control : Option (List ℕ)
   pub accept : Option (List ℕ)
   pub groups : Option (List ℕ)
+  pub names : List (Bor (List ℕ))
 
 -- what these files hold: questions, the questions of the control, and the names of questions that may be allowed
 pub record ReadData : Type 0 where
@@ -77,18 +78,68 @@ abbrev pub report_output : TellingData → ExpectedData → Found → List ℕ
 report_output telling expected found =
     report_text found telling.regions telling.remarks ++ behind_text telling expected found
 
+-- a file that is read, by what it is read as, on a line
+abbrev pub source_line : (role path : List ℕ) → List ℕ
+source_line role path = role ++ (codes ": " ++ (path ++ 10 ∷ []))
+
+-- files, each on a line
+abbrev pub source_lines : (role : List ℕ) → List (Bor (List ℕ)) → List ℕ
+source_lines role [] = []
+source_lines role (path ∷ paths) = source_line role path.now ++ source_lines role paths
+
+-- the line of a control, where there is one
+abbrev pub control_source : Option (List ℕ) → List ℕ
+control_source None = []
+control_source (Some path) = source_line (codes "control") path
+
+-- policies, a control and files of names, each on a line
+abbrev pub sources_of : List (Bor (List ℕ)) → Option (List ℕ) → List (Bor (List ℕ)) → List ℕ
+sources_of policies control names =
+    source_lines (codes "policy") policies ++ (control_source control ++ source_lines (codes "names") names)
+
+-- those that an audit is asked by
+abbrev pub sources_text : AskedData → List ℕ
+sources_text asked = sources_of asked.policies asked.control asked.names
+
+-- a summary has a line for each allowed question
+abbrev pub is_of_all : TextForm → Bool
+is_of_all SummaryOfAll = true
+is_of_all _ = false
+
+-- it is told where questions stand
+abbrev pub are_placed : (json : Bool) → TextForm → Bool
+are_placed json text = json || is_of_all text
+
+-- what is told of an audit: the files that it is asked by, the groups of its questions, how it is told, what was
+-- expected, and what was found
+pub record ToldData : Type 0 where
+  pub asked : AskedData
+  pub groups : List GroupData
+  pub telling : TellingData
+  pub expected : ExpectedData
+  pub found : Found
+
+-- a summary, with the files that it is asked by at its head
+abbrev pub summary_output : (all : Bool) → ToldData → List ℕ
+summary_output all t = summary_text (record {
+  head = sources_text t.asked;
+  all = all;
+  names = t.telling.names;
+  groups = t.groups;
+  origins = t.telling.origins;
+}) t.expected t.found
+
 -- what is written of an audit as a text: the report, or a summary by groups
-abbrev pub text_output : TextForm → List GroupData → TellingData → ExpectedData → Found → List ℕ
-text_output Report groups telling expected found = report_output telling expected found
-text_output Summary groups telling expected found = summary_text false telling.names groups expected found
-text_output SummaryOfAll groups telling expected found = summary_text true telling.names groups expected found
+abbrev pub text_output : TextForm → ToldData → List ℕ
+text_output Report t = report_output t.telling t.expected t.found
+text_output Summary t = summary_output false t
+text_output SummaryOfAll t = summary_output true t
 
 -- what is written of an audit: a text; or one JSON document, with the line of this version and these documents of files
-abbrev pub audit_output : (json : Bool) → TextForm → List GroupData → (version : List ℕ) → (files : List Data)
-    → TellingData → ExpectedData → Found → List ℕ
-audit_output false text groups version files telling expected found = text_output text groups telling expected found
-audit_output true text groups version files telling expected found =
-    document_line (identified version files (audit_document telling expected found))
+abbrev pub audit_output : (json : Bool) → TextForm → (version : List ℕ) → (files : List Data) → ToldData → List ℕ
+audit_output false text version files t = text_output text t
+audit_output true text version files t =
+    document_line (identified version files (audit_document t.telling t.expected t.found))
 
 -- how an audit is told that is asked by these files, if its questions stand there
 abbrev pub telling_of : AskedData → (origins : List Data) → List NamesData → (regions : Bool)
@@ -129,27 +180,33 @@ pub record IsFoundFor (stack : List (List Insn)) (read : ReadData) (budget : ℕ
 
 -- `audit`: the files at the paths are read, and their stack is audited by the questions that the files of the policies
 -- ask; what is found is written, with remarks where they are asked for, in JSON with where each question stands and
--- with the files that were read, in a summary by groups, and with what isn't as expected; the status tells of both
+-- with the files that were read, in a summary by groups with the comments above questions and the files that ask, and
+-- with what isn't as expected; the status tells of both
 pub record AuditsFiles (version : List ℕ) (holds : List ℕ → Option (List ℕ)) (asked : AskedData)
     (paths : List (Bor (List ℕ))) (names : List NamesData) (budget : ℕ) (regions why : Bool) (text : TextForm)
     (json : Bool) (status : ℕ) (old new : Option (List ℕ)) : Type 0 where
   pub read : ReadData
   pub asked_by : IsAskedBy holds asked read
   pub origins : List Data
-  pub placed : HasOrigins json holds asked.policies read.questions origins
+  pub placed : HasOrigins (are_placed json text) holds asked.policies read.questions origins
   pub groups : List GroupData
   pub grouped : AreGroupsIn holds asked.groups groups
   pub stack : List (List Insn)
   pub held : HoldStack holds paths stack
   pub files : List Data
-  pub told : HasBothFiles json holds Policy Filter asked.policies paths files
+  pub told : HasBothFiles (are_placed json text) holds Policy Filter asked.policies paths files
   pub found : Found
   pub expected : ExpectedData
   pub is_found : IsFoundFor stack read budget found expected
   pub remarks : List (List ℕ)
   pub remarked : HasRemarks why names found remarks
-  pub written : Appends old new
-      (audit_output json text groups version files (telling_of asked origins names regions remarks) expected found)
+  pub written : Appends old new (audit_output json text version files (record {
+    asked = asked;
+    groups = groups;
+    telling = telling_of asked origins names regions remarks;
+    expected = expected;
+    found = found;
+  }))
   pub status_is : status ≡ audit_status expected found
 
 -- Why the files that an audit is asked by are refused: a policy is; or the control; or the questions that may be

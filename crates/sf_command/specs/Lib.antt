@@ -5,4 +5,5 @@ pub mod Comparisons
 pub mod Listings
 pub mod Needs
 pub mod Subcommands
+pub mod Told
 pub mod Runs

@@ -80,6 +80,7 @@ pub record IsAskedFor (rows : List Row) (asked : AskedData) : Type 0 where
   pub control : asked.control ≡ first_of (codes "control") rows
   pub accept : asked.accept ≡ first_of (codes "accept") rows
   pub groups : asked.groups ≡ groups_path rows
+  pub names : ArePaths (codes "names") rows asked.names
 
 module _ (version : Text) (holds : Text → Option Text) (rows : List Row) (status : ℕ) (old new : Option Text) where
   -- the files that are named were audited by the files that ask

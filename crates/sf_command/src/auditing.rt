@@ -9,9 +9,11 @@ ghost use Rattle.sf_evaluate.specs.Identity.{HasFiles};
 ghost use Rattle.sf_evaluate.specs.Origins.{HasOrigins};
 ghost use Rattle.sf_evaluate.specs.declared.files.identity.FileRole.TheVariants.{Policy};
 ghost use Rattle.sf_stack.specs.declared.fault.Fault.TheVariants.{Count as CountFault, Memory as MemoryFault, Write as WriteFault};
-ghost use Rattle.sf_command.specs.Audits.{AreRemarks, AuditsFiles, HasRemarks, IsAskedBy, IsFoundFor, IsRefusedFor, IsRemark, RefusesAsked, RefusesAudit, audit_output, behind_text, is_expecting, read_data, report_output, text_output};
+ghost use Rattle.sf_command.specs.Audits.{AreRemarks, AuditsFiles, HasRemarks, IsAskedBy, IsFoundFor, IsRefusedFor, IsRemark, RefusesAsked, RefusesAudit, are_placed, audit_output, behind_text, is_expecting, is_of_all, read_data, report_output, sources_text, summary_output, text_output};
+ghost use Rattle.sf_command.specs.Told.{told_data};
 
 use crate::means::Means;
+use crate::sources::push_files;
 use crate::status::status_of_audit;
 use sf_ask::{Question, Reply};
 use sf_audit::{
@@ -23,13 +25,14 @@ use sf_check::Stack;
 use sf_crew::Gate;
 use sf_evaluate::{
     Files, Identity, Notes, Policies, accepted_in, all_questions_in, control_in, groups_in,
-    identified, join_documents, read_stack, why_text,
+    identified, join_documents, read_stack,
 };
 use sf_json::{Document, write_document};
 use sf_names::Names;
 use sf_policy::Group;
 use sf_stack::Fault;
 use sf_stack_warnings::warnings_of_stack;
+use sf_trace::why_text;
 use std::alloc::{AllocError, Global};
 use std::io::Write;
 use std::marker::Model;
@@ -41,8 +44,14 @@ use std::thread::Threads;
 pub enum TextForm {
     Report,
     Summary,
-    /// A summary with the call of each example.
+    /// A summary with the call of each example, and the comment above its question.
     SummaryOfAll,
+}
+
+fn is_of_all(text: TextForm) -> bool
+    ensures { result ≡ is_of_all text }
+{
+    matches!(text, TextForm::SummaryOfAll)
 }
 
 /// How an audit is done, and what its report lists.
@@ -60,18 +69,27 @@ pub struct AuditTerms {
     pub json: bool,
 }
 
+/// Whether it is told where questions stand: in JSON, and with the comments above questions.
+fn are_placed(terms: AuditTerms) -> bool
+    ensures { result ≡ are_placed terms.json terms.text }
+{
+    terms.json || is_of_all(terms.text)
+}
+
 /// The paths of the files that say what an audit is to ask, and which replies are expected.
 #[derive(Drop)]
-pub struct Asked<'m, 'a> {
+pub struct Asked<'m, 'n, 'a> {
     pub policies: &'m [&'a str],
     pub control: Option<&'a str>,
     /// The file with the names of the questions that may be allowed.
     pub accept: Option<&'a str>,
     /// The file of groups by which a summary puts questions in order; none where no summary is asked for.
     pub groups: Option<&'a str>,
+    /// The files of names that are given.
+    pub names: &'n [&'a str],
 }
 
-impl<'m, 'a> Model for Asked<'m, 'a> {
+impl<'m, 'n, 'a> Model for Asked<'m, 'n, 'a> {
     ghost use Rattle.std.specs.Prelude.{option_map};
     ghost use Rattle.sf_command.specs.Audits.{AskedData};
 
@@ -82,10 +100,11 @@ impl<'m, 'a> Model for Asked<'m, 'a> {
       control = option_map (λ t. t.now) a.control;
       accept = option_map (λ t. t.now) a.accept;
       groups = option_map (λ t. t.now) a.groups;
+      names = a.names.now;
     } };
 }
 
-impl Asked<'_, '_> {
+impl Asked<'_, '_, '_> {
     fn is_expecting(&self) -> bool
         ensures { result ≡ is_expecting self.now }
     {
@@ -97,12 +116,20 @@ impl Asked<'_, '_> {
     {
         self.groups
     }
+
+    fn sources(&self, alloc: Global) -> Result<String, AllocError>
+        ensures { IfOk result (λ text. string_bytes text ≡ sources_text self.now) }
+    {
+        let mut text = String::new(alloc);
+        push_files(&mut text, self.policies, self.control, self.names)?;
+        Ok(text)
+    }
 }
 
 /// What an audit is asked for.
 #[derive(Drop)]
-pub struct AuditTask<'t, 'p, 'm, 'a> {
-    pub asked: &'t Asked<'m, 'a>,
+pub struct AuditTask<'t, 'p, 'm, 'n, 'a> {
+    pub asked: &'t Asked<'m, 'n, 'a>,
     /// The paths of the filter files, in order of installation.
     pub paths: &'p [&'a str],
     pub names: &'t [Names],
@@ -125,7 +152,7 @@ struct AskedContents {
 /// files. They keep the bytes of the last policy or control that was read, and why it is refused, if it is.
 fn read_questions<F: Files>(
     alloc: Global,
-    asked: &Asked<'_, '_>,
+    asked: &Asked<'_, '_, '_>,
     with_documents: bool,
     files: &mut F,
     notes: &mut Notes,
@@ -283,73 +310,86 @@ fn write_whole_report<O: Write>(
     )
 }
 
-fn write_text<O: Write>(
+/// What is written of an audit.
+#[derive(Clone, Copy)]
+struct Told<'t, 'm, 'n, 'a> {
+    asked: &'t Asked<'m, 'n, 'a>,
+    terms: AuditTerms,
+    groups: &'t [Group],
+    telling: &'t Telling<'t>,
+    expected: &'t Expected,
+    outcome: &'t Outcome,
+}
+
+fn write_summary_of<O: Write>(
     alloc: Global,
-    form: TextForm,
-    groups: &[Group],
-    telling: &Telling<'_>,
-    expected: &Expected,
-    outcome: &Outcome,
+    told: &Told<'_, '_, '_, '_>,
+    all: bool,
     out: &mut O,
 ) -> Result<(), Fault>
     ensures written { OnOk result (Appends (O.contents out.old) (O.contents out.new)
-        (text_output form groups.now (telling_data telling.now) expected.now outcome.now)) }
+        (summary_output all (told_data told.now))) }
     ensures refused { IfErr result (λ e. (e ≡ WriteFault)
         ⊎ ((e ≡ MemoryFault) × (out.new ≡ out.old))) }
 {
-    let names = telling.names;
-    match form {
-        TextForm::Report => write_whole_report(alloc, telling, expected, outcome, out),
-        TextForm::Summary => {
-            let summary = Summary {
-                all: false,
-                names,
-                groups,
-            };
-            write_summary(alloc, outcome, expected, summary, out)
+    let head = told.asked.sources(alloc)?;
+    let summary = Summary {
+        head: &head,
+        all,
+        names: told.telling.names,
+        groups: told.groups,
+        origins: told.telling.origins,
+    };
+    write_summary(alloc, told.outcome, told.expected, &summary, out)
+}
+
+fn write_text<O: Write>(
+    alloc: Global,
+    told: &Told<'_, '_, '_, '_>,
+    out: &mut O,
+) -> Result<(), Fault>
+    ensures written { OnOk result (Appends (O.contents out.old) (O.contents out.new)
+        (text_output told.now.terms.text (told_data told.now))) }
+    ensures refused { IfErr result (λ e. (e ≡ WriteFault)
+        ⊎ ((e ≡ MemoryFault) × (out.new ≡ out.old))) }
+{
+    match told.terms.text {
+        TextForm::Report => {
+            write_whole_report(alloc, told.telling, told.expected, told.outcome, out)
         }
-        TextForm::SummaryOfAll => {
-            let summary = Summary {
-                all: true,
-                names,
-                groups,
-            };
-            write_summary(alloc, outcome, expected, summary, out)
-        }
+        TextForm::Summary => write_summary_of(alloc, told, false, out),
+        TextForm::SummaryOfAll => write_summary_of(alloc, told, true, out),
     }
 }
 
 fn write_audit<O: Write>(
     alloc: Global,
-    terms: AuditTerms,
-    groups: &[Group],
+    told: &Told<'_, '_, '_, '_>,
     identity: Identity<'_>,
-    telling: &Telling<'_>,
-    expected: &Expected,
-    outcome: &Outcome,
     out: &mut O,
 ) -> Result<(), Fault>
     ensures written { OnOk result (Appends (O.contents out.old) (O.contents out.new)
-        (audit_output terms.json terms.text groups.now identity.entry.version.now
-        (map view identity.entry.files.items) (telling_data telling.now) expected.now outcome.now)) }
+        (audit_output told.now.terms.json told.now.terms.text identity.entry.version.now
+        (map view identity.entry.files.items) (told_data told.now))) }
     ensures refused { IfErr result (λ e. (e ≡ WriteFault)
         ⊎ ((e ≡ MemoryFault) × (out.new ≡ out.old))) }
 {
-    if terms.json {
-        let document = audit_document(alloc, outcome, expected, telling)?;
+    if told.terms.json {
+        let document = audit_document(alloc, told.outcome, told.expected, told.telling)?;
         let document = identified(alloc, document, identity)?;
         return write_document(alloc, &document, out);
     }
-    write_text(alloc, terms.text, groups, telling, expected, outcome, out)
+    write_text(alloc, told, out)
 }
 
 /// Reads the files that ask and then the stack, audits it, writes the report, and gives the exit status. Where it is
 /// said what is expected, the lines that say what isn't as expected stand behind the report. A summary, where one is
-/// asked for, takes the place of the report. The notes count the files, and get the warnings. The gate sees each work
-/// before it is committed, and each sheet of verdicts before it is entered. At the end `files` takes over the outcome.
+/// asked for, takes the place of the report, and begins with the files that it is asked by. The notes count the files,
+/// and get the warnings. The gate sees each work before it is committed, and each sheet of verdicts before it is
+/// entered. At the end `files` takes over the outcome.
 pub fn audit<R: Threads + Wait + Sync, F: Files, G: Gate, O: Write>(
     means: &Means<'_, '_, R, G>,
-    task: &AuditTask<'_, '_, '_, '_>,
+    task: &AuditTask<'_, '_, '_, '_, '_>,
     files: &mut F,
     notes: &mut Notes,
     out: &mut O,
@@ -365,9 +405,10 @@ pub fn audit<R: Threads + Wait + Sync, F: Files, G: Gate, O: Write>(
     ensures quiet { IfErr result (λ e. (e ≡ WriteFault) ⊎ (out.new ≡ out.old)) }
 {
     let (alloc, terms, names) = (means.alloc, task.terms, task.names);
-    let (read, origins, policies) = read_questions(alloc, task.asked, terms.json, files, notes)?;
+    let placed = are_placed(terms);
+    let (read, origins, policies) = read_questions(alloc, task.asked, placed, files, notes)?;
     let groups = groups_in(alloc, task.asked.groups_path(), files, notes)?;
-    let (stack, filters) = read_stack(alloc, task.paths, terms.json, files, notes)?;
+    let (stack, filters) = read_stack(alloc, task.paths, placed, files, notes)?;
     let documents = join_documents(policies, filters)?;
     let (outcome, expected) = audit_filters(means, stack, read, terms)?;
     notes.warnings = warnings_of_stack(alloc, outcome.settled());
@@ -384,9 +425,15 @@ pub fn audit<R: Threads + Wait + Sync, F: Files, G: Gate, O: Write>(
         version: task.version,
         files: documents,
     };
-    write_audit(
-        alloc, terms, &groups, identity, &telling, &expected, &outcome, out,
-    )?;
+    let told = Told {
+        asked: task.asked,
+        terms,
+        groups: &groups,
+        telling: &telling,
+        expected: &expected,
+        outcome: &outcome,
+    };
+    write_audit(alloc, &told, identity, out)?;
     let status = status_of_audit(&expected, &outcome);
     files.take_over(outcome);
     Ok(status)

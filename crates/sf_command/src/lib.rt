@@ -9,6 +9,7 @@ pub mod laws;
 mod listing;
 mod means;
 mod needing;
+mod sources;
 mod status;
 mod subcommands;
 mod usage;

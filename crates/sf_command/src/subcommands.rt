@@ -16,11 +16,7 @@ use crate::means::Means;
 use crate::needing::{NeededTask, needed};
 use crate::watching::{Meter, Watched};
 use clap::ArgMatches;
-use sf_command_line::{
-    budget_of, given_text, nodes_of, text_of, wants_brief_trace, wants_digest, wants_instructions,
-    wants_json, wants_progress, wants_regions, wants_rows, wants_same, wants_trace, wants_why,
-    workers_of,
-};
+use sf_command_line::{budget_of, given_text, is_on, nodes_of, text_of, workers_of};
 use sf_evaluate::{
     CheckManner, Evaluation, Files, INSTALLED_GROUPS, Manner, Notes, asked_input, check, evaluate,
     known_calls, numbers_fit, read_needed_names, wants_summary,
@@ -34,7 +30,7 @@ use std::sync::Wait;
 use std::thread::Threads;
 
 fn watched<'a, M: Meter>(found: &ArgMatches<'_>, meter: &'a M) -> Watched<'a, M> {
-    Watched::of(meter, wants_progress(found), budget_of(found))
+    Watched::of(meter, is_on(found, "progress"), budget_of(found))
 }
 
 fn with_gate<'r, 'g, R, M, G>(means: &Means<'r, '_, R, M>, gate: &'g G) -> Means<'r, 'g, R, G> {
@@ -95,16 +91,17 @@ fn run_audit<R: Threads + Wait + Sync, F: Files, M: Meter, O: Write>(
     let terms = AuditTerms {
         budget: budget_of(found),
         workers: workers_of(found),
-        regions: wants_regions(found),
-        why: wants_why(found),
+        regions: is_on(found, "regions"),
+        why: is_on(found, "why"),
         text: text_form(found),
-        json: wants_json(found),
+        json: is_on(found, "json"),
     };
     let asked = Asked {
         policies: found.get_strs("policy").unwrap_or(&[]),
         control: given_text(found, "control"),
         accept: given_text(found, "accept"),
         groups: groups_path(found),
+        names: found.get_strs("names").unwrap_or(&[]),
     };
     let task = AuditTask {
         asked: &asked,
@@ -133,8 +130,8 @@ fn run_check<F: Files, O: Write>(
 {
     let paths = found.get_strs("filters").unwrap_or(&[]);
     let how = CheckManner {
-        listed: wants_instructions(found),
-        json: wants_json(found),
+        listed: is_on(found, "instructions"),
+        json: is_on(found, "json"),
     };
     check(alloc, version, paths, how, files, notes, out)?;
     Ok(0)
@@ -162,9 +159,9 @@ fn run_eval<F: Files, O: Write>(
     let input = asked_input(found, &names, notes)?;
     let paths = found.get_strs("filters").unwrap_or(&[]);
     let how = Manner {
-        traced: wants_trace(found),
-        brief: wants_brief_trace(found),
-        json: wants_json(found),
+        traced: is_on(found, "trace"),
+        brief: is_on(found, "trace-true"),
+        json: is_on(found, "json"),
     };
     let asked = Evaluation {
         input: &input,
@@ -180,7 +177,7 @@ fn run_eval<F: Files, O: Write>(
 fn relation_of_status(found: &ArgMatches<'_>) -> Relation
     ensures { IsAskedRelation (one_of (codes "same") (rows_of (found_of found.now))) result }
 {
-    if wants_same(found) {
+    if is_on(found, "same") {
         Relation::Different
     } else {
         Relation::Looser
@@ -233,9 +230,9 @@ fn run_compare<F: Files, O: Write>(
     let terms = ComparisonTerms {
         nodes: nodes_of(found),
         asked: relation_of_status(found),
-        rows: wants_rows(found),
+        rows: is_on(found, "rows"),
         only: relation_of_rows(found),
-        json: wants_json(found),
+        json: is_on(found, "json"),
     };
     let task = ComparisonTask {
         old: found.get_strs("old").unwrap_or(&[]),
@@ -252,7 +249,7 @@ fn run_compare<F: Files, O: Write>(
 fn form_of(found: &ArgMatches<'_>) -> ListingForm
     ensures { IsAskedForm (rows_of (found_of found.now)) result }
 {
-    let (digest, json) = (wants_digest(found), wants_json(found));
+    let (digest, json) = (is_on(found, "digest"), is_on(found, "json"));
     if digest {
         ListingForm::Digest
     } else if json {
@@ -311,7 +308,7 @@ fn run_needed<F: Files, O: Write>(
         (λ nodes. RefusesStack (F.holds files.old) paths nodes e))) }
 {
     let paths = found.get_strs("filters").unwrap_or(&[]);
-    let json = wants_json(found);
+    let json = is_on(found, "json");
     let task = NeededTask {
         paths,
         json,

@@ -11,7 +11,7 @@ returns-clause-written g c = record {
   read = read_data c.in_ok-read.read;
   asked_by = c.in_ok-read.ensures.read;
   origins = map view c.in_ok-read.origins.items;
-  placed = c.in_ok-read.ensures.placed;
+  placed = rw c.are_placed-placed.ensures at c.in_ok-read.ensures.placed;
   groups = c.in_ok-groups.groups.items;
   grouped = rw (c.groups_path.ensures, fun_ext c.in_ok-read.ensures.same) at c.in_ok-groups.ensures.meant;
   stack = c.in_ok-stack.stack;
@@ -20,8 +20,12 @@ returns-clause-written g c = record {
   told = (
     map view c.in_ok-read.policies.items,
     map view c.in_ok-stack.filters.items,
-    c.in_ok-read.ensures.told,
-    rw (fun_ext c.in_ok-groups.ensures.same, fun_ext c.in_ok-read.ensures.same) at c.in_ok-stack.ensures.told,
+    rw c.are_placed-placed.ensures at c.in_ok-read.ensures.told,
+    rw (
+      c.are_placed-placed.ensures,
+      fun_ext c.in_ok-groups.ensures.same,
+      fun_ext c.in_ok-read.ensures.same,
+    ) at c.in_ok-stack.ensures.told,
     c.in_ok-documents.ensures,
   );
   found = c.in_ok-outcome.outcome;

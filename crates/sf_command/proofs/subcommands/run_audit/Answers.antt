@@ -12,12 +12,12 @@ returns-clause-done g c = IfOk-weaker c.audit.result _ _ (λ s written. record {
       c.get_strs.ensures refl);
   budget = c.budget_of.result;
   counted = c.budget_of.ensures;
-  regions = c.wants_regions.result;
-  listed = c.wants_regions.ensures;
-  why = c.wants_why.result;
-  explained = c.wants_why.ensures;
-  json = c.wants_json.result;
-  in_json = c.wants_json.ensures;
+  regions = c.is_on.result;
+  listed = c.is_on.ensures;
+  why = c.is_on-2.result;
+  explained = c.is_on-2.ensures;
+  json = c.is_on-3.result;
+  in_json = c.is_on-3.ensures;
   names = c.in_ok-names.names.items;
   called = c.in_ok-names.ensures.called;
   asked = _;
@@ -27,6 +27,8 @@ returns-clause-done g c = IfOk-weaker c.audit.result _ _ (λ s written. record {
     control = c.given_text.ensures;
     accept = c.given_text-2.ensures;
     groups = c.groups_path.ensures;
+    names = rw c.unwrap_or-2.ensures (paths_found (found_of c.args.found.now) (codes "names")
+        c.get_strs-3.result _ c.get_strs-3.ensures refl);
   };
   audited = rw (c.deref.ensures.value, fun_ext c.read_needed_names.ensures.same, c.text_form.ensures) at written;
 }) c.audit.ensures.written
@@ -44,6 +46,8 @@ returns-clause-refused g c = IfErr-weaker c.audit.result _ _ (λ e why. inr (
       control = c.given_text.ensures;
       accept = c.given_text-2.ensures;
       groups = c.groups_path.ensures;
+      names = rw c.unwrap_or-2.ensures (paths_found (found_of c.args.found.now) (codes "names")
+          c.get_strs-3.result _ c.get_strs-3.ensures refl);
     },
     rw (fun_ext c.read_needed_names.ensures.same) at why,
   ),

@@ -15,10 +15,10 @@ returns-clause-done g c = IfOk-weaker c.compare.result _ _ (λ s written. record
       c.get_strs-2.ensures refl);
   asked = c.relation_of_status.result;
   switched = c.relation_of_status.ensures;
-  with_rows = c.wants_rows.result;
-  listed = c.wants_rows.ensures;
-  json = c.wants_json.result;
-  in_json = c.wants_json.ensures;
+  with_rows = c.is_on.result;
+  listed = c.is_on.ensures;
+  json = c.is_on-2.result;
+  in_json = c.is_on-2.ensures;
   names = c.in_ok-names.names.items;
   called = c.in_ok-names.ensures.called;
   known = rw c.deref.ensures.value at c.in_ok-calls.ensures.known;

@@ -9,8 +9,8 @@ returns-clause-done g c = IfOk-weaker c.needed.result _ _ (λ s written. record 
   paths = c.unwrap_or-paths.result.now;
   named = rw c.unwrap_or-paths.ensures (paths_found (found_of c.args.found.now) (codes "filters") c.get_strs.result _
       c.get_strs.ensures refl);
-  json = c.wants_json-json.result;
-  in_json = c.wants_json-json.ensures;
+  json = c.is_on-json.result;
+  in_json = c.is_on-json.ensures;
   needed = written;
 }) c.needed.ensures.written
 
