@@ -10,7 +10,7 @@ use Rattle.sf_check.specs.Codes.{insn_of}
 use Rattle.sf_check.specs.Insns.{IsInRange, IsReturn, loaded_by, targets}
 use Rattle.sf_check.specs.Programs.{AllBelow, IsLawfulProgram, Spells}
 use Rattle.sf_stack.specs.Filters.{SpellStack}
-use Rattle.sf_evaluate.specs.Texts.{IsCheckText}
+use Rattle.sf_trace.specs.Texts.{IsCheckText}
 use Rattle.command_run.specs.Lines.{allow_bytes, one_text}
 use Rattle.command_run.proofs.FileLemmas.{only_one}
 

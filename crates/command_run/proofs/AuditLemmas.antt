@@ -23,9 +23,10 @@ use Rattle.sf_evaluate.specs.Policies.{AreAsked, IsPolicy, all_questions}
 use Rattle.sf_command.specs.Audits.{IsFoundFor, ReadData}
 use Rattle.sf_command.specs.Runs.{DoesAsAsked, meant_words}
 use Rattle.sf_command.specs.Status.{audit_status}
+use Rattle.sf_command.specs.Subcommands.{Audits}
 use Rattle.command_run.specs.Lines.{KeepsPolicy, audit_words}
 use Rattle.command_run.proofs.FileLemmas.{known_is, one_file, one_of_one}
-use Rattle.command_run.proofs.WordLemmas.{audit_fits, audit_read, no_error, other_name}
+use Rattle.command_run.proofs.WordLemmas.{alone, audit_fits, audit_read, no_error}
 
 -- a list has an element at each place before its end
 present : {X : Type 0} (xs : List X) (n : ℕ) → n < length xs → (x : X) × (slice_get xs n ≡ Some x)
@@ -117,8 +118,10 @@ module _ (holds : Text → Option Text) (policy bytes : Text) (policy_known : ho
       → DoesAsAsked version holds audit_words status old new → KeepsPolicy policy bytes
   does_audit version status old new ended (inr helps) =
       absurd (no_error audit_words helps.kind audit_fits helps.error)
-  does_audit version status old new ended (inl (fits, (found, at, inl (name, did)))) =
+  does_audit version status old new ended (inl (fits, (found, at, which))) =
       let read = audit_read found at in
+      let did : Audits version holds found.1 status old new =
+      alone _ _ _ _ _ _ _ (codes "audit") found read.name which in
       let done = did.audited in
       let none : done.read.accepted ≡ [] = none_accepted holds did.asked.accept done.read.questions done.read.accepted
       (did.asked_for.accept ∙ read.accept) done.asked_by.accepted in
@@ -133,18 +136,6 @@ module _ (holds : Text → Option Text) (policy bytes : Text) (policy_known : ho
         kept = kept_by done.stack done.read did.budget done.found done.expected none (sym done.status_is ∙ ended)
             done.is_found;
       }
-  does_audit version status old new ended (inl (fits, (found, at, inr (inl (name, did))))) =
-      absurd (other_name (codes "audit") (codes "check") found.0 (audit_read found at).name name refl refl)
-  does_audit version status old new ended (inl (fits, (found, at, inr (inr (inl (name, did)))))) =
-      absurd (other_name (codes "audit") (codes "eval") found.0 (audit_read found at).name name refl refl)
-  does_audit version status old new ended (inl (fits, (found, at, inr (inr (inr (inl (name, did))))))) =
-      absurd (other_name (codes "audit") (codes "compare") found.0 (audit_read found at).name name refl refl)
-  does_audit version status old new ended (inl (fits, (found, at, inr (inr (inr (inr (inl (name, did)))))))) =
-      absurd (other_name (codes "audit") (codes "list") found.0 (audit_read found at).name name refl refl)
-  does_audit version status old new ended (inl (fits, (found, at, inr (inr (inr (inr (inr (inl (name, did))))))))) =
-      absurd (other_name (codes "audit") (codes "needed") found.0 (audit_read found at).name name refl refl)
-  does_audit version status old new ended (inl (fits, (found, at, inr (inr (inr (inr (inr (inr (name, did))))))))) =
-      absurd (other_name (codes "audit") (codes "profile") found.0 (audit_read found at).name name refl refl)
 
   -- the same from what `command` promises of a small status, for words that are these
   pub audit_says : (version : Text) (words : List Text) (status : ℕ) (old new : Option Text) (Large : Type 0)

@@ -11,14 +11,14 @@ use Rattle.sf_stack.specs.Filters.{IsFirstRefusal, SpellPrograms, SpellStack}
 use Rattle.sf_evaluate.specs.Faults.{fault_number}
 use Rattle.sf_evaluate.specs.Outputs.{IsCheckOutput, RefusesCheck}
 use Rattle.sf_evaluate.specs.Status.{fault_status}
-use Rattle.sf_evaluate.specs.Texts.{IsCheckText}
+use Rattle.sf_trace.specs.Texts.{IsCheckText}
 use Rattle.sf_evaluate.specs.declared.fault.Fault.{Fault}
 use Rattle.sf_evaluate.specs.declared.fault.Fault.TheVariants.{Other}
 use Rattle.sf_command.specs.Runs.{DoesAsAsked, IsTooLarge, RefusesAsAsked, RefusesWords, meant_words, words_fit_for}
 use Rattle.sf_command.specs.Subcommands.{Checks}
 use Rattle.command_run.specs.Lines.{IsDone, check_words}
 use Rattle.command_run.proofs.FileLemmas.{none_unknown, one_file}
-use Rattle.command_run.proofs.WordLemmas.{check_alone, check_fits, check_read, no_error, other_name}
+use Rattle.command_run.proofs.WordLemmas.{alone, check_fits, check_read, no_error, other_name}
 
 -- neither instructions nor JSON were asked for
 plain_text : (listed json : Bool) (version : Text) (documents : List Data) (stack : List (List Insn)) (text : Text)
@@ -75,8 +75,9 @@ module _ (holds : Text → Option Text) (bytes : Text) (program : List Insn) (kn
   only_fails e (inl memory) = inl memory
   only_fails e (inr (inl write)) = inr write
   only_fails e (inr (inr (fits, inl (other, is, (found, at, which))))) =
-      let (paths, are, why) = check_alone found at which in
-      as_fault e other is (check_fails paths other (are ∙ (check_read found at).paths) why)
+      let read = check_read found at in
+      let (paths, are, why) = alone _ _ _ _ _ _ _ (codes "check") found read.name which in
+      as_fault e other is (check_fails paths other (are ∙ read.paths) why)
   only_fails e (inr (inr (fits, inr (found, at, name, why)))) =
       absurd (other_name (codes "check") (codes "profile") found.0 (check_read found at).name name refl refl)
 
@@ -102,8 +103,9 @@ module _ (holds : Text → Option Text) (bytes : Text) (program : List Insn) (kn
       → (status ≡ 0) × (new ≡ old ++ text)
   does_check status old new (inr helps) = absurd (no_error check_words helps.kind check_fits helps.error)
   does_check status old new (inl (fits, (found, at, which))) =
-      let did : Checks version holds found.1 status (Some old) (Some new) = check_alone found at which in
       let read = check_read found at in
+      let did : Checks version holds found.1 status (Some old) (Some new) =
+      alone _ _ _ _ _ _ _ (codes "check") found read.name which in
       let paths_are : map (λ p. p.now) did.paths ≡ codes "p.bpf" ∷ [] = did.named ∙ read.paths in
       let (stack, documents, held, shown, (written, output, appended)) = did.checked in
       let files_are : held.files ≡ bytes ∷ [] =

@@ -4,7 +4,7 @@
 ghost use Rattle.std.specs.Prelude.{◌≡◌, ℕ, List, [], ◌∷◌, Some, codes, false, map, string_bytes, IfOk};
 ghost use Rattle.sf_check.specs.declared.insn.Insn.{Insn};
 ghost use Rattle.sf_stack.specs.Filters.{SpellStack};
-ghost use Rattle.sf_evaluate.specs.Texts.{IsCheckText};
+ghost use Rattle.sf_trace.specs.Texts.{IsCheckText};
 ghost use Rattle.command_run.specs.Lines.{IsDone, KeepsPolicy, allow_bytes, audit_words, check_words, one_text};
 ghost use Rattle.command_run.specs.Memory.{held};
 
@@ -12,8 +12,8 @@ use crate::memory_files::MemoryFiles;
 use sf_command::{Means, Meter, command};
 use sf_crew::Open;
 use sf_evaluate::Files;
-use sf_evaluate::laws::one_check_text;
 use sf_stack::laws::{a_refusal_spells_no_stack, one_stack};
+use sf_trace::laws::one_check_text;
 use std::alloc::{AllocError, Global};
 use std::io::Write;
 use std::sync::Wait;
