@@ -236,18 +236,23 @@ joined_by code chains steps lasts chains' steps' lasts' place next number chain 
         let old = are.each_place p (omega (arith, before, inside)) in
         omega (arith, before, same, old.begins)
 
+    -- a place is in a chain with this last place
+    in_chain : (p c l : ℕ) → slice_index chains' p ≡ c → slice_index lasts' c ≡ l → slice_index chains' l ≡ c → c ≤ p
+        → slice_index steps' p ≤ p → p ≤ l → l < length code → IsInChain code chains' steps' lasts' p
+    in_chain p c l chain_is last same first few before_last within = record {
+      begins = omega (arith, chain_is, first);
+      few = few;
+      before_last = rw (chain_is, last) before_last;
+      inside = rw (chain_is, last) within;
+      same = rw (chain_is, last) same;
+    }
+
     mine : (p : ℕ) → p ≢ next → p ≤ place → slice_index chains p ≡ chain
         → IsInChain code chains' steps' lasts' p
     mine p ne before e =
         let old = are.each_place p (omega (arith, before, further, inside)) in
-        let e' : slice_index chains' p ≡ chain = by.old_chain p ne ∙ e in
-        record {
-          begins = omega (arith, e', e, old.begins);
-          few = omega (arith, by.old_step p ne, old.few);
-          before_last = rw (e', by.new_last) (omega (arith, before, further));
-          inside = rw (e', by.new_last) inside;
-          same = rw (e', by.new_last) by.new_chain;
-        }
+        in_chain p chain next (by.old_chain p ne ∙ e) by.new_last by.new_chain (omega (arith, e, old.begins))
+        (omega (arith, by.old_step p ne, old.few)) (omega (arith, before, further)) inside
 
     others : (p : ℕ) → p ≢ next → p < length code → slice_index chains p ≢ chain
         → IsInChain code chains' steps' lasts' p
@@ -255,25 +260,14 @@ joined_by code chains steps lasts chains' steps' lasts' place next number chain 
         let old = are.each_place p within in
         let c = slice_index chains p in
         let l = slice_index lasts c in
-        let e' : slice_index chains' p ≡ c = by.old_chain p ne in
-        let last : slice_index lasts' c ≡ l = by.old_last c apart in
         let not_next : l ≢ next = search arith in
-        record {
-          begins = omega (arith, e', old.begins);
-          few = omega (arith, by.old_step p ne, old.few);
-          before_last = rw (e', last) old.before_last;
-          inside = rw (e', last) old.inside;
-          same = rw (e', last) (by.old_chain l not_next ∙ old.same);
-        }
+        in_chain p c l (by.old_chain p ne) (by.old_last c apart) (by.old_chain l not_next ∙ old.same) old.begins
+        (omega (arith, by.old_step p ne, old.few)) old.before_last old.inside
 
     itself : IsInChain code chains' steps' lasts' next
-    itself = record {
-      begins = omega (arith, by.new_chain, begins, further);
-      few = omega (arith, by.new_step, this.few, further);
-      before_last = rw (by.new_chain, by.new_last) (omega arith);
-      inside = rw (by.new_chain, by.new_last) inside;
-      same = rw (by.new_chain, by.new_last) by.new_chain;
-    }
+    itself =
+        in_chain next chain next by.new_chain by.new_last by.new_chain (omega (arith, begins, further))
+        (omega (arith, by.new_step, this.few, further)) (omega arith) inside
 
     each_place : (p : ℕ) → p < length code → (p ≡ next) ⊎ (p ≡ next → ⊥) → IsInChain code chains' steps' lasts' p
     each_place p within (inl e) = subst (IsInChain code chains' steps' lasts') (sym e) itself
@@ -286,14 +280,15 @@ joined_by code chains steps lasts chains' steps' lasts' place next number chain 
     ]
 
     -- what was in one chain still is
-    kept : (p q : ℕ) → LeadsOn code chains steps p q → p ≢ next → p < length code → LeadsOn code chains' steps' p q
-    kept p q link ne within =
+    kept : (p q r : ℕ) → LeadsOn code chains steps p q → q ≤ r → p ≢ next → p < length code
+        → LeadsOn code chains' steps' p r
+    kept p q r link far ne within =
         let apart : link.next ≢ next = search arith in
         record {
           number = link.number;
           next = link.next;
           test = link.test;
-          near = link.near;
+          near = omega (arith, link.near, far);
           same = by.old_chain link.next apart ∙ link.same ∙ sym (by.old_chain p ne);
           step = omega (arith, by.old_step link.next apart, link.step, by.old_step p ne);
         }
@@ -315,17 +310,11 @@ joined_by code chains steps lasts chains' steps' lasts' place next number chain 
           },
         )
         | inr ne ↦
-            let link = are.on p place (omega (arith, le, ne)) (omega (arith, further, inside)) (is ∙ sym by.chain_is) in
-            let new = kept p place link (λ e. omega (arith, less, e)) (omega (arith, less, inside)) in (
+            let alike = is ∙ sym by.chain_is in
+            let link = are.on p place (omega (arith, le, ne)) (omega (arith, further, inside)) alike in (
               omega (arith, le),
-              record {
-                number = new.number;
-                next = new.next;
-                test = new.test;
-                near = omega (arith, new.near, further);
-                same = new.same;
-                step = new.step;
-              },
+              kept p place next link (omega (arith, further)) (λ e. omega (arith, less, e))
+                  (omega (arith, less, inside)),
             )
       ]
     ]
@@ -345,7 +334,7 @@ joined_by code chains steps lasts chains' steps' lasts' place next number chain 
             let alike = sym (by.old_chain p p_other) ∙ same ∙ by.old_chain q q_other in
             let link = are.on p q before within alike in
             let less = joined.front p q before within alike in
-            (omega (arith, less), kept p q link p_other (omega (arith, before, within)))
+            (omega (arith, less), kept p q q link (omega arith) p_other (omega (arith, before, within)))
       ]
     ]
 
@@ -362,18 +351,7 @@ joined_one code chains steps lasts place next number joined test inside single =
     let further : place < next = omega (arith, test.leads) in
     let this = are.each_place place (omega (arith, further, inside)) in
     joined_by code chains steps lasts (set chains next chain) (set steps next step) (set lasts chain next) place next
-    number chain joined test inside single (record {
-      chain_is = refl;
-      each_chain = length-set chains next chain;
-      each_step = length-set steps next step;
-      each_last = length-set lasts chain next;
-      new_chain = get_or-set_same chains next chain 0 (omega (arith, inside, are.each_chain));
-      new_step = get_or-set_same steps next step 0 (omega (arith, inside, are.each_step));
-      new_last = get_or-set_same lasts chain next 0 (omega (arith, this.begins, further, inside, are.each_last));
-      old_chain = λ p ne. get_or-set_other chains next p chain 0 ne;
-      old_step = λ p ne. get_or-set_other steps next p step 0 ne;
-      old_last = λ c ne. get_or-set_other lasts chain c next 0 ne;
-    })
+    number chain joined test inside single (search (arith, length-set, get_or-set_same, get_or-set_other))
 
 -- ---- making the keys
 

@@ -1,6 +1,5 @@
--- A list of raw instructions has at most one first fault.
-use Rattle.std.proofs.lemmas.Grind.{common_steps}
-use Rattle.std.proofs.Common.{◌≡◌, ℕ, ◌<◌, List, length, Some, slice_get, Ok, Err, Result, refl, sym, ap, subst, ◌∙◌, inl, inr, arith}
+-- A list of raw instructions has at most one first fault, and none where it spells a lawful program.
+use Rattle.std.proofs.Common.{◌≡◌, ℕ, ◌<◌, List, length, Some, slice_get, Ok, Err, Result, refl, sym, ap, subst, ◌∙◌, ◌⊎◌, inl, inr, arith}
 use Rattle.std.proofs.lemmas.Bool.{cases_lt}
 use Rattle.std.proofs.lemmas.Option.{same_Some, slice_get_within}
 use Rattle.sf_insn.specs.declared.raw.RawInsn.{RawInsn}
@@ -11,133 +10,122 @@ use Rattle.sf_check.specs.declared.fault.Fault.{Fault}
 use Rattle.sf_check.specs.declared.fault.Fault.TheVariants.{Empty, TooLong, Code, Field, Jump, Last, Scratch, NoFilter, TooMany, PathLength, Memory}
 use Rattle.sf_check.specs.Codes.{insn_of}
 use Rattle.sf_check.specs.Insns.{targets}
-use Rattle.sf_check.specs.Programs.{AllBelow, EndsInReturn, IsSetAt, IsUnsetAt, Spells}
+use Rattle.sf_check.specs.Programs.{AllBelow, EndsInReturn, IsLawfulProgram, IsSetAt, IsUnsetAt, Spells}
 use Rattle.sf_check.specs.Refusals.{IsFine, AreFineBefore, IsFirstFault}
-use Rattle.sf_check.proofs.laws.Spelled.{one_spelled}
+use Rattle.sf_check.proofs.laws.Spelled.{length-spells, one_spelled, spelled_at}
 
--- how the instruction at a place is bad
-data Badness (raws : List RawInsn) (at : ℕ) (r : RawInsn) : Fault → Type 0 where
-  unreadable : insn_of r ≡ Err UnknownCode → Badness raws at r (Code at)
-  out_of_range : insn_of r ≡ Err BadField → Badness raws at r (Field at)
-  leads_out : (i : Insn) → insn_of r ≡ Ok i → (AllBelow (length raws) (targets at i) → ⊥) → Badness raws at r (Jump at)
+-- the fault of an instruction that isn't fine, by what it means
+unfoldable fault_of : ℕ → Result Insn Unreadable → Fault
+fault_of at (Err UnknownCode) = Code at
+fault_of at (Err BadField) = Field at
+fault_of at (Ok i) = Jump at
 
--- Where the checker stops at a fault: at the length, at the first bad instruction, at the last instruction, or at the
--- first load that a path has not set.
-data Stop (raws : List RawInsn) : Fault → Type 0 where
-  no_insn : length raws ≡ 0 → Stop raws Empty
-  too_many : 4096 < length raws → Stop raws TooLong
-  bad : {e : Fault} (at : ℕ) (r : RawInsn) → AreFineBefore raws at → slice_get raws at ≡ Some r
-      → Badness raws at r e → Stop raws e
-  no_return : (code : List Insn) → AreFineBefore raws (length raws) → Spells raws code → (EndsInReturn code → ⊥)
-      → Stop raws Last
-  unset : (at : ℕ) (code : List Insn) → AreFineBefore raws (length raws) → Spells raws code → EndsInReturn code
-      → IsUnsetAt code at → ((j : ℕ) → j < at → IsSetAt code j) → Stop raws (Scratch at)
+-- why a program whose instructions are fine is refused
+data Refused (code : List Insn) : Fault → Type 0 where
+  no_return : (EndsInReturn code → ⊥) → Refused code Last
+  unset : (at : ℕ) → EndsInReturn code → IsUnsetAt code at → ((j : ℕ) → j < at → IsSetAt code j)
+      → Refused code (Scratch at)
+
+-- where the checker stops at a fault: at the length, at the first instruction that isn't fine, or at the whole program
+data Stop (raws : List RawInsn) (e : Fault) : Type 0 where
+  unfit : ((n : ℕ) → AreFineBefore raws n → ⊥)
+      → ((e ≡ Empty) × (length raws ≡ 0)) ⊎ ((e ≡ TooLong) × (4096 < length raws)) → Stop raws e
+  bad : (at : ℕ) (r : RawInsn) → AreFineBefore raws at → slice_get raws at ≡ Some r → e ≡ fault_of at (insn_of r)
+      → (IsFine raws at r → ⊥) → Stop raws e
+  whole : (code : List Insn) → AreFineBefore raws (length raws) → Spells raws code → Refused code e → Stop raws e
+
+unreadable : (raws : List RawInsn) (at : ℕ) (r : RawInsn) (x : Unreadable) → insn_of r ≡ Err x → IsFine raws at r → ⊥
+unreadable raws at r x wrong (j, good, inside) = let clash = sym wrong ∙ good in cc
+
+same_Ok : (i j : Insn) (x : Result Insn Unreadable) → x ≡ Ok i → x ≡ Ok j → i ≡ j
+same_Ok i j x p q = cc
 
 stop_of : (raws : List RawInsn) (e : Fault) → IsFirstFault raws e → Stop raws e
-stop_of raws Empty f = no_insn f
-stop_of raws TooLong f = too_many f
-stop_of raws (Code at) (before, r, here, wrong) = bad at r before here (unreadable wrong)
-stop_of raws (Field at) (before, r, here, wrong) = bad at r before here (out_of_range wrong)
-stop_of raws (Jump at) (before, r, i, here, good, out) = bad at r before here (leads_out i good out)
-stop_of raws Last (before, code, spells, wrong) = no_return code before spells wrong
-stop_of raws (Scratch at) (before, code, spells, ends, wrong, first) = unset at code before spells ends wrong first
+unfolding fault_of
+stop_of raws Empty f = unfit (λ n before. omega (arith, f, before.some)) (inl (refl, f))
+stop_of raws TooLong f = unfit (λ n before. omega (arith, f, before.short)) (inr (refl, f))
+stop_of raws (Code at) (before, r, here, wrong) =
+    bad at r before here (sym (ap (fault_of at) wrong)) (unreadable raws at r UnknownCode wrong)
+stop_of raws (Field at) (before, r, here, wrong) =
+    bad at r before here (sym (ap (fault_of at) wrong)) (unreadable raws at r BadField wrong)
+stop_of raws (Jump at) (before, r, i, here, good, out) = bad at r before here (sym (ap (fault_of at) good))
+    (λ fine. out (subst (λ (k : Insn). AllBelow (length raws) (targets at k))
+    (same_Ok fine.0 i (insn_of r) fine.1 good) fine.2))
+stop_of raws Last (before, code, spells, wrong) = whole code before spells (no_return wrong)
+stop_of raws (Scratch at) (before, code, spells, ends, wrong, first) =
+    whole code before spells (unset at ends wrong first)
 stop_of raws NoFilter f = absurd f
 stop_of raws TooMany f = absurd f
 stop_of raws PathLength f = absurd f
 stop_of raws Memory f = absurd f
 
-same_Ok : (i j : Insn) (x : Result Insn Unreadable) → x ≡ Ok i → x ≡ Ok j → i ≡ j
-same_Ok i j x p q = cc
+-- two places are one where each has a property that no place before the other has
+one_place : (P : ℕ → Type 0) (a b : ℕ) → P a → P b → ((j : ℕ) → j < a → P j → ⊥) → ((j : ℕ) → j < b → P j → ⊥)
+    → a ≡ b
+one_place P a b p q before_a before_b = elim (cases_lt a b) [
+  | inl lt ↦ absurd (before_b a lt p)
+  | inr le ↦ elim (cases_lt b a) [ inl lt ↦ absurd (before_a b lt q) | inr le' ↦ omega arith ]
+]
 
--- a bad instruction isn't fine
-bad_not_fine : (raws : List RawInsn) (at : ℕ) (r : RawInsn) (e : Fault) → Badness raws at r e → IsFine raws at r → ⊥
-bad_not_fine raws at r e (unreadable wrong) (j, good, inside) = let clash = sym wrong ∙ good in cc
-bad_not_fine raws at r e (out_of_range wrong) (j, good, inside) = let clash = sym wrong ∙ good in cc
-bad_not_fine raws at r e (leads_out i good' out) (j, good, inside) =
-    out (subst (λ (k : Insn). AllBelow (length raws) (targets at k)) (same_Ok j i (insn_of r) good good') inside)
+-- the instruction at a place isn't fine
+abbrev IsBad : List RawInsn → ℕ → Type 0
+IsBad raws at = (r : RawInsn) × (slice_get raws at ≡ Some r) × (IsFine raws at r → ⊥)
 
--- an instruction is bad in one way
-one_badness : (raws : List RawInsn) (at : ℕ) (r : RawInsn) (e f : Fault) → Badness raws at r e
-    → Badness raws at r f → e ≡ f
-one_badness raws at r e f (unreadable p) (unreadable q) = refl
-one_badness raws at r e f (out_of_range p) (out_of_range q) = refl
-one_badness raws at r e f (leads_out i p out) (leads_out j q out') = refl
-one_badness raws at r e f (unreadable p) (out_of_range q) = let clash = sym p ∙ q in absurd cc
-one_badness raws at r e f (unreadable p) (leads_out j q out) = let clash = sym p ∙ q in absurd cc
-one_badness raws at r e f (out_of_range p) (unreadable q) = let clash = sym p ∙ q in absurd cc
-one_badness raws at r e f (out_of_range p) (leads_out j q out) = let clash = sym p ∙ q in absurd cc
-one_badness raws at r e f (leads_out i p out) (unreadable q) = let clash = sym p ∙ q in absurd cc
-one_badness raws at r e f (leads_out i p out) (out_of_range q) = let clash = sym p ∙ q in absurd cc
-
--- what is fine as far as a place has nothing bad before it
-not_before : (raws : List RawInsn) (place at : ℕ) (r : RawInsn) (e : Fault) → AreFineBefore raws place
-    → slice_get raws at ≡ Some r → Badness raws at r e → at < place → ⊥
-not_before raws place at r e before here wrong lt = bad_not_fine raws at r e wrong (before.each at r lt here)
-
-not_all : (raws : List RawInsn) (at : ℕ) (r : RawInsn) (e : Fault) → AreFineBefore raws (length raws)
-    → slice_get raws at ≡ Some r → Badness raws at r e → ⊥
-not_all raws at r e before here wrong = grind (arith, common_steps, not_before, slice_get_within)
-
-two_bad : (raws : List RawInsn) (a b : ℕ) (r q : RawInsn) (e f : Fault) → AreFineBefore raws a → AreFineBefore raws b
-    → slice_get raws a ≡ Some r → slice_get raws b ≡ Some q → Badness raws a r e → Badness raws b q f → e ≡ f
-two_bad raws a b r q e f before_a before_b here_a here_b bad_a bad_b =
-    elim (cases_lt a b) [
-      | inl lt ↦ absurd (not_before raws b a r e before_b here_a bad_a lt)
-      | inr le ↦ elim (cases_lt b a) [
-        | inl lt ↦ absurd (not_before raws a b q f before_a here_b bad_b lt)
-        | inr le' ↦
-            let same : b ≡ a = omega arith in
-            let insn : q ≡ r = same_Some q r (sym here_b ∙ ap (slice_get raws) same ∙ here_a) in
-            one_badness raws a r e f bad_a (subst (λ (k : RawInsn). Badness raws a k f) insn
-            (subst (λ (k : ℕ). Badness raws k q f) same bad_b))
-      ]
-    ]
-
-two_unset : (code : List Insn) (a b : ℕ) → IsUnsetAt code a → IsUnsetAt code b → ((j : ℕ) → j < a → IsSetAt code j)
-    → ((j : ℕ) → j < b → IsSetAt code j) → a ≡ b
-two_unset code a b u v below_a below_b =
-    elim (cases_lt a b) [
-      | inl lt ↦ absurd (u.4 (below_b a lt u.0 u.1 u.2 u.3))
-      | inr le ↦ elim (cases_lt b a) [
-        | inl lt ↦ absurd (v.4 (below_a b lt v.0 v.1 v.2 v.3))
-        | inr le' ↦ omega arith
-      ]
-    ]
+one_refusal : (code : List Insn) (e f : Fault) → Refused code e → Refused code f → e ≡ f
+one_refusal code e f (no_return wrong) (no_return wrong') = refl
+one_refusal code e f (no_return wrong) (unset at ends u below) = absurd (wrong ends)
+one_refusal code e f (unset at ends u below) (no_return wrong) = absurd (wrong ends)
+one_refusal code e f (unset a ends u below) (unset b ends' v below') =
+    ap (λ (n : ℕ). Scratch n) (one_place (IsUnsetAt code) a b u v (λ j lt w. w.4 (below j lt w.0 w.1 w.2 w.3))
+    (λ j lt w. w.4 (below' j lt w.0 w.1 w.2 w.3)))
 
 one_stop : (raws : List RawInsn) (e f : Fault) → Stop raws e → Stop raws f → e ≡ f
-one_stop raws e f (no_insn p) (no_insn q) = refl
-one_stop raws e f (no_insn p) (too_many q) = absurd (omega arith)
-one_stop raws e f (no_insn p) (bad at r before here wrong) = absurd (omega (arith, before.some))
-one_stop raws e f (no_insn p) (no_return code before s wrong) = absurd (omega (arith, before.some))
-one_stop raws e f (no_insn p) (unset at code before s ends u below) = absurd (omega (arith, before.some))
-one_stop raws e f (too_many p) (no_insn q) = absurd (omega arith)
-one_stop raws e f (too_many p) (too_many q) = refl
-one_stop raws e f (too_many p) (bad at r before here wrong) = absurd (omega (arith, before.short))
-one_stop raws e f (too_many p) (no_return code before s wrong) = absurd (omega (arith, before.short))
-one_stop raws e f (too_many p) (unset at code before s ends u below) = absurd (omega (arith, before.short))
-one_stop raws e f (bad at r before here wrong) (no_insn q) = absurd (omega (arith, before.some))
-one_stop raws e f (bad at r before here wrong) (too_many q) = absurd (omega (arith, before.short))
-one_stop raws e f (bad at r before here wrong) (bad at' r' before' here' wrong') =
-    two_bad raws at at' r r' e f before before' here here' wrong wrong'
-one_stop raws e f (bad at r before here wrong) (no_return code all s ends) = absurd (not_all raws at r e all here wrong)
-one_stop raws e f (bad at r before here wrong) (unset at' code all s ends u below) =
-    absurd (not_all raws at r e all here wrong)
-one_stop raws e f (no_return code all s wrong) (no_insn q) = absurd (omega (arith, all.some))
-one_stop raws e f (no_return code all s wrong) (too_many q) = absurd (omega (arith, all.short))
-one_stop raws e f (no_return code all s ends) (bad at r before here wrong) = absurd (not_all raws at r f all here wrong)
-one_stop raws e f (no_return code all s wrong) (no_return code' all' s' wrong') = refl
-one_stop raws e f (no_return code all s wrong) (unset at code' all' s' ends u below) =
-    absurd (wrong (subst EndsInReturn (one_spelled raws code' code s' s) ends))
-one_stop raws e f (unset at code all s ends u below) (no_insn q) = absurd (omega (arith, all.some))
-one_stop raws e f (unset at code all s ends u below) (too_many q) = absurd (omega (arith, all.short))
-one_stop raws e f (unset at code all s ends u below) (bad at' r before here wrong) =
-    absurd (not_all raws at' r f all here wrong)
-one_stop raws e f (unset at code all s ends u below) (no_return code' all' s' wrong) =
-    absurd (wrong (subst EndsInReturn (one_spelled raws code code' s s') ends))
-one_stop raws e f (unset at code all s ends u below) (unset at' code' all' s' ends' u' below') =
-    let same = one_spelled raws code' code s' s in
-    ap (λ (n : ℕ). Scratch n) (two_unset code at at' u (subst (λ (c : List Insn). IsUnsetAt c at') same u') below
-    (subst (λ (c : List Insn). (j : ℕ) → j < at' → IsSetAt c j) same below'))
+one_stop raws e f (unfit none (inl p)) (unfit none' (inl q)) = p.0 ∙ sym q.0
+one_stop raws e f (unfit none (inr p)) (unfit none' (inr q)) = p.0 ∙ sym q.0
+one_stop raws e f (unfit none (inl p)) (unfit none' (inr q)) = absurd (omega (arith, p.1, q.1))
+one_stop raws e f (unfit none (inr p)) (unfit none' (inl q)) = absurd (omega (arith, p.1, q.1))
+one_stop raws e f (unfit none p) (bad at r before here is wrong) = absurd (none at before)
+one_stop raws e f (unfit none p) (whole code all s refused) = absurd (none (length raws) all)
+one_stop raws e f (bad at r before here is wrong) (unfit none q) = absurd (none at before)
+one_stop raws e f (bad a r before here is wrong) (bad b q before' here' is' wrong') =
+    let same = one_place (IsBad raws) a b (r, here, wrong) (q, here', wrong') (λ j lt w. w.2 (before.each j w.0 lt w.1))
+    (λ j lt w. w.2 (before'.each j w.0 lt w.1)) in
+    let raw : r ≡ q = same_Some r q (sym here ∙ ap (slice_get raws) same ∙ here') in
+    let there : fault_of a (insn_of r) ≡ fault_of b (insn_of q) = rw (same, raw) refl in
+    is ∙ there ∙ sym is'
+one_stop raws e f (bad at r before here is wrong) (whole code all s refused) =
+    absurd (wrong (all.each at r (slice_get_within raws at r here) here))
+one_stop raws e f (whole code all s refused) (unfit none q) = absurd (none (length raws) all)
+one_stop raws e f (whole code all s refused) (bad at r before here is wrong) =
+    absurd (wrong (all.each at r (slice_get_within raws at r here) here))
+one_stop raws e f (whole code all s refused) (whole code' all' s' refused') =
+    one_refusal code e f refused (subst (λ (c : List Insn). Refused c f) (one_spelled raws code' code s' s) refused')
 
 pub one_fault : (raws : List RawInsn) (e f : Fault) → IsFirstFault raws e → IsFirstFault raws f → e ≡ f
 one_fault raws e f p q = one_stop raws e f (stop_of raws e p) (stop_of raws f q)
+
+-- raw instructions that spell a lawful program are fine
+all_fine : (raws : List RawInsn) (code : List Insn) → Spells raws code → IsLawfulProgram code
+    → AreFineBefore raws (length raws)
+all_fine raws code s l = record {
+  some = omega (arith, length-spells raws code s, l.some);
+  short = omega (arith, length-spells raws code s, l.short);
+  each = λ at r lt here. let found = spelled_at raws code at r s here in
+      (found.0, found.2, rw (length-spells raws code s) (l.inside at found.0 found.1));
+}
+
+not_refused : (code : List Insn) (e : Fault) → Refused code e → IsLawfulProgram code → ⊥
+not_refused code e (no_return wrong) l = wrong l.ends
+not_refused code e (unset at ends u below) l = u.4 (l.set at u.0 u.1 u.2 u.3)
+
+-- and so they have no first fault
+pub no_fault : (raws : List RawInsn) (e : Fault) (code : List Insn) → IsFirstFault raws e → Spells raws code
+    → IsLawfulProgram code → ⊥
+no_fault raws e code f s l = by (stop_of raws e f)
+  where
+    by : Stop raws e → ⊥
+    by (unfit none p) = none (length raws) (all_fine raws code s l)
+    by (bad at r before here is wrong) =
+        wrong ((all_fine raws code s l).each at r (slice_get_within raws at r here) here)
+    by (whole other all s' refused) =
+        not_refused code e (subst (λ (c : List Insn). Refused c e) (one_spelled raws other code s' s) refused) l

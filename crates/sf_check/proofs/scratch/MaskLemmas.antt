@@ -1,6 +1,6 @@
 -- By its masks the checker finds the least load that a path has not set.
 use Rattle.std.proofs.lemmas.Grind.{common_steps}
-use Rattle.std.proofs.Common.{◌≡◌, ℕ, zero, suc, ◌+◌, ◌*◌, ◌%◌, ◌^◌, ◌<◌, min, List, [], ◌∷◌, length, get_or, set, replicate, Some, bit_and, bit_or, refl, sym, ap, subst, ◌∙◌, ◌⊎◌, inl, inr, arith, length-set}
+use Rattle.std.proofs.Common.{◌≡◌, ℕ, ◌+◌, ◌*◌, ◌%◌, ◌^◌, ◌<◌, min, List, [], ◌∷◌, length, get_or, set, replicate, Some, bit_and, bit_or, refl, sym, ap, subst, ◌∙◌, ◌⊎◌, inl, inr, arith, length-set}
 use Rattle.std.specs.Prelude.{Contains, Any}
 use Rattle.std.specs.Int.{bit_at, w16}
 use Rattle.std.proofs.lemmas.Bool.{cases_eq}
@@ -62,15 +62,7 @@ met_keeps n (p ∷ qs) s ms q k len below h =
     ]
   where
     keeps_here : q ≡ p → bit_at (get_or (set ms p (bit_and (get_or ms p 0) s)) q 0) k ≡ 1 → bit_at (get_or ms q 0) k ≡ 1
-    keeps_here e later =
-        let there = rw e at later in
-        rw e (omega (
-          arith,
-          met_same ms p s k (omega (arith, below.0)),
-          there,
-          bit_at-lt (get_or ms p 0) k,
-          bit_at-lt s k,
-        ))
+    keeps_here e later = grind (arith, common_steps, met_same, bit_at-lt)
 
 -- a bit that stays at a place that is met is in the set
 met_adds : (n : ℕ) (qs : List ℕ) (s : ℕ) (ms : List ℕ) (q k : ℕ) → length ms ≡ n → AllBelow n qs → Contains qs q
@@ -84,9 +76,7 @@ met_adds n (p ∷ qs) s ms q k len below c h =
     ]
   where
     adds_here : p ≡ q → bit_at (get_or (set ms p (bit_and (get_or ms p 0) s)) q 0) k ≡ 1 → bit_at s k ≡ 1
-    adds_here e later =
-        let there = rw (← e) at later in
-        omega (arith, met_same ms p s k (omega (arith, below.0)), there, bit_at-lt (get_or ms p 0) k, bit_at-lt s k)
+    adds_here e later = grind (arith, common_steps, met_same, bit_at-lt)
 
 -- a bit that is clear was clear, or is met with a set without it
 met_clear : (n : ℕ) (qs : List ℕ) (s : ℕ) (ms : List ℕ) (q k : ℕ) → length ms ≡ n → AllBelow n qs
@@ -100,18 +90,14 @@ met_clear n (p ∷ qs) s ms q k len below h =
       | inr later ↦ inr (contains_there p qs q later.0, later.1)
     ]
   where
-    split : (a b : ℕ) → a < 2 → min a b ≡ 0 → (a ≡ 0) ⊎ (b ≡ 0)
-    split zero b lt e = inl refl
-    split (suc a) b lt e = inr (omega arith)
-
     clear_here : bit_at (get_or (set ms p (bit_and (get_or ms p 0) s)) q 0) k ≡ 0 → (q ≡ p) ⊎ (q ≡ p → ⊥)
         → (bit_at (get_or ms q 0) k ≡ 0) ⊎ (Contains (p ∷ qs) q × (bit_at s k ≡ 0))
     clear_here z (inl e) =
         let there = rw e at z in
-        elim (split (bit_at (get_or ms p 0) k) (bit_at s k) (bit_at-lt (get_or ms p 0) k)
-        (sym (met_same ms p s k (omega (arith, below.0))) ∙ there)) [
+        let met = met_same ms p s k (omega (arith, below.0)) in
+        elim (cases_eq (bit_at (get_or ms p 0) k) 0) [
           | inl a ↦ inl (rw e a)
-          | inr b ↦ inr (contains_here p qs q (sym e), b)
+          | inr some ↦ inr (contains_here p qs q (sym e), omega arith)
         ]
     clear_here z (inr ne) = inl (sym (met_other ms p s k q ne) ∙ z)
 
@@ -206,11 +192,7 @@ known_step code masks place i after known lt at inside fine more stored only = r
 }
   where
     bits : (n k : ℕ) → (bit_at n k ≡ 0) ⊎ (bit_at n k ≡ 1)
-    bits n k = of (bit_at n k) (bit_at-lt n k)
-      where
-        of : (b : ℕ) → b < 2 → (b ≡ 0) ⊎ (b ≡ 1)
-        of zero h = inl refl
-        of (suc b) h = inr (omega arith)
+    bits n k = elim (cases_eq (bit_at n k) 0) [ inl e ↦ inl e | inr ne ↦ inr (omega (arith, bit_at-lt n k)) ]
 
     -- the instruction that leads on from here is this one
     here : (q : ℕ) → Leads code place q → Contains (successors place i) q

@@ -4,7 +4,7 @@ use Rattle.std.specs.Prelude.{Contains}
 use Rattle.std.proofs.lemmas.Bool.{cases_eq}
 use Rattle.std.proofs.lemmas.Option.{slice_get_within}
 use Rattle.sf_check.specs.declared.insn.Insn.{Insn}
-use Rattle.sf_check.specs.declared.insn.Insn.TheVariants.{LoadWord, LoadConstant, LoadScratch, LoadLength, LoadXConstant, LoadXScratch, LoadXLength, StoreA, StoreX, Alu, Negate, Jump, Branch, ReturnConstant, ReturnA, Tax, Txa}
+use Rattle.sf_check.specs.declared.insn.Insn.TheVariants.{Jump, Branch, ReturnConstant, ReturnA}
 use Rattle.sf_check.specs.Insns.{IsReturn, targets, successors}
 use Rattle.sf_check.specs.Programs.{AllBelow, EndsInReturn, IsAt}
 use Rattle.sf_check.specs.laws.ContainsLaws.{contains_cons, contains_nil}
@@ -44,19 +44,7 @@ successors_inside code at i here inside ends = by_kind i here inside
     by_kind ReturnA here inside = tt
     by_kind (Jump k) here inside = inside
     by_kind (Branch test other t f) here inside = inside
-    by_kind (LoadWord k) here inside = (not_last (LoadWord k) here (λ x. x), tt)
-    by_kind (LoadConstant k) here inside = (not_last (LoadConstant k) here (λ x. x), tt)
-    by_kind (LoadScratch k) here inside = (not_last (LoadScratch k) here (λ x. x), tt)
-    by_kind LoadLength here inside = (not_last LoadLength here (λ x. x), tt)
-    by_kind (LoadXConstant k) here inside = (not_last (LoadXConstant k) here (λ x. x), tt)
-    by_kind (LoadXScratch k) here inside = (not_last (LoadXScratch k) here (λ x. x), tt)
-    by_kind LoadXLength here inside = (not_last LoadXLength here (λ x. x), tt)
-    by_kind (StoreA k) here inside = (not_last (StoreA k) here (λ x. x), tt)
-    by_kind (StoreX k) here inside = (not_last (StoreX k) here (λ x. x), tt)
-    by_kind (Alu op other) here inside = (not_last (Alu op other) here (λ x. x), tt)
-    by_kind Negate here inside = (not_last Negate here (λ x. x), tt)
-    by_kind Tax here inside = (not_last Tax here (λ x. x), tt)
-    by_kind Txa here inside = (not_last Txa here (λ x. x), tt)
+    by_kind i here inside = (not_last i here (λ x. x), tt)
 
 -- a number that a list contains is below the limit of the list
 pub below_in : (limit : ℕ) (ns : List ℕ) (n : ℕ) → AllBelow limit ns → Contains ns n → n < limit

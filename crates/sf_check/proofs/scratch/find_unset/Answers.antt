@@ -17,13 +17,7 @@ pub narrow_successors-requires-clause-inside : goal.narrow_successors-requires-c
 narrow_successors-requires-clause-inside c = grind (arith, common_steps, slice_get-get_or)
 
 pub returns-then-loads_unset-clause-some : goal.returns-then-loads_unset-clause-some
-returns-then-loads_unset-clause-some c =
-    let u = c.loads_unset.ensures.unset c.if-loads_unset.true in
-    let at = slice_get-get_or c.args.code.now c.loop-place.place _ c.loop-place-test.true in (
-      load_is_unset c.args.code.now c.loop-place.masks c.loop-place.place _ u.0 c.loop-place.invariant
-          c.loop-place-test.true at u.1 u.2 u.3,
-      c.loop-place.invariant.all_set,
-    )
+returns-then-loads_unset-clause-some c = search (arith, slice_get-get_or, load_is_unset)
 
 pub loop-place-preserved : goal.loop-place-preserved
 loop-place-preserved c = search (arith, slice_get-get_or, known_step)
