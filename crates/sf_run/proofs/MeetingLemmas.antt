@@ -1,18 +1,16 @@
 -- The truth values that the code's steps meet.
 use Rattle.std.proofs.lemmas.Grind.{common_steps}
-use Rattle.std.proofs.Common.{◌≡◌, ℕ, suc, ◌+◌, ◌-◌, ◌/◌, ◌^◌, ◌<◌, Bool, true, false, List, [], ◌∷◌, ◌++◌, Option, bit_and, refl, arith, append_assoc}
-use Rattle.std.specs.Prelude.{if◌then◌else◌, ◌==◌}
+use Rattle.std.proofs.Common.{◌≡◌, ℕ, suc, ◌+◌, ◌-◌, ◌/◌, ◌^◌, ◌<◌, Bool, List, [], ◌∷◌, ◌++◌, Option, bit_and, refl, arith, append_assoc}
+use Rattle.std.specs.Prelude.{◌==◌}
 use Rattle.std.proofs.lemmas.Nat.Bits.{shr_and_one}
 use Rattle.sf_insn.specs.declared.input.Input.{Input}
-use Rattle.sf_insn.specs.declared.ops.BinOp.{BinOp}
 use Rattle.sf_insn.specs.declared.ops.BinOp.TheVariants.{Div}
-use Rattle.sf_insn.specs.Words.{apply}
 use Rattle.sf_check.specs.declared.insn.Insn.{Insn}
 use Rattle.sf_check.specs.declared.insn.Insn.TheVariants.{LoadScratch, LoadXScratch, Alu, Branch}
-use Rattle.sf_check.specs.declared.insn.Operand.{Operand}
 use Rattle.sf_check.specs.declared.insn.Operand.TheVariants.{Constant, X}
-use Rattle.sf_run.specs.Machine.{State, Progress, goes, returns, stuck, bits, load_progress, operation_progress, insn_progress, with_a, with_x}
+use Rattle.sf_run.specs.Machine.{State, Progress, goes, returns, stuck, bits, insn_progress, with_a, with_x}
 use Rattle.sf_run.specs.Code.{met_at}
+use Rattle.sf_run.specs.laws.RunLaws.{divided, loaded}
 
 -- one more bit of a word
 pub bits_more : (xs ys whole : List Bool) (i a : ℕ) → i < 32 → ys ≡ xs ++ (bit_and (a / 2 ^ (31 - i)) 1 == 1) ∷ []
@@ -29,23 +27,10 @@ Meets expected (goes met next) = met ≡ expected
 Meets expected (returns met value) = met ≡ expected
 Meets expected stuck = Unit {0}
 
-loaded_meets : (s : State) (k : ℕ) (f : ℕ → Progress) → ((n : ℕ) → Meets [] (f n)) → Meets [] (load_progress s k f)
-loaded_meets s k f none = grind (arith, common_steps)
-
 step_meets : (d : Input) (s : State) (i : Insn) → Meets (met_at s i) (insn_progress d s i)
-step_meets d s (LoadScratch k) = loaded_meets s k (with_a s) (λ n. refl)
-step_meets d s (LoadXScratch k) = loaded_meets s k (with_x s) (λ n. refl)
-step_meets d s (Alu op other) = alu op other
-  where
-    div : (b : Bool) → Meets (b ∷ []) (if b then returns (true ∷ []) 0
-        else goes (false ∷ []) (record s { place = s.place + 1; a = apply Div s.a s.x }))
-    div true = refl
-    div false = refl
-
-    alu : (op : BinOp) (other : Operand) → Meets (met_at s (Alu op other)) (operation_progress s op other)
-    alu Div X = div (s.x == 0)
-    alu Div (Constant k) = refl
-    alu _ other = refl
+step_meets d s (LoadScratch k) = loaded (Meets []) s k (with_a s) tt (λ n. refl)
+step_meets d s (LoadXScratch k) = loaded (Meets []) s k (with_x s) tt (λ n. refl)
+step_meets d s (Alu Div X) = divided (λ b. Meets (b ∷ [])) s refl refl
 step_meets d s _ = refl
 
 pub goes_meets : (d : Input) (s : State) (i : Insn) (met : List Bool) (next : State)
@@ -64,8 +49,6 @@ pub met_anywhere : (p q a x : ℕ) (scratch : List (Option ℕ)) (i : Insn)
 met_anywhere p q a x scratch (Branch test (Constant k) on_true on_false) = refl
 met_anywhere p q a x scratch (Branch test X on_true on_false) = refl
 met_anywhere p q a x scratch (Alu Div X) = refl
-met_anywhere p q a x scratch (Alu Div (Constant k)) = refl
-met_anywhere p q a x scratch (Alu _ other) = refl
 met_anywhere p q a x scratch _ = refl
 
 -- what the code has met, and the rest of the run, after a step that goes on or returns

@@ -1,6 +1,7 @@
 -- Answers made value by value: one more value folds into the answer of those before it, and values make at most one
 -- answer.
-use Rattle.std.proofs.Common.{◌≡◌, ℕ, ◌^◌, ◌<◌, ◌≤◌, List, [], ◌∷◌, ◌++◌, get_or, Option, Some, None, refl, sym, ap, subst, ◌∙◌, ◌⊎◌, inl, inr, arith, map}
+use Rattle.std.proofs.lemmas.Grind.{common_steps}
+use Rattle.std.proofs.Common.{◌≡◌, ℕ, ◌^◌, ◌<◌, ◌≤◌, List, [], ◌∷◌, ◌++◌, get_or, Option, Some, None, refl, sym, ap, subst, ◌∙◌, inl, inr, arith, map}
 use Rattle.std.specs.Prelude.{Contains, All, find, option_map, unwrap_or, ◌==◌, if◌then◌else◌}
 use Rattle.std.proofs.lemmas.Bool.{cases_eq, cases_lt, lt-ltb, le-ltb, eq-eqb, ne_eqb}
 use Rattle.std.proofs.lemmas.List.Folds.{find-append}
@@ -9,27 +10,16 @@ use Rattle.std.proofs.lemmas.List.{map_push}
 use Rattle.std.proofs.lemmas.List.Elements.{All-nil, All-cons, All-push, All-contains, Contains-push, Contains-append_left, Contains-get_or}
 use Rattle.sf_check.specs.laws.ContainsLaws.{contains_cons, contains_here, contains_there}
 use Rattle.sf_run.specs.declared.action.Action.{Action}
-use Rattle.sf_run.specs.declared.action.Action.TheVariants.{KillProcess, KillThread, Trap, Errno, UserNotif, Trace, Log, Allow, Other}
+use Rattle.sf_run.specs.declared.action.Action.TheVariants.{Allow}
 use Rattle.sf_run.specs.declared.action.Answer.{Answer}
+use Rattle.sf_run.specs.laws.InputLaws.{map_contains}
 use Rattle.sf_run.specs.Answers.{action_bits, data_bits, action_number, action_of, rank, IsAnswer, folded_answer}
 
 -- ---- names and numbers
 
-pick : (n c : ℕ) (x y : Action) → action_number x ≡ c → action_number y ≡ n
-    → action_number (if n == c then x else y) ≡ n
-pick n c x y p q =
-    elim (cases_eq n c) [
-      | inl e ↦ rw (eq-eqb n c e) (p ∙ sym e)
-      | inr ne ↦ rw (ne_eqb n c ne) q
-    ]
-
 -- the number of the action that a number names is that number
 pub number-action_of : (n : ℕ) → action_number (action_of n) ≡ n
-number-action_of n =
-    pick n 0x80000000 KillProcess _ refl (pick n 0 KillThread _ refl
-    (pick n 0x00030000 Trap _ refl (pick n 0x00050000 Errno _ refl
-    (pick n 0x7fc00000 UserNotif _ refl (pick n 0x7ff00000 Trace _ refl
-    (pick n 0x7ffc0000 Log _ refl (pick n 0x7fff0000 Allow (Other n) refl refl)))))))
+number-action_of n = grind (arith, common_steps)
 
 -- ---- the newest value with an action
 
@@ -37,15 +27,13 @@ number-action_of n =
 find_among : (vs : List ℕ) (n : ℕ) → Contains (map action_bits vs) n → (v : ℕ)
     × (find (λ v. action_bits v == n) vs ≡ Some v)
 find_among [] n (k, lt, e) = absurd (omega arith)
-find_among (u ∷ vs) n c = by (contains_cons (action_bits u) (map action_bits vs) n c) (find_among vs n)
-    (cases_eq (action_bits u) n)
-  where
-    by : (action_bits u ≡ n) ⊎ Contains (map action_bits vs) n
-        → (Contains (map action_bits vs) n → (v : ℕ) × (find (λ v. action_bits v == n) vs ≡ Some v))
-        → (action_bits u ≡ n) ⊎ (action_bits u ≡ n → ⊥) → (v : ℕ) × (find (λ v. action_bits v == n) (u ∷ vs) ≡ Some v)
-    by c rest (inl e) = (u, rw (eq-eqb (action_bits u) n e) refl)
-    by (inl e) rest (inr ne) = absurd (ne e)
-    by (inr later) rest (inr ne) = let found = rest later in (found.0, rw (ne_eqb (action_bits u) n ne) found.1)
+find_among (u ∷ vs) n c = elim (cases_eq (action_bits u) n) [
+  | inl e ↦ (u, rw (eq-eqb (action_bits u) n e) refl)
+  | inr ne ↦ elim (contains_cons (action_bits u) (map action_bits vs) n c) [
+    | inl e ↦ absurd (ne e)
+    | inr later ↦ let found = find_among vs n later in (found.0, rw (ne_eqb (action_bits u) n ne) found.1)
+  ]
+]
 
 -- where an action is none of those of the values, no value has it
 find_none : (vs : List ℕ) (n : ℕ) → ((v : ℕ) → Contains (map action_bits vs) v → n ≡ v → ⊥)
@@ -67,11 +55,15 @@ actions_push vs v = ap (λ (t : List ℕ). 0x7fff0000 ∷ t) (map_push action_bi
 abbrev data_of : ℕ → List ℕ → ℕ
 data_of n vs = if n == 0x7fff0000 then 0 else unwrap_or (option_map data_bits (find (λ v. action_bits v == n) vs)) 0
 
--- the data stays where the newest value with the action does
-data_same : (n : ℕ) (vs ws : List ℕ) → (n ≡ 0x7fff0000)
-    ⊎ (find (λ v. action_bits v == n) vs ≡ find (λ v. action_bits v == n) ws) → data_of n vs ≡ data_of n ws
-data_same n vs ws (inl e) = rw (eq-eqb n 0x7fff0000 e) refl
-data_same n vs ws (inr e) = ap (λ (o : Option ℕ). if n == 0x7fff0000 then 0 else unwrap_or (option_map data_bits o) 0) e
+-- the data stays where a value, or ALLOW, has the action
+data_same : (vs : List ℕ) (v n : ℕ) → Contains (actions vs) n → data_of n vs ≡ data_of n (vs ++ v ∷ [])
+data_same vs v n c = elim (contains_cons 0x7fff0000 (map action_bits vs) n c) [
+  | inl e ↦ rw (eq-eqb n 0x7fff0000 (sym e)) refl
+  | inr there ↦
+      let found = (find_among vs n there).1 in
+      ap (λ (o : Option ℕ). if n == 0x7fff0000 then 0 else unwrap_or (option_map data_bits o) 0)
+      (found ∙ sym (find-append (λ u. action_bits u == n) vs (v ∷ []) ∙ rw found refl))
+]
 
 lower : (vs : List ℕ) (a : Answer) (v : ℕ) → IsAnswer vs a → rank (action_bits v) < rank (action_number a.action)
     → IsAnswer (vs ++ v ∷ []) (record { action = action_of (action_bits v); info = data_bits v })
@@ -109,19 +101,8 @@ kept vs a v h le = record {
   lowest = subst (λ (t : List ℕ). All (λ m. rank (action_number a.action) ≤ rank m) t) (sym (actions_push vs v))
       (All-push (λ m. rank (action_number a.action) ≤ rank m) (actions vs) (action_bits v) h.lowest le);
   named = h.named;
-  data_is = h.data_is ∙ data_same (action_number a.action) vs (vs ++ v ∷ [])
-      (stays (contains_cons 0x7fff0000 (map action_bits vs) (action_number a.action) h.among));
+  data_is = h.data_is ∙ data_same vs v (action_number a.action) h.among;
 }
-  where
-    n : ℕ
-    n = action_number a.action
-
-    stays : (0x7fff0000 ≡ n) ⊎ Contains (map action_bits vs) n → (n ≡ 0x7fff0000)
-        ⊎ (find (λ u. action_bits u == n) vs ≡ find (λ u. action_bits u == n) (vs ++ v ∷ []))
-    stays (inl e) = inl (sym e)
-    stays (inr c) =
-        let f = find_among vs n c in
-        inr (f.1 ∙ sym (find-append (λ u. action_bits u == n) vs (v ∷ []) ∙ rw f.1 refl))
 
 -- the answer of more values is folded from that of fewer
 pub answer_more : (vs : List ℕ) (a : Answer) (v : ℕ) → IsAnswer vs a → IsAnswer (vs ++ v ∷ []) (folded_answer a v)
@@ -146,17 +127,8 @@ answer_none = record {
 small : (vs : List ℕ) (n : ℕ) → Contains (actions vs) n → n < 2 ^ 32
 small vs n c = elim (contains_cons 0x7fff0000 (map action_bits vs) n c) [
   | inl e ↦ omega arith
-  | inr later ↦ of vs later
+  | inr later ↦ let v = map_contains action_bits vs n later in omega (arith, v.2, and_le_r v.0 0xffff0000)
 ]
-  where
-    of : (vs : List ℕ) → Contains (map action_bits vs) n → n < 2 ^ 32
-    of [] (k, lt, e) = absurd (omega arith)
-    of (u ∷ vs) c = by (contains_cons (action_bits u) (map action_bits vs) n c) (of vs)
-      where
-        by : (action_bits u ≡ n) ⊎ Contains (map action_bits vs) n
-            → (Contains (map action_bits vs) n → n < 2 ^ 32) → n < 2 ^ 32
-        by (inl e) rest = omega (arith, e, and_le_r u 0xffff0000)
-        by (inr later) rest = rest later
 
 rank_is : (m n : ℕ) → m < 2 ^ 32 → n < 2 ^ 32 → rank m ≡ rank n → m ≡ n
 rank_is m n p q e = omega arith

@@ -2,12 +2,10 @@
 use Rattle.std.proofs.Common.{ℕ, zero, suc, ◌+◌, ◌<◌, ◌≤◌, get_or, Bool, true, List, [], ◌∷◌, ◌++◌, length, Some, None, refl, ◌⊎◌, inl, inr, arith}
 use Rattle.std.specs.Prelude.{Contains}
 use Rattle.std.proofs.lemmas.Option.{slice_get-get_or}
-use Rattle.sf_insn.specs.declared.ops.BinOp.{BinOp}
 use Rattle.sf_insn.specs.declared.ops.BinOp.TheVariants.{Div}
 use Rattle.sf_check.specs.declared.insn.Insn.{Insn}
 use Rattle.sf_check.specs.declared.insn.Insn.TheVariants.{Alu, Negate, Jump, Branch, ReturnConstant, ReturnA}
-use Rattle.sf_check.specs.declared.insn.Operand.{Operand}
-use Rattle.sf_check.specs.declared.insn.Operand.TheVariants.{Constant, X}
+use Rattle.sf_check.specs.declared.insn.Operand.TheVariants.{X}
 use Rattle.sf_check.specs.Insns.{successors}
 use Rattle.sf_check.specs.Programs.{IsAt, IsLawfulProgram}
 use Rattle.sf_check.specs.laws.ContainsLaws.{contains_here}
@@ -30,12 +28,7 @@ some_choice at (Branch test other t f) = inr (
   (true, refl, refl),
   contains_here (at + 1 + t) ((at + 1 + f) ∷ []) (at + 1 + t) refl,
 )
-some_choice at (Alu op other) = alu op other
-  where
-    alu : (op : BinOp) (other : Operand) → Choice at (Alu op other)
-    alu Div X = inl (true ∷ [], inl (refl, refl))
-    alu Div (Constant k) = inr ([], at + 1, (refl, refl), contains_here (at + 1) [] (at + 1) refl)
-    alu _ other = inr ([], at + 1, (refl, refl), contains_here (at + 1) [] (at + 1) refl)
+some_choice at (Alu Div X) = inl (true ∷ [], inl (refl, refl))
 some_choice at _ = inr ([], at + 1, (refl, refl), contains_here (at + 1) [] (at + 1) refl)
 
 -- from each place of a lawful program there is a way to a return

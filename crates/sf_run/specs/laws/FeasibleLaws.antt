@@ -8,6 +8,7 @@ use Rattle.std.specs.Cmp.{IsTotalOrder, bool_cmp_total}
 use Rattle.std.specs.Cmp.Lexicographic.{slice_cmp, lists_total}
 use Rattle.std.specs.List.{AllByRecursion}
 use Rattle.std.specs.List.Sorted.{IsStrictlySortedBy}
+use Rattle.std.proofs.lemmas.List.Elements.{All-contains, All-from_recursion}
 use Rattle.sf_check.specs.declared.insn.Insn.{Insn}
 use Rattle.sf_check.specs.laws.ContainsLaws.{contains_cons, contains_here, contains_there, contains_nil}
 use Rattle.sf_run.specs.Machine.{trace_of}
@@ -16,25 +17,21 @@ use Rattle.sf_run.specs.laws.InputLaws.{contains_map, map_contains, inputs_are}
 
 -- ---- at most one
 
+-- name order is total
+pub names_total : IsTotalOrder (slice_cmp bool_cmp)
+names_total = lists_total bool_cmp_total
+
 -- of two names at most one comes before the other
 pub before_one_way : (a b : List Bool) → slice_cmp bool_cmp a b ≡ Less → slice_cmp bool_cmp b a ≡ Less → ⊥
-before_one_way [] [] p q = cc
-before_one_way [] (y ∷ b) p q = cc
-before_one_way (x ∷ a) [] p q = cc
-before_one_way (false ∷ a) (false ∷ b) p q = before_one_way a b p q
-before_one_way (false ∷ a) (true ∷ b) p q = cc
-before_one_way (true ∷ a) (false ∷ b) p q = cc
-before_one_way (true ∷ a) (true ∷ b) p q = before_one_way a b p q
+before_one_way a b p q =
+    let clash : Less ≡ Greater = sym p ∙ names_total.antisymm a b ∙ ap ordering_reverse q in cc
 
 -- the first name of a list in order comes before any other
 first_before : (x y : List Bool) (xs : List (List Bool)) → AllByRecursion (λ z. slice_cmp bool_cmp x z ≡ Less) xs
     → Contains xs y → slice_cmp bool_cmp x y ≡ Less
-first_before x y [] all c = absurd (contains_nil y c)
-first_before x y (z ∷ zs) all c =
-    elim (contains_cons z zs y c) [
-      | inl e ↦ subst (λ (t : List Bool). slice_cmp bool_cmp x t ≡ Less) e all.0
-      | inr later ↦ first_before x y zs all.1 later
-    ]
+first_before x y xs all c =
+    let P = λ (z : List Bool). slice_cmp bool_cmp x z ≡ Less in
+    All-contains P xs y (All-from_recursion P xs all) c
 
 -- Where all names of x ∷ xs, in order, are names of x ∷ ys, all names of xs are names of ys.
 later_in : (x : List Bool) (xs ys : List (List Bool)) → AreInNameOrder (x ∷ xs)
@@ -79,19 +76,12 @@ one_list programs a b p q =
 
 -- ---- there is one
 
--- name order is total
-pub names_total : IsTotalOrder (slice_cmp bool_cmp)
-names_total = lists_total bool_cmp_total
-
 -- names that compare equal are equal
 pub names_exact : (a b : List Bool) → is_eq (slice_cmp bool_cmp a b) ≡ true → a ≡ b
 names_exact [] [] h = refl
-names_exact [] (y ∷ b) h = absurd cc
-names_exact (x ∷ a) [] h = absurd cc
 names_exact (true ∷ a) (true ∷ b) h = ap (λ l. true ∷ l) (names_exact a b h)
-names_exact (true ∷ a) (false ∷ b) h = absurd cc
-names_exact (false ∷ a) (true ∷ b) h = absurd cc
 names_exact (false ∷ a) (false ∷ b) h = ap (λ l. false ∷ l) (names_exact a b h)
+names_exact _ _ h = absurd cc
 
 -- a name is before all names of a list
 abbrev IsBeforeAll : List Bool → List (List Bool) → Type 0
@@ -158,22 +148,15 @@ put_keeps t (u ∷ us) v c =
 put_adds : (t : List Bool) (us : List (List Bool)) (v : List Bool) → Contains (put_in t us) v → (t ≡ v) ⊎ Contains us v
 put_adds t [] v c = contains_cons t [] v c
 put_adds t (u ∷ us) v c =
-    let rest : Contains (put_in t us) v → (t ≡ v) ⊎ Contains us v = λ d. put_adds t us v d in
     chosen (λ vs. Contains vs v → (t ≡ v) ⊎ Contains (u ∷ us) v) (slice_cmp bool_cmp t u) (t ∷ u ∷ us) (u ∷ us)
     (u ∷ put_in t us)
     (λ less d. contains_cons t (u ∷ us) v d)
     (λ same d. inr d)
-    (λ more d. later rest (contains_cons u (put_in t us) v d))
+    (λ more d. elim (contains_cons u (put_in t us) v d) [
+      | inl e ↦ inr (contains_here u us v e)
+      | inr later ↦ elim (put_adds t us v later) [ inl e ↦ inl e | inr was ↦ inr (contains_there u us v was) ]
+    ])
     c
-  where
-    among : (t ≡ v) ⊎ Contains us v → (t ≡ v) ⊎ Contains (u ∷ us) v
-    among (inl e) = inl e
-    among (inr d) = inr (contains_there u us v d)
-
-    later : (Contains (put_in t us) v → (t ≡ v) ⊎ Contains us v) → (u ≡ v) ⊎ Contains (put_in t us) v → (t ≡ v)
-        ⊎ Contains (u ∷ us) v
-    later rest (inl e) = inr (contains_here u us v e)
-    later rest (inr d) = among (rest d)
 
 ordered : (ts : List (List Bool)) → AreInNameOrder (in_name_order ts)
 unfolding IsStrictlySortedBy

@@ -3,7 +3,7 @@ use Rattle.std.proofs.Common.{◌≡◌, ℕ, zero, suc, ◌+◌, ◌^◌, ◌<�
 use Rattle.std.specs.Prelude.{Contains, slice_index, ◌↔◌}
 use Rattle.std.specs.List.{flat_map, range_with_len}
 use Rattle.std.proofs.lemmas.Bool.{cases_lt}
-use Rattle.std.proofs.lemmas.List.{get_or_past}
+use Rattle.std.proofs.lemmas.List.{get_or-map, get_or_past, length-map}
 use Rattle.std.proofs.lemmas.List.Elements.{Contains-append_left, Contains-append_right, Contains-append_cases}
 use Rattle.std.proofs.lemmas.List.FromFn.{length-range_with_len, get_or-range_with_len}
 use Rattle.sf_insn.specs.declared.input.Input.{Input}
@@ -15,12 +15,7 @@ use Rattle.sf_run.specs.Feasible.{lists_below, input_of, all_inputs}
 
 module _ {A B : Type 0} where
   pub contains_map : (f : A → B) (xs : List A) (x : A) → Contains xs x → Contains (map f xs) (f x)
-  contains_map f [] x c = absurd (contains_nil x c)
-  contains_map f (z ∷ zs) x c =
-      elim (contains_cons z zs x c) [
-        | inl e ↦ contains_here (f z) (map f zs) (f x) (ap f e)
-        | inr later ↦ contains_there (f z) (map f zs) (f x) (contains_map f zs x later)
-      ]
+  contains_map f xs x (k, lt, e) = (k, omega (arith, length-map xs f), get_or-map f xs k x (f x) lt ∙ ap f e)
 
   pub map_contains : (f : A → B) (xs : List A) (y : B) → Contains (map f xs) y → (x : A) × Contains xs x × (f x ≡ y)
   map_contains f [] y c = absurd (contains_nil y c)

@@ -1,17 +1,16 @@
 -- No whole route begins another, and a route of a lawful stack has at most 32768 + 32 * 64 truth values.
-use Rattle.std.proofs.Common.{◌≡◌, ℕ, ◌+◌, ◌*◌, ◌≤◌, Bool, true, false, List, [], ◌∷◌, ◌++◌, length, Option, Some, None, refl, sym, ap, subst, ◌∙◌, ◌⊎◌, inl, inr, arith, append_assoc}
+use Rattle.std.proofs.Common.{◌≡◌, ℕ, ◌+◌, ◌*◌, ◌≤◌, Bool, true, false, List, [], ◌∷◌, ◌++◌, length, Option, Some, None, refl, sym, ap, subst, ◌∙◌, inl, inr, arith, append_assoc}
 use Rattle.std.specs.Prelude.{if◌then◌else◌, reverse, sum_by}
 use Rattle.std.proofs.lemmas.Option.{same_Some, slice_get_within}
-use Rattle.std.proofs.lemmas.List.{append_cancel_left, length-append, length-reverse, reverse-append}
-use Rattle.std.proofs.lemmas.List.Sums.{sum_by-append, sum_by-cons}
+use Rattle.std.proofs.lemmas.List.{append_cancel_left, length-append, length-reverse}
+use Rattle.std.proofs.lemmas.List.Sorted.{IsPermutation-reverse, sum_by-IsPermutation}
+use Rattle.std.proofs.lemmas.List.Sums.{sum_by-cons}
 use Rattle.sf_check.specs.laws.PathLengthLaws.{path_length-sum}
 use Rattle.sf_check.specs.Stacks.{IsLawfulStack}
-use Rattle.sf_insn.specs.declared.ops.BinOp.{BinOp}
 use Rattle.sf_insn.specs.declared.ops.BinOp.TheVariants.{Div}
 use Rattle.sf_check.specs.declared.insn.Insn.{Insn}
 use Rattle.sf_check.specs.declared.insn.Insn.TheVariants.{Alu, Jump, Branch, ReturnConstant, ReturnA}
-use Rattle.sf_check.specs.declared.insn.Operand.{Operand}
-use Rattle.sf_check.specs.declared.insn.Operand.TheVariants.{Constant, X}
+use Rattle.sf_check.specs.declared.insn.Operand.TheVariants.{X}
 use Rattle.sf_run.specs.Routes.{MayMeet, IsWay, returns_at, goes_on, AreWays, IsRoute}
 
 -- ---- no whole route begins another
@@ -53,21 +52,10 @@ meets_one at i a b to to' x y p q e = by i p q
     by (Branch test other t f) p q =
         let same = one p.0 q.0 p.1 q.1 in
         (same.1, p.2 ∙ ap (λ (u : Bool). Some (at + 1 + (if u then t else f))) same.0 ∙ sym q.2, same.2)
-    by (Alu op other) p q = alu op other p q
-      where
-        div : ((a ≡ true ∷ []) × (to ≡ None)) ⊎ ((a ≡ false ∷ []) × (to ≡ Some (at + 1)))
-            → ((b ≡ true ∷ []) × (to' ≡ None)) ⊎ ((b ≡ false ∷ []) × (to' ≡ Some (at + 1))) → (a ≡ b)
-            × (to ≡ to') × (x ≡ y)
-        div (inl p) (inl q) = let same = one true true p.0 q.0 in (same.1, p.1 ∙ sym q.1, same.2)
-        div (inr p) (inr q) = let same = one false false p.0 q.0 in (same.1, p.1 ∙ sym q.1, same.2)
-        div (inl p) (inr q) = let same = one true false p.0 q.0 in let clash = same.0 in absurd cc
-        div (inr p) (inl q) = let same = one false true p.0 q.0 in let clash = same.0 in absurd cc
-
-        alu : (op : BinOp) (other : Operand) → MayMeet at (Alu op other) a to → MayMeet at (Alu op other) b to'
-            → (a ≡ b) × (to ≡ to') × (x ≡ y)
-        alu Div X p q = div p q
-        alu Div (Constant k) p q = plain (at + 1) p q
-        alu _ other p q = plain (at + 1) p q
+    by (Alu Div X) (inl p) (inl q) = let same = one true true p.0 q.0 in (same.1, p.1 ∙ sym q.1, same.2)
+    by (Alu Div X) (inr p) (inr q) = let same = one false false p.0 q.0 in (same.1, p.1 ∙ sym q.1, same.2)
+    by (Alu Div X) (inl p) (inr q) = let same = one true false p.0 q.0 in let clash = same.0 in absurd cc
+    by (Alu Div X) (inr p) (inl q) = let same = one false true p.0 q.0 in let clash = same.0 in absurd cc
     by _ p q = plain (at + 1) p q
 
 -- two ways from a place with which the same truth values begin are the same
@@ -133,16 +121,8 @@ meets_short at i met to m = by i m
     by ReturnA m = back (omega (arith, m.0)) m.1
     by (Jump k) m = plain (at + 1 + k) (omega arith) m
     by (Branch test other t f) m = on (at + 1 + (if m.0 then t else f)) (omega (arith, ap length m.1)) m.2
-    by (Alu op other) m = alu op other m
-      where
-        div : ((met ≡ true ∷ []) × (to ≡ None)) ⊎ ((met ≡ false ∷ []) × (to ≡ Some (at + 1))) → IsShort at met to
-        div (inl m) = back (omega (arith, ap length m.0)) m.1
-        div (inr m) = on (at + 1) (omega (arith, ap length m.0)) m.1
-
-        alu : (op : BinOp) (other : Operand) → MayMeet at (Alu op other) met to → IsShort at met to
-        alu Div X m = div m
-        alu Div (Constant k) m = plain (at + 1) (omega arith) m
-        alu _ other m = plain (at + 1) (omega arith) m
+    by (Alu Div X) (inl m) = back (omega (arith, ap length m.0)) m.1
+    by (Alu Div X) (inr m) = on (at + 1) (omega (arith, ap length m.0)) m.1
     by _ m = plain (at + 1) (omega arith) m
 
 way_short : (code : List Insn) (at : ℕ) (met : List Bool) → IsWay code at met → length met + at ≤ length code + 31
@@ -173,21 +153,6 @@ ways_short (code ∷ codes) whole (met, more, way, ways, w) =
       ways_short codes more ways,
     )
 
--- the sum of the lengths is the same, newest or oldest program first
-sum-reverse : (codes : List (List Insn)) → sum_by counted (reverse codes) ≡ sum_by counted codes
-sum-reverse [] = refl
-sum-reverse (code ∷ codes) =
-    let turned : sum_by counted (reverse (code ∷ codes)) ≡ sum_by counted (reverse codes ++ code ∷ []) =
-    ap (sum_by counted) (reverse-append (code ∷ []) codes) in
-    omega (
-      arith,
-      turned,
-      sum_by-append counted (reverse codes) (code ∷ []),
-      sum_by-cons counted code codes,
-      sum_by-cons counted code [],
-      sum-reverse codes,
-    )
-
 -- a route of a lawful stack has at most 32768 + 32 * 64 truth values
 pub route_is_short : (programs : List (List Insn)) (route : List Bool) → IsLawfulStack programs → IsRoute programs route
     → length route ≤ 32768 + 32 * 64
@@ -197,7 +162,7 @@ route_is_short programs route lawful (more, whole) =
       length-append route more,
       ways_short (reverse programs) (route ++ more) whole,
       length-reverse programs,
-      sum-reverse programs,
+      sum_by-IsPermutation counted programs (reverse programs) (IsPermutation-reverse programs),
       path_length-sum programs,
       lawful.few,
       lawful.short,

@@ -1,23 +1,21 @@
 -- Laws of runs: a lawful program is never stuck, and comes to one end.
-use Rattle.std.proofs.Common.{◌≡◌, ℕ, zero, suc, ◌+◌, ◌<◌, ◌≤◌, get_or, Bool, true, false, List, [], ◌∷◌, ◌++◌, length, Option, Some, None, slice_get, refl, sym, ap, subst, ◌∙◌, ◌⊎◌, inl, inr, arith, length-set, set}
+use Rattle.std.proofs.lemmas.Grind.{common_steps}
+use Rattle.std.proofs.Common.{◌≡◌, ◌≢◌, ℕ, zero, suc, ◌+◌, ◌<◌, ◌≤◌, get_or, Bool, true, false, List, [], ◌∷◌, ◌++◌, length, Option, Some, None, slice_get, refl, sym, ap, subst, ◌∙◌, inl, inr, arith, length-set, set}
 use Rattle.std.specs.Prelude.{Contains, IsSome, option_map, slice_set, if◌then◌else◌, ◌==◌}
 use Rattle.std.proofs.lemmas.Bool.{cases_eq}
-use Rattle.std.proofs.lemmas.Option.{same_Some, slice_get-get_or, slice_get_within, get_or_from_slice_get}
-use Rattle.std.proofs.lemmas.List.{get_or-set_same, get_or-set_other}
+use Rattle.std.proofs.lemmas.Option.{gets, same_Some, slice_get-get_or, slice_get_within}
 use Rattle.sf_insn.specs.declared.input.Input.{Input}
-use Rattle.sf_insn.specs.declared.ops.BinOp.{BinOp}
-use Rattle.sf_insn.specs.declared.ops.BinOp.TheVariants.{Add, Sub, Mul, Div, Or, And, Lsh, Rsh, Xor}
+use Rattle.sf_insn.specs.declared.ops.BinOp.TheVariants.{Div}
 use Rattle.sf_insn.specs.Words.{apply, passes}
 use Rattle.sf_check.specs.declared.insn.Insn.{Insn}
-use Rattle.sf_check.specs.declared.insn.Insn.TheVariants.{LoadWord, LoadConstant, LoadScratch, LoadLength, LoadXConstant, LoadXScratch, LoadXLength, StoreA, StoreX, Alu, Negate, Jump, Branch, ReturnConstant, ReturnA, Tax, Txa}
-use Rattle.sf_check.specs.declared.insn.Operand.{Operand}
-use Rattle.sf_check.specs.declared.insn.Operand.TheVariants.{Constant, X}
+use Rattle.sf_check.specs.declared.insn.Insn.TheVariants.{LoadScratch, LoadXScratch, StoreA, StoreX, Alu, Negate, Jump, Branch, ReturnConstant, ReturnA}
+use Rattle.sf_check.specs.declared.insn.Operand.TheVariants.{X}
 use Rattle.sf_check.specs.Insns.{stored_by, loaded_by, successors, IsInRange}
 use Rattle.sf_check.specs.Programs.{IsAt, Stores, IsLawfulProgram}
 use Rattle.sf_check.specs.laws.ContainsLaws.{contains_here, contains_there, any_nil, any_cons}
 use Rattle.sf_check.specs.laws.ProgramLaws.{successor_after, successors_inside, below_in}
 use Rattle.sf_run.specs.Reachable.{put, Keeps, Moves, IsReachable}
-use Rattle.sf_run.specs.Machine.{State, Progress, goes, returns, stuck, start, operand_of, load_progress, operation_progress, test_progress, insn_progress, step, Outcome, outcome_from, run_for, outcome_of, return_of, met_by, with_a, with_x}
+use Rattle.sf_run.specs.Machine.{State, Progress, goes, returns, stuck, start, operand_of, load_progress, operation_progress, insn_progress, step, Outcome, outcome_from, run_for, outcome_of, return_of, met_by, with_a, with_x}
 
 -- ---- one end
 
@@ -60,127 +58,80 @@ keeps_same i old none = record { size = refl; kept = λ k n h. (n, h); stored = 
 
 set_here : (old : List (Option ℕ)) (k : ℕ) (n : ℕ) → k < length old
     → slice_get (slice_set old k (Some n)) k ≡ Some (Some n)
-set_here old k n lt =
-    slice_get-get_or (set old k (Some n)) k None (omega (arith, length-set old k (Some n)))
-    ∙ ap (λ (w : Option ℕ). Some w) (get_or-set_same old k (Some n) None lt)
+set_here old k n lt = grind (arith, common_steps, gets)
+
+set_other : (old : List (Option ℕ)) (k j n m : ℕ) → j ≢ k → slice_get old j ≡ Some (Some m)
+    → slice_get (slice_set old k (Some n)) j ≡ Some (Some m)
+set_other old k j n m ne h = grind (arith, common_steps, gets)
 
 keeps_store : (i : Insn) (old : List (Option ℕ)) (k n : ℕ) → stored_by i ≡ Some k
     → Keeps i old (slice_set old k (Some n))
 keeps_store i old k n at = record {
   size = length-set old k (Some n);
-  kept = λ j m h. kept j m h (cases_eq j k);
-  stored = λ j h lt. let same : k ≡ j = same_Some k j (sym at ∙ h) in (
-    n,
-    subst (λ (x : ℕ). slice_get (slice_set old k (Some n)) x ≡ Some (Some n)) same
-        (set_here old k n (omega arith)),
-  );
+  kept = λ j m h. elim (cases_eq j k) [
+    | inl e ↦ (n, rw e (set_here old k n (omega (arith, slice_get_within old j (Some m) h))))
+    | inr ne ↦ (m, set_other old k j n m ne h)
+  ];
+  stored = λ j h lt. let same : k ≡ j = same_Some k j (sym at ∙ h) in
+      (n, rw (← same) (set_here old k n (omega arith)));
 }
-  where
-    kept : (j m : ℕ) → slice_get old j ≡ Some (Some m) → (j ≡ k) ⊎ (j ≡ k → ⊥) → (m' : ℕ)
-        × (slice_get (slice_set old k (Some n)) j ≡ Some (Some m'))
-    kept j m h (inl e) = (
-      n,
-      subst (λ (x : ℕ). slice_get (slice_set old k (Some n)) x ≡ Some (Some n)) (sym e)
-          (set_here old k n (omega (arith, slice_get_within old j (Some m) h))),
-    )
-    kept j m h (inr ne) =
-        let lt = slice_get_within old j (Some m) h in (
-          m,
-          slice_get-get_or (set old k (Some n)) j None (omega (arith, length-set old k (Some n)))
-              ∙ ap (λ (w : Option ℕ). Some w) (get_or-set_other old k j (Some n) None ne
-              ∙ get_or_from_slice_get old j (Some m) None h),
-        )
 
--- a load of a set word goes on, and one of an unset word does not
-loaded_goes : (s : State) (k : ℕ) (f : ℕ → Progress) (met : List Bool) (next : State)
-    → load_progress s k f ≡ goes met next
-    → (n : ℕ) × (f n ≡ goes met next)
-loaded_goes s k f met next e = by (slice_get s.scratch k) refl e
+-- what holds of a stuck step, and of the step with each number, holds of a load
+pub loaded : (P : Progress → Type 0) (s : State) (k : ℕ) (f : ℕ → Progress) → P stuck → ((n : ℕ) → P (f n))
+    → P (load_progress s k f)
+loaded P s k f unset set_to = by (slice_get s.scratch k) refl
   where
-    by : (w : Option (Option ℕ)) → slice_get s.scratch k ≡ w → load_progress s k f ≡ goes met next → (n : ℕ)
-        × (f n ≡ goes met next)
-    by (Some (Some n)) at e = (n, rw at at e)
-    by (Some None) at e = let clash : stuck ≡ goes met next = rw at at e in absurd cc
-    by None at e = let clash : stuck ≡ goes met next = rw at at e in absurd cc
+    by : (w : Option (Option ℕ)) → slice_get s.scratch k ≡ w → P (load_progress s k f)
+    by (Some (Some n)) at = rw at (set_to n)
+    by (Some None) at = rw at unset
+    by None at = rw at unset
+
+-- what holds of both answers to the question whether X is 0 holds of a division by X
+pub divided : (P : Bool → Progress → Type 0) (s : State) → P true (returns (true ∷ []) 0)
+    → P false (goes (false ∷ []) (record s { place = s.place + 1; a = apply Div s.a s.x }))
+    → P (s.x == 0) (operation_progress s Div X)
+divided P s out on = by (s.x == 0)
+  where
+    by : (b : Bool) → P b (if b then returns (true ∷ []) 0
+        else goes (false ∷ []) (record s { place = s.place + 1; a = apply Div s.a s.x }))
+    by true = out
+    by false = on
 
 -- a step that goes on leads to a successor of the place, and keeps set scratch words set
 pub moves : (d : Input) (s : State) (i : Insn) (met : List Bool) (next : State) → insn_progress d s i ≡ goes met next
     → Moves i s next
 moves d s i met next e = by i e
   where
-    -- a step to the next instruction that changes only A and X
-    on : (i : Insn) (a x : ℕ) (met' : List Bool) → Contains (successors s.place i) (s.place + 1) → stored_by i ≡ None
-        → goes met' (record { place = s.place + 1; a = a; x = x; scratch = s.scratch }) ≡ goes met next → Moves i s next
-    on i a x met' leads none e =
-        subst (Moves i s) (goes_is met' met _ next e) (record { leads = leads; keeps = keeps_same i s.scratch none })
+    on : (i : Insn) (met' : List Bool) (t : State) → goes met' t ≡ goes met next
+        → Contains (successors s.place i) t.place → Keeps i s.scratch t.scratch → Moves i s next
+    on i met' t e leads keeps =
+        subst (Moves i s) (goes_is met' met t next e) (record { leads = leads; keeps = keeps })
 
     one : (n : ℕ) → Contains (n ∷ []) n
     one n = contains_here n [] n refl
 
-    store : (i : Insn) (k n : ℕ) → Contains (successors s.place i) (s.place + 1) → stored_by i ≡ Some k
-        → goes [] (record s { place = s.place + 1; scratch = slice_set s.scratch k (Some n) }) ≡ goes met next
-        → Moves i s next
-    store i k n leads at e =
-        subst (Moves i s) (goes_is [] met _ next e) (record { leads = leads; keeps = keeps_store i s.scratch k n at })
-
     by : (i : Insn) → insn_progress d s i ≡ goes met next → Moves i s next
-    by (LoadWord k) e = on (LoadWord k) _ _ [] (one (s.place + 1)) refl e
-    by (LoadConstant k) e = on (LoadConstant k) _ _ [] (one (s.place + 1)) refl e
-    by (LoadScratch k) e =
-        let from = loaded_goes s k (with_a s) met next e in
-        on (LoadScratch k) _ _ [] (one (s.place + 1)) refl from.1
-    by LoadLength e = on LoadLength _ _ [] (one (s.place + 1)) refl e
-    by (LoadXConstant k) e = on (LoadXConstant k) _ _ [] (one (s.place + 1)) refl e
-    by (LoadXScratch k) e =
-        let from = loaded_goes s k (with_x s) met next e in
-        on (LoadXScratch k) _ _ [] (one (s.place + 1)) refl from.1
-    by LoadXLength e = on LoadXLength _ _ [] (one (s.place + 1)) refl e
-    by (StoreA k) e = store (StoreA k) k s.a (one (s.place + 1)) refl e
-    by (StoreX k) e = store (StoreX k) k s.x (one (s.place + 1)) refl e
-    by (Alu op other) e = alu op other e
+    by (LoadScratch k) e = loaded (λ p. p ≡ goes met next → Moves (LoadScratch k) s next) s k (with_a s)
+        (λ f. absurd cc)
+        (λ n f. on (LoadScratch k) _ _ f (one (s.place + 1)) (keeps_same (LoadScratch k) s.scratch refl)) e
+    by (LoadXScratch k) e = loaded (λ p. p ≡ goes met next → Moves (LoadXScratch k) s next) s k (with_x s)
+        (λ f. absurd cc)
+        (λ n f. on (LoadXScratch k) _ _ f (one (s.place + 1)) (keeps_same (LoadXScratch k) s.scratch refl)) e
+    by (StoreA k) e = on (StoreA k) _ _ e (one (s.place + 1)) (keeps_store (StoreA k) s.scratch k s.a refl)
+    by (StoreX k) e = on (StoreX k) _ _ e (one (s.place + 1)) (keeps_store (StoreX k) s.scratch k s.x refl)
+    by (Alu Div X) e = divided (λ b p. p ≡ goes met next → Moves (Alu Div X) s next) s (λ f. absurd cc)
+        (λ f. on (Alu Div X) _ _ f (one (s.place + 1)) (keeps_same (Alu Div X) s.scratch refl)) e
+    by (Jump k) e = on (Jump k) _ _ e (one (s.place + 1 + k)) (keeps_same (Jump k) s.scratch refl)
+    by (Branch test other t f) e = on (Branch test other t f) _ _ e (leads (passes test s.a (operand_of s other)))
+        (keeps_same (Branch test other t f) s.scratch refl)
       where
-        div : (b : Bool) → (if b then returns (true ∷ []) 0
-            else goes (false ∷ []) (record s { place = s.place + 1; a = apply Div s.a s.x })) ≡ goes met next
-            → Moves (Alu Div X) s next
-        div true e = absurd cc
-        div false e = on (Alu Div X) _ _ (false ∷ []) (one (s.place + 1)) refl e
-
-        alu : (op : BinOp) (other : Operand) → operation_progress s op other ≡ goes met next
-            → Moves (Alu op other) s next
-        alu Div X e = div (s.x == 0) e
-        alu Div (Constant k) e = on (Alu Div (Constant k)) _ _ [] (one (s.place + 1)) refl e
-        alu Add other e = on (Alu Add other) _ _ [] (one (s.place + 1)) refl e
-        alu Sub other e = on (Alu Sub other) _ _ [] (one (s.place + 1)) refl e
-        alu Mul other e = on (Alu Mul other) _ _ [] (one (s.place + 1)) refl e
-        alu Or other e = on (Alu Or other) _ _ [] (one (s.place + 1)) refl e
-        alu And other e = on (Alu And other) _ _ [] (one (s.place + 1)) refl e
-        alu Lsh other e = on (Alu Lsh other) _ _ [] (one (s.place + 1)) refl e
-        alu Rsh other e = on (Alu Rsh other) _ _ [] (one (s.place + 1)) refl e
-        alu Xor other e = on (Alu Xor other) _ _ [] (one (s.place + 1)) refl e
-    by Negate e = on Negate _ _ [] (one (s.place + 1)) refl e
-    by (Jump k) e =
-        subst (Moves (Jump k) s) (goes_is [] met _ next e)
-        (record { leads = one (s.place + 1 + k); keeps = keeps_same (Jump k) s.scratch refl })
-    by (Branch test other t f) e = tested' (passes test s.a (operand_of s other)) e
-      where
-        tested' : (b : Bool) → test_progress s b t f ≡ goes met next → Moves (Branch test other t f) s next
-        tested' true e =
-            subst (Moves (Branch test other t f) s) (goes_is (true ∷ []) met _ next e)
-            (record {
-              leads = contains_here (s.place + 1 + t) ((s.place + 1 + f) ∷ []) (s.place + 1 + t) refl;
-              keeps = keeps_same (Branch test other t f) s.scratch refl;
-            })
-        tested' false e =
-            subst (Moves (Branch test other t f) s) (goes_is (false ∷ []) met _ next e)
-            (record {
-              leads = contains_there (s.place + 1 + t) ((s.place + 1 + f) ∷ []) (s.place + 1 + f)
-                  (one (s.place + 1 + f));
-              keeps = keeps_same (Branch test other t f) s.scratch refl;
-            })
+        leads : (b : Bool) → Contains (successors s.place (Branch test other t f)) (s.place + 1 + (if b then t else f))
+        leads true = contains_here (s.place + 1 + t) ((s.place + 1 + f) ∷ []) (s.place + 1 + t) refl
+        leads false = contains_there (s.place + 1 + t) ((s.place + 1 + f) ∷ []) (s.place + 1 + f)
+            (one (s.place + 1 + f))
     by (ReturnConstant k) e = absurd cc
     by ReturnA e = absurd cc
-    by Tax e = on Tax _ _ [] (one (s.place + 1)) refl e
-    by Txa e = on Txa _ _ [] (one (s.place + 1)) refl e
+    by i e = on i _ _ e (one (s.place + 1)) (keeps_same i s.scratch refl)
 
 -- ---- never stuck
 
@@ -241,24 +192,10 @@ loaded_not_stuck s k f fine (n, at) e = fine n (rw at at e)
 pub not_stuck : (d : Input) (s : State) (i : Insn)
     → ((k : ℕ) → loaded_by i ≡ Some k → (n : ℕ) × (slice_get s.scratch k ≡ Some (Some n)))
     → insn_progress d s i ≡ stuck → ⊥
-not_stuck d s i fine e = by i fine e
-  where
-    by : (i : Insn) → ((k : ℕ) → loaded_by i ≡ Some k → (n : ℕ) × (slice_get s.scratch k ≡ Some (Some n)))
-        → insn_progress d s i ≡ stuck → ⊥
-    by (LoadScratch k) fine e = loaded_not_stuck s k (with_a s) (λ n e. cc) (fine k refl) e
-    by (LoadXScratch k) fine e = loaded_not_stuck s k (with_x s) (λ n e. cc) (fine k refl) e
-    by (Alu op other) fine e = alu op other e
-      where
-        div : (b : Bool) → (if b then returns (true ∷ []) 0
-            else goes (false ∷ []) (record s { place = s.place + 1; a = apply Div s.a s.x })) ≡ stuck → ⊥
-        div true e = cc
-        div false e = cc
-
-        alu : (op : BinOp) (other : Operand) → operation_progress s op other ≡ stuck → ⊥
-        alu Div X e = div (s.x == 0) e
-        alu Div (Constant k) e = cc
-        alu _ other e = cc
-    by _ fine e = cc
+not_stuck d s (LoadScratch k) fine e = loaded_not_stuck s k (with_a s) (λ n e. cc) (fine k refl) e
+not_stuck d s (LoadXScratch k) fine e = loaded_not_stuck s k (with_x s) (λ n e. cc) (fine k refl) e
+not_stuck d s (Alu Div X) fine e = divided (λ b p. p ≡ stuck → ⊥) s (λ f. cc) (λ f. cc) e
+not_stuck d s _ fine e = cc
 
 -- ---- comes to an end
 
@@ -301,9 +238,7 @@ outcome_is n code d o lawful e = by (outcome_of code d) refl (lawful_ends code d
   where
     by : (r : Outcome) → outcome_of code d ≡ r → IsSome r → outcome_of code d ≡ Some o
     by None e' some = absurd cc
-    by (Some o') e' some =
-        let same : o ≡ o' = run_same n (length code) code d start o o' e e' in
-        rw e' (ap (λ (p : List Bool × ℕ). Some p) (sym same))
+    by (Some o') e' some = rw e' (ap (λ p. Some p) (run_same (length code) n code d start o' o e' e))
 
 -- a run from the start that comes to an end returns the program's value, and meets what the program meets
 pub value_is : (n : ℕ) (code : List Insn) (d : Input) (o : List Bool × ℕ) → IsLawfulProgram code

@@ -1,4 +1,5 @@
 use Rattle.std.proofs.Common.{arith, ◌∙◌, suc, List, ◌++◌, ap}
+use Rattle.std.proofs.lemmas.Option.{slice_get-get_or}
 use Rattle.sf_check.specs.declared.insn.Insn.{Insn}
 use Rattle.sf_run.specs.Machine.{return_of}
 use Rattle.sf_run.specs.Code.{state_of}
@@ -10,9 +11,7 @@ pub loop-next-init : goal.loop-next-init
 loop-next-init c = search (arith, lent_lawful, safe_start, value_is)
 
 pub execute-requires-clause-in_range : goal.execute-requires-clause-in_range
-execute-requires-clause-in_range c =
-    (at_hand _ c.insns-code.result.now (state_of c.loop-next.place c.loop-next.machine) _ c.insns-code.ensures.same
-    c.insns-code.ensures.lawful c.loop-next.invariant.safe).in_range
+execute-requires-clause-in_range c = search (arith, lent_lawful, slice_get-get_or)
 
 pub execute-requires-clause-set : goal.execute-requires-clause-set
 execute-requires-clause-set c =

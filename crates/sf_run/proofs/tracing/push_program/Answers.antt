@@ -1,4 +1,5 @@
 use Rattle.std.proofs.Common.{arith, ◌∙◌, suc, List, ◌++◌, ap}
+use Rattle.std.proofs.lemmas.Option.{slice_get-get_or}
 use Rattle.sf_check.specs.declared.insn.Insn.{Insn}
 use Rattle.sf_run.specs.Machine.{met_by}
 use Rattle.sf_run.specs.Code.{state_of}
@@ -11,10 +12,7 @@ pub loop-machine-init : goal.loop-machine-init
 loop-machine-init c = search (arith, lent_lawful, safe_start, met_is)
 
 pub execute-requires-clause-in_range : goal.execute-requires-clause-in_range
-execute-requires-clause-in_range c =
-    let s = state_of c.loop-machine.place c.loop-machine.machine in
-    (at_hand _ c.insns-code.result.now s _ c.insns-code.ensures.same c.insns-code.ensures.lawful
-    c.loop-machine.invariant.safe).in_range
+execute-requires-clause-in_range c = search (arith, lent_lawful, slice_get-get_or)
 
 pub execute-requires-clause-set : goal.execute-requires-clause-set
 execute-requires-clause-set c =

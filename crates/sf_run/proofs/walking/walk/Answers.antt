@@ -1,4 +1,5 @@
 use Rattle.std.proofs.Common.{◌∙◌, ◌-◌, ◌<◌, List, length, ap, sym, arith}
+use Rattle.std.proofs.lemmas.Option.{slice_get-get_or}
 use Rattle.sf_check.specs.declared.insn.Insn.{Insn}
 use Rattle.sf_run.specs.Code.{state_of}
 use Rattle.sf_run.specs.laws.RunLaws.{safe_start}
@@ -21,9 +22,7 @@ steps-init c =
     }
 
 pub execute-requires-clause-in_range : goal.execute-requires-clause-in_range
-execute-requires-clause-in_range c =
-    (at_hand _ c.insns-code.result.now (state_of c.steps.place c.steps.machine) _ c.insns-code.ensures.same
-    c.insns-code.ensures.lawful c.steps.invariant.safe).in_range
+execute-requires-clause-in_range c = search (arith, lent_lawful, slice_get-get_or)
 
 pub execute-requires-clause-set : goal.execute-requires-clause-set
 execute-requires-clause-set c =
