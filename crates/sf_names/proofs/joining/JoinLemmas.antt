@@ -1,7 +1,8 @@
 -- A set, and sets, to which further ones are joined.
+use Rattle.std.proofs.lemmas.Grind.{common_steps}
+use Rattle.std.proofs.Common.{arith}
 use Rattle.std.specs.Prelude.{IfErr, OnOk}
 use Rattle.std.proofs.Common.{◌≡◌, ◌⊎◌, inl, inr, ◌∙◌, ℕ, ◌+◌, ◌<◌, nat_lt, Bool, true, false, not, List, [], ◌∷◌, ◌++◌, append_assoc, ap, get_or, length, slice_get, slice_set, if◌then◌else◌, Some, Result, Ok, Err, refl, subst, sym}
-use Rattle.std.proofs.lemmas.Bool.{false≢true}
 use Rattle.std.proofs.lemmas.List.{set-get_or}
 use Rattle.std.proofs.lemmas.Option.{slice_get-get_or}
 use Rattle.sf_names.specs.declared.fault.Fault.{Fault}
@@ -15,16 +16,12 @@ use Rattle.sf_names.specs.laws.JoinedLaws.{joined_append}
 -- what is due where the calls fit, and there are few
 due_set : (fit many : Bool) (n : NamesData) → fit ≡ true → many ≡ false
     → (if not fit then Err faults.Key else if many then Err faults.Count else Ok n) ≡ Ok n
-due_set true false n e f = refl
-due_set true true n e f = absurd (false≢true (sym f))
-due_set false many n e f = absurd (false≢true e)
+due_set fit many n e f = grind (arith, common_steps)
 
 -- the calls of two lists are few, where those of the same two lists are
 pub are_few : (own fresh seen calls : List CallData) (many : Bool) → many ≡ nat_lt 1024 (length own + length fresh)
     → own ≡ seen → fresh ≡ calls → many ≡ false → nat_lt 1024 (length seen + length calls) ≡ false
-are_few own fresh seen calls many counted first second few =
-    ap (λ (l : List CallData). nat_lt 1024 (length l + length calls)) (sym first)
-    ∙ ap (λ (l : List CallData). nat_lt 1024 (length own + length l)) (sym second) ∙ sym counted ∙ few
+are_few own fresh seen calls many counted first second few = cc
 
 -- The calls fit, there are few of them, and those that the set hadn't were added to its own, by their numbers. For the
 -- prover: `seen` is the set as its fields say it.

@@ -1,10 +1,10 @@
 -- No tree is refused as `Syntax`.
 use Rattle.std.proofs.Common.{◌≡◌, ℕ, nat_lt, Bool, true, false, List, [], codes, Option, Some, None, Result, Ok, Err, refl, ap, sym, ◌∙◌, if◌then◌else◌}
 use Rattle.std.proofs.lemmas.Bool.{false≢true}
-use Rattle.toml.specs.Data.{Data, string, integer, float, boolean, datetime, array, table, Members, no_members, member, get_member}
+use Rattle.toml.specs.Data.{Data, integer, table, Members, no_members, member, get_member}
 use Rattle.sf_names.specs.declared.fault.Fault.{Fault}
 use Rattle.sf_names.specs.declared.fault.Fault.TheVariants as faults
-use Rattle.sf_names.specs.Names.{CallData, GivesNames, NamesData, arch_at, arch_of_value, arch_where_word, call_cons, call_of_value, call_where_word, calls_at, calls_of, calls_of_value, has_names_keys, is_call_name, key_count, sets_of_file, set_cons, set_from, set_of_parts, set_of_value, sets_of_table, with_usual_set, word_in}
+use Rattle.sf_names.specs.Names.{CallData, GivesNames, NamesData, arch_at, arch_where_word, call_cons, call_of_value, call_where_word, calls_at, calls_of, has_names_keys, is_call_name, key_count, sets_of_file, set_cons, set_from, set_of_parts, set_of_value, sets_of_table, with_usual_set, word_in}
 
 -- the refusal is `Syntax`
 abbrev pub is_syntax : {X : Type 0} → Result X Fault → Bool
@@ -22,13 +22,8 @@ where_word name (Some n) = refl
 where_word name None = refl
 
 of_value : (name : List ℕ) (d : Data) → is_syntax (call_of_value name d) ≡ false
-of_value name (string s) = refl
 of_value name (integer z) = where_word name (word_in z)
-of_value name (float x) = refl
-of_value name (boolean b) = refl
-of_value name (datetime t) = refl
-of_value name (array ds) = refl
-of_value name (table ms) = refl
+of_value name _ = refl
 
 in_front : (c : Result CallData Fault) (cs : Result (List CallData) Fault) → is_syntax c ≡ false
     → is_syntax cs ≡ false → is_syntax (call_cons c cs) ≡ false
@@ -40,35 +35,17 @@ of_members : (ms : Members) → is_syntax (calls_of ms) ≡ false
 of_members no_members = refl
 of_members (member name d rest) = in_front _ _ (choice (is_call_name name) _ _ (of_value name d) refl) (of_members rest)
 
-of_table : (d : Data) → is_syntax (calls_of_value d) ≡ false
-of_table (string s) = refl
-of_table (integer z) = refl
-of_table (float x) = refl
-of_table (boolean b) = refl
-of_table (datetime t) = refl
-of_table (array ds) = refl
-of_table (table ms) = choice (nat_lt 1024 (key_count ms)) _ _ refl (of_members ms)
-
 of_calls : (o : Option Data) → is_syntax (calls_at o) ≡ false
-of_calls None = refl
-of_calls (Some d) = of_table d
+of_calls (Some (table ms)) = choice (nat_lt 1024 (key_count ms)) _ _ refl (of_members ms)
+of_calls _ = refl
 
 of_word : (n : Option ℕ) → is_syntax (arch_where_word n) ≡ false
 of_word (Some n) = refl
 of_word None = refl
 
-of_number : (d : Data) → is_syntax (arch_of_value d) ≡ false
-of_number (string s) = refl
-of_number (integer z) = of_word (word_in z)
-of_number (float x) = refl
-of_number (boolean b) = refl
-of_number (datetime t) = refl
-of_number (array ds) = refl
-of_number (table ms) = refl
-
 of_arch : (o : Option Data) → is_syntax (arch_at o) ≡ false
-of_arch None = refl
-of_arch (Some d) = of_number d
+of_arch (Some (integer z)) = of_word (word_in z)
+of_arch _ = refl
 
 of_parts : (set : List ℕ) (arch : Result ℕ Fault) (calls : Result (List CallData) Fault) → is_syntax arch ≡ false
     → is_syntax calls ≡ false → is_syntax (set_of_parts set arch calls) ≡ false
@@ -80,13 +57,8 @@ from_table : (set : List ℕ) (ms : Members) → is_syntax (set_from set ms) ≡
 from_table set ms = of_parts set _ _ (of_arch (get_member (codes "arch") ms)) (of_calls (get_member (codes "calls") ms))
 
 set_in : (set : List ℕ) (d : Data) → is_syntax (set_of_value set d) ≡ false
-set_in set (string s) = refl
-set_in set (integer z) = refl
-set_in set (float x) = refl
-set_in set (boolean b) = refl
-set_in set (datetime t) = refl
-set_in set (array ds) = refl
 set_in set (table ms) = choice (has_names_keys ms) _ _ (from_table set ms) refl
+set_in set _ = refl
 
 before_sets : (n : Result NamesData Fault) (ns : Result (List NamesData) Fault) → is_syntax n ≡ false
     → is_syntax ns ≡ false → is_syntax (set_cons n ns) ≡ false

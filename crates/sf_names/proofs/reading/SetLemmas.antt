@@ -5,7 +5,7 @@ use Rattle.std.specs.Map.{keys_of}
 use Rattle.toml.specs.View.{members_view}
 use Rattle.toml.specs.declared.value.Value.{Value}
 use Rattle.sf_names.specs.declared.fault.Fault.{Fault}
-use Rattle.sf_names.specs.Names.{HaveOrderedCalls, CallData, GivesSet, IsOrdered, NamesData, has_names_keys, is_names_key, list_of_one_set, key_count, set_cons}
+use Rattle.sf_names.specs.Names.{HaveOrderedCalls, GivesSet, IsOrdered, NamesData, has_names_keys, is_names_key, list_of_one_set, key_count, set_cons}
 
 -- the keys of a set, at the list that the code goes through
 pub keys_view : (es : List (String Global × Value))
@@ -18,25 +18,20 @@ pub count_view : (es : List (String Global × Value)) → key_count (members_vie
 count_view [] = refl
 count_view (e ∷ es) = let rest = count_view es in omega (arith, rest)
 
--- the calls that were read, in front of those that are left
-abbrev pub with_calls : List CallData → Result (List CallData) Fault → Result (List CallData) Fault
-with_calls front (Ok rest) = Ok (front ++ rest)
-with_calls front (Err fault) = Err fault
-
--- the sets that were read, in front of those that are left
-abbrev pub with_sets : List NamesData → Result (List NamesData) Fault → Result (List NamesData) Fault
-with_sets front (Ok rest) = Ok (front ++ rest)
-with_sets front (Err fault) = Err fault
+-- what was read, in front of what is left
+abbrev pub with_front : {X : Type 0} → List X → Result (List X) Fault → Result (List X) Fault
+with_front front (Ok rest) = Ok (front ++ rest)
+with_front front (Err fault) = Err fault
 
 -- Of the sets of a file these were read, with the calls by their numbers; the rest is left.
 pub record SetsSoFar (whole : Result (List NamesData) Fault) (sets : List NamesData)
     (rest : Result (List NamesData) Fault) : Type 0 where
   pub files : List NamesData
-  pub due : whole ≡ with_sets files rest
+  pub due : whole ≡ with_front files rest
   pub ordered : HaveOrderedCalls files sets
 
 with_sets_cons : (front : List NamesData) (n : NamesData) (r : Result (List NamesData) Fault)
-    → with_sets front (set_cons (Ok n) r) ≡ with_sets (front ++ n ∷ []) r
+    → with_front front (set_cons (Ok n) r) ≡ with_front (front ++ n ∷ []) r
 with_sets_cons front n (Ok rest) = ap Ok (sym (append_assoc front (n ∷ []) rest))
 with_sets_cons front n (Err fault) = refl
 
@@ -54,7 +49,7 @@ pub one_set_more : (whole : Result (List NamesData) Fault) (sets more : List Nam
     → GivesSet (Ok names) due → more ≡ sets ++ names ∷ [] → SetsSoFar whole more rest
 one_set_more whole sets more due rest names so_far gives pushed = record {
   files = so_far.files ++ gives.0 ∷ [];
-  due = so_far.due ∙ ap (λ d. with_sets so_far.files (set_cons d rest)) gives.1
+  due = so_far.due ∙ ap (λ d. with_front so_far.files (set_cons d rest)) gives.1
       ∙ with_sets_cons so_far.files gives.0 rest;
   ordered = rw pushed (ordered_more so_far.files sets gives.0 names so_far.ordered gives.2);
 }

@@ -1,4 +1,6 @@
 -- Names that were written one after the other.
+use Rattle.std.proofs.lemmas.Grind.{common_steps}
+use Rattle.std.proofs.Common.{arith}
 use Rattle.std.proofs.Common.{◌≡◌, ℕ, ◌<◌, ◌+◌, List, [], ◌∷◌, ◌++◌, append_assoc, append-nil, ap, ◌∙◌, refl, sym, take, get_or, length}
 use Rattle.std.specs.List.{flat_map}
 use Rattle.std.proofs.lemmas.List.{take_more}
@@ -23,9 +25,7 @@ count_append count (x ∷ xs) ys = count_append (count_more count) xs ys
 -- the names of one element more
 pub names_more : {X : Type 0} (f : X → List (List ℕ)) (xs : List X) (i : ℕ) (d : X) → i < length xs
     → flat_map f (take (i + 1) xs) ≡ flat_map f (take i xs) ++ f (get_or xs i d)
-names_more f xs i d lt =
-    ap (flat_map f) (take_more xs i d lt) ∙ flat_map-append f (take i xs) (get_or xs i d ∷ [])
-    ∙ ap (λ l. flat_map f (take i xs) ++ l) (append-nil (f (get_or xs i d)))
+names_more f xs i d lt = grind (arith, common_steps, take_more, flat_map-append, append-nil)
 
 -- the names of one element more were written
 pub words_more : {X : Type 0} (f : X → List (List ℕ)) (count told : ℕ) (text middle after : List ℕ) (xs : List X)
@@ -34,21 +34,11 @@ pub words_more : {X : Type 0} (f : X → List (List ℕ)) (count told : ℕ) (te
     → after ≡ middle ++ names_words told (f (get_or xs i d))
     → after ≡ text ++ names_words count (flat_map f (take (i + 1) xs))
 words_more f count told text middle after xs i d lt t m a =
-    let front = flat_map f (take i xs) in
-    let more = f (get_or xs i d) in
-    a ∙ ap (λ n. middle ++ names_words n more) t
-    ∙ ap (λ l. l ++ names_words (count_after count front) more) m
-    ∙ append_assoc text (names_words count front) (names_words (count_after count front) more)
-    ∙ ap (λ l. text ++ l) (sym (words_append count front more))
-    ∙ ap (λ l. text ++ names_words count l) (sym (names_more f xs i d lt))
+    grind (arith, common_steps, names_more, words_append, append_assoc)
 
 -- so many names were told then
 pub told_more : {X : Type 0} (f : X → List (List ℕ)) (count told next : ℕ) (xs : List X) (i : ℕ) (d : X)
     → i < length xs → told ≡ count_after count (flat_map f (take i xs))
     → next ≡ count_after told (f (get_or xs i d))
     → next ≡ count_after count (flat_map f (take (i + 1) xs))
-told_more f count told next xs i d lt t n =
-    let front = flat_map f (take i xs) in
-    n ∙ ap (λ k. count_after k (f (get_or xs i d))) t
-    ∙ sym (count_append count front (f (get_or xs i d)))
-    ∙ ap (count_after count) (sym (names_more f xs i d lt))
+told_more f count told next xs i d lt t n = grind (arith, common_steps, names_more, count_append)
