@@ -4,7 +4,7 @@ use Rattle.std.proofs.lemmas.Nat.{or_comm, and_comm, xor_comm}
 use Rattle.sf_insn.specs.Words.{apply}
 use Rattle.sf_insn.specs.declared.input.Input.{Input}
 use Rattle.sf_insn.specs.declared.ops.BinOp.{BinOp}
-use Rattle.sf_insn.specs.declared.ops.BinOp.TheVariants.{Add, Sub, Mul, Div, Or, And, Lsh, Rsh, Xor}
+use Rattle.sf_insn.specs.declared.ops.BinOp.TheVariants.{Or, And, Xor}
 use Rattle.sf_sym.specs.Pool.{IsPool, node_at, value_of}
 use Rattle.sf_sym.specs.Operands.{IsSwappable}
 use Rattle.sf_sym.specs.laws.ValueLaws.{value-node, value-constant}
@@ -14,15 +14,10 @@ use Rattle.sf_sym.specs.declared.pool.Node.TheVariants.{Const, Bin}
 
 -- operands are swapped
 pub apply-swap : (op : BinOp) (a b : ℕ) → IsSwappable op → apply op a b ≡ apply op b a
-apply-swap Add a b s = elim s [ ]
-apply-swap Sub a b s = elim s [ ]
-apply-swap Mul a b s = elim s [ ]
-apply-swap Div a b s = elim s [ ]
 apply-swap Or a b s = or_comm a b
 apply-swap And a b s = and_comm a b
-apply-swap Lsh a b s = elim s [ ]
-apply-swap Rsh a b s = elim s [ ]
 apply-swap Xor a b s = xor_comm a b
+apply-swap _ a b s = elim s [ ]
 
 -- the value of a node whose second operand is a constant
 pub value-right : (ns : List Node) (d : Input) (i : ℕ) (op : BinOp) (a b : NodeId) (c : ℕ) → IsPool ns → i < length ns

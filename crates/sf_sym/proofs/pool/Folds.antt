@@ -7,7 +7,7 @@ use Rattle.sf_sym.specs.Pool.{OperandsBelow, IsPool, node_at, node_value, values
 use Rattle.sf_sym.specs.laws.SizeLaws.{apply-small}
 use Rattle.sf_sym.specs.laws.ValueLaws.{constant_number-is, value-constant, OperandsBelow-at, IsPool-push}
 use Rattle.sf_sym.specs.declared.pool.Node.{Node}
-use Rattle.sf_sym.specs.declared.pool.Node.TheVariants.{Const, Word, Bin, Neg}
+use Rattle.sf_sym.specs.declared.pool.Node.TheVariants.{Bin, Neg}
 use Rattle.sf_sym.specs.declared.pool.NodeId.{NodeId}
 
 -- a constant of a pool is a word
@@ -24,9 +24,7 @@ combined_node-value ns d op a b p k l (Some x) (Some y) e f =
       value-constant ns d a.0 x p k (constant_number-is (node_at ns a.0) x e),
       value-constant ns d b.0 y p l (constant_number-is (node_at ns b.0) y f),
     ) refl
-combined_node-value ns d op a b p k l (Some x) None e f = refl
-combined_node-value ns d op a b p k l None (Some y) e f = refl
-combined_node-value ns d op a b p k l None None e f = refl
+combined_node-value ns d op a b p k l _ _ e f = refl
 
 negated_node-value : (ns : List Node) (d : Input) (a : NodeId) → IsPool ns → a.0 < length ns
     → (x : Option ℕ) → constant_number (node_at ns a.0) ≡ x → node_value d (values_of ns d) (negated_node a x)
@@ -37,20 +35,17 @@ negated_node-value ns d a p k None e = refl
 
 pub folded_node-value : (ns : List Node) (d : Input) (node : Node) → IsPool ns → OperandsBelow (length ns) node
     → node_value d (values_of ns d) (folded_node ns node) ≡ node_value d (values_of ns d) node
-folded_node-value ns d (Const c) p o = refl
-folded_node-value ns d (Word i) p o = refl
 folded_node-value ns d (Bin op a b) p o = combined_node-value ns d op a b p o.0 o.1 (constant_number (node_at ns a.0))
     (constant_number (node_at ns b.0)) refl refl
 folded_node-value ns d (Neg a) p o = negated_node-value ns d a p o (constant_number (node_at ns a.0)) refl
+folded_node-value ns d _ p o = refl
 
 combined_node-operands : (ns : List Node) (op : BinOp) (a b : NodeId) → IsPool ns → a.0 < length ns → b.0 < length ns
     → (x y : Option ℕ) → constant_number (node_at ns a.0) ≡ x → constant_number (node_at ns b.0) ≡ y
     → OperandsBelow (length ns) (combined_node op a b x y)
 combined_node-operands ns op a b p k l (Some x) (Some y) e f =
     apply-small op x y (constant-small ns a.0 x p k e) (constant-small ns b.0 y p l f)
-combined_node-operands ns op a b p k l (Some x) None e f = (k, l)
-combined_node-operands ns op a b p k l None (Some y) e f = (k, l)
-combined_node-operands ns op a b p k l None None e f = (k, l)
+combined_node-operands ns op a b p k l _ _ e f = (k, l)
 
 negated_node-operands : (ns : List Node) (a : NodeId) → a.0 < length ns → (x : Option ℕ)
     → OperandsBelow (length ns) (negated_node a x)
@@ -59,11 +54,10 @@ negated_node-operands ns a k None = k
 
 folded_node-operands : (ns : List Node) (node : Node) → IsPool ns → OperandsBelow (length ns) node
     → OperandsBelow (length ns) (folded_node ns node)
-folded_node-operands ns (Const c) p o = o
-folded_node-operands ns (Word i) p o = o
 folded_node-operands ns (Bin op a b) p o = combined_node-operands ns op a b p o.0 o.1 (constant_number (node_at ns a.0))
     (constant_number (node_at ns b.0)) refl refl
 folded_node-operands ns (Neg a) p o = negated_node-operands ns a o (constant_number (node_at ns a.0))
+folded_node-operands ns _ p o = o
 
 -- a pool with one more node, as it keeps it, is a pool where it hadn't that node
 pub pushed-lawful : (ns : List Node) (node : Node) → IsPool ns → OperandsBelow (length ns) node

@@ -1,6 +1,7 @@
 -- The values of nodes are words.
-use Rattle.std.proofs.Common.{ℕ, zero, suc, ◌/◌, ◌%◌, ◌<◌, ◌^◌, ◌==◌, Bool, true, false, List, [], ◌∷◌, ◌++◌, arith}
-use Rattle.std.specs.Prelude.{slice_index, if◌then◌else◌}
+use Rattle.std.proofs.lemmas.Grind.{common_steps}
+use Rattle.std.proofs.Common.{ℕ, zero, suc, ◌%◌, ◌<◌, ◌^◌, List, [], ◌∷◌, ◌++◌, arith}
+use Rattle.std.specs.Prelude.{slice_index}
 use Rattle.std.proofs.Math.Nat.{div-le_self}
 use Rattle.std.proofs.lemmas.Nat.{or_lt, xor_lt, and_le_r}
 use Rattle.sf_insn.specs.declared.input.Input.{Input}
@@ -17,11 +18,7 @@ pub apply-small : (op : BinOp) (a b : ℕ) → a < 2 ^ 32 → b < 2 ^ 32 → app
 apply-small Add a b p q = omega arith
 apply-small Sub a b p q = omega arith
 apply-small Mul a b p q = omega arith
-apply-small Div a b p q = by (b == 0)
-  where
-    by : (t : Bool) → (if t then 0 else a / b) < 2 ^ 32
-    by true = omega arith
-    by false = omega (arith, div-le_self a b)
+apply-small Div a b p q = grind (arith, common_steps, div-le_self)
 apply-small Or a b p q = or_lt 32 a b p q
 apply-small And a b p q = omega (arith, and_le_r a b)
 apply-small Lsh a b p q = omega arith
