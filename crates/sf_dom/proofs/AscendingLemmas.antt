@@ -1,5 +1,5 @@
 -- A number looked for in an ascending list, and put into it.
-use Rattle.sf_dom.proofs.Common.{◌≡◌, ℕ, zero, suc, ◌+◌, ◌-◌, ◌<◌, ◌≤◌, ◌↔◌, ◌⊎◌, List, [], ◌∷◌, ◌++◌, length, get_or, ◌^◌, IsTrue, Bool, arith, refl, sym, ap, ◌∙◌, inl, inr, cases_eq, cases_lt, cases_order, get_or_default, get_or_default_zero, Contains-append_left, Contains-append_right, Contains-append_cases, length-insert, get_or-insert_below, get_or-insert_at, get_or-insert_above, searched, IsNonDecreasingBy-insert, IsNonDecreasingBy-from_default, IsNonDecreasingBy-from_sort, bit_at_or, bit_at-lt, bit_at-pow_other, bit_at-pow_same, same_from_bits, bit_at, insert, IsBinarySearchResult, IsSorted, nat_cmp, Contains, slice_index, MatchOption, Result, Ok, Err, IfOk, bit_or, result_ok, AreAscending, set_of, none-has, Has, common_steps}
+use Rattle.sf_dom.proofs.Common.{◌≡◌, ℕ, zero, suc, ◌+◌, ◌-◌, ◌<◌, ◌≤◌, ◌↔◌, ◌⊎◌, List, [], ◌∷◌, ◌++◌, length, get_or, ◌^◌, IsTrue, Bool, arith, sym, ◌∙◌, inl, inr, cases_eq, cases_lt, get_or_default, get_or_default_zero, Contains-append_left, Contains-append_right, Contains-append_cases, searched, IsNonDecreasingBy-insert, IsNonDecreasingBy-from_default, IsNonDecreasingBy-from_sort, bit_at_or, bit_at-lt, bit_at-pow_other, bit_at-pow_same, same_from_bits, bit_at, insert, IsBinarySearchResult, IsSorted, nat_cmp, Contains, slice_index, MatchOption, Result, Ok, Err, IfOk, bit_or, result_ok, AreAscending, set_of, none-has, Has, common_steps, Contains-permutation, IsPermutation-sym, IsPermutation-insert, Contains-push_cases}
 
 -- a number that isn't at the place where it would stand is nowhere in the list
 absent : (xs : List ℕ) (n at : ℕ) → ((k : ℕ) → k < at → get_or xs k 0 < n)
@@ -40,37 +40,22 @@ inserted-rising xs n at rising found i j le l =
     (λ k d b. let p = place.0 in omega (arith, place.1 k b, get_or_default xs k 0 d (omega arith)))
     (λ k d a b. omega (arith, place.2 k a b, get_or_default xs k 0 d b)) i j 0 le l
 
-pub inserted-numbers : (xs : List ℕ) (n at m : ℕ) → at ≤ length xs → Contains (insert xs at n) m
-    ↔ (Contains xs m ⊎ (m ≡ n))
-inserted-numbers xs n at m le = (there, back)
-  where
-    long : length (insert xs at n) ≡ length xs + 1
-    long = length-insert xs at n le
-
-    there : Contains (insert xs at n) m → Contains xs m ⊎ (m ≡ n)
-    there w = elim (cases_order w.0 at) [
-      | inl e ↦ inr (sym w.2 ∙ ap (λ k. get_or (insert xs at n) k m) e ∙ get_or-insert_at xs at n m le)
-      | inr o ↦ elim o [
-        | inl b ↦ inl (w.0, omega arith, sym (get_or-insert_below xs at n m w.0 b le) ∙ w.2)
-        | inr a ↦
-            let back : w.0 - 1 + 1 ≡ w.0 = omega arith in
-            inl (
-              w.0 - 1,
-              omega (arith, long),
-              sym (get_or-insert_above xs at n m (w.0 - 1) (omega arith) le)
-                  ∙ ap (λ k. get_or (insert xs at n) k m) back ∙ w.2,
-            )
-      ]
-    ]
-
-    back : Contains xs m ⊎ (m ≡ n) → Contains (insert xs at n) m
-    back s = elim s [
-      | inl w ↦ elim (cases_lt w.0 at) [
-        | inl b ↦ (w.0, omega (arith, long, w.1), get_or-insert_below xs at n m w.0 b le ∙ w.2)
-        | inr a ↦ (w.0 + 1, omega (arith, long, w.1), get_or-insert_above xs at n m w.0 a le ∙ w.2)
-      ]
-      | inr e ↦ (at, omega (arith, long), get_or-insert_at xs at n m le ∙ sym e)
-    ]
+pub inserted-numbers : (xs : List ℕ) (n at m : ℕ) → Contains (insert xs at n) m ↔ (Contains xs m ⊎ (m ≡ n))
+inserted-numbers xs n at m =
+    let moved = IsPermutation-insert xs at n in (
+      (λ w. elim (Contains-append_cases (n ∷ []) xs m (Contains-permutation (insert xs at n) (n ∷ xs) m
+          (IsPermutation-sym (n ∷ xs) (insert xs at n) moved) w)) [
+            | inl one ↦ elim (Contains-push_cases [] n m one) [
+              | inl none ↦ absurd (omega (arith, none.1))
+              | inr e ↦ inr (sym e)
+            ]
+            | inr old ↦ inl old
+          ]),
+      (λ s. Contains-permutation (n ∷ xs) (insert xs at n) m moved (elim s [
+        | inl w ↦ Contains-append_right (n ∷ []) xs m w
+        | inr e ↦ (0, omega arith, sym e)
+      ])),
+    )
 
 -- a list that was sorted is ascending
 pub sorted-rising : (xs : List ℕ) → IsSorted nat_cmp xs → AreAscending xs
@@ -135,16 +120,14 @@ among-second xs ys kind b first h = (
 
 -- sets of the same numbers are one
 pub same-set : (a b : ℕ) → ((n : ℕ) → Has a n → Has b n) → ((n : ℕ) → Has b n → Has a n) → a ≡ b
-same-set a b to from = same_from_bits a b (λ n. by n (bit_at a n) (bit_at b n) refl refl)
-  where
-    by : (n x y : ℕ) → bit_at a n ≡ x → bit_at b n ≡ y → x ≡ y
-    by n zero zero p q = refl
-    by n zero (suc y) p q =
-        let less = bit_at-lt b n in
-        let one : bit_at b n ≡ 1 = omega (arith, q) in
-        absurd (omega (arith, p, from n one))
-    by n (suc x) zero p q =
-        let less = bit_at-lt a n in
-        let one : bit_at a n ≡ 1 = omega (arith, p) in
-        absurd (omega (arith, q, to n one))
-    by n (suc x) (suc y) p q = omega (arith, p, q, bit_at-lt a n, bit_at-lt b n)
+same-set a b to from = same_from_bits a b (λ n. elim (cases_eq (bit_at a n) 1) [
+  | inl e ↦ e ∙ sym (to n e)
+  | inr ne ↦ elim (cases_eq (bit_at b n) 1) [
+    | inl e ↦ absurd (ne (from n e))
+    | inr other ↦ omega (arith, bit_at-lt a n, bit_at-lt b n)
+  ]
+])
+
+-- what look-ups are proved by
+pub ruleset lookup_steps =
+    (common_steps, contains-in, in-contains, in-first-at, Contains-append_left, Contains-append_right)

@@ -1,5 +1,5 @@
 -- What facts promise of the inputs that agree, where they learn a condition or take in more of a word.
-use Rattle.sf_dom.proofs.Common.{◌≡◌, ℕ, ◌<◌, ◌^◌, List, length, set, arith, refl, sym, ap, ◌∙◌, inl, inr, cases_eq, get_or-set_same, get_or-set_other, length-set, slice_index, Some, None, Input, IsCondBelow, node_at, value_of, passes-met, value-constant, Cond, Node, Const, Word, Known, Has, Admits, IsNarrower, IsDecided, known_of, known_at, excluded_of, FactsView, AgreesWith, Agrees, Covers, KeepsInputs, KeepsOnly, NoInput, HasIn, ConfinesWord, IsPlainCondition, IsWordOrConst, DecidesTest, narrower-admits, some-such, value-word, decided-admits, closed-consistent, constant-known, assumed_of, with_pair, AreExcludedBy, ConditionGives, LearnsBy, CantLearn, MoreGives, TakesInBy, CantTakeInBy, IsNarrowed, TestGives, Meets, Learns, met, common_steps}
+use Rattle.sf_dom.proofs.Common.{◌≡◌, ℕ, ◌<◌, ◌^◌, List, length, arith, refl, sym, ap, ◌∙◌, inl, inr, cases_eq, get_or-set_same, get_or-set_other, length-set, slice_index, Some, None, Input, IsCondBelow, node_at, value_of, passes-met, value-constant, Cond, Node, Const, Word, Known, Has, Admits, IsNarrower, IsDecided, known_at, excluded_of, FactsView, AgreesWith, Agrees, Covers, KeepsInputs, KeepsOnly, NoInput, HasIn, ConfinesWord, IsPlainCondition, IsWordOrConst, DecidesTest, narrower-admits, some-such, value-word, decided-admits, closed-consistent, constant-known, assumed_of, AreExcludedBy, ConditionGives, LearnsBy, CantLearn, MoreGives, TakesInBy, CantTakeInBy, IsNarrowed, Meets, Learns, met, common_steps, IsPlainTest, ◌⊎◌, ◌≢◌, Equal, false, set, known_of, with_pair}
 use Rattle.sf_dom.proofs.ConditionSteps.{ComesFrom, condition-lawful, condition-rest, condition-from, more-lawful, more-rest, more-known}
 use Rattle.sf_dom.proofs.Covering.{AreResting, covers-resting, resting-closed, covers-closed}
 use Rattle.sf_dom.proofs.Excluding.{excluding-keeps}
@@ -79,33 +79,24 @@ module _ (f : FactsView) (ns : List Node) (cond : Cond) (h : AreResting f.known 
       let left : Admits a x = narrower-admits a (known_at new cond.node.0) x
       (IsNarrower-trans a c.pair.node (known_at new cond.node.0) n.1 (left-known new ex c)) now.admitted in
       let own = (before cond.node.0 lv).admitted in
-      passes-met ns d cond (rw (value, ← number.0)
-      (by_node (node_at ns cond.node.0) refl plain.node now.kept left own dw number.0))
+      passes-met ns d cond (rw (value, ← number.0) (test-exact cond.test cond.sense v w x
+      (closed.each cond.node.0 below.0) (closed.each cond.other.0 below.1) dw
+      (how (node_at ns cond.node.0) refl plain.node now.kept dw number.0) own left))
     where
-      by_node : (n : Node) → node_at ns cond.node.0 ≡ n → IsWordOrConst n
-          → ¬ Has (excluded_of ex n) (value_of ns d cond.node.0)
-          → Admits (assumed_of f.known cond).node (value_of ns d cond.node.0)
-          → Admits (known_at f.known cond.node.0) (value_of ns d cond.node.0)
-          → IsDecided (known_at f.known cond.other.0) → (known_at f.known cond.other.0).low ≡ plain.number
-          → TestGives cond.test (value_of ns d cond.node.0) (known_at f.known cond.other.0).low cond.sense
-      by_node (Word i) e k kept left own dw is =
-          let closed = resting-closed f.known f.excluded ns h in
-          let v : Known = known_at f.known cond.node.0 in
-          let w : Known = known_at f.known cond.other.0 in
-          test-exact cond.test cond.sense v w (value_of ns d cond.node.0) (closed.each cond.node.0 below.0)
-          (closed.each cond.other.0 below.1) dw (inl (
+      how : (n : Node) → node_at ns cond.node.0 ≡ n → IsWordOrConst n
+          → ¬ Has (excluded_of ex n) (value_of ns d cond.node.0) → IsDecided (known_at f.known cond.other.0)
+          → (known_at f.known cond.other.0).low ≡ plain.number
+          → (IsPlainTest cond.test (known_at f.known cond.other.0).low × (cond.test ≡ Equal → cond.sense ≡ false
+          → value_of ns d cond.node.0 ≢ (known_at f.known cond.other.0).low)) ⊎ IsDecided (known_at f.known cond.node.0)
+      how (Word i) e k kept dw is =
+          inl (
             rw is plain.test,
-            (λ et es same. kept (rw same (out.more i w.low (et, es, inl (e, dw, refl))))),
-          )) own left
-      by_node (Const n) e k kept left own dw is =
-          let closed = resting-closed f.known f.excluded ns h in
-          let count = h.count in
-          let v : Known = known_at f.known cond.node.0 in
-          let w : Known = known_at f.known cond.other.0 in
+            (λ et es same. kept (rw same (out.more i (known_at f.known cond.other.0).low (et, es, inl (e, dw, refl))))),
+          )
+      how (Const n) e k kept dw is =
           let number = constant-known f.known f.excluded ns cond.node.0 n (h.rest cond.node.0 below.0) e in
-          test-exact cond.test cond.sense v w (value_of ns d cond.node.0) (closed.each cond.node.0 below.0)
-          (closed.each cond.other.0 below.1) dw (inr (omega (arith, number.0, number.1))) own left
-      by_node n e k kept left own dw is = elim k [ ]
+          inr (omega (arith, number.0, number.1))
+      how n e k kept dw is = elim k [ ]
 
   -- what they know once they learn it by the rules
   pub learns-narrowed : (new : FactsView) → LearnsBy f new ns cond → IsNarrowed f.known new.known new.excluded ns

@@ -1,11 +1,10 @@
 -- That known bits go back from a node is a lawful step.
-use Rattle.sf_dom.proofs.Common.{◌≡◌, ℕ, zero, suc, ◌<◌, ◌^◌, ◌-◌, List, length, set, arith, refl, sym, ◌∙◌, ◌⊎◌, inl, inr, or_lt, and_lt, Option, Some, None, MatchOption, IfSome, bit_and, set-get_or, IsInput, apply, Input, BinOp, Or, And, Xor, IsPool, node_at, value_of, IsSwappable, constant_operand_of, Node, Known, Admits, HasBits, IsNarrower, known_of, AreBitsOf, known_at, AgreesWith, IsClosed, IsClosedAt, AreClosed, with_bits, gained, WritingGives, GoingBackGivesIn, GoingBackGives, IsNarrowed, IsPropagatedBack, HandsOn, common_steps}
+use Rattle.sf_dom.proofs.Common.{◌≡◌, ℕ, zero, suc, ◌<◌, ◌^◌, ◌-◌, List, length, set, arith, refl, sym, ◌∙◌, ◌⊎◌, inl, inr, or_lt, and_lt, Option, Some, None, bit_and, set-get_or, apply, BinOp, Or, And, Xor, IsPool, node_at, value_of, IsSwappable, constant_operand_of, Node, Known, Admits, HasBits, IsNarrower, known_of, AreBitsOf, known_at, IsClosed, IsClosedAt, AreClosed, with_bits, gained, WritingGives, GoingBackGivesIn, GoingBackGives, IsPropagatedBack, HandsOn, common_steps, Then}
 use Rattle.sf_dom.proofs.RuleLaws.{again, four-same}
 use Rattle.sf_dom.proofs.ConstantOperands.{IsOperand, is-operand}
 use Rattle.sf_dom.proofs.Bits.{join-bits, bits-of-or, backward-and, backward-or, backward-xor, bits-of-or_right, or-same}
-use Rattle.sf_dom.proofs.Lawful.{IsLawful, AnyInput, narrowed-refl, narrowed-more, writing-lawful, closed-zeros, closed-ones}
+use Rattle.sf_dom.proofs.Lawful.{IsLawful, AnyInput, narrowed-refl, writing-lawful, closed-zeros, closed-ones, then-lawful}
 use Rattle.sf_dom.proofs.Reductions.{IsNarrower-refl}
-use Rattle.sf_dom.proofs.Then.{then-some, then-if}
 
 -- ---- known bits that go back from a node to its operands
 
@@ -46,10 +45,8 @@ bits-same k z o a b =
     four-same k.low k.high _ _ k.low k.high k.zeros k.ones refl refl (or-same k.zeros z a) (or-same k.ones o b)
 
 pub gained-same : (op : BinOp) (c : ℕ) (node x : Known) → HandsOn op c node x → gained op c node x ≡ x
-gained-same Or c node x h = bits-same x _ _ h.0 h.1
-gained-same And c node x h = bits-same x _ _ h.0 h.1
 gained-same Xor c node x h = bits-same x _ _ h.0 h.1
-gained-same op c node x h = refl
+gained-same op c node x h = grind (arith, common_steps, bits-same)
 
 -- and the other way round
 same-bits : (k : Known) (z o : ℕ) → with_bits k z o ≡ k → AreBitsOf z k.zeros × AreBitsOf o k.ones
@@ -106,34 +103,35 @@ step-lawful ks ex ns at o p h l s is =
     (λ d i t a. gained-admits o.0 o.2 (known_at ks at) (known_at ks o.1) (value_of ns d o.1) s is.fits
     (a o.1 (omega arith)).admitted (rw (is.value d s) at (a at (omega arith)).admitted))
 
-back-narrowed : (n : ℕ) (ks : List Known) (ex : List ℕ) (ns : List Node) (at : ℕ) → IsPool ns → AreClosed ks ns
-    → at < length ns → (r : Option (List Known)) → GoingBackGivesIn n ks ex ns at r
-    → IfSome r (λ next. IsNarrowed ks next ex ns)
-back-narrowed zero ks ex ns at p h l r w = rw w.1 (narrowed-refl ks ex ns h)
-back-narrowed (suc n) ks ex ns at p h l r w =
-    let o = w.0 in let is = is-operand ns at o p l w.1 in let older = is.older in
-    let step = step-lawful ks ex ns at o p h l w.2 is in
-    then-if (WritingGives ks ex o.1 (gained o.0 o.2 (known_at ks at) (known_at ks o.1)))
-    (λ next s. GoingBackGivesIn n next ex ns o.1 s) (λ next. IsNarrowed ks next ex ns)
-    (λ next f s g. let first = step.narrowed (Some next) f in
-    narrowed-more s ks next ex ns h first (back-narrowed n next ex ns o.1 p first.closed (omega arith) s g)) r w.3
-
-back-sound : (n : ℕ) (ks : List Known) (ex : List ℕ) (ns : List Node) (at : ℕ) → IsPool ns → AreClosed ks ns
-    → at < length ns → (d : Input) → IsInput d → AgreesWith ks ex ns d → (r : Option (List Known))
-    → GoingBackGivesIn n ks ex ns at r → MatchOption r ⊥ (λ next. AgreesWith next ex ns d)
-back-sound zero ks ex ns at p h l d i a r w = rw w.1 a
-back-sound (suc n) ks ex ns at p h l d i a r w =
-    let o = w.0 in let is = is-operand ns at o p l w.1 in let older = is.older in
-    let step = step-lawful ks ex ns at o p h l w.2 is in
-    then-some (WritingGives ks ex o.1 (gained o.0 o.2 (known_at ks at) (known_at ks o.1)))
-    (λ next s. GoingBackGivesIn n next ex ns o.1 s) (λ next. AgreesWith next ex ns d) (λ next. AgreesWith next ex ns d)
-    (step.sound d i tt a)
-    (λ next f b s g. back-sound n next ex ns o.1 p (step.narrowed (Some next) f).closed (omega arith) d i b s g) r w.3
+back-in : (n : ℕ) (ks : List Known) (ex : List ℕ) (ns : List Node) (at : ℕ) → IsPool ns → AreClosed ks ns
+    → at < length ns → IsLawful AnyInput ks ex ns (GoingBackGivesIn n ks ex ns at)
+back-in zero ks ex ns at p h l =
+    record { narrowed = λ r w. rw w.1 (narrowed-refl ks ex ns h); sound = λ d i t a r w. rw w.1 a }
+back-in (suc n) ks ex ns at p h l =
+    let step = on (λ next k i b. back-in n next ex ns i p k b) in
+    record {
+      narrowed = λ r w. (step w.0 w.1 w.2).narrowed r w.3;
+      sound = λ d i t a r w. (step w.0 w.1 w.2).sound d i t a r w.3;
+    }
+  where
+    on : ((next : List Known) → AreClosed next ns → (i : ℕ) → i < length ns
+        → IsLawful AnyInput next ex ns (GoingBackGivesIn n next ex ns i)) → (o : BinOp × ℕ × ℕ)
+        → constant_operand_of ns (node_at ns at) ≡ Some o → IsSwappable o.0 → IsLawful AnyInput ks ex ns
+        (Then (WritingGives ks ex o.1 (gained o.0 o.2 (known_at ks at) (known_at ks o.1)))
+        (λ next s. GoingBackGivesIn n next ex ns o.1 s))
+    on more o e s =
+        let is = is-operand ns at o p l e in let older = is.older in
+        then-lawful AnyInput ks ex ns (WritingGives ks ex o.1 (gained o.0 o.2 (known_at ks at) (known_at ks o.1)))
+        (λ next s. GoingBackGivesIn n next ex ns o.1 s) h (step-lawful ks ex ns at o p h l s is)
+        (λ next k. more next k o.1 (omega arith))
 
 -- that known bits go back from a node is a lawful step
 pub back-lawful : (ks : List Known) (ex : List ℕ) (ns : List Node) (at : ℕ) → IsPool ns → AreClosed ks ns
     → at < length ns → IsLawful AnyInput ks ex ns (GoingBackGives ks ex ns at)
-back-lawful ks ex ns at p h l = grind (arith, common_steps, back-narrowed, back-sound)
+back-lawful ks ex ns at p h l = record {
+  narrowed = λ r w. (back-in w.0 ks ex ns at p h l).narrowed r w.1;
+  sound = λ d i t a r w. (back-in w.0 ks ex ns at p h l).sound d i t a r w.1;
+}
 
 some-or-none : (o : Option (BinOp × ℕ × ℕ)) → (o ≡ None) ⊎ ((p : BinOp × ℕ × ℕ) × (o ≡ Some p))
 some-or-none None = inl refl

@@ -1,18 +1,6 @@
-use Rattle.sf_dom.proofs.Common.{common_steps, ◌≡◌, ℕ, ◌<◌, ◌≤◌, ◌^◌, ◌-◌, ◌+◌, ◌*◌, ◌/◌, ◌%◌, min, max, arith, sym, ap, ◌∙◌, inl, inr, cases_lt, bit_and, bit_or, bit_xor, bit_at, shr_split, shr-shr, and_le_l, or_disjoint, or_lt, pow_pos, xor_shr, le-div, bit_at_and, bit_at_or, bit_at_xor, bit_at-lt, same_from_bits, bit_at_above, bit_at_cat_low, bit_at_cat_high, bit_at-zero, bit_at_mask_below, bit_at_ones_above, div-eq_of_lt, div-mul-le_self, HasBits, AreBitsOf, bit_at-complement}
+use Rattle.sf_dom.proofs.Common.{common_steps, ◌≡◌, ℕ, ◌<◌, ◌≤◌, ◌^◌, ◌-◌, ◌+◌, ◌*◌, ◌/◌, ◌%◌, arith, sym, ap, ◌∙◌, inl, inr, cases_lt, bit_and, bit_or, bit_xor, bit_at, shr_split, shr-shr, and_le_l, or_disjoint, or_lt, pow_pos, xor_shr, le-div, bit_at_and, bit_at_or, bit_at_xor, bit_at-lt, same_from_bits, bit_at_above, bit_at_cat_low, bit_at_cat_high, bit_at-zero, bit_at_mask_below, bit_at_ones_above, div-eq_of_lt, div-mul-le_self, HasBits, AreBitsOf, bit_at-complement, min, max}
 
--- one bit of each transfer function, by the numbers 0 and 1
-and_zero : (a b za zb : ℕ) → za + a ≤ 1 → zb + b ≤ 1 → max za zb + min a b ≤ 1
-and_zero a b za zb h k = omega arith
-
-and_one : (a b oa ob : ℕ) → oa ≤ a → ob ≤ b → min oa ob ≤ min a b
-and_one a b oa ob h k = omega arith
-
-or_zero : (a b za zb : ℕ) → a < 2 → b < 2 → za + a ≤ 1 → zb + b ≤ 1 → min za zb + max a b ≤ 1
-or_zero a b za zb la lb h k = omega arith
-
-or_one : (a b oa ob : ℕ) → oa ≤ a → ob ≤ b → max oa ob ≤ max a b
-or_one a b oa ob h k = omega arith
-
+-- one bit of a XOR, by the numbers 0 and 1
 xor_zero : (a b za oa zb ob : ℕ) → a < 2 → b < 2 → za + a ≤ 1 → oa ≤ a → zb + b ≤ 1 → ob ≤ b
     → max (min za zb) (min oa ob) + (a + b) % 2 ≤ 1
 xor_zero a b za oa zb ob la lb h k l m = omega arith
@@ -20,24 +8,6 @@ xor_zero a b za oa zb ob la lb h k l m = omega arith
 xor_one : (a b za oa zb ob : ℕ) → a < 2 → b < 2 → za + a ≤ 1 → oa ≤ a → zb + b ≤ 1 → ob ≤ b
     → max (min za ob) (min oa zb) ≤ (a + b) % 2
 xor_one a b za oa zb ob la lb h k l m = omega arith
-
-join_zero : (n z y : ℕ) → z + n ≤ 1 → y + n ≤ 1 → max z y + n ≤ 1
-join_zero n z y h k = omega arith
-
-join_one : (n o p : ℕ) → o ≤ n → p ≤ n → max o p ≤ n
-join_one n o p h k = omega arith
-
-back_and_zero : (x c z : ℕ) → x < 2 → c < 2 → z + min x c ≤ 1 → min z c + x ≤ 1
-back_and_zero x c z lx lc h = omega arith
-
-back_and_one : (x c o : ℕ) → o ≤ min x c → o ≤ x
-back_and_one x c o h = omega arith
-
-back_or_zero : (x c z : ℕ) → z + max x c ≤ 1 → z + x ≤ 1
-back_or_zero x c z h = omega arith
-
-back_or_one : (x c k o : ℕ) → k + c ≤ 1 → o ≤ max x c → min o k ≤ x
-back_or_one x c k o l h = omega arith
 
 back_xor_zero : (x c k z o : ℕ) → x < 2 → c < 2 → k + c ≤ 1 → z + (x + c) % 2 ≤ 1 → o ≤ (x + c) % 2
     → max (min z k) (min o c) + x ≤ 1
@@ -50,11 +20,11 @@ back_xor_one x c k z o lx lc l h m = omega arith
 -- both operands' known bits
 pub and-bits : (a b za oa zb ob : ℕ) → HasBits a za oa → HasBits b zb ob
     → HasBits (bit_and a b) (bit_or za zb) (bit_and oa ob)
-and-bits a b za oa zb ob ha hb = grind (arith, common_steps, bit_at_and, bit_at_or, and_zero, and_one)
+and-bits a b za oa zb ob ha hb = grind (arith, common_steps, bit_at_and, bit_at_or)
 
 pub or-bits : (a b za oa zb ob : ℕ) → HasBits a za oa → HasBits b zb ob
     → HasBits (bit_or a b) (bit_and za zb) (bit_or oa ob)
-or-bits a b za oa zb ob ha hb = search (arith, bit_at_or, bit_at_and, or_zero, bit_at-lt, or_one)
+or-bits a b za oa zb ob ha hb = grind (arith, common_steps, bit_at_and, bit_at_or, bit_at-lt)
 
 pub xor-bits : (a b za oa zb ob : ℕ) → HasBits a za oa → HasBits b zb ob
     → HasBits (bit_xor a b) (bit_or (bit_and za zb) (bit_and oa ob)) (bit_or (bit_and za ob) (bit_and oa zb))
@@ -62,15 +32,14 @@ xor-bits a b za oa zb ob ha hb = search (arith, bit_at_xor, bit_at_or, bit_at_an
 
 -- known bits of both kinds of knowledge
 pub join-bits : (n z o y p : ℕ) → HasBits n z o → HasBits n y p → HasBits n (bit_or z y) (bit_or o p)
-join-bits n z o y p h k = grind (arith, common_steps, bit_at_or, join_zero, join_one)
+join-bits n z o y p h k = grind (arith, common_steps, bit_at_or)
 
 -- back through an operation with a constant
 pub backward-and : (x c z o : ℕ) → HasBits (bit_and x c) z o → HasBits x (bit_and z c) o
-backward-and x c z o h = grind (arith, common_steps, bit_at_and, back_and_zero, bit_at-lt, back_and_one)
+backward-and x c z o h = grind (arith, common_steps, bit_at_and, bit_at-lt)
 
 pub backward-or : (x c z o : ℕ) → c < 2 ^ 32 → HasBits (bit_or x c) z o → HasBits x z (bit_and o (4294967295 - c))
-backward-or x c z o l h =
-    grind (arith, common_steps, back_or_zero, bit_at_or, bit_at_and, back_or_one, bit_at-complement)
+backward-or x c z o l h = grind (arith, common_steps, bit_at_or, bit_at_and, bit_at-complement)
 
 pub backward-xor : (x c z o : ℕ) → c < 2 ^ 32 → HasBits (bit_xor x c) z o
     → HasBits x (bit_or (bit_and z (4294967295 - c)) (bit_and o c)) (bit_or (bit_and o (4294967295 - c)) (bit_and z c))
@@ -143,17 +112,13 @@ pub shr-bits : (a za oa s : ℕ) → s < 32 → a < 2 ^ 32 → HasBits a za oa
 shr-bits a za oa s ls la h = record {
   zero = λ i. rw (bit_at-shr a s i, bit_at_or (za / 2 ^ s) (2 ^ 32 - 2 ^ (32 - s)) i, bit_at-shr za s i)
       (elim (cases_lt i (32 - s)) [
-        | inl l ↦ rw (bit_at_mask_below (32 - s) 32 i l) (max_zero _ _ (h.zero (s + i)))
-        | inr l ↦ rw (bit_at_above a 32 (s + i) la (omega arith)) (two_bits _ _ (bit_at-lt za (s + i)) (bit_at-lt _ i))
+        | inl l ↦ omega (arith, bit_at_mask_below (32 - s) 32 i l, h.zero (s + i))
+        | inr l ↦
+            let z = bit_at-lt za (s + i) in let m = bit_at-lt (2 ^ 32 - 2 ^ (32 - s)) i in
+            omega (arith, bit_at_above a 32 (s + i) la (omega arith))
       ]);
   one = λ i. rw (bit_at-shr a s i, bit_at-shr oa s i) (h.one (s + i));
 }
-  where
-    max_zero : (z n : ℕ) → z + n ≤ 1 → max z 0 + n ≤ 1
-    max_zero z n l = omega arith
-
-    two_bits : (b c : ℕ) → b < 2 → c < 2 → max b c + 0 ≤ 1
-    two_bits b c l m = omega arith
 
 -- two numbers that differ only below bit k
 pub same_quotient : (a b k : ℕ) → bit_xor a b < 2 ^ k → a / 2 ^ k ≡ b / 2 ^ k

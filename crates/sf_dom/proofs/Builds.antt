@@ -1,5 +1,5 @@
 -- Facts of conditions, which are learnt one after the other.
-use Rattle.sf_dom.proofs.Common.{◌≡◌, ℕ, ◌+◌, ◌<◌, List, [], ◌∷◌, ◌++◌, length, get_or, take, drop, zero, suc, arith, refl, sym, ap, subst, take_more, All-nil, All-cons, All-head, All-tail, All-contains, Contains-append_right, All, IsInput, Input, IsPool, IsCondBelow, Cond, Node, FactsView, Covers, Agrees, IsPlainCondition, some-input, StartsBy, LearnsBy, CantLearn, LearnAll, AreBuiltBy, CantBeBuilt, Meets, AllMet, AreFactsOf, common_steps}
+use Rattle.sf_dom.proofs.Common.{ℕ, ◌+◌, ◌<◌, List, [], ◌∷◌, ◌++◌, length, get_or, take, drop, arith, refl, sym, ap, subst, take_more, All-nil, All-cons, All-head, All-tail, All-contains, Contains-append_right, All, IsInput, Input, IsPool, IsCondBelow, Cond, Node, FactsView, Covers, Agrees, IsPlainCondition, some-input, StartsBy, LearnsBy, CantLearn, LearnAll, AreBuiltBy, CantBeBuilt, Meets, AllMet, AreFactsOf, common_steps, ◌∙◌, take-append-drop, drop_more}
 use Rattle.sf_dom.proofs.Assumed.{learns-rest, learns-keeps, learns-only, cant-learn}
 use Rattle.sf_dom.proofs.Covering.{AreResting}
 use Rattle.sf_dom.proofs.NewNodes.{taken-rest}
@@ -17,13 +17,6 @@ pub built-more : (xs : List Cond) (i : ℕ) (d : Cond) (c e : FactsView) (ns : L
 built-more xs i d c e ns l h k =
     rw (take_more xs i d l) (h.0, h.1, learn-more h.0 c e ns (take i xs) (get_or xs i d) h.2 k)
 
--- the conditions before a place, that at the place, and those after it
-at-place : (xs : List Cond) (i : ℕ) (d : Cond) → i < length xs → xs ≡ take i xs ++ get_or xs i d ∷ drop (i + 1) xs
-at-place [] i d l = absurd (omega arith)
-at-place (x ∷ xs) zero d l = refl
-at-place (x ∷ xs) (suc i) d l =
-    let e : suc i + 1 ≡ suc (i + 1) = omega arith in rw e (ap (λ ys. x ∷ ys) (at-place xs i d (omega arith)))
-
 -- where a condition can't be learnt after those before it, there are no facts of all
 pub none-built : (xs : List Cond) (i : ℕ) (d : Cond) (f : FactsView) (ns : List Node) → i < length xs
     → AreBuiltBy f ns (take i xs) → CantLearn f ns (get_or xs i d) → CantBeBuilt ns xs
@@ -31,7 +24,7 @@ none-built xs i d f ns l h none = record {
   earlier = take i xs;
   cond = get_or xs i d;
   later = drop (i + 1) xs;
-  all = at-place xs i d l;
+  all = sym (take-append-drop i xs) ∙ ap (λ ys. take i xs ++ ys) (drop_more xs i d l);
   before = f;
   built = h;
   none = none;
@@ -45,49 +38,44 @@ first-rests f ns p h = grind (arith, common_steps, taken-rest)
 first-agrees : (f : FactsView) (ns : List Node) → IsPool ns → StartsBy f ns → (d : Input) → IsInput d → Agrees f ns d
 first-agrees f ns p h d i = first-sound f.excluded ns p h.excluded f.variables f.known h.known d i
 
--- Facts that learn conditions one after the other.
-module _ (ns : List Node) where
-  all-rest : (f g : FactsView) (conds : List Cond) → AreResting f.known f.excluded ns
-      → All (IsCondBelow (length ns)) conds → LearnAll f g ns conds → AreResting g.known g.excluded ns
-  all-rest f g [] h below e = subst (λ (k : FactsView). AreResting k.known k.excluded ns) e h
-  all-rest f g (c ∷ cs) h below k =
-      all-rest k.0 g cs (learns-rest f ns c h (All-head (IsCondBelow (length ns)) c cs below) k.0 k.1)
-      (All-tail (IsCondBelow (length ns)) c cs below) k.2
+-- Facts that have learnt conditions: nothing more follows. An input that agreed and meets them all agrees; where all
+-- are plain, no other input does.
+record HaveLearnt (f g : FactsView) (ns : List Node) (conds : List Cond) : Type 0 where
+  rest : AreResting g.known g.excluded ns
+  keep : (d : Input) → IsInput d → AllMet ns conds d → Agrees f ns d → Agrees g ns d
+  only : All (IsPlainCondition ns) conds → (d : Input) → IsInput d → Agrees g ns d → Agrees f ns d × AllMet ns conds d
 
-  -- an input that agreed and meets them all agrees at the end
-  all-keep : (f g : FactsView) (conds : List Cond) → AreResting f.known f.excluded ns
-      → All (IsCondBelow (length ns)) conds → LearnAll f g ns conds → (d : Input) → IsInput d → AllMet ns conds d
-      → Agrees f ns d → Agrees g ns d
-  all-keep f g [] h below e d i m a = subst (λ (k : FactsView). Agrees k ns d) e a
-  all-keep f g (c ∷ cs) h below k d i m a =
-      let first = All-head (IsCondBelow (length ns)) c cs below in
-      let met : (x : Cond) → Type 0 = λ x. Meets ns x d in
-      all-keep k.0 g cs (learns-rest f ns c h first k.0 k.1) (All-tail (IsCondBelow (length ns)) c cs below) k.2 d i
-      (All-tail met c cs m) (learns-keeps f ns c h first k.0 k.1 d i a (All-head met c cs m))
-
-  -- where all are plain, an input that agrees at the end meets them all
-  all-only : (f g : FactsView) (conds : List Cond) → AreResting f.known f.excluded ns
-      → All (IsCondBelow (length ns)) conds → LearnAll f g ns conds → All (IsPlainCondition ns) conds → (d : Input)
-      → IsInput d → Agrees g ns d → Agrees f ns d × AllMet ns conds d
-  all-only f g [] h below e plain d i a =
-      (subst (λ (k : FactsView). Agrees k ns d) (sym e) a, All-nil (λ (x : Cond). Meets ns x d))
-  all-only f g (c ∷ cs) h below k plain d i a =
-      let first = All-head (IsCondBelow (length ns)) c cs below in
-      let later = all-only k.0 g cs (learns-rest f ns c h first k.0 k.1) (All-tail (IsCondBelow (length ns)) c cs below)
-      k.2 (All-tail (IsPlainCondition ns) c cs plain) d i a in
-      let one = learns-only f ns c h first k.0 k.1 (All-head (IsPlainCondition ns) c cs plain) d i later.0 in
-      (one.0, All-cons (λ (x : Cond). Meets ns x d) c cs one.1 later.1)
+have-learnt : (f g : FactsView) (ns : List Node) (conds : List Cond) → AreResting f.known f.excluded ns
+    → All (IsCondBelow (length ns)) conds → LearnAll f g ns conds → HaveLearnt f g ns conds
+have-learnt f g ns [] h below e = subst (λ (k : FactsView). HaveLearnt f k ns []) e (record {
+  rest = h;
+  keep = λ d i m a. a;
+  only = λ plain d i a. (a, All-nil (λ (x : Cond). Meets ns x d));
+})
+have-learnt f g ns (c ∷ cs) h below k =
+    let first = All-head (IsCondBelow (length ns)) c cs below in
+    let later = have-learnt k.0 g ns cs (learns-rest f ns c h first k.0 k.1)
+    (All-tail (IsCondBelow (length ns)) c cs below) k.2 in
+    record {
+      rest = later.rest;
+      keep = λ d i m a. later.keep d i (All-tail (λ (x : Cond). Meets ns x d) c cs m)
+          (learns-keeps f ns c h first k.0 k.1 d i a (All-head (λ (x : Cond). Meets ns x d) c cs m));
+      only = λ plain d i a.
+          let before = later.only (All-tail (IsPlainCondition ns) c cs plain) d i a in
+          let one = learns-only f ns c h first k.0 k.1 (All-head (IsPlainCondition ns) c cs plain) d i before.0 in
+          (one.0, All-cons (λ (x : Cond). Meets ns x d) c cs one.1 before.1);
+    }
 
 -- what facts of conditions promise
 pub built-facts : (f : FactsView) (ns : List Node) (conds : List Cond) → Covers f ns
     → All (IsCondBelow (length ns)) conds → AreBuiltBy f ns conds → AreFactsOf f ns conds
 built-facts f ns conds covers below h =
-    let rests = first-rests h.0 ns covers.pool h.1 in
+    let learnt = have-learnt h.0 f ns conds (first-rests h.0 ns covers.pool h.1) below h.2 in
     let only : All (IsPlainCondition ns) conds → (d : Input) → IsInput d → Agrees f ns d → AllMet ns conds d
-    = λ plain d i a. (all-only ns h.0 f conds rests below h.2 plain d i a).1 in
+    = λ plain d i a. (learnt.only plain d i a).1 in
     record {
       covers = covers;
-      keeps = λ d i m. all-keep ns h.0 f conds rests below h.2 d i m (first-agrees h.0 ns covers.pool h.1 d i);
+      keeps = λ d i m. learnt.keep d i m (first-agrees h.0 ns covers.pool h.1 d i);
       only = only;
       some = λ plain nodes. let s = some-input f ns covers nodes in (s.0, s.1, only plain s.0 s.1 s.2);
     }
@@ -98,11 +86,11 @@ pub none-meets-all : (ns : List Node) (conds : List Cond) → IsPool ns → All 
 none-meets-all ns conds p below h d i m =
     let met : (x : Cond) → Type 0 = λ x. Meets ns x d in
     let first = h.built.0 in let all = rw h.all at below in let meets = rw h.all at m in
-    let rests = first-rests first ns p h.built.1 in
-    let early = before (IsCondBelow (length ns)) h.earlier (h.cond ∷ h.later) all in
-    cant-learn h.before ns h.cond (all-rest ns first h.before h.earlier rests early h.built.2)
-    (here (IsCondBelow (length ns)) all) h.none d i (all-keep ns first h.before h.earlier rests early h.built.2 d i
-    (before met h.earlier (h.cond ∷ h.later) meets) (first-agrees first ns p h.built.1 d i)) (here met meets)
+    let learnt = have-learnt first h.before ns h.earlier (first-rests first ns p h.built.1)
+    (before (IsCondBelow (length ns)) h.earlier (h.cond ∷ h.later) all) h.built.2 in
+    cant-learn h.before ns h.cond learnt.rest (here (IsCondBelow (length ns)) all) h.none d i
+    (learnt.keep d i (before met h.earlier (h.cond ∷ h.later) meets) (first-agrees first ns p h.built.1 d i))
+    (here met meets)
   where
     before : (P : Cond → Type 0) (xs ys : List Cond) → All P (xs ++ ys) → All P xs
     before P [] ys a = All-nil P

@@ -111,15 +111,13 @@ closed-leading r z o mask ord fits apart lo hi m ez eo = record {
   apart = apart;
   low = lo;
   high = hi;
-  leading = λ i l e. both _ _ _ _ _ _ _ (ap (λ b. bit_at b i) ez ∙ bit_at_or z (bit_and (4294967295 - r.low) mask) i
-      ∙ ap (max (bit_at z i)) (bit_at_and (4294967295 - r.low) mask i))
-      (ap (λ b. bit_at b i) eo ∙ bit_at_or o (bit_and r.low mask) i ∙ ap (max (bit_at o i)) (bit_at_and r.low mask i))
-      (m.all i l e) (bit_at_not w32 r.low i (omega arith) l) (apart i) (bit_at-lt r.low i);
+  leading = λ i l e.
+      let zeros = ap (λ b. bit_at b i) ez ∙ bit_at_or z (bit_and (4294967295 - r.low) mask) i in
+      let ones = ap (λ b. bit_at b i) eo ∙ bit_at_or o (bit_and r.low mask) i in
+      let none = bit_at_and (4294967295 - r.low) mask i in let some = bit_at_and r.low mask i in
+      let marked = m.all i l e in let other = bit_at_not w32 r.low i (omega arith) l in let one = apart i in
+      let bit = bit_at-lt r.low i in (omega arith, omega arith);
 }
-  where
-    both : (y p z o n l m : ℕ) → y ≡ max z (min n m) → p ≡ max o (min l m) → m ≡ 1 → n ≡ 1 - l → y + p ≤ 1 → l < 2
-        → (y ≡ 1 - l) × (p ≡ l)
-    both y p z o n l m ey ep em en a b = (omega arith, omega arith)
 
 -- a round that changes nothing is the last
 pub round-last : (k r : Known) (mask : ℕ) → r.low ≡ max k.low k.ones → r.high ≡ min k.high (4294967295 - k.zeros)

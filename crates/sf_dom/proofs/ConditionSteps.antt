@@ -1,7 +1,7 @@
 -- To take a condition into what is known is a lawful step, and so is to take in more of a node.
-use Rattle.sf_dom.proofs.Common.{◌≡◌, ℕ, ◌<◌, ◌^◌, List, length, set, arith, refl, sym, inl, inr, ◌≢◌, get_or-set_same, set-get_or, get_or-set_other, length-set, or_lt, Option, Some, None, MatchOption, IfSome, Bool, true, false, MatchBool, cases_eq, IsInput, Input, IsPool, IsCondBelow, value_of, met-passes, word-place, Cond, Node, Known, Pair, Admits, IsNarrower, known_of, known_at, AgreesWith, IsNarrowed, AllNarrower, Meets, AreClosedWords, IsPropagatedBack, met, IsClosedAt, IsReduction, ReductionGives, Then, PassGives, IsAtRest, AreClosed, WritingGives, GoingBackGives, assumed_of, PairGives, with_pair, ConditionGives, MoreGives, Excludes, AreExcludedBy, common_steps}
+use Rattle.sf_dom.proofs.Common.{◌≡◌, ℕ, ◌<◌, ◌^◌, List, length, set, arith, refl, sym, inl, inr, ◌≢◌, get_or-set_same, set-get_or, get_or-set_other, length-set, or_lt, Option, Some, None, MatchOption, IfSome, Bool, true, false, MatchBool, cases_eq, IsInput, Input, IsPool, IsCondBelow, value_of, met-passes, word-place, Cond, Node, Known, Pair, Admits, IsNarrower, known_of, known_at, AgreesWith, IsNarrowed, AllNarrower, Meets, AreClosedWords, IsPropagatedBack, met, IsClosedAt, IsReduction, ReductionGives, Then, PassGives, IsAtRest, AreClosed, WritingGives, GoingBackGives, assumed_of, PairGives, with_pair, ConditionGives, MoreGives, Excludes, AreExcludedBy, common_steps, bit_at_or, IfSome_then, value-small}
 use Rattle.sf_dom.proofs.BackLaws.{back-lawful, back-still}
-use Rattle.sf_dom.proofs.Lawful.{IsLawful, AnyInput, narrowed-left, narrowed-more, narrowed-trans, agrees-set, kept-at, met-admits, closed-zeros, reduction-holds, value-fits, writing-lawful, then-lawful}
+use Rattle.sf_dom.proofs.Lawful.{IsLawful, AnyInput, narrowed-left, narrowed-trans, agrees-set, kept-at, met-admits, closed-zeros, reduction-holds, writing-lawful, then-lawful}
 use Rattle.sf_dom.proofs.PassLaws.{pass-lawful, pass-rest}
 use Rattle.sf_dom.proofs.Passes.{met-left, met-right, rest-pass, closed-kept, met-below}
 use Rattle.sf_dom.proofs.Reductions.{IsNarrower-trans}
@@ -27,20 +27,7 @@ module _ (ks : List Known) (cond : Cond) (node told more : Known) (l : cond.node
     (one : cond.node.0 ≡ cond.other.0 → told ≡ met more node) where
   told-to : (s : Known) → IsNarrower (met (known_at ks cond.other.0) told) s
       → IsNarrower (met (known_at (set ks cond.node.0 node) cond.other.0) more) s
-  told-to s h =
-      let none : Known = known_of 0 0 0 0 in
-      let old : Known = known_at ks cond.other.0 in
-      let a : IsNarrower old s = IsNarrower-trans old (met old told) s (met-left old told) h in
-      let b : IsNarrower told s = IsNarrower-trans told (met old told) s (met-right old told) h in
-      elim (cases_eq cond.other.0 cond.node.0) [
-        | inl e ↦
-            let both : IsNarrower (met more node) s = rw (one (sym e)) at b in
-            rw (e, get_or-set_same ks cond.node.0 node none l)
-            (met-below node more s (IsNarrower-trans node (met more node) s (met-right more node) both)
-            (IsNarrower-trans more (met more node) s (met-left more node) both))
-        | inr ne ↦ rw (get_or-set_other ks cond.node.0 cond.other.0 node none ne)
-            (met-below old more s a (rw (apart (λ e. ne (sym e))) at b))
-      ]
+  told-to s h = grind (arith, common_steps, cases_eq, get_or-set_same, get_or-set_other, bit_at_or)
 
   told-from : (s : Known) → IsNarrower (met (known_at (set ks cond.node.0 node) cond.other.0) more) s
       → IsNarrower (met (known_at ks cond.other.0) told) s
@@ -119,7 +106,7 @@ pair-sound ks ex ns cond p h below d i m a =
     let first : Known = met v (assumed_of ks cond).node in
     then-some (ReductionGives ex cond.node.0 first) _ (λ node. Admits node x)
     (λ pair. AgreesWith (with_pair ks cond pair) ex ns d)
-    (λ o g. reduction-holds o ex cond.node.0 x first (value-fits ks ex ns d cond.node.0 h iv a)
+    (λ o g. reduction-holds o ex cond.node.0 x first (value-small ns d cond.node.0 p i)
     (or_lt 32 v.zeros (assumed_of ks cond).node.zeros (closed-zeros v cv) z.0)
     (λ b. kept-at ks ex ns d cond.node.0 p lv a b) (met-admits v (assumed_of ks cond).node x hx t.0) g) (λ node g k.
     let ks' : List Known = set ks cond.node.0 node in
@@ -130,7 +117,7 @@ pair-sound ks ex ns cond p h below d i m a =
     let second : Known = met w' (assumed_of ks cond).other in
     then-some (ReductionGives ex cond.other.0 second) _ (λ other. Admits other y)
     (λ pair. AgreesWith (with_pair ks cond pair) ex ns d)
-    (λ o f. reduction-holds o ex cond.other.0 y second (value-fits ks ex ns d cond.other.0 h iw a)
+    (λ o f. reduction-holds o ex cond.other.0 y second (value-small ns d cond.other.0 p i)
     (or_lt 32 w'.zeros (assumed_of ks cond).other.zeros (closed-zeros w' (h'.each cond.other.0 iw)) z.1)
     (λ b. kept-at ks' ex ns d cond.other.0 p lw a' b)
     (met-admits w' (assumed_of ks cond).other y (a' cond.other.0 lw).admitted t.1) f)
@@ -160,7 +147,8 @@ condition-lawful ks ex ns cond p h below =
     (rest pair) = λ pair g. after-pair (with_pair ks cond pair) ex ns cond p (narrowed pair g).closed below in
     record {
       narrowed = then-if (PairGives ks ex cond) rest (λ next. IsNarrowed ks next ex ns) (λ pair g r f.
-          narrowed-more r ks (with_pair ks cond pair) ex ns h (narrowed pair g) ((lawful pair g).narrowed r f));
+          IfSome_then r ((lawful pair g).narrowed r f)
+          (λ next. narrowed-trans ks (with_pair ks cond pair) next ex ns h (narrowed pair g)));
       sound = λ d i m a. then-some (PairGives ks ex cond) rest (λ pair. AgreesWith (with_pair ks cond pair) ex ns d)
           (λ next. AgreesWith next ex ns d) (pair-sound ks ex ns cond p h below d i m a)
           (λ pair g b r f. (lawful pair g).sound d i tt b r f);
@@ -182,14 +170,9 @@ pub condition-from : (ks : List Known) (ex : List ℕ) (ns : List Node) (cond : 
     → IfSome r (λ new. ComesFrom ks new ex cond)
 condition-from ks ex ns cond p h below =
     then-if (PairGives ks ex cond) _ (λ new. ComesFrom ks new ex cond) (λ pair g r f.
-    comes r pair g ((after-pair (with_pair ks cond pair) ex ns cond p
-    (pair-narrowed ks ex ns cond h below pair g).closed below).narrowed r f))
-  where
-    comes : (r : Option (List Known)) (pair : Pair) → PairGives ks ex cond (Some pair)
-        → IfSome r (λ new. IsNarrowed (with_pair ks cond pair) new ex ns) → IfSome r (λ new. ComesFrom ks new ex cond)
-    comes None pair g n = tt
-    comes (Some new) pair g n =
-        record { pair = pair; left = pair-left ks ex cond (Some pair) g; narrower = n.narrower }
+    IfSome_then r ((after-pair (with_pair ks cond pair) ex ns cond p
+    (pair-narrowed ks ex ns cond h below pair g).closed below).narrowed r f)
+    (λ new n. record { pair = pair; left = pair-left ks ex cond (Some pair) g; narrower = n.narrower }))
 
 -- to take in more of a node is a lawful step for the inputs on which it has such a number
 pub more-lawful : (ks : List Known) (ex : List ℕ) (ns : List Node) (i : ℕ) (more : Known) → IsPool ns
@@ -261,13 +244,9 @@ more-known ks ex ns i more p h l =
       rw (get_or-set_same ks i left (known_of 0 0 0 0) here) (IsNarrower-trans more (met own more) left
           (met-right own more) k.narrower),
     )) (Some next) g in
-    on r next written ((pass-lawful next ex ns p written.0.closed).narrowed r f))
-  where
-    on : (r : Option (List Known)) (next : List Known) → IsNarrowed ks next ex ns × IsNarrower more (known_at next i)
-        → IfSome r (λ new. IsNarrowed next new ex ns) → IfSome r (λ new. IsNarrower more (known_at new i))
-    on None next w n = tt
-    on (Some new) next w n =
-        IsNarrower-trans more (known_at next i) (known_at new i) w.1 (n.narrower i (omega arith))
+    let count = written.0.closed.count in
+    IfSome_then r ((pass-lawful next ex ns p written.0.closed).narrowed r f)
+    (λ new n. IsNarrower-trans more (known_at next i) (known_at new i) written.1 (n.narrower i (omega arith))))
 
 -- ---- nothing more follows for any word once what a condition leaves of its two nodes is written
 

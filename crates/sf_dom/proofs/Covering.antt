@@ -1,10 +1,9 @@
 -- Facts of which nothing more follows cover their pool: constants are known, and so are operations on decided operands.
-use Rattle.sf_dom.proofs.Common.{◌≡◌, ℕ, ◌<◌, ◌≤◌, ◌^◌, ◌+◌, ◌-◌, List, length, arith, ◌⊎◌, inl, inr, cases_lt, Some, BinOp, Add, Sub, Or, And, Xor, IsPool, OperandsBelow, node_at, Node, Bin, Neg, Known, IsNarrower, IsDecided, known_of, FactsView, known_at, Covers, IsAtRest, AreClosed, forward_known, forward_negated, forward_node, IsClosed, IsPropagatedBack, GoingBackGives, KeepsDecided, AreDecidedOperands, closed-consistent, common_steps}
+use Rattle.sf_dom.proofs.Common.{◌≡◌, ℕ, ◌<◌, ◌≤◌, ◌^◌, ◌+◌, ◌-◌, List, length, arith, ◌⊎◌, inl, inr, Some, BinOp, Add, Sub, Or, And, Xor, IsPool, OperandsBelow, node_at, Node, Bin, Neg, Known, IsNarrower, IsDecided, known_of, FactsView, known_at, Covers, IsAtRest, AreClosed, forward_known, forward_negated, forward_node, IsClosed, IsPropagatedBack, GoingBackGives, KeepsDecided, AreDecidedOperands, closed-consistent, nat_tests}
 use Rattle.sf_dom.proofs.BackLaws.{back-still}
 use Rattle.sf_dom.proofs.Bits.{bits-le}
 use Rattle.sf_dom.proofs.forward.ForwardLemmas.{or-forced, and-forced, xor-forced}
 use Rattle.sf_dom.proofs.Passes.{operands-below, one-number}
-use Rattle.sf_dom.proofs.RuleLemmas.{add-sure, sub-sure, negate-some, negate-zero}
 
 -- once it is closed, it has only one number
 abbrev IsForced : Known → Type 0
@@ -14,11 +13,11 @@ IsForced k = (k.high ≤ k.low) ⊎ (4294967295 ≤ k.zeros + k.ones)
 number-forced : (op : BinOp) (x y : ℕ) → KeepsDecided op → x < 2 ^ 32 → y < 2 ^ 32
     → IsForced (forward_known op (known_of x x (4294967295 - x) x) (known_of y y (4294967295 - y) y))
 unfolding forward_known
-number-forced Add x y k fx fy = grind (arith, common_steps, cases_lt, add-sure)
-number-forced Sub x y k fx fy = grind (arith, common_steps, cases_lt, sub-sure)
 number-forced Or x y k fx fy = inr (or-forced x y fx fy)
 number-forced And x y k fx fy = inr (and-forced x y fx fy)
 number-forced Xor x y k fx fy = inr (xor-forced x y fx fy)
+number-forced Add x y k fx fy = grind (arith, nat_tests)
+number-forced Sub x y k fx fy = grind (arith, nat_tests)
 number-forced op x y k fx fy = elim k [ ]
 
 forced : (op : BinOp) (a b : Known) → KeepsDecided op → IsClosed a → IsClosed b → IsDecided a → IsDecided b
@@ -28,7 +27,8 @@ forced op a b k ca cb da db =
     (number-forced op a.low b.low k (omega (arith, ca.fits, da)) (omega (arith, cb.fits, db)))
 
 negated-forced : (a : Known) → IsClosed a → IsDecided a → IsForced (forward_negated a)
-negated-forced a h d = grind (arith, common_steps, cases_lt, negate-some, negate-zero)
+unfolding forward_negated
+negated-forced a h d = let f = h.fits in grind (arith, nat_tests)
 
 -- what narrows it has one number
 narrows-forced : (r k : Known) → IsForced r → IsNarrower r k → IsClosed k → IsDecided k

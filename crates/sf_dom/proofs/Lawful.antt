@@ -1,5 +1,5 @@
 -- Steps by the rules: what each gives is closed and loses nothing, and no input that agrees is lost.
-use Rattle.sf_dom.proofs.Common.{◌≡◌, ℕ, ◌<◌, ◌^◌, ◌-◌, List, length, set, arith, ◌∙◌, inl, inr, cases_eq, get_or-set_same, get_or-set_other, length-set, Option, Some, None, MatchOption, IfSome, IsInput, Input, IsPool, value_of, Node, Known, Has, Admits, IsNarrower, known_of, known_at, numbers_at, AgreesWith, IsNarrowed, met, IsClosed, IsClosedAt, IsReduction, ReductionGives, Then, AreClosed, WritingGives, common_steps}
+use Rattle.sf_dom.proofs.Common.{◌≡◌, ℕ, ◌<◌, ◌^◌, ◌-◌, List, length, set, arith, ◌∙◌, cases_eq, get_or-set_same, get_or-set_other, length-set, Option, Some, None, MatchOption, IfSome, IsInput, Input, IsPool, value_of, Node, Known, Has, Admits, IsNarrower, known_of, known_at, numbers_at, AgreesWith, IsNarrowed, met, IsClosed, IsClosedAt, IsReduction, ReductionGives, Then, AreClosed, WritingGives, common_steps, IfSome_then, value-small}
 use Rattle.sf_dom.proofs.Bits.{join-bits}
 use Rattle.sf_dom.proofs.propagation.Propagations.{closed-set}
 use Rattle.sf_dom.proofs.Reductions.{IsNarrower-trans, IsNarrower-refl}
@@ -39,15 +39,9 @@ narrowed-set ks ex ns i next h l closed narrower =
     record {
       closed = record {
         count = length-set ks i next ∙ count;
-        each = λ j lj. elim (cases_eq j i) [
-          | inl e ↦ rw (e, get_or-set_same ks i next none here) closed.known
-          | inr ne ↦ rw (get_or-set_other ks i j next none ne) (h.each j lj)
-        ];
+        each = grind (arith, common_steps, cases_eq, get_or-set_same, get_or-set_other);
       };
-      narrower = λ j lj. elim (cases_eq j i) [
-        | inl e ↦ rw (e, get_or-set_same ks i next none here) narrower
-        | inr ne ↦ rw (get_or-set_other ks i j next none ne) (IsNarrower-refl (known_at ks j))
-      ];
+      narrower = grind (arith, common_steps, cases_eq, get_or-set_same, get_or-set_other, IsNarrower-refl);
       kept = λ words w b. closed-set ks ex i next here closed w (words w b);
     }
 
@@ -88,11 +82,6 @@ reduction-holds None ex i n old f fz kept h none =
 reduction-holds (Some k) ex i n old f fz kept h w = narrows-number k n f
     (w.widest (known_of n n (4294967295 - n) n) (number-closed ex i n f kept) (number-narrows old n f fz h))
 
--- a value lies within a word
-pub value-fits : (ks : List Known) (ex : List ℕ) (ns : List Node) (d : Input) (i : ℕ) → AreClosed ks ns
-    → i < length ns → AgreesWith ks ex ns d → value_of ns d i < 2 ^ 32
-value-fits ks ex ns d i h l a = omega (arith, (a i (omega arith)).admitted.below, (h.each i l).fits)
-
 -- to write a node is a lawful step
 pub writing-lawful : (has : Input → Type 0) (ks : List Known) (ex : List ℕ) (ns : List Node) (i : ℕ) (known : Known)
     → IsPool ns → AreClosed ks ns → i < length ns → IsNarrower (known_at ks i) known → known.zeros < 2 ^ 32
@@ -106,15 +95,10 @@ writing-lawful has ks ex ns i known p h l narrower fz admits =
       sound = λ d v m a.
           then-some (ReductionGives ex i known) (λ left r. r ≡ Some (set ks i left))
           (λ left. Admits left (value_of ns d i)) (λ next. AgreesWith next ex ns d)
-          (λ o g. reduction-holds o ex i (value_of ns d i) known (value-fits ks ex ns d i h l a) fz
+          (λ o g. reduction-holds o ex i (value_of ns d i) known (value-small ns d i p v) fz
           (λ b. kept-at ks ex ns d i p here a b) (admits d v m a) g)
           (λ left g k r e. rw e (agrees-set ks ex ns d i left here a k));
     }
-
-pub narrowed-more : (r : Option (List Known)) (a b : List Known) (ex : List ℕ) (ns : List Node) → AreClosed a ns
-    → IsNarrowed a b ex ns → IfSome r (λ c. IsNarrowed b c ex ns) → IfSome r (λ c. IsNarrowed a c ex ns)
-narrowed-more None a b ex ns k h g = tt
-narrowed-more (Some c) a b ex ns k h g = narrowed-trans a b c ex ns k h g
 
 -- one lawful step after another is lawful
 pub then-lawful : (has : Input → Type 0) (ks : List Known) (ex : List ℕ) (ns : List Node)
@@ -127,7 +111,8 @@ then-lawful has ks ex ns first second k h g =
     λ next f. h.narrowed (Some next) f in
     record {
       narrowed = then-if first second (λ next. IsNarrowed ks next ex ns) (λ next f r s.
-          let n = step next f in narrowed-more r ks next ex ns k n ((g next n.closed).narrowed r s));
+          let n = step next f in
+          IfSome_then r ((g next n.closed).narrowed r s) (λ c. narrowed-trans ks next c ex ns k n));
       sound = λ d v m a. then-some first second (λ next. AgreesWith next ex ns d) (λ next. AgreesWith next ex ns d)
           (h.sound d v m a) (λ next f b r s. (g next (step next f).closed).sound d v tt b r s);
     }

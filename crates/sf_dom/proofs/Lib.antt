@@ -1,4 +1,5 @@
 pub mod Common
+pub mod Tests
 pub mod Bits
 pub mod Reductions
 pub mod Steps
@@ -6,7 +7,6 @@ pub mod CommonBits
 pub mod Sampled
 pub mod Assumed
 pub mod AscendingLemmas
-pub mod RuleLemmas
 pub mod ClosedLemmas
 pub mod RuleLaws
 pub mod Passes

@@ -1,9 +1,10 @@
 -- Newer nodes that are taken in: inputs go on to agree, and nothing more follows for any of them.
-use Rattle.sf_dom.proofs.Common.{◌≡◌, ℕ, zero, suc, ◌<◌, ◌≤◌, ◌^◌, ◌/◌, ◌%◌, Bool, true, false, cond, List, length, take, arith, refl, ◌⊎◌, inl, inr, cases_lt, or_lt, xor_lt, div-le_self, and_lt, Option, Some, None, MatchOption, slice_index, ◌==◌, apply, BinOp, Div, Or, And, Rsh, Xor, IsInput, Input, IsPool, OperandsBelow, node_at, node_value, values_of, value_of, value-node, Node, Const, Word, Bin, Neg, Known, Has, Admits, known_at, numbers_at, excluded_of, AgreesWith, none-has, IsAtRest, AreTakenIn, TakingInGives, forward_node, IsClosed, IsReduction, ReductionGives, common_steps}
+use Rattle.sf_dom.proofs.Common.{◌≡◌, ℕ, ◌<◌, ◌≤◌, List, length, take, arith, refl, ◌⊎◌, inl, inr, cases_lt, Option, Some, None, MatchOption, IsInput, Input, IsPool, node_at, values_of, value_of, value-node, Node, Word, Known, Has, Admits, known_at, numbers_at, excluded_of, AgreesWith, none-has, IsAtRest, AreTakenIn, TakingInGives, forward_node, IsClosed, IsReduction, ReductionGives, common_steps, value-small}
 use Rattle.sf_dom.proofs.Lawful.{reduction-holds}
 use Rattle.sf_dom.proofs.PassLaws.{follows}
 use Rattle.sf_dom.proofs.Passes.{operands-below}
 use Rattle.sf_dom.proofs.propagation.Propagations.{word-below, taken-older}
+use Rattle.sf_dom.proofs.Then.{by-older}
 
 -- no number is excluded, or all words are known already
 abbrev pub AreWordsKnown : List Known → List ℕ → Type 0
@@ -20,26 +21,6 @@ kept-node ks ex ns d (Word i) k p l e (inl b) a w =
     (rw (here, same) at (a i (omega arith)).kept) w
 kept-node ks ex ns d (Word i) k p l e (inr none) a w = none-has (value_of ns d k) (rw (none i) at w)
 kept-node ks ex ns d n k p l e h a w = none-has (value_of ns d k) w
-
--- values are words
-apply-fits : (op : BinOp) (x y : ℕ) → x < 2 ^ 32 → y < 2 ^ 32 → apply op x y < 2 ^ 32
-apply-fits Div x y fx fy = quotient-fits (y == 0)
-  where
-    quotient-fits : (b : Bool) → cond b 0 (x / y) < 2 ^ 32
-    quotient-fits true = omega arith
-    quotient-fits false = omega (arith, div-le_self x y)
-apply-fits Or x y fx fy = or_lt 32 x y fx fy
-apply-fits And x y fx fy = and_lt 32 x y fx fy
-apply-fits Xor x y fx fy = xor_lt 32 x y fx fy
-apply-fits Rsh x y fx fy = omega (arith, div-le_self x (2 ^ (y % 32)))
-apply-fits op x y fx fy = omega arith
-
-value-fits : (d : Input) (vs : List ℕ) (k : ℕ) (n : Node) → IsInput d → OperandsBelow k n
-    → ((j : ℕ) → j < k → slice_index vs j < 2 ^ 32) → node_value d vs n < 2 ^ 32
-value-fits d vs k (Const c) i o h = o
-value-fits d vs k (Word w) i o h = i.each w
-value-fits d vs k (Bin op a b) i o h = apply-fits op (slice_index vs a.0) (slice_index vs b.0) (h a.0 o.0) (h b.0 o.1)
-value-fits d vs k (Neg a) i o h = omega arith
 
 -- Newer nodes that are taken in, up to a place. The older nodes agree with an input.
 module _ (old new : List Known) (ex : List ℕ) (ns : List Node) (d : Input) (p : IsPool ns) (i : IsInput d)
@@ -64,27 +45,18 @@ module _ (old new : List Known) (ex : List ℕ) (ns : List Node) (d : Input) (p 
   newer-holds k l g older closed o w =
       let below = operands-below ns k p l in let vs = values_of ns d in
       let f = follows new d vs k (node_at ns k) i below closed older in
-      let fits = value-fits d vs k (node_at ns k) i below
-      (λ j b. omega (arith, (older j b).below, (closed j b).fits)) in
-      reduction-holds o ex k (value_of ns d k) (forward_node new (node_at ns k)) (rw (value-node ns d k p l) fits) f.1
+      reduction-holds o ex k (value_of ns d k) (forward_node new (node_at ns k)) (value-small ns d k p i) f.1
       (not-excluded k g) (rw (value-node ns d k p l) f.0) w
 
   taken-holds : (m : ℕ) → m ≤ length ns → ((k : ℕ) → length old ≤ k → k < m
       → IsReduction ex k (forward_node new (node_at ns k)) (known_at new k)) → (k : ℕ) → k < m
       → Admits (known_at new k) (value_of ns d k)
-  taken-holds zero lm before k l = absurd (omega arith)
-  taken-holds (suc m) lm before k l =
-      let older = taken-holds m (omega arith) (λ j g b. before j g (omega arith)) in
-      elim (cases_lt k m) [
-        | inl b ↦ older k b
-        | inr g ↦
-            let e : k ≡ m = omega arith in
-            rw e (elim (cases_lt m (length old)) [
-              | inl b ↦ rw (taken-older old new m kept b) at (a m b).admitted
-              | inr g ↦ newer-holds m (omega arith) g older (older-closed m (λ j g b. before j g (omega arith)))
-                  (Some (known_at new m)) (before m g (omega arith))
-            ])
-      ]
+  taken-holds m lm ruled = by-older (λ k. Admits (known_at new k) (value_of ns d k)) m (λ k lk older.
+      elim (cases_lt k (length old)) [
+        | inl b ↦ rw (taken-older old new k kept b) at (a k b).admitted
+        | inr g ↦ newer-holds k (omega arith) g older (older-closed k (λ j c b. ruled j c (omega arith)))
+            (Some (known_at new k)) (ruled k g lk)
+      ])
 
 -- the inputs that agreed agree once newer nodes are taken in
 pub taking-sound : (old : List Known) (ex : List ℕ) (ns : List Node) (d : Input) → IsPool ns → IsInput d

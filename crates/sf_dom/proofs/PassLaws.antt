@@ -1,74 +1,39 @@
 -- A forward pass is a lawful step, and after it nothing more follows for any node.
-use Rattle.sf_dom.proofs.Common.{◌≡◌, ℕ, zero, suc, ◌<◌, ◌≤◌, ◌^◌, ◌+◌, ◌-◌, ◌*◌, ◌/◌, ◌%◌, List, length, Bool, true, false, cond, arith, inl, inr, cases_lt, or_lt, pow_pos, pow-lt, div-le_self, and_lt, Option, Some, None, MatchOption, IfSome, bit_and, bit_or, slice_index, nat_lt, nat_le, ◌==◌, IsInput, Input, BinOp, Add, Sub, Mul, Div, Or, And, Lsh, Rsh, Xor, IsPool, OperandsBelow, node_at, node_value, values_of, value_of, value-node, Node, Const, Word, Bin, Neg, Known, Admits, known_of, known_at, AgreesWith, between, full, moved_left, moved_right, met, forward_known, forward_negated, forward_node, IsClosed, IsPassedAt, PassGives, IsAtRest, AreClosed, IsNarrowed, constant-admits, common_steps}
-use Rattle.sf_dom.proofs.Lawful.{IsLawful, AnyInput, met-admits, closed-zeros, closed-ones, kept-at, reduction-holds, value-fits}
+use Rattle.sf_dom.proofs.Common.{ℕ, ◌<◌, ◌≤◌, ◌^◌, ◌-◌, ◌*◌, ◌/◌, ◌%◌, List, length, arith, or_lt, pow_pos, pow-lt, div-le_self, and_lt, Option, Some, None, MatchOption, IfSome, bit_and, bit_or, slice_index, IsInput, Input, BinOp, Or, And, Lsh, Rsh, Xor, IsPool, OperandsBelow, node_at, node_value, values_of, value_of, value-node, Node, Const, Word, Bin, Neg, Known, Admits, known_at, AgreesWith, moved_left, moved_right, met, forward_known, forward_negated, forward_node, IsClosed, IsPassedAt, PassGives, IsAtRest, AreClosed, IsNarrowed, constant-admits, common_steps, nat_tests, value-small}
+use Rattle.sf_dom.proofs.Lawful.{IsLawful, AnyInput, met-admits, closed-zeros, closed-ones, kept-at, reduction-holds}
 use Rattle.sf_dom.proofs.Passes.{operands-below, met-left, met-right}
 use Rattle.sf_dom.proofs.Reductions.{IsNarrower-trans}
 use Rattle.sf_dom.proofs.RuleLaws.{forward-sound, negate-sound, full-admits}
+use Rattle.sf_dom.proofs.Then.{by-older}
 
--- its known zeros are those of a word
-record Fits (k : Known) : Type 0 where
-  zeros : k.zeros < 2 ^ 32
-
-if-fits : (b : Bool) (x y : Known) → Fits x → Fits y → Fits (cond b x y)
-if-fits true x y h k = h
-if-fits false x y h k = k
-
-none-fits : (low high : ℕ) → Fits (between low high)
-none-fits low high = record { zeros = omega arith }
-
-left-fits : (a : Known) (s : ℕ) → s < 32 → Fits (moved_left a s)
+-- the known zeros are those of a word
+left-fits : (a : Known) (s : ℕ) → s < 32 → (moved_left a s).zeros < 2 ^ 32
 left-fits a s l =
     let p : 2 ^ s < 2 ^ 32 = pow-lt l in
     let z : bit_or (a.zeros * 2 ^ s % 2 ^ 32) (2 ^ s - 1) < 2 ^ 32
     = or_lt 32 (a.zeros * 2 ^ s % 2 ^ 32) (2 ^ s - 1) (omega arith) (omega arith) in
-    if-fits (nat_lt (a.high * 2 ^ s) (2 ^ 32))
-    (known_of (a.low * 2 ^ s) (a.high * 2 ^ s) (bit_or (a.zeros * 2 ^ s % 2 ^ 32) (2 ^ s - 1))
-    (a.ones * 2 ^ s % 2 ^ 32))
-    (known_of 0 4294967295 (bit_or (a.zeros * 2 ^ s % 2 ^ 32) (2 ^ s - 1)) (a.ones * 2 ^ s % 2 ^ 32))
-    (record { zeros = z }) (record { zeros = z })
+    grind (arith, nat_tests)
 
-right-fits : (a : Known) (s : ℕ) → IsClosed a → Fits (moved_right a s)
+right-fits : (a : Known) (s : ℕ) → IsClosed a → (moved_right a s).zeros < 2 ^ 32
 right-fits a s h =
     let p : 0 < 2 ^ (32 - s) = pow_pos (32 - s) in
-    record {
-      zeros = or_lt 32 (a.zeros / 2 ^ s) (2 ^ 32 - 2 ^ (32 - s))
-          (omega (arith, div-le_self a.zeros (2 ^ s), closed-zeros a h)) (omega arith);
-    }
+    or_lt 32 (a.zeros / 2 ^ s) (2 ^ 32 - 2 ^ (32 - s)) (omega (arith, div-le_self a.zeros (2 ^ s), closed-zeros a h))
+    (omega arith)
 
-two-fits : (b e : Bool) (x y z : Known) → Fits x → Fits y → Fits z → Fits (cond b x (cond e y z))
-two-fits b e x y z h k l = if-fits b x (cond e y z) h (if-fits e y z k l)
-
--- the bits that follow for a node are those of a word
-forward-fits : (op : BinOp) (a b : Known) → IsClosed a → IsClosed b → Fits (forward_known op a b)
+forward-fits : (op : BinOp) (a b : Known) → IsClosed a → IsClosed b → (forward_known op a b).zeros < 2 ^ 32
 unfolding forward_known
-forward-fits Add a b h k = grind (arith, common_steps, none-fits, two-fits)
-forward-fits Sub a b h k =
-    two-fits (nat_le b.high a.low) (nat_lt a.high b.low) (between (a.low - b.high) (a.high - b.low))
-    (between (a.low + 2 ^ 32 - b.high) (a.high + 2 ^ 32 - b.low)) full (none-fits _ _) (none-fits _ _) (none-fits _ _)
-forward-fits Mul a b h k =
-    if-fits (nat_lt (a.high * b.high) (2 ^ 32)) (between (a.low * b.low) (a.high * b.high)) full (none-fits _ _)
-    (none-fits _ _)
-forward-fits Div a b h k =
-    if-fits (nat_le 1 b.low) (between (a.low / b.high) (a.high / b.low)) (between 0 a.high) (none-fits _ _)
-    (none-fits _ _)
-forward-fits Or a b h k = record { zeros = and_lt 32 a.zeros b.zeros (closed-zeros a h) (closed-zeros b k) }
-forward-fits And a b h k = record { zeros = or_lt 32 a.zeros b.zeros (closed-zeros a h) (closed-zeros b k) }
-forward-fits Xor a b h k = record {
-  zeros = or_lt 32 (bit_and a.zeros b.zeros) (bit_and a.ones b.ones)
-      (and_lt 32 a.zeros b.zeros (closed-zeros a h) (closed-zeros b k))
-      (and_lt 32 a.ones b.ones (closed-ones a h) (closed-ones b k));
-}
-forward-fits Lsh a b h k =
-    if-fits (b.low == b.high) (moved_left a (b.low % 32)) full (left-fits a (b.low % 32) (omega arith)) (none-fits _ _)
-forward-fits Rsh a b h k =
-    if-fits (b.low == b.high) (moved_right a (b.low % 32)) (between 0 a.high) (right-fits a (b.low % 32) h)
-    (none-fits _ _)
+forward-fits Or a b h k = and_lt 32 a.zeros b.zeros (closed-zeros a h) (closed-zeros b k)
+forward-fits And a b h k = or_lt 32 a.zeros b.zeros (closed-zeros a h) (closed-zeros b k)
+forward-fits Xor a b h k = or_lt 32 (bit_and a.zeros b.zeros) (bit_and a.ones b.ones)
+    (and_lt 32 a.zeros b.zeros (closed-zeros a h) (closed-zeros b k))
+    (and_lt 32 a.ones b.ones (closed-ones a h) (closed-ones b k))
+forward-fits Lsh a b h k = let z = left-fits a (b.low % 32) (omega arith) in grind (arith, nat_tests)
+forward-fits Rsh a b h k = let z = right-fits a (b.low % 32) h in grind (arith, nat_tests)
+forward-fits op a b h k = grind (arith, nat_tests)
 
-negated-fits : (a : Known) → Fits (forward_negated a)
+negated-fits : (a : Known) → (forward_negated a).zeros < 2 ^ 32
 unfolding forward_negated
-negated-fits a =
-    two-fits (nat_le 1 a.low) (a.high == 0) (between (2 ^ 32 - a.high) (2 ^ 32 - a.low))
-    (between 0 0) full (none-fits _ _) (none-fits _ _) (none-fits _ _)
+negated-fits a = grind (arith, nat_tests)
 
 -- what follows for a node admits its value, where what is known of its operands admits theirs
 pub follows : (ks : List Known) (d : Input) (vs : List ℕ) (k : ℕ) (n : Node) → IsInput d → OperandsBelow k n
@@ -80,11 +45,11 @@ follows ks d vs k (Bin op a b) i o closed h =
     let ca = closed a.0 o.0 in let cb = closed b.0 o.1 in (
       forward-sound op (known_at ks a.0) (known_at ks b.0) (slice_index vs a.0) (slice_index vs b.0) ca.fits cb.fits
           (h a.0 o.0) (h b.0 o.1),
-      (forward-fits op (known_at ks a.0) (known_at ks b.0) ca cb).zeros,
+      forward-fits op (known_at ks a.0) (known_at ks b.0) ca cb,
     )
 follows ks d vs k (Neg a) i o closed h =
     let ca = closed a.0 o in
-    (negate-sound (known_at ks a.0) (slice_index vs a.0) ca.fits (h a.0 o), (negated-fits (known_at ks a.0)).zeros)
+    (negate-sound (known_at ks a.0) (slice_index vs a.0) ca.fits (h a.0 o), negated-fits (known_at ks a.0))
 
 -- what a pass meets of a node admits its value
 met-holds : (old new : List Known) (ex : List ℕ) (ns : List Node) (d : Input) (k : ℕ) → IsPool ns
@@ -104,20 +69,14 @@ met-holds old new ex ns d k p h i a l closed older =
 passed-holds : (old new : List Known) (ex : List ℕ) (ns : List Node) (d : Input) → IsPool ns
     → AreClosed old ns → IsInput d → AgreesWith old ex ns d → (m : ℕ) → m ≤ length ns
     → ((k : ℕ) → k < m → IsPassedAt old new ex ns k) → (k : ℕ) → k < m → Admits (known_at new k) (value_of ns d k)
-passed-holds old new ex ns d p h i a zero lm before k lk = absurd (omega arith)
-passed-holds old new ex ns d p h i a (suc m) lm before k lk =
+passed-holds old new ex ns d p h i a m lm passed =
     let count = h.count in
-    let older = passed-holds old new ex ns d p h i a m (omega arith) (λ j s. before j (omega arith)) in
-    elim (cases_lt k m) [
-      | inl s ↦ older k s
-      | inr g ↦
-          let e : k ≡ m = omega arith in let l : m < length ns = omega arith in
-          let both = met-holds old new ex ns d m p h i a l (λ j s. (before j (omega arith)).is.known) older in
-          rw e (reduction-holds (Some (known_at new m)) ex m (value_of ns d m)
-          (met (known_at old m) (forward_node new (node_at ns m)))
-          (value-fits old ex ns d m h l a) both.1 (λ b. kept-at old ex ns d m p (omega arith) a b) both.0
-          (before m (omega arith)))
-    ]
+    by-older (λ k. Admits (known_at new k) (value_of ns d k)) m (λ k lk older.
+    let l : k < length ns = omega arith in
+    let both = met-holds old new ex ns d k p h i a l (λ j s. (passed j (omega arith)).is.known) older in
+    reduction-holds (Some (known_at new k)) ex k (value_of ns d k) (met (known_at old k) (forward_node new
+    (node_at ns k))) (value-small ns d k p i) both.1 (λ b. kept-at old ex ns d k p (omega arith) a b) both.0
+    (passed k lk))
 
 pass-sound : (old : List Known) (ex : List ℕ) (ns : List Node) (d : Input) → IsPool ns
     → AreClosed old ns → IsInput d → AgreesWith old ex ns d → (r : Option (List Known)) → PassGives old ex ns r
@@ -134,7 +93,7 @@ pass-sound old ex ns d p h i a None w =
     let older = passed-holds old w.new ex ns d p h i a w.place (omega arith) w.before in
     let both = met-holds old w.new ex ns d w.place p h i a within (λ j s. (w.before j s).is.known) older in
     reduction-holds None ex w.place (value_of ns d w.place) (met own rule)
-    (value-fits old ex ns d w.place h within a) both.1 (λ b. kept-at old ex ns d w.place p (omega arith) a b) both.0
+    (value-small ns d w.place p i) both.1 (λ b. kept-at old ex ns d w.place p (omega arith) a b) both.0
     w.none
 
 pass-narrowed : (old : List Known) (ex : List ℕ) (ns : List Node) → IsPool ns → AreClosed old ns

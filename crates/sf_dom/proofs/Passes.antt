@@ -1,9 +1,10 @@
 -- What stays as it is in a forward pass, and what a pass leaves.
-use Rattle.sf_dom.proofs.Common.{◌≡◌, ℕ, true, ◌+◌, ◌-◌, ◌<◌, ◌≤◌, List, length, arith, refl, sym, ap, ◌∙◌, ◌⊎◌, inl, inr, zero, suc, Option, Some, None, MatchOption, and_parts, cases_lt, eqb-true, ext_get_or, bit_at_or, bit_at-zero, IsPool, OperandsBelow, node_at, Node, Const, Word, Bin, Neg, OperandsBelow-at, Known, Has, IsNarrower, IsConsistent, IsDecided, known_of, known_at, numbers_at, closed-consistent, met, forward_node, IsClosed, IsClosedAt, IsReduction, HasNoReduction, IsWidest, HasNone, IsPassedAt, IsPass, IsAtRest, are_all_decided, IsFixedAt, AreFixed, common_steps}
+use Rattle.sf_dom.proofs.Common.{◌≡◌, ℕ, true, ◌+◌, ◌-◌, ◌<◌, ◌≤◌, List, length, arith, refl, sym, ap, ◌∙◌, ◌⊎◌, inl, inr, Option, Some, None, MatchOption, and_parts, eqb-true, ext_get_or, bit_at_or, bit_at-zero, IsPool, OperandsBelow, node_at, Node, Const, Word, Bin, Neg, OperandsBelow-at, Known, Has, IsNarrower, IsConsistent, IsDecided, known_of, known_at, numbers_at, closed-consistent, met, forward_node, IsClosed, IsClosedAt, IsReduction, HasNoReduction, IsWidest, HasNone, IsPassedAt, IsPass, IsAtRest, are_all_decided, IsFixedAt, AreFixed, common_steps}
 use Rattle.sf_dom.proofs.Reductions.{IsNarrower-trans, IsNarrower-refl}
 use Rattle.sf_dom.proofs.Bits.{bits-of-or, bits-of-or_right}
 use Rattle.sf_dom.proofs.ClosedLemmas.{closed-number}
 use Rattle.sf_dom.proofs.RuleLaws.{four-same, one-reduction}
+use Rattle.sf_dom.proofs.Then.{by-older}
 
 -- what is met loses nothing of either
 pub met-left : (a b : Known) → IsNarrower a (met a b)
@@ -125,16 +126,9 @@ passed-same old new js ex ns k p l same h =
 pub same-up_to : (old a b : List Known) (ex : List ℕ) (ns : List Node) → IsPool ns → (m : ℕ) → m ≤ length ns
     → ((k : ℕ) → k < m → IsPassedAt old a ex ns k) → ((k : ℕ) → k < m → IsPassedAt old b ex ns k) → (k : ℕ) → k < m
     → known_at a k ≡ known_at b k
-same-up_to old a b ex ns p zero l h g k lk = absurd (omega arith)
-same-up_to old a b ex ns p (suc m) l h g k lk =
-    let before = same-up_to old a b ex ns p m (omega arith) (λ j s. h j (omega arith)) (λ j s. g j (omega arith)) in
-    elim (cases_lt k m) [
-      | inl s ↦ before k s
-      | inr o ↦
-          let older = forward-same a b k (node_at ns k) (operands-below ns k p (omega arith))
-          (λ j s. before j (omega arith)) in
-          one-reduction _ _ (known_at a k) (known_at b k) (rw older at (h k lk)) (g k lk)
-    ]
+same-up_to old a b ex ns p m l h g = by-older (λ k. known_at a k ≡ known_at b k) m (λ k lk before.
+    let older = forward-same a b k (node_at ns k) (operands-below ns k p (omega arith)) before in
+    one-reduction _ _ (known_at a k) (known_at b k) (rw older at (h k lk)) (g k lk))
 
 -- there is one pass at most
 pub one-pass : (old a b : List Known) (ex : List ℕ) (ns : List Node) → IsPool ns → IsPass old a ex ns

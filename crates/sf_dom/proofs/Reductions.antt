@@ -1,4 +1,4 @@
-use Rattle.sf_dom.proofs.Common.{common_steps, ◌≡◌, ℕ, ◌<◌, ◌≤◌, ◌^◌, ◌-◌, ◌+◌, min, arith, sym, ap, ◌∙◌, inl, inr, false, ◌&&◌, eqb, eq-eqb, cases_lt, bit_and, bit_or, bit_at, w32, bit_at_and, bit_at_not, bit_at-lt, bit_at-zero, bit_at_above, Known, HasBits, IsNarrower, AreApart, freedom}
+use Rattle.sf_dom.proofs.Common.{common_steps, ◌≡◌, ℕ, ◌<◌, ◌≤◌, ◌^◌, ◌-◌, min, arith, sym, ap, ◌∙◌, inl, inr, false, ◌&&◌, eqb, eq-eqb, cases_lt, bit_and, bit_or, bit_at, w32, bit_at_and, bit_at_not, bit_at-lt, bit_at-zero, bit_at_above, Known, HasBits, IsNarrower, AreApart, freedom, bit_at-complement}
 use Rattle.sf_dom.proofs.Bits.{bits-le, bits-of-or}
 
 -- no bound and no known bit is lost
@@ -24,21 +24,12 @@ AreApart-and z o e i =
     omega (arith, b, bit_at-lt z i, bit_at-lt o i)
 
 -- the known bits of a number's complement are those of the number with zeros and ones changed about
-pub HasBits-complement : (n z o : ℕ) → n < 2 ^ 32 → z < 2 ^ 32 → o < 2 ^ 32 → HasBits n z o
+pub HasBits-complement : (n z o : ℕ) → n < 2 ^ 32 → z < 2 ^ 32 → HasBits n z o
     → HasBits (4294967295 - n) o z
-HasBits-complement n z o fn fz fo h = record {
-  zero = λ i. elim (cases_lt i 32) [
-    | inl l ↦ zero _ _ _ (h.one i) (bit_at_not w32 n i fn l) (bit_at-lt n i)
-    | inr l ↦ omega (arith, bit_at_above o 32 i fo l, bit_at-lt (4294967295 - n) i)
-  ];
+HasBits-complement n z o fn fz h = record {
+  zero = λ i. omega (arith, h.one i, bit_at-complement n i fn);
   one = λ i. elim (cases_lt i 32) [
-    | inl l ↦ one _ _ _ (h.zero i) (bit_at_not w32 n i fn l)
+    | inl l ↦ omega (arith, h.zero i, bit_at_not w32 n i fn l)
     | inr l ↦ omega (arith, bit_at_above z 32 i fz l)
   ];
 }
-  where
-    zero : (n o m : ℕ) → o ≤ n → m ≡ 1 - n → n < 2 → o + m ≤ 1
-    zero n o m h e l = omega arith
-
-    one : (n z m : ℕ) → z + n ≤ 1 → m ≡ 1 - n → z ≤ m
-    one n z m h e = omega arith

@@ -1,10 +1,9 @@
 -- Laws of the rules, from the definitions alone.
-use Rattle.sf_dom.proofs.Common.{common_steps, ◌≡◌, ℕ, List, ◌<◌, ◌≤◌, ◌^◌, ◌-◌, ◌+◌, ◌*◌, ◌/◌, ◌%◌, arith, refl, sym, ap, inl, inr, cases_lt, cases_eq, nat_tests, bit_and, bit_or, bit_xor, bit_at-zero, bit_at-lt, bit_at_not, bit_at_above, w32, div-le_self, BinOp, Add, Sub, Mul, Div, Or, And, Lsh, Rsh, Xor, apply, negation_of, Known, Has, Admits, Leaves, IsNarrower, known_of, numbers_at, bit_at-complement, constant-admits, between, full, forward_known, forward_negated, moved_left, IsClosed, IsClosedAt, IsClosedWord, IsWidest, HasNone}
-use Rattle.sf_dom.proofs.Bits.{bits-le}
-use Rattle.sf_dom.proofs.forward.ForwardLemmas.{mul_mono, div_between, quotient, or-admits, and-admits, xor-admits, shl-fits as shl-fits-admits, shl-top, shr-admits}
-use Rattle.sf_dom.proofs.RuleLemmas.{add-sure, add-full, sub-sure, sub-full, mul-fits, mul-full, div-some, div-none, negate-some, negate-zero, negate-full, shl-fits, shl-full, shr-all, left-decided, left-full, right-decided, right-full}
+use Rattle.sf_dom.proofs.Common.{common_steps, ◌≡◌, ℕ, List, ◌<◌, ◌≤◌, ◌^◌, ◌-◌, ◌*◌, ◌/◌, ◌%◌, arith, inl, inr, cases_lt, nat_tests, bit_at-zero, bit_at-lt, bit_at_not, bit_at_above, w32, div-le_self, BinOp, Mul, Div, Or, And, Lsh, Rsh, Xor, apply, negation_of, Known, Has, Admits, Leaves, IsNarrower, known_of, numbers_at, bit_at-complement, constant-admits, between, full, forward_known, forward_negated, moved_left, IsClosed, IsClosedAt, IsClosedWord, IsWidest, HasNone, mul-le-mul_right, le_or_l, le_or_r, or_lt, xor_lt, and_le_l, and_le_r, moved_right, mul-le}
 use Rattle.sf_dom.proofs.ClosedLemmas.{closed-number}
 use Rattle.sf_dom.proofs.Reductions.{IsNarrower-refl}
+use Rattle.sf_dom.proofs.forward.ForwardLemmas.{div_between}
+use Rattle.sf_dom.proofs.Bits.{bits-le, and-bits, or-bits, xor-bits, shl-bits, shr-bits, div_mono}
 
 pub between-admits : (low high n : ℕ) → low ≤ n → n ≤ high → Admits (between low high) n
 between-admits low high n a b = grind (arith, common_steps, bit_at-zero, bit_at-lt)
@@ -12,97 +11,47 @@ between-admits low high n a b = grind (arith, common_steps, bit_at-zero, bit_at-
 pub full-admits : (n : ℕ) → n < 2 ^ 32 → Admits full n
 full-admits n f = between-admits 0 4294967295 n (omega arith) (omega arith)
 
-left-admits : (a : Known) (x s : ℕ) → s < 32 → Admits a x → Admits (moved_left a s) (x * 2 ^ s % 2 ^ 32)
-left-admits a x s l h =
-    elim (cases_lt (4294967295 / 2 ^ s) a.high) [
-      | inl t ↦ rw (← shl-full a s l t) (shl-top a x s l h)
-      | inr t ↦ rw (← shl-fits a s l (omega arith) t) (shl-fits-admits a x s l t h)
-    ]
+left-admits : (a : Known) (x s : ℕ) → Admits a x → Admits (moved_left a s) (x * 2 ^ s % 2 ^ 32)
+left-admits a x s h =
+    let b = shl-bits x a.zeros a.ones s h.bits in let low = mul-le-mul_right (2 ^ s) h.above in
+    let high = mul-le-mul_right (2 ^ s) h.below in grind (arith, nat_tests)
 
-or-sound : (a b : Known) (x y : ℕ) → a.high < 2 ^ 32 → b.high < 2 ^ 32 → Admits a x → Admits b y
-    → Admits (forward_known Or a b) (bit_or x y)
-unfolding forward_known
-or-sound a b x y fa fb hx hy = or-admits a b x y _ refl fa fb hx hy
-
-and-sound : (a b : Known) (x y : ℕ) → Admits a x → Admits b y → Admits (forward_known And a b) (bit_and x y)
-unfolding forward_known
-and-sound a b x y hx hy = and-admits a b x y _ refl hx hy
-
-xor-sound : (a b : Known) (x y : ℕ) → a.high < 2 ^ 32 → b.high < 2 ^ 32 → Admits a x → Admits b y
-    → Admits (forward_known Xor a b) (bit_xor x y)
-unfolding forward_known
-xor-sound a b x y fa fb hx hy = xor-admits a b x y fa fb hx hy
+right-admits : (a : Known) (x s : ℕ) → s < 32 → a.high < 2 ^ 32 → Admits a x → Admits (moved_right a s) (x / 2 ^ s)
+right-admits a x s l f h =
+    let below = h.below in
+    record {
+      above = div_mono a.low x s h.above;
+      below = div_mono x a.high s below;
+      bits = shr-bits x a.zeros a.ones s l (omega arith) h.bits;
+    }
 
 -- each result of an operation on numbers that the operands may have is admitted by the rule
 pub forward-sound : (op : BinOp) (a b : Known) (x y : ℕ) → a.high < 2 ^ 32 → b.high < 2 ^ 32 → Admits a x → Admits b y
     → Admits (forward_known op a b) (apply op x y)
-forward-sound Add a b x y fa fb hx hy =
-    let xa = hx.above in let xb = hx.below in let ya = hy.above in let yb = hy.below in
-    elim (cases_lt (a.high + b.high) 4294967296) [
-      | inl l ↦ rw (← add-sure a b (omega arith) (omega arith) fa fb (inl l))
-          (between-admits _ _ _ (omega arith) (omega arith))
-      | inr l ↦ elim (cases_lt (a.low + b.low) 4294967296) [
-        | inl m ↦ rw (← add-full a b l m) (full-admits ((x + y) % 4294967296) (omega arith))
-        | inr m ↦ rw (← add-sure a b (omega arith) (omega arith) fa fb (inr m))
-            (between-admits _ _ _ (omega arith) (omega arith))
-      ]
-    ]
-forward-sound Sub a b x y fa fb hx hy =
-    let xa = hx.above in let xb = hx.below in let ya = hy.above in let yb = hy.below in
-    elim (cases_lt a.low b.high) [
-      | inl l ↦ elim (cases_lt a.high b.low) [
-        | inl m ↦ rw (← sub-sure a b (omega arith) (omega arith) fa fb (inr m))
-            (between-admits _ _ _ (omega arith) (omega arith))
-        | inr m ↦ rw (← sub-full a b l m) (full-admits ((x + (4294967296 - y)) % 4294967296) (omega arith))
-      ]
-      | inr l ↦ rw (← sub-sure a b (omega arith) (omega arith) fa fb (inl l))
-          (between-admits _ _ _ (omega arith) (omega arith))
-    ]
+unfolding forward_known
 forward-sound Mul a b x y fa fb hx hy =
-    let xa = hx.above in let xb = hx.below in let ya = hy.above in let yb = hy.below in
-    let up = mul_mono x y a.high b.high xb yb in
-    let down = mul_mono a.low b.low x y xa ya in
-    elim (cases_lt (a.high * b.high) 4294967296) [
-      | inl l ↦ rw (← mul-fits a b (omega arith) (omega arith) l)
-          (between-admits _ _ _ (omega (arith, up, down)) (omega (arith, up, down)))
-      | inr l ↦ rw (← mul-full a b l) (full-admits ((x * y) % 4294967296) (omega arith))
-    ]
+    let up = mul-le x y a.high b.high hx.below hy.below in let down = mul-le a.low b.low x y hx.above hy.above in
+    grind (arith, nat_tests, bit_at-zero, bit_at-lt)
 forward-sound Div a b x y fa fb hx hy =
-    let xa = hx.above in let xb = hx.below in let ya = hy.above in let yb = hy.below in
-    elim (cases_lt 0 b.low) [
-      | inl l ↦
-          let d = div_between a.low a.high x b.low b.high y xa xb ya yb l in
-          rw (← div-some a b l, quotient x y (omega arith)) (between-admits _ _ _ d.0 d.1)
-      | inr l ↦ rw (← div-none a b (omega arith)) (between-admits _ _ _ (omega arith) (at_most x y a.high xb))
-    ]
-  where
-    at_most : (x y h : ℕ) → x ≤ h → (apply Div x y) ≤ h
-    at_most x y h l = grind (arith, nat_tests, common_steps)
-forward-sound Or a b x y fa fb hx hy = or-sound a b x y fa fb hx hy
-forward-sound And a b x y fa fb hx hy = and-sound a b x y hx hy
-forward-sound Xor a b x y fa fb hx hy = xor-sound a b x y fa fb hx hy
+    grind (arith, common_steps, cases_lt, nat_tests, bit_at-zero, bit_at-lt, div-le_self, div_between)
+forward-sound Or a b x y fa fb hx hy =
+    let l = or_lt 32 x y (omega (arith, hx.below)) (omega (arith, hy.below)) in
+    grind (arith, common_steps, le_or_l, le_or_r, or-bits)
+forward-sound And a b x y fa fb hx hy = grind (arith, common_steps, and_le_l, and_le_r, and-bits)
+forward-sound Xor a b x y fa fb hx hy =
+    let l = xor_lt 32 x y (omega (arith, hx.below)) (omega (arith, hy.below)) in
+    grind (arith, common_steps, xor-bits)
 forward-sound Lsh a b x y fa fb hx hy =
-    let ya = hy.above in let yb = hy.below in
-    elim (cases_eq b.low b.high) [
-      | inl e ↦
-          let n : b.low ≡ y = omega arith in
-          rw (← left-decided a b (y % 32) e (ap (λ m. m % 32) (sym n))) (left-admits a x (y % 32) (omega arith) hx)
-      | inr e ↦ rw (← left-full a b e) (full-admits (x * 2 ^ (y % 32) % 4294967296) (omega arith))
-    ]
+    let l = left-admits a x (y % 32) hx in let above = hy.above in let below = hy.below in
+    grind (arith, nat_tests, bit_at-zero, bit_at-lt)
 forward-sound Rsh a b x y fa fb hx hy =
-    let ya = hy.above in let yb = hy.below in let xb = hx.below in
-    elim (cases_eq b.low b.high) [
-      | inl e ↦
-          let n : b.low ≡ y = omega arith in let s : y % 32 < 32 = omega arith in
-          rw (← right-decided a b (y % 32) e (ap (λ m. m % 32) (sym n)), ← shr-all a (y % 32) s)
-          (shr-admits a x (y % 32) s fa hx)
-      | inr e ↦ rw (← right-full a b e) (between-admits 0 a.high (x / 2 ^ (y % 32)) (omega arith)
-          (omega (arith, div-le_self x (2 ^ (y % 32)))))
-    ]
+    let r = right-admits a x (y % 32) (omega arith) fa hx in let above = hy.above in let below = hy.below in
+    let d = div-le_self x (2 ^ (y % 32)) in grind (arith, nat_tests, bit_at-zero, bit_at-lt)
+forward-sound op a b x y fa fb hx hy = grind (arith, nat_tests, bit_at-zero, bit_at-lt)
 
 pub negate-sound : (a : Known) (x : ℕ) → a.high < 2 ^ 32 → Admits a x → Admits (forward_negated a) (negation_of x)
-negate-sound a x fa hx =
-    grind (arith, common_steps, cases_lt, negate-some, negate-zero, negate-full, between-admits, full-admits)
+unfolding forward_negated
+negate-sound a x fa hx = grind (arith, nat_tests, bit_at-zero, bit_at-lt)
 
 -- a number is admitted exactly where what it gives by itself loses nothing
 pub number-narrows : (k : Known) (n : ℕ) → n < 2 ^ 32 → k.zeros < 2 ^ 32 → Admits k n

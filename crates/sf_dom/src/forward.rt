@@ -8,6 +8,7 @@ use crate::known::Known;
 use sf_insn::BinOp;
 
 /// What is known of a sum: something only where none wraps, or each does. No bit of it is known.
+#[tactic(auto, using(crate::proofs::Tests::test_steps), unfolding(crate::specs::Rules::forward_known))]
 fn add(a: Known, b: Known) -> Known
     ensures { a.low ≤ a.high → b.low ≤ b.high → result
         ≡ forward_known BinOp.Add a b }
@@ -22,6 +23,7 @@ fn add(a: Known, b: Known) -> Known
 }
 
 /// What is known of a difference: something only where none wraps, or each does. No bit of it is known.
+#[tactic(auto, using(crate::proofs::Tests::test_steps), unfolding(crate::specs::Rules::forward_known))]
 fn sub(a: Known, b: Known) -> Known
     ensures { a.low ≤ a.high → b.low ≤ b.high → result
         ≡ forward_known BinOp.Sub a b }
@@ -34,6 +36,7 @@ fn sub(a: Known, b: Known) -> Known
 }
 
 /// What is known of a product: something only where that of the high ends fits 32 bits.
+#[tactic(auto, using(crate::proofs::Tests::test_steps), unfolding(crate::specs::Rules::forward_known))]
 fn mul(a: Known, b: Known) -> Known
     ensures { a.low ≤ a.high → b.low ≤ b.high → result
         ≡ forward_known BinOp.Mul a b }
@@ -45,6 +48,7 @@ fn mul(a: Known, b: Known) -> Known
 }
 
 /// What is known of a quotient, which is 0 where the divisor is 0.
+#[tactic(auto, using(crate::proofs::Tests::test_steps), unfolding(crate::specs::Rules::forward_known))]
 fn div(a: Known, b: Known) -> Known
     ensures { a.low ≤ a.high → b.low ≤ b.high → result
         ≡ forward_known BinOp.Div a b }
@@ -57,6 +61,7 @@ fn div(a: Known, b: Known) -> Known
     }
 }
 
+#[tactic(auto, using(crate::proofs::Tests::test_steps), unfolding(crate::specs::Rules::forward_known))]
 fn or(a: Known, b: Known) -> Known
     ensures { result ≡ forward_known BinOp.Or a b }
 {
@@ -68,6 +73,7 @@ fn or(a: Known, b: Known) -> Known
     }
 }
 
+#[tactic(auto, using(crate::proofs::Tests::test_steps), unfolding(crate::specs::Rules::forward_known))]
 fn and(a: Known, b: Known) -> Known
     ensures { result ≡ forward_known BinOp.And a b }
 {
@@ -79,6 +85,7 @@ fn and(a: Known, b: Known) -> Known
     }
 }
 
+#[tactic(auto, using(crate::proofs::Tests::test_steps), unfolding(crate::specs::Rules::forward_known))]
 fn xor(a: Known, b: Known) -> Known
     ensures { result ≡ forward_known BinOp.Xor a b }
 {
@@ -129,6 +136,7 @@ fn shift_right_by(a: Known, s: u32) -> Known
 }
 
 /// What is known of a shift to the left, which goes by the second operand modulo 32.
+#[tactic(auto, using(crate::proofs::Tests::test_steps), unfolding(crate::specs::Rules::forward_known))]
 fn shift_left(a: Known, b: Known) -> Known
     ensures { a.low ≤ a.high → result ≡ forward_known BinOp.Lsh a b }
 {
@@ -139,6 +147,7 @@ fn shift_left(a: Known, b: Known) -> Known
 }
 
 /// What is known of a shift to the right, which goes by the second operand modulo 32.
+#[tactic(auto, using(crate::proofs::Tests::test_steps), unfolding(crate::specs::Rules::forward_known))]
 fn shift_right(a: Known, b: Known) -> Known
     ensures { result ≡ forward_known BinOp.Rsh a b }
 {
@@ -166,6 +175,7 @@ pub(crate) fn forward(op: BinOp, a: Known, b: Known) -> Known
 }
 
 /// What is known of the negation of a word: 2^32 minus the word, or 0 where the word is 0.
+#[tactic(auto, using(crate::proofs::Tests::test_steps), unfolding(crate::specs::Rules::forward_negated))]
 pub(crate) fn negate(a: Known) -> Known
     ensures { a.low ≤ a.high → result ≡ forward_negated a }
 {

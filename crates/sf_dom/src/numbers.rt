@@ -178,6 +178,7 @@ impl<'a> Lookup<'a> {
 
     /// Whether a number stands in one of the two lists. Looks first at the place `place + step` of the older list.
     #[inline]
+    #[tactic(auto, using(crate::proofs::AscendingLemmas::lookup_steps))]
     pub(crate) fn has(&mut self, number: u32) -> bool
         ensures has { IsTrue result ↔ Has self.old number }
         ensures same { self.new ≡ self.old }

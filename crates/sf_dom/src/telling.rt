@@ -32,6 +32,7 @@ fn tell_equal(known: Known, number: u32) -> Option<bool>
     None
 }
 
+#[tactic(auto, using(crate::proofs::Tests::test_steps), unfolding(crate::specs::Rules::assumed))]
 fn tell_greater(known: Known, number: u32) -> Option<bool>
     ensures told { MatchOption result (IsOpen Test.Greater known number)
         (λ b. (x : ℕ) → Admits known x → TestGives Test.Greater x number b) }
@@ -47,6 +48,7 @@ fn tell_greater(known: Known, number: u32) -> Option<bool>
     None
 }
 
+#[tactic(auto, using(crate::proofs::Tests::test_steps), unfolding(crate::specs::Rules::assumed))]
 fn tell_at_least(known: Known, number: u32) -> Option<bool>
     ensures told { MatchOption result (IsOpen Test.GreaterOrEqual known number)
         (λ b. (x : ℕ) → Admits known x → TestGives Test.GreaterOrEqual x number b) }

@@ -130,3 +130,6 @@ next-within (suc k) a z o enough apart h = elim (cases_lt (a % 2 + z % 2) 1) [
 
 pub next : (a z o : ℕ) → AreApart z o → HasBits a z o → IsNext a z o (bit_or (a + z + 1 - bit_and (a + z + 1) z) o)
 next a z o apart h = next-within (a + z) a z o (omega arith) apart h
+
+-- what the search for a fitting number is proved by
+pub ruleset fitting_steps = (common_steps, AreApart-half, AreApart-lowest, HasBits-lowest, HasBits-half, HasBits-double)

@@ -272,8 +272,7 @@ started-grown f g ns longer p h x y =
         count = cf;
         more = cg;
         same = same-taken [] f.known g.known g.excluded ns (length ns) p (omega arith) first.kept y.known.kept
-            (λ k b l. first.each k b l) (λ k b l. rw (h.same k l) at (y.known.each k b (omega arith))) (length ns)
-            (omega arith);
+            (λ k b l. first.each k b l) (λ k b l. rw (h.same k l) at (y.known.each k b (omega arith)));
       };
       excluded = none;
       newer = λ i b l. y.known.each i (omega arith) l;
@@ -294,7 +293,7 @@ grown-grown f g h ns more longer p l k r x =
         more = ch;
         same = same-taken f.known g.known h.known h.excluded more (length more) p (omega arith) first.kept
             (all-below f.known h.known (length ns) cf (omega arith) r.below.same) (λ i b m. first.each i b m)
-            (λ i b m. rw (k.same i m) at (r.newer i (omega arith) (omega arith))) (length more) (omega arith);
+            (λ i b m. rw (k.same i m) at (r.newer i (omega arith) (omega arith)));
       };
       excluded = x.excluded ∙ r.excluded;
       newer = λ i b m. r.newer i (omega arith) m;

@@ -1,5 +1,5 @@
 -- A result that is forced is the only one that can be learnt.
-use Rattle.sf_dom.proofs.Common.{◌≡◌, ◌≢◌, ℕ, ◌<◌, ◌^◌, List, length, set, Bool, true, false, not, arith, refl, sym, ap, ◌∙◌, ◌⊎◌, inl, inr, cases_eq, nat_tests, set-get_or, Some, None, bit_or, or_lt, Test, Equal, IsPool, IsCondBelow, node_at, value_of, word-place, Cond, Node, Word, Known, IsNarrower, IsDecided, known_of, FactsView, known_at, numbers_at, Agrees, Covers, Pair, Excludes, AreExcludedBy, assumed_of, PairGives, LearnsBy, CantLearn, IsAtRest, AreExcluded, TestGives, assumed, number_known, past, IsClosed, IsClosedAt, met, IsForcedCondition, IsInput, passes, Input, constant-admits, IsForcedBy, common_steps}
+use Rattle.sf_dom.proofs.Common.{◌≡◌, ◌≢◌, ℕ, ◌<◌, ◌^◌, List, length, set, Bool, true, false, not, arith, refl, sym, ap, ◌∙◌, ◌⊎◌, inl, inr, cases_eq, nat_tests, set-get_or, Some, None, bit_or, or_lt, Test, Equal, IsPool, IsCondBelow, node_at, value_of, word-place, Cond, Node, Word, Known, IsNarrower, IsDecided, known_of, FactsView, known_at, numbers_at, Agrees, Covers, Pair, Excludes, AreExcludedBy, assumed_of, PairGives, LearnsBy, CantLearn, IsAtRest, AreExcluded, TestGives, assumed, number_known, past, IsClosed, IsClosedAt, met, IsForcedCondition, IsInput, passes, Input, constant-admits, IsForcedBy, common_steps, value-small}
 use Rattle.sf_dom.proofs.ClosedLemmas.{closed-number}
 use Rattle.sf_dom.proofs.ConditionSteps.{condition-nothing}
 use Rattle.sf_dom.proofs.AscendingLemmas.{one-more}
@@ -8,7 +8,7 @@ use Rattle.sf_dom.proofs.Passes.{operands-below, closed-kept, still-reduction}
 use Rattle.sf_dom.proofs.propagation.Propagations.{word-below}
 use Rattle.sf_dom.proofs.TestLaws.{at-decided, test-admits, test-zeros}
 use Rattle.sf_dom.proofs.Covering.{covers-closed}
-use Rattle.sf_dom.proofs.Lawful.{closed-zeros, kept-at, met-admits, reduction-holds, value-fits}
+use Rattle.sf_dom.proofs.Lawful.{closed-zeros, kept-at, met-admits, reduction-holds}
 
 -- ---- the sets with the numbers that a condition excludes
 
@@ -22,32 +22,28 @@ none-excluded ks ex ns c none = record {
 }
 
 -- sets in which the number of a decided node is excluded for a word
-record HasSets (ex : List ℕ) (n : Node) (k : Known) : Type 0 where
-  sets : List ℕ
-  are : AreExcluded ex sets n k
+abbrev HasSets : List ℕ → Node → Known → Type 0
+HasSets ex n k = (sets : List ℕ) × AreExcluded ex sets n k
 
 unchanged : (ex : List ℕ) (n : Node) (k : Known) → ((w : ℕ) → n ≡ Word w → IsDecided k → ⊥) → HasSets ex n k
-unchanged ex n k none = record {
-  sets = ex;
-  are = record { words = refl; more = λ i m x. x; only = λ i m x. inl x; added = λ i e d. absurd (none i e d) };
-}
+unchanged ex n k none =
+    (ex, record { words = refl; more = λ i m x. x; only = λ i m x. inl x; added = λ i e d. absurd (none i e d) })
 
 sets-of : (ex : List ℕ) (n : Node) (k : Known) → length ex ≡ 16 → ((w : ℕ) → n ≡ Word w → w < 16) → HasSets ex n k
 sets-of ex (Word w) k l small = elim (cases_eq k.low k.high) [
   | inr ne ↦ unchanged ex (Word w) k (λ v e d. ne d)
-  | inl e ↦ record {
-    sets = set ex w (bit_or (2 ^ k.low) (numbers_at ex w));
-    are = excluded-word ex (set ex w (bit_or (2 ^ k.low) (numbers_at ex w))) w (Word w) k refl e
-        (added-at ex w (bit_or (2 ^ k.low) (numbers_at ex w)) k.low (omega (arith, l, small w refl))
-        (one-more k.low (numbers_at ex w)));
-  }
+  | inl e ↦
+      let more : ℕ = bit_or (2 ^ k.low) (numbers_at ex w) in (
+        set ex w more,
+        excluded-word ex (set ex w more) w (Word w) k refl e
+            (added-at ex w more k.low (omega (arith, l, small w refl)) (one-more k.low (numbers_at ex w))),
+      )
 ]
 sets-of ex n k l small = unchanged ex n k (λ w e d. let clash : n ≡ Word w = e in absurd cc)
 
 -- sets in which the numbers that a condition excludes are excluded
-record HasExclusions (ks : List Known) (ex : List ℕ) (ns : List Node) (c : Cond) : Type 0 where
-  sets : List ℕ
-  are : AreExcludedBy ks ex sets ns c
+abbrev HasExclusions : List Known → List ℕ → List Node → Cond → Type 0
+HasExclusions ks ex ns c = (sets : List ℕ) × AreExcludedBy ks ex sets ns c
 
 exclusions : (ks : List Known) (ex : List ℕ) (ns : List Node) (c : Cond) → IsPool ns → length ex ≡ 16
     → IsCondBelow (length ns) c → HasExclusions ks ex ns c
@@ -57,14 +53,14 @@ exclusions ks ex ns c p l below = on c.test c.sense refl refl
     small i li w e = word-below i (node_at ns i) (operands-below ns i p li) w e
 
     none : ¬ ((c.test ≡ Equal) × (c.sense ≡ false)) → HasExclusions ks ex ns c
-    none n = record { sets = ex; are = none-excluded ks ex ns c (λ w m x. n (x.0, x.1)) }
+    none n = (ex, none-excluded ks ex ns c (λ w m x. n (x.0, x.1)))
 
     on : (t : Test) (s : Bool) → c.test ≡ t → c.sense ≡ s → HasExclusions ks ex ns c
     on Equal false et es =
         let a = sets-of ex (node_at ns c.node.0) (known_at ks c.other.0) l (small c.node.0 below.0) in
-        let b = sets-of a.sets (node_at ns c.other.0) (known_at ks c.node.0) (a.are.words ∙ l)
+        let b = sets-of a.0 (node_at ns c.other.0) (known_at ks c.node.0) (a.1.words ∙ l)
         (small c.other.0 below.1) in
-        record { sets = b.sets; are = both-excluded ks ex a.sets b.sets ns c a.are b.are et es }
+        (b.0, both-excluded ks ex a.0 b.0 ns c a.1 b.1 et es)
     on Equal true et es = none (λ x. let clash : true ≡ false = sym es ∙ x.1 in absurd cc)
     on t s et es = none (λ x. let clash : t ≡ Equal = sym et ∙ x.0 in absurd cc)
 
@@ -144,9 +140,9 @@ pub forced-learns : (f : FactsView) (ns : List Node) (c : Cond) (number : ℕ)
     → IsForcedCondition f ns c number c.sense → (new : FactsView) × (new.known ≡ f.known) × LearnsBy f new ns c
 forced-learns f ns c number h =
     let all = exclusions f.known f.excluded ns c h.pool h.lists h.below in (
-      record { known = f.known; variables = f.variables; excluded = all.sets },
+      record { known = f.known; variables = f.variables; excluded = all.0 },
       refl,
-      learns f ns c number h all.sets all.are,
+      learns f ns c number h all.0 all.1,
     )
 
 not-not : (b : Bool) → not (not b) ≡ b
@@ -159,14 +155,14 @@ forced-cant f ns c number h =
     let all = exclusions f.known f.excluded ns c h.pool h.lists h.below in
     let none = rw (not-not c.sense, ← h.decided) at h.forced.other in
     record {
-      sets = all.sets;
-      excluded = all.are;
+      sets = all.0;
+      excluded = all.1;
       none = (
         None,
         (
           None,
-          (λ s is n. none s (closed-kept all.sets f.excluded c.node.0 s
-              (λ b m e kept x. kept (all.are.kept c.node.0 m x)) is) n),
+          (λ s is n. none s (closed-kept all.0 f.excluded c.node.0 s
+              (λ b m e kept x. kept (all.1.kept c.node.0 m x)) is) n),
           refl,
         ),
         refl,
@@ -195,7 +191,7 @@ forced-holds f ns i test number sense h l fits forced d input a =
     not-other (passes test x number) sense (λ e.
     let said = test-admits test (not sense) own n x number is one admitted (constant-admits number fits) e in
     reduction-holds None f.excluded i x (met own (assumed test (not sense) own n).node)
-    (value-fits f.known f.excluded ns d i closed l a)
+    (value-small ns d i h.pool input)
     (or_lt 32 own.zeros (assumed test (not sense) own n).node.zeros (closed-zeros own is) zeros.0)
     (λ b. kept-at f.known f.excluded ns d i h.pool here a b)
     (met-admits own (assumed test (not sense) own n).node x admitted said.0) forced.other)

@@ -1,16 +1,8 @@
 -- What follows from operands of which more is known loses nothing.
-use Rattle.sf_dom.proofs.Common.{◌≡◌, ℕ, ◌<◌, ◌≤◌, ◌^◌, ◌-◌, ◌+◌, ◌*◌, ◌/◌, ◌%◌, List, arith, refl, sym, ap, inl, inr, cases_lt, cases_eq, nat_tests, bit_at-zero, bit_at_and, bit_at_or, bit_at_above, div-le_self, bit_and, bit_or, BinOp, Add, Sub, Mul, Div, Or, And, Lsh, Rsh, Xor, OperandsBelow, Node, Bin, Neg, Known, IsNarrower, AreBitsOf, known_at, between, forward_known, forward_negated, forward_node, moved_left, moved_right, IsClosed, common_steps}
+use Rattle.sf_dom.proofs.Common.{ℕ, ◌<◌, ◌≤◌, ◌^◌, ◌-◌, ◌+◌, ◌*◌, ◌/◌, ◌%◌, List, arith, inl, inr, cases_lt, nat_tests, bit_at-zero, bit_at_and, bit_at_or, bit_at_above, div-le_self, bit_and, bit_or, BinOp, Mul, Div, Or, And, Lsh, Rsh, Xor, OperandsBelow, Node, Bin, Neg, Known, IsNarrower, AreBitsOf, known_at, forward_known, forward_negated, forward_node, moved_left, moved_right, IsClosed, common_steps, mul-le}
 use Rattle.sf_dom.proofs.Bits.{bit_at-mod, bit_at-shl_low, bit_at-shl_high, bit_at-shr, div_mono}
-use Rattle.sf_dom.proofs.forward.ForwardLemmas.{mul_mono, div_between}
+use Rattle.sf_dom.proofs.forward.ForwardLemmas.{div_between}
 use Rattle.sf_dom.proofs.Reductions.{IsNarrower-refl}
-use Rattle.sf_dom.proofs.RuleLemmas.{left-decided, left-full, right-decided, right-full}
-
--- an interval that begins at 0 loses nothing in one whose end is no higher
-open-narrower : (high : ℕ) (k : Known) → k.high ≤ high → IsNarrower (between 0 high) k
-open-narrower high k l = grind (arith, common_steps, bit_at-zero)
-
-between-narrower : (low high m n : ℕ) → low ≤ m → n ≤ high → IsNarrower (between low high) (between m n)
-between-narrower low high m n a b = record { low = a; high = b; zeros = λ i. omega arith; ones = λ i. omega arith }
 
 -- ---- bits
 
@@ -52,31 +44,10 @@ high-fits Xor a b oa ob fa fb = omega arith
 high-fits Rsh a b oa ob fa fb = let d = div-le_self a.high (2 ^ (b.low % 32)) in grind (arith, nat_tests)
 high-fits op a b oa ob fa fb = grind (arith, nat_tests)
 
-add-narrower : (a b c d : Known) → c.low ≤ c.high → d.low ≤ d.high → c.high < 2 ^ 32 → d.high < 2 ^ 32
-    → IsNarrower a c → IsNarrower b d → IsNarrower (forward_known Add a b) (forward_known Add c d)
-unfolding forward_known
-add-narrower a b c d oc od fc fd h k = grind (arith, nat_tests, bit_at-zero)
-
-sub-narrower : (a b c d : Known) → c.low ≤ c.high → d.low ≤ d.high → c.high < 2 ^ 32 → d.high < 2 ^ 32
-    → IsNarrower a c → IsNarrower b d → IsNarrower (forward_known Sub a b) (forward_known Sub c d)
-unfolding forward_known
-sub-narrower a b c d oc od fc fd h k = grind (arith, nat_tests, bit_at-zero)
-
-mul-narrower : (a b c d : Known) → c.low ≤ c.high → d.low ≤ d.high → IsNarrower a c → IsNarrower b d
-    → IsNarrower (forward_known Mul a b) (forward_known Mul c d)
-unfolding forward_known
-mul-narrower a b c d oc od h k = grind (arith, common_steps, nat_tests, bit_at-zero, mul_mono)
-
-div-narrower : (a b c d : Known) → c.low ≤ c.high → d.low ≤ d.high → c.high < 2 ^ 32 → IsNarrower a c
-    → IsNarrower b d → IsNarrower (forward_known Div a b) (forward_known Div c d)
-unfolding forward_known
-div-narrower a b c d oc od fc h k =
-    grind (arith, common_steps, cases_lt, nat_tests, bit_at-zero, div-le_self, div_between)
-
 left-narrower : (a c : Known) (s : ℕ) → c.high < 2 ^ 32 → IsNarrower a c → IsNarrower (moved_left a s) (moved_left c s)
 left-narrower a c s fc h =
-    let la = mul_mono a.low (2 ^ s) c.low (2 ^ s) h.low (omega arith) in
-    let ha = mul_mono c.high (2 ^ s) a.high (2 ^ s) h.high (omega arith) in
+    let la = mul-le a.low (2 ^ s) c.low (2 ^ s) h.low (omega arith) in
+    let ha = mul-le c.high (2 ^ s) a.high (2 ^ s) h.high (omega arith) in
     let z = or-of (a.zeros * 2 ^ s % 2 ^ 32) (2 ^ s - 1) (c.zeros * 2 ^ s % 2 ^ 32) (2 ^ s - 1)
     (left-of a.zeros c.zeros s h.zeros) (λ i. omega arith) in
     let o = left-of a.ones c.ones s h.ones in
@@ -91,50 +62,19 @@ right-narrower a c s h = record {
   ones = right-of a.ones c.ones s h.ones;
 }
 
-lsh-narrower : (a b c d : Known) → d.low ≤ d.high → c.high < 2 ^ 32 → c.low ≤ c.high → d.high < 2 ^ 32 → IsNarrower a c
-    → IsNarrower b d → IsNarrower (forward_known Lsh a b) (forward_known Lsh c d)
-lsh-narrower a b c d od fc oc fd h k =
-    elim (cases_eq b.low b.high) [
-      | inl e ↦
-          let same : d.low % 32 ≡ b.low % 32 = ap (λ n. n % 32) (omega arith) in
-          let decided : d.low ≡ d.high = omega arith in
-          rw (← left-decided a b (b.low % 32) e refl, ← left-decided c d (b.low % 32) decided (sym same))
-          (left-narrower a c (b.low % 32) fc h)
-      | inr e ↦ rw (← left-full a b e) (open-narrower 4294967295 (forward_known Lsh c d)
-          (high-fits Lsh c d oc od fc fd))
-    ]
-
-rsh-narrower : (a b c d : Known) → d.low ≤ d.high → IsNarrower a c → IsNarrower b d
-    → IsNarrower (forward_known Rsh a b) (forward_known Rsh c d)
-rsh-narrower a b c d od h k =
-    let lb = k.low in let hb = k.high in let ha = h.high in
-    elim (cases_eq b.low b.high) [
-      | inl e ↦
-          let same : d.low % 32 ≡ b.low % 32 = ap (λ n. n % 32) (omega arith) in
-          let decided : d.low ≡ d.high = omega arith in
-          rw (← right-decided a b (b.low % 32) e refl, ← right-decided c d (b.low % 32) decided (sym same))
-          (right-narrower a c (b.low % 32) h)
-      | inr e ↦ elim (cases_eq d.low d.high) [
-        | inl f ↦ rw (← right-full a b e, ← right-decided c d (d.low % 32) f refl)
-            (open-narrower a.high (moved_right c (d.low % 32)) (omega (arith, div-le_self c.high (2 ^ (d.low % 32)))))
-        | inr f ↦ rw (← right-full a b e, ← right-full c d f) (between-narrower 0 a.high 0 c.high (omega arith) ha)
-      ]
-    ]
-
-or-narrower : (a b c d : Known) → IsNarrower a c → IsNarrower b d
-    → IsNarrower (forward_known Or a b) (forward_known Or c d)
+right-high : (a b : Known) (n : ℕ) → a.high ≤ n → (forward_known Rsh a b).high ≤ n
 unfolding forward_known
-or-narrower a b c d h k = grind (arith, common_steps, and-of, or-of)
+right-high a b n l = let d = div-le_self a.high (2 ^ (b.low % 32)) in grind (arith, nat_tests)
 
-and-narrower : (a b c d : Known) → IsNarrower a c → IsNarrower b d
-    → IsNarrower (forward_known And a b) (forward_known And c d)
+known-narrower : (op : BinOp) (a b c d : Known) → c.low ≤ c.high → d.low ≤ d.high → c.high < 2 ^ 32 → d.high < 2 ^ 32
+    → IsNarrower a c → IsNarrower b d → IsNarrower (forward_known op a b) (forward_known op c d)
 unfolding forward_known
-and-narrower a b c d h k = grind (arith, common_steps, and-of, or-of)
-
-xor-narrower : (a b c d : Known) → IsNarrower a c → IsNarrower b d
-    → IsNarrower (forward_known Xor a b) (forward_known Xor c d)
-unfolding forward_known
-xor-narrower a b c d h k = record {
+known-narrower Mul a b c d oc od fc fd h k = grind (arith, common_steps, nat_tests, bit_at-zero, mul-le)
+known-narrower Div a b c d oc od fc fd h k =
+    grind (arith, common_steps, cases_lt, nat_tests, bit_at-zero, div-le_self, div_between)
+known-narrower Or a b c d oc od fc fd h k = grind (arith, common_steps, and-of, or-of)
+known-narrower And a b c d oc od fc fd h k = grind (arith, common_steps, and-of, or-of)
+known-narrower Xor a b c d oc od fc fd h k = record {
   low = omega arith;
   high = omega arith;
   zeros = or-of (bit_and a.zeros b.zeros) (bit_and a.ones b.ones) (bit_and c.zeros d.zeros) (bit_and c.ones d.ones)
@@ -142,18 +82,13 @@ xor-narrower a b c d h k = record {
   ones = or-of (bit_and a.zeros b.ones) (bit_and a.ones b.zeros) (bit_and c.zeros d.ones) (bit_and c.ones d.zeros)
       (and-of a.zeros b.ones c.zeros d.ones h.zeros k.ones) (and-of a.ones b.zeros c.ones d.zeros h.ones k.zeros);
 }
-
-known-narrower : (op : BinOp) (a b c d : Known) → IsClosed c → IsClosed d → IsNarrower a c → IsNarrower b d
-    → IsNarrower (forward_known op a b) (forward_known op c d)
-known-narrower Add a b c d h k n m = add-narrower a b c d h.ordered k.ordered h.fits k.fits n m
-known-narrower Sub a b c d h k n m = sub-narrower a b c d h.ordered k.ordered h.fits k.fits n m
-known-narrower Mul a b c d h k n m = mul-narrower a b c d h.ordered k.ordered n m
-known-narrower Div a b c d h k n m = div-narrower a b c d h.ordered k.ordered h.fits n m
-known-narrower Or a b c d h k n m = or-narrower a b c d n m
-known-narrower And a b c d h k n m = and-narrower a b c d n m
-known-narrower Xor a b c d h k n m = xor-narrower a b c d n m
-known-narrower Lsh a b c d h k n m = lsh-narrower a b c d k.ordered h.fits h.ordered k.fits n m
-known-narrower Rsh a b c d h k n m = rsh-narrower a b c d k.ordered n m
+known-narrower Lsh a b c d oc od fc fd h k =
+    let low = k.low in let high = k.high in let l = left-narrower a c (b.low % 32) fc h in
+    let top = high-fits Lsh c d oc od fc fd in grind (arith, nat_tests, bit_at-zero)
+known-narrower Rsh a b c d oc od fc fd h k =
+    let low = k.low in let high = k.high in let r = right-narrower a c (b.low % 32) h in
+    let top = right-high c d a.high h.high in grind (arith, nat_tests, bit_at-zero)
+known-narrower op a b c d oc od fc fd h k = grind (arith, nat_tests, bit_at-zero)
 
 negated-narrower : (a c : Known) → c.low ≤ c.high → c.high < 2 ^ 32 → IsNarrower a c
     → IsNarrower (forward_negated a) (forward_negated c)
@@ -165,8 +100,9 @@ pub forward-narrower : (old new : List Known) (k : ℕ) (n : Node) → OperandsB
     → ((j : ℕ) → j < k → IsClosed (known_at new j)) → ((j : ℕ) → j < k → IsNarrower (known_at old j) (known_at new j))
     → IsNarrower (forward_node old n) (forward_node new n)
 forward-narrower old new k (Bin op a b) o closed h =
-    known-narrower op (known_at old a.0) (known_at old b.0) (known_at new a.0) (known_at new b.0) (closed a.0 o.0)
-    (closed b.0 o.1) (h a.0 o.0) (h b.0 o.1)
+    let c = closed a.0 o.0 in let d = closed b.0 o.1 in
+    known-narrower op (known_at old a.0) (known_at old b.0) (known_at new a.0) (known_at new b.0) c.ordered d.ordered
+    c.fits d.fits (h a.0 o.0) (h b.0 o.1)
 forward-narrower old new k (Neg a) o closed h =
     let c = closed a.0 o in
     negated-narrower (known_at old a.0) (known_at new a.0) c.ordered c.fits (h a.0 o)

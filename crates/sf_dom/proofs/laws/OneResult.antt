@@ -74,7 +74,7 @@ taken-one : (old a b : List Known) (ex : List ℕ) (ns : List Node) → IsPool n
 taken-one old a b ex ns p h k =
     let same = same-taken old a b ex ns (length ns) p (omega arith) h.kept k.kept h.each k.each in
     let ca = h.count in let cb = k.count in
-    ext_get_or (known_of 0 0 0 0) a b (ca ∙ sym cb) (λ i l. same (length ns) (omega arith) i (omega arith))
+    ext_get_or (known_of 0 0 0 0) a b (ca ∙ sym cb) (λ i l. same i (omega arith))
 
 -- where a newer node is left nothing, they aren't taken in
 taken-none : (old new : List Known) (ex : List ℕ) (ns : List Node) → IsPool ns → AreTakenIn old new ex ns
@@ -83,7 +83,7 @@ taken-none old new ex ns p h k =
     let i = k.place in let l = k.within in let g = k.newer in
     let same = same-taken old new k.new ex ns i p (omega arith) h.kept k.kept
     (λ j m b. h.each j m (omega arith)) k.before in
-    let older = forward-same new k.new i (node_at ns i) (operands-below ns i p l) (same i (omega arith)) in
+    let older = forward-same new k.new i (node_at ns i) (operands-below ns i p l) same in
     let r = rw older at (h.each i g l) in
     k.none (known_at new i) r.is r.narrower
 

@@ -46,21 +46,6 @@ laid-out slots os k = record {
     rest i l (Number c) e = inr (k.numbers i c l e, rw (known-slot slots os i l, e) refl)
     rest i l (VariableAt r) e = let v = k.variables i r l e in inl (r, omega (arith, places-length os, v.0), v.1)
 
--- the variables keep their places
-pub places-set : (os : List Variable) (r i : ℕ) (x : Known) → slice_index (places_of os) r ≡ i
-    → places_of (set os r (variable_of i x)) ≡ places_of os
-places-set os r i x e = grind (arith, common_steps, map-set, set-get_or)
-
-pub kept-set : (slots : List Slot) (os : List Variable) (r i : ℕ) (x : Known) → slice_index (places_of os) r ≡ i
-    → AreKept slots os → AreKept slots (set os r (variable_of i x))
-kept-set slots os r i x e k = record {
-  variables = λ j q l s. rw (length-set os r (variable_of i x), places-set os r i x e) (k.variables j q l s);
-  within = λ j l. rw (places-set os r i x e) (k.within j (omega (arith, length-set os r (variable_of i x))));
-  rising = λ j m a l. rw (places-set os r i x e) (k.rising j m a (omega (arith, length-set os r (variable_of i x))));
-  told = λ q l. rw (places-set os r i x e) (k.told q (omega (arith, length-set os r (variable_of i x))));
-  numbers = k.numbers;
-}
-
 -- a node whose slot is that of a variable
 pub record IsVariable (slots : List Slot) (os : List Variable) (i r : ℕ) : Type 0 where
   pub below : i < length slots
@@ -117,12 +102,22 @@ known-set_known slots os r x k l =
 -- the variables keep their places
 pub places-set_known : (os : List Variable) (r : ℕ) (x : Known) → r < length os
     → places_of (set_known os r x) ≡ places_of os
-places-set_known os r x l = rw (place-of os r l) (places-set os r (slice_index (places_of os) r) x refl)
+places-set_known os r x l = map-set (λ (o : Variable). o.place) os r _ ∙ ap (set (places_of os) r) (place-of os r l)
+    ∙ set-get_or (places_of os) r 0
 
 -- and are kept as before
 pub kept-set_known : (slots : List Slot) (os : List Variable) (r : ℕ) (x : Known) → AreKept slots os → r < length os
     → AreKept slots (set_known os r x)
-kept-set_known slots os r x k l = rw (place-of os r l) (kept-set slots os r (slice_index (places_of os) r) x refl k)
+kept-set_known slots os r x k l =
+    let same = places-set_known os r x l in
+    let count : length (set_known os r x) ≡ length os = length-set os r _ in
+    record {
+      variables = λ j q b s. rw (count, same) (k.variables j q b s);
+      within = λ j b. rw same (k.within j (omega (arith, b, count)));
+      rising = λ j m a b. rw same (k.rising j m a (omega (arith, b, count)));
+      told = λ q b. rw same (k.told q (omega (arith, b, count)));
+      numbers = k.numbers;
+    }
 
 -- one more slot, with a number
 pub kept-number : (slots : List Slot) (os : List Variable) (c : ℕ) → 16 ≤ length slots → AreKept slots os
@@ -183,11 +178,7 @@ kept-variable slots os x k = record {
     | inr g ↦ (let rank : r ≡ length os = omega (arith, length_push os v) in
         rw rank (omega (arith, newest, length_push slots (VariableAt (length os)))))
   ];
-  rising = λ j m a l. elim (cases_lt m (length os)) [
-    | inl b ↦ omega (arith, older j (omega arith), older m b, k.rising j m a b)
-    | inr g ↦ (let rank : m ≡ length os = omega (arith, length_push os v) in
-        rw rank (omega (arith, newest, older j (omega arith), k.within j (omega arith))))
-  ];
+  rising = grind (arith, common_steps, cases_lt, length_push, older, newest);
   told = λ r l. elim (cases_lt r (length os)) [
     | inl b ↦ rw (older r b) (get_or_append_left slots (VariableAt (length os) ∷ []) (Number 0)
         (slice_index (places_of os) r) (k.within r b) ∙ k.told r b)

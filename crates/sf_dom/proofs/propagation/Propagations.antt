@@ -3,6 +3,7 @@ use Rattle.sf_dom.proofs.Common.{◌≡◌, ◌≢◌, ℕ, Bool, true, false, �
 use Rattle.sf_dom.proofs.Passes.{operands-below, forward-same, fixed-rest, word-rest, fixed-same, decided-same, decided-as}
 use Rattle.sf_dom.proofs.Reductions.{IsNarrower-refl}
 use Rattle.sf_dom.proofs.RuleLaws.{one-reduction}
+use Rattle.sf_dom.proofs.Then.{by-older}
 
 pub word-below : (k : ℕ) (n : Node) → OperandsBelow k n → (i : ℕ) → n ≡ Word i → i < 16
 word-below k n o i e = rw e at o
@@ -178,18 +179,12 @@ pub same-taken : (old a b : List Known) (ex : List ℕ) (ns : List Node) (i : �
     → take (length old) a ≡ old → take (length old) b ≡ old
     → ((k : ℕ) → length old ≤ k → k < i → IsReduction ex k (forward_node a (node_at ns k)) (known_at a k))
     → ((k : ℕ) → length old ≤ k → k < i → IsReduction ex k (forward_node b (node_at ns k)) (known_at b k))
-    → (m : ℕ) → m ≤ i → (k : ℕ) → k < m → known_at a k ≡ known_at b k
-same-taken old a b ex ns i p l ta tb ha hb zero lm k lk = absurd (omega arith)
-same-taken old a b ex ns i p l ta tb ha hb (suc m) lm k lk =
-    let before = same-taken old a b ex ns i p l ta tb ha hb m (omega arith) in
-    elim (cases_lt k m) [
-      | inl s ↦ before k s
-      | inr o ↦ elim (cases_lt k (length old)) [
-        | inl e ↦ sym (taken-older old a k ta e) ∙ taken-older old b k tb e
-        | inr g ↦
-            let older = forward-same a b k (node_at ns k) (operands-below ns k p (omega arith))
-            (λ j s. before j (omega arith)) in
-            one-reduction (IsClosedAt ex k) (forward_node b (node_at ns k)) (known_at a k) (known_at b k)
-            (rw older at (ha k g (omega arith))) (hb k g (omega arith))
-      ]
-    ]
+    → (k : ℕ) → k < i → known_at a k ≡ known_at b k
+same-taken old a b ex ns i p l ta tb ha hb = by-older (λ k. known_at a k ≡ known_at b k) i (λ k lk before.
+    elim (cases_lt k (length old)) [
+      | inl e ↦ sym (taken-older old a k ta e) ∙ taken-older old b k tb e
+      | inr g ↦
+          let older = forward-same a b k (node_at ns k) (operands-below ns k p (omega arith)) before in
+          one-reduction (IsClosedAt ex k) (forward_node b (node_at ns k)) (known_at a k) (known_at b k)
+          (rw older at (ha k g lk)) (hb k g lk)
+    ])

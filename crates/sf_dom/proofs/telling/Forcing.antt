@@ -1,12 +1,12 @@
 -- What is known of a word forces the result of a test against a number.
-use Rattle.sf_dom.proofs.Common.{common_steps, ◌≡◌, ◌≢◌, ℕ, List, ◌<◌, ◌≤◌, ◌^◌, ◌-◌, ◌⊎◌, arith, refl, sym, ap, ◌∙◌, inl, inr, cases_lt, nat_tests, bit_at-zero, bit_at-lt, bit_at_or, bit_at_and, bit_at_not, bit_at_above, bit_at, w32, trailing_zeros, and_lt, Option, Some, None, IfSome, Bool, true, false, bit_and, bit_or, Test, Equal, Greater, GreaterOrEqual, AnyBit, OperandsBelow, Node, Word, Known, Has, IsNarrower, AreBitsOf, HasBits, numbers_at, excluded_of, assumed, met, number_known, some_of, none_of, IsClosed, IsClosedAt, HasNone, IsForcedBy, closed-consistent, none-has}
+use Rattle.sf_dom.proofs.Common.{common_steps, ◌≡◌, ◌≢◌, ℕ, List, ◌<◌, ◌^◌, ◌-◌, ◌⊎◌, arith, refl, sym, ap, ◌∙◌, inl, inr, cases_lt, nat_tests, bit_at-zero, bit_at-lt, bit_at_or, bit_at_and, bit_at_not, bit_at_above, bit_at, w32, Option, Some, None, IfSome, Bool, true, false, bit_and, bit_or, Test, Equal, AnyBit, OperandsBelow, Node, Word, Known, Has, IsNarrower, AreBitsOf, HasBits, numbers_at, excluded_of, assumed, met, number_known, some_of, none_of, IsClosed, IsClosedAt, HasNone, IsForcedBy, closed-consistent, none-has}
 use Rattle.sf_dom.proofs.Bits.{no-zeros}
 use Rattle.sf_dom.proofs.CommonBits.{common-bits, common-open, and-zero}
 use Rattle.sf_dom.proofs.Lawful.{closed-zeros}
 use Rattle.sf_dom.proofs.Passes.{met-below, one-number}
 use Rattle.sf_dom.proofs.propagation.Propagations.{word-below}
 use Rattle.sf_dom.proofs.Reductions.{IsNarrower-refl}
-use Rattle.sf_dom.proofs.TestLaws.{some-cases, small-place, at-decided}
+use Rattle.sf_dom.proofs.TestLaws.{some-cases, at-decided}
 
 pub equal-apart : (k : Known) (n : ℕ) → IsClosed k → (n < k.low) ⊎ (k.high < n) → IsForcedBy IsClosed k Equal n false
 unfolding assumed
@@ -31,23 +31,6 @@ equal-one k n h a b =
     let same : k ≡ number_known n = one-number k (closed-consistent k h) (a ∙ sym b) ∙ ap number_known a in
     rw same (number-one n)
 
-pub greater-true : (k : Known) (n : ℕ) → IsClosed k → n < k.low → IsForcedBy IsClosed k Greater n true
-unfolding assumed
-greater-true k n h l = grind (arith, common_steps, nat_tests)
-
-pub greater-false : (k : Known) (n : ℕ) → IsClosed k → n < 2 ^ 32 → k.high ≤ n → IsForcedBy IsClosed k Greater n false
-unfolding assumed
-greater-false k n h f l = grind (arith, common_steps, nat_tests)
-
-pub at-least-true : (k : Known) (n : ℕ) → IsClosed k → n ≤ k.low → IsForcedBy IsClosed k GreaterOrEqual n true
-unfolding assumed
-at-least-true k n h l = grind (arith, common_steps, nat_tests)
-
-pub at-least-false : (k : Known) (n : ℕ) → IsClosed k → n < 2 ^ 32 → k.high < n
-    → IsForcedBy IsClosed k GreaterOrEqual n false
-unfolding assumed
-at-least-false k n h f l = grind (arith, common_steps, nat_tests)
-
 -- known bits of a word are apart
 own-bits : (k : Known) → IsClosed k → HasBits k.ones k.zeros k.ones
 own-bits k h = record { zero = λ i. h.apart i; one = λ i. omega arith }
@@ -55,14 +38,10 @@ own-bits k h = record { zero = λ i. h.apart i; one = λ i. omega arith }
 some-stays : (k : Known) (n : ℕ) → IsClosed k → n < 2 ^ 32 → bit_and k.ones n ≢ 0 → IsNarrower (some_of n k) k
 some-stays k n h f ne =
     let z = closed-zeros k h in
-    let u : ℕ = bit_and n (4294967295 - k.zeros) in
-    let fits : u < 2 ^ 32 = and_lt 32 n (4294967295 - k.zeros) f (omega arith) in
     some-cases n k (λ r. IsNarrower r k)
     (λ e. absurd (ne (common-open k.ones n k.zeros k.ones f z (own-bits k h) ∙ ap (bit_and k.ones) e
     ∙ and-zero k.ones))) (λ nz e.
-    let t = small-place u (trailing_zeros w32 u) fits e in
-    let b = common-bits k.ones n k.zeros k.ones (trailing_zeros w32 u) f z t (omega (arith, fits, e)) ne
-    (own-bits k h) in
+    let b = common-bits k.ones n k.zeros k.ones _ f z e ne (own-bits k h) in
     record { low = omega arith; high = omega arith; zeros = λ i. omega arith; ones = b.one })
     (λ nz e. IsNarrower-refl k)
 

@@ -3,7 +3,7 @@
 use Rattle.std.proofs.Common.{◌≡◌, ℕ, ◌<◌, ◌≤◌, ◌-◌, ◌+◌, ◌/◌, ◌^◌, List, length, get_or, set, map, take, arith, sym, ap, ◌∙◌, inl, inr}
 use Rattle.std.proofs.lemmas.Bool.{cases_eq, cases_lt}
 use Rattle.std.proofs.lemmas.List.{get_or-set_same, get_or-set_other, length-set, length-map, get_or-map, get_or_past, get_or-take, length-take-le}
-use Rattle.std.proofs.lemmas.Nat.Bits.{bit_at_not, bit_at-lt, bit_at-zero, bit_at_above, same_from_bits}
+use Rattle.std.proofs.lemmas.Nat.Bits.{bit_at_not, bit_at-lt, bit_at-zero, bit_at_above, same_from_bits_below}
 use Rattle.std.specs.Int.{bit_at, w32}
 use Rattle.std.specs.Prelude.{slice_index}
 use Rattle.sf_insn.specs.Inputs.{IsInput}
@@ -101,15 +101,10 @@ closed-consistent k h =
     record {
       ordered = ordered;
       fits = fits;
-      zeros = λ e. same_from_bits k.zeros (4294967295 - k.low) (λ i. elim (cases_lt i 32) [
-        | inl l ↦ (h.leading i l (ap (λ n. n / 2 ^ i) e)).0 ∙ sym (bit_at_not w32 k.low i (omega arith) l)
-        | inr g ↦ bit_at_above k.zeros 32 i (omega arith) g
-            ∙ sym (bit_at_above (4294967295 - k.low) 32 i (omega arith) g)
-      ]);
-      ones = λ e. same_from_bits k.ones k.low (λ i. elim (cases_lt i 32) [
-        | inl l ↦ (h.leading i l (ap (λ n. n / 2 ^ i) e)).1
-        | inr g ↦ bit_at_above k.ones 32 i (omega arith) g ∙ sym (bit_at_above k.low 32 i (omega arith) g)
-      ]);
+      zeros = λ e. same_from_bits_below 32 k.zeros (4294967295 - k.low) (omega arith) (omega arith) (λ i l.
+          (h.leading i l (ap (λ n. n / 2 ^ i) e)).0 ∙ sym (bit_at_not w32 k.low i (omega arith) l));
+      ones = λ e. same_from_bits_below 32 k.ones k.low (omega arith) (omega arith)
+          (λ i l. (h.leading i l (ap (λ n. n / 2 ^ i) e)).1);
     }
 
 -- a constant of which nothing more follows is known

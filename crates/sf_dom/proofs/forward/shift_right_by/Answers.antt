@@ -1,4 +1,4 @@
-use Rattle.sf_dom.proofs.RuleLemmas.{shr-all}
+use Rattle.sf_dom.proofs.forward.ForwardLemmas.{shr-all}
 use Rattle.sf_dom.proofs.forward.shift_right_by.Goals as goal
 
 pub returns : goal.returns

@@ -9,4 +9,4 @@ returns-in_ok-insert_number-in-Err-clause-rising c =
 pub returns-in_ok-insert_number-in-Err-clause-numbers : goal.returns-in_ok-insert_number-in-Err-clause-numbers
 returns-in_ok-insert_number-in-Err-clause-numbers c =
     rw c.in_ok-insert_number-in-Err.ensures
-    (λ n. inserted-numbers c.args.list.now c.args.number c.in-Err.at n c.in-Err.ensures.bound)
+    (inserted-numbers c.args.list.now c.args.number c.in-Err.at)

@@ -1,15 +1,14 @@
-use Rattle.sf_dom.proofs.Common.{◌≢◌, ℕ, ◌≤◌, arith, refl, inl, inr, cases_eq, Equal, Known, IsOpen}
-use Rattle.sf_dom.proofs.TestLaws.{differs-gives, equal-gives}
+use Rattle.sf_dom.proofs.Common.{◌≢◌, ℕ, ◌≤◌, arith, refl, inl, inr, cases_eq, Equal, Known, IsOpen, eq-eqb, ne_eqb}
 use Rattle.sf_dom.proofs.telling.Forcing.{equal-apart, equal-one}
 use Rattle.sf_dom.proofs.telling.tell_equal.Goals as goal
 
 -- a number that passes, and one that fails
 open-equal : (k : Known) (n : ℕ) → k.low ≤ n → n ≤ k.high → k.low ≢ k.high → IsOpen Equal k n
 open-equal k n above below ne = (
-  (n, above, below, equal-gives n n refl),
+  (n, above, below, eq-eqb n n refl),
   elim (cases_eq k.low n) [
-    | inl e ↦ (k.high, omega arith, omega arith, differs-gives k.high n (λ f. ne (omega arith)))
-    | inr d ↦ (k.low, omega arith, omega arith, differs-gives k.low n d)
+    | inl e ↦ (k.high, omega arith, omega arith, ne_eqb k.high n (λ f. ne (omega arith)))
+    | inr d ↦ (k.low, omega arith, omega arith, ne_eqb k.low n d)
   ],
 )
 

@@ -15,9 +15,4 @@ returns-in_ok-self-inside-in-Some-clause-covers c =
     (record { known = told; variables = places; excluded = refl }))
 
 pub invariant_of-self : goal.invariant_of-self
-invariant_of-self c =
-    let told = rw (c.in-Some.is, c.deref.ensures) at c.in_ok-restrict.ensures.rule in
-    let places = rw (c.in-Some.is, c.deref.ensures) at c.in_ok-restrict.ensures.variables in
-    rw c.in_ok-self-inside-in-Some.ensures.ok (covers-facts _ c.args.pool.now (confines-covers _ c.args.pool.now
-    c.args.word c.args.more (rw (← c.self.view_is) at c.requires.covers) c.requires.word (omega arith) _
-    (record { known = told; variables = places; excluded = refl })))
+invariant_of-self c = covers-facts _ c.args.pool.now (returns-in_ok-self-inside-in-Some-clause-covers c)

@@ -16,9 +16,4 @@ returns-in_ok-new-in-Some-clause-covers c =
     (record { excluded = told.0; known = told.1; variables = places }))
 
 pub invariant_of-result : goal.invariant_of-result
-invariant_of-result c =
-    let told = rw (c.in-Some.is, c.deref.ensures) at c.in_ok-learn_cond.ensures.rule in
-    let places = rw (c.in-Some.is, c.deref.ensures) at c.in_ok-learn_cond.ensures.variables in
-    rw c.in_ok-new-in-Some.ensures.ok (covers-facts _ c.args.pool.now (learns-covers _ c.args.pool.now c.args.cond.now
-    (rw (← c.self.view_is) at c.requires.covers) c.requires.below _
-    (record { excluded = told.0; known = told.1; variables = places })))
+invariant_of-result c = covers-facts _ c.args.pool.now (returns-in_ok-new-in-Some-clause-covers c)
