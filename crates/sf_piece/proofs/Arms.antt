@@ -1,5 +1,5 @@
 -- The instructions that meet nothing, one by one.
-use Rattle.sf_piece.proofs.Common.{common_steps, arith, ◌≡◌, ℕ, zero, suc, ◌+◌, ◌<◌, List, [], ◌∷◌, length, map, Some, slice_get, refl, sym, ap, ◌∙◌, inl, option_map, slice_set, length-map, same_Some, Input, Insn, LoadScratch, LoadXScratch, StoreA, StoreX, goes, insn_progress, Node, Const, NodeId, value_of, SymbolicMachine, on, PieceData, concrete_state, AreNodesBelow, GoesTo, GoesBy, SetsA, SetsX, IsPushed, HasAtHand}
+use Rattle.sf_piece.proofs.Common.{common_steps, arith, ◌≡◌, ℕ, zero, suc, ◌+◌, ◌<◌, List, [], ◌∷◌, length, map, Some, slice_get, refl, sym, ap, ◌∙◌, inl, option_map, slice_set, length-map, same_Some, Input, Insn, LoadScratch, LoadXScratch, StoreA, StoreX, goes, insn_progress, Node, Const, NodeId, value_of, SymbolicMachine, on, PieceData, concrete_state, AreNodesBelow, GoesTo, GoesBy, SetsA, SetsX, IsPushed, HasAtHand, slice_get-map}
 use Rattle.std.proofs.Common.{Option}
 use Rattle.sf_piece.proofs.Kept.{some_input}
 
@@ -36,9 +36,7 @@ sixteen_scratch_words p i s =
 
 map_at : (f : NodeId → ℕ) (ws : List (Option NodeId)) (k : ℕ) (w : NodeId) → slice_get ws k ≡ Some (Some w)
     → slice_get (map (option_map f) ws) k ≡ Some (Some (f w))
-map_at f [] k w e = absurd cc
-map_at f (o ∷ ws) zero w e = ap (λ (x : Option NodeId). Some (option_map f x)) (same_Some o (Some w) e)
-map_at f (o ∷ ws) (suc k) w e = map_at f ws k w e
+map_at f ws k w e = slice_get-map (option_map f) ws k ∙ ap (option_map (option_map f)) e
 
 map_set : (f : NodeId → ℕ) (ws : List (Option NodeId)) (k : ℕ) (w : NodeId)
     → map (option_map f) (slice_set ws k (Some w)) ≡ slice_set (map (option_map f) ws) k (Some (f w))

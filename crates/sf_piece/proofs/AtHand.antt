@@ -1,5 +1,5 @@
 -- The instruction at hand, the end, and the first piece.
-use Rattle.sf_piece.proofs.Common.{common_steps, ◌≡◌, ℕ, zero, suc, ◌+◌, ◌-◌, ◌*◌, ◌<◌, ◌≤◌, ◌^◌, Bool, true, false, List, [], ◌∷◌, ◌++◌, length, drop, map, reverse, get_or, Some, None, slice_get, refl, sym, ap, subst, ◌∙◌, arith, append-nil, length-drop, option_map, if◌then◌else◌, get_or-reverse, length-reverse, same_Some, slice_get-get_or, pow-le-pow_right, get_or_default, Input, IsInput, Insn, IsAt, IsLawfulStack, start, IsAnswer, answer_none, IsWholeRoute, load_is_set, newest_first, Node, NodeId, IsPool, value_of, FactsView, Covers, Agrees, first_machine, PieceData, is_member, IsRightAnswer, IsRoot, concrete_state, number_from, StandsAt, IsPiece, IsLawfulPiece, HasAtHand}
+use Rattle.sf_piece.proofs.Common.{common_steps, ◌≡◌, ℕ, zero, suc, ◌+◌, ◌-◌, ◌*◌, ◌<◌, ◌≤◌, ◌^◌, Bool, true, false, List, [], ◌∷◌, ◌++◌, length, drop, map, reverse, get_or, Some, None, slice_get, refl, sym, ap, subst, ◌∙◌, arith, append-nil, length-drop, option_map, get_or-reverse, length-reverse, same_Some, slice_get-get_or, pow-le-pow_right, get_or_default, Input, IsInput, Insn, IsAt, IsLawfulStack, start, IsAnswer, answer_none, IsWholeRoute, load_is_set, newest_first, Node, NodeId, value_of, FactsView, Covers, Agrees, first_machine, PieceData, is_member, IsRightAnswer, concrete_state, number_from, StandsAt, IsPiece, HasAtHand, Const, node_at, started, value-constant, IsFirst, code_at}
 use Rattle.std.proofs.Common.{Option}
 use Rattle.sf_piece.proofs.Moves.{runs_whole, route_whole, starts_in, none_taken}
 use Rattle.sf_piece.proofs.Kept.{some_input, none_set, pre_short}
@@ -20,15 +20,12 @@ unmap f (w ∷ ws) (suc k) n e = unmap f ws k n e
 
 number_small : (n : ℕ) (bs : List Bool) → number_from n bs < (n + 1) * 2 ^ length bs
 number_small n [] = omega arith
-number_small n (b ∷ bs) =
+number_small n (true ∷ bs) =
     let pow : 2 ^ suc (length bs) ≡ 2 * 2 ^ length bs = omega arith in
-    by b (number_small (2 * n + (if b then 1 else 0)) bs) pow
-  where
-    by : (b : Bool) → number_from (2 * n + (if b then 1 else 0)) bs < (2 * n + (if b then 1 else 0) + 1) * 2 ^ length bs
-        → 2 ^ suc (length bs) ≡ 2 * 2 ^ length bs → number_from (2 * n + (if b then 1 else 0)) bs
-        < (n + 1) * 2 ^ suc (length bs)
-    by true h pow = rw pow (omega (arith, h))
-    by false h pow = rw pow (omega (arith, h))
+    rw pow (omega (arith, number_small (2 * n + 1) bs))
+number_small n (false ∷ bs) =
+    let pow : 2 ^ suc (length bs) ≡ 2 * 2 ^ length bs = omega arith in
+    rw pow (omega (arith, number_small (2 * n + 0) bs))
 
 pub pow_le : (k m : ℕ) → k ≤ m → 2 ^ k ≤ 2 ^ m
 pow_le k m h = pow-le-pow_right {n = 2} (omega arith) h
@@ -39,46 +36,36 @@ left_count : (p : PieceData) (rest : List (List Insn)) (base pre : List Bool) �
 left_count p rest base pre s = grind (arith, common_steps, length-drop, length-reverse)
 
 -- where a program is left, the piece stands in the one that the stack has there
-record StandsIn (p : PieceData) (base pre : List Bool) : Type 0 where
-  code : List Insn
-  later : List (List Insn)
-  stands : StandsAt p (code ∷ later) base pre
-  is : code ≡ get_or p.stack (length p.stack - 1 - p.machine.program) []
-
 stands_in : (p : PieceData) (rest : List (List Insn)) (base pre : List Bool) → StandsAt p rest base pre
-    → p.machine.program < length p.stack → StandsIn p base pre
+    → p.machine.program < length p.stack → (later : List (List Insn)) × StandsAt p (code_at p ∷ later) base pre
 stands_in p [] base pre s running = absurd (let none = left_count p [] base pre s in omega arith)
-stands_in p (code ∷ later) base pre s running = record {
-  code = code;
-  later = later;
-  stands = s;
-  is = search (arith, drop_first, get_or-reverse);
-}
+stands_in p (code ∷ later) base pre s running =
+    let is : code ≡ code_at p = search (arith, drop_first, get_or-reverse) in
+    (later, subst (λ (c : List Insn). StandsAt p (c ∷ later) base pre) is s)
 
 pub at_hand : (p : PieceData) (i : Insn) → IsPiece p → p.machine.program < length p.stack
-    → IsAt (get_or p.stack (length p.stack - 1 - p.machine.program) []) p.machine.place i → HasAtHand p i
+    → IsAt (code_at p) p.machine.place i → HasAtHand p i
 at_hand p i h running at =
     let in_code = stands_in p h.rest h.base h.pre h.stands running in
-    let s = in_code.stands in
-    let here : IsAt in_code.code p.machine.place i =
-    subst (λ (c : List Insn). IsAt c p.machine.place i) (sym in_code.is) at in
+    let s = in_code.1 in
     let safe = s.inside.safe some_input in
-    let short = pre_short in_code.code p.machine.place p.machine.taken h.pre s.inside.pending in
+    let short = pre_short (code_at p) p.machine.place p.machine.taken h.pre s.inside.pending in
     record {
-      code = in_code.code;
-      later = in_code.later;
+      code = code_at p;
+      later = in_code.0;
       base = h.base;
       pre = h.pre;
       stands = s;
-      at = here;
+      at = at;
+      here = (running, at);
       lawful = h.lawful;
       running = running;
       small = omega (arith, safe.inside, s.laws.0.short);
-      in_range = s.laws.0.in_range p.machine.place i here;
+      in_range = s.laws.0.in_range p.machine.place i at;
       nodes = h.nodes;
-      zero = h.zero;
+      zero = λ d. value-constant p.pool d p.machine.zero.0 0 h.pool h.nodes.zero h.constant;
       set = λ k loads.
-          let w = load_is_set in_code.code (concrete_state p.pool p.machine some_input) i k s.laws.0 safe here loads in
+          let w = load_is_set (code_at p) (concrete_state p.pool p.machine some_input) i k s.laws.0 safe at loads in
           unmap (λ n. value_of p.pool some_input n.0) p.machine.scratch k w.0 w.1;
       taken = short.0;
       value = search (arith, number_small, pow_le);
@@ -86,9 +73,8 @@ at_hand p i h running at =
 
 -- the place is in the program
 pub place_inside : (p : PieceData) → IsPiece p → p.machine.program < length p.stack
-    → p.machine.place < length (get_or p.stack (length p.stack - 1 - p.machine.program) [])
-place_inside p h running = let s = stands_in p h.rest h.base h.pre h.stands running in
-    subst (λ (c : List Insn). p.machine.place < length c) s.is (s.stands.inside.safe some_input).inside
+    → p.machine.place < length (code_at p)
+place_inside p h running = ((stands_in p h.rest h.base h.pre h.stands running).1.inside.safe some_input).inside
 
 pub at_end : (p : PieceData) → IsPiece p → length p.stack ≤ p.machine.program → IsRightAnswer p p.name p.machine.so_far
 at_end p h over = by h.rest h.stands
@@ -119,31 +105,33 @@ first_piece stack pool zero_id fs = record {
 }
 
 pub first_is : (stack : List (List Insn)) (pool : List Node) (zero_id : NodeId) (fs : FactsView) → IsLawfulStack stack
-    → IsPool pool → zero_id.0 < length pool → ((d : Input) → value_of pool d zero_id.0 ≡ 0) → Covers fs pool
+    → IsFirst stack (first_piece stack pool zero_id fs) → ((d : Input) → value_of pool d zero_id.0 ≡ 0) → Covers fs pool
     → ((d : Input) → IsInput d → Agrees fs pool d) → IsPiece (first_piece stack pool zero_id fs)
 unfolding is_member
-first_is stack pool zero_id fs lawful is within zeros covers known = record {
+first_is stack pool zero_id fs lawful first zeros covers known = record {
   lawful = lawful;
-  pool = is;
+  pool = first.pool;
   bounded = tt;
   nodes = record { a = within; x = within; zero = within; scratch = λ k w e. absurd (none_set 16 k w e) };
-  zero = zeros;
+  constant = constant;
+  carried = started first.pool first.facts refl;
   covers = covers;
   known = λ d inp member. known d inp;
   members = λ d inp. refl;
   rest = reverse stack;
   base = [];
   pre = [];
-  stands = search (arith, newest_first, starts_in, route_whole, runs_whole, answer_none, none_taken);
+  stands = search (arith, at_start, newest_first, starts_in, route_whole, runs_whole, answer_none, none_taken);
 }
   where
+    within : zero_id.0 < length pool
+    within = omega (arith, first.place, first.count)
+
+    constant : node_at pool zero_id.0 ≡ Const 0
+    constant = ap (λ (k : ℕ). node_at pool k) first.place ∙ first.zero
+
     at_start : (d : Input) → concrete_state pool (first_machine zero_id) d ≡ start
     at_start d = rw (zeros d) refl
-
-pub first_root : (stack : List (List Insn)) (pool : List Node) (zero_id : NodeId) (fs : FactsView)
-    → IsLawfulPiece (first_piece stack pool zero_id fs) → IsRoot stack (first_piece stack pool zero_id fs)
-unfolding is_member
-first_root stack pool zero_id fs h = record { of = refl; name = refl; named = h.named; all = λ d inp. refl }
 
 -- the program that the code lends
 pub at_program : (stack lent : List (List Insn)) (n : ℕ) (p : List Insn) → lent ≡ stack → n < length lent

@@ -1,15 +1,15 @@
 -- Pieces with one more truth value in their names; names are routes.
-use Rattle.sf_piece.proofs.Common.{common_steps, ◌≡◌, ℕ, zero, suc, ◌+◌, ◌-◌, ◌<◌, ◌&&◌, not, Bool, true, false, List, [], ◌∷◌, ◌++◌, length, refl, sym, ap, subst, ◌∙◌, inl, inr, arith, append_assoc, append-nil, length-append, false≢true, AllByRecursion, list_all, if◌then◌else◌, Input, IsInput, Test, BinOp, Div, Insn, Alu, Branch, ReturnA, Operand, Constant, X, IsLawfulProgram, successors_inside, bits, trace_of, insn_progress, IsWay, returns_at, goes_on, AreWays, IsWholeRoute, IsRoute, some_way, Node, Cond, is_met, same, IsCondBelow, FactsView, SymbolicMachine, PieceData, is_member, is_prefix, IsTrulyNamed, HasNoMember, IsPending, StandsAt, IsPiece, IsLawfulPiece, concrete_state, HasAtHand, Asks, NextIs, IsQuery, IsForeseen, IsNever, IsImplied, AreChildFacts, IsChild, HasAdvanced}
+use Rattle.sf_piece.proofs.Common.{common_steps, ◌≡◌, ℕ, zero, suc, ◌+◌, ◌-◌, ◌<◌, ◌&&◌, not, Bool, true, false, List, [], ◌∷◌, ◌++◌, length, refl, sym, ap, subst, ◌∙◌, inl, inr, arith, append_assoc, append-nil, length-append, false≢true, AllByRecursion, Input, IsInput, BinOp, Div, Insn, Alu, Branch, ReturnA, Operand, Constant, X, IsLawfulProgram, successors_inside, bits, trace_of, insn_progress, IsWay, returns_at, goes_on, AreWays, IsWholeRoute, IsRoute, some_way, Node, Cond, is_met, same, FactsView, SymbolicMachine, PieceData, is_member, is_prefix, IsTrulyNamed, HasNoMember, IsPending, StandsAt, IsPiece, concrete_state, HasAtHand, Asks, NextIs, IsQuery, IsForeseen, IsNever, IsImplied, list_all-append}
 use Rattle.sf_piece.specs.Works.{AfterTruthValue, with_sense}
 use Rattle.sf_piece.proofs.Moves.{made}
-use Rattle.sf_piece.proofs.Kept.{assembled, returned_nodes, some_input}
-use Rattle.sf_piece.proofs.Queries.{Turned, Meets, branch_turned, return_turned, zero_turned, nonzero_turned, entry_trace}
-use Rattle.sf_piece.proofs.Prefixes.{prefix_next, same_right, same-true, and-true}
+use Rattle.sf_piece.proofs.Kept.{Turned, some_input}
+use Rattle.sf_piece.proofs.Queries.{Meets, branch_turned, return_turned, zero_turned, nonzero_turned, entry_trace}
+use Rattle.sf_piece.proofs.Prefixes.{and-nil, prefix_next, same_right, same-true, and-true}
 
 -- ---- after any truth value
 
-turned : (p : PieceData) (i : Insn) (b : Bool) (cs : List Cond) (fs : FactsView) (m : SymbolicMachine) → IsPiece p
-    → HasAtHand p i → Asks p i → AfterTruthValue p i b m → Meets p i cs b
+pub turned : (p : PieceData) (i : Insn) (b : Bool) (cs : List Cond) (fs : FactsView) (m : SymbolicMachine) → IsPiece p
+    → HasAtHand p i → Asks p.machine i → AfterTruthValue p i b m → Meets p i cs b
     → Turned p (made p (p.name ++ b ∷ []) cs m fs)
 turned p (Branch test other t f) b cs fs m h s asks after meets =
     subst (λ (k : SymbolicMachine). Turned p (made p (p.name ++ b ∷ []) cs k fs)) (sym after)
@@ -19,12 +19,12 @@ turned p ReturnA b cs fs m h s asks after meets =
     (return_turned p b cs fs h s asks meets)
 turned p (Alu op other) b cs fs m h s asks after meets = alu op other b s asks after meets
   where
-    alu : (op : BinOp) (other : Operand) (b : Bool) → HasAtHand p (Alu op other) → Asks p (Alu op other)
+    alu : (op : BinOp) (other : Operand) (b : Bool) → HasAtHand p (Alu op other) → Asks p.machine (Alu op other)
         → AfterTruthValue p (Alu op other) b m → Meets p (Alu op other) cs b
         → Turned p (made p (p.name ++ b ∷ []) cs m fs)
     alu Div X true s asks after meets =
         subst (λ (k : SymbolicMachine). Turned p (made p (p.name ++ true ∷ []) cs k fs)) (sym after)
-        (zero_turned p cs fs (returned_nodes p 0 h.nodes) h s asks meets)
+        (zero_turned p cs fs h s asks meets)
     alu Div X false s asks after meets =
         subst (λ (k : SymbolicMachine). Turned p (made p (p.name ++ false ∷ []) cs k fs)) (sym after)
         (nonzero_turned p cs fs h s asks meets)
@@ -39,7 +39,7 @@ pub sense_is : (pool : List Node) (d : Input) (cond : Cond) (b : Bool) → cond.
 sense_is pool d cond b e = grind (arith, common_steps, same_right)
 
 -- the name with one more truth value
-named_next : (p : PieceData) (i : Insn) (x b : Bool) → IsPiece p → HasAtHand p i → (d : Input) → IsInput d
+pub named_next : (p : PieceData) (i : Insn) (x b : Bool) → IsPiece p → HasAtHand p i → (d : Input) → IsInput d
     → (is_member p d ≡ true → NextIs (insn_progress d (concrete_state p.pool p.machine d) i) p.machine.taken x)
     → (is_member p d && same x b) ≡ is_prefix (p.name ++ b ∷ []) (trace_of p.stack d)
 named_next p i x b h s d inp next =
@@ -52,10 +52,7 @@ pub entry_foreseen : (p : PieceData) (i : Insn) (cond : Cond) (b : Bool) → IsQ
 entry_foreseen p i cond b e imp = search (arith, same-true, sense_is)
 
 other_way : (x b : Bool) → same x (not b) ≡ false → same x b ≡ true
-other_way true true h = refl
-other_way false false h = refl
-other_way true false h = absurd cc
-other_way false true h = absurd cc
+other_way x b h = grind (arith, common_steps)
 
 -- where no member has the other truth value, every member has this one
 pub never_implies : (p : PieceData) (cond : Cond) (b : Bool) → IsNever p cond (not b) → IsImplied p cond b
@@ -65,51 +62,17 @@ never_implies p cond b h d inp member = search (arith, other_way)
 pub never_both : (p : PieceData) (cond : Cond) → IsNever p cond false → IsNever p cond true → HasNoMember p
 never_both p cond f t = grind (arith, common_steps, false≢true, never_implies)
 
--- after a test
-pub branch_after : (p : PieceData) (i : Insn) (test : Test) (other : Operand) (t f next : ℕ) (b : Bool)
-    → i ≡ Branch test other t f → next ≡ (if b then t else f)
-    → AfterTruthValue p i b (record p.machine { place = p.machine.place + 1 + next })
-branch_after p i test other t f next b e h = grind (arith, common_steps)
-
-foreseen_meets : (p : PieceData) (i : Insn) (b : Bool) → IsForeseen p i b → Meets p i p.conditions b
+pub foreseen_meets : (p : PieceData) (i : Insn) (b : Bool) → IsForeseen p i b → Meets p i p.conditions b
 unfolding is_member
 foreseen_meets p i b fore d inp member = (member, fore.next d inp member)
 
-and_same : (v b : Bool) → v ≡ (v && same b b)
-and_same true true = refl
-and_same true false = refl
-and_same false b = refl
+pub and_same : (v b : Bool) → v ≡ (v && same b b)
+and_same v b = grind (arith, common_steps)
 
 abbrev pub taken_on : PieceData → Bool → SymbolicMachine → PieceData
 taken_on p b m = made p (p.name ++ b ∷ []) p.conditions m p.facts
 
-pub take_piece : (p : PieceData) (i : Insn) (b : Bool) (m : SymbolicMachine) → IsPiece p → HasAtHand p i
-    → IsForeseen p i b
-    → AfterTruthValue p i b m → IsPiece (taken_on p b m)
-unfolding is_member
-take_piece p i b m h s fore after =
-    let t = turned p i b p.conditions p.facts m h s fore.asks after (foreseen_meets p i b fore) in
-    assembled p (p.name ++ b ∷ []) p.conditions m p.facts h h.bounded t.nodes t.zero_is h.covers h.known
-    (λ d inp. and_same (is_member p d) b ∙ named_next p i b b h s d inp (fore.next d inp))
-    t.rest t.base t.pre t.stands
-
-pub take_gone : (p : PieceData) (i : Insn) (b : Bool) (m : SymbolicMachine) → IsPiece p → HasAtHand p i
-    → IsForeseen p i b
-    → AfterTruthValue p i b m → HasAdvanced p (taken_on p b m)
-unfolding is_member
-take_gone p i b m h s fore after = search (arith, turned, foreseen_meets)
-
 -- ---- children
-
-all_push : (f : Cond → Bool) (cs : List Cond) (c : Cond) → list_all f (cs ++ c ∷ []) ≡ (list_all f cs && f c)
-all_push f [] c = elim (f c) as (λ b. (b && true) ≡ (true && b)) [ true ↦ refl | false ↦ refl ]
-all_push f (x ∷ cs) c = elim (f x) as (λ b. (b && list_all f (cs ++ c ∷ [])) ≡ ((b && list_all f cs) && f c))
-    [ true ↦ all_push f cs c | false ↦ refl ]
-
-below_push : (n : ℕ) (cs : List Cond) (c : Cond) → AllByRecursion (IsCondBelow n) cs → IsCondBelow n c
-    → AllByRecursion (IsCondBelow n) (cs ++ c ∷ [])
-below_push n [] c b h = (h, tt)
-below_push n (x ∷ cs) c b h = (b.0, below_push n cs c b.1 h)
 
 abbrev pub child_of : PieceData → Cond → Bool → SymbolicMachine → FactsView → PieceData
 child_of p cond b m fs = made p (p.name ++ b ∷ []) (p.conditions ++ with_sense cond b ∷ []) m fs
@@ -117,14 +80,15 @@ child_of p cond b m fs = made p (p.name ++ b ∷ []) (p.conditions ++ with_sense
 pub child_members : (p : PieceData) (cond : Cond) (b : Bool) (m : SymbolicMachine) (fs : FactsView) (d : Input)
     → is_member (child_of p cond b m fs) d ≡ (is_member p d && is_met p.pool d (with_sense cond b))
 unfolding is_member
-child_members p cond b m fs d = all_push (is_met p.pool d) p.conditions (with_sense cond b)
+child_members p cond b m fs d = list_all-append (is_met p.pool d) p.conditions (with_sense cond b ∷ [])
+    ∙ ap (λ (v : Bool). is_member p d && v) (and-nil (is_met p.pool d (with_sense cond b)))
 
-child_both : (p : PieceData) (cond : Cond) (b : Bool) (m : SymbolicMachine) (fs : FactsView) (d : Input)
+pub child_both : (p : PieceData) (cond : Cond) (b : Bool) (m : SymbolicMachine) (fs : FactsView) (d : Input)
     → is_member (child_of p cond b m fs) d ≡ true → (is_member p d ≡ true)
     × (is_met p.pool d (with_sense cond b) ≡ true)
 child_both p cond b m fs d member = grind (arith, common_steps, and-true, child_members)
 
-child_meets : (p : PieceData) (i : Insn) (cond : Cond) (b : Bool) (m : SymbolicMachine) (fs : FactsView)
+pub child_meets : (p : PieceData) (i : Insn) (cond : Cond) (b : Bool) (m : SymbolicMachine) (fs : FactsView)
     → IsQuery p i cond
     → Meets p i (p.conditions ++ with_sense cond b ∷ []) b
 unfolding is_member
@@ -135,19 +99,6 @@ child_meets p i cond b m fs e d inp member =
       subst (λ (v : Bool). NextIs (insn_progress d (concrete_state p.pool p.machine d) i) p.machine.taken v) is
           (e.next d),
     )
-
-pub child_piece : (p : PieceData) (i : Insn) (cond : Cond) (b : Bool) (m : SymbolicMachine) (fs : FactsView) → IsPiece p
-    → HasAtHand p i → IsQuery p i cond → AreChildFacts p cond b fs → AfterTruthValue p i b m
-    → IsPiece (child_of p cond b m fs)
-child_piece p i cond b m fs h s e facts after =
-    let t = turned p i b (p.conditions ++ with_sense cond b ∷ []) fs m h s e.asks after
-    (child_meets p i cond b m fs e) in
-    assembled p (p.name ++ b ∷ []) (p.conditions ++ with_sense cond b ∷ []) m fs h
-    (below_push (length p.pool) p.conditions (with_sense cond b) h.bounded e.below) t.nodes t.zero_is facts.covers
-    (λ d inp member. let both = child_both p cond b m fs d member in facts.known d inp both.0 both.1)
-    (λ d inp. child_members p cond b m fs d ∙ ap (λ (v : Bool). is_member p d && v) (sense_is p.pool d cond b e.sense)
-    ∙ named_next p i (is_met p.pool d cond) b h s d inp (λ member. e.next d))
-    t.rest t.base t.pre t.stands
 
 -- ---- names are routes
 
@@ -205,7 +156,3 @@ route_of p (code ∷ later) base pre s =
 
 pub piece_named : (p : PieceData) → IsPiece p → IsTrulyNamed p
 piece_named p h = record { route = route_of p h.rest h.base h.pre h.stands; members = h.members }
-
-pub child_is : (p : PieceData) (cond : Cond) (b : Bool) (m : SymbolicMachine) (fs : FactsView)
-    → IsLawfulPiece (child_of p cond b m fs) → IsChild p cond b (child_of p cond b m fs)
-child_is p cond b m fs h = search (arith, child_members)

@@ -1,15 +1,9 @@
 -- Small steps of a piece, as the rules have them.
-use Rattle.sf_piece.proofs.Common.{common_steps, arith, ◌≡◌, ℕ, zero, suc, ◌-◌, ◌^◌, ◌<◌, Bool, false, refl, sym, ap, subst, ◌∙◌, inl, inr, ◌+◌, [], ◌∷◌, ◌++◌, Option, Result, Ok, Err, IfOk, if◌then◌else◌, BinOp, Test, Equal, AnyBit, Insn, Alu, Branch, ReturnA, Operand, Constant, Cond, Const, Bin, NodeId, node_at, IsPropagatedBack, known_at, closed-consistent, constant-known, IsClosedAt, number_known, ForcedIsLearnt, IsForcedBy, Decision, Implied, Neither, SmallStep, On, Settled, Empty, Fault, SymbolicMachine, PieceData, AsksTest, IsAPropagatedBack, IsPiece, GetsOperand, with_machine, LoadsA, Computes, MovesTo, divides_at, query, HasQuery, LeavesOnly, IsNamedOn, IsAtHand, IsForetold, after_return, IsMade, IsDecision, IsCarriedOut, IsTidy, IsExecuted}
+use Rattle.sf_piece.proofs.Common.{common_steps, arith, ◌≡◌, ℕ, zero, suc, ◌-◌, ◌^◌, ◌<◌, Bool, false, refl, sym, ap, subst, ◌∙◌, inl, inr, [], ◌∷◌, ◌++◌, Option, Result, IfOk, BinOp, Test, Equal, AnyBit, Insn, Alu, Branch, ReturnA, Operand, Constant, Cond, Const, Bin, NodeId, node_at, IsPropagatedBack, known_at, closed-consistent, constant-known, IsClosedAt, number_known, ForcedIsLearnt, IsForcedBy, Decision, Implied, Neither, SmallStep, On, Settled, Empty, Fault, SymbolicMachine, PieceData, AsksTest, IsAPropagatedBack, IsPiece, GetsOperand, with_machine, LoadsA, Computes, MovesTo, divides_at, query, HasQuery, LeavesOnly, IsNamedOn, IsAtHand, IsForetold, after_return, IsMade, IsDecision, IsCarriedOut, IsExecuted, IfOk-weaker, GoesOn}
 use Rattle.std.specs.Prelude.{Some, None}
 use Rattle.sf_piece.specs.declared.deciding.Decision.TheVariants as decided
 use Rattle.sf_piece.specs.declared.deciding.SmallStep.TheVariants.{Split}
 use Rattle.sf_piece.proofs.Foretold.{leaves_only, one_number}
-
--- an implied truth value is added to the name
-pub implied_executed : (p q : PieceData) (i : Insn) (cond : Cond) (b : Bool) → IsAtHand p i
-    → HasQuery p i (Some (p, cond)) → LeavesOnly (p, cond) b → IsNamedOn p i b q → IsExecuted p q On
-implied_executed p q i cond b at asks only named =
-    (1, (q, (i, at, inr (inr ((p, cond), b, asks, only, named))), refl))
 
 -- What was decided is carried out. Its query may be of a piece in which both words have nodes.
 pub carried_executed : (p r : PieceData) (i : Insn) (asked : PieceData × Cond) (d : Decision) (step : SmallStep)
@@ -20,12 +14,6 @@ carried_executed p r i asked (Implied b) On at asks h named =
 carried_executed p r i asked (decided.Split f t) (Split g u) at asks h same = grind (arith, common_steps)
 carried_executed p r i asked Neither Empty at asks h done = (i, at, inr (inr (asked, asks, h)))
 carried_executed p r i asked _ _ at asks h none = absurd none
-
-pub carried_ok : (p r : PieceData) (i : Insn) (asked : PieceData × Cond) (d : Decision) (o : Result SmallStep Fault)
-    → IsAtHand p i → HasQuery p i (Some asked) → IsDecision asked i d → IfOk o (IsCarriedOut p i d r)
-    → IfOk o (IsExecuted p r)
-carried_ok p r i asked d (Ok step) at asks h done = carried_executed p r i asked d step at asks h done
-carried_ok p r i asked d (Err e) at asks h done = tt
 
 -- ---- a test of A
 
@@ -46,33 +34,15 @@ pub test_executed : (p q r : PieceData) (test : Test) (other : Operand) (t f : �
     → IsAtHand p (Branch test other t f) → IsForetold p test other b → IsNamedOn p (Branch test other t f) b q
     → IsExecuted q r On → IsExecuted p r On
 test_executed p q r test other t f b at told named on =
-    let asked : PieceData × Cond = (told.0.0, query p.machine.a test told.0.1) in (
-      suc on.0,
-      (
-        q,
-        (
-          Branch test other t f,
-          at,
-          inr (inr (asked, b, (Some told.0, told.1, refl), told.2, named)),
-        ),
-        on.1,
-      ),
-    )
-
--- the piece behind a test
-behind_test : PieceData → Bool → ℕ → PieceData
-behind_test p b place = record p { name = p.name ++ b ∷ []; machine = record p.machine { place = place } }
-
-is_behind : (p q : PieceData) (test : Test) (other : Operand) (t f : ℕ) (b : Bool)
-    → IsNamedOn p (Branch test other t f) b q → q ≡ behind_test p b (p.machine.place + 1 + (if b then t else f))
-unfolding behind_test
-is_behind p q test other t f b named = grind (arith, common_steps)
+    let asked : PieceData × Cond = (told.0.0, query p.machine.a test told.0.1) in
+    let first : GoesOn p q
+    = (Branch test other t f, at, inr (inr (asked, b, (Some told.0, told.1, refl), told.2, named))) in
+    (suc on.0, (q, first, on.1))
 
 pub back_behind : (p q : PieceData) (test : Test) (other : Operand) (t f : ℕ) (b : Bool)
     → IsNamedOn p (Branch test other t f) b q → IsAPropagatedBack p → IsAPropagatedBack q
-unfolding behind_test
-back_behind p q test other t f b named back =
-    subst IsAPropagatedBack (sym (is_behind p q test other t f b named)) back
+back_behind p q test other t f b named back = subst IsAPropagatedBack (sym (named.rest ∙ ap (λ (m : SymbolicMachine).
+    let r : PieceData = record p { name = p.name ++ b ∷ []; machine = m } in r) named.machine)) back
 
 -- ---- a return of A
 
@@ -89,7 +59,7 @@ pub bit_executed : (p q : PieceData) (number : ℕ) (b : Bool) → IsAtHand p Re
 bit_executed p q number b at more e told named =
     let asked : PieceData × Cond = (told.0.0, query p.machine.a AnyBit told.0.1) in
     let asks = asked_for p ReturnA AnyBit (Constant number) told.0 (inr (refl, refl, ap Constant e, more)) told.1 in
-    (1, (q, (ReturnA, at, inr (inr (asked, b, asks, told.2, named))), refl))
+    carried_executed p q ReturnA asked (Implied b) On at asks told.2 named
 
 back_constant : (n c : ℕ) (p : PieceData) (i : ℕ) → node_at p.pool i ≡ Const c
     → IsPropagatedBack n p.facts.known p.pool i
@@ -97,13 +67,13 @@ back_constant zero c p i e = tt
 back_constant (suc n) c p i e = rw e tt
 
 -- whether X is 0, where the facts tell it
-pub zero_told : (laws : ForcedIsLearnt) (p : PieceData) (b : Bool) → IsPiece p → IsTidy p
+pub zero_told : (laws : ForcedIsLearnt) (p : PieceData) (b : Bool) → IsPiece p
     → IsForcedBy (IsClosedAt p.facts.excluded p.machine.x.0) (known_at p.facts.known p.machine.x.0) Equal 0 b
     → ((n : ℕ) → IsPropagatedBack n p.facts.known p.pool p.machine.x.0)
     → LeavesOnly (p, query p.machine.x Equal p.machine.zero) b
-zero_told laws p b h tidy forced back =
+zero_told laws p b h forced back =
     let rest = h.covers.rest p.machine.zero.0 h.nodes.zero in
-    let ends = constant-known p.facts.known p.facts.excluded p.pool p.machine.zero.0 0 rest tidy.zero.1 in
+    let ends = constant-known p.facts.known p.facts.excluded p.pool p.machine.zero.0 0 rest h.constant in
     let known : known_at p.facts.known p.machine.zero.0 ≡ number_known 0
     = one_number (known_at p.facts.known p.machine.zero.0)
     (closed-consistent (known_at p.facts.known p.machine.zero.0) rest.closed.known)
@@ -117,7 +87,7 @@ zero_told laws p b h tidy forced back =
       decided = known;
       forced = forced;
       node_back = back;
-      other_back = λ n. back_constant n 0 p p.machine.zero.0 tidy.zero.1;
+      other_back = λ n. back_constant n 0 p p.machine.zero.0 h.constant;
     })
 
 -- ---- an instruction
@@ -133,8 +103,7 @@ made_executed p r i makes Settled at to h = absurd h
 pub made_ok : (p r : PieceData) (i : Insn) (makes : Option PieceData → Type 0) (o : Result SmallStep Fault)
     → IsAtHand p i → ((n : Option PieceData) → makes n → Computes p i n) → IfOk o (IsMade makes r)
     → IfOk o (IsExecuted p r)
-made_ok p r i makes (Ok step) at to h = made_executed p r i makes step at to h
-made_ok p r i makes (Err e) at to h = tt
+made_ok p r i makes o at to h = IfOk-weaker o _ _ (λ step k. made_executed p r i makes step at to k) h
 
 -- an operation on both words
 pub operation_ok : (p q r : PieceData) (op : BinOp) (other : Operand) (right : NodeId) (o : Result SmallStep Fault)

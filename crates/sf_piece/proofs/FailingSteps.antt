@@ -1,31 +1,54 @@
--- Tests that fail, one behind the other, by the rules.
-use Rattle.sf_piece.proofs.Common.{common_steps, ◌≡◌, ℕ, zero, suc, ◌+◌, ◌<◌, Bool, false, List, [], ◌∷◌, ◌++◌, length, get_or, replicate, Some, refl, sym, ap, subst, inr, arith, append_assoc, append-nil, replicate_more, slice_get-get_or, get_or_from_slice_get, Equal, Insn, LoadWord, Branch, Constant, IsAt, Cond, Known, known_at, IsClosed, ForcedIsLearnt, IsForcedBy, PieceData, IsLawfulPiece, query, GoesOn, GoesOnFor, code_at, HasGoneOn, IsFailing, AreFailing, IsCodeAtHand, IsAPropagatedBack, behind_chain}
-use Rattle.sf_piece.proofs.AtHand.{at_hand}
-use Rattle.sf_piece.proofs.Children.{taken_on}
-use Rattle.sf_piece.proofs.FailingTests.{next_place, over_none, inside_behind, over_one_more}
+-- A piece goes on over tests that fail, and by the rules too.
+use Rattle.sf_piece.proofs.Common.{common_steps, ◌≡◌, ℕ, zero, suc, ◌+◌, ◌<◌, ◌≤◌, Bool, false, List, [], ◌++◌, length, get_or, replicate, Some, refl, sym, ap, subst, ◌∙◌, inr, arith, append_assoc, append-nil, replicate-append-replicate, slice_get-get_or, Equal, Insn, LoadWord, Branch, Constant, IsAt, Cond, Known, known_at, IsClosed, IsForcedBy, SymbolicMachine, PieceData, IsLawfulPiece, IsAtHand, query, GoesOn, GoesOnFor, code_at, HasGoneOn, IsFailing, AreFailing, IsCodeAtHand, IsOver, behind_chain, IsNamedOn, Admits, AreSkipped, assumed, nat_tests, ◌≢◌}
+use Rattle.std.proofs.Common.{◌==◌}
+use Rattle.sf_piece.proofs.AtHand.{at_hand, place_inside}
 use Rattle.sf_piece.proofs.Foretold.{gets_told, forced_test}
+use Rattle.sf_piece.proofs.Children.{taken_on}
+use Rattle.sf_piece.proofs.Joined.{on_same, on_trans, branch_foreseen}
+use Rattle.sf_piece.proofs.Lawful.{take_step, told_of_known}
 
--- a piece goes on over one test that fails
-fails_on : (laws : ForcedIsLearnt) (p : PieceData) (i : Insn) (known : Known) (f : ℕ) → IsLawfulPiece p
-    → IsAPropagatedBack p → p.machine.program < length p.stack → known ≡ known_at p.facts.known p.machine.a.0
-    → IsAt (code_at p) p.machine.place i → IsFailing i known f → GoesOn p (taken_on p false (next_place p f))
-fails_on laws p i known f h back running is at fails =
-    let n = fails.number in
-    let here = subst (λ (j : Insn). IsAt (code_at p) p.machine.place j) fails.is at in
-    let fits = (at_hand p (Branch Equal (Constant n) fails.on_true f) h.run running here).in_range in
-    let closed : IsClosed known = subst IsClosed (sym is)
-    (h.run.covers.rest p.machine.a.0 h.run.nodes.a).closed.known in
-    let forced = subst (λ (k : Known). IsForcedBy IsClosed k Equal n false) is (fails.forced closed) in
-    let given = gets_told laws p Equal n false h.run.covers (forced_test p Equal n false h.run fits (record {
-      other = λ s c g. forced.other s c.known g;
-      this = forced.this;
-      that = forced.that;
-    }) back) in
-    let asked : PieceData × Cond = (given.0.0, query p.machine.a Equal given.0.1) in (
-      Branch Equal (Constant n) fails.on_true f,
-      (running, here),
-      inr (inr (asked, false, (Some given.0, given.1, refl), given.2, record { machine = refl; rest = refl })),
+-- ---- tests that fail
+
+-- a number that isn't the only one of A: the rules forbid that A is equal to it
+other_number : (k : Known) (m n : ℕ) → k.low ≡ m → k.high ≡ m → n ≢ m → IsForcedBy IsClosed k Equal n false
+unfolding assumed
+other_number k m n low high ne = grind (arith, common_steps, nat_tests)
+
+-- tests for other numbers than the one that A has fail
+pub others_fail : (code : List Insn) (known : Known) (number n place behind : ℕ)
+    → known.low ≡ number → known.high ≡ number → AreSkipped code number n place behind
+    → AreFailing code known n place behind
+others_fail code known number zero place behind low high passed = passed
+others_fail code known number (suc n) place behind low high passed =
+    let test = passed.3 in (
+      test.insn,
+      test.skips,
+      test.here,
+      record {
+        number = passed.0;
+        on_true = test.asks.on_true;
+        is = test.asks.is;
+        fails = λ x admits. not_equal x passed.0 (λ e. passed.2 (sym e ∙ only x admits));
+        forced = λ closed. other_number known number passed.0 low high passed.2;
+      },
+      others_fail code known number n (place + 1 + test.skips) behind low high
+          (subst (λ (p : ℕ). AreSkipped code number n p behind) test.leads passed.4),
     )
+  where
+    only : (x : ℕ) → Admits known x → x ≡ number
+    only x a = omega (arith, a.above, a.below, low, high)
+
+    not_equal : (x k : ℕ) → x ≢ k → x == k ≡ false
+    not_equal x k apart = grind (arith, nat_tests)
+
+-- each test leads on, so the place behind n tests is at least n further
+pub few_failing : (code : List Insn) (known : Known) (n place behind : ℕ) → AreFailing code known n place behind
+    → place + n ≤ behind
+few_failing code known zero place behind failing = omega (arith, failing)
+few_failing code known (suc n) place behind failing =
+    omega (arith, few_failing code known n (place + 1 + failing.1) behind failing.4)
+
+-- ---- steps over them
 
 -- one step more
 pub goes_end : (n : ℕ) (p q r : PieceData) → GoesOnFor n p q → GoesOn q r → GoesOnFor (suc n) p r
@@ -37,69 +60,93 @@ goes_more n zero p q r h g = grind (arith, common_steps)
 goes_more n (suc m) p q r h g =
     grind (arith, common_steps, goes_end, goes_more (suc n) m p g.0 r (goes_end n p q g.0 h g.1) g.2)
 
+gone_trans : (p q r : PieceData) → HasGoneOn p q → HasGoneOn q r → HasGoneOn p r
+gone_trans p q r a b = search (arith, on_trans)
+
+-- a number that is below another one is at most that one
+weakened : (m n : ℕ) → m < n → m ≤ n
+weakened m n h = omega (arith, h)
+
 -- over no test a piece stays where it is
-pub steps_none : (p : PieceData) → GoesOnFor 0 p (behind_chain p 0 p.machine.place)
-steps_none p = ap (λ (l : List Bool). let q : PieceData = record p { name = l } in q) (append-nil p.name)
+pub over_none : (p : PieceData) → IsLawfulPiece p → IsOver p 0 p.machine.place
+over_none p h =
+    let same : behind_chain p 0 p.machine.place ≡ p
+    = ap (λ (l : List Bool). let q : PieceData = record p { name = l } in q) (append-nil p.name) in
+    record {
+      gone = subst (HasGoneOn p) (sym same) (record { is_on = on_same p; left = omega arith; lawful = h });
+      rule = λ laws back. same;
+    }
+
+-- a piece goes on over one test that fails
+over_one : (p : PieceData) (i : Insn) (known : Known) (f : ℕ) → IsLawfulPiece p → IsAtHand p i
+    → known ≡ known_at p.facts.known p.machine.a.0 → IsFailing i known f → IsOver p 1 (p.machine.place + 1 + f)
+over_one p i known f h at is fails =
+    let n = fails.number in
+    let test = Branch Equal (Constant n) fails.on_true f in
+    let here : IsAtHand p test = subst (IsAtHand p) fails.is at in
+    let standing = at_hand p test h.run here.0 here.1 in
+    let m : SymbolicMachine = record p.machine { place = p.machine.place + 1 + f } in
+    let fore = branch_foreseen p test Equal (Constant n) fails.on_true f false refl standing
+    (told_of_known p Equal (Constant n) n known false h.run refl is fails.fails) in
+    let step = take_step p test false m h standing fore refl in
+    record {
+      gone = record { is_on = step.0.is_on; left = weakened _ _ step.0.falls; lawful = step.1 };
+      rule = λ laws back.
+          let closed = subst IsClosed (sym is) (h.run.covers.rest p.machine.a.0 h.run.nodes.a).closed.known in
+          let forced = subst (λ (k : Known). IsForcedBy IsClosed k Equal n false) is (fails.forced closed) in
+          let given = gets_told laws p Equal n false h.run.covers (forced_test p Equal n false h.run standing.in_range
+          (record { other = λ s c g. forced.other s c.known g; this = forced.this; that = forced.that }) back) in
+          let asked : PieceData × Cond = (given.0.0, query p.machine.a Equal given.0.1) in
+          let named : IsNamedOn p test false (taken_on p false m) = record { machine = refl; rest = refl } in
+          let goes : GoesOn p (taken_on p false m)
+          = (test, here, inr (inr (asked, false, (Some given.0, given.1, refl), given.2, named))) in
+          (taken_on p false m, goes, refl);
+    }
+
+-- over the tests of two chains, one behind the other
+over_both : (p : PieceData) (m n place behind : ℕ) → IsOver p m place → IsOver (behind_chain p m place) n behind
+    → IsOver p (m + n) behind
+over_both p m n place behind a b =
+    let same : behind_chain (behind_chain p m place) n behind ≡ behind_chain p (m + n) behind
+    = ap (λ (l : List Bool). let q : PieceData = record p { name = l; machine = record p.machine { place = behind } } in
+    q) (append_assoc p.name (replicate m false) (replicate n false)
+    ∙ ap (λ (l : List Bool). p.name ++ l) (replicate-append-replicate m n false)) in
+    record {
+      gone = subst (HasGoneOn p) same (gone_trans p (behind_chain p m place) _ a.gone b.gone);
+      rule = λ laws back. subst (GoesOnFor (m + n) p) same
+          (goes_more m n p (behind_chain p m place) _ (a.rule laws back) (b.rule laws back));
+    }
+
+-- the place behind n tests that fail is in the program
+pub inside_behind : (p : PieceData) (code : List Insn) (n place : ℕ) → IsCodeAtHand p code → IsOver p n place
+    → place < length code
+inside_behind p code n place at over =
+    let inside = place_inside (behind_chain p n place) over.gone.lawful.run at.running in
+    omega (arith, inside, ap length at.is)
 
 -- a piece behind n tests that fail goes on over one more
-pub steps_one_more : (laws : ForcedIsLearnt) (p : PieceData) (code : List Insn) (known : Known) (n place f next : ℕ)
-    → IsAPropagatedBack p → IsCodeAtHand p code → known ≡ known_at p.facts.known p.machine.a.0
-    → HasGoneOn p (behind_chain p n place) → GoesOnFor n p (behind_chain p n place)
-    → IsFailing (get_or code place (LoadWord 0)) known f → next ≡ place + (1 + f)
-    → GoesOnFor (n + 1) p (behind_chain p (n + 1) next)
-steps_one_more laws p code known n place f next back at is gone steps fails leads =
-    let q = behind_chain p n place in
+pub over_one_more : (p : PieceData) (code : List Insn) (known : Known) (n place f next : ℕ) → IsCodeAtHand p code
+    → known ≡ known_at p.facts.known p.machine.a.0 → IsOver p n place
+    → IsFailing (get_or code place (LoadWord 0)) known f → next ≡ place + (1 + f) → IsOver p (n + 1) next
+over_one_more p code known n place f next at is over fails leads =
     let i = get_or code place (LoadWord 0) in
-    let here = slice_get-get_or code place (LoadWord 0) (inside_behind p code n place at gone) in
+    let here = slice_get-get_or code place (LoadWord 0) (inside_behind p code n place at over) in
     let there : IsAt (code_at p) place i = subst (λ (c : List Insn). IsAt c place i) at.is here in
-    let once = fails_on laws q i known f gone.lawful back at.running is there fails in
-    let names : (p.name ++ replicate n false) ++ false ∷ [] ≡ p.name ++ replicate (n + 1) false =
-    search (arith, append_assoc, replicate_more) in
     let places : place + 1 + f ≡ next = omega (arith, leads) in
-    let count : suc n ≡ n + 1 = omega arith in
-    subst (λ (k : ℕ). GoesOnFor (n + 1) p (record p {
-      name = p.name ++ replicate (n + 1) false;
-      machine = record p.machine { place = k };
-    })) places (subst (λ (l : List Bool). GoesOnFor (n + 1) p (record p {
-      name = l;
-      machine = record p.machine { place = place + 1 + f };
-    })) names (subst (λ (k : ℕ). GoesOnFor k p (taken_on q false (next_place q f))) count
-    (goes_end n p q (taken_on q false (next_place q f)) steps once)))
-
--- over n tests that fail a piece has gone on to this place, and by the rules too
-pub record IsOver (p : PieceData) (n place : ℕ) : Type 0 where
-  pub gone : HasGoneOn p (behind_chain p n place)
-  pub rule : ForcedIsLearnt → IsAPropagatedBack p → GoesOnFor n p (behind_chain p n place)
-
--- a piece behind m tests of a chain goes on over the others
-over_more : (p : PieceData) (code : List Insn) (known : Known) (m n place behind : ℕ) → IsCodeAtHand p code
-    → known ≡ known_at p.facts.known p.machine.a.0 → IsOver p m place → AreFailing code known n place behind
-    → IsOver p (m + n) behind
-over_more p code known m zero place behind at is over failing =
-    let e : m ≡ m + 0 = omega arith in
-    subst (λ (k : ℕ). IsOver p k behind) e (subst (λ (q : ℕ). IsOver p m q) (sym failing) over)
-over_more p code known m (suc n) place behind at is over failing =
-    let i = failing.0 in
-    let skips = failing.1 in
-    let read : get_or code place (LoadWord 0) ≡ i = get_or_from_slice_get code place i (LoadWord 0) failing.2 in
-    let fails : IsFailing (get_or code place (LoadWord 0)) known skips =
-    subst (λ (j : Insn). IsFailing j known skips) (sym read) failing.3 in
-    let next : place + 1 + skips ≡ place + (1 + skips) = omega arith in
-    let once : IsOver p (m + 1) (place + 1 + skips) = record {
-      gone = over_one_more p code known m place skips (place + 1 + skips) at is over.gone fails next;
-      rule = λ laws back.
-          steps_one_more laws p code known m place skips (place + 1 + skips) back at is over.gone
-          (over.rule laws back) fails next;
-    } in
-    let e : m + 1 + n ≡ m + suc n = omega arith in
-    subst (λ (k : ℕ). IsOver p k behind) e
-    (over_more p code known (m + 1) n (place + 1 + skips) behind at is once failing.4)
+    subst (IsOver p (n + 1)) places (over_both p n 1 place (place + 1 + f) over
+    (over_one (behind_chain p n place) i known f over.gone.lawful (at.running, there) is fails))
 
 -- a piece goes on over a whole chain from where it stands
-pub over_failing : (p : PieceData) (code : List Insn) (known : Known) (n behind : ℕ) → IsLawfulPiece p
+pub over_failing : (n : ℕ) (p : PieceData) (code : List Insn) (known : Known) (behind : ℕ) → IsLawfulPiece p
     → IsCodeAtHand p code → known ≡ known_at p.facts.known p.machine.a.0
     → AreFailing code known n p.machine.place behind → IsOver p n behind
-over_failing p code known n behind h at is failing =
-    let e : 0 + n ≡ n = omega arith in
-    let none : IsOver p 0 p.machine.place = record { gone = over_none p h; rule = λ laws back. steps_none p } in
-    subst (λ (k : ℕ). IsOver p k behind) e (over_more p code known 0 n p.machine.place behind at is none failing)
+over_failing zero p code known behind h at is failing = subst (IsOver p 0) (sym failing) (over_none p h)
+over_failing (suc n) p code known behind h at is (i, skips, here, fails, more) =
+    let next = p.machine.place + 1 + skips in
+    let one = over_one p i known skips h (at.running, subst (λ (c : List Insn). IsAt c p.machine.place i) at.is here) is
+    fails in
+    let there : IsCodeAtHand (behind_chain p 1 next) code
+    = record { running = at.running; is = at.is; inside = inside_behind p code 1 next at one; short = at.short } in
+    let count : 1 + n ≡ suc n = omega arith in
+    subst (λ (k : ℕ). IsOver p k behind) count (over_both p 1 n next behind one
+    (over_failing n (behind_chain p 1 next) code known behind one.gone.lawful there is more))

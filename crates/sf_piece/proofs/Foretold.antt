@@ -1,5 +1,5 @@
 -- What facts tell of a test of A is what the rules leave of it.
-use Rattle.sf_piece.proofs.Common.{common_steps, ◌≡◌, ◌≢◌, ℕ, zero, suc, ◌-◌, ◌<◌, ◌^◌, ◌⊎◌, Bool, true, false, not, List, [], ◌∷◌, ◌++◌, length, refl, ap, inl, inr, arith, cases_lt, cases_eq, eqb-true, take_all, Option, IfSome, if◌then◌else◌, ◌==◌, Input, Test, IsInput, passes, Operand, Constant, X, Cond, Node, Const, Word, Bin, Neg, NodeId, node_at, value_of, Known, IsPropagatedBack, FactsView, Covers, Agrees, known_at, IsConsistent, IsDecided, CantLearn, GrowsBy, IsClosedAt, number_known, IsForcedBy, ForcedIsLearnt, IsForcedCondition, IsForcedTest, PieceData, Gets, query, with_sense, CanLearn, LeavesOnly, IsPiece, IsOperandNumber, PassesAlways, IsTestedNumber, IsForetold}
+use Rattle.sf_piece.proofs.Common.{common_steps, ◌≡◌, ◌≢◌, ℕ, zero, suc, ◌<◌, ◌^◌, ◌⊎◌, Bool, true, false, not, List, [], ◌∷◌, ◌++◌, length, refl, inl, inr, arith, cases_lt, cases_eq, eqb-true, take_all, Option, IfSome, if◌then◌else◌, ◌==◌, Input, Test, IsInput, passes, Operand, Constant, X, Cond, Node, Const, NodeId, node_at, value_of, Known, IsPropagatedBack, FactsView, Covers, Agrees, known_at, IsConsistent, IsDecided, CantLearn, GrowsBy, IsClosedAt, number_known, IsForcedBy, ForcedIsLearnt, IsForcedCondition, IsForcedTest, PieceData, Gets, query, with_sense, CanLearn, LeavesOnly, IsPiece, IsOperandNumber, PassesAlways, IsTestedNumber, IsForetold}
 use Rattle.std.specs.Prelude.{Some, None}
 
 -- a word with one number is known in full
@@ -14,13 +14,7 @@ decided_number k n e h = grind (arith, common_steps, eqb-true, one_number)
 -- ---- a constant's node
 
 is_constant : (m : Node) (k : ℕ) → (m ≡ Const k) ⊎ (m ≢ Const k)
-is_constant (Const c) k = elim (cases_eq c k) [ inl e ↦ inl (ap Const e) | inr ne ↦ inr (λ e. ne (same e)) ]
-  where
-    same : Const c ≡ Const k → c ≡ k
-    same e = cc
-is_constant (Word i) k = inr (λ e. absurd cc)
-is_constant (Bin op a b) k = inr (λ e. absurd cc)
-is_constant (Neg a) k = inr (λ e. absurd cc)
+is_constant m k = grind (arith, common_steps, cases_eq)
 
 -- a pool has a constant among its first nodes, or not
 find : (ns : List Node) (k n : ℕ) → ((i : ℕ) × (i < n) × (node_at ns i ≡ Const k))
@@ -41,36 +35,27 @@ find ns k (suc n) = elim (is_constant (node_at ns n) k) [
 grows_not_at_all : (f : FactsView) (ns : List Node) → Covers f ns → GrowsBy f f ns
 grows_not_at_all f ns h = grind (arith, common_steps, take_all)
 
+-- the condition with another result is forced as it was
+with_other : (p : PieceData) (cond : Cond) (number : ℕ) (s c : Bool) → IsForcedCondition p.facts p.pool cond number c
+    → IsForcedCondition p.facts p.pool (with_sense cond s) number c
+with_other p cond number s c g = grind (arith, common_steps)
+
 -- a forced condition leaves its query only one truth value
 pub leaves_only : (laws : ForcedIsLearnt) (p : PieceData) (cond : Cond) (number : ℕ) (b : Bool)
     → IsForcedCondition p.facts p.pool cond number b → LeavesOnly (p, cond) b
 leaves_only laws p cond number b h = record {
-  can = can b (with_other b b h);
+  can = can b (with_other p cond number b b h);
   cant = cant b h;
 }
   where
-    with_other : (s c : Bool) → IsForcedCondition p.facts p.pool cond number c
-        → IsForcedCondition p.facts p.pool (with_sense cond s) number c
-    with_other s c g = record {
-      pool = g.pool;
-      count = g.count;
-      lists = g.lists;
-      rest = g.rest;
-      below = g.below;
-      decided = g.decided;
-      forced = g.forced;
-      node_back = g.node_back;
-      other_back = g.other_back;
-    }
-
     can : (c : Bool) → IsForcedCondition p.facts p.pool (with_sense cond c) number c
         → CanLearn p.facts p.pool (with_sense cond c)
     can c g = let new = laws.this p.facts p.pool (with_sense cond c) number g in (new.0, new.2)
 
     cant : (c : Bool) → IsForcedCondition p.facts p.pool cond number c
         → CantLearn p.facts p.pool (with_sense cond (not c))
-    cant true g = laws.other p.facts p.pool (with_sense cond false) number (with_other false true g)
-    cant false g = laws.other p.facts p.pool (with_sense cond true) number (with_other true false g)
+    cant true g = laws.other p.facts p.pool (with_sense cond false) number (with_other p cond number false true g)
+    cant false g = laws.other p.facts p.pool (with_sense cond true) number (with_other p cond number true false g)
 
 -- a test of A against a constant, which gets a node
 pub gets_told : (laws : ForcedIsLearnt) (p : PieceData) (test : Test) (k : ℕ) (b : Bool) → Covers p.facts p.pool
@@ -105,24 +90,22 @@ gets_told laws p test k b h told = elim (find p.pool k (length p.pool)) [
       )
 ]
 
+-- a test against X, which is known to be one number
+forced_x : (p : PieceData) (test : Test) (number : ℕ) (b : Bool)
+    → IsForcedTest p.facts p.pool p.machine.a test number b → p.machine.x.0 < length p.pool
+    → IsTestedNumber p X number → IsForcedCondition p.facts p.pool (query p.machine.a test p.machine.x) number b
+forced_x p test number b told l is = grind (arith, common_steps)
+
 -- what is told of a test of A against an operand
 foretold : (laws : ForcedIsLearnt) (p : PieceData) (test : Test) (other : Operand) (number : ℕ) (b : Bool)
     → Covers p.facts p.pool → IsForcedTest p.facts p.pool p.machine.a test number b → p.machine.x.0 < length p.pool
     → IsTestedNumber p other number → IsForetold p test other b
 foretold laws p test (Constant k) number b h told l is = gets_told laws p test k b h (rw is at told)
-foretold laws p test X number b h told l is =
-    let forced : IsForcedCondition p.facts p.pool (query p.machine.a test p.machine.x) number b = record {
-      pool = told.pool;
-      count = told.count;
-      lists = told.lists;
-      rest = told.rest;
-      below = (told.below, l);
-      decided = is.0;
-      forced = told.forced;
-      node_back = told.back;
-      other_back = is.1;
-    } in
-    ((p, p.machine.x), refl, leaves_only laws p (query p.machine.a test p.machine.x) number b forced)
+foretold laws p test X number b h told l is = (
+  (p, p.machine.x),
+  refl,
+  leaves_only laws p (query p.machine.a test p.machine.x) number b (forced_x p test number b told l is),
+)
 
 -- what is known of A by itself tells a test
 pub forced_test : (p : PieceData) (test : Test) (number : ℕ) (b : Bool) → IsPiece p

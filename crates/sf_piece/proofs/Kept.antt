@@ -1,5 +1,5 @@
 -- Pieces that go on by an instruction.
-use Rattle.sf_piece.proofs.Common.{common_steps, ◌≡◌, ℕ, zero, suc, ◌+◌, ◌*◌, ◌/◌, ◌%◌, ◌^◌, ◌<◌, ◌≤◌, Bool, true, false, List, [], ◌∷◌, ◌++◌, length, take, Some, None, slice_get, refl, sym, ap, subst, ◌∙◌, inl, inr, arith, append-nil, if◌then◌else◌, ◌==◌, Contains, AllByRecursion, same_Some, mod-pow-add, Input, IsInput, apply, Div, Insn, Alu, ReturnConstant, ReturnA, X, successors, stored_by, IsAt, IsLawfulProgram, Stores, contains_here, any_cons, successors_inside, below_in, State, Progress, goes, returns, bits, insn_progress, step, trace_of, safe_next, step_is, IsReachable, may_go, Cond, NodeId, value_of, IsCondBelow, value-small, FactsView, Covers, Agrees, SymbolicMachine, after_return, PieceData, is_member, is_prefix, concrete_state, met_of, number_from, IsPending, AreNodesBelow, StandsAt, IsPiece, HasAtHand, GoesTo, GoesBy, ReturnsNow, HasAdvanced, IsContinuation}
+use Rattle.sf_piece.proofs.Common.{common_steps, ◌≡◌, ℕ, zero, suc, ◌+◌, ◌*◌, ◌/◌, ◌%◌, ◌^◌, ◌<◌, ◌≤◌, Bool, true, false, List, [], ◌∷◌, ◌++◌, length, take, Some, None, slice_get, refl, sym, ap, subst, ◌∙◌, inl, inr, arith, if◌then◌else◌, ◌==◌, Contains, same_Some, mod-pow-add, Input, apply, Div, Insn, Alu, ReturnConstant, ReturnA, X, successors, stored_by, IsAt, IsLawfulProgram, Stores, contains_here, any_cons, successors_inside, below_in, State, Progress, goes, returns, bits, insn_progress, step, safe_next, step_is, IsReachable, may_go, NodeId, value_of, value-small, SymbolicMachine, after_return, PieceData, is_member, concrete_state, met_of, number_from, IsPending, AreNodesBelow, StandsAt, IsPiece, HasAtHand, GoesTo, GoesBy, ReturnsNow, work_left}
 use Rattle.std.proofs.Common.{Option}
 use Rattle.std.specs.Prelude.{replicate}
 use Rattle.sf_piece.proofs.Moves.{made, stands_moved, stands_returned}
@@ -18,28 +18,17 @@ div_clash false u t e = cc
 -- as many truth values are in the name as are taken
 pub pre_short : (code : List Insn) (place taken : ℕ) (pre : List Bool) → IsPending code place taken pre
     → (taken ≤ 32) × (length pre ≡ taken)
-pre_short code place taken pre (inl q) = (omega (arith, q.0), ap length q.1 ∙ sym q.0)
-pre_short code place taken pre (inr (inl q)) = (q.1, q.2)
-pre_short code place taken pre (inr (inr q)) = (omega (arith, q.1), ap length q.2 ∙ sym q.1)
+pre_short code place taken pre p = grind (arith, common_steps)
 
 -- only a return of A and a division by X have truth values in the name while they are at hand
 pub none_pending : (code : List Insn) (place taken : ℕ) (pre : List Bool) (i : Insn) → IsPending code place taken pre
     → IsAt code place i → (i ≡ ReturnA → ⊥) → (i ≡ Alu Div X → ⊥) → (taken ≡ 0) × (pre ≡ [])
-none_pending code place taken pre i (inl p) at no_return no_division = p
-none_pending code place taken pre i (inr (inl p)) at no_return no_division =
-    absurd (no_return (at_same code place i ReturnA at p.0))
-none_pending code place taken pre i (inr (inr p)) at no_return no_division =
-    absurd (no_division (at_same code place i (Alu Div X) at p.0))
-
-none_named : (code : List Insn) (place taken : ℕ) (pre : List Bool) (i : Insn) → IsPending code place taken pre
-    → IsAt code place i → (i ≡ ReturnA → ⊥) → (i ≡ Alu Div X → ⊥) → pre ≡ []
-none_named code place taken pre i p at no_return no_division =
-    (none_pending code place taken pre i p at no_return no_division).1
+none_pending code place taken pre i p at no_return no_division = grind (arith, common_steps, at_same)
 
 -- where a step meets nothing, nothing of it is in the name
 nothing_taken : (code : List Insn) (place taken : ℕ) (pre : List Bool) (i : Insn) (d : Input) (s t : State)
     → IsPending code place taken pre → IsAt code place i → insn_progress d s i ≡ goes [] t → pre ≡ []
-nothing_taken code place taken pre i d s t pending at e = grind (arith, common_steps, none_named, div_clash)
+nothing_taken code place taken pre i d s t pending at e = grind (arith, common_steps, none_pending, div_clash)
 
 -- where the instruction leads, the state with the same scratch words is reachable
 pub safe_moved : (code : List Insn) (s t : State) (i : Insn) → IsLawfulProgram code → IsReachable code s
@@ -56,34 +45,23 @@ safe_moved code s t i lawful safe at leads none same = record {
   ];
 }
 
--- a piece of the same pool
-pub assembled : (p : PieceData) (name : List Bool) (cs : List Cond) (m : SymbolicMachine) (fs : FactsView) → IsPiece p
-    → AllByRecursion (IsCondBelow (length p.pool)) cs → AreNodesBelow (length p.pool) m → m.zero ≡ p.machine.zero
-    → Covers fs p.pool
-    → ((d : Input) → IsInput d → is_member (made p name cs m fs) d ≡ true → Agrees fs p.pool d)
-    → ((d : Input) → IsInput d → is_member (made p name cs m fs) d
-    ≡ is_prefix name (trace_of p.stack d))
-    → (rest : List (List Insn)) (base pre : List Bool) → StandsAt (made p name cs m fs) rest base pre
-    → IsPiece (made p name cs m fs)
-assembled p name cs m fs h bounded nodes zero_is covers known members rest base pre stands = grind (arith, common_steps)
-
-pub same_members : (p : PieceData) (m : SymbolicMachine) → IsContinuation p (made p p.name p.conditions m p.facts)
-unfolding is_member
-same_members p m = grind (arith, common_steps, append-nil)
+-- where a piece's run stands once it has turned to another machine, and that less is left to be done
+pub record Turned (p q : PieceData) : Type 0 where
+  pub rest : List (List Insn)
+  pub base : List Bool
+  pub pre : List Bool
+  pub stands : StandsAt q rest base pre
+  pub nodes : AreNodesBelow (length p.pool) q.machine
+  pub zero_is : q.machine.zero ≡ p.machine.zero
+  pub falls : work_left q < work_left p
 
 abbrev pub gone : PieceData → SymbolicMachine → PieceData
 gone p m = made p p.name p.conditions m p.facts
 
-kept : (p : PieceData) (m : SymbolicMachine) → IsPiece p → AreNodesBelow (length p.pool) m → m.zero ≡ p.machine.zero
-    → (rest : List (List Insn)) (base pre : List Bool) → StandsAt (gone p m) rest base pre → IsPiece (gone p m)
-unfolding is_member
-kept p m h nodes zero_is rest base pre stands = search (arith, assembled)
-
 div_taken : (b : Bool) (u t : State) → false ∷ []
     ≡ take 1 (met_of (if b then returns (true ∷ []) 0 else goes (false ∷ []) u)) → t ≡ u
     → (if b then returns (true ∷ []) 0 else goes (false ∷ []) u) ≡ goes (false ∷ []) t
-div_taken true u t e same = let clash : false ∷ [] ≡ true ∷ [] = e in absurd cc
-div_taken false u t e same = ap (goes (false ∷ [])) (sym same)
+div_taken b u t e same = grind (arith, common_steps)
 
 go_stands : (p : PieceData) (i : Insn) (m : SymbolicMachine) → IsPiece p → (s : HasAtHand p i)
     → GoesTo p i m → GoesBy p i m
@@ -138,27 +116,26 @@ go_stands p i m h s g (inr (is, taken, to)) =
   where
     pending : IsPending s.code p.machine.place p.machine.taken s.pre → IsAt s.code p.machine.place (Alu Div X)
         → p.machine.taken ≡ 1 → s.pre ≡ false ∷ []
-    pending (inl q) at one = absurd (omega (arith, q.0))
-    pending (inr (inl q)) at one = let clash : ReturnA ≡ Alu Div X =
-        at_same s.code p.machine.place ReturnA (Alu Div X) q.0 at in absurd cc
-    pending (inr (inr q)) at one = q.2
+    pending q at one = grind (arith, common_steps, at_same)
 
-pub go_piece : (p : PieceData) (i : Insn) (m : SymbolicMachine) → IsPiece p → HasAtHand p i → GoesTo p i m
-    → IsPiece (gone p m)
-go_piece p i m h s g =
-    let w = go_stands p i m h s g g.run in
-    kept p m h g.nodes g.zero (s.code ∷ s.later) w.0.0 [] w.0.1
-
-pub go_gone : (p : PieceData) (i : Insn) (m : SymbolicMachine) → IsPiece p → HasAtHand p i → GoesTo p i m
-    → HasAdvanced p (gone p m)
-go_gone p i m h s g =
+pub go_turned : (p : PieceData) (i : Insn) (m : SymbolicMachine) → IsPiece p → HasAtHand p i → GoesTo p i m
+    → Turned p (gone p m)
+go_turned p i m h s g =
     let w = go_stands p i m h s g g.run in
     let after = w.1 in
     let program : m.program ≡ p.machine.program = g.program in
     let taken : m.taken ≡ 0 = g.taken in
     let few : p.machine.taken ≤ 32 = s.taken in
     let small : p.machine.place < 4096 = s.small in
-    record { is_on = same_members p m; falls = rw (program, taken) (omega arith) }
+    record {
+      rest = s.code ∷ s.later;
+      base = w.0.0;
+      pre = [];
+      stands = w.0.1;
+      nodes = g.nodes;
+      zero_is = g.zero;
+      falls = rw (program, taken) (omega arith);
+    }
 
 -- ---- returns
 
@@ -190,19 +167,19 @@ unfolding is_member
 return_stands p i v h s (inl is) =
     let at : IsAt s.code p.machine.place (ReturnConstant v) =
     subst (λ (j : Insn). IsAt s.code p.machine.place j) is s.at in
-    let none = none_named s.code p.machine.place p.machine.taken s.pre (ReturnConstant v) s.stands.inside.pending at
-    (λ is. cc) (λ is. cc) in (
+    let none = (none_pending s.code p.machine.place p.machine.taken s.pre (ReturnConstant v) s.stands.inside.pending at
+    (λ is. cc) (λ is. cc)).1 in (
       s.base ++ [],
       stands_returned p s.code s.later s.base s.pre [] (ReturnConstant v) v p.name p.conditions p.facts
           s.stands at (refl, refl)
-          (s.stands.name_is ∙ ap (λ (l : List Bool). s.base ++ l) none) h.zero (λ d inp member. (member, refl)),
+          (s.stands.name_is ∙ ap (λ (l : List Bool). s.base ++ l) none) s.zero (λ d inp member. (member, refl)),
     )
 return_stands p i v h s (inr (is, full, same)) =
     let at : IsAt s.code p.machine.place ReturnA = subst (λ (j : Insn). IsAt s.code p.machine.place j) is s.at in
     let len = (pre_short s.code p.machine.place p.machine.taken s.pre s.stands.inside.pending).1 ∙ full in (
       s.base ++ s.pre,
       stands_returned p s.code s.later s.base s.pre s.pre ReturnA v p.name p.conditions p.facts s.stands at (len, refl)
-          s.stands.name_is h.zero
+          s.stands.name_is s.zero
           (λ d inp member.
           let a = value_of p.pool d p.machine.a.0 in
           let f = (s.stands.runs d inp member).taken in
@@ -226,12 +203,17 @@ pub returned_nodes : (p : PieceData) (v : ℕ) → AreNodesBelow (length p.pool)
     → AreNodesBelow (length p.pool) (after_return p.machine v)
 returned_nodes p v b = record { a = b.zero; x = b.zero; zero = b.zero; scratch = λ k w e. absurd (none_set 16 k w e) }
 
-pub return_piece : (p : PieceData) (i : Insn) (v : ℕ) → IsPiece p → HasAtHand p i → ReturnsNow p i v
-    → IsPiece (gone p (after_return p.machine v))
-return_piece p i v h s r =
+pub left_turned : (p : PieceData) (i : Insn) (v : ℕ) → IsPiece p → HasAtHand p i → ReturnsNow p i v
+    → Turned p (gone p (after_return p.machine v))
+left_turned p i v h s r =
     let w = return_stands p i v h s r in
-    kept p (after_return p.machine v) h (returned_nodes p v h.nodes) refl s.later w.0 [] w.1
-
-pub return_gone : (p : PieceData) (i : Insn) (v : ℕ) → IsPiece p → HasAtHand p i
-    → HasAdvanced p (gone p (after_return p.machine v))
-return_gone p i v h s = search (arith, same_members)
+    let running : p.machine.program < length p.stack = s.running in
+    record {
+      rest = s.later;
+      base = w.0;
+      pre = [];
+      stands = w.1;
+      nodes = returned_nodes p v h.nodes;
+      zero_is = refl;
+      falls = omega arith;
+    }

@@ -1,5 +1,5 @@
 -- Names, stacks, pools and words of what is made of a piece.
-use Rattle.sf_piece.proofs.Common.{common_steps, append_assoc, append-nil, length-append, ◌≡◌, ℕ, zero, suc, ◌+◌, ◌-◌, ◌≤◌, Bool, true, false, List, [], ◌∷◌, ◌++◌, length, refl, sym, ap, subst, ◌∙◌, inl, inr, arith, Option, if◌then◌else◌, same_Some, Insn, LoadWord, LoadConstant, LoadLength, LoadXConstant, LoadXLength, Alu, Negate, Branch, ReturnA, Operand, Constant, X, Cond, Node, Const, Word, Neg, NodeId, IsPool, Then, SymbolicMachine, PieceData, Split, IsGiven, GetsOperand, with_machine, LoadsA, LoadsX, Computes, query, HasQuery, IsSide, MakesOf, GoesOnFor, SplitsInto, HasStep, IsBelow}
+use Rattle.sf_piece.proofs.Common.{common_steps, append_assoc, append-nil, length-append, ◌≡◌, ℕ, zero, suc, ◌+◌, ◌≤◌, Bool, true, false, List, [], ◌∷◌, ◌++◌, length, refl, sym, ap, subst, ◌∙◌, inl, inr, arith, Option, if◌then◌else◌, same_Some, Insn, Alu, Branch, ReturnA, Operand, Constant, X, Cond, Node, Const, NodeId, IsPool, Then, SymbolicMachine, PieceData, Split, IsGiven, GetsOperand, with_machine, LoadsA, LoadsX, Computes, HasQuery, IsSide, MakesOf, GoesOnFor, SplitsInto, HasStep, IsBelow}
 use Rattle.std.specs.Prelude.{Some}
 
 -- ---- words
@@ -56,14 +56,7 @@ loads_x_word : (p q : PieceData) (k : ℕ) → LoadsX p k (Some q) → HasWord p
 loads_x_word p q k h = grind (arith, common_steps, same_Some, same_more, given_more, both_gave, word_of)
 
 pub computes_word : (p q : PieceData) (i : Insn) → Computes p i (Some q) → HasWord p q
-computes_word p q (LoadWord w) h = loads_word p p q (Word w) (same_more p) h
-computes_word p q (LoadConstant k) h = loads_word p p q (Const k) (same_more p) h
-computes_word p q LoadLength h = loads_word p p q (Const 64) (same_more p) h
-computes_word p q (LoadXConstant k) h = loads_x_word p q k h
-computes_word p q LoadXLength h = loads_x_word p q 64 h
-computes_word p q Negate h = loads_word p p q (Neg p.machine.a) (same_more p) h
-computes_word p q (Alu op other) h = grind (arith, common_steps, operand_more, both_gave, loads_word)
-computes_word p q _ h = absurd h
+computes_word p q i h = grind (arith, common_steps, same_more, operand_more, both_gave, loads_word, loads_x_word)
 
 -- ---- names
 
@@ -80,21 +73,9 @@ made_on p i q (inr (inl m)) = grind (arith, common_steps, append-nil, computes_w
 made_on p i q (inr (inr m)) = grind (arith, common_steps)
 
 goes_named : (n : ℕ) (p q : PieceData) → GoesOnFor n p q → HasGoneOn p q
-goes_named zero p q h = record {
-  on = [];
-  name = ap (λ (r : PieceData). r.name) h ∙ sym (append-nil p.name);
-  stack = ap (λ (r : PieceData). r.stack) h;
-  pool = λ l. subst (λ (r : PieceData). IsPool r.pool) (sym h) l;
-}
+goes_named zero p q h = grind (arith, common_steps, append-nil)
 goes_named (suc n) p q h =
-    let rest = goes_named n h.0 q h.2 in
-    let one = made_on p h.1.0 h.0 h.1.2 in
-    record {
-      on = one.on ++ rest.on;
-      name = rest.name ∙ ap (λ (l : List Bool). l ++ rest.on) one.name ∙ append_assoc p.name one.on rest.on;
-      stack = rest.stack ∙ one.stack;
-      pool = λ l. rest.pool (one.pool l);
-    }
+    grind (arith, common_steps, append_assoc, made_on p h.1.0 h.0 h.1.2, goes_named n h.0 q h.2)
 
 -- the side of a split on which its query has this truth value
 pub side_of : (q f t : PieceData) (s : SplitsInto q f t) (b : Bool) → IsSide s.1 s.0 b (if b then t else f)

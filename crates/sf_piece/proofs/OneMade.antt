@@ -1,5 +1,5 @@
 -- What is made of a piece is one thing, if facts learn and grow in one way at most.
-use Rattle.sf_piece.proofs.Common.{◌≡◌, ℕ, ◌-◌, ◌^◌, Bool, true, false, List, [], ◌∷◌, ◌++◌, refl, sym, ap, subst, ◌∙◌, inl, inr, Option, BinOp, Div, AnyBit, Insn, LoadWord, LoadConstant, LoadLength, LoadXConstant, LoadXLength, Alu, Negate, Branch, ReturnA, Operand, Constant, X, Cond, Node, Const, Word, Bin, Neg, NodeId, IsPool, FactsView, CantLearn, GrowsBy, CantGrow, HaveOneResult, then-one, SymbolicMachine, PieceData, IsPutIn, IsGiven, Gets, GetsOperand, piece_with_a, piece_with_x, LoadsA, LoadsX, Computes, query, HasQuery, with_sense, AfterTruthValue, CanLearn, LeavesOnly, IsSide, IsNamedOn}
+use Rattle.sf_piece.proofs.Common.{◌≡◌, ℕ, ◌-◌, ◌^◌, Bool, true, false, List, [], ◌∷◌, ◌++◌, refl, sym, ap, subst, ◌∙◌, inl, inr, Option, AnyBit, Insn, LoadWord, LoadConstant, LoadLength, LoadXConstant, LoadXLength, Alu, Negate, Branch, ReturnA, Operand, Constant, X, Cond, Node, Const, Word, Bin, Neg, NodeId, IsPool, FactsView, CantLearn, GrowsBy, HaveOneResult, then-one, SymbolicMachine, PieceData, IsPutIn, IsGiven, Gets, GetsOperand, piece_with_a, piece_with_x, LoadsA, Computes, query, HasQuery, with_sense, AfterTruthValue, CanLearn, LeavesOnly, IsSide, IsNamedOn, Then, common_steps, arith}
 use Rattle.std.specs.Prelude.{Some, None}
 use Rattle.sf_piece.proofs.Named.{operand_more}
 
@@ -8,18 +8,13 @@ use Rattle.sf_piece.proofs.Named.{operand_more}
 pub same_id : (i j : NodeId) → i.0 ≡ j.0 → i ≡ j
 same_id i j e = ap (λ (n : ℕ). let id : NodeId = record { 0 = n } in id) e
 
-same_pool : (old a b : List Node) (node : Node) (i j : NodeId) → IsPutIn old node a i → IsPutIn old node b j → a ≡ b
-same_pool old a b node i j (inl h) (inl k) = h.1 ∙ sym k.1
-same_pool old a b node i j (inl h) (inr k) = absurd (k.0 i h.0)
-same_pool old a b node i j (inr h) (inl k) = absurd (h.0 j k.0)
-same_pool old a b node i j (inr h) (inr k) = h.2 ∙ sym k.2
-
-same_place : (old a b : List Node) (node : Node) (i j : NodeId) → IsPool old → IsPutIn old node a i
-    → IsPutIn old node b j → i ≡ j
-same_place old a b node i j p (inl h) (inl k) = same_id i j (p.twins i.0 j.0 h.0.0 k.0.0 (h.0.1 ∙ sym k.0.1))
-same_place old a b node i j p (inl h) (inr k) = absurd (k.0 i h.0)
-same_place old a b node i j p (inr h) (inl k) = absurd (h.0 j k.0)
-same_place old a b node i j p (inr h) (inr k) = same_id i j (h.1 ∙ sym k.1)
+same_put : (old a b : List Node) (node : Node) (i j : NodeId) → IsPool old → IsPutIn old node a i
+    → IsPutIn old node b j → (a ≡ b) × (i ≡ j)
+same_put old a b node i j p (inl h) (inl k) =
+    (h.1 ∙ sym k.1, same_id i j (p.twins i.0 j.0 h.0.0 k.0.0 (h.0.1 ∙ sym k.0.1)))
+same_put old a b node i j p (inl h) (inr k) = absurd (k.0 i h.0)
+same_put old a b node i j p (inr h) (inl k) = absurd (h.0 j k.0)
+same_put old a b node i j p (inr h) (inr k) = (h.2 ∙ sym k.2, same_id i j (h.1 ∙ sym k.1))
 
 -- Rules that have one result.
 module _ (laws : HaveOneResult) where
@@ -28,54 +23,43 @@ module _ (laws : HaveOneResult) where
   given_one : (p : PieceData) (node : Node) (a b : PieceData × NodeId) → IsPool p.pool → IsGiven p node a.0 a.1
       → IsGiven p node b.0 b.1 → a ≡ b
   given_one p node a b pool h k =
-      let pools : a.0.pool ≡ b.0.pool = same_pool p.pool a.0.pool b.0.pool node a.1 b.1 h.pool k.pool in
+      let same = same_put p.pool a.0.pool b.0.pool node a.1 b.1 pool h.pool k.pool in
+      let pools : a.0.pool ≡ b.0.pool = same.0 in
       let facts = laws.grown p.facts a.0.facts b.0.facts a.0.pool h.lawful h.facts
       (subst (λ ns. GrowsBy p.facts b.0.facts ns) (sym pools) k.facts) in
       let piece : a.0 ≡ b.0 = h.rest
       ∙ ap (λ (ns : List Node). let q : PieceData = record p { pool = ns; facts = a.0.facts } in q) pools
       ∙ ap (λ (f : FactsView). let q : PieceData = record p { pool = b.0.pool; facts = f } in q) facts ∙ sym k.rest in
-      ap (λ (q : PieceData). (q, a.1)) piece
-      ∙ ap (λ (id : NodeId). (b.0, id)) (same_place p.pool a.0.pool b.0.pool node a.1 b.1 pool h.pool k.pool)
+      ap (λ (q : PieceData). (q, a.1)) piece ∙ ap (λ (id : NodeId). (b.0, id)) same.1
 
   gets_one : (p : PieceData) (node : Node) → IsPool p.pool → (o r : Option (PieceData × NodeId)) → Gets p node o
       → Gets p node r → o ≡ r
-  gets_one p node pool (Some a) (Some b) h k = ap Some (given_one p node a b pool h k)
-  gets_one p node pool None None h k = refl
-  gets_one p node pool (Some a) None h k =
-      let pools : k.0 ≡ a.0.pool = same_pool p.pool k.0 a.0.pool node k.1 a.1 k.2 h.pool in
-      absurd (laws.grows_not p.facts a.0.facts a.0.pool h.lawful h.facts
-      (subst (λ ns. CantGrow p.facts ns) pools k.3))
-  gets_one p node pool None (Some b) h k =
-      let pools : h.0 ≡ b.0.pool = same_pool p.pool h.0 b.0.pool node h.1 b.1 h.2 k.pool in
-      absurd (laws.grows_not p.facts b.0.facts b.0.pool k.lawful k.facts
-      (subst (λ ns. CantGrow p.facts ns) pools h.3))
+  gets_one p node pool o r h k = grind (arith, common_steps, given_one, same_put)
 
   operand_one : (p : PieceData) (other : Operand) → IsPool p.pool → (o r : Option (PieceData × NodeId))
       → GetsOperand p other o → GetsOperand p other r → o ≡ r
   operand_one p (Constant k) pool o r h g = gets_one p (Const k) pool o r h g
   operand_one p X pool o r h g = h ∙ sym g
 
-  loads_one : (p : PieceData) (node : Node) → IsPool p.pool → (m n : Option PieceData) → LoadsA p node m
-      → LoadsA p node n → m ≡ n
-  loads_one p node pool = then-one (Gets p node) (λ given next. next ≡ Some (piece_with_a given))
-      (gets_one p node pool) (λ given g r s e f. e ∙ sym f)
-
-  loads_x_one : (p : PieceData) (c : ℕ) → IsPool p.pool → (m n : Option PieceData) → LoadsX p c m → LoadsX p c n
-      → m ≡ n
-  loads_x_one p c pool = then-one (Gets p (Const c)) (λ given next. next ≡ Some (piece_with_x given))
-      (gets_one p (Const c) pool) (λ given g r s e f. e ∙ sym f)
+  -- what is made of the word that a piece gets
+  word_one : {B : Type 0} (p : PieceData) (node : Node) (f : PieceData × NodeId → B) → IsPool p.pool → (m n : Option B)
+      → Then (Gets p node) (λ given next. next ≡ Some (f given)) m
+      → Then (Gets p node) (λ given next. next ≡ Some (f given)) n → m ≡ n
+  word_one p node f pool = then-one (Gets p node) (λ given next. next ≡ Some (f given)) (gets_one p node pool)
+      (λ given g r s e k. e ∙ sym k)
 
   pub computes_one : (p : PieceData) (i : Insn) (m n : Option PieceData) → IsPool p.pool → Computes p i m
       → Computes p i n → m ≡ n
-  computes_one p (LoadWord w) m n pool h k = loads_one p (Word w) pool m n h k
-  computes_one p (LoadConstant c) m n pool h k = loads_one p (Const c) pool m n h k
-  computes_one p LoadLength m n pool h k = loads_one p (Const 64) pool m n h k
-  computes_one p (LoadXConstant c) m n pool h k = loads_x_one p c pool m n h k
-  computes_one p LoadXLength m n pool h k = loads_x_one p 64 pool m n h k
-  computes_one p Negate m n pool h k = loads_one p (Neg p.machine.a) pool m n h k
+  computes_one p (LoadWord w) m n pool h k = word_one p (Word w) piece_with_a pool m n h k
+  computes_one p (LoadConstant c) m n pool h k = word_one p (Const c) piece_with_a pool m n h k
+  computes_one p LoadLength m n pool h k = word_one p (Const 64) piece_with_a pool m n h k
+  computes_one p (LoadXConstant c) m n pool h k = word_one p (Const c) piece_with_x pool m n h k
+  computes_one p LoadXLength m n pool h k = word_one p (Const 64) piece_with_x pool m n h k
+  computes_one p Negate m n pool h k = word_one p (Neg p.machine.a) piece_with_a pool m n h k
   computes_one p (Alu op other) m n pool h k =
       then-one (GetsOperand p other) (λ right. LoadsA right.0 (Bin op p.machine.a right.1)) (operand_one p other pool)
-      (λ right g. loads_one right.0 (Bin op p.machine.a right.1) ((operand_more p other right g).lawful pool))
+      (λ right g. word_one right.0 (Bin op p.machine.a right.1) piece_with_a
+      ((operand_more p other right g).lawful pool))
       m n h.1 k.1
   computes_one p _ m n pool h k = absurd h
 
@@ -87,9 +71,7 @@ module _ (laws : HaveOneResult) where
       then-one (GetsOperand p other) (λ right q. q ≡ Some (right.0, query p.machine.a test right.1))
       (operand_one p other pool) (λ right g r s e f. e ∙ sym f) m n h k
   query_one p ReturnA m n pool h k =
-      then-one (Gets p (Const (2 ^ (31 - p.machine.taken))))
-      (λ bit q. q ≡ Some (bit.0, query p.machine.a AnyBit bit.1))
-      (gets_one p (Const (2 ^ (31 - p.machine.taken))) pool) (λ bit g r s e f. e ∙ sym f) m n h.1 k.1
+      word_one p (Const (2 ^ (31 - p.machine.taken))) (λ bit. (bit.0, query p.machine.a AnyBit bit.1)) pool m n h.1 k.1
   query_one p (Alu op other) m n pool h k = h.1 ∙ sym k.1
   query_one p _ m n pool h k = absurd h
 
@@ -110,17 +92,7 @@ module _ (laws : HaveOneResult) where
 
   after_one : (p : PieceData) (i : Insn) (b : Bool) (m n : SymbolicMachine) → AfterTruthValue p i b m
       → AfterTruthValue p i b n → m ≡ n
-  after_one p (Branch test other t e) b m n h k = h ∙ sym k
-  after_one p ReturnA b m n h k = h ∙ sym k
-  after_one p (Alu op other) b m n h k = by op other b h k
-    where
-      by : (op : BinOp) (other : Operand) (b : Bool) → AfterTruthValue p (Alu op other) b m
-          → AfterTruthValue p (Alu op other) b n → m ≡ n
-      by Div X true h k = h ∙ sym k
-      by Div X false h k = h ∙ sym k
-      by Div (Constant c) b h k = absurd h
-      by _ other b h k = absurd h
-  after_one p _ b m n h k = absurd h
+  after_one p i b m n h k = grind (arith, common_steps)
 
   pub named_one : (p : PieceData) (i : Insn) (s : Bool) (a b : PieceData) → IsNamedOn p i s a → IsNamedOn p i s b
       → a ≡ b

@@ -1,5 +1,5 @@
 -- The rules reach one piece of a name at most.
-use Rattle.sf_piece.proofs.Common.{length-append, ◌≡◌, ℕ, ◌<◌, ◌⊎◌, Bool, true, false, List, [], ◌∷◌, ◌++◌, length, refl, sym, ap, subst, ◌∙◌, inl, inr, arith, if◌then◌else◌, cases_lt, ext_get_or, Insn, Cond, Node, Const, Word, IsPool, node_at, FactsView, StartsBy, HaveOneResult, SymbolicMachine, PieceData, Split, HasStep, IsFirst, IsBelow, IsInTree, first_machine}
+use Rattle.sf_piece.proofs.Common.{length-append, ◌≡◌, ℕ, ◌<◌, Bool, true, false, List, [], ◌∷◌, ◌++◌, length, refl, sym, ap, subst, ◌∙◌, inl, inr, arith, if◌then◌else◌, cases_lt, ext_get_or, Insn, Cond, Node, Const, IsPool, node_at, FactsView, StartsBy, HaveOneResult, SymbolicMachine, PieceData, Split, HasStep, IsFirst, IsBelow, IsInTree, first_machine}
 use Rattle.sf_piece.proofs.Named.{AreNamedSides, below_named, regroup, sides_named}
 use Rattle.sf_piece.proofs.OneMade.{same_id}
 use Rattle.sf_piece.proofs.OneStep.{one_step}
@@ -74,14 +74,6 @@ one_below laws (b ∷ bs) (c ∷ cs) r p q pool h k e =
 
 -- ---- the first piece
 
-first_node : (stack : List (List Insn)) (p : PieceData) → IsFirst stack p → (i : ℕ) → i < 17
-    → ((i < 16) × (node_at p.pool i ≡ Word i)) ⊎ ((i ≡ 16) × (node_at p.pool i ≡ Const 0))
-first_node stack p h i l = elim (cases_lt i 16) [
-  | inl w ↦ inl (w, h.pool.word i w)
-  | inr g ↦ (let last : i ≡ 16 = omega (arith, g, l) in
-      inr (last, ap (λ (k : ℕ). node_at p.pool k) last ∙ h.zero))
-]
-
 abbrev pub piece_of : List (List Insn) → List Bool → List Node → List Cond → SymbolicMachine → FactsView → PieceData
 piece_of stack name pool conditions machine facts = record {
   stack = stack;
@@ -101,8 +93,10 @@ rebuilt s t m n ns ks cs ds a b f g e1 e2 e3 e4 e5 e6 = cc
 first_one : (laws : HaveOneResult) (stack : List (List Insn)) (p q : PieceData) → IsFirst stack p → IsFirst stack q
     → p ≡ q
 first_one laws stack p q h k =
-    let node : (i : ℕ) → i < 17 → node_at p.pool i ≡ node_at q.pool i = λ i l.
-    by i (first_node stack p h i l) (first_node stack q k i l) in
+    let node : (i : ℕ) → i < 17 → node_at p.pool i ≡ node_at q.pool i = λ i l. elim (cases_lt i 16) [
+      | inl w ↦ h.pool.word i w ∙ sym (k.pool.word i w)
+      | inr g ↦ (let last : i ≡ 16 = omega (arith, g, l) in rw last (h.zero ∙ sym k.zero))
+    ] in
     let pools : p.pool ≡ q.pool = ext_get_or (Const 0) p.pool q.pool (h.count ∙ sym k.count)
     (λ i l. node i (omega (arith, l, h.count))) in
     let zeros : p.machine.zero ≡ q.machine.zero = same_id p.machine.zero q.machine.zero (h.place ∙ sym k.place) in
@@ -111,14 +105,6 @@ first_one laws stack p q h k =
     (h.stack_is ∙ sym k.stack_is) (h.name ∙ sym k.name) pools (h.conditions ∙ sym k.conditions) machines
     (laws.started p.facts q.facts p.pool h.pool h.facts
     (subst (λ (ns : List Node). StartsBy q.facts ns) (sym pools) k.facts))
-  where
-    by : (i : ℕ) → ((i < 16) × (node_at p.pool i ≡ Word i)) ⊎ ((i ≡ 16) × (node_at p.pool i ≡ Const 0))
-        → ((i < 16) × (node_at q.pool i ≡ Word i)) ⊎ ((i ≡ 16) × (node_at q.pool i ≡ Const 0))
-        → node_at p.pool i ≡ node_at q.pool i
-    by i (inl x) (inl y) = x.1 ∙ sym y.1
-    by i (inr x) (inr y) = x.1 ∙ sym y.1
-    by i (inl x) (inr y) = absurd (let less = x.0 in let last = y.0 in omega arith)
-    by i (inr x) (inl y) = absurd (let last = x.0 in let less = y.0 in omega arith)
 
 -- The rules reach one piece of a name at most.
 pub one_piece : (laws : HaveOneResult) (p q : PieceData) → IsInTree p → IsInTree q → p.stack ≡ q.stack

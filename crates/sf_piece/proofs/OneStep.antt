@@ -1,8 +1,7 @@
 -- A piece has one step at most.
-use Rattle.sf_piece.proofs.Common.{common_steps, ◌≡◌, ℕ, zero, suc, ◌≤◌, ◌⊎◌, Bool, true, false, List, length, refl, sym, ap, subst, ◌∙◌, inl, inr, arith, Option, same_Some, Insn, LoadScratch, LoadXScratch, StoreA, StoreX, Alu, Jump, Branch, ReturnConstant, ReturnA, Tax, Txa, Cond, NodeId, IsPool, CantLearn, HaveOneResult, SymbolicMachine, PieceData, StepData, Split, with_machine, Computes, MovesTo, HasQuery, with_sense, LeavesOnly, LeavesNeither, IsSide, IsNamedOn, code_at, IsAtHand, MakesOf, GoesOn, SplitsInto, IsEmptied, GoesOnFor, EndsAs, HasStep}
+use Rattle.sf_piece.proofs.Common.{common_steps, ◌≡◌, ℕ, zero, suc, ◌≤◌, ◌⊎◌, Bool, true, false, List, length, refl, sym, ap, subst, ◌∙◌, inl, inr, arith, Option, same_Some, Insn, Cond, NodeId, IsPool, CantLearn, HaveOneResult, SymbolicMachine, PieceData, StepData, Split, with_machine, Computes, MovesTo, HasQuery, with_sense, LeavesOnly, LeavesNeither, IsSide, IsNamedOn, code_at, IsAtHand, MakesOf, GoesOn, SplitsInto, IsEmptied, GoesOnFor, EndsAs, HasStep}
 use Rattle.std.specs.Prelude.{Some, None, slice_get}
 use Rattle.sf_piece.specs.Pieces.{Settled, Empty}
-use Rattle.sf_piece.specs.Execution.{on}
 use Rattle.sf_piece.proofs.Kept.{at_same}
 use Rattle.sf_piece.proofs.Named.{made_on, query_more}
 use Rattle.sf_piece.proofs.OneMade.{can_or_cant, computes_one, forced_one, named_one, query_one, side_one}
@@ -14,44 +13,20 @@ same_word : (m : SymbolicMachine) (k : ℕ) (v w : NodeId) → slice_get m.scrat
 same_word m k v w h g = same_Some v w (same_Some (Some v) (Some w) (sym h ∙ g))
 
 moves_once : (m : SymbolicMachine) (i : Insn) (a b : SymbolicMachine) → MovesTo m i a → MovesTo m i b → a ≡ b
-moves_once m (LoadScratch k) a b h g = grind (arith, common_steps, same_word)
-moves_once m (LoadXScratch k) a b h g = grind (arith, common_steps, same_word)
-moves_once m (StoreA k) a b h g = h ∙ sym g
-moves_once m (StoreX k) a b h g = h ∙ sym g
-moves_once m Tax a b h g = h ∙ sym g
-moves_once m Txa a b h g = h ∙ sym g
-moves_once m (Jump k) a b h g = h ∙ sym g
-moves_once m (ReturnConstant v) a b h g = h ∙ sym g
-moves_once m ReturnA a b h g = h.1 ∙ sym g.1
-moves_once m _ a b h g = absurd h
+moves_once m i a b h g = grind (arith, common_steps, same_word)
 
 moves_alone : (p : PieceData) (i : Insn) (a : SymbolicMachine) (n : Option PieceData) → MovesTo p.machine i a
     → Computes p i n → ⊥
-moves_alone p (LoadScratch k) a n h g = g
-moves_alone p (LoadXScratch k) a n h g = g
-moves_alone p (StoreA k) a n h g = g
-moves_alone p (StoreX k) a n h g = g
-moves_alone p Tax a n h g = g
-moves_alone p Txa a n h g = g
-moves_alone p (Jump k) a n h g = g
-moves_alone p (ReturnConstant v) a n h g = g
-moves_alone p ReturnA a n h g = g
-moves_alone p _ a n h g = h
+moves_alone p i a n h g = grind (arith, common_steps)
 
 asks_alone : (p : PieceData) (i : Insn) (a : SymbolicMachine) (n : Option (PieceData × Cond))
     → MovesTo p.machine i a
     → HasQuery p i n → ⊥
-asks_alone p ReturnA a n h g = let all = h.0 in let some = g.0 in omega arith
-asks_alone p (Branch test other t f) a n h g = h
-asks_alone p (Alu op other) a n h g = h
-asks_alone p _ a n h g = g
+asks_alone p i a n h g = grind (arith, common_steps)
 
 computes_alone : (p : PieceData) (i : Insn) (m : Option PieceData) (n : Option (PieceData × Cond))
     → Computes p i m → HasQuery p i n → ⊥
-computes_alone p (Alu op other) m n h g = let clash : true ≡ false = sym g.0 ∙ h.0 in absurd cc
-computes_alone p (Branch test other t e) m n h g = h
-computes_alone p ReturnA m n h g = h
-computes_alone p _ m n h g = g
+computes_alone p i m n h g = grind (arith, common_steps)
 
 -- a piece has one instruction at hand
 one_insn : (p : PieceData) (i j : Insn) → IsAtHand p i → IsAtHand p j → i ≡ j
@@ -62,11 +37,8 @@ cant_side : (asked : PieceData × Cond) (s : Bool) → LeavesNeither asked
 cant_side asked true h = h.true_cant
 cant_side asked false h = h.false_cant
 
-split_runs : (p x y : PieceData) → SplitsInto p x y → length p.stack ≤ p.machine.program → ⊥
-split_runs p x y h over = let running = h.2.0 in omega arith
-
-empty_runs : (p : PieceData) → IsEmptied p → length p.stack ≤ p.machine.program → ⊥
-empty_runs p h over = let running = h.1.0 in omega arith
+runs : (p : PieceData) (i : Insn) → IsAtHand p i → length p.stack ≤ p.machine.program → ⊥
+runs p i at over = let running = at.0 in omega arith
 
 -- Rules that have one result, and a piece with a lawful pool.
 module _ (laws : HaveOneResult) (p : PieceData) (pool : IsPool p.pool) where
@@ -144,7 +116,7 @@ module _ (laws : HaveOneResult) (p : PieceData) (pool : IsPool p.pool) where
 
   stops : (r b : PieceData) (step : StepData) (name : List Bool) → EndsAs r p step name → GoesOn p b → ⊥
   stops r b (Split x y) name h k = split_stops x y b h.0 k
-  stops r b (Settled a) name h k = let over = h.0 in let running = k.1.0 in omega arith
+  stops r b (Settled a) name h k = runs p k.0 k.1 h.0
   stops r b Empty name h k = empty_stops b h.0 k
 
   -- what is split isn't emptied
@@ -178,10 +150,10 @@ module _ (laws : HaveOneResult) (p : PieceData) (pool : IsPool p.pool) where
   one_end r (Split x y) (Split u v) m n h k = (one_split x y u v h.0 k.0, h.1 ∙ sym k.1)
   one_end r (Settled a) (Settled b) m n h k = (ap Settled (h.1 ∙ sym k.1), h.2 ∙ sym k.2)
   one_end r Empty Empty m n h k = (refl, h.1 ∙ sym k.1)
-  one_end r (Split x y) (Settled b) m n h k = absurd (split_runs p x y h.0 k.0)
-  one_end r (Settled a) (Split u v) m n h k = absurd (split_runs p u v k.0 h.0)
-  one_end r (Settled a) Empty m n h k = absurd (empty_runs p k.0 h.0)
-  one_end r Empty (Settled b) m n h k = absurd (empty_runs p h.0 k.0)
+  one_end r (Split x y) (Settled b) m n h k = absurd (runs p h.0.0 h.0.2 k.0)
+  one_end r (Settled a) (Split u v) m n h k = absurd (runs p k.0.0 k.0.2 h.0)
+  one_end r (Settled a) Empty m n h k = absurd (runs p k.0.0 k.0.1 h.0)
+  one_end r Empty (Settled b) m n h k = absurd (runs p h.0.0 h.0.1 k.0)
   one_end r (Split x y) Empty m n h k = absurd (split_not_empty x y h.0 k.0)
   one_end r Empty (Split u v) m n h k = absurd (split_not_empty u v k.0 h.0)
 

@@ -1,5 +1,5 @@
 -- Pieces of plain stacks.
-use Rattle.sf_piece.proofs.Common.{common_steps, ◌≡◌, ℕ, zero, suc, ◌<◌, ◌&&◌, Bool, true, false, List, [], ◌∷◌, ◌++◌, length, drop, reverse, Some, slice_get, refl, sym, subst, ◌∙◌, inl, inr, arith, All, AllByRecursion, get_or_append_left, get_or-reverse, length-reverse, same_Some, cases_lt, All-push, All-head, All-tail, All-drop, recursion_from_All, Input, IsInput, Test, Equal, Greater, GreaterOrEqual, AnyBit, Insn, Branch, Operand, Constant, X, Answer, IsPlain, IsPlainInsn, trace_of, Node, Const, Word, Bin, Neg, NodeId, Cond, IsPool, ArePlainNodes, OperandsBelow, folded_node, node_at, IsCondBelow, FactsView, Agrees, KeepsOnly, TakesIn, IsWordOrConst, IsPlainTest, Meets, some-input, IsPlainCondition, SymbolicMachine, PieceData, is_member, HasNoMember, IsRightAnswer, IsPiece, HasAtHand, AreChildFacts, IsPlainPiece}
+use Rattle.sf_piece.proofs.Common.{common_steps, ◌≡◌, ℕ, ◌<◌, Bool, true, false, List, [], ◌∷◌, ◌++◌, length, drop, reverse, Some, slice_get, refl, sym, subst, ◌∙◌, inl, inr, arith, All, AllByRecursion, get_or_append_left, get_or-reverse, length-reverse, cases_lt, All-push, All-head, All-drop, recursion_from_All, Input, IsInput, Test, Equal, Greater, GreaterOrEqual, AnyBit, Insn, Branch, Operand, Constant, X, IsPlain, IsPlainInsn, Node, Const, Word, Bin, Neg, NodeId, Cond, IsPool, ArePlainNodes, OperandsBelow, folded_node, node_at, IsCondBelow, FactsView, Agrees, KeepsOnly, TakesIn, IsWordOrConst, IsPlainTest, Meets, some-input, IsPlainCondition, SymbolicMachine, PieceData, is_member, HasNoMember, IsPiece, HasAtHand, AreChildFacts, IsPlainPiece, and_from, get_or_from_slice_get, slice_get_within}
 use Rattle.sf_piece.specs.Works.{with_sense}
 use Rattle.sf_piece.proofs.Moves.{made}
 use Rattle.sf_piece.proofs.Grown.{grown, members_grown}
@@ -10,10 +10,8 @@ use Rattle.sf_piece.proofs.Children.{child_of, child_members}
 all_reverse : {X : Type 0} (P : X → Type 0) (xs : List X) → All P xs → All P (reverse xs)
 all_reverse P xs h k d less = search (arith, length-reverse, get_or-reverse)
 
-all_at : {X : Type 0} (P : X → Type 0) (xs : List X) (k : ℕ) (x : X) → All P xs → slice_get xs k ≡ Some x → P x
-all_at P [] k x h at = absurd cc
-all_at P (y ∷ xs) zero x h at = subst P (same_Some y x at) (All-head P y xs h)
-all_at P (y ∷ xs) (suc k) x h at = all_at P xs k x (All-tail P y xs h) at
+pub all_at : {X : Type 0} (P : X → Type 0) (xs : List X) (k : ℕ) (x : X) → All P xs → slice_get xs k ≡ Some x → P x
+all_at P xs k x h at = subst P (get_or_from_slice_get xs k x x at) (h k x (slice_get_within xs k x at))
 
 plain_code : (stack : List (List Insn)) (n : ℕ) (code : List Insn) (later : List (List Insn)) → IsPlain stack
     → drop n (reverse stack) ≡ code ∷ later → All IsPlainInsn code
@@ -72,9 +70,6 @@ pub sensed_plain : (ns : List Node) (cond : Cond) (b : Bool) → IsPlainConditio
     → IsPlainCondition ns (with_sense cond b)
 sensed_plain ns cond b h = record { node = h.node; number = h.number; other = h.other; test = h.test }
 
-and_is : (a b : Bool) → a ≡ true → b ≡ true → (a && b) ≡ true
-and_is a b e f = rw (e, f) refl
-
 -- the piece of the members that have this truth value is plain, where the facts learnt are exact and some input agrees
 pub plain_child : (p : PieceData) (cond : Cond) (b : Bool) (m : SymbolicMachine) (fs : FactsView) → IsPlainPiece p
     → IsPlainCondition p.pool cond → AreChildFacts p cond b fs
@@ -82,7 +77,7 @@ pub plain_child : (p : PieceData) (cond : Cond) (b : Bool) (m : SymbolicMachine)
 plain_child p cond b m fs h plain f only =
     let some = some-input fs p.pool f.covers h.nodes in
     let member : (d : Input) → IsInput d → Agrees fs p.pool d → is_member (child_of p cond b m fs) d ≡ true
-    = search (arith, child_members, and_is) in
+    = search (arith, child_members, and_from) in
     record {
       nodes = h.nodes;
       conditions = All-push (IsPlainCondition p.pool) p.conditions (with_sense cond b) h.conditions
@@ -94,11 +89,6 @@ plain_child p cond b m fs h plain f only =
 -- a plain piece has a member
 pub plain_some : (p : PieceData) → IsPlainPiece p → HasNoMember p → ⊥
 plain_some p h none = let clash : true ≡ false = sym h.some.2 ∙ none.none h.some.0 h.some.1 in absurd cc
-
--- a region of a plain stack has a member, whose trace is the region's name
-pub plain_settled : (p : PieceData) (whole : List Bool) (a : Answer) → IsPlainPiece p → IsRightAnswer p whole a
-    → (d : Input) × IsInput d × (is_member p d ≡ true) × (trace_of p.stack d ≡ whole)
-plain_settled p whole a h r = (h.some.0, h.some.1, h.some.2, r.trace h.some.0 h.some.1 h.some.2)
 
 -- ---- the condition of a plain test
 

@@ -1,8 +1,8 @@
 -- Pieces that take a truth value of the trace into their names.
-use Rattle.sf_piece.proofs.Common.{common_steps, ◌≡◌, ℕ, zero, suc, ◌+◌, ◌-◌, ◌*◌, ◌<◌, Bool, true, false, List, [], ◌∷◌, ◌++◌, length, take, drop, map, Some, None, slice_get, refl, sym, ap, subst, ◌∙◌, inl, inr, arith, append_assoc, append-nil, if◌then◌else◌, ◌==◌, Contains, IsSome, flat_map, list_all, same_Some, length_push, Input, IsInput, apply, passes, Div, Test, Insn, Alu, Branch, ReturnA, Operand, X, IsAt, contains_here, contains_there, State, Progress, goes, returns, stuck, insn_progress, outcome_from, run_for, operand_of, test_progress, met_by, return_of, trace_of, step_is, ends_from, option_map_some, put, Cond, value_of, is_met, FactsView, after_return, PieceData, is_member, concrete_state, met_of, number_from, AreNodesBelow, StandsAt, IsPiece, HasAtHand, NextIs, work_left}
+use Rattle.sf_piece.proofs.Common.{common_steps, ◌≡◌, ℕ, zero, suc, ◌+◌, ◌-◌, ◌*◌, ◌<◌, Bool, true, false, List, [], ◌∷◌, ◌++◌, length, take, drop, map, Some, None, slice_get, refl, sym, ap, subst, ◌∙◌, inl, inr, arith, append_assoc, append-nil, if◌then◌else◌, ◌==◌, Contains, IsSome, flat_map, list_all, same_Some, length_push, Input, IsInput, apply, passes, Div, Test, Insn, Alu, Branch, ReturnA, Operand, X, IsAt, contains_here, contains_there, State, Progress, goes, returns, stuck, insn_progress, outcome_from, run_for, operand_of, test_progress, met_by, return_of, trace_of, step_is, ends_from, option_map_some, put, Cond, value_of, is_met, FactsView, after_return, PieceData, is_member, concrete_state, met_of, number_from, AreNodesBelow, IsPiece, HasAtHand, NextIs}
 use Rattle.std.proofs.Common.{Option}
 use Rattle.sf_piece.proofs.Moves.{made, stands_moved, stands_kept, stands_returned}
-use Rattle.sf_piece.proofs.Kept.{at_same, none_pending, pre_short, safe_moved}
+use Rattle.sf_piece.proofs.Kept.{Turned, at_same, none_pending, pre_short, returned_nodes, safe_moved}
 
 -- ---- what the trace of a member goes on with
 
@@ -70,15 +70,6 @@ entry_trace p i b s d next inp member = by (run_for (length s.code) s.code d st)
 
 -- ---- where the run stands after it
 
-pub record Turned (p q : PieceData) : Type 0 where
-  pub rest : List (List Insn)
-  pub base : List Bool
-  pub pre : List Bool
-  pub stands : StandsAt q rest base pre
-  pub nodes : AreNodesBelow (length p.pool) q.machine
-  pub zero_is : q.machine.zero ≡ p.machine.zero
-  pub falls : work_left q < work_left p
-
 -- the new piece's members are members of the old one, on which the next truth value is this
 abbrev pub Meets : PieceData → Insn → List Cond → Bool → Type 0
 Meets p i cs b = (d : Input) → IsInput d → list_all (is_met p.pool d) cs ≡ true → (is_member p d ≡ true)
@@ -95,13 +86,11 @@ same_nodes p place taken value h = record { a = h.a; x = h.x; zero = h.zero; scr
 
 div_true : (b e : Bool) (u : State) → NextIs (if b then returns (true ∷ []) 0 else goes (false ∷ []) u) 0 e → e ≡ true
     → (if b then returns (true ∷ []) 0 else goes (false ∷ []) u) ≡ returns (true ∷ []) 0
-div_true true e u n is = refl
-div_true false e u n is = let clash : false ≡ true = same_Some false e n ∙ is in absurd cc
+div_true b e u n is = grind (arith, common_steps, same_Some)
 
 div_false : (b e : Bool) (u : State) → NextIs (if b then returns (true ∷ []) 0 else goes (false ∷ []) u) 0 e → e ≡ false
     → false ∷ [] ≡ take 1 (met_of (if b then returns (true ∷ []) 0 else goes (false ∷ []) u))
-div_false true e u n is = let clash : true ≡ false = same_Some true e n ∙ is in absurd cc
-div_false false e u n is = refl
+div_false b e u n is = grind (arith, common_steps, same_Some)
 
 pub branch_turned : (p : PieceData) (test : Test) (other : Operand) (t f : ℕ) (b : Bool) (cs : List Cond)
     (fs : FactsView) → IsPiece p → (s : HasAtHand p (Branch test other t f)) → Meets p (Branch test other t f) cs b
@@ -182,12 +171,11 @@ return_turned p b cs fs h s more narrow =
 div_pending : (p : PieceData) (s : HasAtHand p (Alu Div X)) → p.machine.taken ≡ 0 → s.pre ≡ []
 div_pending p s none = grind (arith, common_steps, at_same)
 
-pub zero_turned : (p : PieceData) (cs : List Cond) (fs : FactsView)
-    → AreNodesBelow (length p.pool) (after_return p.machine 0) → IsPiece p → (s : HasAtHand p (Alu Div X))
+pub zero_turned : (p : PieceData) (cs : List Cond) (fs : FactsView) → IsPiece p → (s : HasAtHand p (Alu Div X))
     → p.machine.taken ≡ 0 → Meets p (Alu Div X) cs true
     → Turned p (made p (p.name ++ true ∷ []) cs (after_return p.machine 0) fs)
 unfolding is_member
-zero_turned p cs fs nodes h s none narrow =
+zero_turned p cs fs h s none narrow =
     let pre = div_pending p s none in
     let running : p.machine.program < length p.stack = s.running in
     record {
@@ -197,7 +185,7 @@ zero_turned p cs fs nodes h s none narrow =
       stands = stands_returned p s.code s.later s.base s.pre (true ∷ []) (Alu Div X) 0
           (p.name ++ true ∷ []) cs fs s.stands s.at (inl (refl, refl))
           (ap (λ (l : List Bool). l ++ true ∷ []) (s.stands.name_is ∙ ap (λ (l : List Bool). s.base ++ l) pre
-          ∙ append-nil s.base)) h.zero
+          ∙ append-nil s.base)) s.zero
           (λ d inp member.
           let g = narrow d inp member in
           let u = record (concrete_state p.pool p.machine d) {
@@ -209,7 +197,7 @@ zero_turned p cs fs nodes h s none narrow =
                 (subst (λ (k : ℕ). NextIs (insn_progress d (concrete_state p.pool p.machine d) (Alu Div X)) k
                 true) none g.1) refl,
           ));
-      nodes = nodes;
+      nodes = returned_nodes p 0 h.nodes;
       zero_is = refl;
       falls = omega arith;
     }

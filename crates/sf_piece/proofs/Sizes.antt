@@ -1,5 +1,5 @@
 -- The pieces of an execution tree stay small. Each small step adds at most two nodes to a pool, and leaves less to do.
-use Rattle.sf_piece.proofs.Common.{common_steps, length-append, ◌≡◌, ℕ, zero, suc, ◌+◌, ◌-◌, ◌*◌, ◌^◌, ◌<◌, ◌≤◌, Bool, false, List, [], ◌∷◌, length, replicate, refl, sym, ap, subst, ◌∙◌, inl, inr, arith, if◌then◌else◌, nat_tests, length-replicate, slice_get_within, Insn, LoadScratch, LoadXScratch, StoreA, StoreX, Jump, ReturnConstant, ReturnA, Tax, Txa, IsLawfulStack, route_is_short, Cond, SymbolicMachine, PieceData, IsTrulyNamed, with_machine, MovesTo, HasQuery, AfterTruthValue, with_sense, IsSide, code_at, IsAtHand, MakesOf, GoesOn, GoesOnFor, IsFirst, IsBelow, IsInTree, IsSmall, IsLawfulPiece, behind_chain, work_left}
+use Rattle.sf_piece.proofs.Common.{common_steps, length-append, ◌≡◌, ℕ, zero, suc, ◌+◌, ◌*◌, ◌^◌, ◌<◌, ◌≤◌, Bool, false, List, [], ◌∷◌, length, replicate, refl, sym, ap, subst, ◌∙◌, inl, inr, arith, if◌then◌else◌, nat_tests, length-replicate, slice_get_within, Insn, IsLawfulStack, route_is_short, Cond, SymbolicMachine, PieceData, IsTrulyNamed, with_machine, MovesTo, HasQuery, AfterTruthValue, with_sense, IsSide, code_at, IsAtHand, MakesOf, GoesOn, GoesOnFor, IsFirst, IsBelow, IsInTree, IsSmall, IsLawfulPiece, behind_chain, work_left}
 use Rattle.std.specs.Prelude.{Some}
 use Rattle.sf_piece.proofs.AtHand.{short_program}
 use Rattle.sf_piece.proofs.Named.{computes_word, query_more, side_of}
@@ -14,16 +14,7 @@ at_hand_small p i lawful at =
 
 moves_left : (p : PieceData) (i : Insn) (m : SymbolicMachine) → p.machine.program < length p.stack
     → p.machine.place < 4096 → MovesTo p.machine i m → work_left (with_machine p m) ≤ work_left p
-moves_left p (LoadScratch k) m running small to = rw to.2 (omega arith)
-moves_left p (LoadXScratch k) m running small to = rw to.2 (omega arith)
-moves_left p (StoreA k) m running small to = rw to (omega arith)
-moves_left p (StoreX k) m running small to = rw to (omega arith)
-moves_left p Tax m running small to = rw to (omega arith)
-moves_left p Txa m running small to = rw to (omega arith)
-moves_left p (Jump k) m running small to = rw to (omega arith)
-moves_left p (ReturnConstant v) m running small to = rw to (omega arith)
-moves_left p ReturnA m running small to = rw to.1 (omega arith)
-moves_left p _ m running small to = absurd to
+moves_left p i m running small to = grind (arith, common_steps)
 
 query_falls : (p r : PieceData) (i : Insn) (asked : PieceData × Cond) (b : Bool) (m : SymbolicMachine)
     → r.machine ≡ p.machine → p.machine.program < length p.stack → p.machine.place < 4096 → HasQuery p i (Some asked)
@@ -112,19 +103,7 @@ module _ (stack : List (List Insn)) (lawful : IsLawfulStack stack) where
       (goes_on_counted n r q c goes) s.2 s.3 (side_of q f t s b)) below
 
   first_counted : (p : PieceData) → IsFirst stack p → IsCounted stack p
-  first_counted p h = record {
-    stack_is = h.stack_is;
-    conditions = omega (arith, ap length h.conditions);
-    pool = omega (
-      arith,
-      h.count,
-      lawful.few,
-      ap length h.stack_is,
-      ap (λ (m : SymbolicMachine). m.program) h.machine,
-      ap (λ (m : SymbolicMachine). m.place) h.machine,
-      ap (λ (m : SymbolicMachine). m.taken) h.machine,
-    );
-  }
+  first_counted p h = grind (arith, common_steps)
 
 -- each piece of the tree of a lawful stack is small, and so is what it becomes
 pub small_piece : (p q : PieceData) (n : ℕ) → IsLawfulStack p.stack → IsInTree p → GoesOnFor n p q → IsTrulyNamed q

@@ -18,9 +18,11 @@ use Rattle.sf_run.specs.Answers.{IsAnswer}
 use Rattle.sf_run.specs.Routes.{IsWay, AreWays, IsWholeRoute}
 use Rattle.sf_run.specs.Reachable.{IsReachable}
 use Rattle.sf_sym.specs.declared.pool.Node.{Node}
+use Rattle.sf_sym.specs.declared.pool.Node.TheVariants.{Const}
 use Rattle.sf_sym.specs.declared.pool.NodeId.{NodeId}
-use Rattle.sf_sym.specs.Pool.{IsPool, value_of, IsCondBelow}
+use Rattle.sf_sym.specs.Pool.{IsPool, node_at, value_of, IsCondBelow}
 use Rattle.sf_dom.specs.Facts.{Covers, Agrees}
+use Rattle.sf_dom.specs.SoundRules.{AreCarried}
 use Rattle.sf_piece.specs.declared.machine.SymbolicMachine.{SymbolicMachine}
 use Rattle.sf_piece.specs.PlainPieces.{IsPlainPiece}
 use Rattle.sf_piece.specs.Pieces.{PieceData, is_member, is_prefix, IsTrulyNamed}
@@ -109,14 +111,15 @@ pub record StandsAt (p : PieceData) (rest : List (List Insn)) (base pre : List B
   pub runs : (d : Input) → IsInput d → is_member p d ≡ true → Follows p rest base pre d
 
 -- What holds of a piece of a lawful stack. Its pool has the nodes of its conditions and of its machine, one of which is
--- 0. Its facts cover the pool, and each member agrees with them. The members are the inputs whose trace begins with the
--- name, and the run of the piece stands somewhere.
+-- the constant 0. Its facts are carried along and cover the pool, and each member agrees with them. The members are the
+-- inputs whose trace begins with the name, and the run of the piece stands somewhere.
 pub record IsPiece (p : PieceData) : Type 0 where
   pub lawful : IsLawfulStack p.stack
   pub pool : IsPool p.pool
   pub bounded : AllByRecursion (IsCondBelow (length p.pool)) p.conditions
   pub nodes : AreNodesBelow (length p.pool) p.machine
-  pub zero : (d : Input) → value_of p.pool d p.machine.zero.0 ≡ 0
+  pub constant : node_at p.pool p.machine.zero.0 ≡ Const 0
+  pub carried : AreCarried p.facts p.pool p.conditions
   pub covers : Covers p.facts p.pool
   pub known : (d : Input) → IsInput d → is_member p d ≡ true → Agrees p.facts p.pool d
   pub members : (d : Input) → IsInput d → is_member p d ≡ is_prefix p.name (trace_of p.stack d)

@@ -1,6 +1,6 @@
 -- The parts of a step of the symbolic run, for contracts between the functions that work a piece. Nothing above this
 -- crate speaks of these.
-use Rattle.std.specs.Prelude.{◌≡◌, ℕ, zero, suc, ◌+◌, ◌-◌, ◌*◌, ◌&&◌, ◌<◌, ◌≤◌, ◌^◌, ◌⊎◌, Bool, true, false, List, [], ◌∷◌, ◌++◌, length, replicate, Some, slice_get}
+use Rattle.std.specs.Prelude.{◌≡◌, ◌≢◌, ℕ, zero, suc, ◌+◌, ◌-◌, ◌*◌, ◌<◌, ◌≤◌, ◌^◌, ◌⊎◌, Bool, true, false, List, [], ◌∷◌, ◌++◌, length, replicate, Option, Some, None, slice_get}
 use Rattle.sf_insn.specs.declared.input.Input.{Input}
 use Rattle.sf_insn.specs.Inputs.{IsInput}
 use Rattle.sf_insn.specs.declared.ops.BinOp.TheVariants.{Div}
@@ -22,16 +22,22 @@ use Rattle.sf_sym.specs.declared.pool.Cond.{Cond}
 use Rattle.sf_insn.specs.Words.{apply, passes}
 use Rattle.sf_dom.specs.declared.known.Known.{Known}
 use Rattle.sf_dom.specs.Known.{Admits}
-use Rattle.sf_dom.specs.Facts.{FactsView, Covers, Agrees, KeepsOnly}
+use Rattle.sf_dom.specs.Facts.{FactsView, Covers, Agrees, IsPlainCondition, KeepsOnly, known_at}
 use Rattle.sf_dom.specs.Propagation.{Meets}
 use Rattle.sf_dom.specs.Learning.{LearnsBy}
-use Rattle.sf_dom.specs.Rules.{IsClosed}
+use Rattle.sf_dom.specs.SoundRules.{ForcedIsLearnt}
+use Rattle.sf_dom.specs.Rules.{IsClosed, number_known}
 use Rattle.sf_dom.specs.Telling.{IsForcedBy}
 use Rattle.sf_dom.specs.Backward.{IsPropagatedBack}
-use Rattle.sf_dom.specs.Facts.{IsPlainCondition}
+use Rattle.sf_piece.specs.declared.deciding.Decision.{Decision}
+use Rattle.sf_piece.specs.declared.deciding.Decision.TheVariants.{Implied, Neither}
+use Rattle.sf_piece.specs.declared.deciding.Decision.TheVariants as decided
+use Rattle.sf_piece.specs.declared.deciding.SmallStep.{SmallStep}
+use Rattle.sf_piece.specs.declared.deciding.SmallStep.TheVariants.{On, Split, Settled, Empty}
 use Rattle.sf_piece.specs.declared.machine.SymbolicMachine.{SymbolicMachine}
-pub use Rattle.sf_piece.specs.Execution.{code_at, with_sense, AfterTruthValue, divides_at}
-use Rattle.sf_piece.specs.Pieces.{PieceData, is_member, IsTrulyNamed}
+use Rattle.sf_piece.specs.Execution.{GetsOperand, GoesOnFor, IsEmptied, IsNamedOn, IsSide, LeavesNeither, LeavesOnly, SplitsInto, query}
+pub use Rattle.sf_piece.specs.Execution.{IsAtHand, code_at, with_sense, AfterTruthValue, divides_at}
+use Rattle.sf_piece.specs.Pieces.{PieceData, HasNoMember, IsRightAnswer, IsRightSplit, is_member}
 use Rattle.sf_piece.specs.PlainPieces.{IsPlainPiece}
 use Rattle.sf_piece.specs.SymbolicRun.{AreNodesBelow, IsLawfulPiece, StandsAt, met_of, concrete_state}
 
@@ -48,6 +54,7 @@ pub record HasAtHand (p : PieceData) (i : Insn) : Type 0 where
   pub pre : List Bool
   pub stands : StandsAt p (code ∷ later) base pre
   pub at : IsAt code p.machine.place i
+  pub here : IsAtHand p i
   pub lawful : IsLawfulStack p.stack
   pub running : p.machine.program < length p.stack
   pub small : p.machine.place < 4096
@@ -191,11 +198,11 @@ abbrev pub NextIs : Progress → ℕ → Bool → Type 0
 NextIs progress taken e = slice_get (met_of progress) taken ≡ Some e
 
 -- the instruction meets a truth value that is not in the name
-abbrev pub Asks : PieceData → Insn → Type 0
-Asks p (Branch test other t f) = Unit {0}
-Asks p ReturnA = p.machine.taken < 32
-Asks p (Alu Div X) = p.machine.taken ≡ 0
-Asks p _ = ⊥
+abbrev pub Asks : SymbolicMachine → Insn → Type 0
+Asks m (Branch test other t f) = Unit {0}
+Asks m ReturnA = m.taken < 32
+Asks m (Alu Div X) = m.taken ≡ 0
+Asks m _ = ⊥
 
 -- the instruction asks for this test of A: it is the test, or it returns A and asks for the bit of the operand
 abbrev pub AsksTest : PieceData → Insn → Test → Operand → Type 0
@@ -205,7 +212,7 @@ AsksTest p i test other =
 
 -- the next truth value is whether the condition is met
 pub record IsQuery (p : PieceData) (i : Insn) (cond : Cond) : Type 0 where
-  pub asks : Asks p i
+  pub asks : Asks p.machine i
   pub sense : cond.sense ≡ true
   pub below : IsCondBelow (length p.pool) cond
   pub next : (d : Input) → NextIs (insn_progress d (concrete_state p.pool p.machine d) i) p.machine.taken
@@ -226,9 +233,26 @@ IsOperandNumber p other n = (d : Input) → IsInput d → Agrees p.facts p.pool 
 abbrev pub IsAPropagatedBack : PieceData → Type 0
 IsAPropagatedBack p = (n : ℕ) → IsPropagatedBack n p.facts.known p.pool p.machine.a.0
 
+-- the operand is the constant of this number; or it is X, which is known to be this number, and from which no bits
+-- would go back
+abbrev pub IsTestedNumber : PieceData → Operand → ℕ → Type 0
+IsTestedNumber p (Constant k) n = n ≡ k
+IsTestedNumber p X n = (known_at p.facts.known p.machine.x.0 ≡ number_known n)
+    × ((m : ℕ) → IsPropagatedBack m p.facts.known p.pool p.machine.x.0)
+
+-- the piece can get the operand of a test of A, and with that the rules leave only this result
+abbrev pub IsForetold : PieceData → Test → Operand → Bool → Type 0
+IsForetold p test other b = (asked : PieceData × NodeId) × GetsOperand p other (Some asked)
+    × LeavesOnly (asked.0, query p.machine.a test asked.1) b
+
+-- over n tests that fail the piece has gone on to this place, and by the rules too
+pub record IsOver (p : PieceData) (n place : ℕ) : Type 0 where
+  pub gone : HasGoneOn p (behind_chain p n place)
+  pub rule : ForcedIsLearnt → IsAPropagatedBack p → GoesOnFor n p (behind_chain p n place)
+
 -- the instruction meets a truth value that is not in the name, and on every member it is this one
 pub record IsForeseen (p : PieceData) (i : Insn) (b : Bool) : Type 0 where
-  pub asks : Asks p i
+  pub asks : Asks p.machine i
   pub next : (d : Input) → IsInput d → is_member p d ≡ true
       → NextIs (insn_progress d (concrete_state p.pool p.machine d) i) p.machine.taken b
 
@@ -250,12 +274,64 @@ pub record AreChildFacts (p : PieceData) (cond : Cond) (b : Bool) (facts : Facts
   pub rule : LearnsBy p.facts facts p.pool (with_sense cond b)
   pub plain : IsPlain p.stack → KeepsOnly p.facts facts p.pool (Meets p.pool (with_sense cond b))
 
--- the piece of the members on which the condition has this truth value: it has one condition more, and its name has
--- one truth value more
-pub record IsChild (p : PieceData) (cond : Cond) (b : Bool) (c : PieceData) : Type 0 where
-  pub of : c.stack ≡ p.stack
-  pub conditions : c.conditions ≡ p.conditions ++ with_sense cond b ∷ []
-  pub name : c.name ≡ p.name ++ b ∷ []
-  pub named : IsTrulyNamed c
-  pub members : (d : Input) → IsInput d → is_member c d ≡ (is_member p d && is_met p.pool d (with_sense cond b))
-  pub plain : IsPlain p.stack → IsPlainPiece c
+-- ---- what one instruction, or one truth value, makes of a piece
+
+-- what is right of an instruction or a truth value, by what it makes of piece p: p goes on as q, is split, settles with
+-- the name and the answer so far of q, or has no member
+abbrev pub IsSmallStep : PieceData → PieceData → SmallStep → Type 0
+IsSmallStep p q On = HasAdvanced p q × IsLawfulPiece q
+IsSmallStep p q (Split f t) = IsRightSplit p f t × (IsPlain p.stack → IsPlainPiece f × IsPlainPiece t)
+    × IsLawfulPiece f × IsLawfulPiece t
+IsSmallStep p q Settled = IsRightAnswer p q.name q.machine.so_far
+IsSmallStep p q Empty = HasNoMember p
+
+-- an instruction that makes a word leaves the next piece, or nothing where the word contradicts; it neither splits nor
+-- settles
+abbrev pub IsMade : (Option PieceData → Type 0) → PieceData → SmallStep → Type 0
+IsMade makes q On = makes (Some q)
+IsMade makes q Empty = makes None
+IsMade makes q (Split f t) = ⊥
+IsMade makes q Settled = ⊥
+
+-- by the rules the piece goes on as this one, after some number of small steps
+abbrev pub HasGoneFor : PieceData → PieceData → Type 0
+HasGoneFor p q = (n : ℕ) × GoesOnFor n p q
+
+-- what an instruction or a truth value makes of a piece, by the rules
+abbrev pub IsExecuted : PieceData → PieceData → SmallStep → Type 0
+IsExecuted p q On = HasGoneFor p q
+IsExecuted p q (Split f t) = SplitsInto p f t
+IsExecuted p q Settled = (q ≡ p) × (length p.stack ≤ p.machine.program)
+IsExecuted p q Empty = IsEmptied p
+
+-- A piece has gone on to its end: from where it stood then, its last small step, after which it doesn't go on, makes
+-- this of it.
+pub record HasEnded (p r : PieceData) (s : SmallStep) : Type 0 where
+  pub last : PieceData
+  pub is_on : IsContinuation p last
+  pub goes : HasGoneFor p last
+  pub step : IsSmallStep last r s
+  pub rule : IsExecuted last r s
+  pub ends : s ≢ On
+
+-- what the rules leave of a query: both truth values, one that is implied, or neither
+abbrev pub IsDecision : PieceData × Cond → Insn → Decision → Type 0
+IsDecision asked i (decided.Split f t) = IsSide asked i false f × IsSide asked i true t
+IsDecision asked i (Implied b) = LeavesOnly asked b
+IsDecision asked i Neither = LeavesNeither asked
+
+-- what is right of a decision: both pieces of a split are right and lawful, every member has the implied truth value,
+-- or the piece has no member
+abbrev pub IsRightDecision : PieceData → Insn → Decision → Type 0
+IsRightDecision p i (decided.Split f t) = IsRightSplit p f t
+    × (IsPlain p.stack → IsPlainPiece f × IsPlainPiece t) × IsLawfulPiece f × IsLawfulPiece t
+IsRightDecision p i (Implied b) = IsForeseen p i b
+IsRightDecision p i Neither = HasNoMember p
+
+-- the piece goes on as was decided: it is split into the two pieces of the decision, gets the implied truth value, or
+-- is empty
+abbrev pub IsCarriedOut : PieceData → Insn → Decision → PieceData → SmallStep → Type 0
+IsCarriedOut p i (decided.Split f t) q (Split g u) = (f ≡ g) × (t ≡ u)
+IsCarriedOut p i (Implied b) q On = IsNamedOn p i b q
+IsCarriedOut p i Neither q Empty = Unit {0}
+IsCarriedOut p i _ q _ = ⊥

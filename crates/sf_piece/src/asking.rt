@@ -8,11 +8,8 @@ ghost use Rattle.sf_dom.specs.Backward.{IsPropagatedBack};
 ghost use Rattle.sf_dom.specs.Facts.{Covers, Agrees, known_at};
 ghost use Rattle.sf_dom.specs.Rules.{number_known};
 ghost use Rattle.sf_piece.specs.SymbolicRun.{IsLawfulPiece};
-ghost use Rattle.sf_piece.specs.Works.{HasAtHand, IsOperandNumber, IsAPropagatedBack, PassesAlways, AsksTest, divides_at};
+ghost use Rattle.sf_piece.specs.Works.{HasAtHand, IsOperandNumber, IsAPropagatedBack, PassesAlways, AsksTest, divides_at, IsTestedNumber, IsForetold, IsSmallStep, IsExecuted};
 ghost use Rattle.sf_dom.specs.SoundRules.{ForcedIsLearnt};
-ghost use Rattle.sf_piece.specs.Execution.{IsAtHand};
-ghost use Rattle.sf_piece.specs.Foresight.{IsTestedNumber, IsForetold};
-ghost use Rattle.sf_piece.specs.SmallSteps.{IsSmallStep, IsTidy, IsExecuted};
 
 use crate::chains::take_failing;
 use crate::deciding::{SmallStep, carry_out, decide, take};
@@ -26,12 +23,12 @@ use sf_insn::{BinOp, Test};
 use sf_sym::{Cond, Node, NodeId, Pool};
 use std::alloc::Global;
 
-/// Whether the operation has to ask first whether X is 0; `taken` of its truth values are in the name.
-fn asks_zero(op: BinOp, other: Operand, taken: usize) -> bool
-    ensures { result ≡ divides_at op other taken }
+/// Whether the operation has to ask first whether X is 0.
+fn asks_zero(run: &Run, op: BinOp, other: Operand) -> bool
+    ensures { result ≡ divides_at op other run.now.machine.taken }
 {
     match (op, other) {
-        (BinOp::Div, Operand::X) => taken == 0,
+        (BinOp::Div, Operand::X) => run.machine.taken == 0,
         _ => false,
     }
 }
@@ -91,7 +88,7 @@ fn ask(
     requires standing { HasAtHand run.old insn }
     requires asks { AsksTest run.old insn test other }
     ensures step { IfOk result (IsSmallStep run.old run.new) }
-    ensures rule { IsAtHand run.old insn → IfOk result (IsExecuted run.old run.new) }
+    ensures rule { IfOk result (IsExecuted run.old run.new) }
 {
     // `other` gets its node in a copy: if only one truth value is left, the run goes on without this node.
     let mut asked = run.fork()?;
@@ -121,12 +118,11 @@ pub(crate) fn alu(
     requires standing { HasAtHand run.old insn }
     requires is { insn ≡ Insn.Alu op other }
     ensures step { IfOk result (IsSmallStep run.old run.new) }
-    ensures rule { ForcedIsLearnt → IsTidy run.old → IsAtHand run.old insn
-        → IfOk result (IsExecuted run.old run.new) }
+    ensures rule { ForcedIsLearnt → IfOk result (IsExecuted run.old run.new) }
 {
     // For the prover: a test that is told has this result on every member.
     rules_are_sound();
-    if asks_zero(op, other, run.machine.taken) {
+    if asks_zero(run, op, other) {
         let cond = Cond {
             node: run.machine.x,
             test: Test::Equal,
@@ -161,8 +157,7 @@ pub(crate) fn branch(
     requires standing { HasAtHand run.old insn }
     requires is { (t : ℕ) × (f : ℕ) × (insn ≡ Insn.Branch test other t f) }
     ensures step { IfOk result (IsSmallStep run.old run.new) }
-    ensures rule { ForcedIsLearnt → IsAtHand run.old insn
-        → IfOk result (IsExecuted run.old run.new) }
+    ensures rule { ForcedIsLearnt → IfOk result (IsExecuted run.old run.new) }
 {
     if let Some(sense) = foresee(run, test, other) {
         take(run, insn, sense)?;
@@ -177,8 +172,7 @@ pub(crate) fn return_a(alloc: Global, run: &mut Run) -> Result<SmallStep, Fault>
     requires lawful { IsLawfulPiece run.old }
     requires standing { HasAtHand run.old Insn.ReturnA }
     ensures step { IfOk result (IsSmallStep run.old run.new) }
-    ensures rule { ForcedIsLearnt → IsAtHand run.old Insn.ReturnA
-        → IfOk result (IsExecuted run.old run.new) }
+    ensures rule { ForcedIsLearnt → IfOk result (IsExecuted run.old run.new) }
 {
     let taken = run.machine.taken;
     if taken == 32 {

@@ -4,10 +4,8 @@ ghost use Rattle.std.specs.Prelude.{◌≡◌, ◌<◌, length, IfSome};
 ghost use Rattle.sf_dom.specs.Facts.{known_at};
 ghost use Rattle.sf_piece.specs.SymbolicRun.{IsLawfulPiece};
 ghost use Rattle.sf_dom.specs.SoundRules.{ForcedIsLearnt};
-ghost use Rattle.sf_piece.specs.Execution.{GoesOnFor};
-ghost use Rattle.sf_piece.specs.SmallSteps.{IsExecuted};
 ghost use Rattle.sf_piece.specs.declared.deciding.SmallStep.{SmallStep};
-ghost use Rattle.sf_piece.specs.Works.{HasGoneOn, IsFailing, AreFailing, IsAPropagatedBack, behind_chain};
+ghost use Rattle.sf_piece.specs.Works.{HasGoneOn, IsFailing, AreFailing, IsAPropagatedBack, IsOver, IsExecuted};
 
 use crate::run::Run;
 use sf_check::{Insn, Operand, Program, Skipped};
@@ -45,9 +43,7 @@ fn skip_failing(program: &Program, place: usize, known: Known) -> Skipped
 fn failing_chain(run: &Run, known: Known) -> Skipped
     requires lawful { IsLawfulPiece run.now }
     requires known { known ≡ known_at run.now.facts.known run.now.machine.a.0 }
-    ensures gone { HasGoneOn run.now (behind_chain run.now result.count result.behind) }
-    ensures rule { ForcedIsLearnt → IsAPropagatedBack run.now
-        → GoesOnFor result.count run.now (behind_chain run.now result.count result.behind) }
+    ensures { IsOver run.now result.count result.behind }
 {
     let first = run.machine.place;
     let Some(program) = run.program() else {

@@ -1,14 +1,14 @@
 //! A truth value of the trace, taken as true, as false or as both.
 
-ghost use Rattle.std.specs.Prelude.{◌≡◌, ◌<◌, if◌then◌else◌, IfOk, length, MatchOption, true, false};
+ghost use Rattle.std.specs.Prelude.{◌≡◌, if◌then◌else◌, IfOk, length, MatchOption, true, false};
 ghost use Rattle.sf_check.specs.Stacks.{IsPlain};
 ghost use Rattle.sf_sym.specs.Pool.{IsCondBelow};
 ghost use Rattle.sf_dom.specs.Facts.{IsPlainCondition};
 ghost use Rattle.sf_dom.specs.Learning.{LearnsBy, CantLearn};
 ghost use Rattle.sf_piece.specs.SymbolicRun.{IsLawfulPiece};
-ghost use Rattle.sf_piece.specs.Works.{HasAtHand, IsQuery, AfterTruthValue, HasAdvanced, IsChild, IsForeseen, Asks, AreChildFacts, IsNever, with_sense};
+ghost use Rattle.sf_piece.specs.Works.{HasAtHand, IsQuery, AfterTruthValue, IsForeseen, Asks, AreChildFacts, IsNever, with_sense, IsSmallStep, IsDecision, IsRightDecision, IsCarriedOut};
 ghost use Rattle.sf_piece.specs.Execution.{IsSide, IsNamedOn, with_machine};
-ghost use Rattle.sf_piece.specs.SmallSteps.{IsSmallStep, IsDecision, IsRightDecision, IsCarriedOut};
+ghost use Rattle.sf_piece.specs.declared.deciding.SmallStep.TheVariants.{On};
 
 use crate::fault::Fault;
 use crate::run::Run;
@@ -52,7 +52,7 @@ fn skip_count(on_true: u8, on_false: u8, sense: bool) -> u8
 /// the program returns 0; else the machine stays, and can now divide. A return of A stays too, with one more bit.
 fn meet(run: &mut Run, insn: Insn, sense: bool)
     requires standing { HasAtHand run.old insn }
-    requires asks { Asks run.old insn }
+    requires asks { Asks run.old.machine insn }
     ensures machine { AfterTruthValue run.old insn sense run.new.machine }
     ensures rest { run.new ≡ with_machine run.old run.new.machine }
 {
@@ -80,8 +80,7 @@ pub(crate) fn take(run: &mut Run, insn: Insn, sense: bool) -> Result<(), Fault>
     requires lawful { IsLawfulPiece run.old }
     requires standing { HasAtHand run.old insn }
     requires foreseen { IsForeseen run.old insn sense }
-    ensures gone { IfOk result (λ _. HasAdvanced run.old run.new) }
-    ensures lawful { IfOk result (λ _. IsLawfulPiece run.new) }
+    ensures step { IfOk result (λ _. IsSmallStep run.old run.new On) }
     ensures rule { IfOk result (λ _. IsNamedOn run.old insn sense run.new) }
 {
     meet(run, insn, sense);
@@ -95,7 +94,6 @@ fn child(run: &Run, insn: Insn, cond: Cond, sense: bool, facts: Facts) -> Result
     requires standing { HasAtHand run.now insn }
     requires query { IsQuery run.now insn cond }
     requires facts { AreChildFacts run.now cond sense facts }
-    ensures child { IfOk result (λ c. IsChild run.now cond sense c) }
     ensures lawful { IfOk result (λ c. IsLawfulPiece c) }
     ensures rule { IfOk result (λ c. IsSide (run.now, cond) insn sense c) }
 {

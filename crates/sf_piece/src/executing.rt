@@ -8,8 +8,7 @@ ghost use Rattle.sf_dom.specs.Facts.{IsWordOrConst};
 ghost use Rattle.sf_piece.specs.SymbolicRun.{IsLawfulPiece};
 ghost use Rattle.sf_piece.specs.Machines.{after_return, updated, FitsIn};
 ghost use Rattle.sf_piece.specs.Execution.{LoadsA, LoadsX, MovesTo, with_machine};
-ghost use Rattle.sf_piece.specs.Works.{HasAtHand, SetsA, SetsX, GoesTo, HasAdvanced, ReturnsNow, IsMove};
-ghost use Rattle.sf_piece.specs.SmallSteps.{IsSmallStep, IsMade, IsTidy, IsExecuted};
+ghost use Rattle.sf_piece.specs.Works.{HasAtHand, SetsA, SetsX, GoesTo, ReturnsNow, IsMove, IsSmallStep, IsMade, IsExecuted};
 ghost use Rattle.sf_dom.specs.SoundRules.{ForcedIsLearnt};
 
 use crate::asking::{alu, branch, return_a};
@@ -27,7 +26,7 @@ use std::alloc::Global;
 pub(crate) fn execute(alloc: Global, run: &mut Run) -> Result<SmallStep, Fault>
     requires { IsLawfulPiece run.old }
     ensures step { IfOk result (IsSmallStep run.old run.new) }
-    ensures rule { ForcedIsLearnt → IsTidy run.old → IfOk result (IsExecuted run.old run.new) }
+    ensures rule { ForcedIsLearnt → IfOk result (IsExecuted run.old run.new) }
 {
     let Some(insn) = run.insn() else {
         return Ok(SmallStep::Settled);
@@ -109,8 +108,7 @@ fn move_on(run: &mut Run, insn: Insn)
     requires lawful { IsLawfulPiece run.old }
     requires standing { HasAtHand run.old insn }
     requires moves { IsMove insn }
-    ensures gone { HasAdvanced run.old run.new }
-    ensures lawful { IsLawfulPiece run.new }
+    ensures step { IsSmallStep run.old run.new SmallStep.On }
     ensures rule { MovesTo run.old.machine insn run.new.machine }
     ensures rest { run.new ≡ with_machine run.old run.new.machine }
 {
@@ -151,8 +149,7 @@ fn go(run: &mut Run, insn: Insn, update: Update)
     requires standing { HasAtHand run.old insn }
     requires fits { FitsIn run.old.machine update }
     requires goes { GoesTo run.old insn (updated run.old.machine update) }
-    ensures gone { HasAdvanced run.old run.new }
-    ensures lawful { IsLawfulPiece run.new }
+    ensures step { IsSmallStep run.old run.new SmallStep.On }
     ensures moved { run.new ≡ with_machine run.old (updated run.old.machine update) }
 {
     // For the prover: only clauses speak of it.
@@ -165,8 +162,7 @@ pub(crate) fn leave_program(run: &mut Run, insn: Insn, value: u32)
     requires lawful { IsLawfulPiece run.old }
     requires standing { HasAtHand run.old insn }
     requires returns { ReturnsNow run.old insn value }
-    ensures gone { HasAdvanced run.old run.new }
-    ensures lawful { IsLawfulPiece run.new }
+    ensures step { IsSmallStep run.old run.new SmallStep.On }
     ensures moved { run.new ≡ with_machine run.old (after_return run.old.machine value) }
 {
     // For the prover: only clauses speak of it.

@@ -1,6 +1,6 @@
 //! The symbolic run of a piece.
 
-ghost use Rattle.std.specs.Prelude.{◌≡◌, ◌<◌, ◌≤◌, IfOk, IfSome, MatchOption, length};
+ghost use Rattle.std.specs.Prelude.{◌≡◌, ◌<◌, ◌≤◌, IfOk, MatchOption, length};
 
 use crate::fault::Fault;
 use crate::machine::SymbolicMachine;

@@ -1,6 +1,7 @@
 -- The first piece of a stack, by the rules.
-use Rattle.sf_piece.proofs.Common.{◌≡◌, ◌≢◌, ℕ, ◌<◌, List, [], ◌∷◌, ◌++◌, length, refl, sym, ap, subst, ◌∙◌, inl, inr, arith, cases_lt, get_or_append_left, get_or_push, length_push, Insn, Node, Const, Word, NodeId, IsPool, node_at, Extends, FactsView, StartsBy, PieceData, IsFirst, IsInTree}
+use Rattle.sf_piece.proofs.Common.{◌≡◌, ◌≢◌, ℕ, ◌<◌, List, [], ◌∷◌, ◌++◌, length, refl, sym, ap, ◌∙◌, inl, inr, arith, cases_lt, get_or_append_left, get_or_push, length_push, Insn, Node, Const, Word, NodeId, IsPool, node_at, Extends, FactsView, StartsBy, IsFirst, Agrees, ArePlainNodes, Covers, Input, IsInput, IsLawfulStack, IsRoot, IsPieceOfTree, is_member}
 use Rattle.sf_piece.proofs.AtHand.{first_piece}
+use Rattle.sf_piece.proofs.Lawful.{lawful_first}
 
 word_clash : (a c : ℕ) → Word a ≡ Const c → ⊥
 word_clash a c e = absurd cc
@@ -41,11 +42,19 @@ first_rule stack old new id fs count lawful extends within here added starts =
       place = zero.2;
     }
 
--- the first piece is in the tree
-pub first_reached : (stack : List (List Insn)) (p : PieceData) → IsFirst stack p → IsInTree p
-first_reached stack p h = record {
-  first = p;
-  starts = subst (λ (s : List (List Insn)). IsFirst s p) (sym h.stack_is) h;
-  sides = [];
-  below = refl;
-}
+-- the first piece is lawful, in the tree, and its root
+pub first_made : (stack : List (List Insn)) (pool : List Node) (zero_id : NodeId) (fs : FactsView)
+    → IsLawfulStack stack → IsFirst stack (first_piece stack pool zero_id fs) → Covers fs pool
+    → ((d : Input) → IsInput d → Agrees fs pool d) → ArePlainNodes pool
+    → IsPieceOfTree (first_piece stack pool zero_id fs) × IsRoot stack (first_piece stack pool zero_id fs)
+    × IsFirst stack (first_piece stack pool zero_id fs)
+unfolding is_member
+first_made stack pool zero_id fs stacked first covers known nodes =
+    let lawful = lawful_first stack pool zero_id fs stacked first covers known nodes in (
+      record {
+        lawful = lawful;
+        reached = record { first = first_piece stack pool zero_id fs; starts = first; sides = []; below = refl };
+      },
+      record { of = refl; name = refl; named = lawful.named; all = λ d inp. refl },
+      first,
+    )

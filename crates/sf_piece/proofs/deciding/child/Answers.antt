@@ -1,11 +1,10 @@
-use Rattle.sf_piece.proofs.Common.{common_steps, ◌++◌, ◌∷◌, [], sym, subst, ◌∙◌, arith, with_sense, IsSide, PieceData, IsLawfulPiece, IsChild}
-use Rattle.sf_piece.proofs.Lawful.{lawful_child, right_child}
-use Rattle.sf_piece.proofs.Given.{side}
+use Rattle.sf_piece.proofs.Common.{common_steps, ◌++◌, ◌∷◌, [], sym, subst, ◌∙◌, arith, with_sense, IsSide, PieceData, IsLawfulPiece}
+use Rattle.sf_piece.proofs.Lawful.{child_made}
 use Rattle.sf_piece.proofs.Sizes.{short_name}
 use Rattle.sf_piece.proofs.deciding.child.Goals as goal
 
 pub push-requires : goal.push-requires
-push-requires c = grind (arith, common_steps, side, short_name)
+push-requires c = grind (arith, common_steps, short_name)
 
 pub returns : goal.returns
 returns c =
@@ -20,12 +19,8 @@ returns c =
       name = r.name ++ b ∷ [];
       conditions = r.conditions ++ with_sense cond b ∷ [];
       facts = c.args.facts;
-    } in IsChild p cond b q × IsLawfulPiece q × IsSide (p, cond) i b q) (sym same) (
-      right_child p i cond b m c.args.facts c.requires.lawful c.requires.standing c.requires.query c.requires.facts
-          after,
-      lawful_child p i cond b m c.args.facts c.requires.lawful c.requires.standing c.requires.query c.requires.facts
-          after,
-      side p i cond b m c.args.facts c.requires.facts after,
-    ) in
+    } in IsLawfulPiece q × IsSide (p, cond) i b q) (sym same)
+    (child_made p i cond b m c.args.facts c.requires.lawful c.requires.standing c.requires.query c.requires.facts
+    after) in
     rw (c.in_ok-push.ensures.ok, c.in_ok-push-2.ensures.ok)
-    (record { child = made.0; lawful = made.1; rule = made.2 })
+    (record { lawful = made.0; rule = made.1 })

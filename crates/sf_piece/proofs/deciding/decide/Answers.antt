@@ -17,9 +17,10 @@ returns-in_default-3-clause-right c =
 
 pub returns-clause-right : goal.returns-clause-right
 returns-clause-right c =
-    let both = split_right c.args.asked.now c.args.cond _ _ c.in_ok-false_run.ensures.child
-    c.in_ok-true_run.ensures.child in
-    (both.0, both.1, c.in_ok-false_run.ensures.lawful, c.in_ok-true_run.ensures.lawful)
+    let f = c.in_ok-false_run.ensures in
+    let t = c.in_ok-true_run.ensures in
+    let both = split_right c.args.asked.now c.args.insn c.args.cond _ _ f.rule t.rule f.lawful t.lawful in
+    (both.0, both.1, f.lawful, t.lawful)
 
 pub returns-in_default-2-clause-right : goal.returns-in_default-2-clause-right
 returns-in_default-2-clause-right c =

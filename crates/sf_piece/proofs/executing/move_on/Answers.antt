@@ -1,4 +1,4 @@
-use Rattle.sf_piece.proofs.Common.{common_steps, refl, arith}
+use Rattle.sf_piece.proofs.Common.{refl, arith}
 use Rattle.sf_piece.proofs.Arms.{sixteen_scratch_words, load_goes, load_x_goes, store_goes, store_x_goes}
 use Rattle.sf_piece.proofs.executing.move_on.Goals as goal
 
@@ -8,7 +8,9 @@ scratch-node-requires c =
     s.set c.in-LoadScratch.k (rw c.in-LoadScratch.is refl)
 
 pub go-requires-clause-goes : goal.go-requires-clause-goes
-go-requires-clause-goes c = grind (arith, common_steps, load_goes)
+go-requires-clause-goes c =
+    let s = rw (← c.run.view_is) at c.requires.standing in
+    rw (← c.run.view_is) (load_goes _ c.in-LoadScratch.k c.scratch-node.result s.nodes c.scratch-node.ensures)
 
 pub scratch-node-requires-in-LoadXScratch : goal.scratch-node-requires-in-LoadXScratch
 scratch-node-requires-in-LoadXScratch c =
@@ -16,7 +18,10 @@ scratch-node-requires-in-LoadXScratch c =
     s.set c.in-LoadXScratch.k (rw c.in-LoadXScratch.is refl)
 
 pub go-requires-in-LoadXScratch-clause-goes : goal.go-requires-in-LoadXScratch-clause-goes
-go-requires-in-LoadXScratch-clause-goes c = grind (arith, common_steps, load_x_goes)
+go-requires-in-LoadXScratch-clause-goes c =
+    let s = rw (← c.run.view_is) at c.requires.standing in
+    rw (← c.run.view_is) (load_x_goes _ c.in-LoadXScratch.k c.scratch-node-in-LoadXScratch.result s.nodes
+    c.scratch-node-in-LoadXScratch.ensures)
 
 pub go-requires-in-StoreA-clause-goes : goal.go-requires-in-StoreA-clause-goes
 go-requires-in-StoreA-clause-goes c =
