@@ -1,6 +1,6 @@
 -- The ways through a word: each number is on one, which tells what comes behind it. So it is with all parts of a word.
 use Rattle.std.proofs.lemmas.Bool.Decides.{nat_tests}
-use Rattle.std.proofs.Common.{◌≡◌, ℕ, suc, ◌+◌, ◌-◌, ◌*◌, ◌/◌, ◌%◌, ◌^◌, ◌<◌, ◌≤◌, ◌==◌, Bool, false, List, [], ◌∷◌, ◌++◌, length, map, refl, sym, ◌∙◌, inl, inr, arith, zero-add, lit<}
+use Rattle.std.proofs.Common.{◌≡◌, ℕ, suc, ◌+◌, ◌-◌, ◌*◌, ◌/◌, ◌%◌, ◌^◌, ◌<◌, ◌≤◌, ◌==◌, Bool, false, List, [], ◌∷◌, ◌++◌, length, map, refl, sym, ◌∙◌, inl, inr, arith, lit<}
 use Rattle.std.specs.Prelude.{◌⊎◌, All, bit_and, bit_or, nat_le, if◌then◌else◌}
 use Rattle.std.specs.Int.{bit_at}
 use Rattle.std.specs.Int.Bits.{and_zero_r}
@@ -13,7 +13,7 @@ use Rattle.sf_parts.specs.Words.{behind, test_count}
 use Rattle.sf_parts.specs.Runs.{mask_in, runs_in}
 use Rattle.sf_parts.specs.Parts.{PartData, form_has, span_part, joined_parts, with_bit, ways_from, parts_in}
 use Rattle.sf_parts.proofs.word.WordLemmas.{behind-outside}
-use Rattle.sf_parts.proofs.parts.PartLemmas.{LeadsTo, HasNumber, holders, AreParts, runs-listed-right}
+use Rattle.sf_parts.proofs.parts.PartLemmas.{LeadsTo, HasNumber, counted-append, holders, AreParts, runs-listed-right}
 
 -- ---- one bit more
 
@@ -51,10 +51,6 @@ clear-with word m v x le is clear = λ j l above.
     grind (arith, clear j l, bit_at_or, bit_at-pow_other (31 - v % 32) j)
 
 -- ---- each number is on one way
-
-holders-append : (n : ℕ) (a b : List PartData) → holders n (a ++ b) ≡ holders n a + holders n b
-holders-append n [] b = sym (zero-add (holders n b))
-holders-append n (p ∷ a) b = omega (arith, holders-append n a b)
 
 -- A number that is on the beginning of a way is on one of the two ways that lead on from a test of a bit.
 way-sides : (n mask number b : ℕ) → bit_at mask b ≡ 0 → bit_at number b ≡ 0
@@ -100,7 +96,7 @@ way-right word mask number (Fork v p q) m n o clear none =
     let first = way-right word (with_bit mask v) number p (suc v) n o.1 masked (clear-below word m v number o.0 none) in
     let second = way-right word (with_bit mask v) (with_bit number v) q (suc v) n o.2 masked
     (clear-with word m v number o.0 is none) in
-    let sum = holders-append n lower higher in
+    let sum = counted-append (λ (r : PartData). form_has r.form n) lower higher in
     elim (way-sides n mask number (31 - v % 32) (clear-here word m v mask o.0 is clear)
     (clear-here word m v number o.0 is none)) [
       | inl h ↦ (

@@ -1,23 +1,19 @@
 -- The parts of a word, listed by its runs: each number is in one, which tells what comes behind it, and each part has a
 -- number.
 use Rattle.std.proofs.lemmas.Bool.Decides.{nat_tests}
-use Rattle.std.proofs.Common.{◌≡◌, ℕ, suc, ◌+◌, ◌<◌, ◌≤◌, Bool, true, false, List, [], ◌∷◌, ◌++◌, length, refl, ◌∙◌, arith, zero, ◌*◌, ◌%◌, ◌^◌, map}
-use Rattle.std.specs.Prelude.{◌-◌, ◌||◌, not, All, bit_and, nat_le, if◌then◌else◌, bit_or}
+use Rattle.std.proofs.Common.{◌≡◌, ℕ, suc, ◌+◌, ◌<◌, ◌≤◌, Bool, true, false, List, [], ◌∷◌, ◌++◌, length, refl, ◌∙◌, arith, ◌*◌, ◌^◌, map}
+use Rattle.std.specs.Prelude.{◌-◌, ◌||◌, not, All, bit_and, nat_le, if◌then◌else◌}
 use Rattle.std.specs.List.{list_any}
-use Rattle.std.specs.Int.{bit_at}
-use Rattle.std.specs.Int.Bits.{and_zero_l}
 use Rattle.std.proofs.lemmas.Bool.{cond_both}
 use Rattle.std.proofs.lemmas.List.Elements.{All-nil, All-cons, All-tail, All-push, All-map, All-weaker}
 use Rattle.std.proofs.lemmas.List.Folds.{list_any-append}
-use Rattle.std.proofs.lemmas.Nat.{pow_pos, and_le_r, or_disjoint}
-use Rattle.std.proofs.lemmas.Nat.Bits.{bit_at-lt, bit_at_and, bit_at_or, bit_at-pow_same, bit_at-pow_other, and_pow, same_from_bits}
-use Rattle.std.proofs.Math.Nat.{zero-mod}
+use Rattle.std.proofs.lemmas.Nat.{and_le_r}
 use Rattle.sf_diagram.specs.Trees.{Tree, IsOrderedFrom}
-use Rattle.sf_parts.specs.Words.{behind, is_same_tree, lower_at, higher_at}
-use Rattle.sf_parts.specs.Runs.{RunData, mask_in, with_run, runs_before, runs_in}
+use Rattle.sf_parts.specs.Words.{behind, is_same_tree}
+use Rattle.sf_parts.specs.Runs.{RunData, mask_in, runs_in}
 use Rattle.sf_parts.specs.Parts.{is_in_span, form_has, spans_of, part_in, longest_of, rest_in, behinds_after, PartData, span_part, joined_parts}
-use Rattle.sf_parts.proofs.word.WordLemmas.{is_same_tree-true, is_same_tree-self, halves}
-use Rattle.sf_parts.proofs.runs.RunLemmas.{AreRuns, aligned-lower, aligned-higher, runs_in-right, mask-small, runs-length}
+use Rattle.sf_parts.proofs.word.WordLemmas.{is_same_tree-true, is_same_tree-self}
+use Rattle.sf_parts.proofs.runs.RunLemmas.{AreRuns, runs_in-right, mask-small, runs-length}
 
 -- whether the runs that lead to a tree are meant, or the others
 abbrev is_meant : Bool → Bool → Bool
@@ -28,7 +24,7 @@ none-before : (word mask : ℕ) (t s : Tree) (without : Bool) (m p : ℕ) (runs 
     → AreRuns word mask t p runs → list_any (is_in_span m) (spans_of runs s without) ≡ false
 none-before word mask t s without m p [] l are = refl
 none-before word mask t s without m p (r ∷ rest) l are =
-    grind (arith, nat_tests, none-before word mask t s without m (suc r.last) rest (omega (arith, are.0, are.1)) are.3)
+    grind (arith, nat_tests, none-before word mask t s without m (suc r.last) rest (omega (arith, are.0, are.1)) are.4)
 
 -- a number is in the spans exactly where what comes behind it is meant
 pub in-spans : (word mask : ℕ) (t s : Tree) (without : Bool) (n p : ℕ) (runs : List RunData) → p ≤ bit_and n mask
@@ -39,7 +35,7 @@ in-spans word mask t s without n p [] from are = absurd (are n from)
 in-spans word mask t s without n p (r ∷ rest) from are =
     let later = in-spans word mask t s without n (suc r.last) rest in
     let none = none-before word mask t s without (bit_and n mask) (suc r.last) rest in
-    grind (arith, nat_tests, are.2 n from, later, none)
+    grind (arith, nat_tests, are.3 n from, later, none)
 
 -- a joined part has exactly the numbers that lead to its tree
 pub form-has : (word mask : ℕ) (t s : Tree) (without : Bool) (n : ℕ) (runs : List RunData) → AreRuns word mask t 0 runs
@@ -49,10 +45,19 @@ form-has word mask t s without n runs are =
 
 -- ---- how often a tree is listed
 
+-- how many elements of a list pass a test
+abbrev pub counted : {X : Type 0} → (X → Bool) → List X → ℕ
+counted test [] = 0
+counted test (x ∷ xs) = (if test x then 1 else 0) + counted test xs
+
+pub counted-append : {X : Type 0} (test : X → Bool) (a b : List X)
+    → counted test (a ++ b) ≡ counted test a + counted test b
+counted-append test [] b = omega arith
+counted-append test (x ∷ a) b = omega (arith, counted-append test a b)
+
 -- how often a tree is in a list
 abbrev pub times : Tree → List Tree → ℕ
-times t [] = 0
-times t (s ∷ ss) = (if is_same_tree t s then 1 else 0) + times t ss
+times t ss = counted (is_same_tree t) ss
 
 -- whether some run leads to a tree
 abbrev leads : Tree → List RunData → Bool
@@ -64,7 +69,7 @@ leads-on : (word mask : ℕ) (t : Tree) (n p : ℕ) (runs : List RunData) → p 
     → AreRuns word mask t p runs → leads (behind word t n) runs ≡ true
 leads-on word mask t n p [] from are = absurd (are n from)
 leads-on word mask t n p (r ∷ rest) from are =
-    grind (arith, are.2 n from, leads-on word mask t n (suc r.last) rest, is_same_tree-self r.behind)
+    grind (arith, are.3 n from, leads-on word mask t n (suc r.last) rest, is_same_tree-self r.behind)
 
 -- what is to be listed of a tree: once, if it is not seen yet, and some run leads to it
 abbrev due : Bool → Bool → ℕ
@@ -121,8 +126,7 @@ HasNumber p = (n : ℕ) × (n < 2 ^ 32) × (form_has p.form n ≡ true)
 
 -- how many parts have a number
 abbrev pub holders : ℕ → List PartData → ℕ
-holders n [] = 0
-holders n (p ∷ ps) = (if form_has p.form n then 1 else 0) + holders n ps
+holders n ps = counted (λ p. form_has p.form n) ps
 
 -- each number is in one part, which tells what comes behind it, and each part has a number
 pub record AreParts (word : ℕ) (t : Tree) (ps : List PartData) : Type 0 where
@@ -132,49 +136,19 @@ pub record AreParts (word : ℕ) (t : Tree) (ps : List PartData) : Type 0 where
 
 -- ---- where runs begin
 
--- under a mask, a number with one of its bits besides
-pub under-bit : (x mask k : ℕ) → bit_at x k ≡ 0 → bit_at mask k ≡ 1 → bit_and x mask ≡ x
-    → bit_and (x + 2 ^ k) mask ≡ x + 2 ^ k
-under-bit x mask k clear one h =
-    let sum : bit_or x (2 ^ k) ≡ x + 2 ^ k = or_disjoint x (2 ^ k) (and_pow x k ∙ grind arith) in
-    rw (← sum) (same_from_bits _ _ (λ j.
-    grind (arith, h, bit_at_and, bit_at_or, bit_at-lt, bit_at-pow_same, bit_at-pow_other)))
-
--- each run begins with a number that the mask leaves as it is
-abbrev BeginUnder : ℕ → List RunData → Type 0
-BeginUnder mask [] = Unit {0}
-BeginUnder mask (r ∷ rest) = (bit_and r.first mask ≡ r.first) × BeginUnder mask rest
-
-begin-with : (mask first last : ℕ) (b : Tree) (rest : List RunData) → bit_and first mask ≡ first → BeginUnder mask rest
-    → BeginUnder mask (with_run first last b rest)
-begin-with mask first last b rest h hs = grind arith
-
-begin-runs : (word mask k first : ℕ) (s : Tree) (rest : List RunData) → first % 2 ^ k ≡ 0 → bit_and first mask ≡ first
-    → BeginUnder mask rest → BeginUnder mask (runs_before word mask k first s rest)
-unfolding runs_before
-begin-runs word mask zero first s rest aligned h hs = begin-with mask first first s rest h hs
-begin-runs word mask (suc k) first s rest aligned h hs =
-    let clear : bit_at first k ≡ 0 = clear-bit first k aligned in
-    let lower = begin-runs word mask k first (lower_at k s) in
-    let higher = begin-runs word mask k (first + 2 ^ k) (higher_at k s) rest in
-    let whole = begin-runs word mask k first s rest in
-    grind (arith, nat_tests, begin-with, aligned-lower, aligned-higher, under-bit, whole, lower, higher)
-  where
-    clear-bit : (first k : ℕ) → first % 2 ^ suc k ≡ 0 → bit_at first k ≡ 0
-    clear-bit first k aligned = grind (arith, halves first k first aligned, pow_pos)
-
 -- a run has its first number, and behind this comes what the run says
 abbrev BeginsRight : ℕ → ℕ → Tree → RunData → Type 0
 BeginsRight word mask t r =
     (bit_and r.first mask ≡ r.first) × (r.first ≤ r.last) × (r.first < 2 ^ 32) × (behind word t r.first ≡ r.behind)
 
 begin-right : (word mask : ℕ) (t : Tree) (p : ℕ) (runs : List RunData) → mask < 2 ^ 32 → AreRuns word mask t p runs
-    → BeginUnder mask runs → All (BeginsRight word mask t) runs
-begin-right word mask t p [] small are begin = All-nil (BeginsRight word mask t)
-begin-right word mask t p (r ∷ rest) small are begin =
-    let here = are.2 r.first (omega (arith, begin.0, are.0)) (omega (arith, begin.0, are.1)) in
-    let one : BeginsRight word mask t r = (begin.0, are.1, omega (arith, begin.0, and_le_r r.first mask), here.1) in
-    All-cons (BeginsRight word mask t) r rest one (begin-right word mask t (suc r.last) rest small are.3 begin.1)
+    → All (BeginsRight word mask t) runs
+begin-right word mask t p [] small are = All-nil (BeginsRight word mask t)
+begin-right word mask t p (r ∷ rest) small are =
+    let begin : bit_and r.first mask ≡ r.first = are.2 in
+    let here = are.3 r.first (omega (arith, are.0)) (omega (arith, are.1)) in
+    let one : BeginsRight word mask t r = (begin, are.1, omega (arith, and_le_r r.first mask), here.1) in
+    All-cons (BeginsRight word mask t) r rest one (begin-right word mask t (suc r.last) rest small are.4)
 
 -- the tree comes behind some number of a word
 abbrev Reached : ℕ → Tree → Tree → Type 0
@@ -192,7 +166,7 @@ holder-apart : (word mask : ℕ) (t : Tree) (n p : ℕ) (runs : List RunData) �
     × All (LeadsTo (behind word t n) n) (map (apart_part mask) runs)
 holder-apart word mask t n p [] are = (λ _. refl, λ from. absurd (are n from), All-nil (LeadsTo (behind word t n) n))
 holder-apart word mask t n p (r ∷ rest) are =
-    let later = holder-apart word mask t n (suc r.last) rest are.3 in (
+    let later = holder-apart word mask t n (suc r.last) rest are.4 in (
       λ less. grind (arith, nat_tests),
       λ from. grind (arith, nat_tests),
       All-cons (LeadsTo (behind word t n) n) (apart_part mask r) (map (apart_part mask) rest)
@@ -231,8 +205,7 @@ runs-listed-right word apart t o =
     let runs : List RunData = runs_in word t in
     let rest : Tree = rest_in runs in
     let are : AreRuns word mask t 0 runs = runs_in-right word t o in
-    let under : BeginUnder mask runs = begin-runs word mask 32 0 t [] (zero-mod (2 ^ 32)) (and_zero_l mask) tt in
-    let begin : All (BeginsRight word mask t) runs = begin-right word mask t 0 runs (mask-small word t) are under in
+    let begin : All (BeginsRight word mask t) runs = begin-right word mask t 0 runs (mask-small word t) are in
     let reached : All (λ (r : RunData). Reached word t r.behind) runs
     = All-weaker (BeginsRight word mask t) (λ (r : RunData). Reached word t r.behind)
     (λ r h. (r.first, h.2, h.3)) runs begin in

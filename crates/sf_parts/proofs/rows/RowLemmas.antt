@@ -1,13 +1,12 @@
 -- The rows of a tree: each input is in one, which has its number, unless this is hidden; and each row has an input.
 use Rattle.std.proofs.lemmas.Bool.Decides.{nat_tests}
 use Rattle.std.proofs.Common.{◌≡◌, ◌≢◌, ℕ, zero, suc, ◌+◌, ◌*◌, ◌/◌, ◌%◌, ◌-◌, ◌^◌, ◌<◌, ◌≤◌, ◌==◌, Bool, true, false, List, [], ◌∷◌, ◌++◌, length, map, take, get_or, refl, sym, ap, ap₂, subst, ◌∙◌, inl, inr, arith, lit≤}
-use Rattle.std.specs.Prelude.{◌&&◌, All, count_by, not, if◌then◌else◌, ◌⊎◌}
+use Rattle.std.specs.Prelude.{◌&&◌, All, not, if◌then◌else◌, ◌⊎◌}
 use Rattle.std.specs.List.{flat_map, list_all}
 use Rattle.std.specs.Int.{bit_at}
 use Rattle.std.proofs.lemmas.Bool.{cases_Bool, cond_both, eq-eqb, ne_eqb, and_left, and_from}
 use Rattle.std.proofs.lemmas.Nat.Bits.{bit_at-lt}
 use Rattle.std.proofs.lemmas.List.{length-map, get_or-map, take_more, flat_map_more, length-append}
-use Rattle.std.proofs.lemmas.List.Sums.{sum_by-cons}
 use Rattle.std.proofs.lemmas.List.Elements.{All-nil, All-cons, All-tail, All-append}
 use Rattle.std.proofs.lemmas.List.Folds.{length-flat_map-take}
 use Rattle.std.proofs.Math.Nat.{mod-eq_of_lt, mod-one}
@@ -19,7 +18,7 @@ use Rattle.sf_parts.specs.Rows.{ConditionData, RowData, meets, is_in_row, rows_u
 use Rattle.sf_parts.specs.Stored.{StoredPart, part_seen}
 use Rattle.sf_parts.specs.laws.WordLaws.{low-more, behind-below, behind-ordered, crowded_behind}
 use Rattle.sf_parts.proofs.word.WordLemmas.{value-behind}
-use Rattle.sf_parts.proofs.parts.PartLemmas.{LeadsTo, HasNumber, holders, AreParts}
+use Rattle.sf_parts.proofs.parts.PartLemmas.{LeadsTo, HasNumber, counted, counted-append, holders, AreParts}
 use Rattle.sf_parts.proofs.WayLemmas.{parts_in-right}
 
 -- a tree that does not test a word first tests later words only
@@ -36,20 +35,7 @@ rows_behind apart hidden n word cs p =
 
 -- how many rows have the input, and a number that passes a test
 abbrev pub hits : Bits → (ℕ → Bool) → List RowData → ℕ
-hits bits test [] = 0
-hits bits test (r ∷ rest) = (if is_in_row bits r && test r.number then 1 else 0) + hits bits test rest
-
-hits-append : (bits : Bits) (test : ℕ → Bool) (a b : List RowData)
-    → hits bits test (a ++ b) ≡ hits bits test a + hits bits test b
-hits-append bits test [] b = omega arith
-hits-append bits test (r ∷ a) b = omega (arith, hits-append bits test a b)
-
-pub hits-count : (bits : Bits) (test : ℕ → Bool) (rows : List RowData)
-    → count_by (λ r. is_in_row bits r && test r.number) rows ≡ hits bits test rows
-hits-count bits test [] = refl
-hits-count bits test (r ∷ rest) =
-    let one = sum_by-cons (λ r. if is_in_row bits r && test r.number then 1 else 0) r rest in
-    grind (arith, one, hits-count bits test rest)
+hits bits test rows = counted (λ r. is_in_row bits r && test r.number) rows
 
 -- one more condition
 meets-more : (bits : Bits) (cs : List ConditionData) (c : ConditionData)
@@ -62,7 +48,8 @@ each-none : (bits : Bits) (test : ℕ → Bool) (rows : PartData → List RowDat
     → (ps : List PartData) → hits bits test (flat_map rows ps) ≡ 0
 each-none bits test rows none [] = refl
 each-none bits test rows none (p ∷ ps) =
-    omega (arith, hits-append bits test (rows p) (flat_map rows ps), none p, each-none bits test rows none ps)
+    let sum = counted-append (λ (r : RowData). is_in_row bits r && test r.number) (rows p) (flat_map rows ps) in
+    omega (arith, sum, none p, each-none bits test rows none ps)
 
 -- the rows under conditions that an input does not meet don't have it
 none-under : (apart hidden n word : ℕ) (t : Tree) (cs : List ConditionData) (bits : Bits) (test : ℕ → Bool)
@@ -84,7 +71,8 @@ each-one : (bits : Bits) (test : ℕ → Bool) (rows : PartData → List RowData
 each-one bits test rows b n x one [] lead = grind arith
 each-one bits test rows b n x one (p ∷ ps) lead =
     let later = each-one bits test rows b n x one ps (All-tail (LeadsTo b n) p ps lead) in
-    grind (arith, hits-append, one p (lead 0 p (omega arith)), later)
+    let sum = counted-append (λ (r : RowData). is_in_row bits r && test r.number) (rows p) (flat_map rows ps) in
+    grind (arith, sum, one p (lead 0 p (omega arith)), later)
 
 -- whether a number is not hidden, and passes a test
 abbrev pub shown : ℕ → (ℕ → Bool) → ℕ → Bool
@@ -123,20 +111,6 @@ rows-right apart hidden (suc n) word (Fork v p q) cs bits test o h =
     _ (right.lead i)
     ∙ ap (λ (m : ℕ). if x then m else 0) (right.once i))
     (λ out. rows-right apart hidden n (suc word) t cs bits test (later-ordered word v p q o out) below)
-
-pub rows-count : (bits : Bits) (rows : List RowData) → count_by (is_in_row bits) rows ≡ hits bits (λ _. true) rows
-rows-count bits [] = refl
-rows-count bits (r ∷ rest) =
-    grind (arith, sum_by-cons (λ r. if is_in_row bits r then 1 else 0) r rest, rows-count bits rest)
-
--- a number that is shown passes each test that the others pass
-pub shown-once : (hidden m : ℕ)
-    → ◌≡◌ {A = ℕ} (if shown hidden (λ _. true) m then 1 else 0) (if m == hidden then 0 else 1)
-shown-once hidden m = grind arith
-
-pub shown-never : (hidden m : ℕ)
-    → ◌≡◌ {A = ℕ} (if shown hidden (λ (i : ℕ). not (i == m)) m then 1 else 0) 0
-shown-never hidden m = grind (arith, nat_tests)
 
 -- ---- an input of each row
 

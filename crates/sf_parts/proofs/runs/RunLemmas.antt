@@ -2,12 +2,13 @@
 use Rattle.std.proofs.lemmas.Bool.Decides.{nat_tests}
 use Rattle.std.proofs.lemmas.Grind.{common_steps}
 use Rattle.std.proofs.Common.{◌≡◌, ◌≢◌, ℕ, zero, suc, ◌+◌, ◌-◌, ◌*◌, ◌%◌, ◌^◌, ◌<◌, ◌≤◌, ◌==◌, false, List, [], ◌∷◌, ◌++◌, length, map, refl, ap, subst, ◌∙◌, arith, lit<, lit≤}
-use Rattle.std.specs.Prelude.{bit_and, if◌then◌else◌}
+use Rattle.std.specs.Prelude.{bit_and, bit_or, if◌then◌else◌}
+use Rattle.std.specs.Int.Bits.{and_zero_l}
 use Rattle.std.specs.Int.{bit_at}
 use Rattle.std.proofs.lemmas.Bool.{cond_both, eqb-true, eqb-false}
 use Rattle.std.proofs.lemmas.List.{reverse-append, length-map}
-use Rattle.std.proofs.lemmas.Nat.{pow_pos, pow_below, mod_below, and_le_r, and_mod, or_lt}
-use Rattle.std.proofs.lemmas.Nat.Bits.{bit_at-lt, bit_at_and, bit_at_ones, bit_at_above}
+use Rattle.std.proofs.lemmas.Nat.{pow_pos, pow_below, mod_below, and_le_r, and_mod, or_lt, or_disjoint}
+use Rattle.std.proofs.lemmas.Nat.Bits.{bit_at-lt, bit_at_and, bit_at_or, bit_at-pow_same, bit_at-pow_other, bit_at_ones, bit_at_above, and_pow, same_from_bits}
 use Rattle.std.proofs.Math.Pow.{mod-mod-pow}
 use Rattle.std.proofs.Math.Nat.{add-mod_right, zero-mod}
 use Rattle.sf_diagram.specs.Trees.{Tree, Leaf, Fork, IsOrderedFrom}
@@ -19,11 +20,11 @@ use Rattle.sf_parts.specs.declared.runs.Run.{Run}
 use Rattle.sf_parts.proofs.word.WordLemmas.{in-block, halves, is_same_tree-true, behind-outside, behind-lower, behind-higher, sides-ordered, IsUnder, sides-under, unmasked-ordered, tested-under}
 
 -- From p on, each number under the mask is in the first run that does not end before it, and the behind of that run is
--- what comes behind the number. The runs follow one another.
+-- what comes behind the number. The runs follow one another, and each begins with a number under the mask.
 abbrev pub AreRuns : ℕ → ℕ → Tree → ℕ → List RunData → Type 0
 AreRuns word mask t p [] = (n : ℕ) → p ≤ bit_and n mask → ⊥
 AreRuns word mask t p (r ∷ rest) =
-    (p ≤ r.first) × (r.first ≤ r.last)
+    (p ≤ r.first) × (r.first ≤ r.last) × (bit_and r.first mask ≡ r.first)
     × ((n : ℕ) → p ≤ bit_and n mask → bit_and n mask ≤ r.last
     → (r.first ≤ bit_and n mask) × (behind word t n ≡ r.behind))
     × AreRuns word mask t (suc r.last) rest
@@ -33,15 +34,15 @@ earlier : (word mask : ℕ) (t : Tree) (p q : ℕ) (rest : List RunData) → p �
     → ((n : ℕ) → p ≤ bit_and n mask → bit_and n mask < q → ⊥) → AreRuns word mask t p rest
 earlier word mask t p q [] pq are none = λ n from. grind (arith, none n from, are n)
 earlier word mask t p q (r ∷ rest) pq are none =
-    (omega (arith, are.0), are.1, λ n from upto. grind (arith, none n from, are.2 n), are.3)
+    (omega (arith, are.0), are.1, are.2, λ n from upto. grind (arith, none n from, are.3 n), are.4)
 
 with_run-right : (word mask : ℕ) (t : Tree) (first last limit : ℕ) (b : Tree) (rest : List RunData) → first ≤ last
-    → last < limit
+    → last < limit → bit_and first mask ≡ first
     → ((n : ℕ) → first ≤ bit_and n mask → bit_and n mask < limit
     → (bit_and n mask ≤ last) × (behind word t n ≡ b))
     → AreRuns word mask t limit rest → AreRuns word mask t first (with_run first last b rest)
-with_run-right word mask t first last limit b [] some short block are = grind (arith, block, are)
-with_run-right word mask t first last limit b (r ∷ rest) some short block are =
+with_run-right word mask t first last limit b [] some short under block are = grind (arith, block, are)
+with_run-right word mask t first last limit b (r ∷ rest) some short under block are =
     grind (arith, is_same_tree-true r.behind b, earlier word mask t (suc last) limit (r ∷ rest), block, are)
 
 -- the runs of both halves of a block, before others; and those of a block behind a node that tests the word
@@ -64,11 +65,22 @@ bit-under n mask k e = omega (arith, bit_at_and n mask k, bit_at-lt n k)
 bit-unmasked : (n mask k : ℕ) → bit_at mask k ≢ 1 → bit_at (bit_and n mask) k ≡ 0
 bit-unmasked n mask k other = omega (arith, bit_at_and n mask k, bit_at-lt mask k)
 
-pub aligned-lower : (first k : ℕ) → first % 2 ^ suc k ≡ 0 → first % 2 ^ k ≡ 0
+aligned-lower : (first k : ℕ) → first % 2 ^ suc k ≡ 0 → first % 2 ^ k ≡ 0
 aligned-lower first k e = grind (arith, common_steps, mod-mod-pow first 1 k, zero-mod)
 
-pub aligned-higher : (first k : ℕ) → first % 2 ^ k ≡ 0 → (first + 2 ^ k) % 2 ^ k ≡ 0
+aligned-higher : (first k : ℕ) → first % 2 ^ k ≡ 0 → (first + 2 ^ k) % 2 ^ k ≡ 0
 aligned-higher first k e = add-mod_right first (2 ^ k) ∙ e
+
+-- under a mask, a number with one of its bits besides
+under-bit : (x mask k : ℕ) → bit_at x k ≡ 0 → bit_at mask k ≡ 1 → bit_and x mask ≡ x
+    → bit_and (x + 2 ^ k) mask ≡ x + 2 ^ k
+under-bit x mask k clear one h =
+    let sum : bit_or x (2 ^ k) ≡ x + 2 ^ k = or_disjoint x (2 ^ k) (and_pow x k ∙ grind arith) in
+    rw (← sum) (same_from_bits _ _ (λ j.
+    grind (arith, h, bit_at_and, bit_at_or, bit_at-lt, bit_at-pow_same, bit_at-pow_other)))
+
+clear-bit : (first k : ℕ) → first % 2 ^ suc k ≡ 0 → bit_at first k ≡ 0
+clear-bit first k aligned = grind (arith, halves first k first aligned, pow_pos)
 
 -- what comes behind the numbers of a block in t comes behind them in s
 abbrev pub IsBlock : ℕ → ℕ → ℕ → ℕ → Tree → Tree → Type 0
@@ -80,14 +92,14 @@ past word (Leaf c) o = refl
 past word (Fork v p q) o = grind (arith, nat_tests, o.0)
 
 pub runs-right : (word mask k : ℕ) (t s : Tree) (first : ℕ) (rest : List RunData) → k ≤ 32
-    → IsOrderedFrom (32 * word + (32 - k)) s → IsUnder word mask s → first % 2 ^ k ≡ 0
+    → IsOrderedFrom (32 * word + (32 - k)) s → IsUnder word mask s → first % 2 ^ k ≡ 0 → bit_and first mask ≡ first
     → IsBlock word mask first (2 ^ k) t s → AreRuns word mask t (first + 2 ^ k) rest
     → AreRuns word mask t first (runs_before word mask k first s rest)
 unfolding runs_before
-runs-right word mask zero t s first rest l o u aligned block are =
-    with_run-right word mask t first first (first + 1) s rest (omega arith) (omega arith)
+runs-right word mask zero t s first rest l o u aligned begin block are =
+    with_run-right word mask t first first (first + 1) s rest (omega arith) (omega arith) begin
     (λ n from less. (omega arith, block n from less ∙ behind-outside word s n (past word s o))) are
-runs-right word mask (suc k) t s first rest l o u aligned block are =
+runs-right word mask (suc k) t s first rest l o u aligned begin block are =
     let small : k < 32 = omega arith in
     let twice : 2 ^ suc k ≡ 2 ^ k + 2 ^ k = double k in
     let some : 0 < 2 ^ k = pow_pos k in
@@ -105,24 +117,24 @@ runs-right word mask (suc k) t s first rest l o u aligned block are =
     let both = sides-ordered word k s small is ordered in
     let under = sides-under word mask k s is u in
     runs-right word mask k t (lower_at k s) first
-    (runs_before word mask k (first + 2 ^ k) (higher_at k s) rest) (omega arith) both.0 under.0 even
+    (runs_before word mask k (first + 2 ^ k) (higher_at k s) rest) (omega arith) both.0 under.0 even begin
     (λ n from less. block n from (omega arith)
     ∙ behind-lower word k s n is (grind (arith, half n from, bit-under n mask k one)))
     (runs-right word mask k t (higher_at k s) (first + 2 ^ k) rest (omega arith) both.1 under.1
-    (aligned-higher first k even)
+    (aligned-higher first k even) (under-bit first mask k (clear-bit first k aligned) one begin)
     (λ n from less. block n (omega arith) (omega arith)
     ∙ behind-higher word k s n is (grind (arith, half n, bit-under n mask k one)))
     (subst (λ (m : ℕ). AreRuns word mask t m rest) (omega arith) are)))
     (λ not_there.
     let other : bit_at mask k ≢ 1 = eqb-false (bit_at mask k) 1 not_there in
     runs-right word mask k t s first rest (omega arith) (unmasked-ordered word mask k s small is u other ordered) u
-    even (λ n from less. block n from (omega arith))
+    even begin (λ n from less. block n from (omega arith))
     (earlier word mask t (first + 2 ^ k) (first + 2 ^ suc k) rest (omega arith) are
     (λ n from less. grind (arith, half n, bit-unmasked n mask k other)))))
     (λ out.
     let low : mask % 2 ^ suc k < 2 ^ suc k = mod_below mask (2 ^ suc k) (pow_pos (suc k)) in
     with_run-right word mask t first (first + mask % 2 ^ suc k) (first + 2 ^ suc k) s rest (omega arith) (omega arith)
-    (λ n from less. (
+    begin (λ n from less. (
       omega (arith, in-block first (suc k) (bit_and n mask) aligned from less, low-under n mask (suc k)),
       block n from less ∙ behind-outside word s n out,
     ))
@@ -146,7 +158,7 @@ pub runs_in-right : (word : ℕ) (t : Tree) → IsOrderedFrom (32 * word) t
     → AreRuns word (mask_in word t) t 0 (runs_in word t)
 runs_in-right word t o =
     runs-right word (mask_in word t) 32 t t 0 [] (lit≤ tt) (subst (λ (m : ℕ). IsOrderedFrom m t) (omega arith) o)
-    (mask-under word t) (zero-mod (2 ^ 32)) (λ n from less. refl)
+    (mask-under word t) (zero-mod (2 ^ 32)) (and_zero_l (mask_in word t)) (λ n from less. refl)
     (λ n from. omega (arith, and_le_r n (mask_in word t), mask-small word t))
 
 -- no fewer runs than so many, and at least one

@@ -1,11 +1,11 @@
-use Rattle.std.proofs.Common.{[], true, ◌∙◌}
-use Rattle.sf_diagram.specs.Trees.{value}
-use Rattle.sf_parts.specs.Rows.{rows_under}
-use Rattle.sf_parts.proofs.rows.RowLemmas.{rows-count, rows-right, shown-once}
+use Rattle.std.proofs.Common.{[], ℕ, true, arith, refl}
+use Rattle.std.proofs.lemmas.List.Recursion.{is_count_by}
+use Rattle.sf_parts.specs.Rows.{is_in_row, rows_under}
+use Rattle.sf_parts.proofs.rows.RowLemmas.{hits, rows-right}
 use Rattle.sf_parts.proofs.laws.each_input_is_in_one_row.Goals as goal
 
 pub returns : goal.returns
 returns c = λ apart hidden n word t bits o h.
-    rows-count bits (rows_under apart hidden n word t [])
-    ∙ rows-right apart hidden n word t [] bits (λ _. true) o h
-    ∙ shown-once hidden (value t bits)
+    let count = is_count_by (hits bits (λ (m : ℕ). true)) (is_in_row bits) refl (λ r rows. grind arith)
+    (rows_under apart hidden n word t []) in
+    grind (arith, count, rows-right apart hidden n word t [] bits (λ (m : ℕ). true) o h)

@@ -1,12 +1,15 @@
-use Rattle.std.proofs.Common.{ℕ, [], ◌==◌, ◌∙◌}
-use Rattle.std.specs.Prelude.{not}
+use Rattle.std.proofs.Common.{ℕ, Bool, [], ◌==◌, arith, refl}
+use Rattle.std.specs.Prelude.{◌&&◌, not}
+use Rattle.std.proofs.lemmas.Bool.Decides.{nat_tests}
+use Rattle.std.proofs.lemmas.List.Recursion.{is_count_by}
 use Rattle.sf_diagram.specs.Trees.{value}
-use Rattle.sf_parts.specs.Rows.{rows_under}
-use Rattle.sf_parts.proofs.rows.RowLemmas.{hits-count, rows-right, shown-never}
+use Rattle.sf_parts.specs.Rows.{RowData, is_in_row, rows_under}
+use Rattle.sf_parts.proofs.rows.RowLemmas.{hits, rows-right}
 use Rattle.sf_parts.proofs.laws.rows_have_the_number.Goals as goal
 
 pub returns : goal.returns
 returns c = λ apart hidden n word t bits o h.
-    hits-count bits (λ (m : ℕ). not (m == value t bits)) (rows_under apart hidden n word t [])
-    ∙ rows-right apart hidden n word t [] bits (λ (m : ℕ). not (m == value t bits)) o h
-    ∙ shown-never hidden (value t bits)
+    let other : ℕ → Bool = λ m. not (m == value t bits) in
+    let count = is_count_by (hits bits other) (λ (r : RowData). is_in_row bits r && other r.number) refl
+    (λ r rows. grind arith) (rows_under apart hidden n word t []) in
+    grind (arith, nat_tests, count, rows-right apart hidden n word t [] bits other o h)
