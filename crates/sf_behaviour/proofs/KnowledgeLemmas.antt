@@ -107,9 +107,6 @@ pub set-less : (k l : Known) (r : ℕ) (word : Option Word) → IsRegister r →
 set-less k l r word there count less new q w e =
     grind (arith, get_or-set_same k r word None, get_or-set_other k r q word None, less q w, new w, there)
 
-abbrev no_word : Option Word
-no_word = None
-
 -- what is known stays if a register is set to the word that it has
 pub set-same : (k : Known) (r : ℕ) {word : Option Word} → word ≡ known_word k r → k ≡ slice_set k r word
 set-same k r same = rw same (sym (set-get_or k r None))

@@ -1,5 +1,5 @@
 -- What a diagram tells of the runs from a place, by what the diagrams of the places behind tell.
-use Rattle.sf_behaviour.proofs.Common.{◌≡◌, ℕ, zero, suc, ◌+◌, ◌<◌, ◌==◌, ◌^◌, Bool, List, [], length, Option, Some, None, refl, sym, ap, subst, ◌∙◌, arith, ◌&&◌, slice_set, if◌then◌else◌, same_Some, Input, Test, passes, Insn, Operand, IsLawfulProgram, Tree, Bits, value, tree_at, KeepsTrees, State, start, return_of, input_by, A, X, IsRegister, next_with, with_register, Known, known_word, held_in, IsInputWord, IsKnowledge, IsLess, divides, source_number, operand_in, source_in, set_progress, effect_progress, IsEffectOf, Tells, IsReplaced, word_value, IsDiagramOf, Effect, Tests, Source, Word, IsSome, IsAt, Progress, goes, returns, stuck, insn_progress, Outcome, outcome_from, put, option_map_some, step_is, safe_start, ends_from, value_is, Fits, return_progress, unmet, IsSetTo}
+use Rattle.sf_behaviour.proofs.Common.{◌≡◌, ℕ, zero, suc, ◌+◌, ◌<◌, ◌==◌, ◌^◌, Bool, List, [], length, Option, Some, None, refl, sym, ap, subst, ◌∙◌, arith, ◌&&◌, slice_set, if◌then◌else◌, same_Some, Input, Test, passes, Insn, Operand, IsLawfulProgram, Tree, Bits, value, tree_at, KeepsTrees, State, start, return_of, input_by, A, X, IsRegister, next_with, with_register, Known, known_word, held_in, IsInputWord, IsKnowledge, IsLess, divides, source_number, operand_in, source_in, set_progress, effect_progress, IsEffectOf, Tells, IsReplaced, word_value, IsDiagramOf, Effect, Tests, Source, Word, IsSome, IsAt, Progress, goes, returns, stuck, insn_progress, IsChosen, IsTruthOf, Outcome, outcome_from, put, option_map_some, step_is, safe_start, ends_from, value_is, Fits, return_progress, unmet, IsSetTo}
 use Rattle.sf_run.specs.Machine.{run_for}
 use Rattle.sf_behaviour.proofs.replacing.ReplacingLemmas.{replaced-value}
 use Rattle.sf_behaviour.proofs.VariableLemmas.{with-register-input, start-number, start-there}
@@ -126,6 +126,16 @@ follows-skip place n behind = record {
   small = behind.small;
   values = λ bits s v here fits e. behind.values bits (record s { place = s.place + 1 + n }) e.0 e.1
       (ap (λ (p : ℕ). p + 1 + n) here) fits e.2 ∙ e.3;
+}
+
+-- one of two diagrams by a test
+pub chosen-diagram : (ts us vs : List Tree) (f : Bits → Bool) (passed one_way other_way id : ℕ) → KeepsTrees ts us
+    → one_way < length ts → other_way < length ts → IsTruthOf us passed (λ bits. if f bits then 1 else 0)
+    → id < length vs → IsChosen (tree_at us passed) (tree_at us one_way) (tree_at us other_way) (tree_at vs id)
+    → IsDiagramOf vs id (λ bits. if f bits then value (tree_at ts one_way) bits else value (tree_at ts other_way) bits)
+chosen-diagram ts us vs f passed one_way other_way id k l m truth within h = record {
+  within = within;
+  values = λ bits. grind (arith, h.values bits, truth.values bits, k.same one_way l, k.same other_way m);
 }
 
 -- where A is tested

@@ -1,8 +1,8 @@
 -- The registers of a state, and their bits and those of the input as variables.
-use Rattle.sf_behaviour.proofs.Common.{same_from_bits_below, ◌≡◌, ℕ, zero, suc, ◌<◌, List, length, length-set, replicate, Option, Some, None, refl, sym, ap, ◌∙◌, inl, inr, arith, slice_set, cases_lt, get_or-set_same, get_or-set_other, same_Some, State, start, IsRegister, register_number, next_with, slice_index_or, get_or_past, registers_of, ◌+◌, ◌-◌, ◌*◌, ◌/◌, ◌%◌, ◌≤◌, ◌==◌, ◌^◌, true, [], ◌∷◌, ap₂, map, slice_index, if◌then◌else◌, bit_at, pow-suc, bit_at-lt, bit_at_cat_low, Input, Tree, Leaf, Fork, Bits, IsOrderedFrom, tree_at, input_by, register_by, with_register, IsTruthOf, range_with_len, get_or-map-range_with_len, IsOrderedTree, input_first, input_number, register_first, register_bit, length-map, agree_below_at, eqb-true, same_number_lists, length-range_with_len, IsInput, places_of_words, words_in_order, input_bits, nat_tests}
+use Rattle.sf_behaviour.proofs.Common.{◌≡◌, ℕ, zero, suc, ◌<◌, List, length, length-set, replicate, Option, Some, None, refl, sym, ap, ◌∙◌, arith, slice_set, get_or-set_same, get_or-set_other, same_Some, State, start, IsRegister, register_number, next_with, slice_index_or, get_or_past, registers_of, ◌+◌, ◌-◌, ◌*◌, ◌/◌, ◌%◌, ◌≤◌, ◌==◌, ◌^◌, bit_at, Tree, Leaf, Fork, Bits, IsOrderedFrom, tree_at, input_by, register_by, with_register, IsTruthOf, IsOrderedTree, register_first, register_bit, nat_tests}
 use Rattle.sf_behaviour.specs.InputBits.{number_by}
-use Rattle.sf_behaviour.proofs.BitLemmas.{if-small, literal-truth}
-use Rattle.sf_behaviour.proofs.words.WordLemmas.{top-bit}
+use Rattle.sf_behaviour.specs.laws.InputLaws.{input_by-same, number_by-bit, number_by-is, number_by-same}
+use Rattle.sf_behaviour.proofs.BitLemmas.{literal-truth}
 
 module _ {B : Type 0} where
   -- what stands in a list stands within it
@@ -48,34 +48,6 @@ start-there r n e = some-within (registers_of start) r n e
 
 -- ---- numbers by variables
 
--- variables that agree make one number
-pub number_by-same : (first distance n : ℕ) (a b : Bits)
-    → ((i : ℕ) → i < n → a (first + distance * (31 - i)) ≡ b (first + distance * (31 - i)))
-    → number_by first distance n a ≡ number_by first distance n b
-unfolding number_by
-number_by-same first distance zero a b same = refl
-number_by-same first distance (suc n) a b same =
-    grind (arith, same n (omega arith), number_by-same first distance n a b (λ i l. same i (omega arith)))
-
-pub number_by-small : (first distance n : ℕ) (bits : Bits) → number_by first distance n bits < 2 ^ n
-unfolding number_by
-number_by-small first distance zero bits = omega arith
-number_by-small first distance (suc n) bits =
-    grind (arith, pow-suc 2 n, number_by-small first distance n bits)
-
--- a bit of the number is its variable
-number_by-bit : (first distance n : ℕ) (bits : Bits) (i : ℕ) → i < n
-    → bit_at (number_by first distance n bits) i ≡ (if bits (first + distance * (31 - i)) then 1 else 0)
-unfolding number_by
-number_by-bit first distance zero bits i l = absurd (omega arith)
-number_by-bit first distance (suc n) bits i l =
-    let x : ℕ = if bits (first + distance * (31 - n)) then 1 else 0 in
-    let low : ℕ = number_by first distance n bits in
-    let small = if-small (bits (first + distance * (31 - n))) in
-    let top = top-bit x n low small (number_by-small first distance n bits) in
-    let later = number_by-bit first distance n bits i in
-    grind (arith, bit_at_cat_low x n low i, later, top)
-
 -- a variable is that bit of the number
 pub variable-truth : (first distance n : ℕ) (ts : List Tree) (id : ℕ) → n < 32 → id < length ts
     → tree_at ts id ≡ Fork (first + distance * (31 - n)) (Leaf 0) (Leaf 1)
@@ -83,31 +55,6 @@ pub variable-truth : (first distance n : ℕ) (ts : List Tree) (id : ℕ) → n 
 variable-truth first distance n ts id l within e =
     let h = literal-truth ts id (first + distance * (31 - n)) within e in
     record { truth = h.truth; values = λ bits. h.values bits ∙ sym (number_by-bit first distance 32 bits n l) }
-
--- the bits of a number make the number
-pub number_by-is : (first distance m : ℕ) (bits : Bits) → m < 2 ^ 32
-    → ((i : ℕ) → i < 32 → bits (first + distance * (31 - i)) ≡ (bit_at m i == 1)) → number_by first distance 32 bits ≡ m
-number_by-is first distance m bits small is =
-    same_from_bits_below 32 (number_by first distance 32 bits) m (number_by-small first distance 32 bits) small
-    (λ i l. grind (arith, nat_tests, number_by-bit first distance 32 bits i l, is i l, bit_at-lt m i))
-
--- ---- words of the input
-
-pub input-word : (bits : Bits) (w : ℕ) → w < 16 → slice_index (input_by bits).words w ≡ input_number bits w
-input-word bits w l = get_or-map-range_with_len (input_number bits) 0 16 w w 0 l (omega arith)
-
-map-same : (f g : ℕ → ℕ) (xs : List ℕ) → ((x : ℕ) → f x ≡ g x) → map f xs ≡ map g xs
-map-same f g [] same = refl
-map-same f g (x ∷ xs) same = grind (arith, same x, map-same f g xs same)
-
-abbrev pub with_words : List ℕ → Input
-with_words ws = record { words = ws }
-
--- variables that agree behind those of registers make one input
-input_by-same : (a b : Bits) → ((v : ℕ) → 576 ≤ v → a v ≡ b v) → input_by a ≡ input_by b
-input_by-same a b same =
-    ap with_words (map-same (input_number a) (input_number b) (range_with_len 0 16)
-    (λ w. number_by-same (input_first w) 1 32 a b (λ i l. same (input_first w + 1 * (31 - i)) (omega arith))))
 
 -- ---- ordered trees
 
@@ -164,41 +111,5 @@ with-register-other r q n bits ne =
 -- nor is the input
 pub with-register-input : (r n : ℕ) (bits : Bits) → IsRegister r → input_by (with_register r n bits) ≡ input_by bits
 with-register-input r n bits there =
-    input_by-same (with_register r n bits) bits (λ v l. with-other r n v bits (past-registers r v there l))
-
--- ---- inputs by variables
-
-word-at-place : (w : ℕ) → w < 16 → slice_index words_in_order (slice_index places_of_words w) ≡ w
-word-at-place w l = eqb-true _ w
-    (agree_below_at (λ n. slice_index words_in_order (slice_index places_of_words n) == n) (λ n. true) 16 w refl l)
-
--- a variable of a word is that bit of the word
-input-bit : (d : Input) (w i : ℕ) → w < 16 → i < 32
-    → input_bits d (input_first w + 1 * (31 - i)) ≡ (bit_at (slice_index d.words w) i == 1)
-input-bit d w i lw li =
-    ap₂ (λ (m j : ℕ). bit_at (slice_index d.words (slice_index words_in_order m)) j == 1) (omega arith) (omega arith)
-    ∙ ap (λ (m : ℕ). bit_at (slice_index d.words m) i == 1) (word-at-place w lw)
-
-number-of-word : (d : Input) (w : ℕ) → IsInput d → w < 16 → input_number (input_bits d) w ≡ slice_index d.words w
-number-of-word d w h l =
-    number_by-is (input_first w) 1 (slice_index d.words w) (input_bits d) (h.each w) (λ i li. input-bit d w i l li)
-
--- some variables make an input
-pub input-is : (bits : Bits) → IsInput (input_by bits)
-input-is bits = record {
-  sixteen = long;
-  each = λ i. elim (cases_lt i 16) [
-    | inl l ↦ rw (input-word bits i l) (number_by-small (input_first i) 1 32 bits)
-    | inr g ↦ rw (get_or_past (input_by bits).words i 0 (omega (arith, g, long))) (omega arith)
-  ];
-}
-  where
-    long : length (input_by bits).words ≡ 16
-    long = length-map (range_with_len 0 16) (input_number bits) ∙ length-range_with_len 0 16
-
--- the variables of an input are those of no other one
-pub input-back : (d : Input) → IsInput d → input_by (input_bits d) ≡ d
-input-back d h =
-    ap with_words (same_number_lists (input_by (input_bits d)).words d.words
-    ((input-is (input_bits d)).sixteen ∙ sym h.sixteen)
-    (λ k l. input-word (input_bits d) k (omega arith) ∙ number-of-word d k h (omega arith)))
+    input_by-same (with_register r n bits) bits
+    (λ p l. with-other r n (576 + p) bits (past-registers r (576 + p) there (omega arith)))

@@ -7,3 +7,4 @@ pub mod Effects
 pub mod Telling
 pub mod Replacing
 pub mod Answering
+pub mod laws

@@ -1,7 +1,13 @@
 -- Words that depend on the input, as diagrams of their bits.
-use Rattle.std.specs.Prelude.{◌≡◌, ℕ, ◌+◌, ◌*◌, ◌<◌, List, [], ◌∷◌, length, slice_index}
+use Rattle.std.specs.Prelude.{◌≡◌, ℕ, ◌+◌, ◌*◌, ◌<◌, List, [], ◌∷◌, length, slice_index, Result, IfErr}
 use Rattle.sf_diagram.specs.Trees.{Tree, Bits, value}
-use Rattle.sf_diagram.specs.Stores.{tree_at}
+use Rattle.sf_diagram.specs.Stores.{StoreData, KeepsStore, IsFull, tree_at}
+use Rattle.sf_diagram.specs.declared.fault.Fault.{Fault}
+use Rattle.sf_diagram.specs.declared.fault.Fault.TheVariants.{Spent}
+
+-- what a call does to a store: each node stays, and there is no room for more where it fails with `Spent`
+abbrev pub Grows : {T : Type 0} → Result T Fault → StoreData → StoreData → Type 0
+Grows result old new = KeepsStore old new × IfErr result (λ e. e ≡ Spent → IsFull new)
 
 -- the number whose bits the diagrams are on an input, the lowest bit first
 abbrev pub word_value : List Tree → List ℕ → Bits → ℕ

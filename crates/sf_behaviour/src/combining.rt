@@ -1,9 +1,9 @@
 //! Operations on words, bit by bit.
 
-ghost use Rattle.std.specs.Prelude.{◌≡◌, IfOk, IfErr};
+ghost use Rattle.std.specs.Prelude.{IfOk};
 ghost use Rattle.sf_diagram.specs.Trees.{value};
-ghost use Rattle.sf_diagram.specs.Stores.{tree_at, KeepsStore, IsFull};
-ghost use Rattle.sf_behaviour.specs.Words.{word_value, IsTruth, IsTruthOf, IsWord, IsWordOf};
+ghost use Rattle.sf_diagram.specs.Stores.{tree_at};
+ghost use Rattle.sf_behaviour.specs.Words.{word_value, IsTruth, IsTruthOf, IsWord, IsWordOf, Grows};
 ghost use Rattle.sf_behaviour.specs.Combining.{combined, IsBitwise};
 
 use crate::truths::{differ, pick};
@@ -32,8 +32,7 @@ pub(crate) fn combine_bits(store: &mut Store, operation: Bitwise, a: Id, b: Id) 
         (λ bits. combined store.old.trees bits
         operation (value (tree_at store.old.trees a) bits)
         (value (tree_at store.old.trees b) bits))) }
-    ensures keeps { KeepsStore store.old store.new }
-    ensures spent { IfErr result (λ e. e ≡ Fault.Spent → IsFull store.new) }
+    ensures store { Grows result store.old store.new }
 {
     match operation {
         Bitwise::And => pick(store, b, a, b),
@@ -57,8 +56,7 @@ pub(crate) fn combine(
         (λ bits. combined store.old.trees bits
         operation (word_value store.old.trees a.now.bits bits)
         (word_value store.old.trees b.now.bits bits))) }
-    ensures keeps { KeepsStore store.old store.new }
-    ensures spent { IfErr result (λ e. e ≡ Fault.Spent → IsFull store.new) }
+    ensures store { Grows result store.old store.new }
 {
     let mut bits: [Id; 32] = [0; 32];
     for i in 0..32 {

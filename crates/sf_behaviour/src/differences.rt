@@ -1,11 +1,11 @@
 //! Differences and sums of words.
 
-ghost use Rattle.std.specs.Prelude.{◌≡◌, ◌+◌, ◌*◌, IfOk, IfErr};
+ghost use Rattle.std.specs.Prelude.{◌≡◌, ◌+◌, ◌*◌, IfOk};
 ghost use Rattle.sf_insn.specs.Words.{apply, negation_of};
 ghost use Rattle.sf_insn.specs.declared.ops.BinOp.TheVariants.{Add, Sub};
 ghost use Rattle.sf_diagram.specs.Trees.{Bits, value};
-ghost use Rattle.sf_diagram.specs.Stores.{tree_at, KeepsStore, IsFull};
-ghost use Rattle.sf_behaviour.specs.Words.{word_value, IsTruth, IsWord, IsWordOf};
+ghost use Rattle.sf_diagram.specs.Stores.{tree_at};
+ghost use Rattle.sf_behaviour.specs.Words.{word_value, IsTruth, IsWord, IsWordOf, Grows};
 
 use crate::truths::{differ, pick};
 use crate::words::{Word, constant_word};
@@ -22,8 +22,7 @@ fn difference_bit(store: &mut Store, a: Id, b: Id, borrowed: Id) -> Result<(Id, 
     ensures value { IfOk result (λ p. (bits : Bits) → value (tree_at store.new.trees p.0) bits
         + value (tree_at store.old.trees b) bits + value (tree_at store.old.trees borrowed) bits
         ≡ value (tree_at store.old.trees a) bits + 2 * value (tree_at store.new.trees p.1) bits) }
-    ensures keeps { KeepsStore store.old store.new }
-    ensures spent { IfErr result (λ e. e ≡ Fault.Spent → IsFull store.new) }
+    ensures store { Grows result store.old store.new }
 {
     let half = differ(store, a, b)?;
     let bit = differ(store, half, borrowed)?;
@@ -38,8 +37,7 @@ pub(crate) fn difference(store: &mut Store, a: &Word, b: &Word) -> Result<Word, 
     ensures word { IfOk result (λ w. IsWordOf store.new.trees w.bits (λ bits. apply Sub
         (word_value store.old.trees a.now.bits bits)
         (word_value store.old.trees b.now.bits bits))) }
-    ensures keeps { KeepsStore store.old store.new }
-    ensures spent { IfErr result (λ e. e ≡ Fault.Spent → IsFull store.new) }
+    ensures store { Grows result store.old store.new }
 {
     let mut borrowed = store.leaf(0)?;
     let mut bits: [Id; 32] = [0; 32];
@@ -56,8 +54,7 @@ pub(crate) fn negation(store: &mut Store, a: &Word) -> Result<Word, Fault>
     requires { IsWord store.old.trees a.now.bits }
     ensures word { IfOk result (λ w. IsWordOf store.new.trees w.bits
         (λ bits. negation_of (word_value store.old.trees a.now.bits bits))) }
-    ensures keeps { KeepsStore store.old store.new }
-    ensures spent { IfErr result (λ e. e ≡ Fault.Spent → IsFull store.new) }
+    ensures store { Grows result store.old store.new }
 {
     let zero = constant_word(store, 0)?;
     Ok(difference(store, &zero, a)?)
@@ -70,8 +67,7 @@ pub(crate) fn sum(store: &mut Store, a: &Word, b: &Word) -> Result<Word, Fault>
     ensures word { IfOk result (λ w. IsWordOf store.new.trees w.bits (λ bits. apply Add
         (word_value store.old.trees a.now.bits bits)
         (word_value store.old.trees b.now.bits bits))) }
-    ensures keeps { KeepsStore store.old store.new }
-    ensures spent { IfErr result (λ e. e ≡ Fault.Spent → IsFull store.new) }
+    ensures store { Grows result store.old store.new }
 {
     let minus = negation(store, b)?;
     Ok(difference(store, a, &minus)?)

@@ -1,13 +1,12 @@
 //! What instructions do, by the registers that they set.
 
-ghost use Rattle.std.specs.Prelude.{◌≡◌, IfOk, IfErr};
+ghost use Rattle.std.specs.Prelude.{◌≡◌, IfOk};
 ghost use Rattle.sf_insn.specs.Words.{apply};
 ghost use Rattle.sf_check.specs.Insns.{IsInRange};
-ghost use Rattle.sf_diagram.specs.Stores.{KeepsStore, IsFull};
 ghost use Rattle.sf_behaviour.specs.Registers.{IsRegister};
 ghost use Rattle.sf_behaviour.specs.Knowledge.{held_in, IsKnowledge};
 ghost use Rattle.sf_behaviour.specs.Effects.{divides, operand_in, source_in, IsEffectOf, IsSource};
-ghost use Rattle.sf_behaviour.specs.Words.{word_value, IsWord, IsWordOf};
+ghost use Rattle.sf_behaviour.specs.Words.{word_value, IsWord, IsWordOf, Grows};
 
 use crate::combining::{Bitwise, combine};
 use crate::differences::{difference, negation, sum};
@@ -84,8 +83,7 @@ fn operate(store: &mut Store, op: BinOp, a: &Word, b: &Word) -> Result<Word, Fau
     ensures word { IfOk result (λ w. IsWordOf store.new.trees w.bits (λ bits. apply op
         (word_value store.old.trees a.now.bits bits)
         (word_value store.old.trees b.now.bits bits))) }
-    ensures keeps { KeepsStore store.old store.new }
-    ensures spent { IfErr result (λ e. e ≡ Fault.Spent → IsFull store.new) }
+    ensures store { Grows result store.old store.new }
 {
     match op {
         BinOp::Add => sum(store, a, b),
@@ -106,8 +104,7 @@ pub(crate) fn held_word(store: &mut Store, known: &Known, register: Register) ->
     requires known { IsKnowledge store.old.trees known.now }
     ensures word { IfOk result (λ w. IsWordOf store.new.trees w.bits
         (λ bits. held_in store.old.trees known.now bits register)) }
-    ensures keeps { KeepsStore store.old store.new }
-    ensures spent { IfErr result (λ e. e ≡ Fault.Spent → IsFull store.new) }
+    ensures store { Grows result store.old store.new }
 {
     match word_of(known, register) {
         Some(word) => Ok(word),
@@ -120,8 +117,7 @@ fn operand_word(store: &mut Store, known: &Known, other: Operand) -> Result<Word
     requires { IsKnowledge store.old.trees known.now }
     ensures word { IfOk result (λ w. IsWordOf store.new.trees w.bits
         (λ bits. operand_in store.old.trees known.now bits other)) }
-    ensures keeps { KeepsStore store.old store.new }
-    ensures spent { IfErr result (λ e. e ≡ Fault.Spent → IsFull store.new) }
+    ensures store { Grows result store.old store.new }
 {
     match other {
         Operand::Constant(k) => constant_word(store, k),
@@ -142,8 +138,7 @@ pub(crate) fn held_words(
         (λ bits. held_in store.old.trees known.now bits register)) }
     ensures second { IfOk result (λ p. IsWordOf store.new.trees p.1.bits
         (λ bits. operand_in store.old.trees known.now bits other)) }
-    ensures keeps { KeepsStore store.old store.new }
-    ensures spent { IfErr result (λ e. e ≡ Fault.Spent → IsFull store.new) }
+    ensures store { Grows result store.old store.new }
 {
     let a = held_word(store, known, register)?;
     let b = operand_word(store, known, other)?;
@@ -156,8 +151,7 @@ pub(crate) fn source_word(store: &mut Store, known: &Known, source: Source) -> R
     requires known { IsKnowledge store.old.trees known.now }
     ensures word { IfOk result (λ w. IsWordOf store.new.trees w.bits
         (λ bits. source_in store.old.trees known.now bits source)) }
-    ensures keeps { KeepsStore store.old store.new }
-    ensures spent { IfErr result (λ e. e ≡ Fault.Spent → IsFull store.new) }
+    ensures store { Grows result store.old store.new }
 {
     match source {
         Source::Constant(k) => constant_word(store, k),

@@ -1,14 +1,14 @@
 //! How places come to be known, from the first on.
 
-ghost use Rattle.std.specs.Prelude.{◌≡◌, ◌<◌, true, [], ◌∷◌, Some, length, IfOk, IfErr};
+ghost use Rattle.std.specs.Prelude.{◌≡◌, ◌<◌, true, [], ◌∷◌, Some, length, IfOk};
 ghost use Rattle.sf_check.specs.Insns.{IsInRange};
 ghost use Rattle.sf_check.specs.Programs.{IsLawfulProgram};
 ghost use Rattle.sf_diagram.specs.Trees.{IsOrderedFrom};
-ghost use Rattle.sf_diagram.specs.Stores.{tree_at, KeepsStore, IsFull};
+ghost use Rattle.sf_diagram.specs.Stores.{tree_at};
 ghost use Rattle.sf_behaviour.specs.Knowledge.{IsInputWord, IsKnowledge};
 ghost use Rattle.sf_behaviour.specs.Effects.{places_after, source_in, IsEffect, IsSource};
 ghost use Rattle.sf_behaviour.specs.Telling.{insns_of, AreSteps, IsAfter, IsCarried, IsStep};
-ghost use Rattle.sf_behaviour.specs.Words.{IsWord, IsWordOf};
+ghost use Rattle.sf_behaviour.specs.Words.{IsWord, IsWordOf, Grows};
 ghost use Rattle.sf_behaviour.specs.declared.words.Word.{Word as AWord};
 
 use crate::effects::{Effect, Source, effect_of, source_word};
@@ -52,8 +52,7 @@ fn fixed_word(store: &mut Store, known: &Known, source: Source) -> Result<Option
         → IsInputWord store.new.trees w.bits
         × IsWordOf store.new.trees w.bits
         (λ bits. source_in store.old.trees known.now bits source)) }
-    ensures keeps { KeepsStore store.old store.new }
-    ensures spent { IfErr result (λ e. e ≡ Fault.Spent → IsFull store.new) }
+    ensures store { Grows result store.old store.new }
 {
     let word = source_word(store, known, source)?;
     if is_input_word(store, &word) {
@@ -68,8 +67,7 @@ fn known_after(store: &mut Store, known: &Known, effect: Effect) -> Result<Known
     requires known { IsKnowledge store.old.trees known.now }
     requires there { IsEffect effect }
     ensures after { IfOk result (IsAfter store.new.trees known.now effect) }
-    ensures keeps { KeepsStore store.old store.new }
-    ensures spent { IfErr result (λ e. e ≡ Fault.Spent → IsFull store.new) }
+    ensures store { Grows result store.old store.new }
 {
     match effect {
         Effect::Sets(register, source) => {
@@ -91,8 +89,7 @@ fn step_of(store: &mut Store, insn: Insn, known: Known) -> Result<Step, Fault>
     ensures step { IfOk result (λ s. IsStep store.new.trees s) }
     ensures insn { IfOk result (λ s. s.insn ≡ insn) }
     ensures known { IfOk result (λ s. s.known ≡ known) }
-    ensures keeps { KeepsStore store.old store.new }
-    ensures spent { IfErr result (λ e. e ≡ Fault.Spent → IsFull store.new) }
+    ensures store { Grows result store.old store.new }
 {
     let effect = effect_of(&insn);
     let after = known_after(store, &known, effect)?;
@@ -142,8 +139,7 @@ pub(crate) fn forward_steps(
     requires { IsLawfulProgram insns.now }
     ensures code { IfOk result (λ v. insns_of v.items ≡ insns.now) }
     ensures steps { IfOk result (λ v. AreSteps store.new.trees v.items) }
-    ensures keeps { KeepsStore store.old store.new }
-    ensures spent { IfErr result (λ e. e ≡ Fault.Spent → IsFull store.new) }
+    ensures store { Grows result store.old store.new }
 {
     let zero = constant_word(store, 0)?;
     let start: Known = [Some(zero); 18];

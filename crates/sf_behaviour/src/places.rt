@@ -1,16 +1,16 @@
 //! What runs return that go on from a place, as diagrams.
 
-ghost use Rattle.std.specs.Prelude.{◌≡◌, ◌==◌, ◌&&◌, ◌<◌, ◌^◌, ℕ, List, None, Some, length, slice_set, if◌then◌else◌, IfOk, IfErr, OnOk};
+ghost use Rattle.std.specs.Prelude.{◌≡◌, ◌==◌, ◌&&◌, ◌<◌, ◌^◌, ℕ, List, None, Some, length, slice_set, if◌then◌else◌, IfOk, OnOk};
 ghost use Rattle.sf_insn.specs.Words.{passes};
 ghost use Rattle.sf_check.specs.declared.insn.Insn.{Insn as AnInsn};
 ghost use Rattle.sf_diagram.specs.Trees.{Bits, value};
-ghost use Rattle.sf_diagram.specs.Stores.{tree_at, KeepsStore, IsFull};
+ghost use Rattle.sf_diagram.specs.Stores.{tree_at};
 ghost use Rattle.sf_behaviour.specs.Registers.{X as TheX, IsRegister};
 ghost use Rattle.sf_behaviour.specs.Replacing.{IsReplaced};
 ghost use Rattle.sf_behaviour.specs.Knowledge.{known_word, held_in, IsKnowledge, IsLess};
 ghost use Rattle.sf_behaviour.specs.Effects.{divides, operand_in, source_in, IsSource};
 ghost use Rattle.sf_behaviour.specs.Telling.{insns_of, IsNext, IsPlace, Tells};
-ghost use Rattle.sf_behaviour.specs.Words.{IsDiagramOf, IsTruthOf};
+ghost use Rattle.sf_behaviour.specs.Words.{IsDiagramOf, IsTruthOf, Grows};
 
 use crate::effects::{Effect, Source, held_words, is_quotient, source_word};
 use crate::knowing::{Known, word_of};
@@ -45,8 +45,7 @@ fn learn_register(
     ensures tells { IfOk result (λ new. (code : List AnInsn) (place : ℕ)
         → Tells code place store.old.trees known.old id
         → Tells code place store.new.trees known.new new) }
-    ensures keeps { KeepsStore store.old store.new }
-    ensures spent { IfErr result (λ e. e ≡ Fault.Spent → IsFull store.new) }
+    ensures store { Grows result store.old store.new }
 {
     match word_of(known, register) {
         Some(_) => Ok(id),
@@ -70,8 +69,7 @@ fn learn(alloc: Global, store: &mut Store, known: &Known, more: &Known, id: Id) 
     ensures tells { IfOk result (λ new. (code : List AnInsn) (place : ℕ)
         → Tells code place store.old.trees known.now id
         → Tells code place store.new.trees more.now new) }
-    ensures keeps { KeepsStore store.old store.new }
-    ensures spent { IfErr result (λ e. e ≡ Fault.Spent → IsFull store.new) }
+    ensures store { Grows result store.old store.new }
 {
     let mut so_far = *known;
     let mut learnt = id;
@@ -98,8 +96,7 @@ fn set_diagram(
         (λ bits. source_in store.old.trees known.now bits source) next id) }
     ensures small { IfOk result (λ id. (bits : Bits)
         → source_in store.old.trees known.now bits source < 2 ^ 32) }
-    ensures keeps { KeepsStore store.old store.new }
-    ensures spent { IfErr result (λ e. e ≡ Fault.Spent → IsFull store.new) }
+    ensures store { Grows result store.old store.new }
 {
     let by = source_word(store, known, source)?;
     Ok(replace(alloc, store, register, &by, next)?)
@@ -118,8 +115,7 @@ fn test_diagram(
     ensures truth { IfOk result (λ id. IsTruthOf store.new.trees id (λ bits.
         if passes test (held_in store.old.trees known.now bits register)
         (operand_in store.old.trees known.now bits operand) then 1 else 0)) }
-    ensures keeps { KeepsStore store.old store.new }
-    ensures spent { IfErr result (λ e. e ≡ Fault.Spent → IsFull store.new) }
+    ensures store { Grows result store.old store.new }
 {
     let (a, b) = held_words(store, known, register, operand)?;
     Ok(test_words(store, test, &a, &b)?)
@@ -132,8 +128,7 @@ fn guarded_diagram(store: &mut Store, known: &Known, source: Source, id: Id) -> 
     ensures values { IfOk result (λ new. IsDiagramOf store.new.trees new (λ bits.
         if divides source && (held_in store.old.trees known.now bits TheX == 0) then 0
         else value (tree_at store.old.trees id) bits)) }
-    ensures keeps { KeepsStore store.old store.new }
-    ensures spent { IfErr result (λ e. e ≡ Fault.Spent → IsFull store.new) }
+    ensures store { Grows result store.old store.new }
 {
     if !is_quotient(source) {
         return Ok(id);
@@ -153,8 +148,7 @@ fn source_diagram(store: &mut Store, known: &Known, source: Source) -> Result<Id
         (λ bits. source_in store.old.trees known.now bits source)) }
     ensures small { IfOk result (λ id. (bits : Bits)
         → value (tree_at store.new.trees id) bits < 2 ^ 32) }
-    ensures keeps { KeepsStore store.old store.new }
-    ensures spent { IfErr result (λ e. e ≡ Fault.Spent → IsFull store.new) }
+    ensures store { Grows result store.old store.new }
 {
     match source {
         Source::Constant(number) => Ok(store.leaf(number as u64)?),
@@ -178,8 +172,7 @@ fn diagram_behind(
     requires { IsNext store.old.trees steps.now.items ids.now.items from.now place }
     ensures tells { IfOk result
         (λ id. Tells (insns_of steps.now.items) place store.new.trees from.now.after id) }
-    ensures keeps { KeepsStore store.old store.new }
-    ensures spent { IfErr result (λ e. e ≡ Fault.Spent → IsFull store.new) }
+    ensures store { Grows result store.old store.new }
 {
     let step = step_at(steps, place);
     Ok(learn(alloc, store, &step.known, &from.after, id_at(ids, place))?)
@@ -197,8 +190,7 @@ pub(crate) fn diagram_of_place(
     requires { IsPlace store.old.trees steps.now.items ids.now.items place step.now }
     ensures tells { IfOk result
         (λ id. Tells (insns_of steps.now.items) place store.new.trees step.now.known id) }
-    ensures keeps { KeepsStore store.old store.new }
-    ensures spent { IfErr result (λ e. e ≡ Fault.Spent → IsFull store.new) }
+    ensures store { Grows result store.old store.new }
 {
     match step.effect {
         Effect::Sets(register, source) => {

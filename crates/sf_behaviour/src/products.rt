@@ -1,10 +1,9 @@
 //! Products of words.
 
-ghost use Rattle.std.specs.Prelude.{◌≡◌, IfOk, IfErr};
+ghost use Rattle.std.specs.Prelude.{IfOk};
 ghost use Rattle.sf_insn.specs.Words.{apply};
 ghost use Rattle.sf_insn.specs.declared.ops.BinOp.TheVariants.{Mul};
-ghost use Rattle.sf_diagram.specs.Stores.{KeepsStore, IsFull};
-ghost use Rattle.sf_behaviour.specs.Words.{word_value, IsWord, IsWordOf};
+ghost use Rattle.sf_behaviour.specs.Words.{word_value, IsWord, IsWordOf, Grows};
 
 use crate::combining::{Bitwise, combine};
 use crate::differences::sum;
@@ -19,8 +18,7 @@ pub(crate) fn product(store: &mut Store, a: &Word, b: &Word) -> Result<Word, Fau
     ensures word { IfOk result (λ w. IsWordOf store.new.trees w.bits (λ bits. apply Mul
         (word_value store.old.trees a.now.bits bits)
         (word_value store.old.trees b.now.bits bits))) }
-    ensures keeps { KeepsStore store.old store.new }
-    ensures spent { IfErr result (λ e. e ≡ Fault.Spent → IsFull store.new) }
+    ensures store { Grows result store.old store.new }
 {
     let none = constant_word(store, 0)?;
     let mut total = none;

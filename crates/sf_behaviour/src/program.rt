@@ -1,11 +1,11 @@
 //! What programs return, as diagrams.
 
-ghost use Rattle.std.specs.Prelude.{◌≡◌, ◌<◌, ◌^◌, IfOk, IfErr};
+ghost use Rattle.std.specs.Prelude.{◌<◌, ◌^◌, IfOk};
 ghost use Rattle.sf_diagram.specs.Trees.{Bits, value};
-ghost use Rattle.sf_diagram.specs.Stores.{tree_at, KeepsStore, IsFull};
+ghost use Rattle.sf_diagram.specs.Stores.{tree_at};
 ghost use Rattle.sf_run.specs.Machine.{return_of};
 ghost use Rattle.sf_behaviour.specs.InputBits.{input_by};
-ghost use Rattle.sf_behaviour.specs.Words.{IsDiagramOf};
+ghost use Rattle.sf_behaviour.specs.Words.{IsDiagramOf, Grows};
 
 use crate::forward::forward_steps;
 use crate::places::diagram_of_place;
@@ -21,8 +21,7 @@ pub(crate) fn returned(alloc: Global, store: &mut Store, program: &Program) -> R
         (λ id. IsDiagramOf store.new.trees id (λ bits. return_of program.now (input_by bits))) }
     ensures small { IfOk result
         (λ id. (bits : Bits) → value (tree_at store.new.trees id) bits < 2 ^ 32) }
-    ensures keeps { KeepsStore store.old store.new }
-    ensures spent { IfErr result (λ e. e ≡ Fault.Spent → IsFull store.new) }
+    ensures store { Grows result store.old store.new }
 {
     let steps = forward_steps(alloc, store, program.insns())?;
     let mut ids: Vec<Id> = vec![in alloc; 0; steps.len()]?;

@@ -1,11 +1,11 @@
 //! Quotients of words.
 
-ghost use Rattle.std.specs.Prelude.{◌≡◌, ◌<◌, ◌*◌, ◌^◌, ℕ, IfOk, IfErr};
+ghost use Rattle.std.specs.Prelude.{◌<◌, ◌*◌, ◌^◌, ℕ, IfOk};
 ghost use Rattle.sf_insn.specs.Words.{apply};
 ghost use Rattle.sf_insn.specs.declared.ops.BinOp.TheVariants.{Div};
 ghost use Rattle.sf_diagram.specs.Trees.{Bits, value};
-ghost use Rattle.sf_diagram.specs.Stores.{tree_at, KeepsStore, IsFull};
-ghost use Rattle.sf_behaviour.specs.Words.{word_value, IsTruth, IsTruthOf, IsWord, IsWordOf};
+ghost use Rattle.sf_diagram.specs.Stores.{tree_at};
+ghost use Rattle.sf_behaviour.specs.Words.{word_value, IsTruth, IsTruthOf, IsWord, IsWordOf, Grows};
 ghost use Rattle.sf_behaviour.specs.Combining.{IsDigit};
 
 use crate::combining::{Bitwise, combine};
@@ -34,8 +34,7 @@ fn divide_bit(
         → (bits : Bits) → word_value store.old.trees rest.now.bits bits < 2 * (f bits * 2 ^ bit)
         → IsDigit (word_value store.old.trees rest.now.bits bits) (f bits * 2 ^ bit)
         (value (tree_at store.new.trees p.0) bits) (word_value store.new.trees p.1.bits bits)) }
-    ensures keeps { KeepsStore store.old store.new }
-    ensures spent { IfErr result (λ e. e ≡ Fault.Spent → IsFull store.new) }
+    ensures store { Grows result store.old store.new }
 {
     let high = move_bits(Direction::Right, rest, bit, zero);
     let moved = move_bits(Direction::Left, b, bit, zero);
@@ -52,8 +51,7 @@ pub(crate) fn quotient(store: &mut Store, a: &Word, b: &Word) -> Result<Word, Fa
     ensures word { IfOk result (λ w. IsWordOf store.new.trees w.bits (λ bits. apply Div
         (word_value store.old.trees a.now.bits bits)
         (word_value store.old.trees b.now.bits bits))) }
-    ensures keeps { KeepsStore store.old store.new }
-    ensures spent { IfErr result (λ e. e ≡ Fault.Spent → IsFull store.new) }
+    ensures store { Grows result store.old store.new }
 {
     let none = constant_word(store, 0)?;
     let mut rest = *a;

@@ -1,9 +1,8 @@
 //! The registers of a run, and their bits as variables.
 
-ghost use Rattle.std.specs.Prelude.{◌≡◌, ◌<◌, IfOk, IfErr};
-ghost use Rattle.sf_diagram.specs.Stores.{KeepsStore, IsFull};
+ghost use Rattle.std.specs.Prelude.{◌≡◌, ◌<◌, IfOk};
 ghost use Rattle.sf_behaviour.specs.Registers.{register_by, register_first, IsRegister};
-ghost use Rattle.sf_behaviour.specs.Words.{IsWordOf};
+ghost use Rattle.sf_behaviour.specs.Words.{IsWordOf, Grows};
 
 use crate::words::{Word, variable_word};
 use sf_diagram::{Fault, Store};
@@ -34,8 +33,7 @@ pub(crate) fn register_word(store: &mut Store, register: Register) -> Result<Wor
     requires { IsRegister register }
     ensures word { IfOk result
         (λ w. IsWordOf store.new.trees w.bits (λ bits. register_by register bits)) }
-    ensures keeps { KeepsStore store.old store.new }
-    ensures spent { IfErr result (λ e. e ≡ Fault.Spent → IsFull store.new) }
+    ensures store { Grows result store.old store.new }
 {
     Ok(variable_word(store, first_variable_of(register), 2)?)
 }

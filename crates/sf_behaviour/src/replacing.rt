@@ -1,9 +1,8 @@
 //! Diagrams in which a word stands in the place of a register.
 
-ghost use Rattle.std.specs.Prelude.{◌≡◌, ◌≤◌, ◌<◌, ℕ, length, OnOk, IfOk, IfErr, IfSome, if◌then◌else◌};
+ghost use Rattle.std.specs.Prelude.{◌≡◌, ◌≤◌, ◌<◌, ℕ, length, OnOk, IfOk, IfSome, if◌then◌else◌};
 ghost use Rattle.sf_diagram.specs.Trees.{Bits};
-ghost use Rattle.sf_diagram.specs.Stores.{KeepsStore, IsFull};
-ghost use Rattle.sf_behaviour.specs.Words.{IsTruthOf, IsWord, IsWordOf};
+ghost use Rattle.sf_behaviour.specs.Words.{IsTruthOf, IsWord, IsWordOf, Grows};
 ghost use Rattle.sf_behaviour.specs.Registers.{register_bit, with_register, IsRegister};
 ghost use Rattle.sf_behaviour.specs.Replacing.{IsReplaced, AreReplaced};
 
@@ -42,8 +41,7 @@ fn bit_for(store: &mut Store, register: Register, by: &Word, variable: u16) -> R
         → IsWordOf store.old.trees by.now.bits f
         → IsTruthOf store.new.trees id
         (λ bits. if with_register register (f bits) bits variable then 1 else 0)) }
-    ensures keeps { KeepsStore store.old store.new }
-    ensures spent { IfErr result (λ e. e ≡ Fault.Spent → IsFull store.new) }
+    ensures store { Grows result store.old store.new }
 {
     match bit_of(register, variable) {
         Some(bit) => Ok(by.bits[bit as usize]),
@@ -74,8 +72,7 @@ fn replace_in(
         → IsReplaced register store.new.trees f id new) }
     ensures made { OnOk result ((f : Bits → ℕ) → IsWordOf store.old.trees by.now.bits f
         → AreReplaced register store.new.trees f made.new) }
-    ensures keeps { KeepsStore store.old store.new }
-    ensures spent { IfErr result (λ e. e ≡ Fault.Spent → IsFull store.new) }
+    ensures store { Grows result store.old store.new }
 {
     let (variable, lower, higher) = match store.node(id) {
         Node::Number(_) => return Ok(id),
@@ -111,8 +108,7 @@ pub(crate) fn replace(
     ensures replaced { IfOk result (λ new. (f : Bits → ℕ)
         → IsWordOf store.old.trees by.now.bits f
         → IsReplaced register store.new.trees f id new) }
-    ensures keeps { KeepsStore store.old store.new }
-    ensures spent { IfErr result (λ e. e ≡ Fault.Spent → IsFull store.new) }
+    ensures store { Grows result store.old store.new }
 {
     let mut made = BTreeMap::new(alloc);
     replace_in(store, &mut made, register, by, id)

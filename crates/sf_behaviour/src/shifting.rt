@@ -1,10 +1,9 @@
 //! Shifts of words.
 
-ghost use Rattle.std.specs.Prelude.{◌≡◌, ◌<◌, ◌≤◌, ℕ, List, IfOk, IfErr};
+ghost use Rattle.std.specs.Prelude.{◌≡◌, ◌<◌, ◌≤◌, ℕ, List, IfOk};
 ghost use Rattle.sf_insn.specs.Words.{apply};
 ghost use Rattle.sf_diagram.specs.Trees.{Tree, Bits};
-ghost use Rattle.sf_diagram.specs.Stores.{KeepsStore, IsFull};
-ghost use Rattle.sf_behaviour.specs.Words.{word_value, IsTruthOf, IsWord, IsWordOf};
+ghost use Rattle.sf_behaviour.specs.Words.{word_value, IsTruthOf, IsWord, IsWordOf, Grows};
 ghost use Rattle.sf_behaviour.specs.Combining.{moved, shift_of, shifted_by};
 
 use crate::combining::{Bitwise, combine};
@@ -64,8 +63,7 @@ pub(crate) fn shift(
     ensures word { IfOk result (λ w. IsWordOf store.new.trees w.bits (λ bits.
         apply (shift_of direction) (word_value store.old.trees word.now.bits bits)
         (word_value store.old.trees by.now.bits bits))) }
-    ensures keeps { KeepsStore store.old store.new }
-    ensures spent { IfErr result (λ e. e ≡ Fault.Spent → IsFull store.new) }
+    ensures store { Grows result store.old store.new }
 {
     let zero = store.leaf(0)?;
     let mut so_far = *word;

@@ -1,10 +1,10 @@
 //! Tests of words.
 
-ghost use Rattle.std.specs.Prelude.{◌≡◌, IfOk, IfErr, if◌then◌else◌};
+ghost use Rattle.std.specs.Prelude.{IfOk, if◌then◌else◌};
 ghost use Rattle.sf_insn.specs.Words.{passes};
 ghost use Rattle.sf_diagram.specs.Trees.{value};
-ghost use Rattle.sf_diagram.specs.Stores.{tree_at, KeepsStore, IsFull};
-ghost use Rattle.sf_behaviour.specs.Words.{word_value, IsTruth, IsTruthOf, IsWord};
+ghost use Rattle.sf_diagram.specs.Stores.{tree_at};
+ghost use Rattle.sf_behaviour.specs.Words.{word_value, IsTruth, IsTruthOf, IsWord, Grows};
 ghost use Rattle.sf_behaviour.specs.Combining.{tested_bits};
 
 use crate::combining::{Bitwise, combine_bits};
@@ -21,8 +21,7 @@ fn test_bits(store: &mut Store, test: Test, a: Id, b: Id, lower: Id) -> Result<I
     ensures truth { IfOk result (λ id. IsTruthOf store.new.trees id (λ bits. tested_bits test
         (value (tree_at store.old.trees a) bits) (value (tree_at store.old.trees b) bits)
         (value (tree_at store.old.trees lower) bits))) }
-    ensures keeps { KeepsStore store.old store.new }
-    ensures spent { IfErr result (λ e. e ≡ Fault.Spent → IsFull store.new) }
+    ensures store { Grows result store.old store.new }
 {
     match test {
         Test::Equal => {
@@ -48,8 +47,7 @@ pub(crate) fn test_words(store: &mut Store, test: Test, a: &Word, b: &Word) -> R
     ensures truth { IfOk result (λ id. IsTruthOf store.new.trees id (λ bits. if passes test
         (word_value store.old.trees a.now.bits bits) (word_value store.old.trees b.now.bits bits)
         then 1 else 0)) }
-    ensures keeps { KeepsStore store.old store.new }
-    ensures spent { IfErr result (λ e. e ≡ Fault.Spent → IsFull store.new) }
+    ensures store { Grows result store.old store.new }
 {
     let mut passed = store.leaf(if test.passes(0, 0) { 1 } else { 0 })?;
     for i in 0..32 {

@@ -1,10 +1,10 @@
 //! Diagrams that are 0 or 1 on each input.
 
-ghost use Rattle.std.specs.Prelude.{◌≡◌, bit_xor, IfOk, IfErr};
+ghost use Rattle.std.specs.Prelude.{bit_xor, IfOk};
 ghost use Rattle.sf_diagram.specs.Trees.{value};
-ghost use Rattle.sf_diagram.specs.Stores.{tree_at, KeepsStore, IsFull};
+ghost use Rattle.sf_diagram.specs.Stores.{tree_at};
 ghost use Rattle.sf_diagram.specs.Choices.{chosen_of};
-ghost use Rattle.sf_behaviour.specs.Words.{IsTruth, IsTruthOf};
+ghost use Rattle.sf_behaviour.specs.Words.{IsTruth, IsTruthOf, Grows};
 
 use sf_diagram::{Fault, Id, Operation, Store, choose, merge};
 
@@ -14,8 +14,7 @@ pub(crate) fn differ(store: &mut Store, a: Id, b: Id) -> Result<Id, Fault>
     requires b { IsTruth store.old.trees b }
     ensures truth { IfOk result (λ id. IsTruthOf store.new.trees id (λ bits. bit_xor
         (value (tree_at store.old.trees a) bits) (value (tree_at store.old.trees b) bits))) }
-    ensures keeps { KeepsStore store.old store.new }
-    ensures spent { IfErr result (λ e. e ≡ Fault.Spent → IsFull store.new) }
+    ensures store { Grows result store.old store.new }
 {
     Ok(merge(store, Operation::Different, a, b)?)
 }
@@ -28,8 +27,7 @@ pub(crate) fn pick(store: &mut Store, test: Id, taken: Id, other: Id) -> Result<
     ensures truth { IfOk result (λ id. IsTruthOf store.new.trees id (λ bits. chosen_of
         (value (tree_at store.old.trees test) bits) (value (tree_at store.old.trees taken) bits)
         (value (tree_at store.old.trees other) bits))) }
-    ensures keeps { KeepsStore store.old store.new }
-    ensures spent { IfErr result (λ e. e ≡ Fault.Spent → IsFull store.new) }
+    ensures store { Grows result store.old store.new }
 {
     Ok(choose(store, test, taken, other)?)
 }

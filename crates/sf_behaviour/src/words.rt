@@ -1,9 +1,8 @@
 //! Words as diagrams of their bits.
 
-ghost use Rattle.std.specs.Prelude.{◌≡◌, ◌+◌, ◌-◌, ◌*◌, ◌<◌, ◌≤◌, slice_index, IfOk, IfErr};
-ghost use Rattle.sf_diagram.specs.Stores.{KeepsStore, IsFull};
+ghost use Rattle.std.specs.Prelude.{◌+◌, ◌-◌, ◌*◌, ◌<◌, ◌≤◌, slice_index, IfOk};
 ghost use Rattle.sf_behaviour.specs.InputBits.{number_by, input_by};
-ghost use Rattle.sf_behaviour.specs.Words.{word_value, IsDiagramOf, IsWord, IsWordOf};
+ghost use Rattle.sf_behaviour.specs.Words.{word_value, IsDiagramOf, IsWord, IsWordOf, Grows};
 
 use crate::inputs::first_variable;
 use sf_diagram::{Fault, Id, Operation, Store, merge};
@@ -19,8 +18,7 @@ pub(crate) struct Word {
 /// The word that is the same number on each input.
 pub(crate) fn constant_word(store: &mut Store, number: u32) -> Result<Word, Fault>
     ensures word { IfOk result (λ w. IsWordOf store.new.trees w.bits (λ bits. number)) }
-    ensures keeps { KeepsStore store.old store.new }
-    ensures spent { IfErr result (λ e. e ≡ Fault.Spent → IsFull store.new) }
+    ensures store { Grows result store.old store.new }
 {
     let mut bits: [Id; 32] = [0; 32];
     for i in 0..32 {
@@ -36,8 +34,7 @@ pub(crate) fn variable_word(store: &mut Store, first: u16, distance: u16) -> Res
     requires distance { distance ≤ 2 }
     ensures word { IfOk result
         (λ w. IsWordOf store.new.trees w.bits (λ bits. number_by first distance 32 bits)) }
-    ensures keeps { KeepsStore store.old store.new }
-    ensures spent { IfErr result (λ e. e ≡ Fault.Spent → IsFull store.new) }
+    ensures store { Grows result store.old store.new }
 {
     let mut bits: [Id; 32] = [0; 32];
     for i in 0..32 {
@@ -53,8 +50,7 @@ pub(crate) fn input_word(store: &mut Store, word: usize) -> Result<Word, Fault>
     requires { word < 16 }
     ensures word { IfOk result (λ w. IsWordOf store.new.trees w.bits
         (λ bits. slice_index (input_by bits).words word)) }
-    ensures keeps { KeepsStore store.old store.new }
-    ensures spent { IfErr result (λ e. e ≡ Fault.Spent → IsFull store.new) }
+    ensures store { Grows result store.old store.new }
 {
     Ok(variable_word(store, first_variable(word), 1)?)
 }
@@ -64,8 +60,7 @@ pub(crate) fn number_diagram(store: &mut Store, word: &Word) -> Result<Id, Fault
     requires { IsWord store.old.trees word.now.bits }
     ensures number { IfOk result
         (λ id. IsDiagramOf store.new.trees id (word_value store.old.trees word.now.bits)) }
-    ensures keeps { KeepsStore store.old store.new }
-    ensures spent { IfErr result (λ e. e ≡ Fault.Spent → IsFull store.new) }
+    ensures store { Grows result store.old store.new }
 {
     let mut number = store.leaf(0)?;
     for i in 0..32 {

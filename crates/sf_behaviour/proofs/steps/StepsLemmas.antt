@@ -1,5 +1,5 @@
 -- Steps, the places to which they lead, and the diagrams of the last places.
-use Rattle.sf_behaviour.proofs.Common.{◌≡◌, ℕ, zero, suc, ◌+◌, ◌<◌, List, [], ◌∷◌, ◌++◌, length, Some, refl, sym, ap, subst, ◌∙◌, arith, Contains, slice_get, slice_index, slice_set, length-map, length-set, same_Some, Insn, IsLawfulProgram, Tree, KeepsTrees, insns_of, AreSteps, Tells, TellFrom, return_of, input_by, IsDiagramOf, places_after, IsEffectOf, Known, IsKnowledge, Step, Effect, Sets, ◌⊎◌, slice_get-get_or, slice_get_within, get_or_from_slice_get, contains_cons, contains_here, contains_nil, IsAt, IsStep, IsAfter, effect_progress, successors, below_in, successors_inside, IsNext, IsPlace, common_steps}
+use Rattle.sf_behaviour.proofs.Common.{◌≡◌, ℕ, zero, suc, ◌+◌, ◌<◌, List, [], ◌∷◌, ◌++◌, length, Some, refl, sym, ap, subst, ◌∙◌, arith, Contains, slice_get, slice_index, slice_set, length-map, length-set, same_Some, Insn, IsLawfulProgram, Tree, KeepsTrees, insns_of, AreSteps, Tells, TellFrom, return_of, input_by, IsDiagramOf, places_after, IsEffectOf, Known, IsKnowledge, Step, Effect, Sets, ◌⊎◌, slice_get-get_or, slice_get_within, get_or_from_slice_get, contains_cons, contains_nil, IsAt, IsStep, IsAfter, effect_progress, successors, below_in, successors_inside, IsNext, IsPlace, common_steps}
 use Rattle.sf_behaviour.proofs.words.WordLemmas.{set-each, word-of-kept, word-of-same}
 use Rattle.sf_behaviour.proofs.KnowledgeLemmas.{in-kept, input-word-kept, knowledge-kept, set-knowledge, source-kept}
 use Rattle.sf_behaviour.proofs.TellLemmas.{tells-kept, tells-program, Follows, tells-step}
@@ -13,9 +13,6 @@ at-push xs x y i e =
     grind (arith, common_steps, slice_get-get_or xs i x, within, here)
 
 -- ---- places to which steps lead
-
-pub first-place : (p : ℕ) (ps : List ℕ) → Contains (p ∷ ps) p
-first-place p ps = contains_here p ps p refl
 
 pub one-place : (p q : ℕ) → Contains (p ∷ []) q → p ≡ q
 one-place p q c = grind (arith, contains_cons p [] q c, contains_nil q)

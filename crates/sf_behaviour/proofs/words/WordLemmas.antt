@@ -1,5 +1,6 @@
 -- Words by their bits, in stores that grow.
-use Rattle.sf_behaviour.proofs.Common.{◌≡◌, ℕ, zero, suc, ◌+◌, ◌*◌, ◌<◌, ◌^◌, List, [], ◌∷◌, length, refl, sym, ap, ap₂, ◌∙◌, arith, slice_index, slice_set, bit_at, pow-suc, length-set, get_or-set_same, get_or-set_other, bit_at_cat_low, Tree, Bits, value, tree_at, KeepsTrees, chosen_of, word_value, IsTruth, IsTruthOf, IsWord, IsWordOf, ◌≢◌, get_or, bit_at_lowest, bit_at-suc, bit_at-zero, bit_at_cat_high, same_from_bits_below}
+use Rattle.sf_behaviour.proofs.Common.{◌≡◌, ℕ, zero, suc, ◌+◌, ◌*◌, ◌<◌, ◌^◌, List, [], ◌∷◌, length, refl, sym, ap, ap₂, ◌∙◌, arith, slice_index, slice_set, bit_at, pow-suc, length-set, get_or-set_same, get_or-set_other, bit_at_cat_low, Tree, Bits, value, tree_at, KeepsTrees, chosen_of, word_value, IsTruth, IsTruthOf, IsWord, IsWordOf, ◌≢◌, get_or, bit_at_lowest, bit_at-suc, bit_at-zero, same_from_bits_below}
+use Rattle.sf_behaviour.specs.laws.InputLaws.{top-bit}
 
 -- ---- stores that grow
 
@@ -162,10 +163,6 @@ begun-more n {us} {ids} {id} {f} k l b t = record {
   each = λ i li. set-each (λ (j x : ℕ). IsTruthOf us x (λ bits. bit_at (f bits) j)) 0 ids n id i
       (omega (arith, b.count)) t (λ ne. truth-of-kept k (b.each i (omega arith)));
 }
-
--- the bit above n others
-pub top-bit : (x n low : ℕ) → x < 2 → low < 2 ^ n → bit_at (x * 2 ^ n + low) n ≡ x
-top-bit x n low lx ll = grind (arith, bit_at_cat_high x n low n ll, bit_at_lowest)
 
 -- one more, above numbers of n bits
 pub begun-above : (n : ℕ) {ts us : List Tree} {ids : List ℕ} {id : ℕ} {f : Bits → ℕ} → KeepsTrees ts us → n < 32

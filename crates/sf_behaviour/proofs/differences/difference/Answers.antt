@@ -1,4 +1,4 @@
-use Rattle.sf_behaviour.proofs.Common.{◌≡◌, ◌+◌, ◌*◌, ◌^◌, arith, rules, value, tree_at, keeps_more, word_value}
+use Rattle.sf_behaviour.proofs.Common.{◌≡◌, ◌+◌, ◌*◌, ◌^◌, arith, rules, value, tree_at, keeps_more}
 use Rattle.sf_behaviour.proofs.words.WordLemmas.{begun-above, bit-now, word-made, word-of-same, word-small}
 use Rattle.sf_behaviour.proofs.BitLemmas.{more-small, leaf-truth, less-all, less-step}
 use Rattle.sf_behaviour.proofs.differences.difference.Goals as goal
@@ -18,34 +18,25 @@ loop-i-init c =
 
 pub loop-i-preserved : goal.loop-i-preserved
 loop-i-preserved c =
-    let ts = c.args.store.now.trees in
-    let us = c.loop-i.store.trees in
     let vs = c.difference_bit.new.store.trees in
-    let a = c.args.a.now.bits in
-    let b = c.args.b.now.bits in
     let h = c.loop-i.invariant in
     let e = c.in_ok-bit.ensures in
     let i = c.loop-i.i in
     record {
-      keeps = keeps_more _ _ _ h.keeps e.keeps;
+      keeps = keeps_more _ _ _ h.keeps e.store.0;
       borrowed = e.borrows;
       made = λ bits. value (tree_at vs c.in_ok-bit.bit) bits * 2 ^ i + h.made bits;
-      begun = begun-above i e.keeps.trees (omega arith) h.begun h.small e.bit;
-      small = λ bits. more-small i (value (tree_at vs c.in_ok-bit.bit) bits) (h.made bits) (e.bit.small bits)
-          (h.small bits);
-      so_far = λ bits. less-step i (word_value ts a bits) (word_value ts b bits)
-          (value (tree_at us c.loop-i.borrowed) bits) (h.made bits) (value (tree_at vs c.in_ok-bit.bit) bits)
-          (value (tree_at vs c.in_ok-bit.borrows) bits)
+      begun = begun-above i e.store.0.trees (omega arith) h.begun h.small e.bit;
+      small = λ bits. more-small i _ _ (e.bit.small bits) (h.small bits);
+      so_far = λ bits. less-step i _ _ _ _ _ _
           (bit-now i bits h.keeps.trees c.requires.a (omega arith))
           (bit-now i bits h.keeps.trees c.requires.b (omega arith)) (e.value bits) (h.so_far bits);
     }
 
 pub returns-clause-word : goal.returns-clause-word
 returns-clause-word c =
-    let ts = c.args.store.now.trees in
     let h = c.loop-i.invariant in
     let e : c.loop-i.i ≡ 32 = omega arith in
     word-of-same (word-made c.loop-i.i e (λ bits. rw e at (h.small bits)) h.begun) (λ bits.
-    less-all c.loop-i.i (word_value ts c.args.a.now.bits bits) (word_value ts c.args.b.now.bits bits)
-    (value (tree_at c.loop-i.store.trees c.loop-i.borrowed) bits) (h.made bits) e (word-small bits c.requires.a)
-    (word-small bits c.requires.b) (h.small bits) (h.so_far bits))
+    less-all c.loop-i.i _ _ _ _ e (word-small bits c.requires.a) (word-small bits c.requires.b) (h.small bits)
+    (h.so_far bits))

@@ -6,5 +6,5 @@ use Rattle.sf_behaviour.proofs.differences.negation.Goals as goal
 pub returns-clause-word : goal.returns-clause-word
 returns-clause-word c =
     let zero = c.in_ok-zero.ensures in
-    let number = number-now zero.keeps.trees c.requires in
+    let number = number-now zero.store.0.trees c.requires in
     word-of-same (word-by (λ bits. apply Sub) zero.word number c.in_ok-difference.ensures.word) (λ bits. omega arith)

@@ -1,6 +1,10 @@
-use Rattle.sf_behaviour.proofs.Common.{◌<◌, refl, arith, A, X}
-use Rattle.sf_behaviour.proofs.effects.EffectLemmas.{load-does}
+use Rattle.sf_behaviour.proofs.Common.{◌≡◌, ℕ, ◌+◌, ◌<◌, [], None, State, goes, load_progress, next_with, register_number, set_progress, unmet, unwrap_or-slice_get, refl, arith, A, X}
 use Rattle.sf_behaviour.proofs.effects.effect_of.Goals as goal
+
+-- what a load of a scratch word does to a state
+load-does : (s : State) (r k : ℕ)
+    → unmet (load_progress s k (λ n. goes [] (next_with s r n))) ≡ set_progress s r (register_number s (2 + k))
+load-does s r k = grind (arith, unwrap_or-slice_get s.scratch k None)
 
 pub returns-in-LoadScratch : goal.returns-in-LoadScratch
 returns-in-LoadScratch c =

@@ -12,7 +12,7 @@ loop-i-init c =
     let made : c.in_ok-known.known.items ≡ replicate places none
     = c.in_ok-known.ensures.items_if_clones_equal (search rules) in
     record {
-      keeps = c.in_ok-zero.ensures.keeps;
+      keeps = c.in_ok-zero.ensures.store.0;
       zero = zero-made c.constant_word.new.store.trees c.in_ok-zero.zero c.in_ok-zero.ensures.word;
       count = search rules;
       code = rw c.new-steps.ensures.items refl;
@@ -48,26 +48,26 @@ loop-i-preserved c =
     let known = c.loop-i.known.items in
     let carried = c.carry.ensures in
     let start = replicate 18 (Some c.in_ok-zero.zero) in
-    let zero : AreZero us start = zero-kept e.keeps.trees h.zero in
+    let zero : AreZero us start = zero-kept e.store.0.trees h.zero in
     let inside : i < length known = omega (arith, h.places) in
     let here : step.known ≡ unwrap_or (known_of known i) start = e.known ∙ c.unwrap_or-here.ensures
     ∙ ap (λ (o : Option Known). unwrap_or o start) (c.index.ensures ∙ get_or_default known i _ None inside) in
     record {
-      keeps = keeps_more _ _ _ h.keeps e.keeps;
+      keeps = keeps_more _ _ _ h.keeps e.store.0;
       zero = zero;
       count = rw c.in_ok-push.ensures.items (omega (arith, h.count, length-append {A = Step}));
       code = rw c.in_ok-push.ensures.items (map-append (λ (s : Step). s.insn) steps (step ∷ [])
           ∙ ap₂ (λ (xs : List Insn) (x : Insn). xs ++ x ∷ []) h.code
           (e.insn ∙ get_or_default c.args.insns.now i _ step.insn (omega arith))
           ∙ sym (take_more c.args.insns.now i step.insn (omega arith)));
-      steps = rw c.in_ok-push.ensures.items (steps-more c.loop-i.store.trees us steps i step start e.keeps.trees h.steps
-          h.count e.step (λ p s at to. rw here (met-less (known_of known i) start s.after (h.met p i s at inside to)))
+      steps = rw c.in_ok-push.ensures.items (steps-more _ us steps i step start e.store.0.trees h.steps h.count
+          e.step (λ p s at to. rw here (met-less (known_of known i) start s.after (h.met p i s at inside to)))
           (λ none. here ∙ ap (λ (o : Option Known). unwrap_or o start) (h.first (sym h.count ∙ none))) zero);
       places = carried.count ∙ h.places;
       met = rw c.in_ok-push.ensures.items (λ p q s at inside to. elim (at-push steps step s p at) [
         | inl before ↦ carried.stays q s.after (h.met p q s before.1 (omega (arith, carried.count)) to)
         | inr now ↦ rw (← now.1) (carried.leads q (omega (arith, carried.count)) (rw (now.0 ∙ h.count, ← now.1) at to))
       ]);
-      known = carried.right us (after-knowledge e.step) (λ q k is. knowledge-kept e.keeps.trees (h.known q k is));
+      known = carried.right us (after-knowledge e.step) (λ q k is. knowledge-kept e.store.0.trees (h.known q k is));
       first = λ none. absurd (omega arith);
     }

@@ -9,6 +9,6 @@ returns-in_ok-word-in-Sets-clause-after c = rw c.in-Sets.is (record {
   is = refl;
   fixed = λ w e.
       let fixed = c.in_ok-word-in-Sets.ensures.word w e in
-      let kept = c.in_ok-word-in-Sets.ensures.keeps.trees in
+      let kept = c.in_ok-word-in-Sets.ensures.store.0.trees in
       (fixed.0, word-of-same fixed.1 (λ bits. sym (source-kept bits c.in-Sets.source kept c.requires.known)));
 })

@@ -14,7 +14,7 @@ loop-register-preserved c =
     let r = c.loop-register.register in
     let word = known_word more r in
     record {
-      keeps = keeps_more _ _ _ h.keeps e.keeps;
+      keeps = keeps_more _ _ _ h.keeps e.store.0;
       within = e.within;
       count = rw e.known (length-set c.loop-register.so_far r word ∙ h.count);
       less = rw e.known (set-less c.loop-register.so_far more r word (omega arith) h.count h.less (λ w at. at));

@@ -13,6 +13,6 @@ returns-in_ok-made-in-Some-word_of-clause-tells c =
     let by = c.in-Some-word_of.by in
     let has = sym c.in-Some-word_of.ensures in
     let made = c.in_ok-made-in-Some-word_of.ensures in
-    tells-more-known c.args.register by made.keeps.trees c.requires.knowledge c.requires.less c.requires.count
+    tells-more-known c.args.register by made.store.0.trees c.requires.knowledge c.requires.less c.requires.count
     c.requires.register has (sym c.in-None.ensures) (made.replaced (word_value c.args.store.now.trees by.bits)
     (own-number (c.requires.knowledge.each c.args.register by has).word))

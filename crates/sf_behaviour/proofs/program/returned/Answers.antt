@@ -7,7 +7,7 @@ loop-i-init c =
     let made = c.in_ok-ids.ensures.items_if_clones_equal (search rules) in
     let size : c.len.result ≡ length c.in_ok-steps.steps.items = omega arith in
     record {
-      keeps = c.in_ok-steps.ensures.keeps;
+      keeps = c.in_ok-steps.ensures.store.0;
       steps = c.in_ok-steps.ensures.steps;
       some = steps-some c.in_ok-steps.steps.items c.insns.result.now c.in_ok-steps.ensures.code
           (subst IsLawfulProgram (sym c.insns.ensures.same) c.insns.ensures.lawful).some;
@@ -39,13 +39,13 @@ loop-i-preserved c =
     let place = c.len-in-loop-i.result - 1 - c.loop-i.i in
     let next : place ≡ length steps - (c.loop-i.i + 1) = omega arith in
     record {
-      keeps = keeps_more _ _ _ h.keeps e.keeps;
-      steps = steps-kept e.keeps.trees h.steps;
+      keeps = keeps_more _ _ _ h.keeps e.store.0;
+      steps = steps-kept e.store.0.trees h.steps;
       some = h.some;
       behind = subst (λ (n : ℕ). TellFrom c.diagram_of_place.new.store.trees steps
-          (slice_set c.loop-i.ids.items place c.in_ok-id.id) n) next (from-more c.loop-i.store.trees
-          c.diagram_of_place.new.store.trees steps c.loop-i.ids.items (length steps - c.loop-i.i) place c.in_ok-id.id
-          c.step_at-step.result (omega arith) e.keeps.trees h.steps h.behind c.step_at-step.ensures e.tells);
+          (slice_set c.loop-i.ids.items place c.in_ok-id.id) n) next (from-more _ _ steps
+          c.loop-i.ids.items (length steps - c.loop-i.i) place _ _ (omega arith) e.store.0.trees h.steps h.behind
+          c.step_at-step.ensures e.tells);
     }
 
 pub returns-clause-small : goal.returns-clause-small
@@ -55,7 +55,6 @@ returns-clause-small c =
 
 pub returns-clause-number : goal.returns-clause-number
 returns-clause-number c =
-    program-diagram c.args.program.now c.loop-i.store.trees c.in_ok-steps.steps.items c.loop-i.ids.items
-    (length c.in_ok-steps.steps.items - c.loop-i.i) c.id_at.result (omega arith)
+    program-diagram _ _ _ c.loop-i.ids.items (length c.in_ok-steps.steps.items - c.loop-i.i) _ (omega arith)
     (c.in_ok-steps.ensures.code ∙ c.insns.ensures.same) c.insns.ensures.lawful c.loop-i.invariant.steps
     c.loop-i.invariant.behind c.id_at.ensures

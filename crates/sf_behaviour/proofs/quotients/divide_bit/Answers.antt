@@ -8,17 +8,16 @@ test_words-requires-clause-a c =
     (c.move_bits-high.ensures c.args.store.now.trees _ (own-number c.requires.rest) c.requires.zero).word
 
 pub difference-requires-clause-b : goal.difference-requires-clause-b
-difference-requires-clause-b c = word-kept c.in_ok-fits.ensures.keeps.trees
+difference-requires-clause-b c = word-kept c.in_ok-fits.ensures.store.0.trees
     (c.move_bits-moved.ensures c.args.store.now.trees _ (own-number c.requires.b) c.requires.zero).word
 
 pub returns-clause-digit : goal.returns-clause-digit
 returns-clause-digit c = λ f b_is bits less.
     let s0 = c.args.store.now.trees in
     let s2 = c.difference.new.store.trees in
-    let s3 = c.combine.new.store.trees in
-    let k1 = c.in_ok-fits.ensures.keeps.trees in
-    let k2 = c.in_ok-reduced.ensures.keeps.trees in
-    let k3 = c.in_ok-left.ensures.keeps.trees in
+    let k1 = c.in_ok-fits.ensures.store.0.trees in
+    let k2 = c.in_ok-reduced.ensures.store.0.trees in
+    let k3 = c.in_ok-left.ensures.store.0.trees in
     let fits = c.in_ok-fits.ensures.truth in
     let rest = own-number c.requires.rest in
     let high = c.move_bits-high.ensures s0 _ rest c.requires.zero in
@@ -28,8 +27,7 @@ returns-clause-digit c = λ f b_is bits less.
     let left = word-by (λ (x : Bits). chosen_of (value (tree_at s2 c.in_ok-fits.fits) x)) reduced
     (word-of-kept (keeps_both k1 k2) rest) c.in_ok-left.ensures.word in
     let r = word_value s0 c.args.rest.now.bits bits in
-    digit-of r (f bits) (2 ^ c.args.bit) (value (tree_at s3 c.in_ok-fits.fits) bits)
-    (word_value s3 c.in_ok-left.left.bits bits) (pow_pos c.args.bit) (word-small bits c.requires.rest) less
+    digit-of r (f bits) (2 ^ c.args.bit) _ _ (pow_pos c.args.bit) (word-small bits c.requires.rest) less
     (value-kept bits (keeps_both k2 k3) fits.truth ∙ fits.values bits
     ∙ ap₂ (λ (m n : ℕ). if nat_le m n then 1 else 0) (b_is.values bits) (high.values bits))
     (left.values bits ∙ ap (λ (t : ℕ). chosen_of t ((r + (2 ^ 32 - (f bits * 2 ^ c.args.bit) % 2 ^ 32)) % 2 ^ 32) r)

@@ -5,7 +5,7 @@ use Rattle.sf_behaviour.proofs.quotients.quotient.Goals as goal
 
 pub loop-i-init : goal.loop-i-init
 loop-i-init c =
-    let kept = c.in_ok-none.ensures.keeps in
+    let kept = c.in_ok-none.ensures.store.0 in
     let a = word_value c.args.store.now.trees c.args.a.now.bits in
     let b = word_value c.args.store.now.trees c.args.b.now.bits in
     record {
@@ -26,16 +26,16 @@ pub loop-i-preserved : goal.loop-i-preserved
 loop-i-preserved c =
     let h = c.loop-i.invariant in
     let new = c.in_ok-bit.ensures in
-    let kept = new.keeps.trees in
+    let kept = new.store.0.trees in
     let i = c.loop-i.i in
     let vs = c.divide_bit.new.store.trees in
     let a = word_value c.args.store.now.trees c.args.a.now.bits in
     let b = word_value c.args.store.now.trees c.args.b.now.bits in
     let before : 31 - i ≡ 32 - (i + 1) = omega arith in
-    let next = λ (bits : Bits) (some : 0 < b bits). digit-more (31 - i) (32 - i) (a bits) (b bits) (omega arith) some
+    let next = λ (bits : Bits) (some : 0 < b bits). digit-more (31 - i) (32 - i) (a bits) _ (omega arith) some
     (new.bit.small bits) (h.left bits some) (new.digit b (number-now h.keeps.trees c.requires.b) bits) in
     record {
-      keeps = keeps_more _ _ _ h.keeps new.keeps;
+      keeps = keeps_more _ _ _ h.keeps new.store.0;
       none = word-of-kept kept h.none;
       rest = new.left;
       made = word-set (31 - i) kept (omega arith) h.made new.bit;
@@ -48,17 +48,15 @@ loop-i-preserved c =
 
 pub returns-clause-word : goal.returns-clause-word
 returns-clause-word c =
-    let us = c.loop-i.store.trees in
     let h = c.loop-i.invariant in
     let zero = c.in_ok-by_zero.ensures in
     let a = word_value c.args.store.now.trees c.args.a.now.bits in
     let b = word_value c.args.store.now.trees c.args.b.now.bits in
-    let q = word_value us c.loop-i.bits in
     let is_zero = value (tree_at c.test_words.new.store.trees c.in_ok-by_zero.by_zero) in
-    let word = word-by (λ (x : Bits). chosen_of (is_zero x)) (word-of-kept zero.keeps.trees h.none)
-    (number-now zero.keeps.trees h.made) c.in_ok-combine.ensures.word in
-    word-of-same word (λ bits. quotient-made (a bits) (b bits) (q bits) (is_zero bits) (zero.truth.values bits
+    let word = word-by (λ (x : Bits). chosen_of (is_zero x)) (word-of-kept zero.store.0.trees h.none)
+    (number-now zero.store.0.trees h.made) c.in_ok-combine.ensures.word in
+    word-of-same word (λ bits. quotient-made (a bits) (b bits) _ _ (zero.truth.values bits
     ∙ ap₂ (λ (m n : ℕ). if m == n then 1 else 0) (number-kept bits h.keeps.trees c.requires.b) (h.none.values bits))
-    (λ some. same_from_bits_below 32 (q bits) (a bits / b bits) (word-small bits h.made)
+    (λ some. same_from_bits_below 32 _ _ (word-small bits h.made)
     (omega (arith, div-le_self (a bits) (b bits), word-small bits c.requires.a))
     (λ j l. bit-of-word bits j h.made l ∙ h.digits j bits (omega arith) l some)))

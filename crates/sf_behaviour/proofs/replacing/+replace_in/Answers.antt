@@ -38,7 +38,7 @@ returns-in-Some-clause-within t c =
 
 pub replace_in-requires-2 : goal.replace_in-requires-2
 replace_in-requires-2 t c =
-    let kept = c.in_ok-new_lower.ensures.keeps.trees in
+    let kept = c.in_ok-new_lower.ensures.store.0.trees in
     let less : c.in-Choice.higher < c.args.id = omega (arith, c.in-Choice.ensures.older) in (
       omega (arith, less, c.decreases),
       (
@@ -56,9 +56,9 @@ replace_in-requires-2 t c =
 replaced : (t : ℕ) (c : In_ok-new t) (f : Bits → ℕ) → IsWordOf c.args.store.now.trees c.args.by.now.bits f
     → IsReplaced c.args.register c.choose.new.store.trees f c.args.id c.in_ok-new.new
 replaced t c f h =
-    let k1 = c.in_ok-new_lower.ensures.keeps.trees in
-    let k2 = c.in_ok-new_higher.ensures.keeps.trees in
-    let k3 = c.in_ok-bit.ensures.keeps.trees in
+    let k1 = c.in_ok-new_lower.ensures.store.0.trees in
+    let k2 = c.in_ok-new_higher.ensures.store.0.trees in
+    let k3 = c.in_ok-bit.ensures.store.0.trees in
     let h1 = word-of-kept k1 h in
     replaced-made c.in_ok-new.new (keeps_both k1 (keeps_both k2 k3)) c.in_ok-new.ensures.keeps.trees c.requires.within
     (omega (arith, c.in-Choice.ensures.older, c.requires.within))
@@ -73,6 +73,6 @@ returns-clause-replaced t c = replaced t (goal.at.returns-clause-replaced t c).I
 pub returns-clause-made : goal.returns-clause-made
 returns-clause-made t c = λ f h.
     all-put c.insert.new.self c.in_ok-insert.ensures.updates
-    (all-kept (keeps_both c.in_ok-bit.ensures.keeps.trees c.in_ok-new.ensures.keeps.trees)
-    (c.in_ok-new_higher.ensures.made f (word-of-kept c.in_ok-new_lower.ensures.keeps.trees h)))
+    (all-kept (keeps_both c.in_ok-bit.ensures.store.0.trees c.in_ok-new.ensures.keeps.trees)
+    (c.in_ok-new_higher.ensures.made f (word-of-kept c.in_ok-new_lower.ensures.store.0.trees h)))
     (replaced t (goal.at.returns-clause-made t c).In_ok-new f h)

@@ -1,4 +1,4 @@
-use Rattle.sf_behaviour.proofs.Common.{pow-add, arith, keeps_more, word_value}
+use Rattle.sf_behaviour.proofs.Common.{pow-add, arith, keeps_more}
 use Rattle.sf_behaviour.proofs.words.WordLemmas.{bit-chosen, number-now, truth-of-kept, word-of-same, word-small}
 use Rattle.sf_behaviour.proofs.BitLemmas.{leaf-truth}
 use Rattle.sf_behaviour.proofs.ShiftLemmas.{few-places, shift-begun, shift-step}
@@ -6,15 +6,13 @@ use Rattle.sf_behaviour.proofs.shifting.shift.Goals as goal
 
 pub loop-i-init : goal.loop-i-init
 loop-i-init c =
-    let ts = c.args.store.now.trees in
     let zero = c.in_ok-zero.ensures in
     record {
       keeps = zero.keeps;
       none = leaf-truth 0 zero.within zero.tree (omega arith);
       places = omega arith;
-      word = word-of-same (number-now zero.keeps.trees c.requires.word) (λ bits. shift-begun c.args.direction
-          (word_value ts c.args.word.now.bits bits) (word_value ts c.args.by.now.bits bits)
-          (word-small bits c.requires.word));
+      word = word-of-same (number-now zero.keeps.trees c.requires.word)
+          (λ bits. shift-begun c.args.direction _ _ (word-small bits c.requires.word));
     }
 
 pub move_bits-moved-requires : goal.move_bits-moved-requires
@@ -26,15 +24,13 @@ combine-requires-clause-a c =
 
 pub loop-i-preserved : goal.loop-i-preserved
 loop-i-preserved c =
-    let ts = c.args.store.now.trees in
     let h = c.loop-i.invariant in
     let new = c.in_ok-so_far.ensures in
     let moved = c.move_bits-moved.ensures c.loop-i.store.trees _ h.word h.none in
     record {
-      keeps = keeps_more _ _ _ h.keeps new.keeps;
-      none = truth-of-kept new.keeps.trees h.none;
+      keeps = keeps_more _ _ _ h.keeps new.store.0;
+      none = truth-of-kept new.store.0.trees h.none;
       places = omega (arith, h.places, pow-add 2 c.loop-i.i 1);
       word = word-of-same (bit-chosen c.loop-i.i h.keeps.trees c.requires.by (omega arith) moved h.word new.word)
-          (λ bits. shift-step c.args.direction c.loop-i.i (word_value ts c.args.word.now.bits bits)
-          (word_value ts c.args.by.now.bits bits) c.loop-i.places h.places);
+          (λ bits. shift-step c.args.direction c.loop-i.i _ _ c.loop-i.places h.places);
     }

@@ -1,4 +1,4 @@
-use Rattle.sf_behaviour.proofs.Common.{ℕ, ap, ◌∙◌, bit_at, tested_bits, tree_at, value, ◌≡◌, ap₂, arith, keeps_more, word_value}
+use Rattle.sf_behaviour.proofs.Common.{ℕ, ap, ◌∙◌, tested_bits, tree_at, value, ◌≡◌, ap₂, arith, keeps_more}
 use Rattle.sf_behaviour.proofs.words.WordLemmas.{bit-now, truth-of-same, word-small}
 use Rattle.sf_behaviour.proofs.BitLemmas.{low-all, test-more, truth_of}
 use Rattle.sf_behaviour.proofs.testing.test_words.Goals as goal
@@ -10,22 +10,17 @@ loop-i-preserved c =
     let test = c.args.test in
     let i = c.loop-i.i in
     let so_far = value (tree_at c.loop-i.store.trees c.loop-i.passed) in
-    let a = word_value c.args.store.now.trees c.args.a.now.bits in
-    let b = word_value c.args.store.now.trees c.args.b.now.bits in
     record {
-      keeps = keeps_more _ _ _ h.keeps new.keeps;
+      keeps = keeps_more _ _ _ h.keeps new.store.0;
       passed = truth-of-same new.truth (λ bits.
           ap₂ (λ (m n : ℕ). tested_bits test m n (so_far bits))
           (bit-now i bits h.keeps.trees c.requires.a (omega arith))
           (bit-now i bits h.keeps.trees c.requires.b (omega arith))
-          ∙ ap (tested_bits test (bit_at (a bits) i) (bit_at (b bits) i)) (h.passed.values bits)
-          ∙ test-more test i (a bits) (b bits));
+          ∙ ap (tested_bits test _ _) (h.passed.values bits) ∙ test-more test i _ _);
     }
 
 pub returns-clause-truth : goal.returns-clause-truth
 returns-clause-truth c =
-    let ts = c.args.store.now.trees in
     let e : c.loop-i.i ≡ 32 = omega arith in
     truth-of-same c.loop-i.invariant.passed (λ bits. ap₂ (truth_of c.args.test)
-    (low-all c.loop-i.i (word_value ts c.args.a.now.bits bits) e (word-small bits c.requires.a))
-    (low-all c.loop-i.i (word_value ts c.args.b.now.bits bits) e (word-small bits c.requires.b)))
+    (low-all c.loop-i.i _ e (word-small bits c.requires.a)) (low-all c.loop-i.i _ e (word-small bits c.requires.b)))

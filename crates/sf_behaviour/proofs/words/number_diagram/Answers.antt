@@ -1,4 +1,4 @@
-use Rattle.sf_behaviour.proofs.Common.{◌≡◌, ◌+◌, ◌-◌, arith, keeps_more, word_value}
+use Rattle.sf_behaviour.proofs.Common.{◌≡◌, ◌+◌, ◌-◌, arith, keeps_more}
 use Rattle.sf_behaviour.proofs.words.WordLemmas.{bit-now, word-small}
 use Rattle.sf_behaviour.proofs.answers.AnswerLemmas.{number-more}
 use Rattle.sf_behaviour.proofs.words.number_diagram.Goals as goal
@@ -19,7 +19,6 @@ loop-i-preserved c =
     record {
       keeps = keeps_more _ _ _ h.keeps new.keeps;
       within = new.within;
-      so_far = λ bits. rw (← next) (number-more (32 - i) (31 - i)
-          (word_value c.args.store.now.trees c.args.word.now.bits bits) (omega arith) (word-small bits c.requires)
+      so_far = λ bits. rw (← next) (number-more (32 - i) (31 - i) _ (omega arith) (word-small bits c.requires)
           (bit-now (31 - i) bits h.keeps.trees c.requires (omega arith)) (new.merged.values bits) (h.so_far bits));
     }

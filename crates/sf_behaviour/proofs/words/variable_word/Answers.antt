@@ -1,6 +1,7 @@
 use Rattle.sf_behaviour.proofs.Common.{arith, keeps_more}
 use Rattle.sf_behaviour.proofs.words.WordLemmas.{begun-more, word-made}
-use Rattle.sf_behaviour.proofs.VariableLemmas.{number_by-small, variable-truth}
+use Rattle.sf_behaviour.specs.laws.InputLaws.{number_by-small}
+use Rattle.sf_behaviour.proofs.VariableLemmas.{variable-truth}
 use Rattle.sf_behaviour.proofs.words.variable_word.Goals as goal
 
 pub loop-i-preserved : goal.loop-i-preserved
