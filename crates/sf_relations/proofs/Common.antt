@@ -30,7 +30,6 @@ pub use Rattle.sf_relations.specs.Relations.{AreRelated}
 pub use Rattle.sf_relations.specs.declared.examples.Example.{Example}
 pub use Rattle.sf_relations.specs.declared.relation.Relation.{Relation}
 pub use Rattle.sf_relations.specs.declared.relation.Relation.TheVariants.{Looser}
-pub use Rattle.sf_relations.specs.laws.InputLaws.{input-word, same-input}
 pub use Rattle.sf_relations.specs.laws.KeepLaws.{behaviour_kept, value_kept}
 pub use Rattle.sf_relations.specs.laws.NumberLaws.{not-0-related, related-not-0}
 pub use Rattle.sf_run.specs.Answers.{Answers, IsAnswer, action_bits, action_number, folded_answer, rank}

@@ -1,16 +1,9 @@
 -- Inputs before others, by their bits and by their variables.
-use Rattle.sf_relations.proofs.Common.{common_steps, ◌≡◌, ◌⊎◌, ℕ, zero, suc, ◌+◌, ◌-◌, ◌*◌, ◌/◌, ◌%◌, ◌^◌, ◌<◌, ◌≤◌, ◌==◌, Bool, true, false, refl, sym, ap, ◌∙◌, inl, inr, arith, nat_lt, slice_index, if◌then◌else◌, agree_below_at, cases_eq, cases_lt, eqb-true, lt-ltb, le-ltb, ltb-true, pow-le-pow_right, pow-suc, Input, IsInput, Bits, IsEarlierInput, number_by, places_of_words, words_in_order, input_by, input_bits, input-word, same-input, bit_in_order, ComesBefore}
+use Rattle.std.proofs.Common.{below_more}
+use Rattle.sf_behaviour.specs.laws.InputLaws.{input-back, input-is, input-word, input_by-same, number_by-bit, number_by-small}
+use Rattle.sf_relations.proofs.Common.{common_steps, ◌≡◌, ◌⊎◌, ℕ, zero, suc, ◌+◌, ◌-◌, ◌*◌, ◌/◌, ◌%◌, ◌^◌, ◌<◌, ◌≤◌, ◌==◌, Bool, true, false, refl, sym, ap, ◌∙◌, inl, inr, arith, nat_lt, slice_index, if◌then◌else◌, agree_below_at, cases_lt, eqb-true, lt-ltb, le-ltb, ltb-true, pow-le-pow_right, pow-suc, Input, IsInput, Bits, IsEarlierInput, number_by, places_of_words, words_in_order, input_by, input_bits, bit_in_order, ComesBefore}
 
 -- ---- a word by its variables
-
-bit-more : (b : Bool) (p m : ℕ) → m < p → (if b then 1 else 0) * p + m < p * 2
-bit-more true p m l = omega arith
-bit-more false p m l = omega arith
-
-pub number-small : (first n : ℕ) (bits : Bits) → number_by first 1 n bits < 2 ^ n
-unfolding number_by
-number-small first zero bits = omega arith
-number-small first (suc n) bits = grind (arith, common_steps, pow-suc, bit-more, number-small first n bits)
 
 -- one more bit
 number-more : (first n : ℕ) (bits : Bits) → number_by first 1 (n + 1) bits
@@ -29,41 +22,17 @@ half-small n l = grind (arith, common_steps, pow-le-pow_right, pow-suc)
 pub number-step : (first n : ℕ) (bits : Bits) (b : Bool) (m k : ℕ) → n < 32 → bits (first + (31 - n)) ≡ b
     → m ≡ number_by first 1 n bits → k ≡ (if b then m + 1 * 2 ^ n % 2 ^ 32 else m)
     → k ≡ number_by first 1 (n + 1) bits
-number-step first n bits b m k l at so_far e = grind (arith, common_steps, number-small, number-more, half-small)
+number-step first n bits b m k l at so_far e = grind (arith, common_steps, number_by-small, number-more, half-small)
 
 -- the lowest n bits are the same
 abbrev AgreeBelow : ℕ → ℕ → Bits → Bits → Type 0
 AgreeBelow first n a b = (i : ℕ) → i < n → a (first + 1 * (31 - i)) ≡ b (first + 1 * (31 - i))
 
-agree-more : (first n : ℕ) (a b : Bits) → a (first + 1 * (31 - n)) ≡ b (first + 1 * (31 - n)) → AgreeBelow first n a b
-    → AgreeBelow first (suc n) a b
-agree-more first n a b here below i l = grind (arith, common_steps, cases_eq)
-
 -- variables of one number agree
 agree : (first n : ℕ) (a b : Bits) → number_by first 1 n a ≡ number_by first 1 n b → AgreeBelow first n a b
-unfolding number_by
-agree first zero a b e = λ i l. absurd (omega arith)
-agree first (suc n) a b e =
-    top (a (first + 1 * (31 - n))) (b (first + 1 * (31 - n))) refl refl (agree first n a b) e
-  where
-    top : (x y : Bool) → a (first + 1 * (31 - n)) ≡ x → b (first + 1 * (31 - n)) ≡ y
-        → (number_by first 1 n a ≡ number_by first 1 n b → AgreeBelow first n a b)
-        → (if x then 1 else 0) * 2 ^ n + number_by first 1 n a ≡ (if y then 1 else 0) * 2 ^ n + number_by first 1 n b
-        → AgreeBelow first (suc n) a b
-    top true true ea eb rest e = agree-more first n a b (ea ∙ sym eb) (rest (omega arith))
-    top false false ea eb rest e = agree-more first n a b (ea ∙ sym eb) (rest (omega arith))
-    top true false ea eb rest e = absurd (omega (arith, number-small first n b))
-    top false true ea eb rest e = absurd (omega (arith, number-small first n a))
+agree first n a b e i l = grind (arith, e, number_by-bit first 1 n a i l, number_by-bit first 1 n b i l)
 
 -- ---- words of an input
-
--- each input has variables that make it
-abbrev pub HaveVariables : Type 0
-HaveVariables = (d : Input) → IsInput d → input_by (input_bits d) ≡ d
-
--- and variables have an input
-abbrev pub AreInputs : Type 0
-AreInputs = (bits : Bits) → IsInput (input_by bits)
 
 place-of-word : (place : ℕ) → place < 16 → slice_index places_of_words (slice_index words_in_order place) ≡ place
 place-of-word place l = eqb-true (slice_index places_of_words (slice_index words_in_order place)) place
@@ -81,16 +50,16 @@ word-number bits place l =
     ∙ ap (λ (p : ℕ). number_by (576 + 32 * p) 1 32 bits) (place-of-word place l)
 
 -- the bits of an input that variables make are these variables
-made-bits : (bits : Bits) → HaveVariables → AreInputs → (p : ℕ) → p < 512
-    → bit_in_order (input_by bits) p ≡ bits (576 + p)
-made-bits bits have inputs p l =
+made-bits : (bits : Bits) (p : ℕ) → p < 512 → bit_in_order (input_by bits) p ≡ bits (576 + p)
+made-bits bits p l =
     let others : Bits = input_bits (input_by bits) in
     let place : ℕ = p / 32 in
     let i : ℕ = 31 - p % 32 in
     let at : 576 + 32 * place + 1 * (31 - i) ≡ 576 + p = omega arith in
     let word : number_by (576 + 32 * place) 1 32 others ≡ number_by (576 + 32 * place) 1 32 bits
     = sym (word-number others place (omega arith))
-    ∙ ap (λ (d : Input). slice_index d.words (slice_index words_in_order place)) (have (input_by bits) (inputs bits))
+    ∙ ap (λ (d : Input). slice_index d.words (slice_index words_in_order place))
+    (input-back (input_by bits) (input-is bits))
     ∙ word-number bits place (omega arith) in
     rw at at (agree (576 + 32 * place) 32 others bits word i (omega arith))
 
@@ -110,22 +79,22 @@ pub record AreEarlierVariables (d : Input) (others : Bits) : Type 0 where
   pub earlier : IsEarlierInput bits others
 
 -- an input that comes before that of some variables has variables that come before them
-pub earlier-variables : (others : Bits) (d : Input) → HaveVariables → AreInputs → IsInput d
-    → ComesBefore d (input_by others) → AreEarlierVariables d others
-earlier-variables others d have inputs h before = record {
+pub earlier-variables : (others : Bits) (d : Input) → IsInput d → ComesBefore d (input_by others)
+    → AreEarlierVariables d others
+earlier-variables others d h before = record {
   bits = behind others d;
-  made = same-input (behind others d) (input_bits d) inputs (λ p l. behind-bit others d p) ∙ have d h;
+  made = input_by-same (behind others d) (input_bits d) (λ p l. behind-bit others d p) ∙ input-back d h;
   earlier = (
     576 + before.place,
     behind-bit others d before.place ∙ before.lower,
-    sym (made-bits others have inputs before.place before.within) ∙ before.higher,
+    sym (made-bits others before.place before.within) ∙ before.higher,
     λ v l. elim (cases_lt v 576) [
       | inl low ↦ rw (lt-ltb v 576 low) refl
       | inr high ↦
           let p : ℕ = v - 576 in
           let at : 576 + p ≡ v = omega arith in
           rw at at (behind-bit others d p ∙ before.same p (omega arith)
-          ∙ made-bits others have inputs p (omega (arith, before.within)))
+          ∙ made-bits others p (omega (arith, before.within)))
     ],
   );
 }
@@ -139,29 +108,13 @@ first-difference a b (suc n) l = elim (first-difference a b n (omega arith)) [
   | inl same ↦ here (bit_in_order a n) (bit_in_order b n) refl refl same
 ]
   where
-    next : ((p : ℕ) → p < n → bit_in_order a p ≡ bit_in_order b p) → bit_in_order a n ≡ bit_in_order b n
-        → (p : ℕ) → p < suc n → bit_in_order a p ≡ bit_in_order b p
-    next same e p q = elim (cases_eq p n) [
-      | inl at ↦ rw at e
-      | inr ne ↦ same p (omega arith)
-    ]
-
     here : (x y : Bool) → bit_in_order a n ≡ x → bit_in_order b n ≡ y
         → ((p : ℕ) → p < n → bit_in_order a p ≡ bit_in_order b p)
         → ((p : ℕ) → p < suc n → bit_in_order a p ≡ bit_in_order b p) ⊎ (ComesBefore a b ⊎ ComesBefore b a)
-    here true true ea eb same = inl (next same (ea ∙ sym eb))
-    here false false ea eb same = inl (next same (ea ∙ sym eb))
-    here false true ea eb same = inr (inl (record {
-      place = n;
-      within = omega arith;
-      lower = ea;
-      higher = eb;
-      same = same;
-    }))
-    here true false ea eb same = inr (inr (record {
-      place = n;
-      within = omega arith;
-      lower = eb;
-      higher = ea;
-      same = λ p q. sym (same p q);
-    }))
+    here true true ea eb same = inl (λ p q. below_more _ _ same (ea ∙ sym eb) p (omega arith))
+    here false false ea eb same = inl (λ p q. below_more _ _ same (ea ∙ sym eb) p (omega arith))
+    here false true ea eb same =
+        inr (inl (record { place = n; within = omega arith; lower = ea; higher = eb; same = same }))
+    here true false ea eb same =
+        let back = λ (p : ℕ) (q : p < n). sym (same p q) in
+        inr (inr (record { place = n; within = omega arith; lower = eb; higher = ea; same = back }))

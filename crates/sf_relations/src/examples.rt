@@ -8,7 +8,6 @@ ghost use Rattle.sf_relations.specs.Numbers.{IsExampleAt};
 
 use crate::inputs::input_of;
 use crate::relation::{Relation, operation_of};
-use sf_behaviour::each_input_has_variables;
 use sf_diagram::{Fault, Id, Store, least_input, merge, value_of};
 use sf_insn::Input;
 use sf_run::{Action, Answer};
@@ -61,8 +60,6 @@ pub fn least_example(
     ensures keeps { KeepsStore store.old store.new }
     ensures spent { IfErr result (λ e. e ≡ Fault.Spent → IsFull store.new) }
 {
-    // For the prover: what is said of all variables is said of all inputs.
-    each_input_has_variables();
     let related = merge(store, operation_of(relation), before, after)?;
     let Some(variables) = least_input(alloc, store, related)? else {
         return Ok(None);

@@ -1,4 +1,4 @@
-//! Laws of the definitions, each the contract of a function that does nothing, or only calls other laws.
+//! Laws of the definitions, each the contract of a function that does nothing.
 
 ghost use Rattle.std.specs.Prelude.{◌≡◌, ℕ, List, Option, length};
 ghost use Rattle.sf_check.specs.declared.insn.Insn.{Insn};
@@ -7,15 +7,11 @@ ghost use Rattle.sf_relations.specs.declared.examples.Example.{Example};
 ghost use Rattle.sf_relations.specs.Changes.{IsFinding};
 ghost use Rattle.sf_relations.specs.Needs.{AnswerTheSame, AreKeptUpTo, filters_at};
 
-use sf_behaviour::each_input_has_variables;
-
 /// Two stacks have one finding of a relation: the same example, or none.
 pub fn one_finding()
     ensures { (old new : List (List Insn)) (relation : Relation) (a b : Option Example)
         → IsFinding old new relation a → IsFinding old new relation b → a ≡ b }
-{
-    each_input_has_variables();
-}
+{}
 
 /// The filters that are kept answer each input as the whole stack does.
 pub fn kept_filters_answer_alike()

@@ -6,7 +6,7 @@ ghost use Rattle.sf_relations.specs.Needs.{AreFoundWithout, AreKeptUpTo, AreNeed
 use crate::examples::{Example, least_example};
 use crate::parts::{join, parts_of};
 use crate::relation::Relation;
-use sf_behaviour::{each_input_has_variables, equal_behaviours_make_equal_ids};
+use sf_behaviour::equal_behaviours_make_equal_ids;
 use sf_check::Program;
 use sf_diagram::{Fault, Id, Store};
 use std::alloc::Global;
@@ -64,7 +64,6 @@ fn keep_each(
 {
     // For the prover: two stacks answer alike just where they have one diagram.
     equal_behaviours_make_equal_ids();
-    each_input_has_variables();
     let mut kept = Vec::new(alloc);
     let mut older = last[0];
     for place in 0..programs.len() {

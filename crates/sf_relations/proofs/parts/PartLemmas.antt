@@ -1,5 +1,6 @@
 -- The answers of older filters and newer ones, joined; and the diagrams of the answers of parts of a stack.
-use Rattle.sf_relations.proofs.Common.{common_steps, ◌≡◌, ℕ, ◌<◌, ◌≤◌, ◌^◌, Bool, true, false, List, [], ◌∷◌, ◌++◌, length, map, refl, sym, ap, subst, ◌∙◌, inl, inr, arith, suc, ◌+◌, ◌-◌, take, drop, nat_lt, if◌then◌else◌, slice_index, slice_index_or, cases_lt, cond_both, lt-ltb, le-ltb, cases_eq, append-nil, append_assoc, map-append, reverse-append, drop_all, drop_more, get_or_append_left, get_or_push, length_push, All-head, Input, Insn, Allow, Answer, IsAnswer, action_bits, action_number, rank, folded_answer, answer_more, answer_none, number-action_of, one, returns_of, Tree, value, tree_at, KeepsTrees, folded_of, IsMerged, Fold, input_by, answer_with, IsBehaviour, AreParts, behaviour_kept}
+use Rattle.std.proofs.lemmas.Bool.Decides.{nat_tests}
+use Rattle.sf_relations.proofs.Common.{common_steps, ◌≡◌, ℕ, ◌<◌, ◌≤◌, Bool, List, [], ◌∷◌, ◌++◌, length, map, refl, sym, ap, subst, ◌∙◌, inl, inr, arith, suc, ◌+◌, ◌-◌, take, drop, nat_lt, if◌then◌else◌, slice_index, slice_index_or, le-ltb, cases_eq, append-nil, append_assoc, map-append, reverse-append, drop_more, get_or_append_left, get_or_push, length_push, All-head, Input, Insn, Allow, Answer, IsAnswer, action_bits, action_number, rank, folded_answer, answer_more, answer_none, number-action_of, one, returns_of, Tree, value, tree_at, KeepsTrees, folded_of, IsMerged, Fold, input_by, answer_with, IsBehaviour, AreParts, behaviour_kept}
 
 -- ---- of two the lower one by f, the first one where neither is
 
@@ -8,20 +9,7 @@ module _ {X : Type 0} where
   lower_of f n o = if nat_lt (f o) (f n) then o else n
 
   lower-assoc : (f : X → ℕ) (a b c : X) → lower_of f (lower_of f a b) c ≡ lower_of f a (lower_of f b c)
-  lower-assoc f a b c = elim (cases_lt (f b) (f a)) [
-    | inl ba ↦ elim (cases_lt (f c) (f b)) [
-      | inl cb ↦
-          let ca : f c < f a = omega arith in
-          rw (lt-ltb (f b) (f a) ba, lt-ltb (f c) (f b) cb, lt-ltb (f c) (f a) ca) refl
-      | inr bc ↦ rw (lt-ltb (f b) (f a) ba, le-ltb (f c) (f b) bc, lt-ltb (f b) (f a) ba) refl
-    ]
-    | inr ab ↦ elim (cases_lt (f c) (f b)) [
-      | inl cb ↦ rw (le-ltb (f b) (f a) ab, lt-ltb (f c) (f b) cb) refl
-      | inr bc ↦
-          let ac : f a ≤ f c = omega arith in
-          rw (le-ltb (f b) (f a) ab, le-ltb (f c) (f b) bc, le-ltb (f c) (f a) ac, le-ltb (f b) (f a) ab) refl
-    ]
-  ]
+  lower-assoc f a b c = grind (arith, nat_tests)
 
   lower-first : (f : X → ℕ) (n o : X) → f n ≤ f o → lower_of f n o ≡ n
   lower-first f n o l = rw (le-ltb (f o) (f n) l) refl
@@ -48,10 +36,9 @@ folded_all a [] = a
 folded_all a (n ∷ ns) = folded_all (folded_answer a n) ns
 
 answer-all : (vs ns : List ℕ) (a : Answer) → IsAnswer vs a → IsAnswer (vs ++ ns) (folded_all a ns)
-answer-all vs [] a h = subst (λ (ms : List ℕ). IsAnswer ms a) (sym (append-nil vs)) h
+answer-all vs [] a h = rw (append-nil vs) h
 answer-all vs (n ∷ ns) a h =
-    subst (λ (ms : List ℕ). IsAnswer ms (folded_all (folded_answer a n) ns)) (append_assoc vs (n ∷ []) ns)
-    (answer-all (vs ++ n ∷ []) ns (folded_answer a n) (answer_more vs a n h))
+    rw (append_assoc vs (n ∷ []) ns) at (answer-all (vs ++ n ∷ []) ns (folded_answer a n) (answer_more vs a n h))
 
 folded-behind : (ns : List ℕ) (a c : Answer) → folded_all (joined_answer a c) ns ≡ joined_answer a (folded_all c ns)
 folded-behind [] a c = refl
@@ -82,8 +69,7 @@ returns-joined older newer d = grind (arith, common_steps, map-append, reverse-a
 -- ---- diagrams of answers
 
 with-if : (b : Bool) (m n : ℕ) → answer_with (if b then m else n) ≡ (if b then answer_with m else answer_with n)
-with-if true m n = refl
-with-if false m n = refl
+with-if b m n = grind arith
 
 folded-with : (newer older : ℕ) → answer_with (folded_of newer older)
     ≡ joined_answer (answer_with newer) (answer_with older)
@@ -94,22 +80,13 @@ pub behaviours-joined : (ts us : List Tree) (first last : List (List Insn)) (old
     → IsBehaviour last ts newer → IsBehaviour (first ++ last) us id
 behaviours-joined ts us first last older newer id within merged hf hl = record {
   within = within;
-  small = λ bits.
-      let m : ℕ = value (tree_at ts newer) bits in
-      let n : ℕ = value (tree_at ts older) bits in
-      subst (λ (k : ℕ). k < 2 ^ 32) (sym (merged.values bits))
-      (cond_both (nat_lt (rank (action_bits n)) (rank (action_bits m))) n m (λ (k : ℕ). k < 2 ^ 32)
-      (λ _. hf.small bits) (λ _. hl.small bits));
+  small = λ bits. grind (arith, merged.values bits, hf.small bits, hl.small bits);
   answers = λ bits.
       let m : ℕ = value (tree_at ts newer) bits in
       let n : ℕ = value (tree_at ts older) bits in
       let d : Input = input_by bits in
-      subst (λ (a : Answer). IsAnswer (returns_of (first ++ last) d) a)
-      (sym (ap answer_with (merged.values bits) ∙ folded-with m n))
-      (subst (λ (vs : List ℕ). IsAnswer vs (joined_answer (answer_with m) (answer_with n)))
-      (sym (returns-joined first last d))
-      (joined-answers (returns_of last d) (returns_of first d) (answer_with m) (answer_with n) (hl.answers bits)
-      (hf.answers bits)));
+      rw (merged.values bits, folded-with m n, returns-joined first last d) (joined-answers (returns_of last d)
+      (returns_of first d) (answer_with m) (answer_with n) (hl.answers bits) (hf.answers bits));
 }
 
 -- ---- a list with one element more
@@ -119,15 +96,8 @@ module _ {X : Type 0} where
       → ((k : ℕ) → k < n → P k (slice_index_or xs k d)) → P n x → ys ≡ xs ++ x ∷ []
       → (k : ℕ) → k < n + 1 → P k (slice_index_or ys k d)
   pushed P xs ys x d n long before here e k l = elim (cases_eq k n) [
-    | inl at ↦
-        let is : slice_index_or ys k d ≡ x
-        = ap (λ (zs : List X). slice_index_or zs k d) e ∙ get_or_push xs x d k (omega (arith, long)) in
-        subst (λ (y : X). P k y) (sym is) (subst (λ (m : ℕ). P m x) (sym at) here)
-    | inr ne ↦
-        let is : slice_index_or ys k d ≡ slice_index_or xs k d
-        = ap (λ (zs : List X). slice_index_or zs k d) e
-        ∙ get_or_append_left xs (x ∷ []) d k (omega (arith, long)) in
-        subst (λ (y : X). P k y) (sym is) (before k (omega arith))
+    | inl at ↦ rw (e, get_or_push xs x d k (omega (arith, long)), at) here
+    | inr ne ↦ rw (e, get_or_append_left xs (x ∷ []) d k (omega (arith, long))) (before k (omega arith))
   ]
 
   pub count-pushed : (xs ys : List X) (x : X) (n : ℕ) → length xs ≡ n → ys ≡ xs ++ x ∷ [] → length ys ≡ n + 1
@@ -144,11 +114,6 @@ last_programs programs k = drop (length programs - k) programs
 pub parts-kept : (ts us : List Tree) (programs : List (List Insn)) (many : ℕ) (alone last : List ℕ) → KeepsTrees ts us
     → AreParts ts programs many alone last → AreParts us programs many alone last
 parts-kept ts us programs many alone last k h = grind (arith, common_steps, behaviour_kept, newest, last_programs)
-
--- no filter
-pub parts-begun : (ts : List Tree) (programs : List (List Insn)) (alone nothing last : List ℕ) (id : ℕ)
-    → IsBehaviour [] ts id → alone ≡ [] → nothing ≡ [] → last ≡ nothing ++ id ∷ [] → AreParts ts programs 0 alone last
-parts-begun ts programs alone nothing last id h none empty e = grind (arith, common_steps, drop_all, last_programs)
 
 -- one filter more
 pub parts-more : (ts us : List Tree) (programs : List (List Insn)) (i one joined : ℕ)
@@ -179,10 +144,6 @@ one-more-last programs i l = grind (arith, common_steps, drop, drop_more)
 
 -- ---- parts by the place of a filter
 
-pub of-none : (ts : List Tree) (programs : List (List Insn)) (alone last : List ℕ)
-    → AreParts ts programs (length programs) alone last → IsBehaviour [] ts (slice_index last 0)
-of-none ts programs alone last h = grind (arith, common_steps, drop_all)
-
 pub of-all : (ts : List Tree) (programs : List (List Insn)) (alone last : List ℕ)
     → AreParts ts programs (length programs) alone last
     → IsBehaviour programs ts (slice_index last (length programs))
@@ -193,14 +154,11 @@ pub of-one : (ts : List Tree) (programs : List (List Insn)) (alone last : List �
     → IsBehaviour (slice_index_or programs place [] ∷ []) ts (slice_index alone (length programs - 1 - place))
 of-one ts programs alone last place h l =
     let at : length programs - 1 - (length programs - 1 - place) ≡ place = omega arith in
-    subst (λ (n : ℕ). IsBehaviour (slice_index_or programs n [] ∷ []) ts
-    (slice_index alone (length programs - 1 - place))) at
-    (h.each_alone (length programs - 1 - place) (omega arith))
+    rw at at (h.each_alone (length programs - 1 - place) (omega arith))
 
 pub of-behind : (ts : List Tree) (programs : List (List Insn)) (alone last : List ℕ) (place : ℕ)
     → AreParts ts programs (length programs) alone last → place < length programs
     → IsBehaviour (drop (suc place) programs) ts (slice_index last (length programs - 1 - place))
 of-behind ts programs alone last place h l =
     let at : length programs - (length programs - 1 - place) ≡ suc place = omega arith in
-    subst (λ (n : ℕ). IsBehaviour (drop n programs) ts (slice_index last (length programs - 1 - place))) at
-    (h.each_last (length programs - 1 - place) (omega arith))
+    rw at at (h.each_last (length programs - 1 - place) (omega arith))

@@ -12,7 +12,6 @@ returns-clause-found c = λ old new was is.
     let bits = bits_with c.in-Some.variables.items in
     let least = rw c.in-Some.is at c.in_ok-variables.ensures.least in
     least-change ts c.args.relation c.args.before c.args.after (tree_at us c.in_ok-related.related) old new bits
-    c.example_at.result c.each_input_has_variables.ensures.variables c.each_input_has_variables.ensures.input
-    (rw c.operation_of.ensures at c.in_ok-related.ensures.merged) was is least
+    c.example_at.result (rw c.operation_of.ensures at c.in_ok-related.ensures.merged) was is least
     (example-back ts us c.args.before c.args.after bits c.example_at.result c.in_ok-related.ensures.keeps.trees
     c.requires.before c.requires.after (rw c.deref.ensures.value at c.example_at.ensures))

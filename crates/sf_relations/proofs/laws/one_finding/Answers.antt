@@ -2,4 +2,4 @@ use Rattle.sf_relations.proofs.findings.FindingLemmas.{one-finding}
 use Rattle.sf_relations.proofs.laws.one_finding.Goals as goal
 
 pub returns : goal.returns
-returns c = one-finding c.each_input_has_variables.ensures.variables c.each_input_has_variables.ensures.input
+returns c = one-finding
