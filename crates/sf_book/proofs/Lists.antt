@@ -1,6 +1,7 @@
 -- Lists of outstanding pieces in the order of their ids.
 use Rattle.sf_book.proofs.Common.{common_steps, ◌≡◌, ℕ, ◌+◌, ◌<◌, ◌≤◌, ◌==◌, not, Bool, true, false, cond, List, [], ◌∷◌, ◌++◌, length, map, Some, refl, sym, ◌∙◌, ap, subst, arith, All, AllByRecursion, filter, All-head, All-tail, recursion_from_All, sum_by-cons, OutstandingData, HasRisingIds, outstanding_at, without}
 use Rattle.std.specs.List.{sum_by}
+use Rattle.std.proofs.lemmas.List.Elements.{All-filter, All-from_recursion}
 use Rattle.sf_book.proofs.MapLemmas.{num_no, num_same, some_inj}
 
 pub without-above : (a : ℕ) (es : List OutstandingData) → AllByRecursion (λ f. a < f.id) es → without a es ≡ es
@@ -44,9 +45,7 @@ low_id (e ∷ es) id next x h at = by (e.id == id) refl at
 
 pub all_filtered : (P : OutstandingData → Type 0) (p : OutstandingData → Bool) (es : List OutstandingData)
     → AllByRecursion P es → AllByRecursion P (filter p es)
-all_filtered P p [] h = tt
-all_filtered P p (e ∷ es) h = elim (p e) as (λ b. AllByRecursion P (cond b (e ∷ filter p es) (filter p es)))
-    [ true ↦ (h.0, all_filtered P p es h.1) | false ↦ all_filtered P p es h.1 ]
+all_filtered P p es h = recursion_from_All P (filter p es) (All-filter p P es (All-from_recursion P es h))
 
 pub HasRisingIds-filter : (p : OutstandingData → Bool) (es : List OutstandingData) → HasRisingIds es
     → HasRisingIds (filter p es)

@@ -1,6 +1,7 @@
 -- One outstanding piece more, and one less.
 use Rattle.sf_book.proofs.Common.{common_steps, ◌≡◌, ◌≢◌, ℕ, ◌<◌, ◌==◌, Bool, true, false, not, cond, List, [], ◌∷◌, ◌++◌, map, get_or, Option, None, Some, refl, sym, ◌∙◌, ap, subst, arith, ◌⊎◌, ⊎_elim, All, AllByRecursion, slice_get, IsStrictlySortedBy, option_map, is_eq, nat_cmp, match_ordering, Ordering, Less, Equal, Greater, is_at, insert_entry, keys_of, remove_entry, cases_eq, nat_tests, sorted_head, sorted_tail, map-map, map-append, All-head, All-tail, All-nil, All-cons, PieceData, OutstandingData, outstanding_at, with_lease_at, without, all_at, name_cmp, piece_at, lease_state_of, outstanding_of, outstanding_list, AreMatchingMaps, LeaseState}
 use Rattle.std.proofs.Common.{append-nil}
+use Rattle.std.proofs.lemmas.List.Elements.{filter-append}
 use Rattle.sf_book.proofs.Lists.{without-above}
 use Rattle.sf_book.proofs.MapLemmas.{Ids, Names, changed_maps, entry_at_is, id_no, id_same, id_yes, mark_by_name, name_yes, num_no, num_yes, own, same_bool, same_name, same_view, some_inj, tests_as}
 use Rattle.sf_book.proofs.outstanding.OutstandingLeases.{none_some, true_false}
@@ -198,14 +199,7 @@ pub put_back : (ids : Ids) (names : Names) (i : ℕ) (p : PieceData) → All (λ
 put_back ids names i p h = removed_insert i p ids (absent_id ids i (below_ids ids names i h))
 
 without_append : (i : ℕ) (es fs : List OutstandingData) → without i (es ++ fs) ≡ without i es ++ without i fs
-without_append i [] fs = refl
-without_append i (e ∷ es) fs = go (e.id == i) (without_append i es fs)
-  where
-    go : (b : Bool) → without i (es ++ fs) ≡ without i es ++ without i fs
-        → cond (not b) (e ∷ without i (es ++ fs)) (without i (es ++ fs))
-        ≡ cond (not b) (e ∷ without i es) (without i es) ++ without i fs
-    go true h = h
-    go false h = ap (λ l. e ∷ l) h
+without_append i es fs = filter-append (λ (e : OutstandingData). not (e.id == i)) es fs
 
 pub without_low : (i : ℕ) (es : List OutstandingData) → All (λ e. e.id < i) es → without i es ≡ es
 without_low i [] h = refl

@@ -5,7 +5,7 @@ use Rattle.std.specs.Prelude.{Contains, ◌↔◌}
 use Rattle.std.specs.List.{All, sum_by, slice_get}
 use Rattle.std.proofs.lemmas.List.{length-map}
 use Rattle.std.proofs.lemmas.List.Elements.{All-head, All-tail}
-use Rattle.std.proofs.lemmas.List.Sums.{sum_by-cons, get_or-le-sum_by}
+use Rattle.std.proofs.lemmas.List.Sums.{sum_by-cons, sum_by-le, get_or-le-sum_by}
 use Rattle.std.proofs.lemmas.Option.{slice_get_within, get_or_from_slice_get, same_Some}
 use Rattle.sf_insn.specs.declared.input.Input.{Input}
 use Rattle.sf_insn.specs.Inputs.{IsInput}
@@ -39,14 +39,6 @@ module _ {B : Type 0} where
       let a = sum_by-cons h y ys in
       let b = sum_by-cons f y ys in
       let c = sum_by-cons g y ys in
-      omega arith
-
-  at_most_one_each : (f : B → ℕ) → ((y : B) → f y ≤ 1) → (ys : List B) → sum_by f ys ≤ length ys
-  at_most_one_each f each [] = omega arith
-  at_most_one_each f each (y ∷ ys) =
-      let rest = at_most_one_each f each ys in
-      let here = each y in
-      let a = sum_by-cons f y ys in
       omega arith
 
   at_least_one_each : (f : B → ℕ) (ys : List B) → All (λ y. 1 ≤ f y) ys → length ys ≤ sum_by f ys
@@ -116,9 +108,9 @@ one_for_each_trace b h m =
     (λ t. sum_by (λ (r : RegionData). prefix_bit r.name t) b.regions)
     (λ t. sum_by (λ (e : OutstandingData). prefix_bit e.piece.name t) b.outstanding
     + sum_by (λ (r : RegionData). prefix_bit r.name t) b.regions) (λ t. refl) ts in
-    let few = at_most_one_each (λ t. sum_by (λ (e : OutstandingData). prefix_bit e.piece.name t) b.outstanding
-    + sum_by (λ (r : RegionData). prefix_bit r.name t) b.regions)
-    (λ t. let a = h.apart t in omega arith) ts in
+    let few = sum_by-le (λ t. sum_by (λ (e : OutstandingData). prefix_bit e.piece.name t) b.outstanding
+    + sum_by (λ (r : RegionData). prefix_bit r.name t) b.regions) 1 ts
+    (λ k d less. let a = h.apart (get_or ts k d) in omega arith) in
     omega arith
 
 -- ---- with nothing outstanding

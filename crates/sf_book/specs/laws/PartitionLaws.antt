@@ -1,7 +1,8 @@
 -- A lawful book is a partition, place by place: each input lies in exactly one piece, and no name begins another. This
 -- follows from what a count of one, or of at most one, says of the places of a list.
-use Rattle.std.proofs.Common.{◌≡◌, ℕ, zero, suc, ◌+◌, ◌≤◌, Bool, true, false, List, [], ◌∷◌, ◌++◌, map, Some, refl, sym, ◌∙◌, ap, arith}
+use Rattle.std.proofs.Common.{◌≡◌, ℕ, zero, suc, ◌+◌, ◌≤◌, Bool, true, false, List, [], ◌∷◌, ◌++◌, map, Some, refl, ◌∙◌, ap, arith}
 use Rattle.std.specs.List.{slice_get, sum_by}
+use Rattle.std.proofs.lemmas.List.Folds.{fold-map}
 use Rattle.std.proofs.lemmas.List.Sums.{sum_by-cons, sum_by-append}
 use Rattle.std.proofs.lemmas.Option.{same_Some}
 use Rattle.sf_insn.specs.declared.input.Input.{Input}
@@ -57,9 +58,7 @@ module _ {A : Type 0} (p : A → Bool) where
           (suc r.0, r.1, r.2, r.3)
 
 pub sum_by-map : {A B : Type 0} (f : B → ℕ) (g : A → B) (xs : List A) → sum_by f (map g xs) ≡ sum_by (λ x. f (g x)) xs
-sum_by-map f g [] = refl
-sum_by-map f g (x ∷ xs) = sum_by-cons f (g x) (map g xs)
-    ∙ (ap (λ k. f (g x) + k) (sum_by-map f g xs) ∙ sym (sum_by-cons (λ x. f (g x)) x xs))
+sum_by-map f g xs = fold-map (λ a x. a + f x) g 0 xs
 
 -- each input lies in exactly one outstanding piece or region of a lawful book
 pub lies_in_one : (b : BookData) → IsLawfulBook b → (d : Input) → IsInput d → LiesInOne (parts_of b) d
