@@ -2,6 +2,10 @@
 use Rattle.sf_ask.proofs.Common.{common_steps, ◌≡◌, ℕ, zero, suc, ◌+◌, ◌<◌, ◌≤◌, inl, inr, Bool, true, false, List, length, set, refl, sym, ap, subst, ◌∙◌, arith, add-one, MatchBool, ◌==◌, Option, None, MatchOption, cases_eq, cases_lt, eqb-true, get_or-set_same, get_or-set_other, same_Some, Node, IsPool, node_at, Known, FactsView, Covers, known_at, TakesInBy, CantTakeInBy, IsPass, PassGives, IsReduction, ReductionGives, between, masked, met, forward_node, WritingGives, HaveOneResult, QuestionData, range_at, mask_at, is_whole, TakeInRange, TakeInMask, TakeInWord, TakeInBefore, CantTakeInQuestion, CantTakeInMask, CantTakeInWord, IsOutside}
 use Rattle.std.specs.Prelude.{Some}
 
+pub of-false : {B : Type 0} (A : Type 0) (b : Bool) → b ≡ false → MatchBool b A B → B
+of-false A true clash x = absurd cc
+of-false A false is x = x
+
 -- ---- one result
 
 module _ (laws : HaveOneResult) (ns : List Node) (pool : IsPool ns) where
@@ -26,28 +30,20 @@ module _ (laws : HaveOneResult) (ns : List Node) (pool : IsPool ns) where
       (same-before q word f a.0 b.0 a.1 b.1) a.2) b.2
 
   -- where facts can't take in more of a word, they don't
-  not-step : (b : Bool) (word : ℕ) (more : Known) (f g : FactsView) → b ≡ false → CantTakeInBy f ns word more
-      → MatchBool b (g ≡ f) (TakesInBy f g ns word more) → ⊥
-  not-step true word more f g clash cant takes = absurd cc
-  not-step false word more f g is cant takes = laws.confines_not f g ns word more pool takes cant
-
   not-word : (q : QuestionData) (word : ℕ) (f g : FactsView) → CantTakeInWord q word ns f → TakeInWord q word ns f g
       → ⊥
-  not-word q word f g (inl cant) takes = not-step _ word _ f takes.ranged cant.0 cant.1 takes.range
+  not-word q word f g (inl cant) takes =
+      laws.confines_not f takes.ranged ns word _ pool (of-false _ _ cant.0 takes.range) cant.1
   not-word q word f g (inr (ranged, range, cant)) takes =
       let same = subst (λ (x : FactsView). CantTakeInMask q word ns x)
       (same-step _ word _ f ranged takes.ranged range takes.range) cant in
-      not-step _ word _ takes.ranged g same.0 same.1 takes.mask
+      laws.confines_not takes.ranged g ns word _ pool (of-false _ _ same.0 takes.mask) same.1
 
 -- ---- one word
 
 pub to-false : {B : Type 0} (A : Type 0) (b : Bool) → b ≡ false → B → MatchBool b A B
 to-false A true clash x = absurd cc
 to-false A false is x = x
-
-pub of-false : {B : Type 0} (A : Type 0) (b : Bool) → b ≡ false → MatchBool b A B → B
-of-false A true clash x = absurd cc
-of-false A false is x = x
 
 pub is-other : (a b : ℕ) → (a ≡ b → ⊥) → (a == b) ≡ false
 is-other a b ne = grind (arith, common_steps, eqb-true)
@@ -202,12 +198,6 @@ before-within q zero ns f g l long count h = within-same f g ns count (ap (λ (x
 before-within q (suc word) ns f g l long count h =
     grind (arith, common_steps, step-within, within-again, before-within q word ns f h.0 (omega arith) long count h.1)
 
-ranged-within : (b : Bool) (word low high : ℕ) (f g : FactsView) (ns : List Node) → word < 16 → 16 ≤ length ns
-    → length f.known ≡ length ns → b ≡ false → MatchBool b (g ≡ f) (TakesInBy f g ns word (between low high))
-    → TakesInMore f g ns word (between low high)
-ranged-within true word low high f g ns lw long count clash h = absurd cc
-ranged-within false word low high f g ns lw long count is h = takes-more f g ns word (between low high) lw long count h
-
 -- where what is known of a word leaves no number of its range, the facts can't be confined to the question
 pub cant-outside : (q : QuestionData) (word : ℕ) (ns : List Node) (f : FactsView) → word < 16 → Covers f ns
     → is_whole (range_at q word) ≡ false
@@ -216,8 +206,8 @@ cant-outside q word ns f l covers part out g all =
     let long = covers.pool.words in
     let t = at-turn q 16 word ns f g l all in
     let a = before-within q word ns f t.old (omega arith) long covers.count t.before in
-    let b = ranged-within _ word (range_at q word).0 (range_at q word).1 t.old t.takes.ranged ns l long a.count part
-    t.takes.range in
+    let b = takes-more t.old t.takes.ranged ns word (between (range_at q word).0 (range_at q word).1) l long a.count
+    (of-false _ _ part t.takes.range) in
     crossed (known_at f.known word) (known_at t.old.known word) (known_at t.takes.ranged.known word) (a.each word l)
     (b.each word l) b.here b.ordered out
   where
