@@ -1,5 +1,5 @@
 -- The names from elsewhere that the proofs of this crate cite, passed on from one place. Declares nothing.
-pub use Rattle.atomic_table.proofs.Lists.{at_set, at_snoc, set_again, set_else, set_here}
+pub use Rattle.atomic_table.proofs.Lists.{at_set, set_again, set_else, set_here}
 pub use Rattle.atomic_table.specs.Table.{Allows, Joins, Me, Splits, State, keeps}
 pub use Rattle.crossbeam_deque.proofs.Phases.{at_lt}
 pub use Rattle.crossbeam_deque.specs.Steals.{MatchSteal}
@@ -13,14 +13,14 @@ pub use Rattle.sf_ask.specs.declared.verdict.Verdict.TheVariants.{Clear, Doubt, 
 pub use Rattle.sf_book.specs.Books.{BookData, IsLawfulBook, IsOutstanding, IsSettled, OutstandingData}
 pub use Rattle.sf_book.specs.declared.book.Lease.{Lease}
 pub use Rattle.sf_check.specs.Stacks.{IsPlain}
-pub use Rattle.sf_crew.specs.BenchRule.{AreAt, BenchKept, GetsAll, PutsAll, Sits, WereLeft, new_thief_view, owner_with_thief, spent_view}
+pub use Rattle.sf_crew.specs.BenchRule.{BenchKept, GetsAll, PutsAll, Sits, WereLeft, new_thief_view, owner_with_thief, spent_view}
 pub use Rattle.sf_crew.specs.Benches.{AreThieves, IsOnBench, owner_view, thief_view}
 pub use Rattle.sf_crew.specs.BoardRule.{BoardKept, Kept, Sound, doubts_in, least_in}
 pub use Rattle.sf_crew.specs.BoardSteps.{Draws, HasAllJobs, Knows, Looks, first_view, idle_view, joined_view, kept_view, shared_view, view_of, view_with_job, view_with_mark, view_with_note, view_with_sheet, view_without_job, with_marks, with_notes}
 pub use Rattle.sf_crew.specs.Boards.{IsNewSeat, IsSeatOf, about, board_id, seat_view}
 pub use Rattle.sf_crew.specs.EnteredSheets.{AreDoubts, IsDoubt, IsSheetFor, MarksDoubts, NotesHits}
 pub use Rattle.sf_crew.specs.Explorations.{IsExactExploration, IsExhausted, IsExplorationOf, IsFree, IsSameExploration, MayWork, TakesTurn}
-pub use Rattle.sf_crew.specs.History.{AllGot, FitEnds, FitsEnd, GetsFirst, HasHistory, IsKnownFirst, IsLawfulFrom, IsLawfulHistory, IsWhole, KeepsHandles, first_left, got_count, handle_of, handle_view, new_view, numbers_of, own_number, put_items, view_after, view_of_both, with_own}
+pub use Rattle.sf_crew.specs.History.{AllGot, FitsEnd, GetsFirst, HasHistory, IsKnownFirst, IsLawfulFrom, IsLawfulHistory, IsWhole, KeepsHandles, first_left, getters, got_count, handle_end, handle_of, handle_view, new_view, numbers_of, own_number, put_items, view_after, view_of_both, with_own}
 pub use Rattle.sf_crew.specs.LeastWords.{LeastIs}
 pub use Rattle.sf_crew.specs.Sweeps.{HasDoubt, IsFullTally, IsReplyTo, IsRightReplyAt, IsUnbroken, IsWorked, SkipsOnlyIn}
 pub use Rattle.sf_crew.specs.Tallies.{IsBelowLeast, IsCleared, RightTally}

@@ -1,5 +1,6 @@
 -- Each step of a handle keeps the rule of the bench.
-use Rattle.sf_crew.proofs.Common.{◌≡◌, ◌≢◌, ℕ, zero, suc, ◌+◌, ◌-◌, ◌<◌, ◌≤◌, min, List, [], ◌∷◌, ◌++◌, All, get_or, length, drop, set, slice_get, Option, Some, None, MatchOption, Result, Ok, Err, MatchResult, sym, refl, ap, ◌∙◌, subst, append_assoc, append-nil, length-append, length-drop, length-set, add-one, arith, some, some-injective, some-ne-none, get_elem?, length-map, drop-append-le, All-nil, All-cons, All-push, at_set, at_lt, Pushes, Takes, Finds, FindsFew, Forks, Learns, MatchSteal, Steal, Event, Put, Got, End, HandleView, handle_view, new_view, handle_of, put_items, got_count, IsLawfulFrom, IsLawfulHistory, FitsEnd, FitEnds, HasHistory, own_number, with_own, view_after, AllGot, numbers_of, KeepsHandles, AreAt, Sits, BenchKept, PutsAll, GetsAll, WereLeft, owner_with_thief, new_thief_view, common_steps}
+use Rattle.sf_crew.proofs.Common.{◌≡◌, ◌≢◌, ℕ, zero, suc, ◌+◌, ◌-◌, ◌<◌, ◌≤◌, min, List, [], ◌∷◌, ◌++◌, All, get_or, length, drop, set, slice_get, Option, Some, None, MatchOption, Result, Ok, Err, MatchResult, sym, refl, ap, ◌∙◌, subst, append_assoc, append-nil, length-append, length-drop, length-set, arith, some, some-ne-none, get_elem?, length-map, drop-append-le, All-nil, All-cons, All-push, All-tail, at_lt, Pushes, Takes, Finds, FindsFew, Forks, Learns, MatchSteal, Steal, Event, Put, Got, End, HandleView, handle_view, new_view, handle_of, put_items, getters, got_count, handle_end, IsLawfulFrom, IsLawfulHistory, FitsEnd, HasHistory, own_number, with_own, view_after, AllGot, numbers_of, KeepsHandles, Sits, BenchKept, PutsAll, GetsAll, WereLeft, owner_with_thief, new_thief_view, common_steps}
+use Rattle.sf_crew.proofs.Totals.{set_each, snoc_each}
 use Rattle.crossbeam_deque.specs.declared.steal.Steal.TheVariants.{Empty, Success, Retry}
 
 module _ {T : Type 0} where
@@ -11,34 +12,25 @@ module _ {T : Type 0} where
   abbrev pub AllByHandlesBelow : ℕ → List (Event T) → Type 0
   AllByHandlesBelow n es = All (λ (e : Event T). handle_of e < n) es
 
-  below_notby : (i : ℕ) (h : List (Event T)) → AllByHandlesBelow i h → NotBy i h
-  below_notby i h below = λ k d there is. let lt : handle_of (get_or h k d) < i = below k d there in omega arith
-
   pub puts_append : (a b : List (Event T)) → put_items (a ++ b) ≡ put_items a ++ put_items b
   puts_append [] b = refl
   puts_append (Put x ∷ a) b = ap (λ (l : List T). x ∷ l) (puts_append a b)
   puts_append (Got i ∷ a) b = puts_append a b
 
-  gots_put : (h : List (Event T)) (x : T) → got_count (h ++ Put x ∷ []) ≡ got_count h
-  gots_put [] x = refl
-  gots_put (Put y ∷ h) x = gots_put h x
-  gots_put (Got i ∷ h) x = ap (λ n. 1 + n) (gots_put h x)
+  pub getters_append : (a b : List (Event T)) → getters (a ++ b) ≡ getters a ++ getters b
+  getters_append [] b = refl
+  getters_append (Put x ∷ a) b = getters_append a b
+  getters_append (Got i ∷ a) b = ap (λ (l : List ℕ). i ∷ l) (getters_append a b)
 
-  gots_got : (h : List (Event T)) (i : ℕ) → got_count (h ++ Got i ∷ []) ≡ got_count h + 1
-  gots_got [] i = omega arith
-  gots_got (Put y ∷ h) i = gots_got h i
-  gots_got (Got j ∷ h) i = let e = gots_got h i in omega arith
-
-  lawful_put : (p g : ℕ) (h : List (Event T)) (x : T) → IsLawfulFrom p g h → IsLawfulFrom p g (h ++ Put x ∷ [])
-  lawful_put p g [] x l = tt
-  lawful_put p g (Put y ∷ h) x l = lawful_put (p + 1) g h x l
-  lawful_put p g (Got i ∷ h) x l = (l.0, lawful_put p (g + 1) h x l.1)
-
-  lawful_got : (p g : ℕ) (h : List (Event T)) (i : ℕ) → IsLawfulFrom p g h → g + got_count h < p + length (put_items h)
-      → IsLawfulFrom p g (h ++ Got i ∷ [])
-  lawful_got p g [] i l lt = (omega arith, tt)
-  lawful_got p g (Put y ∷ h) i l lt = lawful_got (p + 1) g h i l (omega arith)
-  lawful_got p g (Got j ∷ h) i l lt = (l.0, lawful_got p (g + 1) h i l.1 (omega arith))
+  -- a lawful history goes on lawfully by what is lawful after it
+  lawful_append : (p g : ℕ) (a b : List (Event T)) → IsLawfulFrom p g a
+      → ((q k : ℕ) → q ≡ p + length (put_items a) → k ≡ g + got_count a → IsLawfulFrom q k b)
+      → IsLawfulFrom p g (a ++ b)
+  lawful_append p g [] b l next = next p g (omega arith) (omega arith)
+  lawful_append p g (Put y ∷ a) b l next =
+      lawful_append (p + 1) g a b l (λ q k e f. next q k (omega arith) (omega arith))
+  lawful_append p g (Got i ∷ a) b l next =
+      (l.0, lawful_append p (g + 1) a b l.1 (λ q k e f. next q k (omega arith) (omega arith)))
 
   pub lawful_le : (p g : ℕ) (h : List (Event T)) → g ≤ p → IsLawfulFrom p g h
       → g + got_count h ≤ p + length (put_items h)
@@ -53,64 +45,48 @@ module _ {T : Type 0} where
   dropped (y ∷ l) zero x xs e = (ap (λ (z : T). Some z) (cc), cc, omega arith)
   dropped (y ∷ l) (suc n) x xs e = let r = dropped l n x xs e in (r.0, r.1, (let lt = r.2 in omega arith))
 
-  -- a fact of every view in its place, where one view changes
-  pub set_each : (P : ℕ → HandleView T → Type 0) (views : List (HandleView T)) (port : ℕ) (w : HandleView T) → P port w
-      → ((j : ℕ) (u : HandleView T) → j ≢ port → get_elem? views j ≡ some u → P j u) → (j : ℕ) (u : HandleView T)
-      → get_elem? (set views port w) j ≡ some u → P j u
-  set_each P views port w mine others j u there = grind (arith, common_steps, at_set)
-
-  -- and where one comes to them
-  snoc_each : (P : ℕ → HandleView T → Type 0) (views : List (HandleView T)) (w : HandleView T)
-      → ((j : ℕ) (u : HandleView T) → get_elem? views j ≡ some u → P j u) → P (length views) w → (j : ℕ)
-      (u : HandleView T) → get_elem? (views ++ w ∷ []) j ≡ some u → P j u
-  snoc_each P [] w all mine zero u e = subst (P 0) (some-injective w u e) mine
-  snoc_each P [] w all mine (suc j) u e = absurd (some-ne-none u (sym e))
-  snoc_each P (x ∷ views) w all mine zero u e = all 0 u e
-  snoc_each P (x ∷ views) w all mine (suc j) u e =
-      snoc_each (λ n. P (suc n)) views w (λ n y at. all (suc n) y at) mine j u e
-
   -- only the owner, at the place 0, has made handles, and it has made n
   abbrev pub IsMaker : ℕ → ℕ → HandleView T → Type 0
   IsMaker n port v = 0 < v.made → (port ≡ 0) × (v.made ≡ n)
 
   -- ---- one more event
 
-  -- an end still fits when another handle makes a step
-  fits_more : (h : List (Event T)) (s : Event T) (e : End T) → handle_of s ≢ e.number → FitsEnd h e
-      → FitsEnd (h ++ s ∷ []) e
-  fits_more h s e other f = (
-    f.0 ++ s ∷ [],
-    ap (λ (l : List (Event T)). l ++ s ∷ []) f.1 ∙ append_assoc e.events f.0 (s ∷ []),
-    All-push (λ (y : Event T). handle_of y ≢ e.number) f.0 s f.2 other,
-  )
-
   -- ends that lie elsewhere are of other handles than the one whose own end lies here
   pub not_here : (home : ℕ → ℕ) (port other : ℕ) (es : List (End T)) → home port ≡ port → other ≢ port
-      → AreAt home other es → All (λ (o : End T). o.number ≢ port) es
-  not_here home port other [] here ne at = All-nil (λ (o : End T). o.number ≢ port)
-  not_here home port other (e ∷ es) here ne at = search (arith, All-cons, not_here home port other es here ne at.1)
+      → All (λ (o : End T). home o.number ≡ other) es → All (λ (o : End T). o.number ≢ port) es
+  not_here home port other es here ne at = λ k d there same. ne (sym (at k d there) ∙ ap home same ∙ here)
 
-  -- so do ends of other handles
+  -- ends still fit when another handle makes a step
   fit_others : (port : ℕ) (h : List (Event T)) (s : Event T) (es : List (End T)) → handle_of s ≡ port
-      → All (λ (o : End T). o.number ≢ port) es → FitEnds h es → FitEnds (h ++ s ∷ []) es
-  fit_others port h s [] is apart f = tt
-  fit_others port h s (e ∷ es) is apart f = (
-    fits_more h s e (λ (same : handle_of s ≡ e.number). apart 0 e (omega arith) (sym same ∙ is)) f.0,
-    fit_others port h s es is (λ k d there. apart (suc k) d (omega arith)) f.1,
+      → All (λ (o : End T). o.number ≢ port) es → All (FitsEnd h) es → All (FitsEnd (h ++ s ∷ [])) es
+  fit_others port h s es is apart fit = λ k d there. let e : End T = get_or es k d in let f = fit k d there in (
+    f.0 ++ s ∷ [],
+    ap (λ (l : List (Event T)). l ++ s ∷ []) f.1 ∙ append_assoc e.events f.0 (s ∷ []),
+    All-push (λ (y : Event T). handle_of y ≢ e.number) f.0 s f.2 (λ same. apart k d there (sym same ∙ is)),
   )
 
   -- the view of the handle that makes the step
   own_sits : (home : ℕ → ℕ) (port : ℕ) (h : List (Event T)) (s : Event T) (n : ℕ) (es : List (End T))
       → handle_of s ≡ port
       → Sits h home port (handle_view n es) → Sits (h ++ s ∷ []) home port (handle_view n (with_own es (h ++ s ∷ [])))
-  own_sits home port h s n [] is sits = record { fits = tt; at = tt; own = tt }
+  own_sits home port h s n [] is sits = record { fits = λ k d there. absurd (omega arith); at = sits.at; own = tt }
   own_sits home port h s n (e ∷ es) is sits = record {
-    fits = (
-      ([], sym (append-nil (h ++ s ∷ [])), All-nil (λ (y : Event T). handle_of y ≢ e.number)),
-      fit_others port h s es is sits.own.1 sits.fits.1,
-    );
-    at = sits.at;
+    fits = All-cons (FitsEnd (h ++ s ∷ [])) (handle_end e.number (h ++ s ∷ [])) es
+        ([], sym (append-nil (h ++ s ∷ [])), All-nil (λ (y : Event T). handle_of y ≢ e.number))
+        (fit_others port h s es is sits.own.1 (All-tail (FitsEnd h) e es sits.fits));
+    at = All-cons (λ (o : End T). home o.number ≡ port) (handle_end e.number (h ++ s ∷ [])) es
+        (sits.at 0 e (omega arith)) (All-tail (λ (o : End T). home o.number ≡ port) e es sits.at);
     own = sits.own;
+  }
+
+  -- the view of a handle that has made no step
+  new_sits : (home : ℕ → ℕ) (port : ℕ) (h : List (Event T)) (i n : ℕ) → i ≡ port → home i ≡ port → NotBy i h
+      → Sits h home port (new_view i n)
+  new_sits home port h i n own at none = record {
+    fits = All-cons (FitsEnd h) (handle_end i []) [] (h, refl, none) (All-nil (FitsEnd h));
+    at = All-cons (λ (o : End T). home o.number ≡ port) (handle_end i []) [] at
+        (All-nil (λ (o : End T). home o.number ≡ port));
+    own = (own, All-nil (λ (o : End T). o.number ≢ port));
   }
 
   -- one more event, of this handle
@@ -137,16 +113,16 @@ module _ {T : Type 0} where
               at = f.at;
               own = f.own;
             });
-        all_made = set_each (IsMaker (length (set views port w))) views port w
-            (λ some_made. let old = k.all_made port v at some_made in (old.0, old.1 ∙ sym long))
-            (λ j u other there some_made. let old = k.all_made j u there some_made in (old.0, old.1 ∙ sym long));
+        all_made = subst (λ n. (j : ℕ) (u : HandleView T) → get_elem? (set views port w) j ≡ some u → IsMaker n j u)
+            (sym long) (set_each (IsMaker (length views)) views port w (k.all_made port v at)
+            (λ j u _ there. k.all_made j u there));
       }
 
   -- a handle's own end has the number of the handle, and lies in its view
   own_at : (home : ℕ → ℕ) (port : ℕ) (h : List (Event T)) (n : ℕ) (es : List (End T)) → 0 < length es
       → Sits h home port (handle_view n es) → (own_number es ≡ port) × (home port ≡ port)
   own_at home port h n [] live sits = absurd (omega arith)
-  own_at home port h n (e ∷ es) live sits = (sits.own.0, ap home (sym sits.own.0) ∙ sits.at.0)
+  own_at home port h n (e ∷ es) live sits = (sits.own.0, ap home (sym sits.own.0) ∙ sits.at 0 e (omega arith))
 
   pub moment : (items : List T) (views : List (HandleView T)) (port : ℕ) (v : HandleView T) (k : BenchKept items views)
       (at : get_elem? views port ≡ some v) → HasHistory v k.history
@@ -158,10 +134,9 @@ module _ {T : Type 0} where
       let h : List (Event T) = k.history in let le = lawful_le 0 0 h (omega arith) k.lawful in
       let own = own_at k.home port h v.made v.ends live (k.each port v at) in (
         view_after v (h ++ Put x ∷ []),
-        grown items (items ++ x ∷ []) views port v (Put x) k at (sym zeroth) own.1 (lawful_put 0 0 h x k.lawful)
-            (ap (λ (l : List T). l ++ x ∷ []) k.left
-            ∙ sym (drop-append-le (got_count h) (put_items h) (x ∷ []) (omega arith))
-            ∙ (λ i. drop (sym (gots_put h x) i) (sym (puts_append h (Put x ∷ [])) i))),
+        grown items (items ++ x ∷ []) views port v (Put x) k at (sym zeroth) own.1
+            (lawful_append 0 0 h (Put x ∷ []) k.lawful (λ _ _ _ _. tt))
+            (grind (arith, common_steps, k.left, puts_append, getters_append, append-nil, drop-append-le)),
         λ y e. let same : x ≡ y = cc (e) in (
           h,
           moment items views port v k at,
@@ -173,13 +148,11 @@ module _ {T : Type 0} where
   takes port v live [] items views some_one one k at = absurd (omega arith)
   takes port v live (x ∷ []) items views some_one one k at =
       let h : List (Event T) = k.history in let d = dropped (put_items h) (got_count h) x items (sym k.left) in
-      let puts : put_items (h ++ Got port ∷ []) ≡ put_items h =
-      puts_append h (Got port ∷ []) ∙ append-nil (put_items h) in
       let own = own_at k.home port h v.made v.ends live (k.each port v at) in (
         view_after v (h ++ Got port ∷ []),
         grown (x ∷ items) items views port v (Got port) k at refl own.1
-            (lawful_got 0 0 h port k.lawful (let lt = d.2 in omega arith))
-            (sym d.1 ∙ (λ i. drop ((sym (gots_got h port ∙ add-one (got_count h))) i) (sym puts i))),
+            (lawful_append 0 0 h (Got port ∷ []) k.lawful (λ q n e f. (let lt = d.2 in omega arith, tt)))
+            (grind (arith, common_steps, d.1, puts_append, getters_append, append-nil, length-append)),
         λ y e. let same : x ≡ y = cc (e) in (
           h,
           moment (x ∷ items) views port v k at,
@@ -226,11 +199,9 @@ module _ {T : Type 0} where
         ports = λ i d there. let lt : handle_of (get_or h i d) < length views = k.ports i d there in omega arith;
         fresh = λ i le. k.fresh i (omega arith);
         each = snoc_each (Sits h k.home) vs r (set_each (Sits h k.home) views port l
-            (record { fits = mine.fits; at = mine.at; own = mine.own }) (λ j u other there. k.each j u there)) (record {
-              fits = ((h, refl, below_notby v.made h (subst (λ n. AllByHandlesBelow n h) (sym made) k.ports)), tt);
-              at = (k.fresh v.made (omega arith) ∙ made ∙ sym long, tt);
-              own = (made ∙ sym long, All-nil (λ (o : End T). o.number ≢ length vs));
-            });
+            (record { fits = mine.fits; at = mine.at; own = mine.own }) (λ j u other there. k.each j u there))
+            (new_sits k.home (length vs) h v.made 0 (made ∙ sym long) (k.fresh v.made (omega arith) ∙ made ∙ sym long)
+            (λ i d there is. let lt : handle_of (get_or h i d) < length views = k.ports i d there in omega arith));
         all_made = snoc_each (IsMaker (length (vs ++ r ∷ []))) vs r
             (set_each (IsMaker (length (vs ++ r ∷ []))) views port l
             (λ _. let is : l.made ≡ v.made + 1 = refl in (m.0, omega arith))
@@ -248,7 +219,8 @@ module _ {T : Type 0} where
     left = refl;
     ports = All-nil (λ (e : Event T). handle_of e < 1);
     fresh = λ i le. refl;
-    each = grind (arith, common_steps, All-nil, snoc_each);
+    each = snoc_each (Sits [] (λ i. i)) [] (new_view 0 1) (λ j u there. absurd (some-ne-none u (sym there)))
+        (new_sits (λ i. i) 0 [] 0 1 refl refl (All-nil (λ (e : Event T). handle_of e ≢ 0)));
     all_made = grind (arith, common_steps, snoc_each);
   }
 

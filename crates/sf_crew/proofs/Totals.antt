@@ -1,5 +1,5 @@
 -- Sums and greatest values over all views, and lists read by place.
-use Rattle.sf_crew.proofs.Common.{common_steps, ◌≡◌, ℕ, zero, suc, ◌+◌, ◌≤◌, ◌==◌, if◌then◌else◌, cond, max, List, [], ◌∷◌, ◌++◌, sum_by, count_by, set, sym, refl, ap, arith, sum_by-cons, sum_by-append, some, some-injective, some-ne-none, get_elem?, at_set, at_snoc, View, top}
+use Rattle.sf_crew.proofs.Common.{common_steps, ◌≡◌, ℕ, zero, suc, ◌+◌, ◌≤◌, ◌==◌, if◌then◌else◌, cond, max, List, [], ◌∷◌, ◌++◌, sum_by, count_by, set, sym, refl, ap, arith, sum_by-cons, sum_by-append, some, some-injective, some-ne-none, get_elem?, at_set, subst, length, ◌≢◌, View, top}
 
 -- how often x stands in the list
 abbrev pub times : ℕ → List ℕ → ℕ
@@ -80,16 +80,21 @@ pub top_only : (f g : View → ℕ) (views : List View) (port : ℕ) (v : View)
     → sum_by f views ≡ f v → top g views ≡ g v
 top_only f g views port v h at e = grind (arith, common_steps, total_only, top_below_total, top_at)
 
--- a fact of every view stays where one view changes
-pub every_set : (F G : View → Type 0) (views : List View) (port : ℕ) (w : View)
-    → ((j : ℕ) (u : View) → get_elem? views j ≡ some u → F u) → ((u : View) → F u → G u) → G w → (j : ℕ) (u : View)
-    → get_elem? (set views port w) j ≡ some u → G u
-every_set F G views port w all keeps mine j u e = grind (arith, common_steps, at_set)
+-- a fact of each element in its place, where one element changes
+pub set_each : {X : Type 0} (P : ℕ → X → Type 0) (xs : List X) (i : ℕ) (x : X) → P i x
+    → ((j : ℕ) (y : X) → j ≢ i → get_elem? xs j ≡ some y → P j y) → (j : ℕ) (y : X)
+    → get_elem? (set xs i x) j ≡ some y → P j y
+set_each P xs i x mine others j y there = grind (arith, common_steps, at_set)
 
-pub every_snoc : (F : View → Type 0) (views : List View) (w : View)
-    → ((j : ℕ) (u : View) → get_elem? views j ≡ some u → F u) → F w → (j : ℕ) (u : View)
-    → get_elem? (views ++ w ∷ []) j ≡ some u → F u
-every_snoc F views w all mine j u e = grind (arith, common_steps, at_snoc)
+-- and where one comes to them
+pub snoc_each : {X : Type 0} (P : ℕ → X → Type 0) (xs : List X) (x : X)
+    → ((j : ℕ) (y : X) → get_elem? xs j ≡ some y → P j y) → P (length xs) x → (j : ℕ) (y : X)
+    → get_elem? (xs ++ x ∷ []) j ≡ some y → P j y
+snoc_each P [] x all mine zero y e = subst (P 0) (some-injective x y e) mine
+snoc_each P [] x all mine (suc j) y e = absurd (some-ne-none y (sym e))
+snoc_each P (z ∷ xs) x all mine zero y e = all 0 y e
+snoc_each P (z ∷ xs) x all mine (suc j) y e =
+    snoc_each (λ n. P (suc n)) xs x (λ n w at. all (suc n) w at) mine j y e
 
 -- the greatest value after one view changed, whether its own rises or falls
 pub top_change : (f : View → ℕ) (views : List View) (port : ℕ) (v w : View) → get_elem? views port ≡ some v

@@ -1,5 +1,5 @@
 -- Where all handles are joined there is just one history.
-use Rattle.sf_crew.proofs.Common.{common_steps, ◌≡◌, ◌≢◌, ℕ, zero, suc, ◌+◌, ◌<◌, ◌⊎◌, List, [], ◌∷◌, ◌++◌, Any, Contains, get_or, length, Option, Some, None, MatchOption, sym, refl, ap, ◌∙◌, subst, inl, inr, ⊎_elim, append_assoc, append-nil, length-append, arith, nil_from_length, same_from_push, All-pop, slice_get_past, Event, End, HandleView, handle_of, put_items, got_count, first_left, FitsEnd, FitEnds, HasHistory, numbers_of, AllGot, IsWhole, IsKnownFirst, GetsAll}
+use Rattle.sf_crew.proofs.Common.{◌≡◌, ◌≢◌, ℕ, zero, suc, ◌+◌, ◌<◌, ◌⊎◌, List, [], ◌∷◌, ◌++◌, Any, Contains, length, Option, Some, None, MatchOption, sym, refl, ap, ◌∙◌, subst, inl, inr, ⊎_elim, append_assoc, append-nil, length-append, arith, nil_from_length, same_from_push, All-pop, slice_get_past, Event, End, HandleView, handle_of, put_items, got_count, first_left, FitsEnd, HasHistory, numbers_of, AllGot, IsWhole, IsKnownFirst, GetsAll}
 use Rattle.crossbeam_deque.proofs.Shelves.{last_of_some}
 
 module _ {T : Type 0} where
@@ -11,22 +11,17 @@ module _ {T : Type 0} where
   last_of [] = inl refl
   last_of (e ∷ h) = inr (last_of_some (e ∷ h) (omega arith))
 
-  -- an end that is joined fits
-  pub fits_at : (h : List (Event T)) (es : List (End T)) (k : ℕ) (e : End T) → k < length es → get_or es k e ≡ e
-      → FitEnds h es → FitsEnd h e
-  fits_at h [] k e within is f = absurd (omega arith)
-  fits_at h (x ∷ es) zero e within is f = subst (λ (y : End T). FitsEnd h y) is f.0
-  fits_at h (x ∷ es) (suc k) e within is f = fits_at h es k e (omega arith) is f.1
-
   -- the end of a handle that is joined
-  end_at : (es : List (End T)) (i k : ℕ) → k < length (numbers_of es) → get_or (numbers_of es) k i ≡ i
-      → (e : End T) × (k < length es) × (get_or es k e ≡ e) × (e.number ≡ i)
-  end_at [] i k within is = absurd (omega arith)
-  end_at (x ∷ es) i zero within is = (x, omega arith, refl, is)
-  end_at (x ∷ es) i (suc k) within is = grind (arith, common_steps, end_at es i k (omega arith) is)
-
   pub joined_end : (es : List (End T)) (i : ℕ) → Contains (numbers_of es) i → Any (λ (e : End T). e.number ≡ i) es
-  joined_end es i there = let r = end_at es i there.0 there.1 there.2 in (there.0, r.0, r.1, r.2, r.3)
+  joined_end [] i there = absurd (let lt = there.1 in omega arith)
+  joined_end (x ∷ es) i (zero, lt, is) = (0, x, omega arith, refl, is)
+  joined_end (x ∷ es) i (suc k, lt, is) =
+      let r = joined_end es i (k, omega arith, is) in (suc r.0, r.1, (let within = r.2 in omega arith), r.3, r.4)
+
+  -- an end that is joined fits each history that fits all ends
+  pub fits_at : (v : HandleView T) (h : List (Event T)) (P : End T → Type 0) (j : Any P v.ends) → HasHistory v h
+      → FitsEnd h j.1
+  fits_at v h P j has = subst (λ (e : End T). FitsEnd h e) j.3 (has.ends j.0 j.1 j.2)
 
   -- the end whose handle made the last step knows the whole history
   knows_all : (a : List (Event T)) (s : Event T) (e : End T) → handle_of s ≡ e.number → FitsEnd (a ++ s ∷ []) e
@@ -47,8 +42,8 @@ module _ {T : Type 0} where
       let lt : handle_of x.1 < v.made =
       (All-pop (λ (y : Event T). handle_of y < v.made) h x.0 (Some x.1) x.2 (p.made whole.0)).1 in
       let j = joined_end v.ends (handle_of x.1) (whole.1 (handle_of x.1) lt) in
-      let ph : FitsEnd h j.1 = fits_at h v.ends j.0 j.1 j.2 j.3 p.ends in
-      let qk : FitsEnd k j.1 = fits_at k v.ends j.0 j.1 j.2 j.3 q.ends in
+      let ph : FitsEnd h j.1 = fits_at v h (λ (e : End T). e.number ≡ handle_of x.1) j p in
+      let qk : FitsEnd k j.1 = fits_at v k (λ (e : End T). e.number ≡ handle_of x.1) j q in
       let all : x.0 ++ x.1 ∷ [] ≡ j.1.events = knows_all x.0 x.1 j.1 (sym j.4)
       (subst (λ (l : List (Event T)). FitsEnd l j.1) x.2 ph) in
       (qk.0, qk.1 ∙ ap (λ (l : List (Event T)). l ++ qk.0) (sym all ∙ sym x.2))) (last_of h)

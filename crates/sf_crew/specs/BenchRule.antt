@@ -5,17 +5,12 @@ use lib.ListN.{get_elem?}
 use Rattle.sf_crew.specs.declared.benches.history.Event.{Event}
 use Rattle.sf_crew.specs.declared.benches.history.End.{End}
 use Rattle.sf_crew.specs.declared.benches.history.HandleView.{HandleView}
-use Rattle.sf_crew.specs.History.{handle_view, new_view, handle_of, put_items, got_count, HasHistory, IsLawfulHistory, FitEnds, Puts, GetsFirst}
+use Rattle.sf_crew.specs.History.{handle_view, new_view, handle_of, put_items, got_count, HasHistory, IsLawfulHistory, FitsEnd, Puts, GetsFirst}
 
 module _ {T : Type 0} where
   -- the items that were put and that no handle has got
   abbrev pub left_items : List (Event T) → List T
   left_items h = drop (got_count h) (put_items h)
-
-  -- each of the ends lies in the view at this place
-  abbrev pub AreAt : (ℕ → ℕ) → ℕ → List (End T) → Type 0
-  AreAt home port [] = Unit {0}
-  AreAt home port (e ∷ es) = (home e.number ≡ port) × AreAt home port es
 
   -- the first end is that of the handle at this place itself, and the others are of other handles
   abbrev pub IsOwnFirst : ℕ → List (End T) → Type 0
@@ -24,8 +19,8 @@ module _ {T : Type 0} where
 
   -- the view at this place fits the history, and has just ends that lie there
   pub record Sits (h : List (Event T)) (home : ℕ → ℕ) (port : ℕ) (v : HandleView T) : Type 0 where
-    pub fits : FitEnds h v.ends
-    pub at : AreAt home port v.ends
+    pub fits : All (λ e. FitsEnd h e) v.ends
+    pub at : All (λ e. home e.number ≡ port) v.ends
     pub own : IsOwnFirst port v.ends
 
   -- There is one lawful history, of which each end knows a beginning with all its own steps. Each step was made by one

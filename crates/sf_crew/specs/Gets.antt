@@ -1,17 +1,14 @@
 -- Which handle of a bench got which item: the item at each place of the list of what was put goes to one handle.
-use Rattle.std.specs.Prelude.{◌≡◌, ℕ, zero, suc, ◌<◌, ◌≤◌, ◌↔◌, List, [], ◌∷◌, ◌++◌, All, Any, length, Option, Some, None, IsSome, slice_get}
+use Rattle.std.specs.Prelude.{◌≡◌, ℕ, ◌<◌, ◌≤◌, ◌↔◌, List, [], ◌∷◌, ◌++◌, All, Any, length, Option, Some, None, IsSome, slice_get}
 use Rattle.sf_crew.specs.declared.benches.history.Event.{Event}
-use Rattle.sf_crew.specs.declared.benches.history.Event.TheVariants.{Put, Got}
+use Rattle.sf_crew.specs.declared.benches.history.Event.TheVariants.{Got}
 use Rattle.sf_crew.specs.declared.benches.history.HandleView.{HandleView}
-use Rattle.sf_crew.specs.History.{put_items, got_count, first_left, HasHistory, IsKnownFirst}
+use Rattle.sf_crew.specs.History.{put_items, getters, got_count, first_left, HasHistory, IsKnownFirst}
 
 module _ {T : Type 0} where
   -- the handle that got the item at place k, where one did
   abbrev pub getter : List (Event T) → ℕ → Option ℕ
-  getter [] k = None
-  getter (Put x ∷ es) k = getter es k
-  getter (Got i ∷ es) zero = Some i
-  getter (Got i ∷ es) (suc k) = getter es k
+  getter h k = slice_get (getters h) k
 
   -- How what was put is shared out, by a history that fits all that some handles know.
   pub record IsSharedOut (v : HandleView T) (h : List (Event T)) : Type 0 where

@@ -40,11 +40,15 @@ module _ {T : Type 0} where
   put_items (Put x ∷ es) = x ∷ put_items es
   put_items (Got i ∷ es) = put_items es
 
-  -- how many of them were got. Items are got in the order of putting, so this is also the place of the next one
+  -- the handles that got an item, in the order of their gets
+  abbrev pub getters : List (Event T) → List ℕ
+  getters [] = []
+  getters (Put x ∷ es) = getters es
+  getters (Got i ∷ es) = i ∷ getters es
+
+  -- how many items were got. Items are got in the order of putting, so this is also the place of the next one
   abbrev pub got_count : List (Event T) → ℕ
-  got_count [] = 0
-  got_count (Put x ∷ es) = got_count es
-  got_count (Got i ∷ es) = 1 + got_count es
+  got_count h = length (getters h)
 
   -- the first item that was put and that no handle has got, if there is one
   abbrev pub first_left : List (Event T) → Option T
@@ -64,16 +68,11 @@ module _ {T : Type 0} where
   abbrev pub FitsEnd : List (Event T) → End T → Type 0
   FitsEnd h e = (rest : List (Event T)) × (h ≡ e.events ++ rest) × All (λ s. handle_of s ≢ e.number) rest
 
-  -- so is each of these ends
-  abbrev pub FitEnds : List (Event T) → List (End T) → Type 0
-  FitEnds h [] = Unit {0}
-  FitEnds h (e ∷ es) = FitsEnd h e × FitEnds h es
-
   -- By all that the handle knows, the history may be h at some moment: h is lawful, and fits the handle's own end and
   -- the ends that were joined into it. The owner has made all handles, so it knows which there are; a thief doesn't.
   pub record HasHistory (v : HandleView T) (h : List (Event T)) : Type 0 where
     pub lawful : IsLawfulHistory h
-    pub ends : FitEnds h v.ends
+    pub ends : All (λ e. FitsEnd h e) v.ends
     pub made : 0 < v.made → All (λ s. handle_of s < v.made) h
 
   -- the handle itself has seen this history

@@ -1,7 +1,7 @@
 -- What drawing a job keeps of the rule of a board.
-use Rattle.sf_crew.proofs.Common.{◌≡◌, ℕ, suc, ◌+◌, ◌%◌, ◌<◌, ◌≤◌, ◌==◌, if◌then◌else◌, min, List, ◌++◌, sum_by, map, length, set, slice_index, Some, None, IfSome, refl, ap, ◌∙◌, subst, inl, inr, length-set, lt_of_not-le, arith, nat_tests, get_or-set_same, get_or-set_other, some, dec_le, get_elem?, Me, Allows, keeps, BoardKey, View, questions_of, count_of_regions, jobs, owed_jobs, once_below, Sound, Kept, BoardKept, least_in, doubts_in, view_with_job, view_without_job, HasAllJobs, Draws}
+use Rattle.sf_crew.proofs.Common.{common_steps, ◌≡◌, ℕ, suc, ◌+◌, ◌%◌, ◌<◌, ◌≤◌, ◌==◌, if◌then◌else◌, min, List, ◌++◌, sum_by, map, length, set, slice_index, Some, None, IfSome, refl, ap, subst, inl, length-set, lt_of_not-le, arith, nat_tests, get_or-set_same, get_or-set_other, some, dec_le, get_elem?, Me, Allows, keeps, BoardKey, View, questions_of, count_of_regions, jobs, owed_jobs, once_below, Kept, BoardKept, least_in, doubts_in, view_with_job, view_without_job, HasAllJobs, Draws}
 use Rattle.sf_crew.proofs.Jobs.{all_jobs}
-use Rattle.sf_crew.proofs.Totals.{times, times_cons, total_set, total_at, total_le, every_set}
+use Rattle.sf_crew.proofs.Totals.{times, times_cons, total_set, total_at, total_le, set_each}
 use Rattle.sf_crew.proofs.board.OneView.{one_view, same_marks, later, in_words}
 
 below_next : (x n : ℕ) → once_below x (n + 1) ≡ once_below x n + (if x == n then 1 else 0)
@@ -32,37 +32,16 @@ draw_kept k n e d least views port v below free part at h = let w : View = view_
       past_end = inl (omega arith);
       entered_is = refl;
     }) (same_marks d views port v w at (λ q. refl) h.marked) h.right
-    (λ u s. later k n (n + 1) least least u (omega arith) (λ q. omega arith) s) (record {
-      about = mine.about;
-      idle = λ none. absurd (omega arith);
-      few = mine.few;
-      past = λ some_none. let was = mine.past some_none in omega arith;
-      marks = λ none. mine.marks free;
-      noted = mine.noted;
-      covered = mine.covered;
-    }) h
+    (λ u s. later k n (n + 1) least least u (omega arith) (λ q. omega arith) s) (grind (arith, common_steps)) h
 
 pass_kept : (k : BoardKey) (n e : ℕ) (d least : ℕ → ℕ) (views : List View) (port : ℕ) (v : View)
     → count_of_regions k ≤ n → v.exhausted_seats ≡ 0 → 0 < v.joined_seats → get_elem? views port ≡ some v
     → Kept k n e d least views → Kept k (n + 1) e d least (set views port (view_without_job v))
 pass_kept k n e d least views port v past fresh part at h = let w : View = view_without_job v in
     let mine = h.each port v at in
-    one_view k n (n + 1) e e d d least least views port v w at (record {
-      joined_seats = refl;
-      drawn = search arith;
-      drawn_count = (let same : length (jobs w) ≡ length (jobs v) = refl in omega arith);
-      past_end = inr (omega arith);
-      entered_is = refl;
-    }) (same_marks d views port v w at (λ q. refl) h.marked) h.right
-    (λ u s. later k n (n + 1) least least u (omega arith) (λ q. omega arith) s) (record {
-      about = mine.about;
-      idle = λ none. absurd (omega arith);
-      few = omega arith;
-      past = λ _. omega arith;
-      marks = mine.marks;
-      noted = mine.noted;
-      covered = mine.covered;
-    }) h
+    one_view k n (n + 1) e e d d least least views port v w at (grind (arith, common_steps))
+    (same_marks d views port v w at (λ q. refl) h.marked) h.right
+    (λ u s. later k n (n + 1) least least u (omega arith) (λ q. omega arith) s) (grind (arith, common_steps)) h
 
 -- the word of the next job stays far below 2 ^ 64
 nones_below : (k : BoardKey) (n e : ℕ) (d least : ℕ → ℕ) (views : List View) (port : ℕ) (v : View)
@@ -74,8 +53,8 @@ nones_below k n e d least views port v fresh part at h =
     let b = total_set (λ u. u.joined_seats) views port v w at in
     let le : sum_by (λ u. u.exhausted_seats) (set views port w) ≤ sum_by (λ u. u.joined_seats) (set views port w) =
     total_le (λ u. u.exhausted_seats) (λ u. u.joined_seats) (set views port w)
-    (every_set (λ u. Sound k n least u) (λ u. u.exhausted_seats ≤ u.joined_seats) views port w h.each (λ u s. s.few)
-    (omega arith)) in
+    (set_each (λ _ u. u.exhausted_seats ≤ u.joined_seats) views port w (omega arith)
+    (λ j u _ there. (h.each j u there).few)) in
     let p = h.joined_seats in let q = h.past_end in omega arith
 
 draw_step : (k : BoardKey) (words : List ℕ) (views : List View) (id : ℕ) (v : View) → v.owes ≡ None
@@ -125,10 +104,6 @@ draws k slots id me is free fresh part small s h homes at fits =
       t.0,
       keeps,
       tt,
-      in_words k (set s.words 0 m) m (slice_index s.words 1) (doubts_in s.words) (least_in s.words) (set s.views id t.0)
-          (length-set s.words 0 m ∙ long) (get_or-set_same s.words 0 m 0 (omega arith))
-          (get_or-set_other s.words 0 1 m 0 (λ e. omega arith))
-          (λ w few. get_or-set_other s.words 0 (w + 2) m 0 (λ e. omega arith))
-          (λ q. get_or-set_other s.words 0 (q + 6) m 0 (λ e. omega arith)) t.1,
+      search (arith, in_words, t.1, get_or-set_same, get_or-set_other, length-set),
       (told, refl),
     )

@@ -1,7 +1,7 @@
 -- What a seat knows of its jobs, and how seats are split and joined.
-use Rattle.sf_crew.proofs.Common.{common_steps, ◌≡◌, ◌≢◌, ℕ, ◌+◌, ◌<◌, ◌≤◌, ◌⊎◌, min, max, List, [], ◌∷◌, ◌++◌, sum_by, length, set, slice_index, Some, None, IfSome, sym, refl, ap, ◌∙◌, subst, inr, length-append, lt_of_not-le, arith, nat_tests, set-get_or, length-map, map-append, All-nil, All-append, sum_by_push, some, get_elem?, Me, Allows, Splits, Joins, keeps, set_else, set_again, set_here, at_lt, BoardKey, View, Note, has, has_doubt, count_of_regions, jobs, Noted, Covered, once_below, top, doubt_at, Sound, Kept, BoardKept, idle_view, kept_view, shared_view, joined_view, HasAllJobs, Knows}
+use Rattle.sf_crew.proofs.Common.{common_steps, ◌≡◌, ◌≢◌, ℕ, ◌+◌, ◌<◌, ◌≤◌, ◌⊎◌, min, max, List, [], ◌∷◌, ◌++◌, sum_by, length, set, slice_index, Some, None, IfSome, sym, refl, ap, ◌∙◌, subst, inr, length-append, lt_of_not-le, arith, nat_tests, set-get_or, length-map, map-append, All-append, sum_by_push, some, get_elem?, Me, Allows, Splits, Joins, keeps, set_else, set_again, set_here, at_lt, BoardKey, View, Note, has, has_doubt, count_of_regions, jobs, Noted, Covered, once_below, top, doubt_at, Sound, Kept, BoardKept, idle_view, kept_view, shared_view, joined_view, HasAllJobs, Knows}
 use Rattle.sf_crew.proofs.Doubts.{has_doubt_append}
-use Rattle.sf_crew.proofs.Totals.{times, total_set, top_set, top_at, top_snoc, top_change, times_append, every_set, every_snoc}
+use Rattle.sf_crew.proofs.Totals.{times, total_set, top_set, top_at, top_snoc, top_change, times_append, set_each, snoc_each}
 use Rattle.sf_crew.proofs.board.Moves.{noted_more}
 use Rattle.sf_crew.proofs.Jobs.{jobs_once, all_jobs}
 
@@ -49,16 +49,8 @@ split_kept k n e d least views port v joined_seats fresh is at h = let w : View 
       entered_is = search (arith, total_set, sum_by_push);
       marked = search (arith, top_set, top_at, top_snoc);
       right = h.right;
-      each = every_snoc (Sound k n least) vs u (every_set (Sound k n least) (Sound k n least) views port w h.each
-          (λ y s. s) record {
-            about = λ _. is;
-            idle = λ none. absurd (omega arith);
-            few = omega arith;
-            past = λ some_none. absurd (omega arith);
-            marks = mine.marks;
-            noted = mine.noted;
-            covered = mine.covered;
-          }) (shared k least n v is);
+      each = snoc_each (λ _. Sound k n least) vs u (set_each (λ _. Sound k n least) views port w
+          (grind (arith, common_steps)) (λ j y _ there. h.each j y there)) (shared k least n v is);
     }
 
 pub splits : (k : BoardKey) (id : ℕ) (v : View) → 1 < v.joined_seats → v.exhausted_seats ≡ 0 → v.about ≡ Some k
@@ -128,8 +120,8 @@ join_kept k n e d least views i j v w free free' is part apart at at' h =
           let t = top_both (doubt_at q) views i j v w b z apart at at' (omega arith) none in
           let p = h.marked q few in omega arith);
       right = h.right;
-      each = every_set (Sound k n least) (Sound k n least) (set views i b) j z
-          (every_set (Sound k n least) (Sound k n least) views i b h.each (λ y s. s) record {
+      each = set_each (λ _. Sound k n least) (set views i b) j z (grind (arith, common_steps))
+          (λ p u _ there. set_each (λ _. Sound k n least) views i b (record {
             about = λ _. is;
             idle = λ none. absurd (omega arith);
             few = (let x = mine.few in let y = theirs.few in omega arith);
@@ -140,15 +132,7 @@ join_kept k n e d least views i j v w free free' is part apart at at' h =
                 (noted_more k v.notes (v.notes ++ w.notes) v.entered_sheets (noted_left v.notes w.notes) mine.covered)
                 (noted_more k w.notes (v.notes ++ w.notes) w.entered_sheets
                 (noted_right v.notes w.notes) theirs.covered);
-          }) (λ y s. s) record {
-            about = λ some_part. absurd (omega arith);
-            idle = λ _. (refl, refl);
-            few = omega arith;
-            past = λ some_none. absurd (omega arith);
-            marks = λ _. refl;
-            noted = λ q r x. absurd x;
-            covered = All-nil (Covered k []);
-          };
+          }) (λ m y _ lies. h.each m y lies) p u there);
     }
 
 pub joins : (k : BoardKey) (id other : ℕ) (v w : View) → v.owes ≡ None → w.owes ≡ None → v.about ≡ Some k

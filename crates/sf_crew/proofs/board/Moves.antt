@@ -1,5 +1,5 @@
 -- Each step of a seat keeps the rule of its board.
-use Rattle.sf_crew.proofs.Common.{◌≡◌, ◌≢◌, ℕ, ◌+◌, ◌-◌, ◌*◌, ◌/◌, ◌%◌, ◌^◌, ◌<◌, ◌≤◌, min, max, bit_or, List, [], ◌∷◌, ◌++◌, All, sum_by, map, length, set, slice_index, Some, IfSome, sym, refl, ap, ◌∙◌, subst, inr, ⊎_elim, length-set, length-append, lt_of_not-le, arith, bit_at, get_or-set_same, get_or-set_other, set-get_or, length-map, All-cons, some, dite, dec_le, get_elem?, Me, Allows, keeps, BoardKey, View, EnteredSheet, Note, HasHit, note, entered_sheet, has, has_doubt, regions_of, questions_of, count_of_regions, jobs, owed_jobs, Noted, Covered, RightPlace, top, doubt_at, Kept, BoardKept, least_in, doubts_in, with_notes, view_with_note, view_with_mark, view_with_sheet, Looks}
+use Rattle.sf_crew.proofs.Common.{common_steps, ◌≡◌, ◌≢◌, ℕ, ◌+◌, ◌-◌, ◌*◌, ◌/◌, ◌%◌, ◌^◌, ◌<◌, ◌≤◌, min, max, bit_or, List, [], ◌∷◌, ◌++◌, All, sum_by, map, length, set, slice_index, Some, IfSome, sym, refl, ap, ◌∙◌, subst, inr, ⊎_elim, length-set, length-append, lt_of_not-le, arith, bit_at, get_or-set_same, get_or-set_other, set-get_or, length-map, All-cons, some, dite, dec_le, get_elem?, Me, Allows, keeps, BoardKey, View, EnteredSheet, Note, HasHit, note, entered_sheet, has, has_doubt, regions_of, questions_of, count_of_regions, jobs, owed_jobs, Noted, Covered, RightPlace, top, doubt_at, Kept, BoardKept, least_in, doubts_in, with_notes, view_with_note, view_with_mark, view_with_sheet, Looks}
 use Rattle.sf_crew.proofs.Doubts.{has_same, has_other, has_most, has_doubt_most, question_is, bit_set, bit_kept, bit_most}
 use Rattle.sf_crew.proofs.Totals.{total_set, total_le, top_set, top_kept}
 use Rattle.sf_crew.proofs.board.OneView.{one_view, marks_and_notes, same_marks, later, in_words}
@@ -17,15 +17,7 @@ renoted : (k : BoardKey) (n e : ℕ) (d least less : ℕ → ℕ) (views : List 
 renoted k n e d least less views port v ns at down right noted more h = let mine = h.each port v at in
     one_view k n n e e d d least less views port v (with_notes v ns) at (marks_and_notes k n e v v.marked ns)
     (same_marks d views port v (with_notes v ns) at (λ q. refl) h.marked) right
-    (λ u s. later k n n least less u (omega arith) down s) (record {
-      about = mine.about;
-      idle = mine.idle;
-      few = mine.few;
-      past = mine.past;
-      marks = mine.marks;
-      noted = noted;
-      covered = noted_more k v.notes ns v.entered_sheets more mine.covered;
-    }) h
+    (λ u s. later k n n least less u (omega arith) down s) (grind (arith, common_steps, noted_more)) h
 
 pub looks : (k : BoardKey) (slots id q : ℕ) (me : Me ℕ View) → me.0.about ≡ Some k → q < length (questions_of k)
     → Allows (BoardKept k) slots id me (q + 6) (λ n. n) (λ n w. Looks me.0 (q + 6 - 6) n w.0 × (w.1 ≡ me.1))
@@ -106,15 +98,7 @@ mark_kept : (k : BoardKey) (n e j q : ℕ) (d d' least : ℕ → ℕ) (views : L
 mark_kept k n e j q d d' least views port v owing here others at h = let mine = h.each port v at in
     one_view k n n e e d d' least least views port v (view_with_mark v q) at
     (marks_and_notes k n e v (q ∷ v.marked) v.notes) (new_mark d d' views port v q at here others h.marked) h.right
-    (λ u s. s) (record {
-      about = mine.about;
-      idle = mine.idle;
-      few = mine.few;
-      past = mine.past;
-      marks = λ none. absurd (cc (owing, none));
-      noted = mine.noted;
-      covered = mine.covered;
-    }) h
+    (λ u s. s) (grind (arith, common_steps)) h
 
 pub marks : (k : BoardKey) (slots q j : ℕ) (id : ℕ) (me : Me ℕ View) → me.0.owes ≡ Some j → q < 256
     → Allows (BoardKept k) slots id me (q / 64 + 2) (λ n. bit_or n (1 * 2 ^ (q % 64) % 2 ^ 64))
@@ -144,13 +128,8 @@ enter_kept : (k : BoardKey) (n e j : ℕ) (d least : ℕ → ℕ) (views : List 
     → Kept k n e d least views → Kept k n (e + 1) d least (set views port (view_with_sheet v j))
 enter_kept k n e j d least views port v owing part covered at h = let w : View = view_with_sheet v j in
     let mine = h.each port v at in
-    one_view k n n e (e + 1) d d least least views port v w at (record {
-      joined_seats = refl;
-      drawn = search arith;
-      drawn_count = search arith;
-      past_end = inr (omega arith);
-      entered_is = omega arith;
-    }) (same_marks d views port v w at (λ q.
+    one_view k n n e (e + 1) d d least least views port v w at (grind (arith, common_steps))
+    (same_marks d views port v w at (λ q.
     (let b : doubt_at q w ≡ max (has q []) (max (has q v.marked) (has_doubt q v.entered_sheets)) = refl in
     let z : has q [] ≡ 0 = refl in omega arith)) h.marked) h.right (λ u s. s) (record {
       about = mine.about;
@@ -180,16 +159,12 @@ pub enters : (k : BoardKey) (slots id j : ℕ) (me : Me ℕ View) → me.0.owes 
 enters k slots id j me owing part small covered s h homes at fits =
     let e : ℕ = slice_index s.words 1 in let few = entries_few k _ e j _ _ s.views id me.0 owing at h.1 in
     let d : ℕ = (e + 1) % 18446744073709551616 in let same : e + 1 ≡ d = omega arith in
-    let long : length s.words ≡ length (questions_of k) + 6 = h.0 in let w : View = view_with_sheet me.0 j in (
+    let long : length s.words ≡ length (questions_of k) + 6 = h.0 in let w : View = view_with_sheet me.0 j in
+    let kept = subst (λ x. Kept k (slice_index s.words 0) x (doubts_in s.words) (least_in s.words)
+    (set s.views id w)) same (enter_kept k _ e j _ _ s.views id me.0 owing part covered at h.1) in (
       w,
       keeps,
       tt,
-      in_words k (set s.words 1 d) (slice_index s.words 0) d (doubts_in s.words) (least_in s.words) (set s.views id w)
-          (length-set s.words 1 d ∙ long) (get_or-set_other s.words 1 0 d 0 (λ e. omega arith))
-          (get_or-set_same s.words 1 d 0 (omega arith))
-          (λ x few. get_or-set_other s.words 1 (x + 2) d 0 (λ e. omega arith))
-          (λ q. get_or-set_other s.words 1 (q + 6) d 0 (λ e. omega arith))
-          (subst (λ x. Kept k (slice_index s.words 0) x (doubts_in s.words) (least_in s.words) (set s.views id w)) same
-          (enter_kept k _ e j _ _ s.views id me.0 owing part covered at h.1)),
+      search (arith, in_words, kept, get_or-set_same, get_or-set_other, length-set),
       ((λ i is. ap (view_with_sheet me.0) (cc (owing, is))), refl),
     )

@@ -1,6 +1,6 @@
 -- When the rule stays where one view and the words of the board change.
 use Rattle.sf_crew.proofs.Common.{common_steps, ◌≡◌, ℕ, ◌+◌, ◌/◌, ◌%◌, ◌<◌, ◌≤◌, ◌⊎◌, min, List, length, set, slice_index, sym, ◌∙◌, arith, bit_at, some, get_elem?, BoardKey, View, Note, questions_of, count_of_regions, jobs, RightPlace, once_below, top, doubt_at, Sound, Kept, least_in, doubts_in, with_notes, with_marks}
-use Rattle.sf_crew.proofs.Totals.{times, total_set, top_kept, every_set}
+use Rattle.sf_crew.proofs.Totals.{times, total_set, top_kept, set_each}
 
 -- What view v counts for, beside the view w that it becomes, where the word of the next job goes from n to m, and that
 -- of the sheets entered from e to f.
@@ -38,7 +38,7 @@ one_view k n m e f d d' least less views port v w at counted marked right others
   entered_is = search (arith, total_set);
   marked = marked;
   right = right;
-  each = every_set (Sound k n least) (Sound k m less) views port w h.each others mine;
+  each = set_each (λ _. Sound k m less) views port w mine (λ j u _ there. others u (h.each j u there));
 }
 
 -- a view stays sound where the next job is a later one, and the least places are no greater

@@ -1,4 +1,5 @@
 -- The tally is right.
+use Rattle.std.proofs.lemmas.Option.{gets}
 use Rattle.std.proofs.lemmas.Grind.{common_steps}
 use Rattle.sf_crew.proofs.Common.{◌≡◌, ◌≢◌, ℕ, zero, suc, ◌+◌, ◌<◌, ◌≤◌, ◌/◌, ◌%◌, min, List, [], ◌∷◌, All, sum_by, length, get_or, set, slice_index, slice_get, Option, Some, None, sym, refl, ap, ◌∙◌, ⊎_elim, length-append, arith, bit_at, nat_tests, length-map, nil_from_length, slice_get_within, some, some-injective, some-ne-none, get_elem?, replicate, State, Doubt, IsRightOn, BoardKey, View, EnteredSheet, Note, Tally, bit_of, entered_jobs, has, has_doubt, IsInDoubt, regions_of, questions_of, count_of_regions, jobs, owed_jobs, Noted, Covered, once_below, top, doubt_at, Kept, BoardKept, least_in, doubts_in, RightTally, IsBelowLeast, IsCleared, LeastIs}
 use Rattle.sf_crew.proofs.Doubts.{bit_most, has_most}
@@ -100,16 +101,10 @@ pub least_start : (words : List ℕ) (n k : ℕ) → LeastIs words n 0 (replicat
 least_start words n k = ((λ q r e. absurd (none_there k q r e)), λ q lt. absurd (omega arith))
 
 set_get : (l : List (Option ℕ)) (i : ℕ) (x : Option ℕ) → i < length l → slice_get (set l i x) i ≡ Some x
-set_get [] i x h = absurd (omega arith)
-set_get (y ∷ l) zero x h = refl
-set_get (y ∷ l) (suc i) x h = set_get l i x (omega arith)
+set_get l i x h = grind (arith, common_steps, gets)
 
 set_get_other : (l : List (Option ℕ)) (i j : ℕ) (x : Option ℕ) → j ≢ i → slice_get (set l i x) j ≡ slice_get l j
-set_get_other [] i j x ne = refl
-set_get_other (y ∷ l) zero zero x ne = absurd (ne refl)
-set_get_other (y ∷ l) zero (suc j) x ne = refl
-set_get_other (y ∷ l) (suc i) zero x ne = refl
-set_get_other (y ∷ l) (suc i) (suc j) x ne = set_get_other l i j x (λ e. ne (ap suc e))
+set_get_other l i j x ne = grind (arith, common_steps, gets)
 
 pub least_put : (words : List ℕ) (n m x : ℕ) (l : List (Option ℕ)) → m < length l → x ≡ slice_index words (m + 6)
     → x < n → LeastIs words n m l → LeastIs words n (m + 1) (set l m (Some x))

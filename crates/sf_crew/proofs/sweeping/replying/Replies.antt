@@ -1,4 +1,5 @@
 -- Why replies are right.
+use Rattle.std.proofs.lemmas.Option.{gets}
 use Rattle.sf_crew.proofs.Common.{◌≡◌, ℕ, zero, suc, ◌<◌, Bool, true, false, true≢false, List, [], ◌∷◌, ◌++◌, length, Option, Some, None, slice_get, get_or, ◌==◌, ◌⊎◌, sym, refl, ap, ◌∙◌, subst, inl, inr, eqb-true, nil_from_length, same_Some, get_or_from_slice_get, Reply, BookData, IsSettled, Verdict, Hit, Doubt, QuestionData, IsPlain, Tally, bit_of, IsBelowLeast, HasDoubt, IsUnbroken, IsReplyTo, IsFullTally, arith, common_steps}
 use Rattle.sf_insn.specs.declared.input.Input.{Input}
 use Rattle.sf_piece.specs.OneExecution.{IsExecutionOne}
@@ -52,9 +53,7 @@ reply_allowed s q r d hit example verdict doubt passed certain = record {
 
 -- a place that is read is there
 pub place_there : (l : List (Option ℕ)) (q x : ℕ) → get_or l q None ≡ Some x → slice_get l q ≡ Some (Some x)
-place_there [] q x e = absurd (cc (e))
-place_there (y ∷ l) zero x e = ap (λ (z : Option ℕ). Some z) e
-place_there (y ∷ l) (suc q) x e = place_there l q x e
+place_there l q x e = grind (arith, common_steps, gets)
 
 -- ---- what the tally of all regions tells of the question of a number
 
