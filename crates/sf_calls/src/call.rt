@@ -51,7 +51,6 @@ fn whole_of(low: u32, high: u32) -> u64
     u64::from(high) * 0x1_0000_0000 + u64::from(low)
 }
 
-/// The six arguments of an input, each put together from two words, the low half first.
 pub(crate) fn arguments_in(input: &Input) -> [u64; 6]
     ensures { result ≡ arguments_in input.now }
 {
@@ -65,7 +64,6 @@ pub(crate) fn arguments_in(input: &Input) -> [u64; 6]
     ]
 }
 
-/// How many of the arguments `push_shown` writes: all up to the last one that isn't 0.
 pub(crate) fn count_shown(arguments: &[u64]) -> usize
     ensures count { result ≡ count_shown arguments.now }
     ensures few { result ≤ length arguments.now }

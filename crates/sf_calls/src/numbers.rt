@@ -16,7 +16,6 @@ pub enum Misread {
     Width,
 }
 
-/// The radix of a number and its digits, which aren't looked at.
 fn parted(text: &str) -> (u32, &str)
     ensures radix { result.0 ≡ radix_of text.now }
     ensures digits { result.1.now ≡ digits_of text.now }
@@ -59,7 +58,6 @@ pub fn is_number(text: &str) -> bool
     are_digits(digits, radix)
 }
 
-/// The number that digits of the radix write.
 fn number_from(digits: &str, radix: u32) -> Result<u64, Misread>
     requires least { 2 ≤ radix }
     requires most { radix ≤ 36 }
@@ -87,7 +85,6 @@ pub fn read_word(text: &str) -> Result<u32, Misread>
     u32::try_from(number).map_err(|_| Misread::Width)
 }
 
-/// How many parts a text has between its commas; a text without a comma is one part.
 fn count_parts(text: &str) -> usize
     ensures { result ≡ length (comma_parts text.now) }
 {
@@ -113,7 +110,6 @@ fn part_at(text: &str, place: usize) -> Option<&str>
     text.split(',').nth(place)
 }
 
-/// The argument at a place of a text, counted from 0; it is 0 where the text has too few parts.
 fn argument_at(text: &str, place: usize) -> Result<u64, Misread>
     ensures { are_arguments text.now ≡ true
         → result ≡ in_bits 64 (argument_at text.now place) }

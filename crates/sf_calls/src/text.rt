@@ -12,12 +12,7 @@ use std::alloc::AllocError;
 fn call_numbered(calls: &[Call], nr: u32) -> Option<&Call>
     ensures { option_map (λ c. c.now) result ≡ find (has_number nr) calls.now }
 {
-    for call in calls {
-        if call.number() == nr {
-            return Some(call);
-        }
-    }
-    None
+    calls.iter().find(|call| call.number() == nr)
 }
 
 fn has_call(names: &Names, arch: u32, nr: u32) -> bool
@@ -29,12 +24,7 @@ fn has_call(names: &Names, arch: u32, nr: u32) -> bool
 fn find_call(sets: &[Names], arch: u32, nr: u32) -> Option<&Names>
     ensures { option_map (λ n. n.now) result ≡ find (has_call arch nr) sets.now }
 {
-    for names in sets {
-        if has_call(names, arch, nr) {
-            return Some(names);
-        }
-    }
-    None
+    sets.iter().find(|names| has_call(*names, arch, nr))
 }
 
 /// Whether one of the sets has a name for the input's call.
@@ -44,7 +34,6 @@ pub fn is_named(sets: &[Names], input: &Input) -> bool
     find_call(sets, input.words[1], input.words[0]).is_some()
 }
 
-/// The name of the first call of this number; empty where there is none.
 fn name_of(calls: &[Call], nr: u32) -> &str
     ensures { result.now ≡ call_name_text (find (has_number nr) calls.now) }
 {
@@ -54,7 +43,6 @@ fn name_of(calls: &[Call], nr: u32) -> &str
     }
 }
 
-/// Adds the names of a set and of its call, or the numbers of the two where no set has the call.
 fn push_name(text: &mut String, set: Option<&Names>, arch: u32, nr: u32) -> Result<(), AllocError>
     ensures { OnOk result (string_bytes text.new ≡ string_bytes text.old
         ++ name_words arch nr (option_map (λ n. n.now) set.entry)) }
@@ -74,7 +62,6 @@ fn separator(place: usize) -> &'static str
     if place == 0 { "" } else { ", " }
 }
 
-/// Adds the argument at a place, counted from 0, as `arg1 = 0x5412`, behind a comma unless it is the first one.
 fn push_argument(text: &mut String, place: usize, argument: u64) -> Result<(), AllocError>
     ensures { OnOk result (string_bytes text.new ≡ string_bytes text.old
         ++ argument_words place argument) }
@@ -93,7 +80,6 @@ fn push_arguments(text: &mut String, arguments: &[u64]) -> Result<(), AllocError
     Ok(())
 }
 
-/// Adds the arguments up to the last one that isn't 0, in parentheses.
 fn push_shown(text: &mut String, arguments: &[u64]) -> Result<(), AllocError>
     ensures { OnOk result (string_bytes text.new ≡ string_bytes text.old
         ++ shown_arguments arguments.now) }
@@ -105,9 +91,7 @@ fn push_shown(text: &mut String, arguments: &[u64]) -> Result<(), AllocError>
     Ok(())
 }
 
-/// Adds an input as a call, as `x86_64 ioctl(arg0 = 0x0, arg1 = 0x5412)`: by the first set that has the call, or else
-/// by `0x` with the eight hexadecimal digits of the architecture, and the call's number in decimal digits. The
-/// arguments end with the last one that isn't 0.
+/// Adds an input as a call, as `x86_64 ioctl(arg0 = 0x0, arg1 = 0x5412)`.
 pub fn push_call_words(text: &mut String, names: &[Names], input: &Input) -> Result<(), AllocError>
     ensures { OnOk result (string_bytes text.new ≡ string_bytes text.old
         ++ call_words names.now input.now) }

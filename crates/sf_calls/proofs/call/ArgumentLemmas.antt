@@ -1,7 +1,7 @@
 -- How many arguments there are up to the last one that isn't 0, one argument more at a time.
 use Rattle.std.proofs.lemmas.Grind.{common_steps}
 use Rattle.std.proofs.lemmas.List.{length-take, take_more}
-use Rattle.std.proofs.Common.{arith, ◌≡◌, ◌∙◌, ℕ, ◌+◌, ◌<◌, List, [], ◌∷◌, ◌++◌, ap, length, take}
+use Rattle.std.proofs.Common.{arith, ◌≡◌, ℕ, ◌+◌, ◌<◌, List, [], ◌∷◌, ◌++◌, length, take}
 use Rattle.std.specs.Prelude.{◌==◌, if◌then◌else◌, slice_index}
 use Rattle.sf_calls.specs.Calls.{count_shown}
 
@@ -13,7 +13,4 @@ count_shown-push (m ∷ ms) n = grind (arith, common_steps, count_shown-push ms 
 -- how many there are up to a place, from how many there are before it
 pub count_shown-take : (ns : List ℕ) (i : ℕ) → i < length ns
     → count_shown (take (i + 1) ns) ≡ (if slice_index ns i == 0 then count_shown (take i ns) else i + 1)
-count_shown-take ns i inside =
-    let whole : length (take i ns) ≡ i = omega (arith, length-take i ns) in
-    let push = count_shown-push (take i ns) (slice_index ns i) in
-    ap count_shown (take_more ns i 0 inside) ∙ (rw whole at push)
+count_shown-take ns i inside = grind (arith, common_steps, length-take, take_more, take, count_shown-push)

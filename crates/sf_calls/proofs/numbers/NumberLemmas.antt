@@ -1,4 +1,5 @@
 -- What `from_str_radix` reads of digits, and the parts of a text.
+use Rattle.std.proofs.lemmas.Grind.{common_steps}
 use Rattle.std.proofs.lemmas.Bool.{and_parts, cases_lt, le-ltb, lt-ltb, ltb-true}
 use Rattle.std.proofs.lemmas.Str.Parse.{without_leading_plus_none}
 use Rattle.std.proofs.Common.{arith, ◌≡◌, ◌≢◌, ◌∙◌, ℕ, ◌<◌, ◌≤◌, ◌^◌, true, List, [], ◌∷◌, Result, Ok, Err, refl, subst, ap, sym, inl, inr, zero, suc}
@@ -66,6 +67,4 @@ pub part_read : (parts : List (List ℕ)) (place : ℕ) (o : Option (Bor (List �
     (r : Result ℕ Misread)
     → list_all is_number parts ≡ true → option_map (λ p. p.now) o ≡ slice_get parts place → o ≡ Some part
     → r ≡ read_number 64 part.now → r ≡ in_bits 64 (number_of_part (slice_get parts place))
-part_read parts place o part r all told is read =
-    let at : slice_get parts place ≡ Some part.now = sym told ∙ ap (option_map (λ (p : Bor (List ℕ)). p.now)) is in
-    read ∙ rw (number_among parts place part.now all at, at) refl
+part_read parts place o part r all told is read = grind (arith, common_steps, number_among)
