@@ -8,7 +8,6 @@ use sf_run::{Action, Answer};
 use sf_stack::push_action;
 use std::alloc::{AllocError, Global};
 
-/// The name of an action, as `push_action` writes it.
 fn name_of(alloc: Global, action: Action) -> Result<String, AllocError>
     ensures { IfOk result (λ text. string_bytes text ≡ action_text action) }
 {
@@ -17,7 +16,7 @@ fn name_of(alloc: Global, action: Action) -> Result<String, AllocError>
     Ok(text)
 }
 
-/// The object of an action: its name at `action`, and the number `info`, which goes with it, at `data`.
+/// The object of an action and of the number `info` that goes with it.
 pub fn action_document(alloc: Global, action: Action, info: u32) -> Result<Document, AllocError>
     ensures { IfOk result (λ d. view d ≡ action_document action info) }
 {

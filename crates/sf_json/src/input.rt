@@ -18,7 +18,6 @@ pub fn word_document(alloc: Global, number: u32) -> Result<Document, AllocError>
     Ok(Document::text(text))
 }
 
-/// A number of 64 bits, by its halves, as `0x` and sixteen hexadecimal digits in lower case.
 fn long_word(alloc: Global, low: u32, high: u32) -> Result<Document, AllocError>
     ensures { IfOk result (λ d. view d ≡ long_word (whole_of low high)) }
 {
@@ -27,7 +26,6 @@ fn long_word(alloc: Global, low: u32, high: u32) -> Result<Document, AllocError>
     Ok(Document::text(text))
 }
 
-/// An input as a call in words; `null` where no set of names has the call.
 fn call_document(alloc: Global, names: &[Names], input: &Input) -> Result<Document, AllocError>
     ensures { IfOk result (λ d. view d ≡ call_document names.now input.now) }
 {
@@ -39,7 +37,6 @@ fn call_document(alloc: Global, names: &[Names], input: &Input) -> Result<Docume
     Ok(Document::text(text))
 }
 
-/// The array of the six arguments of an input.
 fn arguments(alloc: Global, input: &Input) -> Result<Document, AllocError>
     ensures { IfOk result (λ d. view d ≡ list_of (map long_word (arguments_in input.now))) }
 {
@@ -55,10 +52,7 @@ fn arguments(alloc: Global, input: &Input) -> Result<Document, AllocError>
     Document::array(alloc, arguments)
 }
 
-/// An input as an object: `bytes`, as 128 hexadecimal digits; `nr`, the number of the call; `arch`, as `0x` and eight
-/// hexadecimal digits; `instruction_pointer`, as `0x` and sixteen; `args`, the six arguments, each written so; and
-/// `call`, the call in words (`push_call_words`), or `null` where no set of names has it. Digits but those of `call`
-/// are in lower case.
+/// An input as an object, with its call in words where a set of names has it.
 pub fn input_document(alloc: Global, names: &[Names], input: &Input) -> Result<Document, AllocError>
     ensures { IfOk result (λ d. view d ≡ input_document names.now input.now) }
 {
