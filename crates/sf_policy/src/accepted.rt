@@ -7,14 +7,12 @@ use sf_question::Question;
 use sf_stack::Fault;
 use std::alloc::{AllocError, Global};
 
-/// Whether a part of a line, which spaces divide, begins a comment: its first byte is `#`.
 fn is_comment(part: &str) -> bool
     ensures { result ≡ is_comment part.now }
 {
     matches!(part.as_bytes(), [b'#', ..])
 }
 
-/// The lines of a text.
 fn lines_of<'a>(alloc: Global, text: &'a str) -> Result<Vec<&'a str>, AllocError>
     ensures { IfOk result (λ v. map (λ t. t.now) v.items ≡ lines text.now) }
 {

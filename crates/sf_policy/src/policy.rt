@@ -18,7 +18,7 @@ ghost use Rattle.sf_policy.specs.Policies.{version_numbered, tables_of_value, po
 use crate::MOST_QUESTIONS;
 pub use groups::{Group, read_groups};
 pub use keys::WORD_KEYS;
-use keys::{has_top_keys, number_in, value_at};
+use keys::{TOP_KEYS, has_only, number_in, value_at};
 use questions::questions_in;
 pub use refusal::Refusal;
 use sf_question::Question;
@@ -58,12 +58,11 @@ fn tables_in(value: &Value) -> Option<&[Value]>
     if are_tables(items) { Some(items) } else { None }
 }
 
-/// The questions of a policy's tree, in order.
 fn policy_of_table(alloc: Global, table: &Table) -> Result<Vec<Question>, Fault>
     ensures { IsDue (λ v. v.items) result (policy_of (table_view table.now)) }
 {
     let version = version_in(table).ok_or(Fault::Version)?;
-    if !has_top_keys(table) {
+    if !has_only(table, TOP_KEYS.as_slice()) {
         return Err(Fault::TopKey);
     }
     let value = value_at(table, "question").ok_or(Fault::Count)?;

@@ -1,27 +1,17 @@
 -- The lines that name questions, one more at a time.
-use Rattle.std.proofs.Common.{◌≡◌, ◌∙◌, List, [], ◌∷◌, ℕ, ◌<◌, ◌≤◌, Bor, ap, false, arith, get_or, length, map, refl, sym, take, take_all, true}
+use Rattle.std.proofs.lemmas.Grind.{common_steps}
+use Rattle.std.proofs.Common.{◌≡◌, List, [], ◌∷◌, ℕ, ◌<◌, ◌≤◌, Bor, false, arith, get_or, length, map, refl, sym, take, true}
 use Rattle.std.specs.Prelude.{Some, slice_get, suc, zero}
 use Rattle.std.specs.List.{flat_map, list_all}
 use Rattle.std.specs.Str.Lines.{lines}
 use Rattle.std.proofs.lemmas.List.{take-map}
 use Rattle.sf_question.specs.QuestionData.{QuestionData}
-use Rattle.sf_policy.specs.Accepted.{AreAccepted, IsMisfitAt, is_name_once, line_fits, words_of_line}
+use Rattle.sf_policy.specs.Accepted.{IsMisfitAt, is_name_once, line_fits, words_of_line}
 
 -- the lines that were read fit, and these are their names
 pub record ReadSoFar (questions : List QuestionData) (read : List (Bor (List ℕ))) (names : List (List ℕ)) : Type 0 where
   pub fit : list_all (line_fits questions) (map (λ l. l.now) read) ≡ true
   pub all : names ≡ flat_map words_of_line (map (λ l. l.now) read)
-
--- all lines were read
-pub all_lines : (questions : List QuestionData) (text : List ℕ) (items : List (Bor (List ℕ))) (n : ℕ)
-    (names : List (List ℕ)) → map (λ l. l.now) items ≡ lines text → length items ≤ n
-    → ReadSoFar questions (take n items) names → AreAccepted questions text names
-all_lines questions text items n names are le so_far =
-    let all = take_all n items le in
-    record {
-      fit = ap (list_all (line_fits questions)) (sym are ∙ ap (map (λ l. l.now)) (sym all)) ∙ so_far.fit;
-      all = so_far.all ∙ ap (λ ls. flat_map words_of_line (map (λ l. l.now) ls)) all ∙ ap (flat_map words_of_line) are;
-    }
 
 -- the text at a place of a list of texts that are lent
 text_at : (items : List (Bor (List ℕ))) (i : ℕ) (d : Bor (List ℕ)) → i < length items
@@ -35,13 +25,7 @@ pub first_misfit : (questions : List QuestionData) (text : List ℕ) (items : Li
     (d : Bor (List ℕ)) (names : List (List ℕ)) → map (λ l. l.now) items ≡ lines text → i < length items
     → ReadSoFar questions (take i items) names → line_fits questions (get_or items i d).now ≡ false
     → IsMisfitAt questions text i
-first_misfit questions text items i d names are lt so_far misfit = record {
-  line = (get_or items i d).now;
-  there = ap (λ ls. slice_get ls i) (sym are) ∙ text_at items i d lt;
-  misfit = misfit;
-  first = ap (λ ls. list_all (line_fits questions) (take i ls)) (sym are)
-      ∙ ap (list_all (line_fits questions)) (take-map (λ (l : Bor (List ℕ)). l.now) i items) ∙ so_far.fit;
-}
+first_misfit questions text items i d names are lt so_far misfit = grind (arith, common_steps, take-map, text_at)
 
 -- a line doesn't fit whose words are several
 pub several_words : (questions : List QuestionData) (line : List ℕ) (words : List (Bor (List ℕ)))

@@ -36,10 +36,19 @@ fn is_action(value: &Value) -> bool
     is_among(text_of(value), ACTION_NAMES.as_slice())
 }
 
-pub(super) fn are_texts(items: &[Value]) -> bool
+fn are_texts(items: &[Value]) -> bool
     ensures { result ≡ list_all (λ v. is_some (as_str (view v))) items.now }
 {
     items.iter().all(|value| value.is_str())
+}
+
+#[tactic(auto, using(crate::proofs::policy::words::TreeLemmas::texts_view, crate::proofs::policy::words::TreeLemmas::no_texts_view))]
+pub(super) fn texts_of(value: &Value) -> Option<&[Value]>
+    ensures { option_map (λ vs. map (λ v. text_or_empty (view v)) vs.now) result
+        ≡ texts_of_value (view value.now) }
+{
+    let items = value.as_array()?;
+    if are_texts(items) { Some(items) } else { None }
 }
 
 fn are_all_actions(items: &[Value]) -> bool
@@ -48,7 +57,6 @@ fn are_all_actions(items: &[Value]) -> bool
     items.iter().all(|value| is_action(value))
 }
 
-/// Whether one of the values is the text `name`, which isn't empty.
 fn has_text(items: &[Value], name: &str) -> bool
     ensures { result ≡ list_any (λ v. bytes_eq (text_or_empty (view v)) name.now) items.now }
 {
@@ -62,7 +70,6 @@ fn are_actions(items: &[Value]) -> bool
     !items.is_empty() && are_all_actions(items)
 }
 
-/// The set of the actions that texts name; empty where one of them names no action.
 #[tactic(auto, using(crate::proofs::policy::actions::ActionLemmas::is_named_view))]
 fn set_from(items: &[Value]) -> ActionSet
     ensures { result ≡ encoded_set (map (λ v. text_or_empty (view v)) items.now) }
@@ -83,16 +90,10 @@ fn set_from(items: &[Value]) -> ActionSet
     }
 }
 
-#[tactic(auto, using(crate::proofs::policy::words::TreeLemmas::texts_view, crate::proofs::policy::words::TreeLemmas::no_texts_view))]
 fn set_in(value: &Value) -> Option<ActionSet>
     ensures { result ≡ option_map encoded_set (texts_of_value (view value.now)) }
 {
-    let items = value.as_array()?;
-    if are_texts(items) {
-        Some(set_from(items))
-    } else {
-        None
-    }
+    Some(set_from(texts_of(value)?))
 }
 
 /// The set of the actions that a question names: ALLOW and LOG where it has no key `actions`, and an empty one, which

@@ -9,8 +9,8 @@ ghost use Rattle.sf_policy.specs.Encoding.{table_or_empty, text_or_empty};
 ghost use Rattle.sf_policy.specs.Groups.{IsRead, group_of, groups_in, groups_of, is_title_byte, title_of};
 ghost use Rattle.sf_policy.specs.Trees.{each_of, text_at};
 
-use super::actions::{are_texts, text_of};
-use super::keys::{has_group_keys, has_groups_keys, text_in, value_at};
+use super::actions::{text_of, texts_of};
+use super::keys::{GROUPS_KEYS, has_group_keys, has_only, text_in, value_at};
 use super::tables_in;
 use sf_stack::Fault;
 use std::alloc::{AllocError, Global};
@@ -64,7 +64,6 @@ fn are_title_bytes(bytes: &[u8]) -> bool
     bytes.iter().all(|byte| is_title_byte(*byte))
 }
 
-/// The text at a key, where a terminal shows each of its characters as it is.
 fn title_in<'a>(table: &'a Table, key: &str) -> Option<&'a str>
     ensures { option_map (λ s. s.now) result ≡ title_of (text_at key.now (table_view table.now)) }
 {
@@ -76,16 +75,6 @@ fn title_in<'a>(table: &'a Table, key: &str) -> Option<&'a str>
     }
 }
 
-#[tactic(auto, using(crate::proofs::policy::words::TreeLemmas::texts_view, crate::proofs::policy::words::TreeLemmas::no_texts_view))]
-fn texts_of(value: &Value) -> Option<&[Value]>
-    ensures { option_map (λ vs. map (λ v. text_or_empty (view v)) vs.now) result
-        ≡ texts_of_value (view value.now) }
-{
-    let items = value.as_array()?;
-    if are_texts(items) { Some(items) } else { None }
-}
-
-/// The values of an array at a key, if all are texts.
 fn texts_in<'a>(table: &'a Table, key: &str) -> Option<&'a [Value]>
     ensures { option_map (λ vs. map (λ v. text_or_empty (view v)) vs.now) result
         ≡ option_and_then texts_of_value (get_member key.now (table_view table.now)) }
@@ -93,7 +82,6 @@ fn texts_in<'a>(table: &'a Table, key: &str) -> Option<&'a [Value]>
     texts_of(value_at(table, key)?)
 }
 
-/// The title of a group's table, and the values of the names of its questions.
 fn parts_in(table: &Table) -> Option<(&str, &[Value])>
     ensures { option_map (λ p. record {
       title = p.0.now;
@@ -110,7 +98,6 @@ fn parts_in(table: &Table) -> Option<(&str, &[Value])>
     Some((title, questions))
 }
 
-/// The texts of values; empty ones for other values.
 fn strings_of(alloc: Global, items: &[Value]) -> Result<Vec<String>, AllocError>
     ensures { IfOk result (λ v. map string_bytes v.items
         ≡ map (λ v. text_or_empty (view v)) items.now) }
@@ -147,7 +134,7 @@ fn groups_of(alloc: Global, items: &[Value]) -> Result<Vec<Group>, Fault>
 fn groups_in_table(alloc: Global, table: &Table) -> Result<Vec<Group>, Fault>
     ensures { IsRead (λ v. v.items) result (groups_of (table_view table.now)) }
 {
-    if !has_groups_keys(table) {
+    if !has_only(table, GROUPS_KEYS.as_slice()) {
         return Err(Fault::Syntax);
     }
     let value = value_at(table, "group").ok_or(Fault::Syntax)?;

@@ -1,10 +1,10 @@
-ghost use Rattle.std.specs.Prelude.{◌≡◌, string_bytes, option_map};
+ghost use Rattle.std.specs.Prelude.{◌≡◌, map, string_bytes, option_map};
 ghost use Rattle.std.specs.BTreeMap.{keys};
 ghost use Rattle.std.specs.List.{list_any, list_all};
 ghost use Rattle.std.specs.Str.{bytes_eq};
 ghost use Rattle.toml.specs.Data.{get_member};
 ghost use Rattle.toml.specs.View.{view, table_view};
-ghost use Rattle.sf_policy.specs.Keys.{group_keys, groups_keys, question_keys, top_keys, mask_keys, has_only};
+ghost use Rattle.sf_policy.specs.Keys.{group_keys, question_keys, has_only};
 ghost use Rattle.sf_policy.specs.Trees.{number_at, number_or, text_at};
 
 use toml::{Table, Value};
@@ -20,13 +20,13 @@ const QUESTION_KEYS: [&str; 18] = [
     "arg2_lo", "arg2_hi", "arg3_lo", "arg3_hi", "arg4_lo", "arg4_hi", "arg5_lo", "arg5_hi",
 ];
 
-pub(crate) const TOP_KEYS: [&str; 2] = ["version", "question"];
+pub(super) const TOP_KEYS: [&str; 2] = ["version", "question"];
 
-const MASK_KEYS: [&str; 4] = ["mask", "value", "low", "high"];
+pub(super) const MASK_KEYS: [&str; 4] = ["mask", "value", "low", "high"];
 
 const GROUP_KEYS: [&str; 4] = ["name", "title", "why", "questions"];
 
-const GROUPS_KEYS: [&str; 1] = ["group"];
+pub(super) const GROUPS_KEYS: [&str; 1] = ["group"];
 
 #[tactic(auto, using(toml::proofs::Views::table_get))]
 pub(crate) fn value_at<'a>(table: &'a Table, key: &str) -> Option<&'a Value>
@@ -41,7 +41,6 @@ pub(crate) fn number_in(table: &Table, key: &str) -> Option<i64>
     value_at(table, key)?.as_integer()
 }
 
-/// The whole number at a key, and `absent` where the key is missing.
 pub(crate) fn number_in_or(table: &Table, key: &str, absent: i64) -> Option<i64>
     ensures { result ≡ number_or absent (get_member key.now (table_view table.now)) }
 {
@@ -70,40 +69,21 @@ fn has_only_keys(table: &Table, known: &[&str]) -> bool
     table.keys().all(|key| is_among(key.as_str(), known))
 }
 
-#[tactic(auto, using(crate::proofs::policy::words::TreeLemmas::has_only_question_keys))]
-pub(crate) fn has_question_keys(table: &Table) -> bool
+#[tactic(auto, using(crate::proofs::policy::words::TreeLemmas::has_only_view))]
+pub(super) fn has_only(table: &Table, known: &[&str]) -> bool
+    ensures { result ≡ has_only (map (λ k. k.now) known.now) (table_view table.now) }
+{
+    has_only_keys(table, known)
+}
+
+pub(super) fn has_question_keys(table: &Table) -> bool
     ensures { result ≡ has_only question_keys (table_view table.now) }
 {
-    has_only_keys(table, QUESTION_KEYS.as_slice())
+    has_only(table, QUESTION_KEYS.as_slice())
 }
 
-#[tactic(auto, using(crate::proofs::policy::words::TreeLemmas::has_only_view))]
-pub(crate) fn has_top_keys(table: &Table) -> bool
-    ensures { result ≡ has_only top_keys (table_view table.now) }
-{
-    has_only_keys(table, TOP_KEYS.as_slice())
-}
-
-/// Whether a table, the value of a word in a question, has only the keys `mask`, `value`, `low` and `high`.
-#[tactic(auto, using(crate::proofs::policy::words::TreeLemmas::has_only_view))]
-pub(crate) fn has_mask_keys(table: &Table) -> bool
-    ensures { result ≡ has_only mask_keys (table_view table.now) }
-{
-    has_only_keys(table, MASK_KEYS.as_slice())
-}
-
-/// Whether the table of a group has only the keys of one.
-#[tactic(auto, using(crate::proofs::policy::words::TreeLemmas::has_only_group_keys))]
 pub(super) fn has_group_keys(table: &Table) -> bool
     ensures { result ≡ has_only group_keys (table_view table.now) }
 {
-    has_only_keys(table, GROUP_KEYS.as_slice())
-}
-
-/// Whether a file of groups has no other key at its top.
-#[tactic(auto, using(crate::proofs::policy::words::TreeLemmas::has_only_view))]
-pub(super) fn has_groups_keys(table: &Table) -> bool
-    ensures { result ≡ has_only groups_keys (table_view table.now) }
-{
-    has_only_keys(table, GROUPS_KEYS.as_slice())
+    has_only(table, GROUP_KEYS.as_slice())
 }

@@ -59,8 +59,6 @@ fn question_of_parts(
     question.map_err(|fault| fault_of_question(number, fault))
 }
 
-/// The question of a table, whose number, from 1, is for the fault. `Key` comes before what `question_of_parts`
-/// refuses.
 #[tactic(auto, using(crate::proofs::policy::questions::EntryLemmas::table_due))]
 pub(super) fn question_of_table(
     alloc: Global,

@@ -9,7 +9,7 @@ ghost use Rattle.sf_policy.specs.Words.{only_between, entry_of_array, entry_of_t
 ghost use Rattle.sf_policy.specs.Encoding.{numbers_in, ranges_and_masks};
 
 use super::Version;
-use super::keys::{WORD_KEYS, has_mask_keys, number_in, number_in_or, value_at};
+use super::keys::{MASK_KEYS, WORD_KEYS, has_only, number_in, number_in_or, value_at};
 use toml::{Table, Value};
 
 /// What a policy says of a word, in the numbers of the file, which may lie outside 32 bits.
@@ -52,11 +52,10 @@ fn array_entry(items: &[Value]) -> Option<WordEntry>
     }
 }
 
-/// The entry of a table with the keys `mask` and `value`, and perhaps `low` and `high`, the ends of a range.
 fn table_entry(table: &Table) -> Option<WordEntry>
     ensures { result ≡ entry_of_table (table_view table.now) }
 {
-    if !has_mask_keys(table) {
+    if !has_only(table, MASK_KEYS.as_slice()) {
         return None;
     }
     Some(WordEntry {
@@ -104,7 +103,6 @@ fn entries_at(version: Version, table: &Table, keys: &[&str; 16]) -> Option<[Wor
     Some(words)
 }
 
-/// The entries of the sixteen words in a question's table, in the order of `struct seccomp_data`.
 pub(super) fn entries_in(version: Version, table: &Table) -> Option<[WordEntry; 16]>
     ensures { result ≡ each_of (λ key. entry_at version
         (get_member key (table_view table.now))) word_keys }
@@ -112,7 +110,6 @@ pub(super) fn entries_in(version: Version, table: &Table) -> Option<[WordEntry; 
     entries_at(version, table, &WORD_KEYS)
 }
 
-/// The ends of an entry's range, and then its mask and value, if all have 32 bits.
 fn numbers_of(entry: WordEntry) -> Option<((u32, u32), (u32, u32))>
     ensures { result ≡ numbers_in entry }
 {
@@ -122,7 +119,6 @@ fn numbers_of(entry: WordEntry) -> Option<((u32, u32), (u32, u32))>
     ))
 }
 
-/// The ranges of the entries, and then their masks, each with its value, if all numbers have 32 bits.
 pub(super) fn words_of(entries: &[WordEntry; 16]) -> Option<([(u32, u32); 16], [(u32, u32); 16])>
     ensures { result ≡ ranges_and_masks entries.now }
 {

@@ -1,7 +1,7 @@
 use Rattle.std.proofs.lemmas.Grind.{common_steps}
 use Rattle.std.proofs.Common.{◌≡◌, ◌∙◌, false, get_or, Bor, List, [], ℕ, ap, arith, inr, map, refl, rules}
 use Rattle.sf_policy.specs.Accepted.{line_fits}
-use Rattle.sf_policy.proofs.accepted.AcceptedLemmas.{all_lines, first_misfit, other_word, several_words}
+use Rattle.sf_policy.proofs.accepted.AcceptedLemmas.{first_misfit, other_word, several_words}
 use Rattle.sf_policy.proofs.accepted.read_accepted.Goals.{in_default-via-in-len1+else-is_name_once, in_default-via-else-this-lt2}
 use Rattle.sf_policy.proofs.accepted.read_accepted.Goals as goal
 
@@ -26,10 +26,3 @@ returns-in_default-clause-refused c =
           (omega (arith, c.loop-place-test.true))
           c.loop-place.invariant misfit,
     )
-
-pub returns-clause-named : goal.returns-clause-named
-returns-clause-named c =
-    all_lines _ _ c.deref-line-items.result.now _ _
-    (ap (map (λ l. l.now)) c.deref-line-items.ensures.value ∙ c.in_ok-lines.ensures)
-    (omega (arith, c.loop-place-test.false))
-    c.loop-place.invariant

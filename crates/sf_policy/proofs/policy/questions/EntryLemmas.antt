@@ -1,4 +1,5 @@
 -- What `Question::of_masked` gives for the parts of an entry is what is due for the entry.
+use Rattle.std.proofs.lemmas.Grind.{common_steps}
 use Rattle.std.proofs.Common.{arith, ◌≡◌, ℕ, ◌++◌, Bool, true, false, not, ◌&&◌, ◌||◌, List, [], ◌∷◌, map, refl, ap, Option, Some, None, Result, Ok, Err, ◌⊎◌, codes, option_map, if◌then◌else◌, inl, inr}
 use Rattle.std.proofs.lemmas.Bool.{and_parts}
 use Rattle.std.proofs.lemmas.List.Folds.{list_all-map}
@@ -12,13 +13,12 @@ use Rattle.sf_stack.specs.declared.fault.Fault.{Fault}
 use Rattle.sf_stack.specs.declared.fault.Fault.TheVariants as faults
 use Rattle.sf_policy.specs.declared.policy.words.WordEntry.{WordEntry}
 use Rattle.sf_policy.specs.Words.{has_words, has_range, has_mask, range_of, mask_of, entry_at}
-use Rattle.std.specs.Str.{bytes_eq}
 use Rattle.toml.specs.Data.{Members, get_member}
 use Rattle.sf_question.specs.declared.actions.ActionSet.{ActionSet}
 use Rattle.sf_policy.specs.declared.policy.Version.{Version}
 use Rattle.sf_policy.specs.Keys.{has_only, question_keys, word_keys}
 use Rattle.sf_policy.specs.Trees.{each_of, text_at}
-use Rattle.sf_policy.specs.Actions.{is_action, are_actions, is_text_among, actions_of, names_at}
+use Rattle.sf_policy.specs.Actions.{are_actions, actions_of, names_at}
 use Rattle.sf_policy.specs.Encoding.{no_actions, ranges_and_masks, encoded_set, numbered_fault, with_number, question_of_parts}
 use Rattle.sf_policy.specs.Policies.{Entry, question_entry_of_parts, question_of_entry, question_where_read, question_of_table}
 
@@ -60,17 +60,7 @@ some_of_nine a b c d e f g h i a' b' c' d' e' f' g' h' i' some = search (arith, 
 
 some_action : (texts : List (List ℕ)) → are_actions texts ≡ true → is_no_action (actions_of texts) ≡ false
 some_action [] h = cc
-some_action (text ∷ texts) h =
-    let is = λ (name : List ℕ). bytes_eq text name in
-    let named = λ (name : List ℕ). is_text_among texts name in
-    some_of_nine
-    (is (codes "KILL_PROCESS")) (is (codes "KILL_THREAD")) (is (codes "TRAP")) (is (codes "ERRNO"))
-    (is (codes "USER_NOTIF"))
-    (is (codes "TRACE")) (is (codes "LOG")) (is (codes "ALLOW")) (is (codes "OTHER"))
-    (named (codes "KILL_PROCESS")) (named (codes "KILL_THREAD")) (named (codes "TRAP")) (named (codes "ERRNO"))
-    (named (codes "USER_NOTIF"))
-    (named (codes "TRACE")) (named (codes "LOG")) (named (codes "ALLOW")) (named (codes "OTHER"))
-    (and_parts (is_action text) (list_all is_action texts) h).0
+some_action (text ∷ texts) h = grind (arith, common_steps, and_parts, some_of_nine)
 
 empty_or_not : (b : Bool) (set : ActionSet) → (b ≡ true → is_no_action set ≡ false)
     → is_no_action (if b then set else no_actions) ≡ not b

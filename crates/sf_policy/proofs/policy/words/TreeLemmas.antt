@@ -1,5 +1,5 @@
 -- The definitions over trees, at the lists that the code goes through.
-use Rattle.std.proofs.Common.{◌≡◌, ℕ, true, false, List, [], ◌∷◌, ◌&&◌, map, refl, ap, ◌∙◌, sym, String, string_bytes, Global, is_some, Option, Some, None, length, get_or, take, drop, set, ◌<◌, ◌≤◌, ◌+◌, ◌++◌, append_assoc, arith, Bor, unwrap_or}
+use Rattle.std.proofs.Common.{◌≡◌, ℕ, true, false, List, [], ◌∷◌, ◌&&◌, ◌||◌, Bool, map, refl, ap, ap₂, ◌∙◌, sym, String, string_bytes, Global, is_some, Option, Some, None, length, get_or, take, drop, set, ◌<◌, ◌≤◌, ◌+◌, ◌++◌, append_assoc, arith, Bor, unwrap_or}
 use Rattle.std.proofs.lemmas.List.{get_or-map, drop_more, length-map}
 use Rattle.std.proofs.lemmas.Grind.{take-set_at}
 use Rattle.std.specs.List.{list_any, list_all}
@@ -8,28 +8,21 @@ use Rattle.std.specs.Str.{bytes_eq}
 use Rattle.toml.specs.Data.{Data, no_members, as_str, as_table}
 use Rattle.toml.specs.View.{view, items_view, members_view}
 use Rattle.toml.specs.declared.value.Value.{Value}
-use Rattle.sf_policy.specs.Keys.{group_keys, has_only, question_keys}
+use Rattle.sf_policy.specs.Keys.{has_only}
 use Rattle.sf_policy.specs.Trees.{option_cons, each_of, item_list, texts_of, tables_of}
 use Rattle.sf_policy.specs.Words.{entry_of_array}
 use Rattle.sf_policy.specs.Encoding.{text_or_empty, table_or_empty}
-use Rattle.sf_policy.specs.declared.policy.keys.TheConstants.{GROUP_KEYS, QUESTION_KEYS}
 
-pub has_only_view : (keys : List (List ℕ)) (es : List (String Global × Value))
-    → has_only keys (members_view es) ≡ list_all (λ key. list_any (bytes_eq (string_bytes key)) keys) (keys_of es)
-has_only_view keys [] = refl
-has_only_view keys (e ∷ es) = ap (λ b. list_any (bytes_eq (string_bytes e.0)) keys && b) (has_only_view keys es)
+any_now : (p : List ℕ → Bool) (ks : List (Bor (List ℕ))) → list_any p (map (λ k. k.now) ks) ≡ list_any (λ k. p k.now) ks
+any_now p [] = refl
+any_now p (k ∷ ks) = ap (λ b. p k.now || b) (any_now p ks)
 
--- For the prover: it doesn't find this one, of eighteen keys, by `has_only_view`.
-pub has_only_question_keys : (es : List (String Global × Value))
-    → has_only question_keys (members_view es)
-    ≡ list_all (λ key. list_any (λ k. bytes_eq (string_bytes key) k.now) QUESTION_KEYS) (keys_of es)
-has_only_question_keys es = has_only_view question_keys es
-
--- The same of the keys of a group.
-pub has_only_group_keys : (es : List (String Global × Value))
-    → has_only group_keys (members_view es)
-    ≡ list_all (λ key. list_any (λ k. bytes_eq (string_bytes key) k.now) GROUP_KEYS) (keys_of es)
-has_only_group_keys es = has_only_view group_keys es
+pub has_only_view : (known : List (Bor (List ℕ))) (es : List (String Global × Value))
+    → has_only (map (λ k. k.now) known) (members_view es)
+    ≡ list_all (λ key. list_any (λ k. bytes_eq (string_bytes key) k.now) known) (keys_of es)
+has_only_view known [] = refl
+has_only_view known (e ∷ es) =
+    ap₂ (λ a b. a && b) (any_now (bytes_eq (string_bytes e.0)) known) (has_only_view known es)
 
 pub short_array : (vs : List Value) → length vs < 2 → None ≡ entry_of_array (items_view vs)
 short_array [] h = refl
