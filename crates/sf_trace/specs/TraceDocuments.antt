@@ -1,19 +1,19 @@
 -- What `eval` finds, as JSON. Each field is always there: one that doesn't apply is null.
-use Rattle.std.specs.Prelude.{ℕ, Bool, ◌==◌, ◌&&◌, ◌||◌, if◌then◌else◌, List, [], ◌∷◌, codes, map, Option, Some, None, slice_get, unwrap_or}
+use Rattle.std.specs.Prelude.{ℕ, Bool, ◌&&◌, ◌||◌, if◌then◌else◌, List, [], ◌∷◌, codes, map, Option, Some, None, slice_get, unwrap_or}
 use Rattle.std.specs.List.{flat_map}
 use Rattle.serde_json.specs.Data.{Data, boolean, null, string}
 use Rattle.sf_insn.specs.declared.input.Input.{Input}
+use Rattle.sf_insn.specs.declared.ops.Test.{Test}
 use Rattle.sf_check.specs.declared.insn.Insn.{Insn}
 use Rattle.sf_run.specs.declared.action.Answer.{Answer}
 use Rattle.sf_run.specs.declared.walking.Meeting.{Meeting}
-use Rattle.sf_run.specs.declared.walking.Met.{Met}
-use Rattle.sf_run.specs.declared.walking.Met.TheVariants.{Tested, Divided, Returned}
 use Rattle.sf_run.specs.Answers.{action_bits, action_of, data_bits}
 use Rattle.sf_names.specs.Names.{NamesData}
 use Rattle.sf_policy.specs.Keys.{word_keys}
 use Rattle.sf_json.specs.Documents.{action_document, answer_document, count, fields, input_document, list_of, word}
+use Rattle.sf_trace.specs.declared.step.Step.{Step}
 use Rattle.sf_trace.specs.Runs.{RunData, runs_of}
-use Rattle.sf_trace.specs.Traces.{is_false, sign_text}
+use Rattle.sf_trace.specs.Traces.{is_false, sign_text, step_of}
 
 -- ---- a filter
 
@@ -22,30 +22,28 @@ abbrev pub word_name : Option ℕ → Data
 word_name (Some place) = string (unwrap_or (slice_get word_keys place) [])
 word_name None = null
 
--- What the instruction at a place meets: a value and the name of the word that it is, the sign by which it is compared,
--- the other value, and whether that is true.
-abbrev pub step_document : (place : ℕ) → (name value sign other truth : Data) → Data
-step_document place name value sign other truth = fields (
-    (codes "instruction", count place)
-    ∷ (codes "other", other)
-    ∷ (codes "sign", sign)
-    ∷ (codes "true", truth)
-    ∷ (codes "value", value)
-    ∷ (codes "word", name) ∷ [])
+-- how a number is compared: the sign, the other number, and whether that is true; nulls where it isn't compared
+abbrev pub compared_documents : Option (Test × ℕ × Bool) → Data × Data × Data
+compared_documents (Some c) = (string (sign_text c.0), word c.1, boolean c.2)
+compared_documents None = (null, null, null)
 
--- What a filter meets: a test; at a division by X, whether X is 0; at a return of A, that A, which isn't compared.
+-- what the instruction at a place meets: a number, the name of the word that it is, and how it is compared
+abbrev pub step_document : (place : ℕ) → Step → (compared : Data × Data × Data) → Data
+step_document place s compared = fields (
+    (codes "instruction", count place)
+    ∷ (codes "other", compared.1)
+    ∷ (codes "sign", compared.0)
+    ∷ (codes "true", compared.2)
+    ∷ (codes "value", word s.value)
+    ∷ (codes "word", word_name s.word) ∷ [])
+
+-- what a filter meets
 abbrev pub meeting_document : Meeting → Data
-meeting_document m = by m.met
-  where
-    by : Met → Data
-    by (Tested test a other passed) =
-        step_document m.place (word_name m.word) (word a) (string (sign_text test)) (word other) (boolean passed)
-    by (Divided x) = step_document m.place null (word x) (string (codes "=")) (word 0) (boolean (x == 0))
-    by (Returned a) = step_document m.place null (word a) null null null
+meeting_document m = step_document m.place (step_of m) (compared_documents (step_of m).compared)
 
 -- what a filter meets; in brief nothing where that is false
 abbrev pub shown_meeting : (brief : Bool) → Meeting → List Data
-shown_meeting brief m = if brief && is_false m.met then [] else meeting_document m ∷ []
+shown_meeting brief m = if brief && is_false m then [] else meeting_document m ∷ []
 
 -- a filter: its number, what it returns and where, whether its answer stands, and what it meets
 abbrev pub filter_document : (brief : Bool) → RunData → Data

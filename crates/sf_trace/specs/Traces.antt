@@ -1,6 +1,7 @@
 -- The text of `eval --trace`: the input, and how each filter comes to its return value.
 use Rattle.std.specs.Prelude.{◌≡◌, ℕ, ◌-◌, ◌^◌, Bool, true, false, ◌==◌, ◌&&◌, not, if◌then◌else◌, List, [], ◌∷◌, ◌++◌, codes, find, reverse, Option, Some, None, slice_get, slice_index, unwrap_or}
 use Rattle.std.specs.List.{flat_map}
+use Rattle.std.specs.Option.{option_map_or}
 use Rattle.std.specs.Fmt.{decimal, digits, padded_integral, format_spec}
 use Rattle.sf_insn.specs.declared.input.Input.{Input}
 use Rattle.sf_insn.specs.declared.ops.Test.{Test}
@@ -15,6 +16,7 @@ use Rattle.sf_policy.specs.Keys.{word_keys}
 use Rattle.sf_names.specs.Names.{NamesData, names_between, names_words}
 use Rattle.sf_stack.specs.Texts.{action_text, line}
 use Rattle.sf_calls.specs.Texts.{call_words, is_named}
+use Rattle.sf_trace.specs.declared.step.Step.{Step}
 use Rattle.sf_trace.specs.Runs.{RunData, runs_of}
 use Rattle.sf_trace.specs.Texts.{answer_text}
 
@@ -66,13 +68,9 @@ fields_text names d = call_text names d ++ (first_arguments d ++ last_arguments 
 abbrev pub call_line : List NamesData → Input → List ℕ
 call_line names d = codes "call " ++ (call_words names d ++ 10 ∷ [])
 
--- the same where a set has the call, and else nothing
-abbrev pub named_line : List NamesData → Input → List ℕ
-named_line names d = if is_named names d then call_line names d else []
-
 -- the line of the input as a call, where a set has the call, and then its fields
 abbrev pub input_text : List NamesData → Input → List ℕ
-input_text names d = named_line names d ++ fields_text names d
+input_text names d = (if is_named names d then call_line names d else []) ++ fields_text names d
 
 -- ---- a filter
 
@@ -88,41 +86,46 @@ abbrev pub truth_text : Bool → List ℕ
 truth_text true = codes "true"
 truth_text false = codes "false"
 
--- how a word is compared, with which other one, and the result
-abbrev pub compared_word_text : List ℕ → ℕ → Bool → List ℕ
-compared_word_text sign other truth = 32 ∷ (sign ++ 32 ∷ (word_text other ++ 32 ∷ (truth_text truth ++ 10 ∷ [])))
+-- how a number is compared, with which other one, and the result; or that it is returned
+abbrev pub compared_text : Option (Test × ℕ × Bool) → List ℕ
+compared_text (Some c) = 32 ∷ (sign_text c.0 ++ 32 ∷ (word_text c.1 ++ 32 ∷ (truth_text c.2 ++ 10 ∷ [])))
+compared_text None = codes " returned\n"
 
 -- the name of a word of the input and a blank; nothing where there is no word
 abbrev pub named_text : Option ℕ → List ℕ
 named_text (Some word) = unwrap_or (slice_get word_keys word) [] ++ 32 ∷ []
 named_text None = []
 
--- The line of two words that an instruction of a filter compares. Before the first one stands its name, if it is a word
--- of the input.
-abbrev pub test_line : ℕ → ℕ → Option ℕ → ℕ → List ℕ → ℕ → Bool → List ℕ
-test_line number place word a sign other truth =
-    codes "filter " ++ (decimal number ++ (codes " instruction "
-    ++ (decimal place ++ 32 ∷ (named_text word ++ (word_text a ++ compared_word_text sign other truth)))))
-
--- The line of what a filter meets: a test; at a division by X, whether X is 0; at a return of A, that A.
-abbrev pub meeting_line : ℕ → Meeting → List ℕ
-meeting_line number m = by m.met
+-- What a filter meets: a test; at a division by X, whether X is 0; at a return of A, that A.
+abbrev pub step_of : Meeting → Step
+step_of m = by m.met
   where
-    by : Met → List ℕ
-    by (Tested test a other passed) = test_line number m.place m.word a (sign_text test) other passed
-    by (Divided x) = test_line number m.place None x (codes "=") 0 (x == 0)
-    by (Returned a) = line (codes "filter" ∷ decimal number ∷ codes "instruction" ∷ decimal m.place ∷ word_text a
-        ∷ codes "returned" ∷ [])
+    by : Met → Step
+    by (Tested test a other passed) = record { word = m.word; value = a; compared = Some (test, other, passed) }
+    by (Divided x) = record { word = None; value = x; compared = Some (Equal, 0, x == 0) }
+    by (Returned a) = record { word = None; value = a; compared = None }
 
--- a test that is false, or a division by an X that isn't 0
-abbrev pub is_false : Met → Bool
-is_false (Tested test a other passed) = not passed
-is_false (Divided x) = not (x == 0)
-is_false (Returned a) = false
+-- The line of a number that an instruction of a filter meets. Before it stands its name, if it is a word of the input.
+abbrev pub step_line : ℕ → ℕ → Step → List ℕ
+step_line number place s =
+    codes "filter " ++ (decimal number ++ (codes " instruction "
+    ++ (decimal place ++ 32 ∷ (named_text s.word ++ (word_text s.value ++ compared_text s.compared)))))
+
+-- the line of what a filter meets
+abbrev pub meeting_line : ℕ → Meeting → List ℕ
+meeting_line number m = step_line number m.place (step_of m)
+
+-- a comparison that is false
+abbrev pub is_false : Meeting → Bool
+is_false m = option_map_or (λ (c : Test × ℕ × Bool). not c.2) (step_of m).compared false
+
+-- a comparison that is true
+abbrev pub is_true : Meeting → Bool
+is_true m = option_map_or (λ (c : Test × ℕ × Bool). c.2) (step_of m).compared false
 
 -- the line of what a filter meets; in brief nothing where that is false
 abbrev pub shown_line : Bool → ℕ → Meeting → List ℕ
-shown_line brief number m = if brief && is_false m.met then [] else meeting_line number m
+shown_line brief number m = if brief && is_false m then [] else meeting_line number m
 
 -- the word behind a filter whose answer stands
 abbrev pub stands_text : Bool → List ℕ
@@ -157,15 +160,6 @@ eval_text traced brief names programs d answer = answer_text answer ++ trace_tex
 -- a line behind the word `why`
 abbrev pub why_line : List ℕ → List ℕ
 why_line text = codes "why " ++ text
-
--- a comparison that is true: a test, or at a division by X that X is 0
-abbrev pub is_true : Meeting → Bool
-is_true m = by m.met
-  where
-    by : Met → Bool
-    by (Tested test a other passed) = passed
-    by (Divided x) = x == 0
-    by (Returned a) = false
 
 -- the last true comparison of what is met, in order
 abbrev pub last_true : List Meeting → Option Meeting

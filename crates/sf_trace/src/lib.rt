@@ -2,10 +2,10 @@
 //! instructions, and how each comes to its answer to an input. Functions fail where memory runs out.
 #![tactic(auto)]
 
-mod comparisons;
 mod document;
 pub mod laws;
 mod runs;
+mod step;
 mod texts;
 
 pub use document::{check_document, eval_document};

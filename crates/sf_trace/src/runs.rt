@@ -46,15 +46,12 @@ impl Model for Run {
     } };
 }
 
-/// Whether the answer of a filter that returns `value` stands: it has the action of the stack's answer, and that of no
-/// newer filter `stood`.
 fn is_standing(stood: bool, value: u32, answer: Answer) -> bool
     ensures { result ≡ (not stood && (action_bits value == action_number answer.action)) }
 {
     !stood && value & 0xffff0000 == answer.action.number()
 }
 
-/// The runs of all filters, newest first; the newest filter has the highest number.
 pub(crate) fn runs_of(alloc: Global, trace: &Trace<'_>) -> Result<Vec<Run>, Fault>
     ensures { IfOk result (λ v. v.items
         ≡ runs_of trace.now.stack.now trace.now.input.now trace.now.answer) }

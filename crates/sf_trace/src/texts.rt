@@ -5,7 +5,7 @@ mod tracing;
 mod why;
 
 ghost use Rattle.std.specs.Prelude.{◌≡◌, ◌++◌, ℕ, List, IfOk, OnOk, length, string_bytes};
-ghost use Rattle.sf_trace.specs.Texts.{AreFilterLines, IsCheckText, StandUnder, answer_text, filter_line, path_line};
+ghost use Rattle.sf_trace.specs.Texts.{AreFilterLines, IsCheckText, StandUnder, answer_text, filter_line};
 ghost use Rattle.sf_trace.specs.Traces.{eval_text};
 
 use crate::runs::Trace;
@@ -17,7 +17,6 @@ use std::alloc::{AllocError, Global};
 use tracing::push_trace;
 pub use why::why_text;
 
-/// The line of an answer: its action, as `push_action` writes it, and its data as a decimal number.
 fn answer_text(alloc: Global, answer: Answer) -> Result<String, AllocError>
     ensures { IfOk result (λ text. string_bytes text ≡ answer_text answer) }
 {
@@ -41,7 +40,6 @@ pub fn eval_text(alloc: Global, traced: bool, trace: &Trace<'_>) -> Result<Strin
     Ok(text)
 }
 
-/// Adds the line of a filter: its number, from 1, and how many instructions it has.
 fn push_filter(text: &mut String, number: usize, instructions: usize) -> Result<(), AllocError>
     ensures { OnOk result (string_bytes text.new ≡ string_bytes text.old
         ++ filter_line number instructions) }
@@ -64,7 +62,6 @@ fn push_under(
     Ok(())
 }
 
-/// Adds the lines of all filters, in order of installation; if `listed`, with their instructions.
 fn push_filters(
     alloc: Global,
     text: &mut String,
@@ -81,19 +78,13 @@ fn push_filters(
     Ok(())
 }
 
-fn push_path(text: &mut String, path: usize) -> Result<(), AllocError>
-    ensures { OnOk result (string_bytes text.new ≡ string_bytes text.old ++ path_line path) }
-{
-    write!(text, "path {path}\n")
-}
-
-/// The text of `check`: a line for each filter, with its number of instructions, and under it, where `listed` asks for
-/// them, the instructions; and a line with the path length of the stack.
+/// The text of `check`, where `listed` asks for it with the instructions of each filter.
 pub fn check_text(alloc: Global, stack: &Stack, listed: bool) -> Result<String, AllocError>
     ensures { IfOk result (λ text. IsCheckText listed stack.now (string_bytes text)) }
 {
     let mut text = String::new(alloc);
     push_filters(alloc, &mut text, listed, stack.programs())?;
-    push_path(&mut text, stack.path_length())?;
+    let path = stack.path_length();
+    write!(&mut text, "path {path}\n")?;
     Ok(text)
 }

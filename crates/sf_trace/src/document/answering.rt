@@ -10,8 +10,6 @@ use sf_json::{Document, Fields, action_document, answer_document, input_document
 use sf_run::Action;
 use std::alloc::{AllocError, Global};
 
-/// The object of a filter: its number, its answer, the place of the instruction that returns it, whether this answer
-/// stands, and what it met.
 fn filter_document(alloc: Global, brief: bool, run: &Run) -> Result<Document, AllocError>
     ensures { IfOk result (λ d. view d ≡ filter_document brief run.now) }
 {
@@ -53,8 +51,7 @@ fn traced_document(
     Ok(Document::array(alloc, documents)?)
 }
 
-/// What `eval` finds, as JSON: the input, shown with these names of calls, the stack's answer to it, and where `traced`
-/// or `trace.brief` is set, each filter, newest first, else `null`.
+/// What `eval` finds, as JSON.
 pub fn eval_document(
     alloc: Global,
     traced: bool,

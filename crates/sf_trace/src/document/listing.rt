@@ -2,7 +2,7 @@
 
 ghost use Rattle.std.specs.Prelude.{◌≡◌, length, map, IfOk};
 ghost use Rattle.serde_json.specs.View.{view};
-ghost use Rattle.sf_trace.specs.CheckDocuments.{AreFilterDocuments, IsCheckDocument, IsFilterDocument, AreListedLines, filter_object};
+ghost use Rattle.sf_trace.specs.CheckDocuments.{AreFilterDocuments, IsCheckDocument, IsFilterDocument, AreListedLines};
 
 use crate::texts::push_instructions;
 use sf_check::{Program, Stack};
@@ -20,22 +20,6 @@ fn listing_of(alloc: Global, listed: bool, program: &Program) -> Result<Document
     Ok(Document::text(text))
 }
 
-fn filter_object(
-    alloc: Global,
-    number: usize,
-    instructions: usize,
-    listing: Document,
-) -> Result<Document, AllocError>
-    ensures { IfOk result (λ d. view d
-        ≡ filter_object number instructions (view listing)) }
-{
-    let fields = Fields::new(alloc)
-        .with("number", Document::count(number))?
-        .with("instructions", Document::count(instructions))?
-        .with("listing", listing)?;
-    Ok(Document::object(fields))
-}
-
 fn document_of(
     alloc: Global,
     listed: bool,
@@ -45,7 +29,11 @@ fn document_of(
     ensures { IfOk result (λ d. IsFilterDocument listed number program.now (view d)) }
 {
     let listing = listing_of(alloc, listed, program)?;
-    filter_object(alloc, number, program.insns().len(), listing)
+    let fields = Fields::new(alloc)
+        .with("number", Document::count(number))?
+        .with("instructions", Document::count(program.insns().len()))?
+        .with("listing", listing)?;
+    Ok(Document::object(fields))
 }
 
 fn filter_documents(
@@ -63,8 +51,7 @@ fn filter_documents(
     Ok(documents)
 }
 
-/// What `check` finds of a stack, as JSON: an object for each filter, with its number, how many instructions it has,
-/// and their listing where `listed` asks for it, else `null`; and the path length of the stack.
+/// What `check` finds of a stack, as JSON.
 pub fn check_document(alloc: Global, stack: &Stack, listed: bool) -> Result<Document, AllocError>
     ensures { IfOk result (λ d. IsCheckDocument listed stack.now (view d)) }
 {

@@ -4,14 +4,11 @@ ghost use Rattle.std.specs.Prelude.{◌≡◌, ◌++◌, map, IfOk};
 ghost use Rattle.std.specs.List.{flat_map};
 ghost use Rattle.serde_json.specs.View.{view};
 ghost use Rattle.sf_trace.specs.TraceDocuments.{meeting_document, shown_meeting, step_document, word_name};
-ghost use Rattle.sf_trace.specs.Traces.{is_false, sign_text};
-ghost use Rattle.serde_json.specs.Data.{boolean, null, string};
-ghost use Rattle.sf_json.specs.Documents.{word as word_of};
 
-use crate::comparisons::{Comparison, is_false, sign_of};
+use crate::step::{Step, is_false, sign_of, step_of};
 use sf_json::{Document, Fields, word_document};
 use sf_policy::WORD_KEYS;
-use sf_run::{Meeting, Met};
+use sf_run::Meeting;
 use std::alloc::{AllocError, Global};
 
 fn word_name(alloc: Global, word: Option<u8>) -> Result<Document, AllocError>
@@ -24,66 +21,41 @@ fn word_name(alloc: Global, word: Option<u8>) -> Result<Document, AllocError>
     Document::copy_of(alloc, name)
 }
 
-/// The object of a comparison.
-fn compared_document(alloc: Global, compared: &Comparison) -> Result<Document, AllocError>
-    ensures { IfOk result (λ d. view d ≡ step_document compared.now.place
-        (word_name compared.now.word) (word_of compared.now.value)
-        (string compared.now.sign.now) (word_of compared.now.other)
-        (boolean compared.now.truth)) }
-{
-    let fields = Fields::new(alloc)
-        .with("instruction", Document::count(compared.place))?
-        .with("word", word_name(alloc, compared.word)?)?
-        .with("value", word_document(alloc, compared.value)?)?
-        .with("sign", Document::copy_of(alloc, compared.sign)?)?
-        .with("other", word_document(alloc, compared.other)?)?
-        .with("true", Document::truth(compared.truth))?;
-    Ok(Document::object(fields))
-}
-
-/// The object of a return of A. It has all fields of a comparison, so that each object in `met` has the same ones.
-fn returned_document(alloc: Global, place: usize, value: u32) -> Result<Document, AllocError>
-    ensures { IfOk result (λ d. view d ≡ step_document place null
-        (word_of value) null null null) }
+fn step_document(
+    alloc: Global,
+    place: usize,
+    step: Step,
+    sign: Document,
+    other: Document,
+    truth: Document,
+) -> Result<Document, AllocError>
+    ensures { IfOk result (λ d. view d ≡ step_document place step
+        (view sign, view other, view truth)) }
 {
     let fields = Fields::new(alloc)
         .with("instruction", Document::count(place))?
-        .with("word", Document::null())?
-        .with("value", word_document(alloc, value)?)?
-        .with("sign", Document::null())?
-        .with("other", Document::null())?
-        .with("true", Document::null())?;
+        .with("word", word_name(alloc, step.word)?)?
+        .with("value", word_document(alloc, step.value)?)?
+        .with("sign", sign)?
+        .with("other", other)?
+        .with("true", truth)?;
     Ok(Document::object(fields))
 }
 
 fn meeting_document(alloc: Global, meeting: Meeting) -> Result<Document, AllocError>
     ensures { IfOk result (λ d. view d ≡ meeting_document meeting) }
 {
-    let place = meeting.place;
-    match meeting.met {
-        Met::Tested(test, a, other, passed) => {
-            let compared = Comparison {
-                place,
-                word: meeting.word,
-                value: a,
-                sign: sign_of(test),
-                other,
-                truth: passed,
-            };
-            compared_document(alloc, &compared)
+    let (place, step) = (meeting.place, step_of(meeting));
+    match step.compared {
+        Some((test, other, truth)) => {
+            let sign = Document::copy_of(alloc, sign_of(test))?;
+            let other = word_document(alloc, other)?;
+            step_document(alloc, place, step, sign, other, Document::truth(truth))
         }
-        Met::Divided(x) => {
-            let compared = Comparison {
-                place,
-                word: None,
-                value: x,
-                sign: "=",
-                other: 0,
-                truth: x == 0,
-            };
-            compared_document(alloc, &compared)
+        None => {
+            let (sign, other) = (Document::null(), Document::null());
+            step_document(alloc, place, step, sign, other, Document::null())
         }
-        Met::Returned(a) => returned_document(alloc, place, a),
     }
 }
 
@@ -96,14 +68,13 @@ fn push_shown(
     ensures { IfOk result (λ _. map view documents.new.items ≡ map view documents.old.items
         ++ shown_meeting brief meeting) }
 {
-    if brief && is_false(meeting.met) {
+    if brief && is_false(meeting) {
         return Ok(());
     }
     documents.push(meeting_document(alloc, meeting)?)?;
     Ok(())
 }
 
-/// The documents of what a filter meets, in order, without false comparisons if `brief`.
 pub(super) fn met_documents(
     alloc: Global,
     brief: bool,

@@ -58,8 +58,6 @@ fn push_alu(text: &mut String, op: BinOp, operand: Operand) -> Result<(), AllocE
     push_operand(text, operand)
 }
 
-/// Adds the test at `place`, with the labels of the instructions to which it leads where it is true and where it is
-/// false.
 fn push_branch(
     text: &mut String,
     place: usize,
@@ -80,7 +78,6 @@ fn push_branch(
     write!(text, ", l{if_true}, l{if_false}")
 }
 
-/// Adds the instruction at a place; a jump or a test with the labels of the instructions to which it leads.
 fn push_insn(text: &mut String, place: usize, insn: Insn) -> Result<(), AllocError>
     requires small { place < 4096 }
     ensures { OnOk result (string_bytes text.new ≡ string_bytes text.old
@@ -115,7 +112,6 @@ fn push_insn(text: &mut String, place: usize, insn: Insn) -> Result<(), AllocErr
     }
 }
 
-/// Adds the line of the instruction at a place, with a comment if no path comes to it.
 fn push_line(
     text: &mut String,
     place: usize,

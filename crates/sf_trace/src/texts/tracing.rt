@@ -1,15 +1,15 @@
 //! The text of `eval --trace`: the input, and how each filter comes to its return value.
 ghost use Rattle.std.specs.Prelude.{◌≡◌, ◌++◌, OnOk, string_bytes};
 ghost use Rattle.std.specs.List.{flat_map};
-ghost use Rattle.sf_trace.specs.Traces.{call_line, call_text, compared_word_text, field_line, fields_text, first_arguments, input_text, is_false, last_arguments, stands_text, meeting_line, named_line, named_text, nr_line, return_line, shown_line, test_line, trace_text, truth_text, walk_text, word_text};
+ghost use Rattle.sf_trace.specs.Traces.{call_line, call_text, compared_text, field_line, fields_text, first_arguments, input_text, is_false, last_arguments, stands_text, meeting_line, named_text, nr_line, return_line, shown_line, trace_text, truth_text, walk_text, word_text};
 
-use crate::comparisons::{Comparison, is_false, sign_of};
 use crate::runs::{Run, Trace, runs_of};
+use crate::step::{is_false, sign_of, step_of};
 use sf_calls::{is_named, push_call_words};
-use sf_insn::Input;
+use sf_insn::{Input, Test};
 use sf_names::{Names, push_names_between};
 use sf_policy::WORD_KEYS;
-use sf_run::{Action, Fault, Meeting, Met};
+use sf_run::{Action, Fault, Meeting};
 use sf_stack::push_action;
 use std::alloc::{AllocError, Global};
 
@@ -28,8 +28,6 @@ fn push_field(text: &mut String, name: &str, low: u32, high: u32) -> Result<(), 
     write!(text, "{low:08X}\n")
 }
 
-/// Adds the line of a call's number, in hexadecimal and in decimal digits, and the names that the sets of this
-/// architecture have for it.
 fn push_nr(text: &mut String, names: &[Names], arch: u32, nr: u32) -> Result<(), AllocError>
     ensures { OnOk result (string_bytes text.new ≡ string_bytes text.old
         ++ nr_line names.now arch nr) }
@@ -40,7 +38,6 @@ fn push_nr(text: &mut String, names: &[Names], arch: u32, nr: u32) -> Result<(),
     Ok(())
 }
 
-/// Adds the lines of the call's number and names, of the architecture, and of the instruction pointer.
 fn push_call(text: &mut String, names: &[Names], input: &Input) -> Result<(), AllocError>
     ensures { OnOk result (string_bytes text.new ≡ string_bytes text.old
         ++ call_text names.now input.now) }
@@ -92,22 +89,13 @@ pub(crate) fn push_call_line(
     Ok(())
 }
 
-fn push_named(text: &mut String, names: &[Names], input: &Input) -> Result<(), AllocError>
-    ensures { OnOk result (string_bytes text.new ≡ string_bytes text.old
-        ++ named_line names.now input.now) }
-{
-    if is_named(names, input) {
-        push_call_line(text, names, input)?;
-    }
-    Ok(())
-}
-
-/// Adds the line of an input as a call, if a set has the call, and then the lines of all its fields.
 fn push_input(text: &mut String, names: &[Names], input: &Input) -> Result<(), AllocError>
     ensures { OnOk result (string_bytes text.new ≡ string_bytes text.old
         ++ input_text names.now input.now) }
 {
-    push_named(text, names, input)?;
+    if is_named(names, input) {
+        push_call_line(text, names, input)?;
+    }
     push_fields(text, names, input)
 }
 
@@ -117,15 +105,17 @@ fn truth_of(truth: bool) -> &'static str
     if truth { "true" } else { "false" }
 }
 
-fn push_compared(text: &mut String, sign: &str, other: u32, truth: bool) -> Result<(), AllocError>
+fn push_compared(text: &mut String, compared: Option<(Test, u32, bool)>) -> Result<(), AllocError>
     ensures { OnOk result (string_bytes text.new ≡ string_bytes text.old
-        ++ compared_word_text sign.now other truth) }
+        ++ compared_text compared) }
 {
-    let truth = truth_of(truth);
+    let Some((test, other, truth)) = compared else {
+        return text.push_str(" returned\n");
+    };
+    let (sign, truth) = (sign_of(test), truth_of(truth));
     write!(text, " {sign} 0x{other:08X} {truth}\n")
 }
 
-/// Adds the name of a word of the input, at this place, and a blank.
 fn push_name(text: &mut String, word: Option<u8>) -> Result<(), AllocError>
     ensures { OnOk result (string_bytes text.new ≡ string_bytes text.old ++ named_text word) }
 {
@@ -136,20 +126,6 @@ fn push_name(text: &mut String, word: Option<u8>) -> Result<(), AllocError>
     write!(text, "{name} ")
 }
 
-fn push_test(text: &mut String, number: usize, compared: &Comparison) -> Result<(), AllocError>
-    ensures { OnOk result (string_bytes text.new ≡ string_bytes text.old
-        ++ test_line number compared.now.place compared.now.word compared.now.value
-        compared.now.sign.now compared.now.other compared.now.truth) }
-{
-    let place = compared.place;
-    write!(text, "filter {number} instruction {place} ")?;
-    push_name(text, compared.word)?;
-    push_word(text, compared.value)?;
-    push_compared(text, compared.sign, compared.other, compared.truth)
-}
-
-/// Adds the line of what the filter with this number met: a test; a division by X, shown as the comparison `X = 0`; or
-/// a return of A.
 pub(crate) fn push_meeting(
     text: &mut String,
     number: usize,
@@ -158,35 +134,12 @@ pub(crate) fn push_meeting(
     ensures { OnOk result (string_bytes text.new ≡ string_bytes text.old
         ++ meeting_line number meeting) }
 {
+    let step = step_of(meeting);
     let place = meeting.place;
-    match meeting.met {
-        Met::Tested(test, a, other, passed) => {
-            let compared = Comparison {
-                place,
-                word: meeting.word,
-                value: a,
-                sign: sign_of(test),
-                other,
-                truth: passed,
-            };
-            push_test(text, number, &compared)
-        }
-        Met::Divided(x) => {
-            let compared = Comparison {
-                place,
-                word: None,
-                value: x,
-                sign: "=",
-                other: 0,
-                truth: x == 0,
-            };
-            push_test(text, number, &compared)
-        }
-        Met::Returned(a) => write!(
-            text,
-            "filter {number} instruction {place} 0x{a:08X} returned\n"
-        ),
-    }
+    write!(text, "filter {number} instruction {place} ")?;
+    push_name(text, step.word)?;
+    push_word(text, step.value)?;
+    push_compared(text, step.compared)
 }
 
 fn push_shown(
@@ -198,13 +151,12 @@ fn push_shown(
     ensures { OnOk result (string_bytes text.new ≡ string_bytes text.old
         ++ shown_line brief number meeting) }
 {
-    if brief && is_false(meeting.met) {
+    if brief && is_false(meeting) {
         return Ok(());
     }
     push_meeting(text, number, meeting)
 }
 
-/// Adds the lines of all that the filter met, in order, without false comparisons if `brief`.
 fn push_meetings(
     text: &mut String,
     brief: bool,
@@ -226,8 +178,6 @@ fn stands_word(stands: bool) -> &'static str
     if stands { " stands" } else { "" }
 }
 
-/// Adds the line of what a filter returns: the action and the data of `value`, at `place`. `stands` says whether this
-/// answer stands.
 pub(super) fn push_returned(
     text: &mut String,
     number: usize,
@@ -246,7 +196,6 @@ pub(super) fn push_returned(
     write!(text, " {info} instruction {place}{mark}\n")
 }
 
-/// Adds the lines of a filter: what it returns, and what it met.
 fn push_run(text: &mut String, brief: bool, run: &Run) -> Result<(), AllocError>
     ensures { OnOk result (string_bytes text.new ≡ string_bytes text.old ++ walk_text brief run.now) }
 {
@@ -270,9 +219,6 @@ fn push_runs(text: &mut String, brief: bool, runs: &[Run]) -> Result<(), AllocEr
     Ok(())
 }
 
-/// Adds the lines of `eval --trace`: the input as a call, if a set has the call, and its fields; then each filter,
-/// newest first: what it returns and at which instruction, and under it what it met. The newest one that returns the
-/// action of the stack's answer is marked with `stands`.
 pub(super) fn push_trace(alloc: Global, text: &mut String, trace: &Trace<'_>) -> Result<(), Fault>
     ensures { OnOk result (string_bytes text.new ≡ string_bytes text.old
         ++ trace_text trace.now.brief trace.now.names.now trace.now.stack.now

@@ -4,33 +4,24 @@ ghost use Rattle.std.specs.Prelude.{◌≡◌, ◌++◌, find, reverse, IfErr, I
 ghost use Rattle.std.specs.List.{flat_map};
 ghost use Rattle.std.specs.Option.{option_map};
 ghost use Rattle.sf_stack.specs.declared.fault.Fault.TheVariants.{Memory as MemoryFault};
-ghost use Rattle.sf_trace.specs.Traces.{IsWhy, call_line, cause_line, cause_text, is_true, last_true, why_line, why_text};
+ghost use Rattle.sf_trace.specs.Traces.{IsWhy, cause_line, cause_text, is_true, last_true, why_text};
 
 use super::tracing::{push_call_line, push_meeting, push_returned};
 use crate::runs::{Run, Trace, runs_of};
+use crate::step::step_of;
 use sf_check::Stack;
 use sf_insn::Input;
 use sf_names::Names;
-use sf_run::{Meeting, Met, answer};
+use sf_run::{Meeting, answer};
 use sf_stack::Fault;
 use std::alloc::{AllocError, Global};
 
-fn push_called(text: &mut String, names: &[Names], input: &Input) -> Result<(), AllocError>
-    ensures { OnOk result (string_bytes text.new ≡ string_bytes text.old
-        ++ why_line (call_line names.now input.now)) }
-{
-    text.push_str("why ")?;
-    push_call_line(text, names, input)
-}
-
-/// Whether what was met is a comparison that is true. A division by X compares X with 0.
 fn is_true(meeting: Meeting) -> bool
     ensures { result ≡ is_true meeting }
 {
-    match meeting.met {
-        Met::Tested(_, _, _, passed) => passed,
-        Met::Divided(x) => x == 0,
-        Met::Returned(_) => false,
+    match step_of(meeting).compared {
+        Some((_, _, truth)) => truth,
+        None => false,
     }
 }
 
@@ -40,7 +31,6 @@ fn last_true(met: &[Meeting]) -> Option<&Meeting>
     met.iter().rev().find(|meeting| is_true(**meeting))
 }
 
-/// Adds the line of the last true comparison that the filter met, with `why ` before it, if there is one.
 fn push_cause(text: &mut String, number: usize, met: &[Meeting]) -> Result<(), AllocError>
     ensures { OnOk result (string_bytes text.new ≡ string_bytes text.old
         ++ cause_line number (last_true met.now)) }
@@ -54,7 +44,6 @@ fn push_cause(text: &mut String, number: usize, met: &[Meeting]) -> Result<(), A
     }
 }
 
-/// Adds the lines of a filter, with `why ` before each: what it returns, and the last true comparison that it met.
 fn push_caused(text: &mut String, run: &Run) -> Result<(), AllocError>
     ensures { OnOk result (string_bytes text.new ≡ string_bytes text.old ++ cause_text run.now) }
 {
@@ -85,14 +74,13 @@ fn push_why(alloc: Global, text: &mut String, trace: &Trace<'_>) -> Result<(), s
         trace.now.answer) }
 {
     let runs = runs_of(alloc, trace)?;
-    push_called(text, trace.names, trace.input)?;
+    text.push_str("why ")?;
+    push_call_line(text, trace.names, trace.input)?;
     push_causes(text, &runs)?;
     Ok(())
 }
 
-/// Why a stack answers an input as it does: the input as a call, and each filter, newest first: what it returns and at
-/// which instruction, and the last true comparison that it met. The newest one that returns the action of the stack's
-/// answer is marked with `stands`. Each line begins with `why`.
+/// Why a stack answers an input as it does.
 pub fn why_text(
     alloc: Global,
     names: &[Names],
