@@ -197,10 +197,6 @@ agree-outside a v x y outside w from below =
 
 -- ---- which variables a tree tests
 
-abbrev IsWithin : Tree → Type 0
-IsWithin (Leaf c) = Unit {0}
-IsWithin (Fork v p q) = (576 ≤ v) × (v < 1088) × IsWithin p × IsWithin q
-
 -- the sides of a fork differ, so its variable is one of a word
 not-outside : (v : ℕ) (p q : Tree) → AreOneTree → IsOrderedFrom (suc v) p → IsOrderedFrom (suc v) q
     → IsReducedTree (Fork v p q) → Reads (Fork v p q) → (576 ≤ v → v < 1088 → ⊥) → ⊥
@@ -210,38 +206,34 @@ not-outside v p q trees op oq r reads outside =
     ∙ reads (with_bit x v false) (with_bit x v true) (agree-outside x v false true outside)
     ∙ value-set v p q x true op oq))
 
-within : (t : Tree) (n : ℕ) → AreOneTree → IsOrderedFrom n t → IsReducedTree t → Reads t → IsWithin t
-within (Leaf c) n trees o r reads = tt
-within (Fork v p q) n trees o r reads = (
-  elim (cases_lt v 576) [
-    | inl l ↦ absurd (not-outside v p q trees o.1 o.2 r reads (λ from _. absurd (omega arith)))
-    | inr l ↦ l
-  ],
-  elim (cases_lt v 1088) [
-    | inl l ↦ l
-    | inr l ↦ absurd (not-outside v p q trees o.1 o.2 r reads (λ _ below. absurd (omega arith)))
-  ],
-  within p (suc v) trees o.1 r.1 (λ a b agree. sym (value-set v p q a false o.1 o.2)
-      ∙ reads (with_bit a v false) (with_bit b v false) (agree-set a b v false agree)
-      ∙ value-set v p q b false o.1 o.2),
-  within q (suc v) trees o.2 r.2 (λ a b agree. sym (value-set v p q a true o.1 o.2)
-      ∙ reads (with_bit a v true) (with_bit b v true) (agree-set a b v true agree)
-      ∙ value-set v p q b true o.1 o.2),
-)
-
-ends : (t : Tree) → IsWithin t → EndsBefore 1088 t
-ends (Leaf c) h = tt
-ends (Fork v p q) h = (h.1, ends p h.2, ends q h.3)
-
-begins : (t : Tree) → IsOrderedTree t → IsWithin t → IsOrderedFrom 576 t
-begins (Leaf c) o h = tt
-begins (Fork v p q) o h = (h.0, o.1, o.2)
+within : (t : Tree) (n : ℕ) → AreOneTree → IsOrderedFrom n t → IsReducedTree t → Reads t → IsInputTree t
+within (Leaf c) n trees o r reads = record { begins = tt; ends = tt }
+within (Fork v p q) n trees o r reads = record {
+  begins = (
+    elim (cases_lt v 576) [
+      | inl l ↦ absurd (not-outside v p q trees o.1 o.2 r reads (λ from _. absurd (omega arith)))
+      | inr l ↦ l
+    ],
+    o.1,
+    o.2,
+  );
+  ends = (
+    elim (cases_lt v 1088) [
+      | inl l ↦ l
+      | inr l ↦ absurd (not-outside v p q trees o.1 o.2 r reads (λ _ below. absurd (omega arith)))
+    ],
+    (within p (suc v) trees o.1 r.1 (λ a b agree. sym (value-set v p q a false o.1 o.2)
+        ∙ reads (with_bit a v false) (with_bit b v false) (agree-set a b v false agree)
+        ∙ value-set v p q b false o.1 o.2)).ends,
+    (within q (suc v) trees o.2 r.2 (λ a b agree. sym (value-set v p q a true o.1 o.2)
+        ∙ reads (with_bit a v true) (with_bit b v true) (agree-set a b v true agree)
+        ∙ value-set v p q b true o.1 o.2)).ends,
+  );
+}
 
 -- an ordered reduced tree that depends on an input only is one over inputs
 pub input-tree : (t : Tree) → AreOneTree → IsOrderedTree t → IsReducedTree t → Reads t → IsInputTree t
-input-tree t trees o r reads =
-    let h : IsWithin t = within t 0 trees o r reads in
-    record { begins = begins t o h; ends = ends t h }
+input-tree t trees o r reads = within t 0 trees o r reads
 
 reads-from : (t : Tree) (n : ℕ) → 576 ≤ n → IsOrderedFrom n t → EndsBefore 1088 t → Reads t
 reads-from (Leaf c) n le o h a b agree = refl

@@ -58,10 +58,10 @@ impl<'a> CallRow<'a> {
 
 /// The diagram of which rows are, and the store in which it stands.
 #[derive(Clone, Copy)]
-pub(crate) struct Source<'s> {
-    pub(crate) store: &'s Store,
-    pub(crate) subject: Subject,
-    pub(crate) id: Id,
+struct Source<'s> {
+    store: &'s Store,
+    subject: Subject,
+    id: Id,
 }
 
 pub(crate) fn has_bit(number: u32, bit: u32) -> bool
@@ -71,7 +71,6 @@ pub(crate) fn has_bit(number: u32, bit: u32) -> bool
     number >> bit & 1 == 1
 }
 
-/// What comes behind a word where it has this number.
 fn behind(store: &Store, word: u16, number: u32, id: Id) -> Id
     requires { id < length store.now.trees }
     ensures within { result < length store.now.trees }
@@ -93,7 +92,6 @@ fn behind(store: &Store, word: u16, number: u32, id: Id) -> Id
     }
 }
 
-/// The rows of the call with this architecture and this number, which have conditions on other words only.
 fn rows_of_call(
     alloc: Global,
     source: &Source<'_>,
@@ -147,14 +145,12 @@ fn is_among(texts: &[&str], text: &str) -> bool
     has_text(texts, text)
 }
 
-/// Whether a call is asked for: its name is in `wanted`, or `wanted` is empty.
 fn is_wanted(wanted: &[&str], call: &Call) -> bool
     ensures { result ≡ is_wanted (map (λ t. t.now) wanted.now) call.now }
 {
     wanted.is_empty() || is_among(wanted, call.name())
 }
 
-/// Adds the rows of a call of a set, if it is asked for.
 fn push_if_wanted<'a>(
     alloc: Global,
     into: &mut Vec<CallRow<'a>>,
@@ -197,22 +193,22 @@ fn push_set<'a>(
     Ok(())
 }
 
-/// The rows of the calls whose names are in `wanted`, or of all calls where `wanted` is empty: set after set, and in a
-/// set in the order of its calls.
 pub(crate) fn call_rows<'a>(
     alloc: Global,
-    source: &Source<'_>,
-    wanted: &[&str],
+    store: &Store,
+    subject: Subject,
+    id: Id,
     sets: &'a [Names],
+    wanted: &[&str],
 ) -> Result<Vec<CallRow<'a>>, Fault>
-    requires { source.now.id < length source.now.store.now.trees }
-    ensures { IfOk result (λ v. v.items
-        ≡ call_rows (map (λ t. t.now) wanted.now) source.now.subject
-        (tree_at source.now.store.now.trees source.now.id) sets.now) }
+    requires { id < length store.now.trees }
+    ensures { IfOk result (λ v. v.items ≡ call_rows (map (λ t. t.now) wanted.now) subject
+        (tree_at store.now.trees id) sets.now) }
 {
+    let source = Source { store, subject, id };
     let mut rows = Vec::new(alloc);
     for names in sets {
-        push_set(alloc, &mut rows, source, wanted, names)?;
+        push_set(alloc, &mut rows, &source, wanted, names)?;
     }
     Ok(rows)
 }

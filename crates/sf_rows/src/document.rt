@@ -34,8 +34,6 @@ fn range_documents(alloc: Global, spans: &[Span]) -> Result<Vec<Document>, Alloc
     Ok(documents)
 }
 
-/// A condition: its word (`word`), the bits that count (`mask`), the ranges of numbers (`ranges`), and whether these
-/// are left out (`not`).
 fn condition_document(alloc: Global, condition: &Condition) -> Result<Document, AllocError>
     ensures { IfOk result (λ d. view d ≡ condition_document condition.now) }
 {
@@ -58,8 +56,6 @@ fn condition_documents(alloc: Global, conditions: &[Condition]) -> Result<Vec<Do
     Ok(documents)
 }
 
-/// Fields, and what the number of a row says: the answer (`answer`), or the old stack's (`old`) and the new one's
-/// (`new`).
 fn with_answers(
     alloc: Global,
     fields: Fields,
@@ -87,7 +83,6 @@ fn text_documents(alloc: Global, texts: Vec<String>) -> Result<Vec<Document>, Al
     Ok(documents)
 }
 
-/// A row: its conditions (`conditions`), what its number says, and the names of its calls (`calls`).
 fn row_document(
     alloc: Global,
     subject: Subject,
@@ -121,8 +116,6 @@ fn row_documents(
     Ok(documents)
 }
 
-/// A row of a call: the names of the call's set and of the call (`set` and `call`), the row's conditions
-/// (`conditions`), and what its number says.
 fn call_row_document(
     alloc: Global,
     subject: Subject,
@@ -139,21 +132,6 @@ fn call_row_document(
     Ok(Document::object(shown))
 }
 
-fn call_row_documents(
-    alloc: Global,
-    subject: Subject,
-    rows: &[CallRow<'_>],
-) -> Result<Vec<Document>, AllocError>
-    ensures { IfOk result (λ v. map view v.items ≡ map (call_row_document subject) rows.now) }
-{
-    let mut documents = Vec::new(alloc);
-    for row in rows {
-        documents.push(call_row_document(alloc, subject, row)?)?;
-    }
-    Ok(documents)
-}
-
-/// The array of the rows that are shown call by call; `null` where none are.
 fn calls_document(
     alloc: Global,
     subject: Subject,
@@ -162,13 +140,14 @@ fn calls_document(
     ensures { IfOk result (λ d. view d ≡ calls_document subject
         (option_map (λ v. v.items) calls.now)) }
 {
-    match calls {
-        Some(rows) => {
-            let documents = call_row_documents(alloc, subject, rows)?;
-            Document::array(alloc, documents)
-        }
-        None => Ok(Document::null()),
+    let Some(rows) = calls else {
+        return Ok(Document::null());
+    };
+    let mut documents = Vec::new(alloc);
+    for row in rows {
+        documents.push(call_row_document(alloc, subject, row)?)?;
     }
+    Document::array(alloc, documents)
 }
 
 /// Fields, and what is shown: the rows of calls (`calls`, `null` where none are shown), the other rows (`rows`), and

@@ -14,8 +14,6 @@ use sf_names::Names;
 use sf_parts::Row;
 use std::alloc::{AllocError, Global};
 
-/// Adds the line of a row: its architectures and call numbers, what its number says, its other conditions, and the
-/// names of its calls.
 fn push_row(
     alloc: Global,
     text: &mut String,
@@ -34,7 +32,6 @@ fn push_row(
     text.push_str("\n")
 }
 
-/// Adds a line for each row. `sets` give the names of calls.
 pub(crate) fn push_rows(
     alloc: Global,
     text: &mut String,
@@ -51,8 +48,6 @@ pub(crate) fn push_rows(
     Ok(())
 }
 
-/// Adds the line of a row of a call: the name of the call's set, the call's name, what the row's number says, and its
-/// conditions.
 fn push_call_row(text: &mut String, subject: Subject, row: &CallRow<'_>) -> Result<(), AllocError>
     ensures { OnOk result (string_bytes text.new ≡ string_bytes text.old
         ++ call_row_line subject row.now) }
@@ -65,20 +60,6 @@ fn push_call_row(text: &mut String, subject: Subject, row: &CallRow<'_>) -> Resu
     text.push_str("\n")
 }
 
-fn push_call_rows(
-    text: &mut String,
-    subject: Subject,
-    rows: &[CallRow<'_>],
-) -> Result<(), AllocError>
-    ensures { OnOk result (string_bytes text.new ≡ string_bytes text.old
-        ++ flat_map (call_row_line subject) rows.now) }
-{
-    for row in rows {
-        push_call_row(text, subject, row)?;
-    }
-    Ok(())
-}
-
 fn push_calls(
     text: &mut String,
     subject: Subject,
@@ -88,10 +69,13 @@ fn push_calls(
         ++ option_map_or (flat_map (call_row_line subject))
         (option_map (λ v. v.items) calls.now) []) }
 {
-    match calls {
-        Some(rows) => push_call_rows(text, subject, rows),
-        None => Ok(()),
+    let Some(rows) = calls else {
+        return Ok(());
+    };
+    for row in rows {
+        push_call_row(text, subject, row)?;
     }
+    Ok(())
 }
 
 /// Adds the lines of the rows that are shown: first those of calls. `sets` give the names of calls.

@@ -25,21 +25,6 @@ fn push_call(
     Ok(())
 }
 
-fn push_calls(
-    alloc: Global,
-    names: &mut Vec<String>,
-    calls: &[Call],
-    span: Span,
-) -> Result<(), AllocError>
-    ensures { OnOk result (map string_bytes names.new.items ≡ map string_bytes names.old.items
-        ++ flat_map (name_between span.first span.last) calls.now) }
-{
-    for call in calls {
-        push_call(alloc, names, call, span)?;
-    }
-    Ok(())
-}
-
 fn push_set(
     alloc: Global,
     names: &mut Vec<String>,
@@ -53,7 +38,11 @@ fn push_set(
     if set.arch() != arch {
         return Ok(());
     }
-    push_calls(alloc, names, set.calls(), span)
+    let calls = set.calls();
+    for call in calls {
+        push_call(alloc, names, call, span)?;
+    }
+    Ok(())
 }
 
 fn push_span(
@@ -72,7 +61,6 @@ fn push_span(
     Ok(())
 }
 
-/// The names of the calls of an architecture whose numbers are in these spans.
 fn names_in_spans(
     alloc: Global,
     sets: &[Names],
@@ -89,7 +77,6 @@ fn names_in_spans(
     Ok(names)
 }
 
-/// The numbers that a condition means; none where it shows those that it leaves out.
 fn meant(condition: Option<&Condition>) -> &[Span]
     ensures { result.now ≡ meant (option_map (λ c. c.now) condition.entry) }
 {
@@ -105,8 +92,6 @@ fn meant(condition: Option<&Condition>) -> &[Span]
     }
 }
 
-/// The names of the calls that have a row's architecture and one of its call numbers, whatever its other conditions.
-/// There are none where the row is about more than one architecture, since a number may stand for different calls then.
 pub(crate) fn row_names(
     alloc: Global,
     sets: &[Names],
@@ -134,7 +119,6 @@ fn push_each(text: &mut String, names: &[String]) -> Result<(), AllocError>
     Ok(())
 }
 
-/// Adds names, with ` # ` before the first one and commas between them: at most eight, and `..` for the others.
 pub(crate) fn push_names(text: &mut String, names: &[String]) -> Result<(), AllocError>
     ensures { OnOk result (string_bytes text.new ≡ string_bytes text.old
         ++ row_names_words (map string_bytes names.now)) }

@@ -20,7 +20,6 @@ use sf_names::{Call, Names};
 use sf_parts::{Row, rows_of};
 use std::alloc::{AllocError, Global};
 
-/// Those of some numbers that have the bit of this weight, and those that haven't.
 fn parted(alloc: Global, numbers: &[u32], bit: u32) -> Result<(Vec<u32>, Vec<u32>), AllocError>
     requires { bit < 32 }
     ensures set { IfOk result (λ p. p.0.items
@@ -40,7 +39,6 @@ fn parted(alloc: Global, numbers: &[u32], bit: u32) -> Result<(Vec<u32>, Vec<u32
     Ok((set, unset))
 }
 
-/// The diagram that is 1 where a word has the lowest bits of one of the numbers, and else 0.
 fn one_of(
     alloc: Global,
     store: &mut Store,
@@ -97,7 +95,6 @@ fn calls_of(alloc: Global, store: &mut Store, names: &Names) -> Result<Id, sf_di
     Ok(id)
 }
 
-/// The diagram that is 1 on the inputs of named calls, and else 0.
 fn named_calls(alloc: Global, store: &mut Store, sets: &[Names]) -> Result<Id, sf_diagram::Fault>
     ensures values { IfOk result (λ id. IsDiagramOf store.new.trees id (λ b.
         if is_named_call sets.now (word_number 18 b) (word_number 19 b) then 1 else 0)) }
@@ -112,7 +109,6 @@ fn named_calls(alloc: Global, store: &mut Store, sets: &[Names]) -> Result<Id, s
     Ok(named)
 }
 
-/// The diagram that on inputs of named calls is this number, and else what a diagram is.
 fn without_named(
     alloc: Global,
     store: &mut Store,
@@ -147,8 +143,6 @@ pub(crate) fn all_rows(
     Ok(rows)
 }
 
-/// The rows that are shown beside those of calls: where `wanted` is empty, those of the inputs of calls without a name,
-/// and else none.
 pub(crate) fn other_rows(
     alloc: Global,
     store: &mut Store,

@@ -1,8 +1,8 @@
 ghost use Rattle.std.specs.Prelude.{◌≡◌, ◌<◌, IfOk, length, map, option_map};
 ghost use Rattle.sf_diagram.specs.Stores.{KeepsStore, tree_at};
-ghost use Rattle.sf_rows.specs.Shown.{IsShown, call_rows, shown_count};
+ghost use Rattle.sf_rows.specs.Shown.{IsShown, shown_count};
 
-use crate::calls::{CallRow, Source, call_rows};
+use crate::calls::{CallRow, call_rows};
 use crate::fault::Fault;
 use crate::others::{all_rows, other_rows};
 use crate::subject::Subject;
@@ -57,22 +57,6 @@ pub fn shown_count(shown: &Shown<'_>) -> usize
     }
 }
 
-fn rows_by_call<'a>(
-    alloc: Global,
-    store: &Store,
-    subject: Subject,
-    id: Id,
-    sets: &'a [Names],
-    wanted: &[&str],
-) -> Result<Vec<CallRow<'a>>, sf_parts::Fault>
-    requires { id < length store.now.trees }
-    ensures { IfOk result (λ v. v.items ≡ call_rows (map (λ t. t.now) wanted.now) subject
-        (tree_at store.now.trees id) sets.now) }
-{
-    let source = Source { store, subject, id };
-    call_rows(alloc, &source, wanted, sets)
-}
-
 /// The rows of a diagram. Where `calls` is `None`, each stands by itself. Where `calls` has names, they are those of
 /// the calls of `sets` with these names; a name that no set has adds nothing. Where `calls` is an empty list, they are
 /// those of all calls of `sets`, and beside them the rows of the inputs of calls without a name.
@@ -95,7 +79,7 @@ pub fn show<'a>(
             Ok(Shown { calls: None, rows })
         }
         Some(wanted) => {
-            let of_calls = rows_by_call(alloc, store, subject, id, sets, wanted)?;
+            let of_calls = call_rows(alloc, store, subject, id, sets, wanted)?;
             let rows = other_rows(alloc, store, subject, id, sets, wanted)?;
             Ok(Shown {
                 calls: Some(of_calls),

@@ -1,6 +1,6 @@
 //! What rows show, and how it is shown.
 
-ghost use Rattle.std.specs.Prelude.{◌≡◌, ◌++◌, OnOk, codes, string_bytes};
+ghost use Rattle.std.specs.Prelude.{◌≡◌, ◌++◌, OnOk, string_bytes};
 ghost use Rattle.sf_stack.specs.Texts.{answer_words};
 ghost use Rattle.sf_behaviour.specs.Answering.{answer_with};
 ghost use Rattle.sf_rows.specs.Rows.{after_of, before_of, hidden_number};
@@ -51,7 +51,6 @@ pub(crate) fn after_of(number: u64) -> Answer
     answer_of(number % 0x1_0000_0000)
 }
 
-/// Adds an answer: its action as `push_action` writes it, a space, and its data in decimal.
 fn push_answer(text: &mut String, answer: Answer) -> Result<(), AllocError>
     ensures { OnOk result (string_bytes text.new ≡ string_bytes text.old ++ answer_words answer) }
 {
@@ -60,16 +59,6 @@ fn push_answer(text: &mut String, answer: Answer) -> Result<(), AllocError>
     write!(text, " {info}")
 }
 
-fn push_change(text: &mut String, before: Answer, after: Answer) -> Result<(), AllocError>
-    ensures { OnOk result (string_bytes text.new ≡ string_bytes text.old
-        ++ (answer_words before ++ (codes " -> " ++ answer_words after))) }
-{
-    push_answer(text, before)?;
-    text.push_str(" -> ")?;
-    push_answer(text, after)
-}
-
-/// Adds what the number of a row says: an answer, or two with ` -> ` between them.
 pub(crate) fn push_answers(
     text: &mut String,
     subject: Subject,
@@ -80,6 +69,10 @@ pub(crate) fn push_answers(
 {
     match subject {
         Subject::Stack => push_answer(text, answer_of(number)),
-        Subject::Change => push_change(text, before_of(number), after_of(number)),
+        Subject::Change => {
+            push_answer(text, before_of(number))?;
+            text.push_str(" -> ")?;
+            push_answer(text, after_of(number))
+        }
     }
 }

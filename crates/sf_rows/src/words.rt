@@ -25,21 +25,10 @@ pub(crate) enum Style {
     Call,
 }
 
-/// Adds `0x` and a number in hexadecimal, without leading zeros and with capital letters.
 fn push_short(text: &mut String, number: u32) -> Result<(), AllocError>
     ensures { OnOk result (string_bytes text.new ≡ string_bytes text.old ++ short_words number) }
 {
     write!(text, "0x{number:X}")
-}
-
-fn push_call(text: &mut String, number: u32) -> Result<(), AllocError>
-    ensures { OnOk result (string_bytes text.new ≡ string_bytes text.old
-        ++ number_words Style.Call number) }
-{
-    if number < 65536 {
-        return write!(text, "{number}");
-    }
-    push_short(text, number)
 }
 
 fn push_number(text: &mut String, style: Style, number: u32) -> Result<(), AllocError>
@@ -49,7 +38,12 @@ fn push_number(text: &mut String, style: Style, number: u32) -> Result<(), Alloc
     match style {
         Style::Short => push_short(text, number),
         Style::Arch => write!(text, "0x{number:08X}"),
-        Style::Call => push_call(text, number),
+        Style::Call => {
+            if number < 65536 {
+                return write!(text, "{number}");
+            }
+            push_short(text, number)
+        }
     }
 }
 
@@ -78,7 +72,6 @@ fn push_spans(text: &mut String, style: Style, spans: &[Span]) -> Result<(), All
     Ok(())
 }
 
-/// The number of the only span, if it has only one.
 pub(crate) fn number_alone(spans: &[Span]) -> Option<u32>
     ensures { result ≡ number_alone spans.now }
 {
@@ -94,7 +87,6 @@ pub(crate) fn number_alone(spans: &[Span]) -> Option<u32>
     }
 }
 
-/// What stands before numbers, which a condition means or leaves out: one number, or more.
 fn start_of(style: Style, without: bool, one: bool) -> &'static str
     ensures { result.now ≡ start_words style without one }
 {
@@ -108,7 +100,6 @@ fn start_of(style: Style, without: bool, one: bool) -> &'static str
     }
 }
 
-/// Adds the numbers of a form: those that are meant, or, behind `!= ` or `not in `, those that aren't.
 fn push_form(text: &mut String, style: Style, form: &Form) -> Result<(), AllocError>
     ensures { OnOk result (string_bytes text.new ≡ string_bytes text.old
         ++ form_words style form.now) }
@@ -131,7 +122,6 @@ fn place_of(word: u16) -> usize
     }
 }
 
-/// The name of a word of trees, as policies write it.
 pub(crate) fn name_of(word: u16) -> &'static str
     ensures { result.now ≡ word_words word }
 {
@@ -149,7 +139,6 @@ fn push_mask(text: &mut String, mask: u32) -> Result<(), AllocError>
     push_short(text, mask)
 }
 
-/// Adds a condition: its word, with the mask if this leaves bits out, and its numbers.
 fn push_condition(text: &mut String, condition: &Condition) -> Result<(), AllocError>
     ensures { OnOk result (string_bytes text.new ≡ string_bytes text.old
         ++ condition_words condition.now) }
@@ -166,27 +155,18 @@ fn is_on(word: u16, condition: &Condition) -> bool
     condition.word == word && condition.form.mask == u32::MAX
 }
 
-/// The first condition on a word with all its bits.
 pub(crate) fn find_on(conditions: &[Condition], word: u16) -> Option<&Condition>
     ensures { option_map (λ c. c.now) result ≡ find (is_on word) conditions.now }
 {
-    for condition in conditions {
-        if is_on(word, condition) {
-            return Some(condition);
-        }
-    }
-    None
+    conditions.iter().find(|condition| is_on(word, *condition))
 }
 
-/// Whether a condition stands behind `arch` or `nr`.
 fn is_placed(condition: &Condition) -> bool
     ensures { result ≡ (is_on 18 condition.now || is_on 19 condition.now) }
 {
     is_on(ARCH, condition) || is_on(NR, condition)
 }
 
-/// Adds the conditions that don't stand behind `arch` or `nr`, with ` if ` before the first one, and ` and ` between
-/// them.
 pub(crate) fn push_conditions(text: &mut String, conditions: &[Condition]) -> Result<(), AllocError>
     ensures { OnOk result (string_bytes text.new ≡ string_bytes text.old
         ++ conditions_words conditions.now) }
@@ -217,7 +197,6 @@ fn push_place(
     }
 }
 
-/// Adds `arch` and the numbers of architectures, `nr` and those of calls, and a space.
 pub(crate) fn push_places(text: &mut String, conditions: &[Condition]) -> Result<(), AllocError>
     ensures { OnOk result (string_bytes text.new ≡ string_bytes text.old
         ++ places_words conditions.now) }

@@ -15,13 +15,9 @@ pub diagram-same : (ts : List Tree) (id : ℕ) (f g : Bits → ℕ) → IsDiagra
     → IsDiagramOf ts id g
 diagram-same ts id f g h same = record { within = h.within; values = λ bits. h.values bits ∙ same bits }
 
-pub leaf-diagram : (ts : List Tree) (id n : ℕ) → id < length ts → tree_at ts id ≡ Leaf n
-    → IsDiagramOf ts id (λ bits. n)
-leaf-diagram ts id n l e = record { within = l; values = λ bits. ap (λ (t : Tree). value t bits) e }
-
-pub literal-diagram : (ts : List Tree) (id v : ℕ) → id < length ts → tree_at ts id ≡ Fork v (Leaf 0) (Leaf 1)
-    → IsDiagramOf ts id (λ bits. if bits v then 1 else 0)
-literal-diagram ts id v l e = record { within = l; values = λ bits. ap (λ (t : Tree). value t bits) e }
+pub tree-diagram : (ts : List Tree) (id : ℕ) (t : Tree) → id < length ts → tree_at ts id ≡ t
+    → IsDiagramOf ts id (λ bits. value t bits)
+tree-diagram ts id t l e = record { within = l; values = λ bits. ap (λ (u : Tree). value u bits) e }
 
 -- a diagram that chooses between two others
 pub chosen-diagram : (ts us : List Tree) (test taken other id : ℕ) (f g h : Bits → ℕ) → IsDiagramOf ts test f
@@ -195,13 +191,10 @@ calls-step given arch calls numbers bits fits is are small =
 
 pub named-step : (a b c : Bool) → c ≡ (b || a)
     → chosen_of (if a then 1 else 0) 1 (if b then 1 else 0) ≡ (if c then 1 else 0)
-named-step a b c e = by a b ∙ ap (λ (x : Bool). if x then 1 else 0) (sym e)
-  where
-    by : (a b : Bool) → chosen_of (if a then 1 else 0) 1 (if b then 1 else 0) ≡ (if b || a then 1 else 0)
-    by true true = refl
-    by true false = refl
-    by false true = refl
-    by false false = refl
+named-step true true c e = ap flag (sym e)
+named-step true false c e = ap flag (sym e)
+named-step false true c e = ap flag (sym e)
+named-step false false c e = ap flag (sym e)
 
 pub flag-chosen : (a : Bool) (x y : ℕ) → chosen_of (if a then 1 else 0) x y ≡ (if a then x else y)
 flag-chosen true x y = refl

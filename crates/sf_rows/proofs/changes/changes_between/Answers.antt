@@ -1,6 +1,6 @@
-use Rattle.sf_rows.proofs.Common.{◌∙◌, ap, ap₂, sym, Bits, Tree, value, tree_at, merged_of, pair_of, Operation, operation_of, Relation, change_number}
+use Rattle.sf_rows.proofs.Common.{Leaf, ◌∙◌, ap, ap₂, sym, Bits, Tree, value, tree_at, merged_of, pair_of, Operation, operation_of, Relation, change_number}
 use Rattle.std.proofs.Common.{Option}
-use Rattle.sf_rows.proofs.others.OtherLemmas.{chosen-diagram, chosen-some, diagram-kept, diagram-same, leaf-diagram}
+use Rattle.sf_rows.proofs.others.OtherLemmas.{chosen-diagram, chosen-some, diagram-kept, diagram-same, tree-diagram}
 use Rattle.sf_rows.proofs.changes.changes_between.Goals as goal
 
 pub returns-in-None-clause-values : goal.returns-in-None-clause-values
@@ -38,7 +38,7 @@ returns-in_ok-id-in-Some-clause-values c =
       within = c.in_ok-both.ensures.within;
       values = λ b. c.in_ok-both.ensures.merged.values b;
     })))
-    (leaf-diagram s3.trees _ 0 c.in_ok-none-in-Some.ensures.within c.in_ok-none-in-Some.ensures.tree)
+    (tree-diagram s3.trees _ (Leaf 0) c.in_ok-none-in-Some.ensures.within c.in_ok-none-in-Some.ensures.tree)
     c.in_ok-id-in-Some.ensures.within c.in_ok-id-in-Some.ensures.chosen)
     (λ b. chosen-some (merged_of (operation_of relation) (before b) (after b)) (pair_of (before b) (after b))
     ∙ ap (λ (only : Option Relation). change_number only (before b) (after b)) (sym c.in-Some.is))

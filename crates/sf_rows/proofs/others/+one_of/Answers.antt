@@ -1,16 +1,16 @@
-use Rattle.sf_rows.proofs.Common.{◌+◌, ◌-◌, ◌*◌, ◌∙◌, ap, arith, refl, sym, if◌then◌else◌, list_any}
-use Rattle.sf_rows.proofs.others.OtherLemmas.{agrees, chosen-diagram, diagram-kept, diagram-same, flag, leaf-diagram, literal-diagram, one-of-all, one-of-none, one-of-step}
+use Rattle.sf_rows.proofs.Common.{Leaf, Fork, ◌+◌, ◌-◌, ◌*◌, ◌∙◌, ap, arith, refl, sym, if◌then◌else◌, list_any}
+use Rattle.sf_rows.proofs.others.OtherLemmas.{agrees, chosen-diagram, diagram-kept, diagram-same, flag, one-of-all, one-of-none, one-of-step, tree-diagram}
 use Rattle.sf_rows.proofs.others.+one_of.Goals as goal
 
 pub returns-then-is_empty-clause-values : goal.returns-then-is_empty-clause-values
 returns-then-is_empty-clause-values t c =
-    diagram-same _ _ _ _ (leaf-diagram _ _ 0 c.in_ok-none.ensures.within c.in_ok-none.ensures.tree)
+    diagram-same _ _ _ _ (tree-diagram _ _ (Leaf 0) c.in_ok-none.ensures.within c.in_ok-none.ensures.tree)
     (λ b. sym (ap flag
     (one-of-none c.args.word c.args.bits b c.args.numbers.now (sym c.is_empty.ensures ∙ c.if-is_empty.true))))
 
 pub returns-then-bits-eq0-clause-values : goal.returns-then-bits-eq0-clause-values
 returns-then-bits-eq0-clause-values t c =
-    diagram-same _ _ _ _ (leaf-diagram _ _ 1 c.in_ok-one.ensures.within c.in_ok-one.ensures.tree)
+    diagram-same _ _ _ _ (tree-diagram _ _ (Leaf 1) c.in_ok-one.ensures.within c.in_ok-one.ensures.tree)
     (λ b. sym (ap flag (one-of-all c.args.word c.args.bits b c.args.numbers.now c.if-bits-eq0.true
     (sym c.is_empty.ensures ∙ c.if-is_empty.false))))
 
@@ -27,7 +27,7 @@ returns-clause-values t c =
     (chosen-diagram s3.trees c.choose.new.store.trees _ _ _ _ (λ b. if b v then 1 else 0)
     (λ b. if list_any (agrees c.args.word n b) set then 1 else 0)
     (λ b. if list_any (agrees c.args.word n b) unset then 1 else 0)
-    (literal-diagram s3.trees _ v c.in_ok-variable.ensures.within c.in_ok-variable.ensures.tree)
+    (tree-diagram s3.trees _ (Fork v (Leaf 0) (Leaf 1)) c.in_ok-variable.ensures.within c.in_ok-variable.ensures.tree)
     (diagram-kept s2.trees s3.trees _ _ c.in_ok-variable.ensures.keeps.trees
     (diagram-kept s1.trees s2.trees _ _ c.in_ok-lower.ensures.keeps.trees c.in_ok-higher.ensures.values))
     (diagram-kept s2.trees s3.trees _ _ c.in_ok-variable.ensures.keeps.trees c.in_ok-lower.ensures.values)

@@ -1,5 +1,5 @@
-use Rattle.sf_rows.proofs.Common.{ℕ, ◌<◌, ◌^◌, List, [], ◌∷◌, ◌∙◌, ap, arith, map, subst, sym, All, if◌then◌else◌, list_any, CallData}
-use Rattle.sf_rows.proofs.others.OtherLemmas.{agrees, calls-step, chosen-diagram, diagram-kept, diagram-same, leaf-diagram}
+use Rattle.sf_rows.proofs.Common.{Leaf, ℕ, ◌<◌, ◌^◌, List, [], ◌∷◌, ◌∙◌, ap, arith, map, subst, sym, All, if◌then◌else◌, list_any, CallData}
+use Rattle.sf_rows.proofs.others.OtherLemmas.{agrees, calls-step, chosen-diagram, diagram-kept, diagram-same, tree-diagram}
 use Rattle.sf_rows.proofs.others.calls_of.Goals as goal
 
 pub returns-clause-values : goal.returns-clause-values
@@ -16,7 +16,7 @@ returns-clause-values c =
     (diagram-kept s2.trees s3.trees _ _ c.in_ok-none.ensures.keeps.trees
     (diagram-kept s1.trees s2.trees _ _ c.in_ok-of_calls.ensures.keeps.trees c.in_ok-of_arch.ensures.values))
     (diagram-kept s2.trees s3.trees _ _ c.in_ok-none.ensures.keeps.trees c.in_ok-of_calls.ensures.values)
-    (leaf-diagram s3.trees _ 0 c.in_ok-none.ensures.within c.in_ok-none.ensures.tree)
+    (tree-diagram s3.trees _ (Leaf 0) c.in_ok-none.ensures.within c.in_ok-none.ensures.tree)
     c.in_ok-id.ensures.within c.in_ok-id.ensures.chosen)
     (λ b. calls-step given c.args.names.now.arch c.args.names.now.calls numbers b (omega arith) c.arch.ensures
     (c.deref.ensures.value ∙ c.in_ok-numbers.ensures.numbers ∙ ap (map (λ (x : CallData). x.number)) c.calls.ensures)

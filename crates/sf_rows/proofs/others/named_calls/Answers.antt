@@ -1,6 +1,6 @@
-use Rattle.sf_rows.proofs.Common.{◌+◌, ◌∙◌, Bool, ap, arith, sym, take, ◌&&◌, ◌||◌, if◌then◌else◌, list_any, list_any_more, Bits, keeps_more, NamesData, word_number, is_call_number}
+use Rattle.sf_rows.proofs.Common.{Leaf, ◌+◌, ◌∙◌, Bool, ap, arith, sym, take, ◌&&◌, ◌||◌, if◌then◌else◌, list_any, list_any_more, Bits, keeps_more, NamesData, word_number, is_call_number}
 use Rattle.std.specs.Prelude.{◌==◌}
-use Rattle.sf_rows.proofs.others.OtherLemmas.{chosen-diagram, diagram-kept, diagram-same, leaf-diagram, named-step}
+use Rattle.sf_rows.proofs.others.OtherLemmas.{chosen-diagram, diagram-kept, diagram-same, named-step, tree-diagram}
 use Rattle.sf_rows.proofs.others.named_calls.Goals as goal
 
 -- a set has the call of an input
@@ -10,7 +10,7 @@ has_call b n = (n.arch == word_number 18 b) && list_any (is_call_number (word_nu
 pub loop-names-init : goal.loop-names-init
 loop-names-init c = record {
   keeps = c.in_ok-named.ensures.keeps;
-  values = leaf-diagram _ _ 0 c.in_ok-named.ensures.within c.in_ok-named.ensures.tree;
+  values = tree-diagram _ _ (Leaf 0) c.in_ok-named.ensures.within c.in_ok-named.ensures.tree;
 }
 
 pub loop-names-preserved : goal.loop-names-preserved
@@ -28,7 +28,7 @@ loop-names-preserved c =
           (chosen-diagram s2.trees c.choose.new.store.trees _ _ _ _ (λ b. if has_call b n then 1 else 0) (λ b. 1)
           (λ b. if list_any (has_call b) (take i sets) then 1 else 0)
           (diagram-kept s1.trees s2.trees _ _ c.in_ok-one.ensures.keeps.trees c.in_ok-of_set.ensures.values)
-          (leaf-diagram s2.trees _ 1 c.in_ok-one.ensures.within c.in_ok-one.ensures.tree)
+          (tree-diagram s2.trees _ (Leaf 1) c.in_ok-one.ensures.within c.in_ok-one.ensures.tree)
           (diagram-kept s1.trees s2.trees _ _ c.in_ok-one.ensures.keeps.trees
           (diagram-kept s0.trees s1.trees _ _ c.in_ok-of_set.ensures.keeps.trees c.loop-names.invariant.values))
           c.in_ok-named-2.ensures.within c.in_ok-named-2.ensures.chosen)

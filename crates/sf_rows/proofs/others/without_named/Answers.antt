@@ -1,5 +1,5 @@
 use Rattle.sf_rows.proofs.Common.{refl, if◌then◌else◌, Bits, value, tree_at, word_number, is_named_call}
-use Rattle.sf_rows.proofs.others.OtherLemmas.{chosen-diagram, diagram-kept, diagram-same, flag-chosen, leaf-diagram}
+use Rattle.sf_rows.proofs.others.OtherLemmas.{chosen-diagram, diagram-kept, diagram-same, flag-chosen, tree-diagram}
 use Rattle.sf_rows.proofs.others.without_named.Goals as goal
 
 pub returns-clause-values : goal.returns-clause-values
@@ -12,7 +12,7 @@ returns-clause-values c =
     (chosen-diagram s2.trees c.choose.new.store.trees _ _ _ _ (λ b. if named b then 1 else 0) (λ b. c.args.number)
     (λ b. value (tree_at s0.trees c.args.id) b)
     (diagram-kept s1.trees s2.trees _ _ c.in_ok-leaf.ensures.keeps.trees c.in_ok-named.ensures.values)
-    (leaf-diagram s2.trees _ _ c.in_ok-leaf.ensures.within c.in_ok-leaf.ensures.tree)
+    (tree-diagram s2.trees _ _ c.in_ok-leaf.ensures.within c.in_ok-leaf.ensures.tree)
     (diagram-kept s1.trees s2.trees _ _ c.in_ok-leaf.ensures.keeps.trees
     (diagram-kept s0.trees s1.trees _ _ c.in_ok-named.ensures.keeps.trees
     (record { within = c.requires; values = λ b. refl })))

@@ -1,5 +1,5 @@
 use Rattle.sf_rows.proofs.Common.{◌≡◌, ◌++◌, map, take, string_bytes, flat_map, name_between}
-use Rattle.sf_rows.proofs.names.push_calls.Given as goal
+use Rattle.sf_rows.proofs.names.push_set.Given as goal
 
 abbrev pub invariant-loop-call : goal.invariant-loop-call
 invariant-loop-call l = map string_bytes l.names.items ≡ map string_bytes l.initial.names.items
