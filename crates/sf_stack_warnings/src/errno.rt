@@ -12,7 +12,6 @@ use sf_run::{Action, Answer};
 use std::alloc::{AllocError, Global};
 use std::collections::BTreeSet;
 
-/// Whether an answer is ERRNO with data 0.
 fn is_zero_error(answer: Answer) -> bool
     ensures { IsTrue result ↔ (answer ≡ zero_error) }
 {
@@ -23,8 +22,6 @@ fn is_zero_error(answer: Answer) -> bool
         }
 }
 
-/// The number of the call of a member of the region at this place, if the region is answered ERRNO 0 and a member is
-/// found. On a plain stack one is found.
 fn number_at(alloc: Global, settled: &Settled, place: usize) -> Result<Option<u32>, AllocError>
     requires { place < length settled.now.regions }
     ensures number { IfOk result (λ o. IfSome o (IsZeroErrorAt settled.now place)) }
@@ -44,7 +41,6 @@ fn number_at(alloc: Global, settled: &Settled, place: usize) -> Result<Option<u3
     }
 }
 
-/// Puts a number into a set. Whether it wasn't in it before.
 fn put(seen: &mut BTreeSet<u32>, number: u32) -> Result<bool, AllocError>
     ensures is_new { IfOk result (λ b. MatchBool b (¬ Contains seen.old.keys number)
         (Contains seen.old.keys number)) }
@@ -55,7 +51,6 @@ fn put(seen: &mut BTreeSet<u32>, number: u32) -> Result<bool, AllocError>
     Ok(is_new)
 }
 
-/// Adds a number behind the others, unless it is among them. `seen` has the same numbers.
 fn push_once(
     numbers: &mut Vec<u32>,
     seen: &mut BTreeSet<u32>,
@@ -72,7 +67,6 @@ fn push_once(
     Ok(())
 }
 
-/// Adds the number of the region at `place`, if it gives one.
 fn add_number_at(
     alloc: Global,
     settled: &Settled,
