@@ -35,7 +35,6 @@ impl<'a> Model for Changes<'a> {
     ghost view = { λ x. record { only = x.only; shown = x.shown } };
 }
 
-/// The rows that are shown of what changes.
 fn shown_of<'a>(
     alloc: Global,
     nodes: u32,
@@ -80,13 +79,9 @@ pub fn list_changes<'a>(
         comparison.old_stack().programs(),
         comparison.new_stack().programs(),
     );
-    match shown_of(alloc, nodes, stacks, only, sets, calls) {
-        Ok(changes) => Ok(changes),
-        Err(fault) => Err(fault.told(nodes)),
-    }
+    shown_of(alloc, nodes, stacks, only, sets, calls).map_err(|fault| fault.told(nodes))
 }
 
-/// The word for the rows that are shown: the relation `only`, or `changed` where none is given.
 fn word_of(only: Option<Relation>) -> &'static str
     ensures { result.now ≡ shown_words only }
 {
@@ -99,7 +94,6 @@ fn word_of(only: Option<Relation>) -> &'static str
     }
 }
 
-/// Adds the last line: `total`, the word of `word_of`, and how many rows are shown.
 fn push_total(text: &mut String, changes: &Changes<'_>) -> Result<(), AllocError>
     ensures { OnOk result (string_bytes text.new ≡ string_bytes text.old
         ++ changed_line changes.now) }
@@ -109,7 +103,6 @@ fn push_total(text: &mut String, changes: &Changes<'_>) -> Result<(), AllocError
     write!(text, "total {shown} {count}\n")
 }
 
-/// The whole text: that of the comparison, the lines of the rows, and a line that counts these.
 fn text_of(
     alloc: Global,
     comparison: &Comparison,
@@ -125,8 +118,7 @@ fn text_of(
     Ok(text)
 }
 
-/// Writes the text of a comparison, the lines of the rows of what changes, with the names of calls from these sets, and
-/// a line that counts these.
+/// Writes the text of a comparison and the rows of what changes, with the names of calls from these sets.
 pub fn write_changes<W: Write>(
     alloc: Global,
     comparison: &Comparison,
@@ -145,8 +137,7 @@ pub fn write_changes<W: Write>(
     write_bytes(text.as_bytes(), out)
 }
 
-/// A comparison as JSON, with the rows of what changes, and the names of calls from these sets. The object has the
-/// fields of `comparison_fields`, the word of `word_of` (`shown`), and the rows, as `with_rows` adds them.
+/// A comparison as JSON, with the rows of what changes, and the names of calls from these sets.
 pub fn changes_document(
     alloc: Global,
     comparison: &Comparison,

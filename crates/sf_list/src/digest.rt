@@ -7,9 +7,8 @@ use crate::listing::Listing;
 use sf_rows::{Subject, digest_of_rows};
 use std::alloc::{AllocError, Global};
 
-/// The line with the digest of the rows that a listing shows each by itself; without calls these are all rows. It has
-/// the version of a listing's form, the name of the hash, and the digest of the rows' lines. Stacks that answer alike
-/// have one line.
+/// The line with the digest of the rows that a listing shows each by itself; without calls these are all rows. Stacks
+/// that answer alike have one line.
 pub fn digest_of(alloc: Global, listing: &Listing<'_>) -> Result<String, AllocError>
     ensures { IfOk result (λ text. string_bytes text ≡ digest_line listing.now) }
 {

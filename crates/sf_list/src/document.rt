@@ -10,8 +10,7 @@ use sf_names::Names;
 use sf_rows::{Subject, with_rows};
 use std::alloc::{AllocError, Global};
 
-/// A listing as JSON, with the names of calls from these sets. The object has the name of the command (`list`, in the
-/// field `seccomp_audit`), the version of the form, the size of the stack, and the rows, as `with_rows` adds them.
+/// A listing as JSON, with the names of calls from these sets.
 pub fn listing_document(
     alloc: Global,
     listing: &Listing<'_>,

@@ -43,7 +43,6 @@ impl<'a> Listing<'a> {
     }
 }
 
-/// The listing of a stack.
 fn listing_of<'a>(
     alloc: Global,
     nodes: u32,
@@ -82,8 +81,5 @@ pub fn list<'a>(
     ensures refused { IfErr result (λ e. (e ≡ Fault.Memory) ⊎ ((e ≡ Fault.TooLarge nodes)
         ⊎ (e ≡ Fault.TooManyRows))) }
 {
-    match listing_of(alloc, nodes, stack, sets, calls) {
-        Ok(listing) => Ok(listing),
-        Err(fault) => Err(fault.told(nodes)),
-    }
+    listing_of(alloc, nodes, stack, sets, calls).map_err(|fault| fault.told(nodes))
 }

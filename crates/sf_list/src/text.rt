@@ -13,8 +13,6 @@ use sf_stack::{Fault, push_size, write_bytes};
 use std::alloc::{AllocError, Global};
 use std::io::Write;
 
-/// The first line of a listing: what it is, and the version of its form. Where rows are shown call by call, it is one
-/// of calls.
 fn title_of(calls: &Option<Vec<CallRow<'_>>>) -> &'static str
     ensures { result.now ≡ listing_title (option_map (λ v. v.items) calls.now) }
 {
@@ -25,14 +23,12 @@ fn title_of(calls: &Option<Vec<CallRow<'_>>>) -> &'static str
     }
 }
 
-/// The word for what the last line counts: `lines` where rows are shown call by call, else `rows`.
 fn counted_of(calls: &Option<Vec<CallRow<'_>>>) -> &'static str
     ensures { result.now ≡ counted_words (option_map (λ v. v.items) calls.now) }
 {
     if calls.is_some() { "lines" } else { "rows" }
 }
 
-/// Adds the last line: `total`, the word of `counted_of`, and how many rows are shown.
 fn push_total(text: &mut String, shown: &Shown<'_>) -> Result<(), AllocError>
     ensures { OnOk result (string_bytes text.new ≡ string_bytes text.old
         ++ rows_total_line shown.now) }
@@ -42,8 +38,6 @@ fn push_total(text: &mut String, shown: &Shown<'_>) -> Result<(), AllocError>
     write!(text, "total {counted} {count}\n")
 }
 
-/// The whole text of a listing, with the names of calls from these sets: its title, the size of the stack, the lines of
-/// the rows, and a line that counts these.
 fn text_of(alloc: Global, listing: &Listing<'_>, sets: &[Names]) -> Result<String, AllocError>
     ensures { IfOk result (λ text. string_bytes text ≡ listing_text sets.now listing.now) }
 {
