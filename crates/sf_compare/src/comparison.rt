@@ -104,8 +104,6 @@ fn lets_some_through(
     Ok(found.is_some())
 }
 
-/// What is found of two stacks: of each relation between their answers, whether some call may get through the old one
-/// and through the new one, and how many nodes the diagrams have then.
 fn find(
     alloc: Global,
     nodes: u32,

@@ -1,7 +1,6 @@
 //! A comparison as JSON.
 
-ghost use Rattle.std.specs.Prelude.{◌≡◌, Some, IfOk};
-ghost use Rattle.serde_json.specs.Data.{null};
+ghost use Rattle.std.specs.Prelude.{◌≡◌, IfOk};
 ghost use Rattle.serde_json.specs.View.{view};
 ghost use Rattle.sf_compare.specs.Documents.{comparison_document, change_document, result_document};
 
@@ -13,9 +12,7 @@ use sf_names::Names;
 use sf_relations::{Example, Relation};
 use std::alloc::{AllocError, Global};
 
-/// The object with what is found of a relation: the word for it, `never` or `found` (`result`), an example (`example`),
-/// and the answers of the old stack and of the new one to this input (`old` and `new`). Without an example the caller
-/// gives null for all three.
+/// Without an example the caller gives null for it and for both answers.
 fn result_document(
     alloc: Global,
     word: &str,
@@ -34,18 +31,6 @@ fn result_document(
     Ok(Document::object(fields))
 }
 
-/// What is found of a relation where there is an example: the object with the word `found`, the example, and both
-/// answers. The input is shown with these names of calls.
-fn found_document(alloc: Global, names: &[Names], example: &Example) -> Result<Document, AllocError>
-    ensures { IfOk result (λ d. view d ≡ change_document names.now (Some example.now)) }
-{
-    let input = input_document(alloc, names, &example.input)?;
-    let old = answer_document(alloc, example.before)?;
-    let new = answer_document(alloc, example.after)?;
-    result_document(alloc, "found", input, old, new)
-}
-
-/// What is found of a relation, as JSON, with these names of calls.
 fn change_document(
     alloc: Global,
     names: &[Names],
@@ -61,13 +46,16 @@ fn change_document(
             Document::null(),
             Document::null(),
         ),
-        Some(example) => found_document(alloc, names, &example),
+        Some(example) => {
+            let input = input_document(alloc, names, &example.input)?;
+            let old = answer_document(alloc, example.before)?;
+            let new = answer_document(alloc, example.after)?;
+            result_document(alloc, "found", input, old, new)
+        }
     }
 }
 
-/// The fields of a comparison as JSON: the name of the command (`compare`, in the field `seccomp_audit`), the version
-/// of the form, the sizes of both stacks, how many nodes the diagrams have, and what is found of each relation. Inputs
-/// are shown with these names of calls.
+/// The fields of a comparison as JSON.
 pub fn comparison_fields(
     alloc: Global,
     comparison: &Comparison,
@@ -95,7 +83,7 @@ pub fn comparison_fields(
         .with("different", different)
 }
 
-/// A comparison as JSON: the object with the fields of `comparison_fields`.
+/// A comparison as JSON.
 pub fn comparison_document(
     alloc: Global,
     comparison: &Comparison,

@@ -14,7 +14,6 @@ use sf_stack::{Fault, hex_of, push_action, push_nodes, push_size, write_bytes};
 use std::alloc::{AllocError, Global};
 use std::io::Write;
 
-/// An answer as text: the name of its action as `push_action` writes it, a space, and its data as a decimal number.
 fn words_of(alloc: Global, answer: Answer) -> Result<String, AllocError>
     ensures { IfOk result (λ text. string_bytes text ≡ answer_words answer) }
 {
@@ -25,8 +24,6 @@ fn words_of(alloc: Global, answer: Answer) -> Result<String, AllocError>
     Ok(text)
 }
 
-/// Adds the line of a relation: the word `relation`, and `never` or `found`. Behind `found` the line has the example's
-/// bytes in hexadecimal digits, the old stack's answer to it, `->`, and the new stack's answer.
 fn push_change(
     alloc: Global,
     text: &mut String,
@@ -47,7 +44,6 @@ fn push_change(
     }
 }
 
-/// Adds the lines of the relations: `looser`, `tighter` and `different`, in this order.
 fn push_changes(alloc: Global, text: &mut String, comparison: &Comparison) -> Result<(), AllocError>
     ensures { OnOk result (string_bytes text.new ≡ string_bytes text.old
         ++ changes_text comparison.now.findings) }
@@ -67,8 +63,6 @@ fn push_changes(alloc: Global, text: &mut String, comparison: &Comparison) -> Re
     )
 }
 
-/// Adds the line with the size of one of the two stacks: the word `which`, which is `old` or `new`, and the line of
-/// `push_size`.
 fn push_part(text: &mut String, which: &str, stack: &Stack) -> Result<(), AllocError>
     ensures { OnOk result (string_bytes text.new ≡ string_bytes text.old
         ++ part_line which.now stack.now) }
@@ -77,8 +71,6 @@ fn push_part(text: &mut String, which: &str, stack: &Stack) -> Result<(), AllocE
     push_size(text, stack.programs())
 }
 
-/// Adds what stands above the relations: the version of the text, the sizes of both stacks, and how many nodes the
-/// diagrams have.
 fn push_head(text: &mut String, comparison: &Comparison) -> Result<(), AllocError>
     ensures { OnOk result (string_bytes text.new ≡ string_bytes text.old
         ++ comparison_head comparison.now) }
@@ -89,8 +81,7 @@ fn push_head(text: &mut String, comparison: &Comparison) -> Result<(), AllocErro
     push_nodes(text, comparison.nodes())
 }
 
-/// The whole text of a comparison: its version, the sizes of both stacks, how many nodes the diagrams have, and a line
-/// for each relation.
+/// The text of a comparison.
 pub fn text_of_comparison(alloc: Global, comparison: &Comparison) -> Result<String, AllocError>
     ensures { IfOk result (λ text. string_bytes text ≡ comparison_text comparison.now) }
 {

@@ -1,6 +1,6 @@
 //! Which filters of a stack are needed, as JSON.
 
-ghost use Rattle.std.specs.Prelude.{◌≡◌, ◌<◌, ◌+◌, Some, All, map, IfOk};
+ghost use Rattle.std.specs.Prelude.{◌≡◌, ◌<◌, ◌+◌, All, map, IfOk};
 ghost use Rattle.serde_json.specs.View.{view};
 ghost use Rattle.sf_json.specs.Documents.{count};
 ghost use Rattle.sf_needed.specs.Documents.{finding_document, finding_documents, finding_object, needs_document, needed_totals_document};
@@ -10,8 +10,6 @@ use sf_json::{Document, Fields, diagram_document, input_document, sizes_document
 use sf_relations::Example;
 use std::alloc::{AllocError, Global};
 
-/// The object of one filter: its number, counted from 1 (`number`), the word for what was found of it, which is
-/// `needed` or `spare` (`result`), and an example (`example`), for which the caller gives null where there is none.
 fn finding_object(
     alloc: Global,
     number: usize,
@@ -27,15 +25,7 @@ fn finding_object(
     Ok(Document::object(fields))
 }
 
-/// The object of a filter that is needed, with this example. The call of the example isn't named.
-fn needed_document(alloc: Global, number: usize, example: &Example) -> Result<Document, AllocError>
-    ensures { IfOk result (λ d. view d ≡ finding_document number (Some example.now)) }
-{
-    let input = input_document(alloc, &[], &example.input)?;
-    finding_object(alloc, number, "needed", input)
-}
-
-/// The object of one filter: its number, what was found of it, and an example, which is null where the filter is spare.
+/// The call of the example isn't named.
 fn finding_document(
     alloc: Global,
     number: usize,
@@ -45,11 +35,13 @@ fn finding_document(
 {
     match finding {
         None => finding_object(alloc, number, "spare", Document::null()),
-        Some(example) => needed_document(alloc, number, &example),
+        Some(example) => {
+            let input = input_document(alloc, &[], &example.input)?;
+            finding_object(alloc, number, "needed", input)
+        }
     }
 }
 
-/// The objects of all filters (`finding_document`), in their order, with numbers from 1.
 fn finding_documents(
     alloc: Global,
     findings: &[Option<Example>],
@@ -64,7 +56,6 @@ fn finding_documents(
     Ok(documents)
 }
 
-/// The numbers, from 1, of the filters at the places that are kept, each as JSON.
 fn kept_documents(alloc: Global, kept: &[usize]) -> Result<Vec<Document>, AllocError>
     requires { All (λ p. p < 64) kept.now }
     ensures { IfOk result (λ v. map view v.items ≡ map (λ p. count (p + 1)) kept.now) }
@@ -76,7 +67,6 @@ fn kept_documents(alloc: Global, kept: &[usize]) -> Result<Vec<Document>, AllocE
     Ok(documents)
 }
 
-/// The totals as JSON: how many filters are needed, spare and kept.
 fn totals_document(alloc: Global, needs: &NeededFilters) -> Result<Document, AllocError>
     ensures { IfOk result (λ d. view d ≡ needed_totals_document needs.now) }
 {
@@ -87,9 +77,7 @@ fn totals_document(alloc: Global, needs: &NeededFilters) -> Result<Document, All
     Ok(Document::object(fields))
 }
 
-/// Which filters of a stack are needed, as JSON. The object has the name of the command (`needed`, in the field
-/// `seccomp_audit`), the version of the form, the size of the stack, how many nodes the diagrams have, what was found
-/// of each filter, the numbers of the filters that are kept, and the totals.
+/// Which filters of a stack are needed, as JSON.
 pub fn needs_document(alloc: Global, needs: &NeededFilters) -> Result<Document, AllocError>
     ensures { IfOk result (λ d. view d ≡ needs_document needs.now) }
 {

@@ -93,7 +93,6 @@ impl NeededFilters {
     }
 }
 
-/// Which filters a stack needs, and how many nodes the diagrams have then.
 fn find(alloc: Global, nodes: u32, stack: &Stack) -> Result<(Needs, usize), sf_diagram::Fault>
     ensures below { IfOk result (λ f. All (λ p. p < 64) f.0.kept.items) }
     ensures needs { IfOk result (λ f. AreNeedsOf stack.now f.0) }

@@ -13,8 +13,6 @@ use sf_stack::{Fault, hex_of, push_nodes, push_size, write_bytes};
 use std::alloc::{AllocError, Global};
 use std::io::Write;
 
-/// Adds the line of a filter: `filter`, its number, from 1, and `spare`, or `needed` with the bytes of the example's
-/// input as hexadecimal digits.
 fn push_finding(
     alloc: Global,
     text: &mut String,
@@ -33,7 +31,6 @@ fn push_finding(
     }
 }
 
-/// Adds the lines of all filters, in their order, with numbers from 1.
 fn push_findings(
     alloc: Global,
     text: &mut String,
@@ -48,8 +45,6 @@ fn push_findings(
     Ok(())
 }
 
-/// Adds the numbers, from 1, of the filters at the places that are kept, each after a blank; where there are none, a
-/// blank and a dash.
 fn push_numbers(text: &mut String, kept: &[usize]) -> Result<(), AllocError>
     requires { All (λ p. p < 64) kept.now }
     ensures { OnOk result (string_bytes text.new ≡ string_bytes text.old ++ kept_words kept.now) }
@@ -63,7 +58,6 @@ fn push_numbers(text: &mut String, kept: &[usize]) -> Result<(), AllocError>
     Ok(())
 }
 
-/// Adds the line of the filters that are kept: the word `kept`, and what `push_numbers` adds.
 fn push_kept(text: &mut String, kept: &[usize]) -> Result<(), AllocError>
     requires { All (λ p. p < 64) kept.now }
     ensures { OnOk result (string_bytes text.new ≡ string_bytes text.old ++ kept_line kept.now) }
@@ -73,8 +67,6 @@ fn push_kept(text: &mut String, kept: &[usize]) -> Result<(), AllocError>
     text.push_str("\n")
 }
 
-/// Adds the lines above those of the filters: the version of the text, the size of the stack, and how many nodes the
-/// diagrams have.
 fn push_head(text: &mut String, needs: &NeededFilters) -> Result<(), AllocError>
     ensures { OnOk result (string_bytes text.new ≡ string_bytes text.old
         ++ needed_head_text needs.now) }
@@ -84,7 +76,6 @@ fn push_head(text: &mut String, needs: &NeededFilters) -> Result<(), AllocError>
     push_nodes(text, needs.nodes())
 }
 
-/// Adds the last line: how many filters are needed, how many are spare, and how many are kept.
 fn push_total(text: &mut String, needs: &NeededFilters) -> Result<(), AllocError>
     ensures { OnOk result (string_bytes text.new ≡ string_bytes text.old
         ++ needed_total_line needs.now) }
@@ -95,8 +86,7 @@ fn push_total(text: &mut String, needs: &NeededFilters) -> Result<(), AllocError
     write!(text, "total needed {needed} spare {spare} kept {kept}\n")
 }
 
-/// The whole text that says which filters are needed: the lines of `push_head`, one line for each filter, the filters
-/// that are kept, and the totals.
+/// The text that says which filters are needed.
 pub fn text_of_needs(alloc: Global, needs: &NeededFilters) -> Result<String, AllocError>
     ensures { IfOk result (λ text. string_bytes text ≡ needs_text needs.now) }
 {
