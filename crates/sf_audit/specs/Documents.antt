@@ -32,27 +32,7 @@ telling_data t = record {
   remarks = map string_bytes t.remarks.now;
 }
 
--- What is told of a question beside its reply: whether its name is an accepted one, whether it is allowed and not
--- accepted, where it stands, and as `why` the remark on it.
-pub record BesideData : Type 0 where
-  pub accepted : Bool
-  pub unexpected : Bool
-  pub origin : Data
-  pub why : Data
-
 -- ---- questions
-
--- a question: its number and name, the reply, an example, and what is told beside
-abbrev pub asked_document : (number : ℕ) → (name reply : List ℕ) → (example : Data) → BesideData → Data
-asked_document number name reply example beside = fields (
-    (codes "accepted", boolean beside.accepted)
-    ∷ (codes "example", example)
-    ∷ (codes "name", string name)
-    ∷ (codes "number", count number)
-    ∷ (codes "origin", beside.origin)
-    ∷ (codes "reply", string reply)
-    ∷ (codes "unexpected", boolean beside.unexpected)
-    ∷ (codes "why", beside.why) ∷ [])
 
 -- the word of a reply
 abbrev pub reply_word : Reply → List ℕ
@@ -73,19 +53,18 @@ remark_document text = if length text == 0 then null else string text
 abbrev pub origin_of : List Data → ℕ → Data
 origin_of origins place = unwrap_or (slice_get origins place) null
 
--- what is told of the question at a place beside its reply
-abbrev pub beside_of : TellingData → ExpectedData → ℕ → List ℕ → Reply → BesideData
-beside_of t e place name reply = record {
-  accepted = is_accepted e.accepted name;
-  unexpected = is_unexpected e.accepted name reply;
-  origin = origin_of t.origins place;
-  why = remark_document (remark_at t.remarks place);
-}
-
--- the question at a place with its reply
+-- the question at a place: whether its name is an accepted one, whether it is allowed and not accepted, its reply with
+-- an example, where it stands, and the remark on it
 abbrev pub question_document : TellingData → ExpectedData → ℕ → List ℕ → Reply → Data
-question_document t e place name reply =
-    asked_document (place + 1) name (reply_word reply) (example_of t.names reply) (beside_of t e place name reply)
+question_document t e place name reply = fields (
+    (codes "accepted", boolean (is_accepted e.accepted name))
+    ∷ (codes "example", example_of t.names reply)
+    ∷ (codes "name", string name)
+    ∷ (codes "number", count (place + 1))
+    ∷ (codes "origin", origin_of t.origins place)
+    ∷ (codes "reply", string (reply_word reply))
+    ∷ (codes "unexpected", boolean (is_unexpected e.accepted name reply))
+    ∷ (codes "why", remark_document (remark_at t.remarks place)) ∷ [])
 
 -- questions, each with its reply; the first of the questions stands at this place
 abbrev pub question_documents : TellingData → ExpectedData → ℕ → List QuestionData → List Reply → List Data
@@ -105,15 +84,13 @@ abbrev pub control_documents : List QuestionData → List Reply → List Data
 control_documents (q ∷ qs) (r ∷ rs) = control_document q.name r ∷ control_documents qs rs
 control_documents _ _ = []
 
--- the control, and whether it holds
-abbrev pub expected_document : ExpectedData → Data
-expected_document e = fields (
-    (codes "control", list_of (control_documents e.control e.held))
-    ∷ (codes "holds", boolean (does_hold e.held)) ∷ [])
-
 -- the control and whether it holds, where this is shown; null where it isn't
 abbrev pub shown_expected : Bool → ExpectedData → Data
-shown_expected shown e = if shown then expected_document e else null
+shown_expected shown e =
+    if shown then fields (
+    (codes "control", list_of (control_documents e.control e.held))
+    ∷ (codes "holds", boolean (does_hold e.held)) ∷ [])
+    else null
 
 -- ---- regions
 

@@ -35,20 +35,14 @@ control_lines _ _ = []
 abbrev pub is_accepted : List (List ℕ) → List ℕ → Bool
 is_accepted accepted name = list_any (λ n. bytes_eq n name) accepted
 
--- the line of a question with an accepted name: that its reply is never, so the name could go; else no line
-abbrev pub accepted_line : List ℕ → Reply → List ℕ
-accepted_line name Never = line (codes "accepted" ∷ name ∷ codes "never" ∷ [])
-accepted_line name _ = []
-
--- the line of a question without an accepted name: that it is allowed, which isn't expected; else no line
-abbrev pub unexpected_line : List ℕ → Reply → List ℕ
-unexpected_line name (Allowed input) = line (codes "unexpected" ∷ name ∷ [])
-unexpected_line name _ = []
-
--- the line of a question of the audit, if its reply isn't as expected
+-- the line of a question of the audit, if its reply isn't as expected: never for one with an accepted name, which could
+-- go then, and allowed for any other
 abbrev pub deviation_line : List (List ℕ) → List ℕ → Reply → List ℕ
-deviation_line accepted name reply =
-    if is_accepted accepted name then accepted_line name reply else unexpected_line name reply
+deviation_line accepted name Never =
+    if is_accepted accepted name then line (codes "accepted" ∷ name ∷ codes "never" ∷ []) else []
+deviation_line accepted name (Allowed input) =
+    if is_accepted accepted name then [] else line (codes "unexpected" ∷ name ∷ [])
+deviation_line accepted name Unsettled = []
 
 -- the lines of questions of the audit whose replies aren't as expected
 abbrev pub deviation_lines : List (List ℕ) → List QuestionData → List Reply → List ℕ

@@ -127,14 +127,11 @@ room_behind room word = room - length word - 2
 abbrev pub gap : ℕ → List ℕ → List ℕ
 gap room word = if nat_lt (length word) room then codes ", " else 44 ∷ 10 ∷ indent
 
--- a word behind others
-abbrev pub next_word : ℕ → List ℕ → List ℕ
-next_word room word = gap room word ++ word
-
 -- words behind others
 abbrev pub next_words : ℕ → List (List ℕ) → List ℕ
 next_words room [] = []
-next_words room (word ∷ words) = next_word room word ++ next_words (room_behind (line_room room word) word) words
+next_words room (word ∷ words) =
+    gap room word ++ (word ++ next_words (room_behind (line_room room word) word) words)
 
 -- a list behind its head; nothing where it is empty
 abbrev pub list_text : List ℕ → List (List ℕ) → List ℕ
@@ -154,13 +151,9 @@ group_line title allowed asked accepted =
     title ++ (codes ": " ++ (decimal allowed ++ (codes " of " ++ (decimal asked ++ (codes " allowed"
     ++ (accepted_words accepted ++ 10 ∷ []))))))
 
--- the line of a question: its name, and an input as a call
-abbrev pub call_line : List NamesData → List ℕ → Input → List ℕ
-call_line names name input = (indent ++ (name ++ codes ": ")) ++ (call_words names input ++ 10 ∷ [])
-
--- the line of a question with its example, if it has one
+-- the line of a question with its example as a call, if it has one
 abbrev pub example_line : List NamesData → List ℕ → Reply → List ℕ
-example_line names name (Allowed input) = call_line names name input
+example_line names name (Allowed input) = (indent ++ (name ++ codes ": ")) ++ (call_words names input ++ 10 ∷ [])
 example_line names name _ = []
 
 -- the line of a comment; none where it is empty
@@ -171,15 +164,12 @@ comment_line comment = if length comment == 0 then [] else codes "        " ++ (
 abbrev pub row_lines : List NamesData → RowData → List ℕ
 row_lines names row = example_line names row.name row.reply ++ comment_line row.comment
 
--- the same, if it is listed
-abbrev pub listed_lines : Bool → List NamesData → RowData → List ℕ
-listed_lines listed names row = if listed then row_lines names row else []
-
 -- the lines of the questions at a place that are allowed and not accepted
 abbrev pub example_lines : List NamesData → ℕ → List RowData → List ℕ
 example_lines names place [] = []
 example_lines names place (row ∷ rows) =
-    listed_lines (is_listed (Some place) kinds.Unexpected row) names row ++ example_lines names place rows
+    (if is_listed (Some place) kinds.Unexpected row then row_lines names row else [])
+    ++ example_lines names place rows
 
 -- the questions at a place that are allowed and not accepted: lines for each of them, or their names
 abbrev pub unexpected_text : (all : Bool) → List NamesData → ℕ → List RowData → List ℕ

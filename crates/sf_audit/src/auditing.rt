@@ -66,10 +66,7 @@ pub fn reply_to<R: Threads + Wait + Sync, G: Gate>(
     if is_wrong_count(questions) {
         return Err(Fault::Count);
     }
-    match sweep(rt, alloc, settled, questions, workers, gate) {
-        Ok(replies) => Ok(replies),
-        Err(_) => Err(Fault::Memory),
-    }
+    sweep(rt, alloc, settled, questions, workers, gate).map_err(|_| Fault::Memory)
 }
 
 /// Audits a stack: explores it by at most `budget` works, and replies to each question. Where the budget doesn't
@@ -93,10 +90,7 @@ pub fn audit_stack<R: Threads + Wait + Sync, G: Gate>(
     if is_wrong_count(&questions) {
         return Err(Fault::Count);
     }
-    match outcome_of(rt, alloc, stack, questions, budget, workers, gate) {
-        Ok(outcome) => Ok(outcome),
-        Err(_) => Err(Fault::Memory),
-    }
+    outcome_of(rt, alloc, stack, questions, budget, workers, gate).map_err(|_| Fault::Memory)
 }
 
 /// Audits the stack that filter files spell, as `audit_stack` does. They stand in order of installation, the newest

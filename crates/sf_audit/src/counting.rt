@@ -5,7 +5,6 @@ ghost use Rattle.sf_audit.specs.Reports.{is_never, is_allowed, is_unsettled};
 
 use sf_ask::Reply;
 
-/// Such a reply has an example.
 pub(crate) fn is_allowed(reply: &Reply) -> bool
     ensures { result ≡ is_allowed reply.now }
 {

@@ -36,7 +36,6 @@ pub struct Telling<'m> {
     pub remarks: &'m [String],
 }
 
-/// How many replies are of each kind.
 fn totals_document(alloc: Global, replies: &[Reply]) -> Result<Document, AllocError>
     ensures { IfOk result (λ d. view d ≡ totals_document replies.now) }
 {
@@ -59,7 +58,8 @@ pub fn audit_document(
         expected.now outcome.now) }
 {
     let settled = outcome.settled();
-    let questions = questions_document(alloc, outcome, expected, telling)?;
+    let (asked, replies) = (outcome.questions(), outcome.replies());
+    let questions = questions_document(alloc, telling, expected, asked, replies)?;
     let shown = shown_expected(alloc, telling.is_expecting, expected)?;
     let regions = shown_regions(alloc, telling.regions, settled)?;
     let fields = Fields::new(alloc)

@@ -4,7 +4,7 @@
 ghost use Rattle.std.specs.Prelude.{◌≡◌, ◌++◌, IfOk, OnOk, length, map, string_bytes};
 ghost use Rattle.std.specs.List.{list_all};
 ghost use Rattle.sf_audit.specs.Reports.{is_allowed};
-ghost use Rattle.sf_audit.specs.Expectations.{accepted_line, control_line, control_lines, deviation_line, deviation_lines, expected_text, has_unexpected, is_accepted, is_unexpected, unexpected_line};
+ghost use Rattle.sf_audit.specs.Expectations.{control_line, control_lines, deviation_line, deviation_lines, expected_text, has_unexpected, is_accepted, is_unexpected};
 
 use crate::counting::is_allowed;
 use crate::outcome::Outcome;
@@ -102,8 +102,6 @@ impl Expected {
     }
 }
 
-/// Adds the line of a question of the control that isn't allowed: `control`, its name, and its reply, `never` or
-/// `unsettled`. Adds nothing for a question that is allowed.
 pub(crate) fn push_control(text: &mut String, name: &str, reply: Reply) -> Result<(), AllocError>
     ensures { OnOk result (string_bytes text.new ≡ string_bytes text.old
         ++ control_line name.now reply) }
@@ -136,32 +134,6 @@ pub(crate) fn is_accepted(accepted: &[String], name: &str) -> bool
     accepted.iter().any(|one| one.as_str() == name)
 }
 
-/// Adds the line of an accepted question, where its reply is never: `accepted`, its name, and `never`. Such a question
-/// needn't be accepted any more. Adds nothing for another reply.
-fn push_needlessly_accepted(text: &mut String, name: &str, reply: Reply) -> Result<(), AllocError>
-    ensures { OnOk result (string_bytes text.new ≡ string_bytes text.old
-        ++ accepted_line name.now reply) }
-{
-    match reply {
-        Reply::Never => write!(text, "accepted {name} never\n"),
-        Reply::Allowed(_) | Reply::Unsettled => Ok(()),
-    }
-}
-
-/// Adds the line of a question that isn't accepted, where it is allowed: `unexpected` and its name. Adds nothing for
-/// another reply.
-fn push_unexpected(text: &mut String, name: &str, reply: Reply) -> Result<(), AllocError>
-    ensures { OnOk result (string_bytes text.new ≡ string_bytes text.old
-        ++ unexpected_line name.now reply) }
-{
-    match reply {
-        Reply::Allowed(_) => write!(text, "unexpected {name}\n"),
-        Reply::Never | Reply::Unsettled => Ok(()),
-    }
-}
-
-/// Adds a line for a question that isn't as expected: `accepted`, its name, and `never`, where it is accepted and its
-/// reply is never; `unexpected` and its name, where it is allowed and not accepted. Adds nothing for another question.
 fn push_deviation(
     text: &mut String,
     accepted: &[String],
@@ -171,10 +143,11 @@ fn push_deviation(
     ensures { OnOk result (string_bytes text.new ≡ string_bytes text.old
         ++ deviation_line (map string_bytes accepted.now) name.now reply) }
 {
-    if is_accepted(accepted, name) {
-        push_needlessly_accepted(text, name, reply)
-    } else {
-        push_unexpected(text, name, reply)
+    let accepted = is_accepted(accepted, name);
+    match reply {
+        Reply::Never if accepted => write!(text, "accepted {name} never\n"),
+        Reply::Allowed(_) if !accepted => write!(text, "unexpected {name}\n"),
+        _ => Ok(()),
     }
 }
 
@@ -194,10 +167,7 @@ fn push_questions(
     Ok(())
 }
 
-/// The lines behind a report that say what isn't as expected. First come the lines of the questions of the control that
-/// aren't allowed: `control`, the name, and the reply, `never` or `unsettled`. Then come, in the order of the audit's
-/// questions, the lines that `push_deviation` adds: for a question that is allowed and not accepted, and for one that
-/// is accepted and whose reply is never. Empty where all is as expected.
+/// The lines behind a report that say what isn't as expected; empty where all is.
 pub fn text_of_expected(
     alloc: Global,
     expected: &Expected,

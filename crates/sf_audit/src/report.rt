@@ -14,9 +14,8 @@ use std::alloc::Global;
 use std::io::Write;
 use text::report_of;
 
-/// Writes the report of an outcome, with a line for each settled region if `regions`. Under the line of each question
-/// stands its remark, which is the text at the question's place in `remarks`: whole lines, or an empty text. A question
-/// behind the end of `remarks` has no remark. Behind the report stands the text `behind`.
+/// Writes the report of an outcome, with a line for each settled region if `regions`, and the text `behind` after it.
+/// `remarks` are whole lines or empty texts, each on the question at its place.
 pub fn write_report<W: Write>(
     alloc: Global,
     outcome: &Outcome,

@@ -35,9 +35,7 @@ pub struct Summary<'m> {
     pub origins: &'m [Document],
 }
 
-/// Writes the summary of an audit: how much there is; group by group which questions are allowed that `expected`
-/// doesn't accept; the groups without an allowed question; which questions are unsettled; whether the control holds,
-/// if there is one; and how to see more.
+/// Writes the summary of an audit.
 pub fn write_summary<W: Write>(
     alloc: Global,
     outcome: &Outcome,

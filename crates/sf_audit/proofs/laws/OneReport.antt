@@ -3,10 +3,8 @@ use Rattle.std.proofs.Common.{◌≡◌, ℕ, ◌<◌, Bool, List, [], ◌∷◌
 use Rattle.std.specs.Prelude.{codes, if◌then◌else◌}
 use Rattle.std.proofs.lemmas.List.{same_lists}
 use Rattle.std.proofs.lemmas.Option.{same_Some, slice_get-get_or}
-use Rattle.serde_json.specs.Data.{Data, null, string}
-use Rattle.sf_check.specs.declared.insn.Insn.{Insn}
+use Rattle.serde_json.specs.Data.{null, string}
 use Rattle.sf_check.specs.Stacks.{path_length}
-use Rattle.sf_run.specs.declared.counts.Counts.{Counts}
 use Rattle.sf_book.specs.Books.{BookData, counts_of}
 use Rattle.sf_book.specs.Unfoldings.{ExplorationsHaveOneResult}
 use Rattle.sf_question.specs.QuestionData.{QuestionData}
@@ -30,8 +28,6 @@ pub whole : (files : List (List ℕ)) (questions : List QuestionData) (n : ℕ) 
 whole files questions n o f none =
     record { settled = f.found.end.settled; fringe = f.found.end.fringe; none_left = none }
 
--- ---- the same replies
-
 same_replies : HaveOneReply → (b c : BookData) → IsWholeFringe b → IsWholeFringe c → b.stack ≡ c.stack
     → (qs : List QuestionData) (xs ys : List Reply) → AreRightReplies b qs xs → AreRightReplies c qs ys → xs ≡ ys
 same_replies one b c h k stack qs xs ys f g =
@@ -43,8 +39,6 @@ same_replies one b c h k stack qs xs ys f g =
     one b c p.question (get_or xs k' d) (get_or ys k' d) h k stack p.replies.rule
     (subst (λ (a : QuestionData). HasReply c a (get_or ys k' d)) asked r.replies.rule))
 
--- ---- the same findings
-
 -- two audits found the same
 record IsFoundTwice (o p : Found) : Type 0 where
   stack : o.settled.stack ≡ p.settled.stack
@@ -53,73 +47,50 @@ record IsFoundTwice (o p : Found) : Type 0 where
   counts : counts_of o.settled ≡ counts_of p.settled
   regions : o.settled.regions ≡ p.settled.regions
 
-found_twice : ExplorationsHaveOneResult → HaveOneReply → (files others : List (List ℕ)) (questions : List QuestionData)
-    (m n : ℕ) (o p : Found) → IsAudit files questions m o → IsAudit others questions n p
-    → o.settled.stack ≡ p.settled.stack → o.settled.outstanding ≡ [] → p.settled.outstanding ≡ [] → IsFoundTwice o p
-found_twice explored reply files others questions m n o p f g stack none none' =
-    let h = whole files questions m o f none in
-    let k = whole others questions n p g none' in
-    let one = explored o.settled p.settled h.settled k.settled h.fringe k.fringe stack none none' in
-    let asked : o.questions ≡ p.questions = f.found.questions ∙ sym g.found.questions in
-    let theirs : AreRightReplies p.settled o.questions p.replies =
-    subst (λ (qs : List QuestionData). AreRightReplies p.settled qs p.replies) (sym asked) g.found.replies in
-    record {
-      stack = stack;
-      questions = asked;
-      replies = same_replies reply o.settled p.settled h k stack o.questions o.replies p.replies f.found.replies theirs;
-      counts = same_counts o.settled p.settled one none none';
-      regions = one.regions;
-    }
+module _ (explored : ExplorationsHaveOneResult) (reply : HaveOneReply) (files others : List (List ℕ))
+    (questions : List QuestionData) (m n : ℕ) (o p : Found) (f : IsAudit files questions m o)
+    (g : IsAudit others questions n p) (stack : o.settled.stack ≡ p.settled.stack)
+    (none : o.settled.outstanding ≡ []) (none' : p.settled.outstanding ≡ []) where
+  found_twice : IsFoundTwice o p
+  found_twice =
+      let h = whole files questions m o f none in
+      let k = whole others questions n p g none' in
+      let one = explored o.settled p.settled h.settled k.settled h.fringe k.fringe stack none none' in
+      let asked : o.questions ≡ p.questions = f.found.questions ∙ sym g.found.questions in
+      let theirs : AreRightReplies p.settled o.questions p.replies =
+      subst (λ (qs : List QuestionData). AreRightReplies p.settled qs p.replies) (sym asked) g.found.replies in
+      record {
+        stack = stack;
+        questions = asked;
+        replies = same_replies reply o.settled p.settled h k stack o.questions o.replies p.replies f.found.replies
+            theirs;
+        counts = same_counts o.settled p.settled one none none';
+        regions = one.regions;
+      }
 
--- ---- the same report
+  pub same_report : (shown : Bool) (remarks : List (List ℕ)) → report_text o shown remarks ≡ report_text p shown remarks
+  same_report shown remarks =
+      let same = found_twice in
+      λ j. (title_line ++ (size_line (length (same.stack j)) (path_length (same.stack j)) (length (same.questions j))
+      ++ counts_line (same.counts j)))
+      ++ (question_lines 0 (same.questions j) (same.replies j) remarks
+      ++ ((if shown then region_lines 1 (same.regions j) else []) ++ totals_line (same.replies j)))
 
-abbrev head : List (List Insn) → ℕ → Counts → List ℕ
-head stack questions counts = title_line ++ (size_line (length stack) (path_length stack) questions
-    ++ counts_line counts)
+  pub same_summary : (s : SummaryData) (e : ExpectedData) → summary_text s e o ≡ summary_text s e p
+  same_summary s e =
+      let same = found_twice in
+      λ j. s.head ++ body_text s.all s.names s.groups e (length (same.stack j)) (same.questions j) (same.replies j)
+      (rows_of s e 0 (same.questions j) (same.replies j))
 
-pub same_report : ExplorationsHaveOneResult → HaveOneReply → (files others : List (List ℕ))
-    (questions : List QuestionData) (m n : ℕ) (o p : Found)
-    → IsAudit files questions m o → IsAudit others questions n p → o.settled.stack ≡ p.settled.stack
-    → o.settled.outstanding ≡ [] → p.settled.outstanding ≡ [] → (shown : Bool) (remarks : List (List ℕ))
-    → report_text o shown remarks ≡ report_text p shown remarks
-same_report explored reply files others questions m n o p f g stack none none' shown remarks =
-    let same = found_twice explored reply files others questions m n o p f g stack none none' in
-    λ j. head (same.stack j) (length (same.questions j)) (same.counts j)
-    ++ (question_lines 0 (same.questions j) (same.replies j) remarks
-    ++ ((if shown then region_lines 1 (same.regions j) else []) ++ totals_line (same.replies j)))
-
--- ---- the same summary
-
-pub same_summary : ExplorationsHaveOneResult → HaveOneReply → (files others : List (List ℕ))
-    (questions : List QuestionData) (m n : ℕ) (o p : Found)
-    → IsAudit files questions m o → IsAudit others questions n p → o.settled.stack ≡ p.settled.stack
-    → o.settled.outstanding ≡ [] → p.settled.outstanding ≡ [] → (s : SummaryData) (e : ExpectedData)
-    → summary_text s e o ≡ summary_text s e p
-same_summary explored reply files others questions m n o p f g stack none none' s e =
-    let same = found_twice explored reply files others questions m n o p f g stack none none' in
-    λ j. s.head ++ body_text s.all s.names s.groups e (length (same.stack j)) (same.questions j) (same.replies j)
-    (rows_of s e 0 (same.questions j) (same.replies j))
-
--- ---- the same document
-
-abbrev document : TellingData → ExpectedData → List (List Insn) → List QuestionData → List Reply → Counts
-    → List Data → Data
-document t e stack questions replies counts regions = fields (
-    (codes "counts", counts_document counts)
-    ∷ (codes "expected", shown_expected t.is_expecting e)
-    ∷ (codes "questions", list_of (question_documents t e 0 questions replies))
-    ∷ (codes "regions", if t.regions then list_of regions else null)
-    ∷ (codes "seccomp_audit", string (codes "audit"))
-    ∷ (codes "stack", sizes_document stack)
-    ∷ (codes "totals", totals_document replies)
-    ∷ (codes "version", count 1) ∷ [])
-
-pub same_document : ExplorationsHaveOneResult → HaveOneReply → (files others : List (List ℕ))
-    (questions : List QuestionData) (m n : ℕ) (o p : Found)
-    → IsAudit files questions m o → IsAudit others questions n p → o.settled.stack ≡ p.settled.stack
-    → o.settled.outstanding ≡ [] → p.settled.outstanding ≡ [] → (t : TellingData) (e : ExpectedData)
-    → audit_document t e o ≡ audit_document t e p
-same_document explored reply files others questions m n o p f g stack none none' t e =
-    let same = found_twice explored reply files others questions m n o p f g stack none none' in
-    λ j. document t e (same.stack j) (same.questions j) (same.replies j) (same.counts j)
-    (region_documents 1 (same.regions j))
+  pub same_document : (t : TellingData) (e : ExpectedData) → audit_document t e o ≡ audit_document t e p
+  same_document t e =
+      let same = found_twice in
+      λ j. fields (
+      (codes "counts", counts_document (same.counts j))
+      ∷ (codes "expected", shown_expected t.is_expecting e)
+      ∷ (codes "questions", list_of (question_documents t e 0 (same.questions j) (same.replies j)))
+      ∷ (codes "regions", if t.regions then list_of (region_documents 1 (same.regions j)) else null)
+      ∷ (codes "seccomp_audit", string (codes "audit"))
+      ∷ (codes "stack", sizes_document (same.stack j))
+      ∷ (codes "totals", totals_document (same.replies j))
+      ∷ (codes "version", count 1) ∷ [])

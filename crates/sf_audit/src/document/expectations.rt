@@ -2,7 +2,7 @@
 
 ghost use Rattle.std.specs.Prelude.{◌≡◌, length, map, IfOk};
 ghost use Rattle.serde_json.specs.View.{view};
-ghost use Rattle.sf_audit.specs.Documents.{control_document, control_documents, expected_document, shown_expected};
+ghost use Rattle.sf_audit.specs.Documents.{control_document, control_documents, shown_expected};
 
 use super::questions::reply_word;
 use crate::expecting::Expected;
@@ -36,17 +36,6 @@ fn control_documents(
     Ok(documents)
 }
 
-/// What was expected, but for the accepted names.
-fn expected_document(alloc: Global, expected: &Expected) -> Result<Document, AllocError>
-    ensures { IfOk result (λ d. view d ≡ expected_document expected.now) }
-{
-    let control = control_documents(alloc, expected.control(), expected.held())?;
-    let fields = Fields::new(alloc)
-        .with("control", Document::array(alloc, control)?)?
-        .with("holds", Document::truth(expected.does_hold()))?;
-    Ok(Document::object(fields))
-}
-
 pub(super) fn shown_expected(
     alloc: Global,
     shown: bool,
@@ -57,5 +46,9 @@ pub(super) fn shown_expected(
     if !shown {
         return Ok(Document::null());
     }
-    expected_document(alloc, expected)
+    let control = control_documents(alloc, expected.control(), expected.held())?;
+    let fields = Fields::new(alloc)
+        .with("control", Document::array(alloc, control)?)?
+        .with("holds", Document::truth(expected.does_hold()))?;
+    Ok(Document::object(fields))
 }

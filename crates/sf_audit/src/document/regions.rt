@@ -2,14 +2,13 @@
 
 ghost use Rattle.std.specs.Prelude.{◌≡◌, map, string_bytes, IfOk};
 ghost use Rattle.serde_json.specs.View.{view};
-ghost use Rattle.sf_audit.specs.Documents.{region_document, region_documents, shown_regions};
+ghost use Rattle.sf_audit.specs.Documents.{region_document, shown_regions};
 ghost use Rattle.sf_audit.specs.Reports.{letter};
 
 use sf_book::{Region, Settled};
 use sf_json::{Document, Fields, answer_document};
 use std::alloc::{AllocError, Global};
 
-/// A letter for each truth value: `T` or `F`.
 fn letters_of(alloc: Global, name: &[bool]) -> Result<String, AllocError>
     ensures { IfOk result (λ text. string_bytes text ≡ map letter name.now) }
 {
@@ -39,18 +38,6 @@ fn region_document(alloc: Global, number: usize, region: &Region) -> Result<Docu
     Ok(Document::object(fields))
 }
 
-/// The objects of all regions, in the order of their names, which is that of their numbers.
-fn region_documents(alloc: Global, settled: &Settled) -> Result<Vec<Document>, AllocError>
-    ensures { IfOk result (λ v. map view v.items ≡ region_documents 1 settled.now.regions) }
-{
-    let mut documents = Vec::new(alloc);
-    for i in 0..settled.region_count() {
-        let document = region_document(alloc, i + 1, settled.region(i))?;
-        documents.push(document)?;
-    }
-    Ok(documents)
-}
-
 pub(super) fn shown_regions(
     alloc: Global,
     shown: bool,
@@ -61,6 +48,10 @@ pub(super) fn shown_regions(
     if !shown {
         return Ok(Document::null());
     }
-    let documents = region_documents(alloc, settled)?;
+    let mut documents = Vec::new(alloc);
+    for i in 0..settled.region_count() {
+        let document = region_document(alloc, i + 1, settled.region(i))?;
+        documents.push(document)?;
+    }
     Document::array(alloc, documents)
 }

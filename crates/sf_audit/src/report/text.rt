@@ -3,7 +3,7 @@
 
 ghost use Rattle.std.specs.Prelude.{◌≡◌, ◌<◌, ◌^◌, ◌++◌, IfOk, OnOk, length, map, string_bytes};
 ghost use Rattle.sf_check.specs.Stacks.{path_length};
-ghost use Rattle.sf_audit.specs.Reports.{size_line, question_line, question_lines, remark_at, remarked_line, name_text, region_line, region_lines, shown_lines, total_line, totals_line, head_text, report_text};
+ghost use Rattle.sf_audit.specs.Reports.{size_line, question_line, question_lines, remark_at, remarked_line, name_text, region_line, shown_lines, total_line, totals_line, head_text, report_text};
 
 use crate::counting::{count_allowed, count_never, count_unsettled};
 use crate::outcome::Outcome;
@@ -12,7 +12,6 @@ use sf_book::{Region, Settled};
 use sf_stack::{hex_of, push_action, push_counts};
 use std::alloc::{AllocError, Global};
 
-/// Adds a region's name: `T` or `F` for each truth value, or a dash where it has none.
 fn push_truth_values(text: &mut String, name: &[bool]) -> Result<(), AllocError>
     ensures { OnOk result (string_bytes text.new ≡ string_bytes text.old ++ name_text name.now) }
 {
@@ -25,7 +24,6 @@ fn push_truth_values(text: &mut String, name: &[bool]) -> Result<(), AllocError>
     Ok(())
 }
 
-/// Adds the line of a region: `region`, its number, from 1, its name, and the action and the data of its answer.
 fn push_region(
     alloc: Global,
     text: &mut String,
@@ -45,18 +43,7 @@ fn push_region(
     write!(text, " {info}\n")
 }
 
-/// Adds the lines of all regions, in the order of their names, which is that of their numbers.
-fn push_regions(alloc: Global, text: &mut String, settled: &Settled) -> Result<(), AllocError>
-    ensures { OnOk result (string_bytes text.new ≡ string_bytes text.old
-        ++ region_lines 1 settled.now.regions) }
-{
-    for i in 0..settled.region_count() {
-        push_region(alloc, text, i + 1, settled.region(i))?;
-    }
-    Ok(())
-}
-
-fn push_shown_regions(
+fn push_regions(
     alloc: Global,
     text: &mut String,
     shown: bool,
@@ -65,14 +52,15 @@ fn push_shown_regions(
     ensures { OnOk result (string_bytes text.new ≡ string_bytes text.old
         ++ shown_lines shown settled.now.regions) }
 {
-    if shown {
-        push_regions(alloc, text, settled)?;
+    if !shown {
+        return Ok(());
+    }
+    for i in 0..settled.region_count() {
+        push_region(alloc, text, i + 1, settled.region(i))?;
     }
     Ok(())
 }
 
-/// Adds the line of a question: `question`, its number, from 1, its name, and its reply as `never`, `allowed` or
-/// `unsettled`. Behind `allowed` stand the bytes of the example, as `hex_of` gives them.
 fn push_question(
     alloc: Global,
     text: &mut String,
@@ -93,18 +81,6 @@ fn push_question(
     }
 }
 
-/// Adds the remark on the question at a place, from 0, if it has one.
-fn push_remark(text: &mut String, remarks: &[String], place: usize) -> Result<(), AllocError>
-    ensures { OnOk result (string_bytes text.new ≡ string_bytes text.old
-        ++ remark_at (map string_bytes remarks.now) place) }
-{
-    match remarks.get(place) {
-        Some(remark) => text.push_str(remark.as_str()),
-        None => Ok(()),
-    }
-}
-
-/// Adds the line of the question at a place, counted from 0, and under it the remark on the question, if it has one.
 fn push_remarked(
     alloc: Global,
     text: &mut String,
@@ -118,7 +94,10 @@ fn push_remarked(
         ++ remarked_line place name.now reply (map string_bytes remarks.now)) }
 {
     push_question(alloc, text, place + 1, name, reply)?;
-    push_remark(text, remarks, place)
+    match remarks.get(place) {
+        Some(remark) => text.push_str(remark.as_str()),
+        None => Ok(()),
+    }
 }
 
 fn push_questions(
@@ -138,46 +117,28 @@ fn push_questions(
     Ok(())
 }
 
-/// Adds the line that says how much was audited: the number of filters, the length of the path through them, as
-/// seccomp(2) counts it, and the number of questions.
-fn push_size(
-    text: &mut String,
-    filters: usize,
-    path: usize,
-    questions: usize,
-) -> Result<(), AllocError>
+fn push_size(text: &mut String, settled: &Settled, questions: usize) -> Result<(), AllocError>
     ensures { OnOk result (string_bytes text.new ≡ string_bytes text.old
-        ++ size_line filters path questions) }
+        ++ size_line (length settled.now.stack) (path_length settled.now.stack) questions) }
 {
+    let stack = settled.stack();
+    let filters = stack.programs().len();
+    let path = stack.path_length();
     write!(
         text,
         "filters {filters} path {path} questions {questions}\n"
     )
 }
 
-/// Adds the line that says how much was audited, as `push_size` writes it: the number of filters of the explored stack,
-/// the length of the path through them, and `questions`, the number of questions.
-fn push_stack(text: &mut String, settled: &Settled, questions: usize) -> Result<(), AllocError>
-    ensures { OnOk result (string_bytes text.new ≡ string_bytes text.old
-        ++ size_line (length settled.now.stack) (path_length settled.now.stack) questions) }
-{
-    let stack = settled.stack();
-    push_size(text, stack.programs().len(), stack.path_length(), questions)
-}
-
-/// Adds the three lines above the questions: the name of the program with the version of the form of reports, which is
-/// 2; how many filters there are, the length of the path through them, and how many questions; and the counts of the
-/// exploration, as `push_counts` adds them. `questions` is how many questions there are.
 fn push_head(text: &mut String, settled: &Settled, questions: usize) -> Result<(), AllocError>
     ensures { OnOk result (string_bytes text.new ≡ string_bytes text.old
         ++ head_text settled.now questions) }
 {
     text.push_str("seccomp_audit report 2\n")?;
-    push_stack(text, settled, questions)?;
+    push_size(text, settled, questions)?;
     push_counts(text, settled.counts())
 }
 
-/// Adds the line of totals, from the number of replies of each kind.
 fn push_total(
     text: &mut String,
     never: usize,
@@ -193,7 +154,6 @@ fn push_total(
     )
 }
 
-/// Counts the replies of each kind, and adds the line of totals.
 fn push_totals(text: &mut String, replies: &[Reply]) -> Result<(), AllocError>
     ensures { OnOk result (string_bytes text.new ≡ string_bytes text.old
         ++ totals_line replies.now) }
@@ -206,9 +166,6 @@ fn push_totals(text: &mut String, replies: &[Reply]) -> Result<(), AllocError>
     )
 }
 
-/// The whole text of a report: its head, the questions with their replies and remarks, the regions if `regions`, and
-/// the totals. The remark on a question stands at the question's place in `remarks`, and is added as it is. A question
-/// behind the end of `remarks` has no remark. The caller gives remarks that are whole lines, or empty texts.
 pub(super) fn report_of(
     alloc: Global,
     outcome: &Outcome,
@@ -227,7 +184,7 @@ pub(super) fn report_of(
         outcome.replies(),
         remarks,
     )?;
-    push_shown_regions(alloc, &mut text, regions, outcome.settled())?;
+    push_regions(alloc, &mut text, regions, outcome.settled())?;
     push_totals(&mut text, outcome.replies())?;
     Ok(text)
 }

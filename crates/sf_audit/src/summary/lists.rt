@@ -7,7 +7,6 @@ ghost use Rattle.sf_audit.specs.Summaries.{comment_at, count_of, has_question, i
 use super::Summary;
 use crate::counting::is_allowed;
 use crate::expecting::{Expected, is_accepted};
-use crate::outcome::Outcome;
 use sf_ask::{Question, Reply};
 use sf_json::Document;
 use sf_policy::Group;
@@ -29,13 +28,13 @@ pub(super) enum Kind {
 /// A question of a summary.
 #[derive(Drop)]
 pub(super) struct Row<'q> {
-    name: &'q str,
-    reply: Reply,
+    pub(super) name: &'q str,
+    pub(super) reply: Reply,
     /// The place of its group; behind all groups where none has it.
     place: usize,
     accepted: bool,
     /// The comment that stands above it in its policy; empty where there is none.
-    comment: &'q str,
+    pub(super) comment: &'q str,
 }
 
 impl<'q> Model for Row<'q> {
@@ -53,24 +52,6 @@ impl<'q> Model for Row<'q> {
 }
 
 impl Row<'_> {
-    pub(super) fn name(&self) -> &str
-        ensures { result.now ≡ self.now.name }
-    {
-        self.name
-    }
-
-    pub(super) fn reply(&self) -> Reply
-        ensures { result ≡ self.now.reply }
-    {
-        self.reply
-    }
-
-    pub(super) fn comment(&self) -> &str
-        ensures { result.now ≡ self.now.comment }
-    {
-        self.comment
-    }
-
     fn is_kind(&self, kind: Kind) -> bool
         ensures { result ≡ is_kind kind self.now }
     {
@@ -92,8 +73,6 @@ impl Row<'_> {
         }
     }
 
-    /// Whether the question is of the kind, and stands under the group at the place, or behind all groups. Without a
-    /// place it may stand anywhere.
     pub(super) fn is_listed(&self, place: Option<usize>, kind: Kind) -> bool
         ensures { result ≡ is_listed place kind self.now }
     {
@@ -131,7 +110,6 @@ fn comment_at<'o>(origins: &'o [Document], place: usize) -> &'o str
     }
 }
 
-/// The question at a place, from 0, with this name.
 fn row_of<'q>(
     summary: &Summary<'q>,
     expected: &Expected,
@@ -150,7 +128,7 @@ fn row_of<'q>(
     }
 }
 
-fn rows_in<'q>(
+pub(super) fn rows_of<'q>(
     alloc: Global,
     summary: &Summary<'q>,
     expected: &Expected,
@@ -168,20 +146,6 @@ fn rows_in<'q>(
     Ok(rows)
 }
 
-/// The questions of an audit, in their order.
-pub(super) fn rows_of<'q>(
-    alloc: Global,
-    summary: &Summary<'q>,
-    expected: &Expected,
-    outcome: &'q Outcome,
-) -> Result<Vec<Row<'q>>, AllocError>
-    ensures { IfOk result (λ v. v.items ≡ rows_of (summary_data summary.now) expected.now 0
-        outcome.now.questions outcome.now.replies) }
-{
-    let (questions, replies) = (outcome.questions(), outcome.replies());
-    rows_in(alloc, summary, expected, questions, replies)
-}
-
 pub(super) fn push_listed<'q>(
     names: &mut Vec<&'q str>,
     listed: bool,
@@ -196,7 +160,6 @@ pub(super) fn push_listed<'q>(
     Ok(())
 }
 
-/// The names of the questions of a kind that stand at a place, as `is_listed` says.
 pub(super) fn names_of<'q>(
     alloc: Global,
     rows: &'q [Row<'_>],
@@ -207,7 +170,7 @@ pub(super) fn names_of<'q>(
 {
     let mut names = Vec::new(alloc);
     for row in rows {
-        push_listed(&mut names, row.is_listed(place, kind), row.name())?;
+        push_listed(&mut names, row.is_listed(place, kind), row.name)?;
     }
     Ok(names)
 }

@@ -1,8 +1,8 @@
 //! The text of a summary, part by part. After an error a part of what was to be added may stand in the text;
 //! `summary_of` drops it.
 
-ghost use Rattle.std.specs.Prelude.{◌≡◌, ◌++◌, IfOk, OnOk, codes, length, map, string_bytes};
-ghost use Rattle.sf_audit.specs.Summaries.{accepted_words, advice, body_text, broken_text, call_line, closed_titles, comment_line, control_text, end_text, ending, example_line, example_lines, first_line, gap, group_line, groups_text, is_closed, last_title, line_room, list_text, listed_lines, more_line, next_word, next_words, room_behind, row_lines, section_text, section_texts, size_words, summary_data, summary_text, totals_words, unexpected_text};
+ghost use Rattle.std.specs.Prelude.{◌≡◌, ◌++◌, ◌==◌, [], IfOk, OnOk, if◌then◌else◌, length, map, string_bytes};
+ghost use Rattle.sf_audit.specs.Summaries.{accepted_words, advice, body_text, broken_text, closed_titles, comment_line, end_text, ending, example_line, example_lines, first_line, gap, groups_text, is_closed, last_title, line_room, list_text, more_line, next_words, room_behind, row_lines, section_text, section_texts, size_words, summary_data, summary_text, totals_words, unexpected_text};
 
 use super::Summary;
 use super::lists::{Kind, Row, count_of, names_of, push_listed, rows_of};
@@ -11,7 +11,6 @@ use crate::expecting::{Expected, push_control};
 use crate::outcome::Outcome;
 use sf_ask::{Question, Reply};
 use sf_calls::push_call_words;
-use sf_insn::Input;
 use sf_names::Names;
 use sf_policy::Group;
 use std::alloc::{AllocError, Global};
@@ -47,27 +46,19 @@ fn gap(room: usize, word: &str) -> &'static str
     if word.len() < room { ", " } else { ",\n    " }
 }
 
-fn push_next(text: &mut String, room: usize, word: &str) -> Result<(), AllocError>
-    ensures { OnOk result (string_bytes text.new ≡ string_bytes text.old
-        ++ next_word room word.now) }
-{
-    text.push_str(gap(room, word))?;
-    text.push_str(word)
-}
-
 fn push_rest(text: &mut String, room: usize, words: &[&str]) -> Result<(), AllocError>
     ensures { OnOk result (string_bytes text.new ≡ string_bytes text.old
         ++ next_words room (map (λ t. t.now) words.now)) }
 {
     let mut left = room;
     for word in words {
-        push_next(text, left, word)?;
+        text.push_str(gap(left, word))?;
+        text.push_str(word)?;
         left = room_behind(line_room(left, word), word);
     }
     Ok(())
 }
 
-/// Adds words behind a head, with commas between them, in lines of some 100 columns. Adds nothing where there are none.
 fn push_list(text: &mut String, head: &str, words: &[&str]) -> Result<(), AllocError>
     ensures { OnOk result (string_bytes text.new ≡ string_bytes text.old
         ++ list_text head.now (map (λ t. t.now) words.now)) }
@@ -90,37 +81,6 @@ fn push_accepted(text: &mut String, count: usize) -> Result<(), AllocError>
     write!(text, ", {count} of them accepted")
 }
 
-fn push_group(
-    text: &mut String,
-    title: &str,
-    allowed: usize,
-    asked: usize,
-    accepted: usize,
-) -> Result<(), AllocError>
-    ensures { OnOk result (string_bytes text.new ≡ string_bytes text.old
-        ++ group_line title.now allowed asked accepted) }
-{
-    write!(text, "{title}: {allowed} of {asked} allowed")?;
-    push_accepted(text, accepted)?;
-    text.push_str("\n")
-}
-
-fn push_call(
-    text: &mut String,
-    names: &[Names],
-    name: &str,
-    input: &Input,
-) -> Result<(), AllocError>
-    ensures { OnOk result (string_bytes text.new ≡ string_bytes text.old
-        ++ call_line names.now name.now input.now) }
-{
-    write!(text, "    {name}: ")?;
-    push_call_words(text, names, input)?;
-    text.push_str("\n")?;
-    Ok(())
-}
-
-/// Adds the line of a question whose reply has an example.
 fn push_example(
     text: &mut String,
     names: &[Names],
@@ -131,7 +91,11 @@ fn push_example(
         ++ example_line names.now name.now reply) }
 {
     match reply {
-        Reply::Allowed(input) => push_call(text, names, name, &input),
+        Reply::Allowed(input) => {
+            write!(text, "    {name}: ")?;
+            push_call_words(text, names, &input)?;
+            text.push_str("\n")
+        }
         Reply::Never | Reply::Unsettled => Ok(()),
     }
 }
@@ -146,28 +110,12 @@ fn push_comment(text: &mut String, comment: &str) -> Result<(), AllocError>
     write!(text, "        {comment}\n")
 }
 
-/// Adds the line of a question, and under it the comment that stands above it in its policy.
 fn push_row(text: &mut String, names: &[Names], row: &Row<'_>) -> Result<(), AllocError>
     ensures { OnOk result (string_bytes text.new ≡ string_bytes text.old
         ++ row_lines names.now row.now) }
 {
-    push_example(text, names, row.name(), row.reply())?;
-    push_comment(text, row.comment())
-}
-
-fn push_listed_lines(
-    text: &mut String,
-    listed: bool,
-    names: &[Names],
-    row: &Row<'_>,
-) -> Result<(), AllocError>
-    ensures { OnOk result (string_bytes text.new ≡ string_bytes text.old
-        ++ listed_lines listed names.now row.now) }
-{
-    if listed {
-        push_row(text, names, row)?;
-    }
-    Ok(())
+    push_example(text, names, row.name, row.reply)?;
+    push_comment(text, row.comment)
 }
 
 fn push_examples(
@@ -180,8 +128,9 @@ fn push_examples(
         ++ example_lines names.now place rows.now) }
 {
     for row in rows {
-        let listed = row.is_listed(Some(place), Kind::Unexpected);
-        push_listed_lines(text, listed, names, row)?;
+        if row.is_listed(Some(place), Kind::Unexpected) {
+            push_row(text, names, row)?;
+        }
     }
     Ok(())
 }
@@ -197,7 +146,6 @@ fn push_unexpected(text: &mut String, parts: &Parts<'_>, place: usize) -> Result
     push_list(text, "    ", &names)
 }
 
-/// Adds the group at a place with its title, or the questions behind all groups, where one of these is allowed.
 fn push_section(
     text: &mut String,
     parts: &Parts<'_>,
@@ -216,7 +164,9 @@ fn push_section(
         count_of(rows, at, Kind::Asked),
         count_of(rows, at, Kind::Accepted),
     );
-    push_group(text, title, allowed, asked, accepted)?;
+    write!(text, "{title}: {allowed} of {asked} allowed")?;
+    push_accepted(text, accepted)?;
+    text.push_str("\n")?;
     push_unexpected(text, parts, place)
 }
 
@@ -255,7 +205,6 @@ fn is_closed(rows: &[Row<'_>], place: usize) -> bool
     count_of(rows, at, Kind::Asked) != 0 && count_of(rows, at, Kind::Allowed) == 0
 }
 
-/// The titles of the groups that have questions of which none is allowed.
 fn closed_titles<'g>(
     alloc: Global,
     rows: &[Row<'_>],
@@ -268,15 +217,6 @@ fn closed_titles<'g>(
         push_listed(&mut titles, is_closed(rows, place), group.title())?;
     }
     Ok(titles)
-}
-
-fn push_closed(text: &mut String, parts: &Parts<'_>) -> Result<(), AllocError>
-    ensures { OnOk result (string_bytes text.new ≡ string_bytes text.old
-        ++ list_text (codes "Nothing allowed: ") (closed_titles parts.now.rows.now 0
-        parts.now.groups.now)) }
-{
-    let closed = closed_titles(parts.alloc, parts.rows, parts.groups)?;
-    push_list(text, "Nothing allowed: ", &closed)
 }
 
 fn ending(count: usize) -> &'static str
@@ -322,7 +262,6 @@ fn push_first_line(text: &mut String, rows: &[Row<'_>], outcome: &Outcome) -> Re
     push_totals(text, never, allowed, accepted, count_unsettled(replies))
 }
 
-/// Adds the line of the first question of a control that isn't allowed, or that the control holds.
 fn push_broken(
     text: &mut String,
     questions: &[Question],
@@ -330,25 +269,17 @@ fn push_broken(
 ) -> Result<(), AllocError>
     requires { length questions.now ≡ length replies.now }
     ensures { OnOk result (string_bytes text.new ≡ string_bytes text.old
-        ++ broken_text questions.now replies.now) }
+        ++ (if length questions.now == 0 then [] else broken_text questions.now replies.now)) }
 {
+    if questions.is_empty() {
+        return Ok(());
+    }
     for (i, question) in questions.iter().enumerate() {
         if !is_allowed(&replies[i]) {
             return push_control(text, question.name(), replies[i]);
         }
     }
     text.push_str("control holds\n")
-}
-
-fn push_control_line(text: &mut String, expected: &Expected) -> Result<(), AllocError>
-    ensures { OnOk result (string_bytes text.new ≡ string_bytes text.old
-        ++ control_text expected.now) }
-{
-    let control = expected.control();
-    if control.is_empty() {
-        return Ok(());
-    }
-    push_broken(text, control, expected.held())
 }
 
 fn more_line(all: bool) -> &'static str
@@ -372,7 +303,6 @@ fn push_advice(text: &mut String, all: bool, unexpected: bool) -> Result<(), All
     text.push_str("--accept FILE names those that may be allowed.\n")
 }
 
-/// Adds the lines behind those of the groups. `unexpected` tells whether a question is allowed and not accepted.
 fn push_end(
     text: &mut String,
     parts: &Parts<'_>,
@@ -388,7 +318,7 @@ fn push_end(
         "Unsettled (a greater --budget may settle them): ",
         &unsettled,
     )?;
-    push_control_line(text, expected)?;
+    push_broken(text, expected.control(), expected.held())?;
     push_advice(text, parts.all, unexpected)
 }
 
@@ -405,7 +335,8 @@ fn push_body(
 {
     push_first_line(text, parts.rows, outcome)?;
     push_groups(text, parts)?;
-    push_closed(text, parts)?;
+    let closed = closed_titles(parts.alloc, parts.rows, parts.groups)?;
+    push_list(text, "Nothing allowed: ", &closed)?;
     let unexpected = expected.has_unexpected(outcome);
     push_end(text, parts, expected, unexpected)
 }
@@ -419,7 +350,8 @@ pub(super) fn summary_of(
     ensures { IfOk result (λ text. string_bytes text
         ≡ summary_text (summary_data summary.now) expected.now outcome.now) }
 {
-    let rows = rows_of(alloc, summary, expected, outcome)?;
+    let (questions, replies) = (outcome.questions(), outcome.replies());
+    let rows = rows_of(alloc, summary, expected, questions, replies)?;
     let parts = Parts {
         alloc,
         all: summary.all,

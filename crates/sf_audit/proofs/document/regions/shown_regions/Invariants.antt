@@ -1,7 +1,7 @@
 use Rattle.std.proofs.Common.{◌≡◌, ◌+◌, ◌++◌, drop, map}
 use Rattle.serde_json.specs.View.{view}
 use Rattle.sf_audit.specs.Documents.{region_documents}
-use Rattle.sf_audit.proofs.document.regions.region_documents.Given as goal
+use Rattle.sf_audit.proofs.document.regions.shown_regions.Given as goal
 
 abbrev pub invariant-loop-i : goal.invariant-loop-i
 invariant-loop-i l = map view l.documents.items ++ region_documents (l.i + 1) (drop l.i l.settled.regions)

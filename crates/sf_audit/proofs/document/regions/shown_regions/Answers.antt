@@ -1,5 +1,5 @@
 use Rattle.sf_audit.proofs.document.regions.RegionDocuments.{one_more_region}
-use Rattle.sf_audit.proofs.document.regions.region_documents.Goals as goal
+use Rattle.sf_audit.proofs.document.regions.shown_regions.Goals as goal
 
 pub loop-i-preserved : goal.loop-i-preserved
 loop-i-preserved c = one_more_region _ _ _ _ c.args.settled.now.regions c.loop-i.i c.region.result.now

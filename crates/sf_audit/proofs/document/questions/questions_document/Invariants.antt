@@ -1,7 +1,7 @@
 use Rattle.std.proofs.Common.{◌≡◌, ◌++◌, drop, map}
 use Rattle.serde_json.specs.View.{view}
 use Rattle.sf_audit.specs.Documents.{question_documents, telling_data}
-use Rattle.sf_audit.proofs.document.questions.question_documents.Given as goal
+use Rattle.sf_audit.proofs.document.questions.questions_document.Given as goal
 
 abbrev pub invariant-loop-i : goal.invariant-loop-i
 invariant-loop-i l = map view l.documents.items
