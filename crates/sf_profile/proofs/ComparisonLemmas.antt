@@ -1,22 +1,6 @@
 -- What comparisons of a written filter ask.
-use Rattle.std.proofs.Common.{◌≡◌, ℕ, ◌+◌, ◌*◌, ◌%◌, ◌^◌, ◌<◌, List, [], ◌∷◌, ◌++◌, append_assoc, Bool, true, false, length, Option, refl, ap, ◌∙◌, sym, arith}
-use Rattle.std.specs.Prelude.{if◌then◌else◌, ◌==◌, ◌&&◌, not, nat_lt, nat_le, bit_and, slice_index}
-use Rattle.std.specs.List.{list_all}
-use Rattle.std.proofs.lemmas.Bool.Decides.{nat_tests}
-use Rattle.std.proofs.lemmas.Nat.{and_block, and_le_r}
-use Rattle.sf_insn.specs.declared.input.Input.{Input}
-use Rattle.sf_insn.specs.Inputs.{IsInput}
-use Rattle.sf_insn.specs.Words.{passes}
-use Rattle.sf_insn.specs.declared.ops.Test.{Test}
+use Rattle.sf_profile.proofs.Common.{common_steps, ◌≡◌, ℕ, ◌+◌, ◌*◌, ◌%◌, ◌^◌, ◌<◌, List, [], ◌∷◌, ◌++◌, append_assoc, Bool, true, false, length, Option, refl, ap, ◌∙◌, arith, if◌then◌else◌, ◌==◌, ◌&&◌, not, nat_lt, nat_le, bit_and, slice_index, list_all, nat_tests, and_block, and_le_r, Input, IsInput, passes, Test, Argument, Comparing, NotEqual, Less, LessOrEqual, Equal, GreaterOrEqual, Greater, MaskedEqual, Comparison, Instruction, Load, Mask, Branch, word_of, argument_in, cut, compares, holds, high, low, equal_code, order_code, masked_code, comparing_code, comparison_code, comparisons_code, sym}
 use Rattle.sf_insn.specs.declared.ops.Test.TheVariants as tests
-use Rattle.sf_profile.specs.declared.rules.Argument.{Argument}
-use Rattle.sf_profile.specs.declared.rules.Comparing.{Comparing}
-use Rattle.sf_profile.specs.declared.rules.Comparing.TheVariants.{NotEqual, Less, LessOrEqual, Equal, GreaterOrEqual, Greater, MaskedEqual}
-use Rattle.sf_profile.specs.declared.rules.Comparison.{Comparison}
-use Rattle.sf_profile.specs.declared.instruction.Instruction.{Instruction}
-use Rattle.sf_profile.specs.declared.instruction.Instruction.TheVariants.{Load, Mask, Branch}
-use Rattle.sf_profile.specs.Meaning.{word_of, argument_in, cut, compares, holds}
-use Rattle.sf_profile.specs.Form.{high, low, equal_code, order_code, masked_code, comparing_code, comparison_code, comparisons_code}
 use Rattle.sf_profile.proofs.Returns.{returned, skip_more}
 
 -- what comes next returns this, whatever A is, where so many instructions are skipped
@@ -65,60 +49,32 @@ and_joined h l m p =
 masked_halves : (h l m w : ℕ) → h < 2 ^ 32 → l < 2 ^ 32
     → (bit_and (joined h l % 2 ^ 64) (m % 2 ^ 64) == bit_and (w % 2 ^ 64) (m % 2 ^ 64))
     ≡ ((bit_and h (high m) == bit_and (high w) (high m)) && (bit_and l (low m) == bit_and (low w) (low m)))
-masked_halves h l m w p q =
-    let small : low w < 2 ^ 32 = omega arith in
-    let mask : low m < 2 ^ 32 = omega arith in
-    rw (joined_small h l p q, cut_halves w, and_joined h l m q, and_joined (high w) (low w) m small)
-    (joined_equal (bit_and h (high m)) (bit_and l (low m)) (bit_and (high w) (high m)) (bit_and (low w) (low m))
-    (omega (arith, and_le_r l (low m))) (omega (arith, and_le_r (low w) (low m))))
+masked_halves h l m w p q = grind (arith, common_steps, and_le_r, joined_small, cut_halves, joined_equal, and_joined)
 
 -- ---- pieces
 
 exit : (c : Bool) (more : List Instruction) (d : Input) (t f a : ℕ) (r s : Option ℕ) → Goes more d t r → Goes more d f s
     → returned more d (if c then t else f) a ≡ choose c r s
-exit true more d t f a r s p q = p a
-exit false more d t f a r s p q = q a
+exit c more d t f a r s p q = grind arith
+
+skip_two : (i j : Instruction) (code : List Instruction) (d : Input) (n a : ℕ)
+    → returned (i ∷ j ∷ code) d (n + 2) a ≡ returned code d n a
+skip_two i j code d n a = skip_more (i ∷ j ∷ []) code d (n + 2) n a (omega arith)
+
+skip_three : (i j k : Instruction) (code : List Instruction) (d : Input) (n a : ℕ)
+    → returned (i ∷ j ∷ k ∷ code) d (n + 3) a ≡ returned code d n a
+skip_three i j k code d n a = skip_more (i ∷ j ∷ k ∷ []) code d (n + 3) n a (omega arith)
 
 equal_goes : (d : Input) (word v t f : ℕ) (more : List Instruction) (r s : Option ℕ) → Goes more d t r → Goes more d f s
     → (a : ℕ) → returned (equal_code true word v t f ++ more) d 0 a
     ≡ choose ((slice_index d.words (word + 1) == high v) && (slice_index d.words word == low v)) r s
-equal_goes d word v t f more r s p q a = by (h == high v)
-  where
-    h : ℕ
-    h = slice_index d.words (word + 1)
-
-    l : ℕ
-    l = slice_index d.words word
-
-    by : (b : Bool) → returned (Load word ∷ Branch tests.Equal (low v) t f ∷ more) d (if b then 0 else f + 2) h
-        ≡ choose (b && (l == low v)) r s
-    by true = exit (l == low v) more d t f l r s p q
-    by false =
-        skip_more (Load word ∷ Branch tests.Equal (low v) t f ∷ []) more d (f + 2) f h (omega arith) ∙ q h
+equal_goes d word v t f more r s p q a = grind (arith, common_steps, skip_two)
 
 order_goes : (test : Test) (d : Input) (word v t f : ℕ) (more : List Instruction) (r s : Option ℕ) → Goes more d t r
     → Goes more d f s → (a : ℕ) → returned (order_code true test word v t f ++ more) d 0 a
     ≡ choose (if nat_lt (high v) (slice_index d.words (word + 1)) then true
     else (slice_index d.words (word + 1) == high v) && passes test (slice_index d.words word) (low v)) r s
-order_goes test d word v t f more r s p q a = first (nat_lt (high v) h)
-  where
-    h : ℕ
-    h = slice_index d.words (word + 1)
-
-    l : ℕ
-    l = slice_index d.words word
-
-    second : (b : Bool) → returned (Load word ∷ Branch test (low v) t f ∷ more) d (if b then 0 else f + 2) h
-        ≡ choose (b && passes test l (low v)) r s
-    second true = exit (passes test l (low v)) more d t f l r s p q
-    second false = skip_more (Load word ∷ Branch test (low v) t f ∷ []) more d (f + 2) f h (omega arith) ∙ q h
-
-    first : (b : Bool) → returned (Branch tests.Equal (high v) 0 (f + 2) ∷ Load word ∷ Branch test (low v) t f ∷ more) d
-        (if b then t + 3 else 0) h ≡ choose (if b then true else (h == high v) && passes test l (low v)) r s
-    first true =
-        skip_more (Branch tests.Equal (high v) 0 (f + 2) ∷ Load word ∷ Branch test (low v) t f ∷ []) more d (t + 3) t h
-        (omega arith) ∙ p h
-    first false = second (h == high v)
+order_goes test d word v t f more r s p q a = grind (arith, common_steps, skip_two, skip_three)
 
 -- a test of an argument
 abbrev test_code : Bool → Test → ℕ → ℕ → ℕ → ℕ → List Instruction
@@ -208,8 +164,7 @@ masked_goes wide argument d m w f more r s input p q a = by wide
 -- ---- comparisons
 
 choose_not : (b : Bool) (r s : Option ℕ) → choose b s r ≡ choose (not b) r s
-choose_not true r s = refl
-choose_not false r s = refl
+choose_not b r s = grind arith
 
 less_is : (a v : ℕ) → nat_lt a v ≡ not (nat_le v a)
 less_is a v = grind (arith, nat_tests)
@@ -242,8 +197,7 @@ comparing_goes MaskedEqual wide argument d v w f more r s input p q a =
     masked_goes wide argument d v w f more r s input p q a
 
 choose_both : (b c : Bool) (r s : Option ℕ) → choose b (choose c r s) s ≡ choose (b && c) r s
-choose_both true c r s = refl
-choose_both false c r s = refl
+choose_both b c r s = grind arith
 
 -- the comparisons of a rule lead on where all of them hold, and behind the next instruction where one doesn't
 pub comparisons_go : (wide : Bool) (d : Input) (cs : List Comparison) (more : List Instruction) (r s : Option ℕ)

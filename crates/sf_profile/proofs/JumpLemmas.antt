@@ -1,66 +1,23 @@
 -- Each instruction of a written filter loads a word of an input, and its jumps lead inside the filter. Jumps are short
 -- where rules have few comparisons, and it is plain where no rule compares under a mask.
-use Rattle.std.proofs.Common.{◌≡◌, ℕ, ◌+◌, ◌*◌, ◌<◌, ◌≤◌, List, [], ◌∷◌, ◌++◌, Bool, true, false, length, length-append, Option, Some, None, refl, arith}
-use Rattle.std.specs.Prelude.{All, if◌then◌else◌, ◌==◌, nat_lt, ◌&&◌, ◌^◌}
-use Rattle.std.specs.List.{flat_map}
-use Rattle.std.proofs.lemmas.List.Elements.{All-head, All-tail}
-use Rattle.sf_insn.specs.declared.ops.Test.{Test}
+use Rattle.sf_profile.proofs.Common.{common_steps, ◌≡◌, ℕ, ◌+◌, ◌*◌, ◌<◌, ◌≤◌, List, [], ◌∷◌, ◌++◌, Bool, true, false, length, length-append, Option, Some, None, arith, All, if◌then◌else◌, ◌==◌, nat_lt, ◌&&◌, flat_map, All-head, All-tail, Test, CallSet, Argument, Comparing, NotEqual, Less, LessOrEqual, Equal, GreaterOrEqual, Greater, MaskedEqual, Comparison, Call, Reading, Instruction, Load, Mask, Branch, Skip, Return, RuleData, SetRulesData, PlanData, IsUnmasked, is_wide, word_of, order, refuses_newer, equal_code, order_code, masked_code, comparing_code, comparison_code, comparisons_code, return_code, operation_code, call_code, rule_code, rule_at, round_code, places, newer_where, above_rules, body_code, set_code, part_code, form, returned_value_of}
+use Rattle.std.specs.Prelude.{◌^◌}
 use Rattle.sf_insn.specs.declared.ops.Test.TheVariants as tests
-use Rattle.sf_profile.specs.declared.rules.CallSet.{CallSet}
-use Rattle.sf_profile.specs.declared.rules.CallSet.TheVariants.{X64, X32, I386, Aarch64, Arm}
-use Rattle.sf_profile.specs.declared.rules.Argument.{Argument}
-use Rattle.sf_profile.specs.declared.rules.Argument.TheVariants.{Arg0, Arg1, Arg2, Arg3, Arg4, Arg5}
-use Rattle.sf_profile.specs.declared.rules.Comparing.{Comparing}
-use Rattle.sf_profile.specs.declared.rules.Comparing.TheVariants.{NotEqual, Less, LessOrEqual, Equal, GreaterOrEqual, Greater, MaskedEqual}
-use Rattle.sf_profile.specs.declared.rules.Comparison.{Comparison}
-use Rattle.sf_profile.specs.declared.rules.Call.{Call}
-use Rattle.sf_profile.specs.declared.rules.Reading.{Reading}
-use Rattle.sf_profile.specs.declared.instruction.Instruction.{Instruction}
-use Rattle.sf_profile.specs.declared.instruction.Instruction.TheVariants.{Load, Mask, Branch, Skip, Return}
-use Rattle.sf_profile.specs.Data.{RuleData, SetRulesData, PlanData}
-use Rattle.sf_profile.specs.Filters.{IsUnmasked}
-use Rattle.sf_profile.specs.Meaning.{is_wide, word_of, order, refuses_newer}
-use Rattle.sf_profile.specs.Form.{equal_code, order_code, masked_code, comparing_code, comparison_code, comparisons_code, return_code, operation_code, call_code, rule_code, rule_at, round_code, places, newer_where, above_rules, body_code, set_code, part_code, form, returned_value_of}
 
 abbrev IsPlainTest : Test → Type 0
 IsPlainTest tests.AnyBit = ⊥
 IsPlainTest _ = Unit {0}
 
 pub word_small : (argument : Argument) → word_of argument + 1 < 16
-word_small Arg0 = omega arith
-word_small Arg1 = omega arith
-word_small Arg2 = omega arith
-word_small Arg3 = omega arith
-word_small Arg4 = omega arith
-word_small Arg5 = omega arith
+word_small argument = grind arith
 
 comparing_size : (comparing : Comparing) (wide : Bool) (word value value_two after : ℕ)
     → length (comparing_code comparing wide word value value_two after) ≤ 6
-comparing_size NotEqual true word value value_two after = omega arith
-comparing_size NotEqual false word value value_two after = omega arith
-comparing_size Less true word value value_two after = omega arith
-comparing_size Less false word value value_two after = omega arith
-comparing_size LessOrEqual true word value value_two after = omega arith
-comparing_size LessOrEqual false word value value_two after = omega arith
-comparing_size Equal true word value value_two after = omega arith
-comparing_size Equal false word value value_two after = omega arith
-comparing_size GreaterOrEqual true word value value_two after = omega arith
-comparing_size GreaterOrEqual false word value value_two after = omega arith
-comparing_size Greater true word value value_two after = omega arith
-comparing_size Greater false word value value_two after = omega arith
-comparing_size MaskedEqual true word value value_two after = omega arith
-comparing_size MaskedEqual false word value value_two after = omega arith
+comparing_size comparing wide word value value_two after = grind arith
 
 comparisons_size : (wide : Bool) (cs : List Comparison) → length (comparisons_code wide cs) ≤ 6 * length cs
 comparisons_size wide [] = omega arith
-comparisons_size wide (c ∷ cs) =
-    let others = comparisons_code wide cs in
-    omega (
-      arith,
-      comparisons_size wide cs,
-      length-append (comparison_code wide c (length others + 1)) others,
-      comparing_size c.comparing wide (word_of c.argument) c.value c.value_two (length others + 1),
-    )
+comparisons_size wide (c ∷ cs) = grind (arith, common_steps, length-append, comparing_size, comparisons_size wide cs)
 
 -- a return and a load are behind the comparisons
 return_size : (code : List Instruction) (value : ℕ) → length (return_code code value) ≡ length code + 2
@@ -86,11 +43,7 @@ module _ (few plain : Type 0) where
   IsKeptRule rule = (few → length rule.comparisons ≤ 6) × (plain → All IsUnmasked rule.comparisons)
 
   kept_more : (i : Instruction) (n m : ℕ) → n ≤ m → IsKept i n → IsKept i m
-  kept_more (Load word) n m h l = l
-  kept_more (Mask k) n m h l = l
-  kept_more (Branch test k on_true on_false) n m h l = (omega (arith, l.0), l.1, l.2)
-  kept_more (Skip k) n m h l = omega arith
-  kept_more (Return k) n m h l = l
+  kept_more i n m h l = grind arith
 
   appended : (xs ys : List Instruction) (n m : ℕ) → n ≤ length ys + m → AreKept n xs → AreKept m ys
       → AreKept m (xs ++ ys)
@@ -115,57 +68,29 @@ module _ (few plain : Type 0) where
 
   equal_kept : (wide : Bool) (word value on_true on_false after : ℕ) → word + 1 < 16 → on_true + on_false ≤ after
       → (few → after ≤ 200) → AreKept (after + 1) (equal_code wide word value on_true on_false)
-  equal_kept true word value on_true on_false after w t s = (
-    omega arith,
-    ((omega arith, λ h. omega (arith, s h), tt), (omega arith, ((omega arith, λ h. omega (arith, s h), tt), tt))),
-  )
-  equal_kept false word value on_true on_false after w t s =
-      (omega arith, ((omega arith, λ h. omega (arith, s h), tt), tt))
+  equal_kept wide word value on_true on_false after w t s = grind arith
 
   order_kept : (wide : Bool) (test : Test) (word value on_true on_false after : ℕ) → IsPlainTest test
       → word + 1 < 16 → on_true + on_false ≤ after → (few → after ≤ 200)
       → AreKept (after + 1) (order_code wide test word value on_true on_false)
-  order_kept true test word value on_true on_false after p w t s = (
-    omega arith,
-    (
-      (omega arith, λ h. omega (arith, s h), tt),
-      ((omega arith, λ h. omega (arith, s h), tt), (omega arith, ((omega arith, λ h. omega (arith, s h), p), tt))),
-    ),
-  )
-  order_kept false test word value on_true on_false after p w t s =
-      (omega arith, ((omega arith, λ h. omega (arith, s h), p), tt))
+  order_kept true test word value on_true on_false after p w t s = search arith
+  order_kept false test word value on_true on_false after p w t s = search arith
 
   masked_kept : (wide : Bool) (word mask value after : ℕ) → word + 1 < 16 → (few → after ≤ 200) → (plain → ⊥)
       → AreKept (after + 1) (masked_code wide word mask value 0 after)
-  masked_kept true word mask value after w s m = (
-    omega arith,
-    (
-      m,
-      (
-        (omega arith, λ h. omega (arith, s h), tt),
-        (omega arith, (m, ((omega arith, λ h. omega (arith, s h), tt), tt))),
-      ),
-    ),
-  )
-  masked_kept false word mask value after w s m = (omega arith, (m, ((omega arith, λ h. omega (arith, s h), tt), tt)))
+  masked_kept true word mask value after w s m = search arith
+  masked_kept false word mask value after w s m = search arith
 
   comparing_kept : (comparing : Comparing) (wide : Bool) (word value value_two after : ℕ) → word + 1 < 16
       → (few → after ≤ 200) → (plain → comparing ≡ MaskedEqual → ⊥)
       → AreKept (after + 1) (comparing_code comparing wide word value value_two after)
-  comparing_kept NotEqual wide word value value_two after w s m =
-      equal_kept wide word value after 0 after w (omega arith) s
-  comparing_kept Less wide word value value_two after w s m =
-      order_kept wide tests.GreaterOrEqual word value after 0 after tt w (omega arith) s
-  comparing_kept LessOrEqual wide word value value_two after w s m =
-      order_kept wide tests.Greater word value after 0 after tt w (omega arith) s
-  comparing_kept Equal wide word value value_two after w s m =
-      equal_kept wide word value 0 after after w (omega arith) s
-  comparing_kept GreaterOrEqual wide word value value_two after w s m =
-      order_kept wide tests.GreaterOrEqual word value 0 after after tt w (omega arith) s
-  comparing_kept Greater wide word value value_two after w s m =
-      order_kept wide tests.Greater word value 0 after after tt w (omega arith) s
-  comparing_kept MaskedEqual wide word value value_two after w s m =
-      masked_kept wide word value value_two after w s (λ h. m h refl)
+  comparing_kept NotEqual wide word value value_two after w s m = search (arith, equal_kept)
+  comparing_kept Less wide word value value_two after w s m = search (arith, order_kept)
+  comparing_kept LessOrEqual wide word value value_two after w s m = search (arith, order_kept)
+  comparing_kept Equal wide word value value_two after w s m = search (arith, equal_kept)
+  comparing_kept GreaterOrEqual wide word value value_two after w s m = search (arith, order_kept)
+  comparing_kept Greater wide word value value_two after w s m = search (arith, order_kept)
+  comparing_kept MaskedEqual wide word value value_two after w s m = search (arith, masked_kept)
 
   comparisons_kept : (wide : Bool) (cs : List Comparison) → (few → length cs ≤ 6) → (plain → All IsUnmasked cs)
       → AreKept 2 (comparisons_code wide cs)
@@ -186,14 +111,11 @@ module _ (few plain : Type 0) where
 
   operation_kept : (code : List Instruction) (value number : ℕ) (operation : Option ℕ) → (few → length code ≤ 36)
       → AreKept 2 code → AreKept 1 (operation_code code value number operation)
-  operation_kept [] value number None s k = ((omega arith, λ h. omega arith, tt), (tt, tt))
+  operation_kept [] value number None s k = search arith
   operation_kept (i ∷ code) value number None s k =
-      ((omega (arith, return_size (i ∷ code) value), λ h. omega (arith, s h), tt), return_kept (i ∷ code) value k)
+      search (arith, return_size (i ∷ code) value, return_kept (i ∷ code) value k)
   operation_kept code value number (Some operation) s k =
-      let size = return_size code value in (
-        (omega arith, λ h. omega (arith, s h), tt),
-        (omega arith, ((omega arith, λ h. omega (arith, s h), tt), return_kept code value k)),
-      )
+      search (arith, return_size code value, return_kept code value k)
 
   rule_kept : (wide : Bool) (rule : RuleData) → IsKeptRule rule → AreKept 1 (rule_code wide rule)
   rule_kept wide rule k =
@@ -232,23 +154,7 @@ module _ (few plain : Type 0) where
       )
 
   set_kept : (set : CallSet) (size : ℕ) → AreKept (size + 1) (set_code set size)
-  set_kept X64 size = (
-    omega arith,
-    (
-      (omega arith, λ h. omega arith, tt),
-      (omega arith, ((omega arith, λ h. omega arith, tt), ((omega arith, λ h. omega arith, tt), (omega arith, tt)))),
-    ),
-  )
-  set_kept X32 size = (
-    omega arith,
-    (
-      (omega arith, λ h. omega arith, tt),
-      (omega arith, ((omega arith, λ h. omega arith, tt), ((omega arith, λ h. omega arith, tt), (omega arith, tt)))),
-    ),
-  )
-  set_kept I386 size = (omega arith, ((omega arith, λ h. omega arith, tt), (omega arith, tt)))
-  set_kept Aarch64 size = (omega arith, ((omega arith, λ h. omega arith, tt), (omega arith, tt)))
-  set_kept Arm size = (omega arith, ((omega arith, λ h. omega arith, tt), (omega arith, tt)))
+  set_kept set size = grind arith
 
   pub form_kept : (plan : PlanData) → All (λ (part : SetRulesData). All IsKeptRule part.rules) plan.parts
       → AreKept 0 (form plan)

@@ -1,17 +1,5 @@
 -- A written filter is lawful.
-use Rattle.std.proofs.Common.{◌≡◌, ℕ, zero, suc, ◌+◌, ◌-◌, ◌<◌, ◌≤◌, ◌^◌, List, [], ◌∷◌, ◌++◌, length, length-append, map, Some, slice_get, refl, ap, ◌∙◌, subst, sym, arith}
-use Rattle.std.proofs.lemmas.Option.{slice_get-map, same_Some}
-use Rattle.std.proofs.lemmas.List.{length-map}
-use Rattle.std.specs.List.{flat_map}
-use Rattle.sf_insn.specs.Spelling.{IsInsn, AreInsns}
-use Rattle.sf_check.specs.declared.insn.Insn.{Insn}
-use Rattle.sf_check.specs.Insns.{targets, loaded_by, IsInRange, IsReturn}
-use Rattle.sf_check.specs.Programs.{IsAt, AllBelow, IsLawfulProgram}
-use Rattle.sf_run.specs.laws.RunLaws.{option_map_some}
-use Rattle.sf_profile.specs.declared.instruction.Instruction.{Instruction}
-use Rattle.sf_profile.specs.declared.instruction.Instruction.TheVariants.{Load, Mask, Branch, Skip, Return}
-use Rattle.sf_profile.specs.Data.{PlanData}
-use Rattle.sf_profile.specs.Form.{form, part_code, raw_of}
+use Rattle.sf_profile.proofs.Common.{◌≡◌, ℕ, zero, suc, ◌+◌, ◌-◌, ◌<◌, ◌≤◌, ◌^◌, List, [], ◌∷◌, ◌++◌, length, length-append, map, Some, slice_get, refl, ap, ◌∙◌, subst, sym, arith, slice_get-map, same_Some, length-map, flat_map, IsInsn, AreInsns, Insn, targets, loaded_by, IsInRange, IsReturn, IsAt, AllBelow, IsLawfulProgram, option_map_some, Instruction, Mask, Branch, Return, PlanData, form, part_code, raw_of, common_steps}
 use Rattle.sf_profile.proofs.RunLemmas.{insn_of}
 use Rattle.sf_profile.proofs.JumpLemmas.{Leads, AllLead, form_leads}
 
@@ -19,11 +7,8 @@ use Rattle.sf_profile.proofs.JumpLemmas.{Leads, AllLead, form_leads}
 leads_at : (tail : ℕ) (code : List Instruction) (at : ℕ) (i : Instruction) → AllLead tail code
     → slice_get code at ≡ Some i → (n : ℕ) × (at + 1 + n ≡ length code + tail) × Leads i n
 leads_at tail [] at i h e = absurd cc
-leads_at tail (j ∷ code) zero i h e =
-    (length code + tail, omega arith, subst (λ k. Leads k (length code + tail)) (same_Some j i e) h.0)
-leads_at tail (j ∷ code) (suc at) i h e =
-    let later = leads_at tail code at i h.1 e in
-    (later.0, omega (arith, later.1), later.2)
+leads_at tail (j ∷ code) zero i h e = grind (arith, common_steps)
+leads_at tail (j ∷ code) (suc at) i h e = grind (arith, leads_at tail code at i h.1 e)
 
 -- what stands at a place of the program
 found : (code : List Instruction) (at : ℕ) (i : Insn) → IsAt (map insn_of code) at i
@@ -38,11 +23,7 @@ HasWord (Return k) = k < 2 ^ 32
 HasWord _ = Unit {0}
 
 has_word : (i : Instruction) → IsInsn (raw_of i) → HasWord i
-has_word (Load word) h = tt
-has_word (Mask k) h = h.3
-has_word (Branch test k on_true on_false) h = h.3
-has_word (Skip k) h = tt
-has_word (Return k) h = h.3
+has_word i h = grind arith
 
 -- so it is of each instruction that was written
 have_words : (code : List Instruction) (at : ℕ) (i : Instruction) → AreInsns (map raw_of code)
@@ -52,25 +33,13 @@ have_words (j ∷ code) zero i h e = subst HasWord (same_Some j i e) (has_word j
 have_words (j ∷ code) (suc at) i h e = have_words code at i (λ k d short. h (suc k) d (omega (arith, short))) e
 
 in_range : (i : Instruction) (n : ℕ) → Leads i n → HasWord i → IsInRange (insn_of i)
-in_range (Load word) n l w = l
-in_range (Mask k) n l w = w
-in_range (Branch test k on_true on_false) n l w = w
-in_range (Skip k) n l w = tt
-in_range (Return k) n l w = w
+in_range i n l w = grind arith
 
 inside : (i : Instruction) (at n size : ℕ) → at + 1 + n ≡ size → Leads i n → AllBelow size (targets at (insn_of i))
-inside (Load word) at n size e l = tt
-inside (Mask k) at n size e l = tt
-inside (Branch test k on_true on_false) at n size e l = (omega (arith, l.0), (omega (arith, l.0), tt))
-inside (Skip k) at n size e l = (omega arith, tt)
-inside (Return k) at n size e l = tt
+inside i at n size e l = grind arith
 
 loads_nothing : (i : Instruction) (k : ℕ) → loaded_by (insn_of i) ≡ Some k → ⊥
-loads_nothing (Load word) k e = cc
-loads_nothing (Mask n) k e = cc
-loads_nothing (Branch test n on_true on_false) k e = cc
-loads_nothing (Skip n) k e = cc
-loads_nothing (Return n) k e = cc
+loads_nothing i k e = grind arith
 
 last_is : (code : List Instruction) (i : Instruction) → slice_get (code ++ i ∷ []) (length code) ≡ Some i
 last_is [] i = refl

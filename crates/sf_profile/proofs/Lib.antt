@@ -1,3 +1,4 @@
+pub mod Common
 pub mod Returns
 pub mod RunLemmas
 pub mod JumpLemmas
@@ -8,4 +9,3 @@ pub mod PickLemmas
 pub mod PlainLemmas
 pub mod MadeLemmas
 pub mod ShortLemmas
-pub mod RuleTurns

@@ -1,14 +1,5 @@
 -- The bytes that are written are the profile's filter.
-use Rattle.std.proofs.Common.{◌≡◌, ℕ, ◌*◌, ◌/◌, ◌≤◌, List, [], ◌∷◌, true, length, length-append, map, ap, ◌∙◌, refl, subst, sym, arith}
-use Rattle.std.proofs.lemmas.Bool.Decides.{nat_tests}
-use Rattle.std.proofs.lemmas.List.{length-map}
-use Rattle.sf_insn.specs.declared.raw.RawInsn.{RawInsn}
-use Rattle.sf_insn.specs.Spelling.{insn_bytes, spelling, AreInsns}
-use Rattle.sf_check.specs.Programs.{Spells}
-use Rattle.sf_profile.specs.Data.{PlanData}
-use Rattle.sf_profile.specs.Form.{form, fits, form_bytes, raw_of}
-use Rattle.sf_profile.specs.Filters.{IsFilterOf}
-use Rattle.sf_profile.specs.declared.instruction.Instruction.{Instruction}
+use Rattle.sf_profile.proofs.Common.{common_steps, ◌≡◌, ℕ, ◌*◌, ◌/◌, ◌≤◌, List, [], ◌∷◌, true, length, length-append, map, ap, ◌∙◌, refl, arith, nat_tests, length-map, RawInsn, spelling, AreInsns, PlanData, form, fits, form_bytes, raw_of, IsFilterOf, Instruction, subst, sym, Spells}
 use Rattle.sf_profile.proofs.RunLemmas.{insn_of}
 use Rattle.sf_profile.proofs.JumpLemmas.{form_leads}
 use Rattle.sf_profile.proofs.LawfulLemmas.{form_lawful}
@@ -21,11 +12,7 @@ fitting code h = grind (arith, nat_tests)
 
 length_spelling : (raws : List RawInsn) → length (spelling raws) ≡ 8 * length raws
 length_spelling [] = refl
-length_spelling (r ∷ raws) =
-    let more = length_spelling raws in
-    let joined = length-append (insn_bytes r) (spelling raws) in
-    let eight : length (insn_bytes r) ≡ 8 = refl in
-    omega arith
+length_spelling (r ∷ raws) = grind (arith, common_steps, length-append, length_spelling raws)
 
 -- an instruction has eight bytes
 pub counted : (plan : PlanData) (bytes : List ℕ) → bytes ≡ form_bytes plan → length bytes / 8 ≡ length (form plan)

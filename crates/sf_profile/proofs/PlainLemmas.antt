@@ -1,26 +1,11 @@
 -- A written filter is plain where no rule compares under a mask.
-use Rattle.std.proofs.Common.{ℕ, List, [], ◌∷◌, map}
-use Rattle.std.specs.Prelude.{All}
-use Rattle.std.proofs.lemmas.List.Elements.{All-nil, All-cons}
+use Rattle.sf_profile.proofs.Common.{ℕ, List, [], ◌∷◌, map, All, All-nil, All-cons, IsPlainInsn, IsPlain, Instruction, PlanData, form, HasNoMask, arith}
 use Rattle.sf_insn.specs.declared.ops.Test.TheVariants as tests
-use Rattle.sf_check.specs.Stacks.{IsPlainInsn, IsPlain}
-use Rattle.sf_profile.specs.declared.instruction.Instruction.{Instruction}
-use Rattle.sf_profile.specs.declared.instruction.Instruction.TheVariants.{Load, Mask, Branch, Skip, Return}
-use Rattle.sf_profile.specs.Data.{PlanData}
-use Rattle.sf_profile.specs.Form.{form}
-use Rattle.sf_profile.specs.Filters.{HasNoMask}
 use Rattle.sf_profile.proofs.RunLemmas.{insn_of}
 use Rattle.sf_profile.proofs.JumpLemmas.{IsKept, AreKept, form_kept}
 
 becomes_plain : (i : Instruction) (n : ℕ) → IsKept ⊥ (Unit {0}) i n → IsPlainInsn (insn_of i)
-becomes_plain (Load word) n h = tt
-becomes_plain (Mask k) n h = absurd (h tt)
-becomes_plain (Branch tests.Equal k on_true on_false) n h = tt
-becomes_plain (Branch tests.Greater k on_true on_false) n h = tt
-becomes_plain (Branch tests.GreaterOrEqual k on_true on_false) n h = tt
-becomes_plain (Branch tests.AnyBit k on_true on_false) n h = absurd h.2
-becomes_plain (Skip k) n h = tt
-becomes_plain (Return k) n h = tt
+becomes_plain i n h = grind arith
 
 become_plain : (tail : ℕ) (code : List Instruction) → AreKept ⊥ (Unit {0}) tail code
     → All IsPlainInsn (map insn_of code)

@@ -1,10 +1,5 @@
 -- What the instructions of a written filter return, without the places at which they stand.
-use Rattle.std.proofs.Common.{◌≡◌, ℕ, zero, suc, ◌+◌, List, [], ◌∷◌, ◌++◌, length, Option, Some, None, refl, arith}
-use Rattle.std.specs.Prelude.{bit_and, if◌then◌else◌, slice_index}
-use Rattle.sf_insn.specs.declared.input.Input.{Input}
-use Rattle.sf_insn.specs.Words.{passes}
-use Rattle.sf_profile.specs.declared.instruction.Instruction.{Instruction}
-use Rattle.sf_profile.specs.declared.instruction.Instruction.TheVariants.{Load, Mask, Branch, Skip, Return}
+use Rattle.sf_profile.proofs.Common.{◌≡◌, ℕ, zero, suc, ◌+◌, List, [], ◌∷◌, ◌++◌, length, Option, Some, None, refl, arith, bit_and, if◌then◌else◌, slice_index, Input, passes, Instruction, Load, Mask, Branch, Skip, Return}
 
 -- What instructions return on an input, where so many of them are skipped first, and A is this number; none where they
 -- are left behind.

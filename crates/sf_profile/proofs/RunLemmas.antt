@@ -1,18 +1,6 @@
 -- A written filter returns on the machine what its instructions return.
-use Rattle.std.proofs.Common.{◌≡◌, ℕ, zero, suc, ◌+◌, List, [], ◌∷◌, ◌++◌, Bool, map, Some, None, slice_get, option_map, refl, ap, ◌∙◌, subst, sym, arith}
-use Rattle.std.specs.Prelude.{bit_and, if◌then◌else◌, slice_index, replicate}
-use Rattle.std.proofs.lemmas.Option.{slice_get-map}
-use Rattle.sf_insn.specs.declared.input.Input.{Input}
-use Rattle.sf_insn.specs.declared.ops.BinOp.TheVariants.{And}
-use Rattle.sf_insn.specs.Words.{passes}
-use Rattle.sf_check.specs.declared.insn.Insn.{Insn}
+use Rattle.sf_profile.proofs.Common.{◌≡◌, ℕ, zero, suc, ◌+◌, List, [], ◌∷◌, ◌++◌, Bool, map, Some, None, slice_get, option_map, refl, ap, ◌∙◌, subst, sym, arith, bit_and, if◌then◌else◌, slice_index, replicate, slice_get-map, Input, And, passes, Insn, Constant, IsAt, IsLawfulProgram, State, goes, insn_progress, run_for, return_of, run_more, run_ends, value_is, Instruction, Load, Mask, Branch, Skip, Return}
 use Rattle.sf_check.specs.declared.insn.Insn.TheVariants as insns
-use Rattle.sf_check.specs.declared.insn.Operand.TheVariants.{Constant}
-use Rattle.sf_check.specs.Programs.{IsAt, IsLawfulProgram}
-use Rattle.sf_run.specs.Machine.{State, goes, insn_progress, run_for, return_of}
-use Rattle.sf_run.specs.laws.RunLaws.{run_more, run_ends, value_is}
-use Rattle.sf_profile.specs.declared.instruction.Instruction.{Instruction}
-use Rattle.sf_profile.specs.declared.instruction.Instruction.TheVariants.{Load, Mask, Branch, Skip, Return}
 use Rattle.sf_profile.proofs.Returns.{returned}
 
 -- the instruction of the machine

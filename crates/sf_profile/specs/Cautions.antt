@@ -1,7 +1,6 @@
 -- What a profile says, and its writer may not mean.
-use Rattle.std.specs.Prelude.{◌≡◌, ℕ, ◌+◌, Bool, true, false, not, ◌&&◌, ◌==◌, bit_and, All, List, [], ◌∷◌, ◌++◌, codes}
+use Rattle.std.specs.Prelude.{◌≡◌, ℕ, ◌+◌, Bool, true, false, not, ◌&&◌, ◌==◌, bit_and, All, List, [], ◌∷◌, ◌++◌}
 use Rattle.std.specs.List.{list_any}
-use Rattle.serde_json.specs.Data.{Data}
 use Rattle.sf_insn.specs.declared.input.Input.{Input}
 use Rattle.sf_insn.specs.Inputs.{IsInput}
 use Rattle.sf_check.specs.declared.insn.Insn.{Insn}
@@ -12,10 +11,9 @@ use Rattle.sf_profile.specs.declared.rules.Comparing.{Comparing}
 use Rattle.sf_profile.specs.declared.rules.Comparing.TheVariants.{MaskedEqual}
 use Rattle.sf_profile.specs.declared.rules.Comparison.{Comparison}
 use Rattle.sf_profile.specs.declared.settings.Settings.{Settings}
-use Rattle.sf_profile.specs.Trees.{at, listed}
+use Rattle.sf_profile.specs.Data.{ProfileData, ProfileRuleData}
 use Rattle.sf_profile.specs.Meaning.{number_in}
-use Rattle.sf_profile.specs.Plans.{applies, comparison_of}
-use Rattle.sf_profile.specs.Filters.{MakesFilter}
+use Rattle.sf_profile.specs.Filters.{IsFilterFor}
 
 -- ---- comparisons under a mask
 
@@ -28,21 +26,21 @@ abbrev pub is_loose : Comparison → Bool
 is_loose c = is_masked c.comparing && not (bit_and c.value_two c.value == c.value_two)
 
 -- a rule applies, and has such a comparison
-abbrev pub has_loose_mask : Settings → Data → Bool
-has_loose_mask s d = applies s d && list_any (λ v. is_loose (comparison_of v)) (listed (at (codes "args") d))
+abbrev pub has_loose_mask : ProfileRuleData → Bool
+has_loose_mask rule = rule.applies && list_any is_loose rule.comparisons
 
 abbrev pub number_if : Bool → ℕ → List ℕ
 number_if true n = n ∷ []
 number_if false n = []
 
 -- the numbers of these rules that do, where the first of them has this number
-abbrev pub loose_from : Settings → ℕ → List Data → List ℕ
-loose_from s n [] = []
-loose_from s n (d ∷ ds) = number_if (has_loose_mask s d) n ++ loose_from s (n + 1) ds
+abbrev pub loose_from : ℕ → List ProfileRuleData → List ℕ
+loose_from n [] = []
+loose_from n (rule ∷ rules) = number_if (has_loose_mask rule) n ++ loose_from (n + 1) rules
 
 -- the numbers of a profile's rules that do, from 1
-abbrev pub loose_masks : Settings → Data → List ℕ
-loose_masks s d = loose_from s 1 (listed (at (codes "syscalls") d))
+abbrev pub AreLooseFor : List ℕ → ProfileData → Type 0
+AreLooseFor numbers profile = numbers ≡ loose_from 1 profile.rules
 
 -- ---- ERRNO 0
 
@@ -60,9 +58,9 @@ pub record AreProgramOf (bytes : List ℕ) (programs : List (List Insn)) : Type 
   pub only : programs ≡ program ∷ []
 
 -- numbers of inputs that the filter of a profile answers ERRNO 0
-pub record HaveZeroErrors (s : Settings) (profile : Data) (numbers : List ℕ) : Type 0 where
+pub record HaveZeroErrors (s : Settings) (numbers : List ℕ) (profile : ProfileData) : Type 0 where
   pub bytes : List ℕ
-  pub made : MakesFilter s profile bytes
+  pub made : IsFilterFor s bytes profile
   pub programs : List (List Insn)
   pub are_program : AreProgramOf bytes programs
   pub zero : All (AnswerZero programs) numbers

@@ -1,5 +1,5 @@
 -- What it is to be the filter of a profile, and why there is none.
-use Rattle.std.specs.Prelude.{◌≡◌, ◌≢◌, ◌⊎◌, ◌<◌, ◌≤◌, All, ℕ, length, List, [], ◌∷◌, Some, None, IsSomeAnd}
+use Rattle.std.specs.Prelude.{◌≡◌, ◌≢◌, ◌⊎◌, ◌<◌, ◌≤◌, All, ℕ, length, List, [], ◌∷◌, Option, Some, None, Result, Err, IsOkAnd, IsSomeAnd}
 use Rattle.std.specs.Str.{IsUtf8}
 use Rattle.json.specs.Json.{document}
 use Rattle.json.specs.Strict.{HasUniqueKeys}
@@ -15,13 +15,13 @@ use Rattle.sf_profile.specs.declared.fault.Fault.{Fault}
 use Rattle.sf_profile.specs.declared.fault.Fault.TheVariants as faults
 use Rattle.sf_profile.specs.declared.rules.Comparing.TheVariants.{MaskedEqual}
 use Rattle.sf_profile.specs.declared.rules.Comparison.{Comparison}
-use Rattle.sf_profile.specs.Data.{SetRulesData, PlanData, RuleData}
+use Rattle.sf_profile.specs.Data.{ProfileData, SetRulesData, PlanData, RuleData}
 use Rattle.sf_profile.specs.Meaning.{meaning}
 use Rattle.sf_profile.specs.Form.{form, form_bytes}
 use Rattle.sf_profile.specs.declared.settings.Settings.{Settings}
 use Rattle.sf_profile.specs.Repeats.{last_rules, IsFaultOfRepeat}
 use Rattle.sf_profile.specs.Configs.{profile_in}
-use Rattle.sf_profile.specs.Refusals.{profile_refusal}
+use Rattle.sf_profile.specs.Reads.{read_profile}
 use Rattle.sf_profile.specs.Plans.{plan_of}
 
 -- a comparison of all bits of an argument
@@ -41,27 +41,25 @@ pub record IsFilterOf (bytes : List ℕ) (plan : PlanData) : Type 0 where
   pub answers : (d : Input) → IsInput d → Answers (program ∷ []) d (meaning plan d)
   pub plain : HasNoMask plan → IsPlain (program ∷ [])
 
--- a profile isn't refused, and the bytes are its filter, of which there is one
-pub record MakesFilter (s : Settings) (profile : Data) (bytes : List ℕ) : Type 0 where
-  pub accepted : profile_refusal s profile ≡ None
+-- the bytes are the filter of a profile, of which there is one
+pub record IsFilterFor (s : Settings) (bytes : List ℕ) (profile : ProfileData) : Type 0 where
   pub short : length (form (plan_of s profile)) ≤ 4096
   pub is_form : bytes ≡ form_bytes (plan_of s profile)
   pub filter : IsFilterOf bytes (plan_of s profile)
 
--- why there is no filter of a profile: memory was refused; or the first refusal; or the filter would be too long
-abbrev pub IsRefused : Settings → Data → Fault → Type 0
-IsRefused s profile fault =
-    (fault ≡ faults.Memory)
-    ⊎ ((profile_refusal s profile ≡ Some fault)
-    ⊎ ((fault ≡ faults.TooLong) × (profile_refusal s profile ≡ None) × (4096 < length (form (plan_of s profile)))))
+-- a profile makes a filter that is too long
+abbrev pub IsTooLong : Settings → ProfileData → Type 0
+IsTooLong s profile = 4096 < length (form (plan_of s profile))
 
 -- ---- files
 
--- something is true of the profile in a file's tree
-pub record IsInFile (is_true : Data → Type 0) (file : Data) : Type 0 where
-  pub profile : Data
-  pub is_there : profile_in file ≡ Some profile
-  pub holds : is_true profile
+-- the profile in a file's tree, or why it is refused
+abbrev pub read_where : Settings → Option Data → Result ProfileData Fault
+read_where s None = Err faults.Key
+read_where s (Some d) = read_profile s d
+
+abbrev pub read_file : Settings → Data → Result ProfileData Fault
+read_file s file = read_where s (profile_in file)
 
 -- The bytes are JSON, no object of which has a key twice, and this is the tree. Readers of JSON differ in which of two
 -- equal keys they take.
@@ -71,14 +69,14 @@ pub record IsTree (text : List ℕ) (file : Data) : Type 0 where
   pub unique : IsSomeAnd (document text) HasUniqueKeys
 
 -- something is true of the profile in a file
-pub record IsInText (is_true : Data → Type 0) (text : List ℕ) : Type 0 where
+pub record IsInText (s : Settings) (is_true : ProfileData → Type 0) (text : List ℕ) : Type 0 where
   pub file : Data
   pub is_tree : IsTree text file
-  pub holds : IsInFile is_true file
+  pub holds : IsOkAnd (read_file s file) is_true
 
 -- the filter of the profile in a file
 abbrev pub MakesFilterOf : Settings → List ℕ → List ℕ → Type 0
-MakesFilterOf s text bytes = IsInText (λ profile. MakesFilter s profile bytes) text
+MakesFilterOf s text bytes = IsInText s (IsFilterFor s bytes) text
 
 -- the bytes are JSON, but an object has a key twice, and the fault is that of the rule, or of the head
 pub record RepeatsKey (text : List ℕ) (fault : Fault) : Type 0 where
@@ -94,11 +92,12 @@ HasNoTree text fault =
     ((fault ≡ faults.Syntax) × (IsUtf8 text → read text ≡ None))
     ⊎ ((fault ≡ faults.Memory) ⊎ RepeatsKey text fault)
 
--- why there is no filter of a file's tree: it has no profile, or one that is refused
-abbrev pub IsRefusedFile : Settings → Data → Fault → Type 0
-IsRefusedFile s file fault =
-    ((fault ≡ faults.Key) × (profile_in file ≡ None)) ⊎ IsInFile (λ profile. IsRefused s profile fault) file
+-- why there is no filter of a file's tree: memory was refused; or the first refusal; or the filter would be too long
+abbrev pub IsRefused : Settings → Data → Fault → Type 0
+IsRefused s file fault =
+    (fault ≡ faults.Memory)
+    ⊎ ((read_file s file ≡ Err fault) ⊎ ((fault ≡ faults.TooLong) × IsOkAnd (read_file s file) (IsTooLong s)))
 
 -- why there is no filter of a file's bytes: they have no tree, or the tree is refused
 abbrev pub IsRefusedText : Settings → List ℕ → Fault → Type 0
-IsRefusedText s text fault = HasNoTree text fault ⊎ ((file : Data) × IsTree text file × IsRefusedFile s file fault)
+IsRefusedText s text fault = HasNoTree text fault ⊎ ((file : Data) × IsTree text file × IsRefused s file fault)

@@ -1,11 +1,9 @@
 -- Which names of a profile's rules are those of calls.
-use Rattle.std.specs.Prelude.{ℕ, Bool, not, ◌&&◌, ◌||◌, List, codes, is_some}
+use Rattle.std.specs.Prelude.{ℕ, Bool, not, ◌&&◌, ◌||◌, List, is_some}
 use Rattle.std.specs.List.{list_all}
-use Rattle.serde_json.specs.Data.{Data}
 use Rattle.sf_profile.specs.declared.settings.Settings.{Settings}
 use Rattle.sf_profile.specs.Settings.{is_unknown}
-use Rattle.sf_profile.specs.Trees.{at, listed, absent_or, text_in}
-use Rattle.sf_profile.specs.Plans.{applies, place_from, socket_calls, ipc_calls}
+use Rattle.sf_profile.specs.Plans.{place_from, socket_calls, ipc_calls}
 use Rattle.sf_profile.specs.Others.{other_names}
 
 -- i386 has a call of this name behind another one, or another machine has one
@@ -18,15 +16,9 @@ is_elsewhere name =
 abbrev pub is_nowhere : Settings → List ℕ → Bool
 is_nowhere s name = is_unknown s name && not (is_elsewhere name)
 
--- a value that is the name of a call
-abbrev pub is_somewhere : Settings → Data → Bool
-is_somewhere s d = not (is_nowhere s (text_in d))
-
--- all names of a rule are names of calls
-abbrev pub has_known_names : Settings → Data → Bool
-has_known_names s d =
-    list_all (is_somewhere s) (listed (at (codes "names") d)) && absent_or (is_somewhere s) (at (codes "name") d)
+abbrev pub is_somewhere : Settings → List ℕ → Bool
+is_somewhere s name = not (is_nowhere s name)
 
 -- a rule may have its names: they are names of calls, or such names are passed over, or the rule doesn't apply
-abbrev pub may_have_names : Settings → Data → Bool
-may_have_names s d = s.skip_unknown || not (applies s d) || has_known_names s d
+abbrev pub may_have_names : Settings → Bool → List (List ℕ) → Bool
+may_have_names s applies names = s.skip_unknown || not applies || list_all (is_somewhere s) names

@@ -5,7 +5,7 @@ pub mod Errors
 pub mod Repeats
 pub mod Configs
 pub mod Settings
-pub mod Refusals
+pub mod Reads
 pub mod Plans
 pub mod Data
 pub mod Meaning

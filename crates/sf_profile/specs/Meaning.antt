@@ -44,10 +44,8 @@ arch_of Arm = 0x40000028
 -- the arguments of a set's calls have 64 bits; else they have 32
 abbrev pub is_wide : CallSet → Bool
 is_wide X64 = true
-is_wide X32 = false
-is_wide I386 = false
 is_wide Aarch64 = true
-is_wide Arm = false
+is_wide _ = false
 
 -- the number of a call that x86-64 has with 64-bit pointers: those of x32 begin at 2 ^ 30, and 2 ^ 32 - 1 isn't one of
 -- them
@@ -65,9 +63,7 @@ arch_in d = slice_index d.words 1
 abbrev pub is_number_of_set : CallSet → ℕ → Bool
 is_number_of_set X64 number = is_x64_number number
 is_number_of_set X32 number = not (is_x64_number number)
-is_number_of_set I386 number = true
-is_number_of_set Aarch64 number = true
-is_number_of_set Arm number = true
+is_number_of_set _ number = true
 
 -- the input is a call of this set
 abbrev pub is_of_set : CallSet → Input → Bool

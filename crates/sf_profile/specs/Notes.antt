@@ -1,19 +1,17 @@
 -- What is told of a profile.
-use Rattle.std.specs.Prelude.{◌≡◌, ◌≤◌, ℕ, ◌+◌, List, [], ◌∷◌, ◌++◌, codes, length, filter, fold, None, if◌then◌else◌}
+use Rattle.std.specs.Prelude.{◌≡◌, ◌≤◌, ℕ, List, [], ◌∷◌, ◌++◌, codes, length, count_by, filter, fold, if◌then◌else◌}
 use Rattle.std.specs.List.{list_any, flat_map}
 use Rattle.std.specs.Str.{bytes_eq}
 use Rattle.std.specs.Fmt.{decimal}
-use Rattle.serde_json.specs.Data.{Data}
 use Rattle.sf_profile.specs.declared.rules.CallSet.{CallSet}
 use Rattle.sf_profile.specs.declared.rules.CallSet.TheVariants.{X64, X32, I386, Aarch64, Arm}
 use Rattle.sf_profile.specs.declared.rules.Response.{Response}
 use Rattle.sf_profile.specs.declared.rules.Response.TheVariants.{KillProcess, KillThread, Trap, Errno, Notify, Tracer, Log, Allow}
 use Rattle.sf_profile.specs.declared.settings.Settings.{Settings}
-use Rattle.sf_profile.specs.Trees.{at, listed}
 use Rattle.sf_profile.specs.Settings.{is_unknown}
 use Rattle.sf_profile.specs.Known.{is_nowhere}
-use Rattle.sf_profile.specs.Plans.{applies, rule_names, response_at, sets_of, plan_of}
-use Rattle.sf_profile.specs.Refusals.{profile_refusal}
+use Rattle.sf_profile.specs.Data.{ProfileData, ProfileRuleData}
+use Rattle.sf_profile.specs.Plans.{plan_of}
 use Rattle.sf_profile.specs.Form.{form}
 use Rattle.sf_profile.specs.Filters.{IsInText}
 
@@ -24,29 +22,29 @@ note_line (part ∷ []) = part ++ 10 ∷ []
 note_line (part ∷ next ∷ parts) = part ++ 32 ∷ note_line (next ∷ parts)
 
 -- the names of a rule, if it applies
-abbrev pub names_where : Settings → Data → List (List ℕ)
-names_where s d = if applies s d then rule_names d else []
+abbrev pub names_where : ProfileRuleData → List (List ℕ)
+names_where rule = if rule.applies then rule.names else []
 
 -- a name more, if it isn't there yet
 unfoldable pub with_name : List (List ℕ) → List ℕ → List (List ℕ)
 with_name names name = if list_any (bytes_eq name) names then names else names ++ name ∷ []
 
 -- the names of the rules that apply, each once, in the order of first mention
-abbrev pub applied_names : Settings → Data → List (List ℕ)
-applied_names s d = fold with_name [] (flat_map (names_where s) (listed (at (codes "syscalls") d)))
+abbrev pub applied_names : List ProfileRuleData → List (List ℕ)
+applied_names rules = fold with_name [] (flat_map names_where rules)
 
 -- the names that no file has
-abbrev pub unknown_names : Settings → Data → List (List ℕ)
-unknown_names s d = filter (is_unknown s) (applied_names s d)
+abbrev pub unknown_names : Settings → List ProfileRuleData → List (List ℕ)
+unknown_names s rules = filter (is_unknown s) (applied_names rules)
 
 -- those of them that no other machine has either, and that i386 hasn't behind another call: each makes the profile
 -- refused, unless such names are passed over
-abbrev pub nowhere_names : Settings → Data → List (List ℕ)
-nowhere_names s d = filter (is_nowhere s) (applied_names s d)
+abbrev pub nowhere_names : Settings → List ProfileRuleData → List (List ℕ)
+nowhere_names s rules = filter (is_nowhere s) (applied_names rules)
 
 -- how many rules apply
-abbrev pub applied_count : Settings → List Data → ℕ
-applied_count s ds = fold (λ n d. if applies s d then n + 1 else n) 0 ds
+abbrev pub applied_count : List ProfileRuleData → ℕ
+applied_count rules = count_by (λ (rule : ProfileRuleData). rule.applies) rules
 
 -- the name of a set of calls
 abbrev pub set_name_in_notes : CallSet → List ℕ
@@ -78,9 +76,13 @@ abbrev pub default_line : Response → List ℕ
 default_line response =
     note_line (codes "default" ∷ response_name response ∷ decimal (response_data response) ∷ [])
 
+-- a name, with a blank before it
+abbrev pub name_word : List ℕ → List ℕ
+name_word name = 32 ∷ name
+
 -- the sets, one blank before each
 abbrev pub set_words : CallSet → List ℕ
-set_words set = 32 ∷ set_name_in_notes set
+set_words set = name_word (set_name_in_notes set)
 
 abbrev pub sets_line : List CallSet → List ℕ
 sets_line sets = codes "sets" ++ flat_map set_words sets ++ 10 ∷ []
@@ -98,32 +100,31 @@ abbrev pub instructions_line : ℕ → List ℕ
 instructions_line size = note_line (codes "total" ∷ codes "instructions" ∷ decimal size ∷ [])
 
 -- what is told of a profile whose filter has so many instructions
-abbrev pub notes_text : Settings → Data → ℕ → List ℕ
-notes_text s d size =
+abbrev pub notes_text : Settings → ProfileData → ℕ → List ℕ
+notes_text s profile size =
     note_line (codes "seccomp_audit" ∷ codes "profile" ∷ codes "1" ∷ [])
-    ++ default_line (response_at (codes "defaultAction") (codes "defaultErrnoRet") d)
-    ++ sets_line (sets_of s d)
-    ++ rules_line (length (listed (at (codes "syscalls") d))) (applied_count s (listed (at (codes "syscalls") d)))
-    (length (applied_names s d)) (length (unknown_names s d))
-    ++ flat_map unknown_line (unknown_names s d)
+    ++ default_line profile.default
+    ++ sets_line profile.sets
+    ++ rules_line (length profile.rules) (applied_count profile.rules) (length (applied_names profile.rules))
+    (length (unknown_names s profile.rules))
+    ++ flat_map unknown_line (unknown_names s profile.rules)
     ++ instructions_line size
 
--- the notes of a profile's tree, whose filter isn't too long
-pub record AreNotesOf (s : Settings) (profile : Data) (notes : List ℕ) : Type 0 where
-  pub accepted : profile_refusal s profile ≡ None
+-- the notes of a profile, whose filter isn't too long
+pub record AreNotesFor (s : Settings) (notes : List ℕ) (profile : ProfileData) : Type 0 where
   pub short : length (form (plan_of s profile)) ≤ 4096
   pub text : notes ≡ notes_text s profile (length (form (plan_of s profile)))
 
 -- the notes of the profile in a file
 abbrev pub AreNotesOfText : Settings → List ℕ → List ℕ → Type 0
-AreNotesOfText s text notes = IsInText (λ profile. AreNotesOf s profile notes) text
+AreNotesOfText s text notes = IsInText s (AreNotesFor s notes) text
 
 -- ---- names that are passed over
 
--- a name, with a blank before it
-abbrev pub name_word : List ℕ → List ℕ
-name_word name = 32 ∷ name
+-- the names of a profile that no machine has, with a blank before each
+abbrev pub AreUnknownFor : Settings → List ℕ → ProfileData → Type 0
+AreUnknownFor s words profile = words ≡ flat_map name_word (nowhere_names s profile.rules)
 
--- the names of the profile in a file that no machine has, with a blank before each
+-- the same of the profile in a file
 abbrev pub AreUnknownOf : Settings → List ℕ → List ℕ → Type 0
-AreUnknownOf s text words = IsInText (λ profile. words ≡ flat_map name_word (nowhere_names s profile)) text
+AreUnknownOf s text words = IsInText s (AreUnknownFor s words) text

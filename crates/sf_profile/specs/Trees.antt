@@ -1,5 +1,5 @@
 -- Reading a JSON tree.
-use Rattle.std.specs.Prelude.{ℕ, ℤ, Bool, true, false, not, ◌&&◌, if◌then◌else◌, List, [], ◌∷◌, Option, Some, None, is_some, option_and_then, unwrap_or}
+use Rattle.std.specs.Prelude.{ℕ, ℤ, Bool, true, false, not, ◌&&◌, if◌then◌else◌, List, [], ◌∷◌, map, Option, Some, None, is_some, option_and_then, option_map, unwrap_or}
 use Rattle.std.specs.List.{list_any, list_all}
 use Rattle.std.specs.Str.{bytes_eq}
 use Rattle.serde_json.specs.Data.{Data, array, object, Items, no_items, item, Members, no_members, member}
@@ -33,11 +33,6 @@ abbrev pub absent_or : (Data → Bool) → Option Data → Bool
 absent_or test None = true
 absent_or test (Some d) = test d
 
--- the key is there, and its value passes
-abbrev pub present : (Data → Bool) → Option Data → Bool
-present test None = false
-present test (Some d) = test d
-
 abbrev pub is_text : Data → Bool
 is_text d = is_some (as_str d)
 
@@ -50,22 +45,41 @@ is_list_of test _ = false
 abbrev pub whole_in : Data → Option ℤ
 whole_in d = option_and_then as_integer (as_number d)
 
-abbrev pub is_whole_number : Data → Bool
-is_whole_number d = is_some (whole_in d)
-
 -- the text of a value, empty where it is none
 abbrev pub text_in : Data → List ℕ
 text_in d = unwrap_or (as_str d) []
 
--- the text at a key, empty where there is none
-abbrev pub text_where : Option Data → List ℕ
-text_where None = []
-text_where (Some d) = text_in d
+-- the text at a key, where there is one
+abbrev pub text_at : List ℕ → Data → Option (List ℕ)
+text_at key d = option_and_then as_str (at key d)
+
+-- the texts of an array that has nothing else
+abbrev pub texts_among : Items → Option (List (List ℕ))
+texts_among ds = if list_all is_text (items_in ds) then Some (map text_in (items_in ds)) else None
+
+abbrev pub texts_of : Data → Option (List (List ℕ))
+texts_of (array ds) = texts_among ds
+texts_of _ = None
+
+-- the texts at a key, none where it is absent
+abbrev pub texts_or_none : Option Data → Option (List (List ℕ))
+texts_or_none None = Some []
+texts_or_none (Some d) = texts_of d
 
 -- the whole number at a key, where there is one
 abbrev pub whole_where : Option Data → Option ℤ
 whole_where None = None
 whole_where (Some d) = whole_in d
+
+-- the same, or this one where the key is absent
+abbrev pub whole_or : ℤ → Option Data → Option ℤ
+whole_or absent None = Some absent
+whole_or absent (Some d) = whole_in d
+
+-- the whole number at a key that may be absent
+abbrev pub maybe_whole : Option Data → Option (Option ℤ)
+maybe_whole None = Some None
+maybe_whole (Some d) = option_map Some (whole_in d)
 
 -- the test is true of each key of the members
 abbrev pub all_keys : (List ℕ → Bool) → Members → Bool

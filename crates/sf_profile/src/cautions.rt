@@ -1,22 +1,16 @@
 //! What a profile says, and its writer may not mean: comparisons under a mask with a bit outside it, and ERRNO 0.
 
-ghost use Rattle.std.specs.Prelude.{◌≡◌, ◌++◌, map, IfErr, IfOk, OnOk};
+ghost use Rattle.std.specs.Prelude.{◌≡◌, ◌++◌, IfErr, IfOk, OnOk};
 ghost use Rattle.std.specs.List.{list_any};
-ghost use Rattle.serde_json.specs.View.{view};
-ghost use Rattle.sf_profile.specs.Cautions.{HaveZeroErrors, has_loose_mask, is_loose, is_masked, loose_from, loose_masks, number_if};
-ghost use Rattle.sf_profile.specs.Filters.{IsInText, IsRefused, IsRefusedText};
-ghost use Rattle.sf_profile.specs.Plans.{comparison_of};
+ghost use Rattle.sf_profile.specs.Cautions.{AreLooseFor, HaveZeroErrors, has_loose_mask, is_loose, is_masked, loose_from, number_if};
+ghost use Rattle.sf_profile.specs.Filters.{IsInText, IsRefusedText};
 
-use crate::applying::applies;
-use crate::config::profile_in;
 use crate::fault::Fault;
-use crate::plan::comparison_of;
+use crate::read::{ProfileRule, read_file};
 use crate::rules::{Comparing, Comparison};
 use crate::settings::Settings;
 use crate::text::tree_of;
-use crate::tree::items_at;
-use crate::zeros::zeros_of_profile;
-use serde_json::Value;
+use crate::zeros::zeros_of;
 use std::alloc::{AllocError, Global};
 
 fn is_masked(comparing: Comparing) -> bool
@@ -33,16 +27,16 @@ fn is_loose(comparison: Comparison) -> bool
         && comparison.value_two & comparison.value != comparison.value_two
 }
 
-fn has_loose(items: &[Value]) -> bool
-    ensures { result ≡ list_any (λ v. is_loose (comparison_of v)) (map view items.now) }
+fn has_loose(comparisons: &[Comparison]) -> bool
+    ensures { result ≡ list_any is_loose comparisons.now }
 {
-    items.iter().any(|value| is_loose(comparison_of(value)))
+    comparisons.iter().any(|comparison| is_loose(*comparison))
 }
 
-fn has_loose_mask(settings: &Settings, value: &Value) -> bool
-    ensures { result ≡ has_loose_mask settings.now (view value.now) }
+fn has_loose_mask(rule: &ProfileRule<'_>) -> bool
+    ensures { result ≡ has_loose_mask rule.now }
 {
-    applies(settings, value) && has_loose(items_at(value, "args"))
+    rule.applies && has_loose(&rule.comparisons)
 }
 
 fn push_if(numbers: &mut Vec<usize>, wanted: bool, number: usize) -> Result<(), AllocError>
@@ -55,55 +49,40 @@ fn push_if(numbers: &mut Vec<usize>, wanted: bool, number: usize) -> Result<(), 
 }
 
 #[tactic(auto, using(crate::proofs::cautions::CautionLemmas::more_loose))]
-fn loose_rules(
-    alloc: Global,
-    settings: &Settings,
-    items: &[Value],
-) -> Result<Vec<usize>, AllocError>
-    ensures { IfOk result (λ v. v.items ≡ loose_from settings.now 1 (map view items.now)) }
+fn loose_rules(alloc: Global, rules: &[ProfileRule<'_>]) -> Result<Vec<usize>, AllocError>
+    ensures { IfOk result (λ v. v.items ≡ loose_from 1 rules.now) }
 {
     let mut numbers = Vec::new(alloc);
-    for (i, value) in items.iter().enumerate() {
-        push_if(&mut numbers, has_loose_mask(settings, value), i + 1)?;
+    for (i, rule) in rules.iter().enumerate() {
+        push_if(&mut numbers, has_loose_mask(rule), i + 1)?;
     }
-    Ok(numbers)
-}
-
-/// The numbers, from 1, of those rules of the profile `value` of which `has_loose_mask` is true.
-fn loose_in_profile(alloc: Global, settings: &Settings, value: &Value) -> Result<Vec<usize>, Fault>
-    ensures loose { IfOk result (λ v. v.items ≡ loose_masks settings.now (view value.now)) }
-    ensures refused { IfErr result (λ e. IsRefused settings.now (view value.now) e) }
-{
-    let numbers = loose_rules(alloc, settings, items_at(value, "syscalls"))?;
     Ok(numbers)
 }
 
 /// The numbers, from 1, of the rules that apply and have an `SCMP_CMP_MASKED_EQ` whose `valueTwo` has a bit outside its
-/// mask, which is `value`. Refusals: `Syntax`; `Key` where a key comes twice, or there is no profile. Other faults of
-/// the profile aren't looked for.
+/// mask, which is `value`. The refusals are those of `profile`, but for `TooLong`.
+#[tactic(auto, using(crate::proofs::file::FileLemmas::in_text, crate::proofs::file::FileLemmas::refused_text))]
 pub fn loose_masks(alloc: Global, settings: &Settings, bytes: &[u8]) -> Result<Vec<usize>, Fault>
-    ensures loose { IfOk result (λ v. IsInText (λ p. v.items ≡ loose_masks settings.now p)
-        bytes.now) }
+    ensures loose { IfOk result (λ v. IsInText settings.now (AreLooseFor v.items) bytes.now) }
     ensures refused { IfErr result (λ e. IsRefusedText settings.now bytes.now e) }
 {
-    let value = tree_of(alloc, bytes)?;
-    match profile_in(&value) {
-        Ok(profile) => loose_in_profile(alloc, settings, profile),
-        Err(refusal) => Err(refusal.fault),
-    }
+    let file = tree_of(alloc, bytes)?;
+    let profile = read_file(alloc, settings, &file)?;
+    let numbers = loose_rules(alloc, &profile.rules)?;
+    Ok(numbers)
 }
 
 /// Numbers of calls that a profile answers by ERRNO 0: the call isn't made, and the program is told that it succeeded.
 /// They are found by trying what the rules suggest, so a number may be missing; but each call that a rule answers so,
 /// and each of a set's calls where the default does, is tried.
+#[tactic(auto, using(crate::proofs::file::FileLemmas::in_text, crate::proofs::file::FileLemmas::refused_text, crate::proofs::file::FileLemmas::long_text))]
 pub fn zero_errors(alloc: Global, settings: &Settings, bytes: &[u8]) -> Result<Vec<u32>, Fault>
-    ensures zeros { IfOk result (λ v. IsInText (λ p. HaveZeroErrors settings.now p v.items)
+    ensures zeros { IfOk result (λ v. IsInText settings.now (HaveZeroErrors settings.now v.items)
         bytes.now) }
     ensures refused { IfErr result (λ e. IsRefusedText settings.now bytes.now e) }
 {
-    let value = tree_of(alloc, bytes)?;
-    match profile_in(&value) {
-        Ok(profile) => zeros_of_profile(alloc, settings, profile),
-        Err(refusal) => Err(refusal.fault),
-    }
+    let file = tree_of(alloc, bytes)?;
+    let profile = read_file(alloc, settings, &file)?;
+    let numbers = zeros_of(alloc, settings, &profile)?;
+    Ok(numbers)
 }

@@ -89,6 +89,7 @@ fn has_clear_keys(object: &Map<String, Value>, own: &str, others: &[&str]) -> bo
 }
 
 /// For the prover: `has_clear_keys`, said of the tree's members.
+#[tactic(auto, using(crate::proofs::tree::TreeLemmas::keys_view))]
 fn keys_are_clear(object: &Map<String, Value>, own: &str, others: &[&str]) -> bool
     ensures { result ≡ all_keys (is_clear own.now (map (λ k. k.now) others.now))
         (members_view object.now.entries) }
@@ -171,11 +172,7 @@ fn is_clear_config(value: &Value, linux: &Value) -> bool
 }
 
 /// A key for which no profile is taken from a whole config.json, and why.
-#[derive(Debug, Drop)]
-struct Unclear<'a> {
-    key: &'a str,
-    why: Option<Why>,
-}
+type Unclear<'a> = (&'a str, Option<Why>);
 
 /// The known key for which Go takes another one.
 pub(crate) fn case_of(key: &str, known: &[&'static str]) -> Option<Why> {
@@ -211,7 +208,7 @@ fn first_unclear<'a>(
         let key = key.as_str();
         let why = unclear_reason(key, own, others);
         if why.is_some() {
-            return Some(Unclear { key, why });
+            return Some((key, why));
         }
     }
     None
@@ -232,29 +229,20 @@ fn unclear_key<'a>(
 fn unclear_annotation(value: &Value) -> Option<Unclear<'_>> {
     let annotations = at(value, "annotations")?;
     if !annotations.is_object() {
-        return Some(Unclear {
-            key: "annotations",
-            why: None,
-        });
+        return Some(("annotations", None));
     }
     if let Some(found) = unclear_key(annotations, "", &[]) {
         return Some(found);
     }
     at(annotations, OTHER_FILTER)?;
-    Some(Unclear {
-        key: OTHER_FILTER,
-        why: Some(Why::OtherFilter),
-    })
+    Some((OTHER_FILTER, Some(Why::OtherFilter)))
 }
 
 /// The first of these keys, which only docker and podman know, that a value has.
 fn docker_key(value: &Value, keys: &[&'static str]) -> Option<Unclear<'static>> {
     for key in keys {
         if !is_absent(value, *key) {
-            return Some(Unclear {
-                key: *key,
-                why: Some(Why::OnlyDocker),
-            });
+            return Some((*key, Some(Why::OnlyDocker)));
         }
     }
     None
@@ -289,17 +277,14 @@ fn first_unclear_in<'a>(value: &'a Value, linux: &'a Value) -> Unclear<'a> {
             return found;
         }
     }
-    Unclear {
-        key: "seccomp",
-        why: Some(Why::Unconfined),
-    }
+    ("seccomp", Some(Why::Unconfined))
 }
 
 fn refusal_of_config<'a>(value: &'a Value, linux: &'a Value) -> Refusal<'a>
     ensures { result.fault ≡ Fault.Key }
 {
-    let found = first_unclear_in(value, linux);
-    because(Fault::Key, found.key, found.why)
+    let (key, why) = first_unclear_in(value, linux);
+    because(Fault::Key, key, why)
 }
 
 /// The profile in a file's tree: that of a whole config.json, which has a key `linux`, unless runtimes would differ; or

@@ -1,6 +1,7 @@
 ghost use Rattle.std.specs.Prelude.{◌≡◌};
 ghost use Rattle.sf_profile.specs.declared.fault.Fault.TheVariants.{Memory};
 ghost use Rattle.sf_profile.specs.Faults.{fault_number};
+ghost use Rattle.sf_profile.specs.Reads.{first_flaw, flaw_place, head_fault, rule_fault};
 
 use std::alloc::{AllocError, AllocFailed};
 use thiserror::Error;
@@ -80,5 +81,58 @@ impl<T: Drop> From<AllocFailed<T>> for Fault {
 
     fn from(_e: AllocFailed<T>) -> Fault {
         Fault::Memory
+    }
+}
+
+/// What is wrong with a part of a profile. Of two flaws of a rule, the one that comes first here counts.
+#[derive(Clone, Copy, Debug, PartialEq, Eq)]
+pub(crate) enum Flaw {
+    /// A key, or a value that is of another kind.
+    Key,
+    /// An action or a comparison that isn't known.
+    Actions,
+    Range,
+}
+
+impl Flaw {
+    fn place(self) -> u8
+        ensures { result ≡ flaw_place self }
+    {
+        match self {
+            Flaw::Key => 0,
+            Flaw::Actions => 1,
+            Flaw::Range => 2,
+        }
+    }
+
+    /// This flaw, unless the other one counts.
+    pub(crate) fn first(self, other: Flaw) -> Flaw
+        ensures { result ≡ first_flaw self other }
+    {
+        if other.place() < self.place() {
+            other
+        } else {
+            self
+        }
+    }
+
+    pub(crate) fn of_head(self) -> Fault
+        ensures { result ≡ head_fault self }
+    {
+        match self {
+            Flaw::Key => Fault::Key,
+            Flaw::Actions => Fault::Actions,
+            Flaw::Range => Fault::Range,
+        }
+    }
+
+    pub(crate) fn of_rule(self, rule: usize) -> Fault
+        ensures { result ≡ rule_fault rule self }
+    {
+        match self {
+            Flaw::Key => Fault::RuleKey { rule },
+            Flaw::Actions => Fault::RuleActions { rule },
+            Flaw::Range => Fault::RuleRange { rule },
+        }
     }
 }

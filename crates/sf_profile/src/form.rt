@@ -2,7 +2,7 @@
 
 ghost use Rattle.std.specs.Prelude.{◌≡◌, ◌++◌, ◌+◌, IfOk, OnOk};
 ghost use Rattle.std.specs.List.{flat_map};
-ghost use Rattle.sf_profile.specs.Form.{above_calls, above_rules, body_code, call_code, direct_code, form, newer_code, newer_where, part_code, round_code, places, return_code, rule_at, rule_code, set_code, through_code};
+ghost use Rattle.sf_profile.specs.Form.{above_calls, above_rules, body_code, call_code, direct_code, form, newer_where, part_code, round_code, places, return_code, rule_at, set_code, through_code};
 ghost use Rattle.sf_profile.specs.Meaning.{refuses_newer};
 
 use crate::comparing::comparisons_code;
@@ -109,20 +109,8 @@ fn push_calls(
     Ok(())
 }
 
-/// Adds the code of a rule. If `wide`, arguments have 64 bits, and else 32.
+/// Adds the code of a rule, if this is its place. If `wide`, arguments have 64 bits, and else 32.
 fn push_rule(
-    alloc: Global,
-    code: &mut Vec<Instruction>,
-    wide: bool,
-    rule: &Rule,
-) -> Result<(), AllocError>
-    ensures { OnOk result (code.new.items ≡ code.old.items ++ rule_code wide rule.now) }
-{
-    let comparisons = comparisons_code(alloc, wide, &rule.comparisons)?;
-    push_calls(code, &comparisons, rule.response.value(), &rule.calls)
-}
-
-fn push_rule_at(
     alloc: Global,
     code: &mut Vec<Instruction>,
     reading: Reading,
@@ -134,7 +122,8 @@ fn push_rule_at(
         ++ rule_at reading wide place rule.now) }
 {
     if reading.order(rule) == place {
-        return push_rule(alloc, code, wide, rule);
+        let comparisons = comparisons_code(alloc, wide, &rule.comparisons)?;
+        return push_calls(code, &comparisons, rule.response.value(), &rule.calls);
     }
     Ok(())
 }
@@ -151,7 +140,7 @@ fn push_round(
         ++ round_code reading wide rules.now place) }
 {
     for rule in rules {
-        push_rule_at(alloc, code, reading, wide, place, rule)?;
+        push_rule(alloc, code, reading, wide, place, rule)?;
     }
     Ok(())
 }
@@ -205,33 +194,21 @@ fn refuses_newer(default: Response) -> bool
     )
 }
 
-/// Adds the code by which calls whose number is at least `least` fail with ENOSYS; none where `least` has more than 32
-/// bits.
-fn push_newer(code: &mut Vec<Instruction>, least: u64) -> Result<(), AllocError>
-    ensures { OnOk result (code.new.items ≡ code.old.items ++ newer_code least) }
+/// Adds the code by which newer calls fail with ENOSYS if `asked`: those whose number is above those of all calls of
+/// the rules. There are none where that number has more than 32 bits.
+fn push_newer(code: &mut Vec<Instruction>, asked: bool, rules: &[Rule]) -> Result<(), AllocError>
+    ensures { OnOk result (code.new.items ≡ code.old.items ++ newer_where asked rules.now) }
 {
-    let Ok(least) = u32::try_from(least) else {
+    if !asked {
+        return Ok(());
+    }
+    let Ok(least) = u32::try_from(above_rules(rules)) else {
         return Ok(());
     };
     code.extend_from_slice(&[
         Instruction::Branch(Test::GreaterOrEqual, least, 0, 1),
         Instruction::Return(Response::Errno(ENOSYS).value()),
     ])
-}
-
-/// Adds the code by which newer calls fail with ENOSYS if `asked`: those whose number is above those of all calls of
-/// the rules.
-fn push_newer_where(
-    code: &mut Vec<Instruction>,
-    asked: bool,
-    rules: &[Rule],
-) -> Result<(), AllocError>
-    ensures { OnOk result (code.new.items ≡ code.old.items ++ newer_where asked rules.now) }
-{
-    if asked {
-        return push_newer(code, above_rules(rules));
-    }
-    Ok(())
 }
 
 /// The code for the inputs of a set: a load of the call's number into A, the code for newer calls, that of the rules,
@@ -241,7 +218,7 @@ fn body_code(alloc: Global, plan: &Plan, part: &Part) -> Result<Vec<Instruction>
 {
     let mut code = Vec::new(alloc);
     code.push(Instruction::Load(0))?;
-    push_newer_where(
+    push_newer(
         &mut code,
         plan.newer && refuses_newer(plan.default),
         &part.rules,

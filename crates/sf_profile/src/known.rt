@@ -1,18 +1,17 @@
 //! Which names of a profile's rules are those of calls.
 
-ghost use Rattle.std.specs.Prelude.{◌≡◌, Some, codes, is_none, is_some, map};
+ghost use Rattle.std.specs.Prelude.{◌≡◌, Some, is_none, is_some, map};
 ghost use Rattle.std.specs.List.{list_all, list_any};
 ghost use Rattle.serde_json.specs.View.{view};
 ghost use Rattle.sf_profile.specs.Known.{is_elsewhere, is_nowhere, is_somewhere, may_have_names};
 ghost use Rattle.sf_profile.specs.Settings.{is_unknown, number_where};
-ghost use Rattle.sf_profile.specs.Trees.{absent_or, at};
+ghost use Rattle.sf_profile.specs.Trees.{text_in};
 ghost use Rattle.sf_profile.specs.declared.settings.Calls.{Calls as ACalls};
 
-use crate::applying::applies;
 use crate::naming::{place_of_ipc_call, place_of_socket_call};
 use crate::others::place_of_other;
 use crate::settings::{Calls, Settings};
-use crate::tree::{at, items_at, text_of};
+use crate::tree::text_of;
 use serde_json::Value;
 
 /// Whether one of the sets in `calls`, which the profile need not be for, has a call with this name.
@@ -49,10 +48,11 @@ pub(crate) fn is_nowhere(settings: &Settings, name: &str) -> bool
 
 /// The first of these names that no machine has. A value that is no text counts as the empty name.
 #[tactic(auto, using(crate::proofs::tree::TreeLemmas::all_more))]
-fn first_nowhere<'a>(settings: &Settings, items: &'a [Value]) -> Option<&'a str>
-    ensures { is_none result ≡ list_all (is_somewhere settings.now) (map view items.now) }
+fn first_nowhere<'a>(settings: &Settings, names: &'a [Value]) -> Option<&'a str>
+    ensures { is_none result ≡ list_all (is_somewhere settings.now)
+        (map text_in (map view names.now)) }
 {
-    for value in items {
+    for value in names {
         if is_nowhere(settings, text_of(value)) {
             return Some(text_of(value));
         }
@@ -60,28 +60,18 @@ fn first_nowhere<'a>(settings: &Settings, items: &'a [Value]) -> Option<&'a str>
     None
 }
 
-fn one_nowhere<'a>(settings: &Settings, value: &'a Value) -> Option<&'a str>
-    ensures { is_none result ≡ absent_or (is_somewhere settings.now)
-        (at (codes "name") (view value.now)) }
-{
-    let name = text_of(at(value, "name")?);
-    if is_nowhere(settings, name) {
-        Some(name)
-    } else {
-        None
-    }
-}
-
 /// The name for which a rule is refused: the first one that no machine has; none where `settings.skip_unknown` is true,
 /// or the rule doesn't apply.
-pub(crate) fn unknown_name<'a>(settings: &Settings, value: &'a Value) -> Option<&'a str>
-    ensures { is_none result ≡ may_have_names settings.now (view value.now) }
+pub(crate) fn unknown_name<'a>(
+    settings: &Settings,
+    applies: bool,
+    names: &'a [Value],
+) -> Option<&'a str>
+    ensures { is_none result ≡ may_have_names settings.now applies
+        (map text_in (map view names.now)) }
 {
-    if settings.skip_unknown || !applies(settings, value) {
+    if settings.skip_unknown || !applies {
         return None;
     }
-    match first_nowhere(settings, items_at(value, "names")) {
-        Some(name) => Some(name),
-        None => one_nowhere(settings, value),
-    }
+    first_nowhere(settings, names)
 }

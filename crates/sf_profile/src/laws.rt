@@ -1,6 +1,6 @@
 //! Laws of what a profile means, for the prover: contracts of functions that do nothing.
 
-ghost use Rattle.std.specs.Prelude.{◌≡◌, ◌<◌, ◌≤◌, ℕ, All, List, Bool, true, false, None, Some, [], ◌&&◌, filter};
+ghost use Rattle.std.specs.Prelude.{◌≡◌, ◌<◌, ◌≤◌, ℕ, All, List, Bool, true, false, Option, None, Some, [], ◌&&◌, filter};
 ghost use Rattle.serde_json.specs.Data.{Data};
 ghost use Rattle.sf_insn.specs.declared.input.Input.{Input};
 ghost use Rattle.sf_run.specs.Answers.{action_number, rank};
@@ -12,7 +12,8 @@ ghost use Rattle.sf_profile.specs.declared.rules.Response.{Response};
 ghost use Rattle.sf_profile.specs.declared.settings.Settings.{Settings as ASettings};
 ghost use Rattle.sf_profile.specs.Data.{SetRulesData, PlanData, RuleData};
 ghost use Rattle.sf_profile.specs.Meaning.{answer_of_response, is_newer, number_in, pick, response_in, response_of, strictness};
-ghost use Rattle.sf_profile.specs.Plans.{applies, calls_named, through_calls};
+ghost use Rattle.sf_profile.specs.Plans.{calls_named, through_calls};
+ghost use Rattle.sf_profile.specs.Reads.{is_excluded, is_included};
 ghost use Rattle.sf_profile.specs.Settings.{is_same_set, number_of};
 
 /// A name for which a set has no number, also not behind `socketcall` or `ipc`, stands for no call of the set, and a
@@ -25,6 +26,7 @@ pub fn unknown_names_say_nothing()
 
 /// Asking for ENOSYS at newer calls (`Plan::newer`) changes nothing at other calls. A call is newer where its number is
 /// above those of all calls of the set's rules.
+#[tactic(auto, using(crate::proofs::laws::LawLemmas::only_newer))]
 pub fn newer_changes_only_newer()
     ensures { (plan : PlanData) (d : Input) (part : SetRulesData) →
         is_newer (number_in d) part.rules ≡ false
@@ -48,13 +50,16 @@ pub fn readings_agree_without_conflict()
         → a.response ≡ response }
 {}
 
-/// Whether a rule applies depends on its own text, the machine, the capabilities and the kernel, and on nothing else.
+/// Whether what a rule includes and excludes holds depends on its own text, the machine, the capabilities and the
+/// kernel, and on nothing else.
 pub fn rules_apply_by_words()
-    ensures { (s t : ASettings) (rule : Data) → s.machine ≡ t.machine → s.caps ≡ t.caps
-        → s.kernel ≡ t.kernel → applies s rule ≡ applies t rule }
+    ensures { (s t : ASettings) (d : Option Data) → s.machine ≡ t.machine → s.caps ≡ t.caps
+        → s.kernel ≡ t.kernel
+        → (is_included s d ≡ is_included t d) × (is_excluded s d ≡ is_excluded t d) }
 {}
 
 /// The order of the actions by `strictness` is that in which the kernel prefers them.
+#[tactic(auto, using(crate::proofs::laws::LawLemmas::before_by_rank))]
 pub fn strictness_is_precedence()
     ensures { (a b : Response) → strictness a < strictness b
         → rank (action_number (answer_of_response a).action)

@@ -5,6 +5,7 @@
 #![tactic(auto)]
 
 mod applying;
+mod arguments;
 mod cautions;
 mod comparing;
 mod config;
@@ -23,8 +24,8 @@ mod naming;
 mod nearest;
 mod others;
 mod plan;
+mod read;
 mod reason;
-mod refusal;
 mod repeated;
 mod repeats;
 mod rules;

@@ -147,11 +147,7 @@ fn with_digit(read: VersionRead, digit: u8) -> VersionRead
             wrong: read.wrong,
         }
     } else {
-        VersionRead {
-            major: read.major,
-            digits: read.digits,
-            wrong: true,
-        }
+        wrong(read)
     }
 }
 

@@ -1,14 +1,14 @@
 //! The calls that the names of a rule stand for.
 
-ghost use Rattle.std.specs.Prelude.{◌≡◌, ◌++◌, ◌<◌, codes, map, length, IfOk, IfSome, OnOk};
+ghost use Rattle.std.specs.Prelude.{◌≡◌, ◌++◌, ◌<◌, map, length, IfOk, IfSome, OnOk};
 ghost use Rattle.std.specs.List.{flat_map};
 ghost use Rattle.serde_json.specs.View.{view};
-ghost use Rattle.sf_profile.specs.Trees.{at, text_in};
-ghost use Rattle.sf_profile.specs.Plans.{calls_named, direct_call, ipc_call, ipc_calls, rule_names, one_name, place_from, socket_call, socket_calls, through_calls};
+ghost use Rattle.sf_profile.specs.Trees.{text_in};
+ghost use Rattle.sf_profile.specs.Plans.{calls_named, direct_call, ipc_call, ipc_calls, place_from, socket_call, socket_calls};
 
 use crate::rules::{Call, CallSet};
 use crate::settings::Settings;
-use crate::tree::{at, items_at, text_of};
+use crate::tree::text_of;
 use serde_json::Value;
 use std::alloc::{AllocError, Global};
 
@@ -130,88 +130,41 @@ fn push_ipc_call(calls: &mut Vec<Call>, name: &str) -> Result<(), AllocError>
     Ok(())
 }
 
-/// Adds the calls with this name behind `socketcall` and `ipc`, if `has_them`: on i386, if the rule compares nothing,
-/// since the arguments of such a call aren't where comparisons look.
-fn push_through(calls: &mut Vec<Call>, has_them: bool, name: &str) -> Result<(), AllocError>
-    ensures { OnOk result (calls.new.items ≡ calls.old.items ++ through_calls has_them name.now) }
+/// Adds the calls that a name stands for in a set. On i386 they may go through `socketcall` or `ipc`, if
+/// the rule compares nothing: the arguments of such a call aren't where comparisons look.
+fn push_named(
+    calls: &mut Vec<Call>,
+    settings: &Settings,
+    set: CallSet,
+    compares_nothing: bool,
+    name: &str,
+) -> Result<(), AllocError>
+    ensures { OnOk result (calls.new.items ≡ calls.old.items
+        ++ calls_named settings.now set compares_nothing name.now) }
 {
-    if has_them {
+    push_direct(calls, settings.number_of(set, name))?;
+    if set.is_same(CallSet::I386) && compares_nothing {
         push_socket_call(calls, name)?;
         push_ipc_call(calls, name)?;
     }
     Ok(())
 }
 
-/// The set in which the names of a rule are looked up, and whether the rule compares nothing.
-#[derive(Clone, Copy, Debug)]
-pub(crate) struct Scope {
-    pub(crate) set: CallSet,
-    pub(crate) compares_nothing: bool,
-}
-
-/// Adds the calls that a name stands for in the set of `scope`.
-fn push_named(
-    calls: &mut Vec<Call>,
-    settings: &Settings,
-    scope: Scope,
-    name: &str,
-) -> Result<(), AllocError>
-    ensures { OnOk result (calls.new.items ≡ calls.old.items
-        ++ calls_named settings.now scope.set scope.compares_nothing name.now) }
-{
-    push_direct(calls, settings.number_of(scope.set, name))?;
-    push_through(
-        calls,
-        scope.set.is_same(CallSet::I386) && scope.compares_nothing,
-        name,
-    )
-}
-
-fn push_all_named(
-    calls: &mut Vec<Call>,
-    settings: &Settings,
-    scope: Scope,
-    items: &[Value],
-) -> Result<(), AllocError>
-    ensures { OnOk result (calls.new.items ≡ calls.old.items
-        ++ flat_map (calls_named settings.now scope.set scope.compares_nothing)
-        (map text_in (map view items.now))) }
-{
-    for value in items {
-        push_named(calls, settings, scope, text_of(value))?;
-    }
-    Ok(())
-}
-
-fn push_one_name(
-    calls: &mut Vec<Call>,
-    settings: &Settings,
-    scope: Scope,
-    value: &Value,
-) -> Result<(), AllocError>
-    ensures { OnOk result (calls.new.items ≡ calls.old.items
-        ++ flat_map (calls_named settings.now scope.set scope.compares_nothing)
-        (one_name (at (codes "name") (view value.now)))) }
-{
-    match at(value, "name") {
-        Some(name) => push_named(calls, settings, scope, text_of(name)),
-        None => Ok(()),
-    }
-}
-
-/// The calls that the names of the rule `value`, at its keys `names` and `name`, stand for in the set of `scope`.
+/// The calls that the names of a rule stand for in a set.
 pub(crate) fn calls_of(
     alloc: Global,
     settings: &Settings,
-    scope: Scope,
-    value: &Value,
+    set: CallSet,
+    compares_nothing: bool,
+    names: &[Value],
 ) -> Result<Vec<Call>, AllocError>
     ensures { IfOk result (λ v. v.items
-        ≡ flat_map (calls_named settings.now scope.set scope.compares_nothing)
-        (rule_names (view value.now))) }
+        ≡ flat_map (calls_named settings.now set compares_nothing)
+        (map text_in (map view names.now))) }
 {
     let mut calls = Vec::new(alloc);
-    push_all_named(&mut calls, settings, scope, items_at(value, "names"))?;
-    push_one_name(&mut calls, settings, scope, value)?;
+    for value in names {
+        push_named(&mut calls, settings, set, compares_nothing, text_of(value))?;
+    }
     Ok(calls)
 }

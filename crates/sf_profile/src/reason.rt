@@ -1,10 +1,9 @@
 //! Why a profile is refused: which rule and which key, and what runtimes would do. It is for a person: contracts say
 //! nothing of it.
 
-use crate::config::profile_in;
 use crate::fault::Fault;
 use crate::nearest::nearest;
-use crate::refusal::check_profile;
+use crate::read::read_file;
 use crate::repeated::repeated_key;
 use crate::settings::Settings;
 use crate::text::tree_of;
@@ -12,8 +11,9 @@ use crate::wording::{Refusal, Refused, Why};
 use serde_json::Value;
 use std::alloc::{AllocError, Global};
 
-fn check_file<'a>(settings: &Settings, value: &'a Value) -> Result<(), Refusal<'a>> {
-    check_profile(settings, profile_in(value)?)
+fn check_file<'a>(alloc: Global, settings: &Settings, value: &'a Value) -> Result<(), Refusal<'a>> {
+    read_file(alloc, settings, value)?;
+    Ok(())
 }
 
 fn number_of_rule(fault: Fault) -> Option<usize> {
@@ -78,7 +78,8 @@ pub fn refused(
         why: None,
     };
     match tree_of(alloc, bytes) {
-        Ok(value) => match check_file(settings, &value) {
+        Ok(value) => match check_file(alloc, settings, &value) {
+            Err(refusal) if refusal.fault == Fault::Memory => Err(AllocError),
             Err(refusal) if refusal.fault == fault => refused_by(alloc, settings, refusal),
             _ => Ok(unexplained),
         },

@@ -66,6 +66,7 @@ fn repeats_key(alloc: Global, text: &str) -> Result<bool, AllocError>
 
 /// Whether a key comes twice in an object of the value. The reader of JSON tells that only of a text, so the value is
 /// written.
+#[tactic(auto, using(crate::proofs::repeats::RepeatLemmas::told_of_value))]
 fn value_repeats_key(alloc: Global, value: &Value<'_>) -> Result<bool, AllocError>
     requires { IsReadBack (value_view value.now) }
     ensures { IfOk result (λ b. MatchBool b (¬ HasUniqueKeys (value_view value.now))
@@ -103,6 +104,7 @@ fn fault_of_document(alloc: Global, whole: &Value<'_>) -> Result<Fault, AllocErr
     }
 }
 
+#[tactic(auto, using(crate::proofs::repeats::RepeatLemmas::fault_of_text))]
 fn fault_of_repeat(alloc: Global, text: &str) -> Result<Fault, AllocError>
     ensures { IfOk result (λ e. IsSomeAnd (document text.now)
         (λ whole. IsFaultOfRepeat 1 (last_rules whole) e)) }

@@ -116,12 +116,7 @@ fn calls_of(calls: &[Calls], set: CallSet) -> Option<&Calls>
     ensures { option_map (λ c. c.now) result
         ≡ find (λ (c : ACalls). is_same_set c.set set) calls.now }
 {
-    for one in calls {
-        if one.set.is_same(set) {
-            return Some(one);
-        }
-    }
-    None
+    calls.iter().find(|one| one.set.is_same(set))
 }
 
 fn has_text(texts: &[String], text: &str) -> bool

@@ -1,20 +1,18 @@
 //! The notes on a profile.
 
-ghost use Rattle.std.specs.Prelude.{◌≡◌, ◌++◌, codes, filter, fold, map, IfOk, OnOk, string_bytes};
+ghost use Rattle.std.specs.Prelude.{◌≡◌, ◌++◌, filter, fold, map, IfOk, OnOk, string_bytes};
 ghost use Rattle.std.specs.List.{flat_map};
 ghost use Rattle.serde_json.specs.View.{view};
-ghost use Rattle.sf_profile.specs.Notes.{applied_count, applied_names, rules_line, default_line, name_word, names_where, notes_text, nowhere_names, response_data, response_name, set_name_in_notes, set_words, sets_line, unknown_line, unknown_names, with_name};
-ghost use Rattle.sf_profile.specs.Plans.{rule_names, one_name};
+ghost use Rattle.sf_profile.specs.Notes.{applied_count, applied_names, rules_line, default_line, name_word, names_where, notes_text, nowhere_names, response_data, response_name, set_name_in_notes, sets_line, unknown_line, unknown_names, with_name};
 ghost use Rattle.sf_profile.specs.Known.{is_nowhere};
 ghost use Rattle.sf_profile.specs.Settings.{is_unknown};
-ghost use Rattle.sf_profile.specs.Trees.{at, text_in};
+ghost use Rattle.sf_profile.specs.Trees.{text_in};
 
-use crate::applying::applies;
 use crate::known::{is_nowhere, is_unknown};
-use crate::plan::{response_at, sets_of};
+use crate::read::{Profile, ProfileRule};
 use crate::rules::{CallSet, Response};
 use crate::settings::Settings;
-use crate::tree::{at, items_at, text_of};
+use crate::tree::text_of;
 use indexmap::IndexSet;
 use serde_json::Value;
 use std::alloc::{AllocError, Global};
@@ -75,37 +73,15 @@ fn push_names<'a>(names: &mut IndexSet<&'a str>, items: &'a [Value]) -> Result<(
     Ok(())
 }
 
-fn push_one_name<'a>(names: &mut IndexSet<&'a str>, value: &'a Value) -> Result<(), AllocError>
-    ensures { OnOk result (map (λ n. n.now) names.new.keys
-        ≡ fold with_name (map (λ n. n.now) names.old.keys)
-        (one_name (at (codes "name") (view value.now)))) }
-{
-    match at(value, "name") {
-        Some(name) => push_name(names, text_of(name)),
-        None => Ok(()),
-    }
-}
-
-#[tactic(auto, using(crate::proofs::plan::PlanLemmas::fold_both))]
-fn push_names_of<'a>(names: &mut IndexSet<&'a str>, value: &'a Value) -> Result<(), AllocError>
-    ensures { OnOk result (map (λ n. n.now) names.new.keys
-        ≡ fold with_name (map (λ n. n.now) names.old.keys) (rule_names (view value.now))) }
-{
-    push_names(names, items_at(value, "names"))?;
-    push_one_name(names, value)
-}
-
 fn push_names_where<'a>(
     names: &mut IndexSet<&'a str>,
-    settings: &Settings,
-    value: &'a Value,
+    rule: &ProfileRule<'a>,
 ) -> Result<(), AllocError>
     ensures { OnOk result (map (λ n. n.now) names.new.keys
-        ≡ fold with_name (map (λ n. n.now) names.old.keys)
-        (names_where settings.now (view value.now))) }
+        ≡ fold with_name (map (λ n. n.now) names.old.keys) (names_where rule.now)) }
 {
-    if applies(settings, value) {
-        return push_names_of(names, value);
+    if rule.applies {
+        return push_names(names, rule.names);
     }
     Ok(())
 }
@@ -114,29 +90,15 @@ fn push_names_where<'a>(
 #[tactic(auto, using(crate::proofs::plan::PlanLemmas::fold_both))]
 fn applied_set<'a>(
     alloc: Global,
-    settings: &Settings,
-    value: &'a Value,
+    rules: &[ProfileRule<'a>],
 ) -> Result<IndexSet<&'a str>, AllocError>
-    ensures { IfOk result (λ s. map (λ n. n.now) s.keys
-        ≡ applied_names settings.now (view value.now)) }
+    ensures { IfOk result (λ s. map (λ n. n.now) s.keys ≡ applied_names rules.now) }
 {
     let mut names = IndexSet::new(alloc);
-    for rule in items_at(value, "syscalls") {
-        push_names_where(&mut names, settings, rule)?;
+    for rule in rules {
+        push_names_where(&mut names, rule)?;
     }
     Ok(names)
-}
-
-fn applied_names<'a>(
-    alloc: Global,
-    settings: &Settings,
-    value: &'a Value,
-) -> Result<Vec<&'a str>, AllocError>
-    ensures { IfOk result (λ v. map (λ n. n.now) v.items
-        ≡ applied_names settings.now (view value.now)) }
-{
-    let names = applied_set(alloc, settings, value)?;
-    Vec::from_slice(alloc, names.as_slice())
 }
 
 fn unknown_names<'a>(
@@ -173,16 +135,10 @@ fn nowhere_names<'a>(
     Ok(nowhere)
 }
 
-fn applied_count(settings: &Settings, items: &[Value]) -> usize
-    ensures { result ≡ applied_count settings.now (map view items.now) }
+fn applied_count(rules: &[ProfileRule<'_>]) -> usize
+    ensures { result ≡ applied_count rules.now }
 {
-    let mut count = 0usize;
-    for value in items {
-        if applies(settings, value) {
-            count += 1;
-        }
-    }
-    count
+    rules.iter().filter(|rule| rule.applies).count()
 }
 
 /// Adds the line of the default response: `default`, its action's name, and the number that goes with it, or 0.
@@ -195,28 +151,20 @@ fn push_default(text: &mut String, response: Response) -> Result<(), AllocError>
     write!(text, "default {name} {data}\n")
 }
 
-fn push_set_words(text: &mut String, set: CallSet) -> Result<(), AllocError>
-    ensures { OnOk result (string_bytes text.new ≡ string_bytes text.old ++ set_words set) }
+fn push_word(text: &mut String, name: &str) -> Result<(), AllocError>
+    ensures { OnOk result (string_bytes text.new ≡ string_bytes text.old ++ name_word name.now) }
 {
     text.push_str(" ")?;
-    text.push_str(set_name_in_notes(set))
-}
-
-fn push_sets_words(text: &mut String, sets: &[CallSet]) -> Result<(), AllocError>
-    ensures { OnOk result (string_bytes text.new ≡ string_bytes text.old
-        ++ flat_map set_words sets.now) }
-{
-    for set in sets {
-        push_set_words(text, *set)?;
-    }
-    Ok(())
+    text.push_str(name)
 }
 
 fn push_sets(text: &mut String, sets: &[CallSet]) -> Result<(), AllocError>
     ensures { OnOk result (string_bytes text.new ≡ string_bytes text.old ++ sets_line sets.now) }
 {
     text.push_str("sets")?;
-    push_sets_words(text, sets)?;
+    for set in sets {
+        push_word(text, set_name_in_notes(*set))?;
+    }
     text.push_str("\n")
 }
 
@@ -238,28 +186,14 @@ fn push_counts(
     )
 }
 
-fn push_unknown(text: &mut String, name: &str) -> Result<(), AllocError>
-    ensures { OnOk result (string_bytes text.new ≡ string_bytes text.old
-        ++ unknown_line name.now) }
-{
-    write!(text, "unknown {name}\n")
-}
-
 fn push_all_unknown(text: &mut String, names: &[&str]) -> Result<(), AllocError>
     ensures { OnOk result (string_bytes text.new ≡ string_bytes text.old
         ++ flat_map unknown_line (map (λ n. n.now) names.now)) }
 {
     for name in names {
-        push_unknown(text, name)?;
+        write!(text, "unknown {name}\n")?;
     }
     Ok(())
-}
-
-fn push_word(text: &mut String, name: &str) -> Result<(), AllocError>
-    ensures { OnOk result (string_bytes text.new ≡ string_bytes text.old ++ name_word name.now) }
-{
-    text.push_str(" ")?;
-    text.push_str(name)
 }
 
 fn words_of(alloc: Global, names: &[&str]) -> Result<String, AllocError>
@@ -278,41 +212,35 @@ fn words_of(alloc: Global, names: &[&str]) -> Result<String, AllocError>
 pub(crate) fn nowhere_words(
     alloc: Global,
     settings: &Settings,
-    value: &Value,
+    rules: &[ProfileRule<'_>],
 ) -> Result<String, AllocError>
     ensures { IfOk result (λ text. string_bytes text
-        ≡ flat_map name_word (nowhere_names settings.now (view value.now))) }
+        ≡ flat_map name_word (nowhere_names settings.now rules.now)) }
 {
-    let names = applied_names(alloc, settings, value)?;
-    let nowhere = nowhere_names(alloc, settings, &names)?;
+    let names = applied_set(alloc, rules)?;
+    let nowhere = nowhere_names(alloc, settings, names.as_slice())?;
     words_of(alloc, &nowhere)
 }
 
-/// The notes on the profile `value`: the form of the notes (`seccomp_audit profile 1`), the default, the sets, the
-/// counts, a line for each name that no file of names has, and the number of instructions, `size`.
+/// The notes on a profile: the form of the notes (`seccomp_audit profile 1`), the default, the sets, the counts, a line
+/// for each name that no file of names has, and the number of instructions, `size`.
 pub(crate) fn notes_text(
     alloc: Global,
     settings: &Settings,
-    value: &Value,
+    profile: &Profile<'_>,
     size: usize,
 ) -> Result<String, AllocError>
-    ensures { IfOk result (λ text. string_bytes text
-        ≡ notes_text settings.now (view value.now) size) }
+    ensures { IfOk result (λ text. string_bytes text ≡ notes_text settings.now profile.now size) }
 {
-    let rules = items_at(value, "syscalls");
-    let names = applied_names(alloc, settings, value)?;
-    let unknown = unknown_names(alloc, settings, &names)?;
-    let sets = sets_of(alloc, settings, value)?;
+    let names = applied_set(alloc, &profile.rules)?;
+    let unknown = unknown_names(alloc, settings, names.as_slice())?;
     let mut text = String::from_str(alloc, "seccomp_audit profile 1\n")?;
-    push_default(
-        &mut text,
-        response_at(value, "defaultAction", "defaultErrnoRet"),
-    )?;
-    push_sets(&mut text, &sets)?;
+    push_default(&mut text, profile.default)?;
+    push_sets(&mut text, &profile.sets)?;
     push_counts(
         &mut text,
-        rules.len(),
-        applied_count(settings, rules),
+        profile.rules.len(),
+        applied_count(&profile.rules),
         names.len(),
         unknown.len(),
     )?;

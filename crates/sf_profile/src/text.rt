@@ -28,6 +28,7 @@ fn read_text(alloc: Global, text: &str) -> Result<Value, Fault>
     }
 }
 
+#[tactic(auto, using(crate::proofs::text::TextLemmas::none_read, crate::proofs::text::TextLemmas::none_unique))]
 fn tree_of_text(alloc: Global, text: &str) -> Result<Value, Fault>
     ensures tree { IfOk result (λ v. IsTree text.now (view v)) }
     ensures refused { IfErr result (λ e. HasNoTree text.now e) }

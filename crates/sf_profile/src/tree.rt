@@ -1,11 +1,11 @@
 //! Reading a JSON tree.
 
-ghost use Rattle.std.specs.Prelude.{◌≡◌, map, option_map, Some, is_some, string_bytes};
+ghost use Rattle.std.specs.Prelude.{◌≡◌, map, option_map, Some, string_bytes};
 ghost use Rattle.std.specs.BTreeMap.{keys};
 ghost use Rattle.std.specs.List.{list_any, list_all};
 ghost use Rattle.std.specs.Str.{bytes_eq};
 ghost use Rattle.serde_json.specs.View.{items_view, members_view, view};
-ghost use Rattle.sf_profile.specs.Trees.{absent_or, at, is_object_of, is_list_of, is_text, is_whole_number, items_in, listed, all_keys, present, text_in, text_where, whole_in, whole_where};
+ghost use Rattle.sf_profile.specs.Trees.{at, is_object_of, is_text, items_in, listed, all_keys, maybe_whole, text_at, text_in, texts_among, texts_of, texts_or_none, whole_in, whole_or, whole_where};
 
 use serde_json::{Map, Value};
 
@@ -18,7 +18,8 @@ pub(crate) fn at<'a>(value: &'a Value, key: &str) -> Option<&'a Value>
 }
 
 /// The same items. For the prover: seen as those of an array.
-fn array_items(items: &[Value]) -> &[Value]
+#[tactic(auto, using(crate::proofs::tree::TreeLemmas::listed_view))]
+pub(crate) fn array_items(items: &[Value]) -> &[Value]
     ensures { map view result.now ≡ items_in (items_view items.now) }
 {
     items
@@ -49,14 +50,10 @@ pub(crate) fn text_of(value: &Value) -> &str
     value.as_str().unwrap_or("")
 }
 
-/// The text at a key; the empty text where there is no text.
-pub(crate) fn text_at<'a>(value: &'a Value, key: &str) -> &'a str
-    ensures { result.now ≡ text_where (at key.now (view value.now)) }
+pub(crate) fn text_at<'a>(value: &'a Value, key: &str) -> Option<&'a str>
+    ensures { option_map (λ t. t.now) result ≡ text_at key.now (view value.now) }
 {
-    match at(value, key) {
-        Some(found) => text_of(found),
-        None => "",
-    }
+    at(value, key)?.as_str()
 }
 
 /// The whole number that a value is, if it fits 64 bits with a sign or without. A number that is written with a point
@@ -71,6 +68,26 @@ pub(crate) fn whole_at(value: &Value, key: &str) -> Option<i128>
     ensures { result ≡ whole_where (at key.now (view value.now)) }
 {
     whole_of(at(value, key)?)
+}
+
+/// The whole number at a key, and this one where the key is absent.
+pub(crate) fn whole_or(absent: i128, value: &Value, key: &str) -> Option<i128>
+    ensures { result ≡ whole_or absent (at key.now (view value.now)) }
+{
+    match at(value, key) {
+        Some(found) => whole_of(found),
+        None => Some(absent),
+    }
+}
+
+/// The whole number at a key that may be absent; `None` where another value stands there.
+pub(crate) fn maybe_whole(value: &Value, key: &str) -> Option<Option<i128>>
+    ensures { result ≡ maybe_whole (at key.now (view value.now)) }
+{
+    match at(value, key) {
+        Some(found) => Some(Some(whole_of(found)?)),
+        None => Some(None),
+    }
 }
 
 pub(crate) fn is_among(text: &str, texts: &[&str]) -> bool
@@ -109,56 +126,34 @@ fn are_texts(items: &[Value]) -> bool
     items.iter().all(|value| value.is_string())
 }
 
-fn is_text_list(value: &Value) -> bool
-    ensures { result ≡ is_list_of is_text (view value.now) }
+fn texts_among(items: &[Value]) -> Option<&[Value]>
+    ensures { option_map (λ vs. map text_in (map view vs.now)) result
+        ≡ texts_among (items_view items.now) }
+{
+    if are_texts(items) {
+        Some(array_items(items))
+    } else {
+        None
+    }
+}
+
+/// The texts of an array that has nothing else.
+pub(crate) fn texts_of(value: &Value) -> Option<&[Value]>
+    ensures { option_map (λ vs. map text_in (map view vs.now)) result ≡ texts_of (view value.now) }
 {
     match value {
-        Value::Array(items) => are_texts(items),
-        _ => false,
+        Value::Array(items) => texts_among(items),
+        _ => None,
     }
 }
 
-pub(crate) fn has_texts(value: &Value, key: &str) -> bool
-    ensures { result ≡ present (is_list_of is_text) (at key.now (view value.now)) }
+/// The same at a key, and no texts where the key is absent.
+pub(crate) fn texts_or_none<'a>(value: &'a Value, key: &str) -> Option<&'a [Value]>
+    ensures { option_map (λ vs. map text_in (map view vs.now)) result
+        ≡ texts_or_none (at key.now (view value.now)) }
 {
     match at(value, key) {
-        Some(found) => is_text_list(found),
-        None => false,
-    }
-}
-
-pub(crate) fn has_texts_or_none(value: &Value, key: &str) -> bool
-    ensures { result ≡ absent_or (is_list_of is_text) (at key.now (view value.now)) }
-{
-    match at(value, key) {
-        Some(found) => is_text_list(found),
-        None => true,
-    }
-}
-
-pub(crate) fn has_text(value: &Value, key: &str) -> bool
-    ensures { result ≡ present is_text (at key.now (view value.now)) }
-{
-    match at(value, key) {
-        Some(found) => found.is_string(),
-        None => false,
-    }
-}
-
-pub(crate) fn has_whole(value: &Value, key: &str) -> bool
-    ensures { result ≡ present is_whole_number (at key.now (view value.now)) }
-{
-    match at(value, key) {
-        Some(found) => whole_of(found).is_some(),
-        None => false,
-    }
-}
-
-pub(crate) fn has_whole_or_none(value: &Value, key: &str) -> bool
-    ensures { result ≡ absent_or is_whole_number (at key.now (view value.now)) }
-{
-    match at(value, key) {
-        Some(found) => whole_of(found).is_some(),
-        None => true,
+        Some(found) => texts_of(found),
+        None => Some(&[]),
     }
 }

@@ -1,8 +1,10 @@
 //! What a profile is refused for, and why. The words are for a person: contracts say nothing of them.
 
 ghost use Rattle.std.specs.Prelude.{◌≡◌};
+ghost use Rattle.sf_profile.specs.declared.fault.Fault.TheVariants.{Memory};
 
 use crate::fault::Fault;
+use std::alloc::{AllocError, AllocFailed};
 use std::fmt;
 
 /// What a profile is refused for.
@@ -63,6 +65,33 @@ impl<'a> From<Refusal<'a>> for Fault {
 
     fn from(refusal: Refusal<'a>) -> Fault {
         refusal.fault
+    }
+}
+
+pub(crate) fn without_key<'a>(fault: Fault) -> Refusal<'a>
+    ensures { result.fault ≡ fault }
+{
+    Refusal {
+        fault,
+        key: None,
+        why: None,
+        unknown: None,
+    }
+}
+
+impl<'a> From<AllocError> for Refusal<'a> {
+    ghost from_gives = { λ _ r. r.fault ≡ Memory };
+
+    fn from(_e: AllocError) -> Refusal<'a> {
+        without_key(Fault::Memory)
+    }
+}
+
+impl<'a, T: Drop> From<AllocFailed<T>> for Refusal<'a> {
+    ghost from_gives = { λ _ r. r.fault ≡ Memory };
+
+    fn from(_e: AllocFailed<T>) -> Refusal<'a> {
+        without_key(Fault::Memory)
     }
 }
 

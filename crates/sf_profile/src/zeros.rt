@@ -1,17 +1,16 @@
 //! Calls that a profile answers by ERRNO 0.
 
 ghost use Rattle.std.specs.Prelude.{◌≡◌, ◌⊎◌, ◌++◌, ◌∷◌, [], All, IfErr, IfOk, IfSome, OnOk};
-ghost use Rattle.serde_json.specs.View.{view};
 ghost use Rattle.sf_profile.specs.Cautions.{AnswerZero, AreProgramOf, HaveZeroErrors};
-ghost use Rattle.sf_profile.specs.Filters.{IsRefused};
+ghost use Rattle.sf_profile.specs.Filters.{IsTooLong};
 
 use crate::comparing::{high, low, word_of};
 use crate::fault::Fault;
-use crate::file::filter_of_profile;
+use crate::file::filter_for;
 use crate::plan::plan_of;
-use crate::rules::{Call, CallSet, Comparing, Comparison, Part, Plan, Response, Rule};
+use crate::read::Profile;
+use crate::rules::{Call, CallSet, Comparing, Comparison, Part, Plan, Response};
 use crate::settings::Settings;
-use serde_json::Value;
 use sf_check::{Stack, check};
 use sf_insn::{Input, decode};
 use sf_run::{Action, answer};
@@ -48,19 +47,13 @@ fn is_zero_error(response: Response) -> bool {
 }
 
 /// Adds the words of an input for each call of a rule that answers ERRNO 0.
-fn push_of_rule(inputs: &mut Vec<[u32; 16]>, set: CallSet, rule: &Rule) -> Result<(), AllocError> {
-    if !is_zero_error(rule.response) {
-        return Ok(());
-    }
-    for call in &rule.calls {
-        inputs.push(words_for(set, *call, &rule.comparisons))?;
-    }
-    Ok(())
-}
-
-fn push_of_part(inputs: &mut Vec<[u32; 16]>, part: &Part) -> Result<(), AllocError> {
+fn push_of_rules(inputs: &mut Vec<[u32; 16]>, part: &Part) -> Result<(), AllocError> {
     for rule in &part.rules {
-        push_of_rule(inputs, part.set, rule)?;
+        if is_zero_error(rule.response) {
+            for call in &rule.calls {
+                inputs.push(words_for(part.set, *call, &rule.comparisons))?;
+            }
+        }
     }
     Ok(())
 }
@@ -90,7 +83,7 @@ fn suggestions(
 ) -> Result<Vec<[u32; 16]>, AllocError> {
     let mut inputs = Vec::new(alloc);
     for part in &plan.parts {
-        push_of_part(&mut inputs, part)?;
+        push_of_rules(&mut inputs, part)?;
         if is_zero_error(plan.default) {
             push_of_set(&mut inputs, settings, part.set)?;
         }
@@ -153,19 +146,20 @@ fn stack_of(alloc: Global, bytes: &[u8]) -> Result<Stack, AllocError>
     }
 }
 
-/// Numbers of calls that the profile `value` answers by ERRNO 0, each once: those of the inputs that its plan suggests
-/// and its filter answers so.
-pub(crate) fn zeros_of_profile(
+/// Numbers of calls that the profile answers by ERRNO 0, each once: those of the inputs that its plan suggests and its
+/// filter answers so.
+pub(crate) fn zeros_of(
     alloc: Global,
     settings: &Settings,
-    value: &Value,
+    profile: &Profile<'_>,
 ) -> Result<Vec<u32>, Fault>
-    ensures zeros { IfOk result (λ v. HaveZeroErrors settings.now (view value.now) v.items) }
-    ensures refused { IfErr result (λ e. IsRefused settings.now (view value.now) e) }
+    ensures zeros { IfOk result (λ v. HaveZeroErrors settings.now v.items profile.now) }
+    ensures refused { IfErr result (λ e. (e ≡ Fault.Memory) ⊎ ((e ≡ Fault.TooLong)
+        × IsTooLong settings.now profile.now)) }
 {
-    let filter = filter_of_profile(alloc, settings, value)?;
+    let filter = filter_for(alloc, settings, profile)?;
     let stack = stack_of(alloc, &filter)?;
-    let plan = plan_of(alloc, settings, value)?;
+    let plan = plan_of(alloc, settings, profile)?;
     let inputs = suggestions(alloc, settings, &plan)?;
     let numbers = zeros_among(alloc, &stack, &inputs)?;
     Ok(numbers)

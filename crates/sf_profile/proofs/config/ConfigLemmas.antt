@@ -1,10 +1,6 @@
 -- Keys that are compared letter by letter.
-use Rattle.std.proofs.Common.{◌≡◌, inl, inr, ℕ, ◌+◌, ◌<◌, ◌≤◌, ◌≢◌, Bool, true, false, ◌&&◌, List, [], ◌∷◌, length, get_or, drop, map, refl, sym, ap, ◌∙◌, eqb, eq-eqb, ne_eqb, arith}
-use Rattle.std.specs.Char.{to_ascii_lowercase}
-use Rattle.std.specs.Str.{bytes_eq}
-use Rattle.std.proofs.lemmas.Bool.{cases_lt}
-use Rattle.std.proofs.lemmas.List.{drop_more, drop_all}
-use Rattle.sf_profile.specs.Configs.{folded}
+use Rattle.sf_profile.proofs.Common.{common_steps, ◌≡◌, ℕ, ◌+◌, ◌<◌, ◌≤◌, Bool, true, false, List, [], ◌∷◌, length, get_or, drop, map, refl, sym, ap, ◌∙◌, eqb, eq-eqb, arith, to_ascii_lowercase, bytes_eq, cases_lt, drop_more, drop_all, folded}
+use Rattle.std.proofs.Common.{◌&&◌, ne_eqb}
 
 -- characters and bytes differ at most in case
 abbrev pub are_letters : List ℕ → List ℕ → Bool
@@ -66,15 +62,4 @@ letter_over letters rest bytes cs c i begins held over =
 pub letters_end : (letters rest bytes : List ℕ) (i : ℕ) → rest ≡ [] → AreSameSoFar letters rest bytes i
     → i ≤ length bytes → eqb i (length bytes) ≡ are_letters letters bytes
 letters_end letters rest bytes i none held within =
-    let step : are_letters rest (drop i bytes) ≡ are_letters [] (drop i bytes) =
-    ap (λ ls. are_letters ls (drop i bytes)) none in
-    let last : eqb i (length bytes) ≡ are_letters [] (drop i bytes) =
-    elim (cases_lt i (length bytes)) [
-      | inl less ↦
-          let apart : i ≢ length bytes = omega arith in
-          ne_eqb i (length bytes) apart ∙ sym (ap (are_letters []) (drop_more bytes i 0 less))
-      | inr over ↦
-          let equal : i ≡ length bytes = omega arith in
-          eq-eqb i (length bytes) equal ∙ sym (ap (are_letters []) (drop_all i bytes over))
-    ] in
-    last ∙ sym step ∙ held
+    grind (arith, common_steps, drop, eqb, eq-eqb, cases_lt, drop_more, drop_all, ne_eqb, are_letters)

@@ -1,24 +1,18 @@
 -- What is true of the profile in a file.
-use Rattle.std.proofs.Common.{◌≡◌, inr, List, ℕ, Some, Result, Ok, Err}
-use Rattle.std.specs.Prelude.{IfOk, IfErr}
-use Rattle.serde_json.specs.Data.{Data}
-use Rattle.sf_profile.specs.declared.fault.Fault.{Fault}
-use Rattle.sf_profile.specs.declared.settings.Settings.{Settings}
-use Rattle.sf_profile.specs.Configs.{profile_in}
-use Rattle.sf_profile.specs.Filters.{IsInText, IsRefused, IsRefusedText, IsTree}
+use Rattle.sf_profile.proofs.Common.{◌≡◌, ◌⊎◌, inl, inr, List, ℕ, Ok, Err, Data, Fault, Settings, ProfileData, IsInText, IsRefusedText, IsTooLong, IsTree, read_file}
+use Rattle.sf_profile.specs.declared.fault.Fault.TheVariants as faults
 
--- a result for the profile is one for the file
-pub text_holds : {V : Type 0} (r : Result V Fault) (is_true : V → Data → Type 0) (text : List ℕ) (file profile : Data)
-    → IsTree text file → profile_in file ≡ Some profile → IfOk r (λ v. is_true v profile)
-    → IfOk r (λ v. IsInText (is_true v) text)
-text_holds (Ok v) is_true text file profile tree there h =
-    record { file = file; is_tree = tree; holds = record { profile = profile; is_there = there; holds = h } }
-text_holds (Err fault) is_true text file profile tree there h = tt
+pub in_text : (s : Settings) (is_true : ProfileData → Type 0) (text : List ℕ) (file : Data) (profile : ProfileData)
+    → IsTree text file → read_file s file ≡ Ok profile → is_true profile → IsInText s is_true text
+in_text s is_true text file profile tree is h = record { file = file; is_tree = tree; holds = rw is h }
 
--- and so is a refusal
-pub text_refused : {V : Type 0} (r : Result V Fault) (s : Settings) (text : List ℕ) (file profile : Data)
-    → IsTree text file → profile_in file ≡ Some profile → IfErr r (λ e. IsRefused s profile e)
-    → IfErr r (λ e. IsRefusedText s text e)
-text_refused (Ok v) s text file profile tree there h = tt
-text_refused (Err fault) s text file profile tree there h =
-    inr (file, tree, inr (record { profile = profile; is_there = there; holds = h }))
+pub refused_text : (s : Settings) (text : List ℕ) (file : Data) (fault : Fault) → IsTree text file
+    → (fault ≡ faults.Memory) ⊎ (read_file s file ≡ Err fault) → IsRefusedText s text fault
+refused_text s text file fault tree (inl memory) = inr (file, tree, inl memory)
+refused_text s text file fault tree (inr first) = inr (file, tree, inr (inl first))
+
+pub long_text : (s : Settings) (text : List ℕ) (file : Data) (profile : ProfileData) (fault : Fault) → IsTree text file
+    → read_file s file ≡ Ok profile
+    → (fault ≡ faults.Memory) ⊎ ((fault ≡ faults.TooLong) × IsTooLong s profile) → IsRefusedText s text fault
+long_text s text file profile fault tree is (inl memory) = inr (file, tree, inl memory)
+long_text s text file profile fault tree is (inr long) = inr (file, tree, inr (inr (long.0, rw is long.1)))

@@ -1,32 +1,10 @@
 -- Laws of what a profile means.
-use Rattle.std.proofs.Common.{◌≡◌, ◌<◌, ◌≤◌, List, [], ◌∷◌, Bool, true, false, Option, Some, None, refl, ap, ◌∙◌, sym, arith, ◌⊎◌, inl, inr, lt-ltb, le-ltb}
-use Rattle.std.specs.Prelude.{All, if◌then◌else◌, ◌&&◌, nat_lt, filter}
-use Rattle.std.proofs.lemmas.Bool.{cases_lt}
-use Rattle.std.proofs.lemmas.List.Elements.{All-head, All-tail}
-use Rattle.std.proofs.lemmas.Option.{same_Some}
-use Rattle.serde_json.specs.Data.{Data}
-use Rattle.sf_insn.specs.declared.input.Input.{Input}
-use Rattle.sf_run.specs.Answers.{action_number, rank}
-use Rattle.sf_profile.specs.declared.rules.Reading.{Reading}
-use Rattle.sf_profile.specs.declared.rules.Reading.TheVariants.{Strictest, Mildest}
-use Rattle.sf_profile.specs.declared.rules.Response.{Response}
-use Rattle.sf_profile.specs.declared.rules.Response.TheVariants.{KillProcess, KillThread, Trap, Errno, Notify, Tracer, Log, Allow}
-use Rattle.sf_profile.specs.declared.settings.Settings.{Settings}
-use Rattle.sf_profile.specs.Data.{RuleData, SetRulesData, PlanData}
-use Rattle.sf_profile.specs.Plans.{applies}
-use Rattle.sf_profile.specs.Meaning.{answer_of_response, number_in, is_wide, says, response_of, refuses_newer, is_newer, response_in, order, preferred, pick, strictness}
+use Rattle.sf_profile.proofs.Common.{common_steps, ◌≡◌, ◌<◌, ◌≤◌, List, [], ◌∷◌, false, Option, Some, None, refl, ap, ◌∙◌, arith, ◌⊎◌, inl, inr, lt-ltb, le-ltb, All, cases_lt, All-head, All-tail, same_Some, Data, Input, action_number, rank, Reading, Strictest, Mildest, Response, Settings, RuleData, SetRulesData, PlanData, is_excluded, is_included, answer_of_response, number_in, is_newer, response_in, order, preferred, pick, strictness}
 use Rattle.sf_profile.proofs.PickLemmas.{strictness_small}
 
 pub only_newer : (plan : PlanData) (d : Input) (part : SetRulesData) → is_newer (number_in d) part.rules ≡ false
     → response_in plan d part ≡ response_in (record plan { newer = false }) d part
-only_newer plan d part none = rw none (by (plan.newer && refuses_newer plan.default))
-  where
-    rest : Response
-    rest = response_of plan.default (pick plan.reading (filter (says (is_wide part.set) d) part.rules))
-
-    by : (b : Bool) → (if b && false then Errno 38 else rest) ≡ rest
-    by true = refl
-    by false = refl
+only_newer plan d part none = grind (arith, common_steps)
 
 -- ---- what is picked is among the rules, and no rule is before it
 
@@ -37,25 +15,11 @@ IsAmong q (rule ∷ rules) = (q ≡ rule) ⊎ IsAmong q rules
 
 chosen : (reading : Reading) (rule : RuleData) (later : Option RuleData) → (preferred reading rule later ≡ rule)
     ⊎ (later ≡ Some (preferred reading rule later))
-chosen reading rule None = inl refl
-chosen reading rule (Some q) = by (nat_lt (order reading q) (order reading rule))
-  where
-    by : (b : Bool) → ((if b then q else rule) ≡ rule) ⊎ (Some q ≡ Some (if b then q else rule))
-    by true = inr refl
-    by false = inl refl
+chosen reading rule later = grind arith
 
 among : (reading : Reading) (rules : List RuleData) (q : RuleData) → pick reading rules ≡ Some q → IsAmong q rules
 among reading [] q e = absurd cc
-among reading (rule ∷ rules) q e =
-    by (λ p h. among reading rules p h) (chosen reading rule (pick reading rules))
-    (same_Some (preferred reading rule (pick reading rules)) q e)
-  where
-    by : ((p : RuleData) → pick reading rules ≡ Some p → IsAmong p rules)
-        → (preferred reading rule (pick reading rules) ≡ rule)
-        ⊎ (pick reading rules ≡ Some (preferred reading rule (pick reading rules)))
-        → preferred reading rule (pick reading rules) ≡ q → IsAmong q (rule ∷ rules)
-    by later (inl own) same = inl (sym same ∙ own)
-    by later (inr other) same = inr (later q (other ∙ ap Some same))
+among reading (rule ∷ rules) q e = grind (arith, common_steps, among reading rules)
 
 -- what is preferred isn't after the rule, nor after the later one
 not_after : (reading : Reading) (rule : RuleData) (later : Option RuleData)
@@ -127,31 +91,13 @@ agreed reading rules response a all e = has_the_response rules response a all (a
 -- ---- rules apply by their words
 
 -- the settings with other calls, and others that no rule's words speak of
-pub applied_by_words : (s t : Settings) (rule : Data) → s.machine ≡ t.machine → s.caps ≡ t.caps → s.kernel ≡ t.kernel
-    → applies s rule ≡ applies t rule
-applied_by_words s t rule machine caps kernel = rw (machine, caps, kernel) refl
+pub applied_by_words : (s t : Settings) (d : Option Data) → s.machine ≡ t.machine → s.caps ≡ t.caps
+    → s.kernel ≡ t.kernel
+    → (is_included s d ≡ is_included t d) × (is_excluded s d ≡ is_excluded t d)
+applied_by_words s t d machine caps kernel = rw (machine, caps, kernel) (refl, refl)
 
 -- ---- the order of actions
 
--- the rank of each action, by the place of a response
-abbrev IsRanked : Response → Type 0
-IsRanked r =
-    let n = rank (action_number (answer_of_response r).action) in
-    ((strictness r ≡ 0) × (n ≡ 0)) ⊎ ((strictness r ≡ 1) × (n ≡ 0x80000000))
-    ⊎ ((strictness r ≡ 2) × (n ≡ 0x80030000)) ⊎ ((strictness r ≡ 3) × (n ≡ 0x80050000))
-    ⊎ ((strictness r ≡ 4) × (n ≡ 0xffc00000)) ⊎ ((strictness r ≡ 5) × (n ≡ 0xfff00000))
-    ⊎ ((strictness r ≡ 6) × (n ≡ 0xfffc0000)) ⊎ ((strictness r ≡ 7) × (n ≡ 0xffff0000))
-
-ranked : (r : Response) → IsRanked r
-ranked KillProcess = inl (refl, refl)
-ranked KillThread = inr (inl (refl, refl))
-ranked Trap = inr (inr (inl (refl, refl)))
-ranked (Errno number) = inr (inr (inr (inl (refl, refl))))
-ranked Notify = inr (inr (inr (inr (inl (refl, refl)))))
-ranked (Tracer number) = inr (inr (inr (inr (inr (inl (refl, refl))))))
-ranked Log = inr (inr (inr (inr (inr (inr (inl (refl, refl)))))))
-ranked Allow = inr (inr (inr (inr (inr (inr (inr (refl, refl)))))))
-
 pub before_by_rank : (a b : Response) → strictness a < strictness b
     → rank (action_number (answer_of_response a).action) < rank (action_number (answer_of_response b).action)
-before_by_rank a b h = grind (arith, h, ranked a, ranked b)
+before_by_rank a b h = grind arith

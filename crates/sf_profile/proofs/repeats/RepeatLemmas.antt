@@ -1,18 +1,9 @@
 -- Parts of a value that was read can be written and read back.
-use Rattle.std.proofs.Common.{◌≡◌, inl, inr, ℕ, ◌+◌, ◌<◌, ◌≤◌, Bool, true, false, cond, List, length, get_or, drop, Option, Some, None, option_and_then, codes, Global, sym, ap, ◌∙◌, subst, arith}
-use Rattle.std.specs.Prelude.{IfOk, IfSome, IsSomeAnd, Result, if◌then◌else◌}
-use Rattle.std.specs.Bool.{MatchBool}
-use Rattle.std.specs.Str.{bytes_eq}
-use Rattle.std.proofs.lemmas.List.{drop_more}
-use Rattle.json.specs.Json.{Json, null, boolean, number, string, array, object, Items, item, Members, no_members, member, document}
-use Rattle.json.specs.Find.{get, get_member, is_null, later_or}
-use Rattle.json.specs.Strict.{HasUniqueKeys}
-use Rattle.json.specs.Tree.{depth, members_depth, HasNumbers, MembersHaveNumbers}
-use Rattle.json.specs.Value.{value_view, items_view}
+use Rattle.sf_profile.proofs.Common.{◌≡◌, inl, inr, ℕ, ◌+◌, ◌<◌, ◌≤◌, Bool, true, false, cond, List, length, get_or, drop, Option, Some, None, codes, Global, sym, ap, ◌∙◌, subst, arith, IfOk, IfSome, IsSomeAnd, if◌then◌else◌, MatchBool, bytes_eq, drop_more, Json, Items, item, Members, no_members, member, document, get, get_member, later_or, HasUniqueKeys, depth, members_depth, HasNumbers, MembersHaveNumbers, value_view, items_view, Fault, unless_null, last_at, profile_below, items_where, last_rules, IsReadBack, AreReadBack, IsFaultOfRepeat}
+use Rattle.std.proofs.Common.{option_and_then}
+use Rattle.std.specs.Prelude.{Result}
 use Rattle.json.specs.declared.value.Value.{Value}
-use Rattle.sf_profile.specs.declared.fault.Fault.{Fault}
 use Rattle.sf_profile.specs.declared.fault.Fault.TheVariants as faults
-use Rattle.sf_profile.specs.Repeats.{unless_null, last_at, profile_below, items_where, last_rules, IsReadBack, AreReadBack, IsFaultOfRepeat}
 
 later : (a b : Option Json) → IfSome a IsReadBack → IfSome b IsReadBack → IfSome (later_or a b) IsReadBack
 later None b x y = y
@@ -30,41 +21,27 @@ of_members name (member k j ms) n d =
     (one (bytes_eq k name) j (n.0, omega arith))
 
 of_object : (name : List ℕ) (j : Json) → IsReadBack j → IfSome (get name j) IsReadBack
-of_object name null h = tt
-of_object name (boolean b) h = tt
-of_object name (number s) h = tt
-of_object name (string s) h = tt
-of_object name (array js) h = tt
-of_object name (object ms) h = of_members name ms h.0 (omega arith)
+of_object name j h = grind (arith, of_members)
 
 unless : (b : Bool) (j : Json) → IsReadBack j → IfSome (if b then None else Some j) IsReadBack
 unless true j h = tt
 unless false j h = h
 
 of_unless_null : (o : Option Json) → IfSome o IsReadBack → IfSome (unless_null o) IsReadBack
-of_unless_null None h = tt
-of_unless_null (Some j) h = unless (is_null j) j h
+of_unless_null o h = grind arith
 
 of_last : (key : List ℕ) (j : Json) → IsReadBack j → IfSome (last_at key j) IsReadBack
 of_last key j h = of_unless_null (get key j) (of_object key j h)
 
 of_profile : (o : Option Json) (whole : Json) → IfSome o IsReadBack → IsReadBack whole
     → IfSome (profile_below o whole) IsReadBack
-of_profile None whole h w = w
-of_profile (Some linux) whole h w = of_last (codes "seccomp") linux h
+of_profile o whole h w = grind (arith, of_last)
 
 of_rules : (o : Option Json) → IfSome o IsReadBack → IfSome (option_and_then (last_at (codes "syscalls")) o) IsReadBack
-of_rules None h = tt
-of_rules (Some j) h = of_last (codes "syscalls") j h
+of_rules o h = grind (arith, of_last)
 
 of_items : (o : Option Json) → IfSome o IsReadBack → AreReadBack (items_where o)
-of_items None h = (tt, omega arith)
-of_items (Some null) h = (tt, omega arith)
-of_items (Some (boolean b)) h = (tt, omega arith)
-of_items (Some (number s)) h = (tt, omega arith)
-of_items (Some (string s)) h = (tt, omega arith)
-of_items (Some (array js)) h = (h.0, omega arith)
-of_items (Some (object ms)) h = (tt, omega arith)
+of_items o h = grind arith
 
 -- the rules of a value that was read
 pub rules_read_back : (whole : Json) → HasNumbers whole → depth whole ≤ 128 → AreReadBack (last_rules whole)

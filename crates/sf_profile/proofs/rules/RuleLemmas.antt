@@ -1,17 +1,6 @@
 -- What the rules of a written filter return.
-use Rattle.std.proofs.Common.{◌≡◌, ℕ, ◌+◌, List, [], ◌∷◌, ◌++◌, append_assoc, Bool, true, false, length, Option, Some, None, refl, ap, ◌∙◌, sym, arith}
-use Rattle.std.specs.Prelude.{if◌then◌else◌, ◌==◌, ◌&&◌, ◌||◌, filter, slice_index}
-use Rattle.std.specs.List.{list_all, list_any, flat_map}
-use Rattle.sf_insn.specs.declared.input.Input.{Input}
-use Rattle.sf_insn.specs.Inputs.{IsInput}
+use Rattle.sf_profile.proofs.Common.{◌≡◌, ℕ, ◌+◌, List, [], ◌∷◌, ◌++◌, append_assoc, Bool, true, false, length, Option, Some, None, refl, ap, ◌∙◌, sym, arith, if◌then◌else◌, ◌==◌, ◌&&◌, ◌||◌, filter, slice_index, list_all, list_any, flat_map, Input, IsInput, Call, Reading, Instruction, Load, Branch, Return, RuleData, number_in, is_operation, is_call, holds, says, order, comparisons_code, return_code, direct_code, through_code, operation_code, call_code, rule_code, rule_at, round_code, returned_value_of, common_steps, nat_tests}
 use Rattle.sf_insn.specs.declared.ops.Test.TheVariants as tests
-use Rattle.sf_profile.specs.declared.rules.Call.{Call}
-use Rattle.sf_profile.specs.declared.rules.Reading.{Reading}
-use Rattle.sf_profile.specs.declared.instruction.Instruction.{Instruction}
-use Rattle.sf_profile.specs.declared.instruction.Instruction.TheVariants.{Load, Branch, Return}
-use Rattle.sf_profile.specs.Data.{RuleData}
-use Rattle.sf_profile.specs.Meaning.{number_in, is_operation, is_call, holds, says, order}
-use Rattle.sf_profile.specs.Form.{comparisons_code, return_code, direct_code, through_code, operation_code, call_code, rule_code, rule_at, round_code, returned_value_of}
 use Rattle.sf_profile.proofs.Returns.{returned, skip_more}
 use Rattle.sf_profile.proofs.ComparisonLemmas.{Goes, choose, comparisons_go}
 
@@ -90,10 +79,7 @@ call_goes code d asked v number (Some operation) more h = through_goes code d as
 
 either : (b c asked : Bool) (r s : Option ℕ) → choose (b && asked) r (choose (c && asked) r s)
     ≡ choose ((b || c) && asked) r s
-either true c true r s = refl
-either true true false r s = refl
-either true false false r s = refl
-either false c asked r s = refl
+either b c asked r s = grind arith
 
 calls_go : (code : List Instruction) (d : Input) (asked : Bool) (v : ℕ) (calls : List Call) (more : List Instruction)
     → Asks code d asked → returned (flat_map (call_code code v) calls ++ more) d 0 (number_in d)
@@ -126,6 +112,14 @@ abbrev pub first_at : Reading → ℕ → List RuleData → Option RuleData
 first_at reading place [] = None
 first_at reading place (rule ∷ rules) = if order reading rule == place then Some rule else first_at reading place rules
 
+pass_step : (reading : Reading) (wide : Bool) (d : Input) (place : ℕ) (rule : RuleData) (rules : List RuleData)
+    (others more : List Instruction) → IsInput d
+    → returned (others ++ more) d 0 (number_in d)
+    ≡ after_rule (first_at reading place (filter (says wide d) rules)) (returned more d 0 (number_in d))
+    → returned (rule_at reading wide place rule ++ (others ++ more)) d 0 (number_in d)
+    ≡ after_rule (first_at reading place (filter (says wide d) (rule ∷ rules))) (returned more d 0 (number_in d))
+pass_step reading wide d place rule rules others more input h = grind (arith, common_steps, nat_tests, rule_goes)
+
 pass_goes : (reading : Reading) (wide : Bool) (d : Input) (place : ℕ) (rules : List RuleData) (more : List Instruction)
     → IsInput d → returned (round_code reading wide rules place ++ more) d 0 (number_in d)
     ≡ after_rule (first_at reading place (filter (says wide d) rules)) (returned more d 0 (number_in d))
@@ -133,39 +127,7 @@ pass_goes reading wide d place [] more input = refl
 pass_goes reading wide d place (rule ∷ rules) more input =
     let others = round_code reading wide rules place in
     ap (λ l. returned l d 0 (number_in d)) (append_assoc (rule_at reading wide place rule) others more)
-    ∙ at (pass_goes reading wide d place rules more input) (order reading rule == place) refl
-  where
-    next : Option ℕ
-    next = returned more d 0 (number_in d)
-
-    said : (b : Bool) → (order reading rule == place) ≡ true
-        → choose b (Some (returned_value_of rule.response))
-        (after_rule (first_at reading place (filter (says wide d) rules)) next)
-        ≡ after_rule (first_at reading place (if b then rule ∷ filter (says wide d) rules
-        else filter (says wide d) rules))
-        next
-    said true e = rw e refl
-    said false e = refl
-
-    other : (b : Bool) → (order reading rule == place) ≡ false
-        → after_rule (first_at reading place (filter (says wide d) rules)) next
-        ≡ after_rule (first_at reading place (if b then rule ∷ filter (says wide d) rules
-        else filter (says wide d) rules))
-        next
-    other true e = rw e refl
-    other false e = refl
-
-    at : returned (round_code reading wide rules place ++ more) d 0 (number_in d)
-        ≡ after_rule (first_at reading place (filter (says wide d) rules)) next
-        → (b : Bool) → (order reading rule == place) ≡ b
-        → returned ((if b then rule_code wide rule else []) ++ (round_code reading wide rules place ++ more)) d 0
-        (number_in d)
-        ≡ after_rule (first_at reading place (filter (says wide d) (rule ∷ rules))) next
-    at rest true e =
-        rule_goes wide d rule (round_code reading wide rules place ++ more) input
-        ∙ ap (choose (says wide d rule) (Some (returned_value_of rule.response))) rest
-        ∙ said (says wide d rule) e
-    at rest false e = rest ∙ other (says wide d rule) e
+    ∙ pass_step reading wide d place rule rules others more input (pass_goes reading wide d place rules more input)
 
 -- a rule, or else another one
 abbrev pub or_next : Option RuleData → Option RuleData → Option RuleData
@@ -178,8 +140,7 @@ first_in reading [] rules = None
 first_in reading (place ∷ places) rules = or_next (first_at reading place rules) (first_in reading places rules)
 
 after_either : (a b : Option RuleData) (s : Option ℕ) → after_rule a (after_rule b s) ≡ after_rule (or_next a b) s
-after_either None b s = refl
-after_either (Some rule) b s = refl
+after_either a b s = grind arith
 
 pub passes_go : (reading : Reading) (wide : Bool) (d : Input) (rules : List RuleData) (places : List ℕ)
     (more : List Instruction) → IsInput d

@@ -1,15 +1,6 @@
 -- Why there is no tree of a text.
-use Rattle.std.proofs.Common.{◌≡◌, ◌⊎◌, inl, inr, ℕ, List, Some, None}
-use Rattle.std.specs.Prelude.{IsSomeAnd}
-use Rattle.std.specs.Str.{IsUtf8}
-use Rattle.json.specs.Json.{document}
-use Rattle.json.specs.Strict.{HasUniqueKeys}
-use Rattle.serde_json.specs.Data.{Data}
-use Rattle.serde_json.specs.Read.{read}
-use Rattle.sf_profile.specs.declared.fault.Fault.{Fault}
+use Rattle.sf_profile.proofs.Common.{◌≡◌, ◌⊎◌, inl, inr, ℕ, List, Some, None, IsSomeAnd, IsUtf8, document, HasUniqueKeys, Data, read, Fault, last_rules, IsFaultOfRepeat, HasNoTree}
 use Rattle.sf_profile.specs.declared.fault.Fault.TheVariants as faults
-use Rattle.sf_profile.specs.Repeats.{last_rules, IsFaultOfRepeat}
-use Rattle.sf_profile.specs.Filters.{HasNoTree}
 
 -- the text was not read
 pub none_read : (text : List ℕ) (fault : Fault)

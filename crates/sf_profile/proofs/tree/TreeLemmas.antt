@@ -1,14 +1,7 @@
 -- The definitions over trees, at the lists that the code goes through.
-use Rattle.std.proofs.Common.{◌≡◌, ℕ, ◌+◌, ◌<◌, Bool, List, [], ◌∷◌, ◌&&◌, ◌||◌, length, get_or, drop, map, refl, sym, ap, ◌∙◌, String, string_bytes, Global, Bor}
-use Rattle.std.specs.List.{list_any, list_all}
-use Rattle.std.proofs.lemmas.List.{drop_more}
-use Rattle.std.proofs.lemmas.List.Folds.{list_all-map}
-use Rattle.std.specs.Map.{keys_of}
-use Rattle.std.specs.Str.{bytes_eq}
-use Rattle.serde_json.specs.Data.{Data}
-use Rattle.serde_json.specs.View.{view, items_view, members_view}
-use Rattle.serde_json.specs.declared.value.Value.{Value}
-use Rattle.sf_profile.specs.Trees.{items_in, all_keys, text_in}
+use Rattle.sf_profile.proofs.Common.{◌≡◌, ℕ, ◌+◌, ◌<◌, Bool, List, [], ◌∷◌, length, get_or, drop, map, refl, sym, ap, ◌∙◌, String, string_bytes, Global, Bor, list_any, list_all, drop_more, list_all-map, keys_of, bytes_eq, Data, view, members_view, Value, items_in, all_keys, text_in}
+use Rattle.std.proofs.Common.{◌&&◌, ◌||◌}
+use Rattle.serde_json.specs.View.{items_view}
 
 pub any_map : {A B : Type 0} (f : A → B) (test : B → Bool) (xs : List A)
     → list_any test (map f xs) ≡ list_any (λ x. test (f x)) xs
@@ -34,10 +27,10 @@ pub listed_view : (vs : List Value) → items_in (items_view vs) ≡ map view vs
 listed_view [] = refl
 listed_view (v ∷ vs) = ap (λ ds. view v ∷ ds) (listed_view vs)
 
--- one value more
-pub all_more : (test : Data → Bool) (vs : List Value) (i : ℕ) (v : Value) → i < length vs
-    → list_all test (map view (drop i vs))
-    ≡ (test (view (get_or vs i v)) && list_all test (map view (drop (i + 1) vs)))
+-- one text more
+pub all_more : (test : List ℕ → Bool) (vs : List Value) (i : ℕ) (v : Value) → i < length vs
+    → list_all test (map text_in (map view (drop i vs)))
+    ≡ (test (text_in (view (get_or vs i v))) && list_all test (map text_in (map view (drop (i + 1) vs))))
 all_more test vs i v h = rw (drop_more vs i v h) refl
 
 -- ---- what holds of items, said of what they are seen as

@@ -1,9 +1,4 @@
-use Rattle.std.proofs.Common.{rules, tests}
-use Rattle.std.proofs.lemmas.Iterator.{YieldsList-from_slice}
-use Rattle.std.proofs.lemmas.Iterator.Search.{any_from_yields_List}
-use Rattle.serde_json.specs.View.{view}
-use Rattle.sf_profile.specs.Settings.{has_cap}
-use Rattle.sf_profile.specs.Trees.{text_in}
+use Rattle.sf_profile.proofs.Common.{rules, tests, YieldsList-from_slice, any_from_yields_List, view, has_cap, text_in}
 use Rattle.sf_profile.proofs.tree.TreeLemmas.{any_text}
 use Rattle.sf_profile.proofs.applying.has_a_cap.Goals as goal
 

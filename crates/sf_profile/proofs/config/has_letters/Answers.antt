@@ -1,8 +1,4 @@
-use Rattle.std.proofs.Common.{sym, ◌∙◌, arith}
-use Rattle.std.specs.Str.{chars}
-use Rattle.std.proofs.lemmas.List.{length_push}
-use Rattle.std.proofs.lemmas.Iterator.{YieldsList-from_chars}
-use Rattle.std.proofs.lemmas.Iterator.Consumers.{YieldsList-turn, YieldsList-end}
+use Rattle.sf_profile.proofs.Common.{sym, ◌∙◌, arith, chars, length_push, YieldsList-from_chars, YieldsList-turn, YieldsList-end}
 use Rattle.sf_profile.proofs.config.ConfigLemmas.{begins, ended, letter_differs, letter_same, letter_over, letters_end}
 use Rattle.sf_profile.proofs.config.has_letters.Goals as goal
 

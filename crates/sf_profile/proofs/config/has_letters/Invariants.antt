@@ -1,5 +1,4 @@
-use Rattle.std.proofs.Common.{◌≡◌, ◌≤◌, length, drop}
-use Rattle.std.specs.Str.{chars}
+use Rattle.sf_profile.proofs.Common.{◌≡◌, ◌≤◌, length, drop, chars}
 use Rattle.sf_profile.proofs.config.ConfigLemmas.{AreSameSoFar}
 use Rattle.sf_profile.proofs.config.has_letters.Given as goal
 

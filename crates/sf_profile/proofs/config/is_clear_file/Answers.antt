@@ -1,7 +1,4 @@
-use Rattle.std.proofs.Common.{ℕ, List, Bor, map, codes, ap, ◌∙◌}
-use Rattle.serde_json.specs.View.{view}
-use Rattle.sf_profile.specs.Configs.{is_clear}
-use Rattle.sf_profile.specs.Trees.{is_object_with}
+use Rattle.sf_profile.proofs.Common.{ℕ, List, Bor, map, codes, ap, ◌∙◌, view, is_clear, is_object_with}
 use Rattle.sf_profile.proofs.config.is_clear_file.Goals as goal
 
 pub returns : goal.returns

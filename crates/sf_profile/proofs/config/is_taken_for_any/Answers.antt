@@ -1,7 +1,4 @@
-use Rattle.std.proofs.Common.{List, ℕ, Bor, ◌∙◌, sym, rules, tests}
-use Rattle.std.proofs.lemmas.Iterator.{YieldsList-from_slice}
-use Rattle.std.proofs.lemmas.Iterator.Search.{any_from_yields_List}
-use Rattle.sf_profile.specs.Configs.{is_taken_for}
+use Rattle.sf_profile.proofs.Common.{List, ℕ, Bor, ◌∙◌, sym, rules, tests, YieldsList-from_slice, any_from_yields_List, is_taken_for}
 use Rattle.sf_profile.proofs.tree.TreeLemmas.{any_map}
 use Rattle.sf_profile.proofs.config.is_taken_for_any.Goals as goal
 

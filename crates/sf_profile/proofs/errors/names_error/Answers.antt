@@ -1,8 +1,5 @@
-use Rattle.std.proofs.Common.{ℕ, List, Bor, ◌&&◌, ap, ◌∙◌}
-use Rattle.std.specs.Prelude.{◌==◌}
-use Rattle.std.specs.List.{list_any}
-use Rattle.std.specs.Str.{bytes_eq}
-use Rattle.sf_profile.specs.Errors.{error_names}
+use Rattle.sf_profile.proofs.Common.{ℕ, List, Bor, ap, ◌∙◌, ◌==◌, list_any, bytes_eq, error_names}
+use Rattle.std.proofs.Common.{◌&&◌}
 use Rattle.sf_profile.proofs.errors.names_error.Goals as goal
 
 pub returns : goal.returns

@@ -1,5 +1,4 @@
-use Rattle.std.proofs.Common.{◌≡◌, take}
-use Rattle.sf_profile.specs.Form.{above_calls}
+use Rattle.sf_profile.proofs.Common.{◌≡◌, take, above_calls}
 use Rattle.sf_profile.proofs.form.above_calls.Given as goal
 
 abbrev pub invariant-loop-call : goal.invariant-loop-call

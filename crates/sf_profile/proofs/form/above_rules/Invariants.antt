@@ -1,5 +1,4 @@
-use Rattle.std.proofs.Common.{◌≡◌, take}
-use Rattle.sf_profile.specs.Form.{above_rules}
+use Rattle.sf_profile.proofs.Common.{◌≡◌, take, above_rules}
 use Rattle.sf_profile.proofs.form.above_rules.Given as goal
 
 abbrev pub invariant-loop-rule : goal.invariant-loop-rule

@@ -1,6 +1,4 @@
-use Rattle.std.proofs.Common.{◌≡◌, take}
-use Rattle.std.specs.List.{flat_map}
-use Rattle.sf_profile.specs.Form.{part_code}
+use Rattle.sf_profile.proofs.Common.{◌≡◌, take, flat_map, part_code}
 use Rattle.sf_profile.proofs.form.filter_code.Given as goal
 
 abbrev pub invariant-loop-part : goal.invariant-loop-part

@@ -1,6 +1,4 @@
-use Rattle.std.proofs.Common.{◌≡◌, ◌++◌, take}
-use Rattle.std.specs.List.{flat_map}
-use Rattle.sf_profile.specs.Form.{call_code}
+use Rattle.sf_profile.proofs.Common.{◌≡◌, ◌++◌, take, flat_map, call_code}
 use Rattle.sf_profile.proofs.form.push_calls.Given as goal
 
 abbrev pub invariant-loop-call : goal.invariant-loop-call

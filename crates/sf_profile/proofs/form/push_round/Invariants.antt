@@ -1,6 +1,4 @@
-use Rattle.std.proofs.Common.{◌≡◌, ◌++◌, take}
-use Rattle.std.specs.List.{flat_map}
-use Rattle.sf_profile.specs.Form.{rule_at}
+use Rattle.sf_profile.proofs.Common.{◌≡◌, ◌++◌, take, flat_map, rule_at}
 use Rattle.sf_profile.proofs.form.push_round.Given as goal
 
 abbrev pub invariant-loop-rule : goal.invariant-loop-rule

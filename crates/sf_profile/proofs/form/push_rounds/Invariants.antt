@@ -1,6 +1,4 @@
-use Rattle.std.proofs.Common.{◌≡◌, ◌++◌, take}
-use Rattle.std.specs.List.{flat_map}
-use Rattle.sf_profile.specs.Form.{round_code, places}
+use Rattle.sf_profile.proofs.Common.{◌≡◌, ◌++◌, take, flat_map, round_code, places}
 use Rattle.sf_profile.proofs.form.push_rounds.Given as goal
 
 abbrev pub invariant-loop-place : goal.invariant-loop-place

@@ -1,6 +1,4 @@
-use Rattle.std.proofs.Common.{◌≡◌, true, map, take}
-use Rattle.std.specs.List.{list_all}
-use Rattle.sf_profile.specs.Form.{is_short, raw_of}
+use Rattle.sf_profile.proofs.Common.{◌≡◌, true, map, take, list_all, is_short, raw_of}
 use Rattle.sf_profile.proofs.instruction.raws_of.Given as goal
 
 abbrev pub invariant-loop-instruction : goal.invariant-loop-instruction

@@ -1,6 +1,4 @@
-use Rattle.std.proofs.Common.{ℕ, List, Bor, map, ap, ◌∙◌}
-use Rattle.serde_json.specs.View.{view}
-use Rattle.sf_profile.specs.Trees.{is_object_of}
+use Rattle.sf_profile.proofs.Common.{ℕ, List, Bor, map, ap, ◌∙◌, view, is_object_of}
 use Rattle.sf_profile.proofs.keys.has_profile_keys.Goals as goal
 
 pub returns : goal.returns

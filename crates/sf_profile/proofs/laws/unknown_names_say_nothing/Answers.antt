@@ -1,4 +1,4 @@
-use Rattle.std.proofs.Common.{refl}
+use Rattle.sf_profile.proofs.Common.{refl}
 use Rattle.sf_profile.proofs.laws.unknown_names_say_nothing.Goals as goal
 
 pub returns : goal.returns

@@ -1,5 +1,4 @@
-use Rattle.std.proofs.Common.{◌≡◌, drop}
-use Rattle.sf_profile.specs.Limits.{calls_left}
+use Rattle.sf_profile.proofs.Common.{◌≡◌, drop, calls_left}
 use Rattle.sf_profile.proofs.limits.calls_left.Given as goal
 
 abbrev pub invariant-loop-rule : goal.invariant-loop-rule

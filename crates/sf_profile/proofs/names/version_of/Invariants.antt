@@ -1,5 +1,4 @@
-use Rattle.std.proofs.Common.{◌≡◌, false, None, fold, take}
-use Rattle.sf_profile.specs.Profiles.{version_step}
+use Rattle.sf_profile.proofs.Common.{◌≡◌, false, None, fold, take, version_step}
 use Rattle.sf_profile.proofs.names.version_of.Given as goal
 
 abbrev pub invariant-loop-byte : goal.invariant-loop-byte

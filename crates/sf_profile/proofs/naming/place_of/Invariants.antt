@@ -1,5 +1,4 @@
-use Rattle.std.proofs.Common.{◌≡◌, drop, map}
-use Rattle.sf_profile.specs.Plans.{place_from}
+use Rattle.sf_profile.proofs.Common.{◌≡◌, drop, map, place_from}
 use Rattle.sf_profile.proofs.naming.place_of.Given as goal
 
 abbrev pub invariant-loop-i : goal.invariant-loop-i

@@ -1,5 +1,4 @@
-use Rattle.std.proofs.Common.{◌≡◌, drop}
-use Rattle.sf_profile.specs.Plans.{compares_twice}
+use Rattle.sf_profile.proofs.Common.{◌≡◌, drop, compares_twice}
 use Rattle.sf_profile.proofs.plan.compares_twice.Given as goal
 
 abbrev pub invariant-loop-i : goal.invariant-loop-i

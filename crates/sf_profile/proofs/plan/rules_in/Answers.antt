@@ -1,36 +1,32 @@
-use Rattle.std.proofs.Common.{◌≡◌, ◌<◌, ◌∙◌, ap, inr, length, refl, sym, Some, None, arith}
-use Rattle.std.proofs.lemmas.Grind.{common_steps}
-use Rattle.serde_json.specs.View.{view}
-use Rattle.sf_profile.specs.Limits.{calls_left}
-use Rattle.sf_profile.specs.Plans.{rules_of}
-use Rattle.sf_profile.proofs.limits.LimitLemmas.{onward, over}
+use Rattle.sf_profile.proofs.Common.{◌≡◌, ◌<◌, ◌∙◌, ap, inr, length, refl, sym, Some, None, arith, calls_left, rules_of}
+use Rattle.sf_profile.proofs.limits.LimitLemmas.{onward}
+use Rattle.sf_profile.proofs.plan.PlanLemmas.{appended}
 use Rattle.sf_profile.proofs.plan.rules_in.Goals as goal
 
 pub returns-in_default-clause-refused : goal.returns-in_default-clause-refused
 returns-in_default-clause-refused c =
     let s = c.args.settings.now in
-    let i = c.loop-value.value-index in
-    let v = c.value-item.result in
-    let within : i < length c.args.items.now = omega arith in
-    let none : calls_left c.loop-value.left (rules_of s c.args.set (view v)) ≡ None =
-    ap (calls_left c.loop-value.left) (sym (c.deref.ensures.value ∙ c.in_ok-more.ensures)) ∙ sym c.in_default.ensures in
+    let v = c.rule-item.result in
+    let within : c.loop-rule.rule-index < length c.args.items.now = omega arith in
+    let none : calls_left c.loop-rule.left (rules_of s c.args.set v) ≡ None =
+    ap (calls_left c.loop-rule.left) (sym (c.deref.ensures.value ∙ c.in_ok-more.ensures)) ∙ sym c.in_default.ensures in
     inr (
       refl,
-      over s c.args.set c.args.items.now i c.loop-value.left v within c.loop-value.invariant.left
-          (rw (← c.value-item.is) none),
+      onward s c.args.set c.args.items.now c.loop-rule.rule-index c.loop-rule.left v None within
+          c.loop-rule.invariant.left (rw (← c.rule-item.is) none),
     )
 
-pub loop-value-preserved : goal.loop-value-preserved
-loop-value-preserved c =
+pub loop-rule-preserved : goal.loop-rule-preserved
+loop-rule-preserved c =
     let s = c.args.settings.now in
-    let i = c.loop-value.value-index in
-    let v = c.value-item.result in
-    let rest = c.in-Some.rest in
+    let i = c.loop-rule.rule-index in
+    let v = c.rule-item.result in
     let within : i < length c.args.items.now = omega arith in
-    let some : calls_left c.loop-value.left (rules_of s c.args.set (view v)) ≡ Some rest =
-    ap (calls_left c.loop-value.left) (sym (c.deref.ensures.value ∙ c.in_ok-more.ensures)) ∙ sym c.in-Some.ensures in
+    let some : calls_left c.loop-rule.left (rules_of s c.args.set v) ≡ Some c.in-Some.rest =
+    ap (calls_left c.loop-rule.left) (sym (c.deref.ensures.value ∙ c.in_ok-more.ensures)) ∙ sym c.in-Some.ensures in
     record {
-      so_far = grind (arith, common_steps);
-      left = onward s c.args.set c.args.items.now i c.loop-value.left rest v within c.loop-value.invariant.left
-          (rw (← c.value-item.is) some);
+      so_far = appended (rules_of s c.args.set) c.args.items.now i v c.loop-rule.rules.items c.in_ok-more.more.items
+          _ within c.rule-item.is c.loop-rule.invariant.so_far c.in_ok-more.ensures c.in_ok-append.ensures.items;
+      left = onward s c.args.set c.args.items.now i c.loop-rule.left v (Some c.in-Some.rest) within
+          c.loop-rule.invariant.left (rw (← c.rule-item.is) some);
     }

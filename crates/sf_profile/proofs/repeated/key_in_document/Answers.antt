@@ -1,6 +1,4 @@
-use Rattle.std.proofs.Common.{ap, ◌∙◌, sym, subst}
-use Rattle.json.specs.Value.{value_view}
-use Rattle.sf_profile.specs.Repeats.{AreReadBack, items_where}
+use Rattle.sf_profile.proofs.Common.{ap, ◌∙◌, sym, subst, value_view, AreReadBack, items_where}
 use Rattle.sf_profile.proofs.repeats.RepeatLemmas.{rules_read_back}
 use Rattle.sf_profile.proofs.repeated.key_in_document.Goals as goal
 

@@ -1,6 +1,4 @@
-use Rattle.std.proofs.Common.{◌<◌, length, sym, subst, arith}
-use Rattle.json.specs.Value.{value_view}
-use Rattle.sf_profile.specs.Repeats.{IsReadBack}
+use Rattle.sf_profile.proofs.Common.{◌<◌, length, sym, subst, arith, value_view, IsReadBack}
 use Rattle.sf_profile.proofs.repeats.RepeatLemmas.{read_back_here}
 use Rattle.sf_profile.proofs.repeated.key_in_rules.Goals as goal
 

@@ -1,4 +1,4 @@
-use Rattle.sf_profile.specs.Repeats.{AreReadBack}
+use Rattle.sf_profile.proofs.Common.{AreReadBack}
 use Rattle.sf_profile.proofs.repeats.RepeatLemmas.{from}
 use Rattle.sf_profile.proofs.repeated.key_in_rules.Given as goal
 

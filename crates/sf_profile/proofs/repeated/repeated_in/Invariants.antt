@@ -1,4 +1,4 @@
-use Rattle.std.proofs.Common.{length}
+use Rattle.sf_profile.proofs.Common.{length}
 use Rattle.sf_profile.proofs.repeated.repeated_in.Given as goal
 
 abbrev pub decreases-loop-token : goal.decreases-loop-token

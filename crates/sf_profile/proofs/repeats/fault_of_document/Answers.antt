@@ -1,8 +1,5 @@
-use Rattle.std.proofs.Common.{ap, ◌∙◌, refl, sym, subst}
-use Rattle.std.specs.Prelude.{IfOk}
-use Rattle.json.specs.Value.{value_view}
+use Rattle.sf_profile.proofs.Common.{ap, ◌∙◌, refl, sym, subst, IfOk, value_view, AreReadBack, IsFaultOfRepeat, items_where}
 use Rattle.sf_profile.specs.declared.fault.Fault.TheVariants as faults
-use Rattle.sf_profile.specs.Repeats.{AreReadBack, IsFaultOfRepeat, items_where}
 use Rattle.sf_profile.proofs.repeats.RepeatLemmas.{rules_read_back}
 use Rattle.sf_profile.proofs.repeats.fault_of_document.Goals as goal
 

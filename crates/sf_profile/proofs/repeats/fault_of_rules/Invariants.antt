@@ -1,7 +1,4 @@
-use Rattle.std.proofs.Common.{◌+◌}
-use Rattle.json.specs.Value.{items_view}
-use Rattle.sf_profile.specs.declared.fault.Fault.{Fault}
-use Rattle.sf_profile.specs.Repeats.{AreReadBack, IsFaultOfRepeat}
+use Rattle.sf_profile.proofs.Common.{◌+◌, items_view, Fault, AreReadBack, IsFaultOfRepeat}
 use Rattle.sf_profile.proofs.repeats.RepeatLemmas.{from}
 use Rattle.sf_profile.proofs.repeats.fault_of_rules.Given as goal
 

@@ -1,6 +1,4 @@
-use Rattle.std.proofs.Common.{◌≡◌, take, map}
-use Rattle.std.specs.Prelude.{filter}
-use Rattle.sf_profile.specs.Known.{is_nowhere}
+use Rattle.sf_profile.proofs.Common.{◌≡◌, take, map, filter, is_nowhere}
 use Rattle.sf_profile.proofs.telling.nowhere_names.Given as goal
 
 abbrev pub invariant-loop-name : goal.invariant-loop-name

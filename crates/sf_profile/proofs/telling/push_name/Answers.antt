@@ -1,4 +1,4 @@
-use Rattle.std.proofs.Common.{ap, map, ◌∙◌}
+use Rattle.sf_profile.proofs.Common.{ap, map, ◌∙◌}
 use Rattle.sf_profile.proofs.telling.NoteLemmas.{insert_name}
 use Rattle.sf_profile.proofs.telling.push_name.Goals as goal
 

@@ -1,7 +1,4 @@
-use Rattle.std.proofs.Common.{◌≡◌, take, map, fold}
-use Rattle.serde_json.specs.View.{view}
-use Rattle.sf_profile.specs.Trees.{text_in}
-use Rattle.sf_profile.specs.Notes.{with_name}
+use Rattle.sf_profile.proofs.Common.{◌≡◌, take, map, fold, view, text_in, with_name}
 use Rattle.sf_profile.proofs.telling.push_names.Given as goal
 
 abbrev pub invariant-loop-value : goal.invariant-loop-value

@@ -1,6 +1,4 @@
-use Rattle.std.proofs.Common.{◌≡◌, take, map}
-use Rattle.std.specs.Prelude.{filter}
-use Rattle.sf_profile.specs.Settings.{is_unknown}
+use Rattle.sf_profile.proofs.Common.{◌≡◌, take, map, filter, is_unknown}
 use Rattle.sf_profile.proofs.telling.unknown_names.Given as goal
 
 abbrev pub invariant-loop-name : goal.invariant-loop-name

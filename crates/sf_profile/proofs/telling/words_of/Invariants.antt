@@ -1,6 +1,4 @@
-use Rattle.std.proofs.Common.{◌≡◌, map, string_bytes, take}
-use Rattle.std.specs.List.{flat_map}
-use Rattle.sf_profile.specs.Notes.{name_word}
+use Rattle.sf_profile.proofs.Common.{◌≡◌, map, string_bytes, take, flat_map, name_word}
 use Rattle.sf_profile.proofs.telling.words_of.Given as goal
 
 abbrev pub invariant-loop-name : goal.invariant-loop-name

@@ -1,7 +1,4 @@
-use Rattle.std.proofs.Common.{subst}
-use Rattle.std.specs.Prelude.{IfOk, IfErr}
-use Rattle.serde_json.specs.View.{view}
-use Rattle.sf_profile.specs.Filters.{IsTree, HasNoTree}
+use Rattle.sf_profile.proofs.Common.{subst, IfOk, IfErr, view, IsTree, HasNoTree}
 use Rattle.sf_profile.proofs.text.tree_of.Goals as goal
 
 pub returns-in-Ok-clause-tree : goal.returns-in-Ok-clause-tree

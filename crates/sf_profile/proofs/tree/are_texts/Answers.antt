@@ -1,8 +1,4 @@
-use Rattle.std.proofs.Common.{rules, tests}
-use Rattle.std.proofs.lemmas.Iterator.{YieldsList-from_slice}
-use Rattle.std.proofs.lemmas.Iterator.Search.{all_from_yields_List}
-use Rattle.serde_json.specs.View.{view}
-use Rattle.sf_profile.specs.Trees.{is_text}
+use Rattle.sf_profile.proofs.Common.{rules, tests, YieldsList-from_slice, all_from_yields_List, view, is_text}
 use Rattle.sf_profile.proofs.tree.TreeLemmas.{all_entries}
 use Rattle.sf_profile.proofs.tree.are_texts.Goals as goal
 

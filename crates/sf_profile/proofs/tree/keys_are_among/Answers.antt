@@ -1,4 +1,4 @@
-use Rattle.std.proofs.Common.{◌∙◌, sym}
+use Rattle.sf_profile.proofs.Common.{◌∙◌, sym}
 use Rattle.sf_profile.proofs.tree.TreeLemmas.{only_view}
 use Rattle.sf_profile.proofs.tree.keys_are_among.Goals as goal
 

@@ -1,5 +1,5 @@
 use Rattle.std.proofs.Common.{All}
-use Rattle.sf_profile.specs.Cautions.{AnswerZero}
+use Rattle.sf_profile.proofs.Common.{AnswerZero}
 use Rattle.sf_profile.proofs.zeros.zeros_among.Given as goal
 
 abbrev pub invariant-loop-words : goal.invariant-loop-words
