@@ -1,14 +1,6 @@
 -- Files of which only the first ones are kept: what holds of these holds of all.
-use Rattle.std.proofs.Common.{◌≡◌, ◌⊎◌, inl, inr, ℕ, ◌<◌, ◌≤◌, List, length, take, Option, Bor, ap, subst, arith, ◌∙◌, min}
-use Rattle.std.proofs.lemmas.List.{length-take, take_all}
-use Rattle.sf_check.specs.declared.insn.Insn.{Insn}
-use Rattle.sf_stack.specs.declared.fault.Fault.{Fault}
+use Rattle.sf_evaluate.proofs.Common.{common_steps, ◌≡◌, ◌⊎◌, inl, inr, ℕ, ◌<◌, ◌≤◌, List, length, take, Option, Bor, ap, subst, arith, ◌∙◌, min, length-take, take_all, Insn, Fault, SpellStack, IsFirstRefusal, as_many, IsRefusalOfBoth, AreKeptFiles, HasUnknown, HoldStack, RefusesBoth, RefusesFiles}
 use Rattle.sf_stack.specs.declared.fault.Fault.TheVariants as faults
-use Rattle.sf_stack.specs.Filters.{SpellStack, IsFirstRefusal}
-use Rattle.sf_stack.specs.laws.FiltersLaws.{as_many}
-use Rattle.sf_stack.specs.TwoStacks.{IsRefusalOfBoth}
-use Rattle.sf_evaluate.specs.Files.{AreKeptFiles, HasUnknown, HoldStack, RefusesBoth, RefusesFiles}
-use Rattle.sf_evaluate.specs.laws.FilesLaws.{still_unknown}
 
 -- files that spell a lawful stack are at most 64
 pub stack_is_few : (files : List (List ℕ)) (programs : List (List Insn)) → SpellStack files programs
@@ -56,8 +48,7 @@ module _ (holds : List ℕ → Option (List ℕ)) (paths : List (Bor (List ℕ))
       (many_of_many kept all.files all.first)
 
   pub kept_why : (e : Fault) → (e ≡ faults.Memory) ⊎ IsFirstRefusal kept e → RefusesFiles holds paths e
-  kept_why e (inl memory) = inr (inl memory)
-  kept_why e (inr refused) = inr (inr (all.files, all.read, kept_refusal e refused))
+  kept_why e why = grind (arith, common_steps, kept_refusal)
 
 module _ (holds : List ℕ → Option (List ℕ)) (old new : List (Bor (List ℕ))) (olds news : List (List ℕ))
     (kept_old : AreKeptFiles holds old olds) (kept_new : AreKeptFiles holds new news) where
@@ -72,14 +63,10 @@ module _ (holds : List ℕ → Option (List ℕ)) (old new : List (Bor (List ℕ
   )
 
   pub both_why : (e : Fault) → (e ≡ faults.Memory) ⊎ IsRefusalOfBoth olds news e → RefusesBoth holds old new e
-  both_why e (inl memory) = inr (inl memory)
-  both_why e (inr refused) =
-      inr (inr (kept_old.files, kept_new.files, kept_old.read, kept_new.read, both_refusal e refused))
+  both_why e why = grind (arith, common_steps, both_refusal)
 
--- where a new file can't be read, or memory runs out, after the old ones were read
-pub unread_new : (before after : List ℕ → Option (List ℕ)) (old new : List (Bor (List ℕ))) (e : Fault)
-    → ((p : List ℕ) → after p ≡ before p) → ((e ≡ faults.Read) × HasUnknown after new) ⊎ (e ≡ faults.Memory)
-    → RefusesBoth before old new e
-unread_new before after old new e same (inl (read, left)) =
-    inl (read, inr (still_unknown before after new same left))
-unread_new before after old new e same (inr memory) = inr (inl memory)
+-- where a new file can't be read, or memory runs out
+pub unread_new : (holds : List ℕ → Option (List ℕ)) (old new : List (Bor (List ℕ))) (e : Fault)
+    → ((e ≡ faults.Read) × HasUnknown holds new) ⊎ (e ≡ faults.Memory) → RefusesBoth holds old new e
+unread_new holds old new e (inl (read, left)) = inl (read, inr left)
+unread_new holds old new e (inr memory) = inr (inl memory)

@@ -1,10 +1,15 @@
--- Two lists that belong together, place by place, where the second one grows.
-use Rattle.std.proofs.lemmas.Grind.{common_steps}
-use Rattle.std.proofs.Common.{◌≡◌, ℕ, zero, suc, ◌+◌, ◌<◌, ◌≤◌, List, [], ◌∷◌, ◌++◌, length, Some, slice_get, take, ◌∙◌, refl, sym, arith}
-use Rattle.std.proofs.lemmas.Bool.{cases_eq}
-use Rattle.std.proofs.lemmas.Option.{same_Some, slice_get_within}
-use Rattle.std.proofs.lemmas.List.{length-take-le, length_push}
-use Rattle.sf_evaluate.specs.Pairs.{Pairwise}
+-- Two lists that belong together, place by place, where both get one element more.
+use Rattle.sf_evaluate.proofs.Common.{◌≡◌, ℕ, zero, suc, ◌+◌, ◌<◌, List, [], ◌∷◌, ◌++◌, ◌∙◌, ap, arith, common_steps, flat_map, get_or, length, length_push, refl, same_Some, slice_get, Some, take, take_more, Pairwise, flat_map_more, ◌⊎◌, inl, inr, sym}
+
+get_pushed : {X : Type 0} (xs : List X) (x : X) (n : ℕ) (z : X) → slice_get (xs ++ x ∷ []) n ≡ Some z
+    → (slice_get xs n ≡ Some z) ⊎ ((n ≡ length xs) × (z ≡ x))
+get_pushed [] x zero z at = inr (refl, sym (same_Some x z at))
+get_pushed [] x (suc n) z at = absurd cc
+get_pushed (a ∷ xs) x zero z at = inl at
+get_pushed (a ∷ xs) x (suc n) z at = elim (get_pushed xs x n z at) [
+  | inl front ↦ inl front
+  | inr (is, same) ↦ inr (ap suc is, same)
+]
 
 get_front : {X : Type 0} (xs ys : List X) (n : ℕ) (x : X) → slice_get xs n ≡ Some x → slice_get (xs ++ ys) n ≡ Some x
 get_front [] ys n x h = absurd cc
@@ -15,36 +20,18 @@ get_last : {X : Type 0} (xs : List X) (x : X) → slice_get (xs ++ x ∷ []) (le
 get_last [] x = refl
 get_last (a ∷ xs) x = get_last xs x
 
--- the relation holds at each of the first places
-pub record PairedSoFar {X Y : Type 0} (Holds : X → Y → Type 0) (xs : List X) (ys : List Y) (place : ℕ) : Type 0 where
-  pub count : length ys ≡ place
-  pub each : (n : ℕ) (x : X) → n < place → slice_get xs n ≡ Some x → (y : Y) × (slice_get ys n ≡ Some y) × Holds x y
+one_pair : {X Y : Type 0} (Holds : X → Y → Type 0) (xs : List X) (ys : List Y) (x : X) (y : Y)
+    → Pairwise Holds xs ys → Holds x y → Pairwise Holds (xs ++ x ∷ []) (ys ++ y ∷ [])
+one_pair {X} {Y} Holds xs ys x y pairs holds = grind (arith, common_steps, length_push, get_pushed, get_last, get_front)
 
-pub paired_more : {X Y : Type 0} (Holds : X → Y → Type 0) (xs : List X) (ys ys' : List Y) (place : ℕ) (x : X) (y : Y)
-    → PairedSoFar Holds xs ys place → slice_get xs place ≡ Some x → Holds x y → ys' ≡ ys ++ y ∷ []
-    → PairedSoFar Holds xs ys' (place + 1)
-paired_more {X} {Y} Holds xs ys ys' place x y so_far here holds pushed =
-    grind (arith, common_steps, length_push, cases_eq, same_Some, get_last, get_front)
+-- the second list belongs to the first places of the first one, and so it does with one place more
+pub paired_more : {X Y : Type 0} (Holds : X → Y → Type 0) (xs : List X) (ys : List Y) (place : ℕ) (d : X) (y : Y)
+    → Pairwise Holds (take place xs) ys → place < length xs → Holds (get_or xs place d) y
+    → Pairwise Holds (take (place + 1) xs) (ys ++ y ∷ [])
+paired_more Holds xs ys place d y pairs inside holds =
+    rw (take_more xs place d inside) (one_pair Holds (take place xs) ys (get_or xs place d) y pairs holds)
 
-pub paired_all : {X Y : Type 0} (Holds Weaker : X → Y → Type 0) (xs : List X) (ys : List Y) (place : ℕ)
-    → ((x : X) (y : Y) → Holds x y → Weaker x y) → PairedSoFar Holds xs ys place → length xs ≤ place → place ≤ length xs
-    → Pairwise Weaker xs ys
-paired_all Holds Weaker xs ys place weaker so_far over under = grind (arith, common_steps, slice_get_within)
-
-get_taken : {X : Type 0} (xs : List X) (place n : ℕ) (x : X) → slice_get (take place xs) n ≡ Some x
-    → (n < place) × (slice_get xs n ≡ Some x)
-get_taken [] zero n x h = absurd cc
-get_taken [] (suc place) n x h = absurd cc
-get_taken (a ∷ xs) zero n x h = absurd cc
-get_taken (a ∷ xs) (suc place) zero x h = (omega arith, h)
-get_taken (a ∷ xs) (suc place) (suc n) x h =
-    let rest = get_taken xs place n x h in
-    (omega (arith, rest.0), rest.1)
-
--- the first places are a list of their own
-pub first_paired : {X Y : Type 0} (Holds : X → Y → Type 0) (xs : List X) (ys : List Y) (place : ℕ)
-    → PairedSoFar Holds xs ys place → place ≤ length xs → Pairwise Holds (take place xs) ys
-first_paired Holds xs ys place so_far inside = record {
-  same = so_far.count ∙ sym (length-take-le place xs inside);
-  each = λ n x at. let within = get_taken xs place n x at in so_far.each n x within.0 within.1;
-}
+-- a list that is built part by part, and one part more
+pub parts_more : {X Y : Type 0} (part : X → List Y) (files : List X) (file : X) (whole more : List Y)
+    → whole ≡ flat_map part files → more ≡ whole ++ part file → more ≡ flat_map part (files ++ file ∷ [])
+parts_more part files file whole more is added = added ∙ ap (λ l. l ++ part file) is ∙ flat_map_more part [] files file

@@ -11,7 +11,10 @@ use Rattle.sf_calls.specs.Calls.{call_input}
 use Rattle.sf_calls.specs.Numbers.{are_arguments, is_number, read_arguments, read_number}
 use Rattle.sf_stack.specs.declared.fault.Fault.{Fault}
 use Rattle.sf_command_line.specs.Options.{paths_of, text_of}
-use Rattle.sf_evaluate.specs.Names.{AreNamesRead, RefusesNaming}
+use Rattle.sf_evaluate.specs.Failures.{NamesFailed}
+use Rattle.sf_evaluate.specs.Names.{AreNamesRead, RefusesNaming, RefusesSetsAt}
+use Rattle.sf_evaluate.specs.declared.files.identity.FileRole.TheVariants.{Names as NamesRole}
+use Rattle.sf_evaluate.specs.declared.files.opened.FileRead.{FileRead}
 
 -- ---- the words fit together
 
@@ -89,6 +92,12 @@ pub record AreNamed (holds : Text → Option Text) (rows : List Row) (names : Li
 abbrev pub RefusesNamed : (Text → Option Text) → List Row → Fault → Type 0
 RefusesNamed holds rows fault =
     (paths : List (Bor Text)) × AreNamesPaths rows paths × RefusesNaming holds paths fault
+
+-- the file that is named is the one of these files that failed
+abbrev pub NamesOfNamed : (Text → Option Text) → List Row → Option FileRead → Fault → Type 0
+NamesOfNamed holds rows named fault =
+    (paths : List (Bor Text)) × AreNamesPaths rows paths
+    × NamesFailed NamesRole holds paths named (RefusesSetsAt holds paths fault) fault
 
 -- ---- the numbers are narrow enough
 

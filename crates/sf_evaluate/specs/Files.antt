@@ -24,12 +24,16 @@ pub record AreKeptFiles (holds : List ℕ → Option (List ℕ)) (paths : List (
   pub read : AreRead holds paths files
   pub first : kept ≡ take 65 files
 
--- the bytes of the file at one of the paths aren't known, so it may be that it can't be read
-pub record HasUnknown (holds : List ℕ → Option (List ℕ)) (paths : List (Bor (List ℕ))) : Type 0 where
+-- this holds of one of the paths, and of its place
+pub record HasPath (paths : List (Bor (List ℕ))) (Holds : (place : ℕ) → (path : List ℕ) → Type 0) : Type 0 where
   pub place : ℕ
   pub path : Bor (List ℕ)
   pub at : slice_get paths place ≡ Some path
-  pub unknown : holds path.now ≡ None
+  pub why : Holds place path.now
+
+-- the bytes of the file at one of the paths aren't known, so it may be that it can't be read
+abbrev pub HasUnknown : (List ℕ → Option (List ℕ)) → List (Bor (List ℕ)) → Type 0
+HasUnknown holds paths = HasPath paths (λ _ path. holds path ≡ None)
 
 -- the files at the paths were read, and spell this stack
 pub record HoldStack (holds : List ℕ → Option (List ℕ)) (paths : List (Bor (List ℕ))) (stack : List (List Insn))

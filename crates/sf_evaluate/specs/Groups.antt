@@ -1,5 +1,5 @@
 -- The file of groups by which a summary puts questions in order.
-use Rattle.std.specs.Prelude.{◌≡◌, ◌⊎◌, ℕ, List, [], Option, Some, None, codes}
+use Rattle.std.specs.Prelude.{◌≡◌, ◌⊎◌, ℕ, Bool, false, List, [], Option, Some, None, codes}
 use Rattle.std.specs.Str.{IsUtf8}
 use Rattle.sf_policy.specs.Groups.{AreGroups, GroupData, groups_in}
 use Rattle.sf_stack.specs.declared.fault.Fault.{Fault}
@@ -14,15 +14,15 @@ installed_groups = codes "@groups"
 abbrev pub IsGroupsFile : Option (List ℕ) → List GroupData → Type 0
 IsGroupsFile known groups = (bytes : List ℕ) × AreKnownBytes known bytes × AreGroups bytes groups
 
--- the file at the path has these groups; or it is the installed one, it can't be read, and there are none
-abbrev pub AreGroupsAt : (List ℕ → Option (List ℕ)) → List ℕ → List GroupData → Type 0
-AreGroupsAt holds path groups =
-    IsGroupsFile (holds path) groups ⊎ ((path ≡ installed_groups) × (holds path ≡ None) × (groups ≡ []))
+-- the file at the path has these groups; or it wasn't given, it can't be read, and there are none
+abbrev pub AreGroupsAt : (List ℕ → Option (List ℕ)) → List ℕ → (is_given : Bool) → List GroupData → Type 0
+AreGroupsAt holds path is_given groups =
+    IsGroupsFile (holds path) groups ⊎ ((is_given ≡ false) × (holds path ≡ None) × (groups ≡ []))
 
--- the groups, if a file is named for them; else there are none
-abbrev pub AreGroupsIn : (List ℕ → Option (List ℕ)) → Option (List ℕ) → List GroupData → Type 0
-AreGroupsIn holds None groups = groups ≡ []
-AreGroupsIn holds (Some path) groups = AreGroupsAt holds path groups
+-- the groups, if there is a file for them; else there are none
+abbrev pub AreGroupsIn : (List ℕ → Option (List ℕ)) → Option (List ℕ) → (is_given : Bool) → List GroupData → Type 0
+AreGroupsIn holds None is_given groups = groups ≡ []
+AreGroupsIn holds (Some path) is_given groups = AreGroupsAt holds path is_given groups
 
 -- why the bytes are no groups: they are no UTF-8, or no file of groups
 abbrev pub AreNoGroups : List ℕ → Fault → Type 0

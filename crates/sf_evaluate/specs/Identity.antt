@@ -9,14 +9,19 @@ use Rattle.sf_json.specs.Documents.{count, fields, list_of, with_field}
 use Rattle.sf_evaluate.specs.Files.{AreKnownBytes}
 use Rattle.sf_evaluate.specs.Pairs.{Pairwise}
 use Rattle.sf_evaluate.specs.declared.files.identity.FileRole.{FileRole}
-use Rattle.sf_evaluate.specs.declared.files.identity.FileRole.TheVariants.{Policy, Filter, Old, New}
+use Rattle.sf_evaluate.specs.declared.files.identity.FileRole.TheVariants.{Names, Policy, Control, Accept, Groups, Filter, Old, New, Profile}
 
 -- what a file is called by what it was read as
 abbrev pub role_name : FileRole → List ℕ
+role_name Names = codes "names"
 role_name Policy = codes "policy"
+role_name Control = codes "control"
+role_name Accept = codes "accept"
+role_name Groups = codes "groups"
 role_name Filter = codes "filter"
 role_name Old = codes "old"
 role_name New = codes "new"
+role_name Profile = codes "profile"
 
 -- a file: what it was read as, its path, how many bytes it has, and their SHA-256
 abbrev pub file_document : FileRole → (path bytes : List ℕ) → Data

@@ -1,5 +1,6 @@
 pub mod Pairs
 pub mod Files
+pub mod Failures
 pub mod Identity
 pub mod Names
 pub mod Policies

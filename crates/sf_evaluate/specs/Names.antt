@@ -1,5 +1,5 @@
 -- Files of names of calls.
-use Rattle.std.specs.Prelude.{◌≡◌, ◌⊎◌, ℕ, List, [], take, Option, Some, None, Ok, Err, slice_get}
+use Rattle.std.specs.Prelude.{◌≡◌, ◌⊎◌, ◌+◌, ℕ, List, [], take, Option, Some, None, Ok, Err}
 use Rattle.std.specs.Borrow.{Bor}
 use Rattle.std.specs.List.{flat_map}
 use Rattle.std.specs.Str.{IsUtf8}
@@ -11,7 +11,7 @@ use Rattle.sf_names.specs.Joined.{AreSetsJoined, AreSetsUnfit}
 use Rattle.sf_stack.specs.declared.fault.Fault.{Fault}
 use Rattle.sf_stack.specs.declared.fault.Fault.TheVariants.{Memory, Read, Syntax}
 use Rattle.sf_stack.specs.Faults.{of_names}
-use Rattle.sf_evaluate.specs.Files.{AreKnownBytes, HasUnknown}
+use Rattle.sf_evaluate.specs.Files.{AreKnownBytes, HasPath, HasUnknown}
 use Rattle.sf_evaluate.specs.Pairs.{Pairwise}
 
 -- what the bytes mean as a file of names: sets, with the calls of each by their numbers
@@ -52,13 +52,6 @@ RefusesNames bytes fault =
 abbrev pub RefusesNamesFile : Option (List ℕ) → Fault → Type 0
 RefusesNamesFile known fault = (bytes : List ℕ) × AreKnownBytes known bytes × RefusesNames bytes fault
 
--- the file at one of the paths is no file of names for this reason
-pub record HasNoNames (holds : List ℕ → Option (List ℕ)) (paths : List (Bor (List ℕ))) (fault : Fault) : Type 0 where
-  pub place : ℕ
-  pub path : Bor (List ℕ)
-  pub at : slice_get paths place ≡ Some path
-  pub refused : RefusesNamesFile (holds path.now) fault
-
 -- The sets of the files at the first of the paths, one after the other, can't be joined for this reason.
 pub record CannotBeJoined (holds : List ℕ → Option (List ℕ)) (paths : List (Bor (List ℕ))) (fault : Fault) : Type 0
   where
@@ -70,9 +63,15 @@ pub record CannotBeJoined (holds : List ℕ → Option (List ℕ)) (paths : List
     pub unfit : AreSetsUnfit [] (all_sets files) joined why
     pub is : fault ≡ of_names why
 
+-- the file at this place of the paths is no file of names, or its sets can't be joined to those before it
+abbrev pub RefusesSetsAt : (List ℕ → Option (List ℕ)) → List (Bor (List ℕ)) → Fault → (place : ℕ) → (path : List ℕ)
+    → Type 0
+RefusesSetsAt holds paths fault place path =
+    RefusesNamesFile (holds path) fault ⊎ ((unfit : CannotBeJoined holds paths fault) × (unfit.count ≡ place + 1))
+
 -- Why files of names are refused: one whose bytes aren't known can't be read; memory ran out; one is no such file; or
 -- a set can't be joined to those before it.
 abbrev pub RefusesNaming : (List ℕ → Option (List ℕ)) → List (Bor (List ℕ)) → Fault → Type 0
 RefusesNaming holds paths fault =
-    ((fault ≡ Read) × HasUnknown holds paths) ⊎ (fault ≡ Memory) ⊎ HasNoNames holds paths fault
-    ⊎ CannotBeJoined holds paths fault
+    ((fault ≡ Read) × HasUnknown holds paths) ⊎ (fault ≡ Memory)
+    ⊎ HasPath paths (λ _ path. RefusesNamesFile (holds path) fault) ⊎ CannotBeJoined holds paths fault

@@ -1,5 +1,5 @@
 -- The policy files of an audit.
-use Rattle.std.specs.Prelude.{◌≡◌, ◌⊎◌, ℕ, List, Option, Some, None, Ok, Err, slice_get}
+use Rattle.std.specs.Prelude.{◌≡◌, ◌⊎◌, ℕ, List, Option, Some, None, Ok, Err}
 use Rattle.std.specs.Borrow.{Bor}
 use Rattle.std.specs.List.{flat_map}
 use Rattle.std.specs.Str.{IsUtf8}
@@ -9,7 +9,7 @@ use Rattle.sf_question.specs.QuestionData.{QuestionData}
 use Rattle.sf_stack.specs.declared.fault.Fault.{Fault}
 use Rattle.sf_stack.specs.declared.fault.Fault.TheVariants.{Memory, Read, Syntax}
 use Rattle.sf_policy.specs.Policies.{policy_of}
-use Rattle.sf_evaluate.specs.Files.{AreKnownBytes, HasUnknown}
+use Rattle.sf_evaluate.specs.Files.{AreKnownBytes, HasPath, HasUnknown}
 use Rattle.sf_evaluate.specs.Pairs.{Pairwise}
 
 -- the bytes are a policy with these questions
@@ -45,14 +45,8 @@ pub record AreAsked (holds : List ℕ → Option (List ℕ)) (paths : List (Bor 
   pub read : ArePolicyFiles holds paths files
   pub all : questions ≡ all_questions files
 
--- the file at one of the paths is no policy for this reason
-pub record HasNoPolicy (holds : List ℕ → Option (List ℕ)) (paths : List (Bor (List ℕ))) (fault : Fault) : Type 0 where
-  pub place : ℕ
-  pub path : Bor (List ℕ)
-  pub at : slice_get paths place ≡ Some path
-  pub refused : RefusesPolicyFile (holds path.now) fault
-
 -- Why policy files are refused: one whose bytes aren't known can't be read; memory ran out; or one is no policy.
 abbrev pub RefusesAsking : (List ℕ → Option (List ℕ)) → List (Bor (List ℕ)) → Fault → Type 0
 RefusesAsking holds paths fault =
-    ((fault ≡ Read) × HasUnknown holds paths) ⊎ (fault ≡ Memory) ⊎ HasNoPolicy holds paths fault
+    ((fault ≡ Read) × HasUnknown holds paths) ⊎ (fault ≡ Memory)
+    ⊎ HasPath paths (λ _ path. RefusesPolicyFile (holds path) fault)

@@ -8,7 +8,7 @@ ghost use Rattle.sf_insn.specs.Inputs.{input_bytes};
 ghost use Rattle.sf_run.specs.Answers.{Answers};
 ghost use Rattle.sf_run.specs.declared.action.Answer.{Answer};
 ghost use Rattle.sf_evaluate.specs.Files.{RefusesFiles};
-ghost use Rattle.sf_evaluate.specs.Outputs.{AnswersFiles, ChecksFiles, IsCheckOutput, WritesAnswer, WritesCheck, eval_output};
+ghost use Rattle.sf_evaluate.specs.Outputs.{AnswersFiles, ChecksFiles, IsCheckOutput, eval_output};
 ghost use Rattle.sf_stack.specs.declared.fault.Fault.TheVariants.{Memory as MemoryFault, Input as InputFault, Write as WriteFault};
 
 use crate::explaining::Notes;
@@ -92,25 +92,6 @@ fn check_output(
     line_of(alloc, &document)
 }
 
-/// Writes what `check` says of the stack, and keeps the warnings about it.
-fn check_stack<O: Write>(
-    alloc: Global,
-    stack: &Stack,
-    how: CheckManner,
-    identity: Identity<'_>,
-    notes: &mut Notes,
-    out: &mut O,
-) -> Result<(), Fault>
-    ensures written { OnOk result (WritesCheck how.listed how.json identity.entry.version.now
-        (map view identity.entry.files.items) stack.now (O.contents out.old) (O.contents out.new)) }
-    ensures refused { IfErr result (λ e. (e ≡ WriteFault)
-        ⊎ ((e ≡ MemoryFault) × (out.new ≡ out.old))) }
-{
-    notes.warnings = warnings_of_filters(alloc, stack.programs());
-    let text = check_output(alloc, stack, how, identity)?;
-    print(&text, out)
-}
-
 fn output_of(
     alloc: Global,
     how: Manner,
@@ -156,23 +137,6 @@ fn eval_output(
     }
 }
 
-fn evaluate_stack<O: Write>(
-    alloc: Global,
-    asked: &Evaluation<'_>,
-    stack: &Stack,
-    files: Vec<Document>,
-    out: &mut O,
-) -> Result<(), Fault>
-    ensures written { OnOk result (WritesAnswer asked.now.version.now (map view files.items)
-        stack.now asked.now.input.now asked.now.how asked.now.names.now
-        (O.contents out.old) (O.contents out.new)) }
-    ensures refused { IfErr result (λ e. (e ≡ WriteFault)
-        ⊎ ((e ≡ MemoryFault) × (out.new ≡ out.old))) }
-{
-    let text = eval_output(alloc, asked, stack, files)?;
-    print(&text, out)
-}
-
 /// Reads the filter files at `paths`, in order of installation, and writes the number of instructions of each and the
 /// path length of their stack, and where `how.listed` asks for it, the instructions, of which those are marked to which
 /// no path comes. A JSON document shows `version`, the line of the program's version. The notes count the files, and
@@ -194,15 +158,17 @@ pub fn check<F: Files, O: Write>(
         ⊎ (RefusesFiles (F.holds files.old) paths.now e × (out.new ≡ out.old))) }
 {
     let (stack, documents) = read_stack(alloc, paths, how.json, files, notes)?;
+    notes.warnings = warnings_of_filters(alloc, stack.programs());
     let identity = Identity {
         version,
         files: documents,
     };
-    check_stack(alloc, &stack, how, identity, notes, out)
+    let text = check_output(alloc, &stack, how, identity)?;
+    print(&text, out)
 }
 
 /// Reads the filter files at `paths`, in order of installation, and writes what their stack answers to the input in
-/// `asked`. The notes count the files. Refusals come in the order of `check`.
+/// `asked`. Refusals come in the order of `check`.
 pub fn evaluate<F: Files, O: Write>(
     alloc: Global,
     asked: &Evaluation<'_>,
@@ -218,5 +184,6 @@ pub fn evaluate<F: Files, O: Write>(
         ⊎ (RefusesFiles (F.holds files.old) paths.now e × (out.new ≡ out.old))) }
 {
     let (stack, documents) = read_stack(alloc, paths, asked.how.json, files, notes)?;
-    evaluate_stack(alloc, asked, &stack, documents, out)
+    let text = eval_output(alloc, asked, &stack, documents)?;
+    print(&text, out)
 }

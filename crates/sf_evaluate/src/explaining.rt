@@ -10,25 +10,22 @@ mod meanings;
 mod places;
 mod policies;
 mod refusals;
-mod roles;
 
 ghost use Rattle.std.specs.Prelude.{◌≡◌, [], IfOk, None, false};
 ghost use Rattle.clap.specs.Words.{subcommand_rows_of};
 ghost use Rattle.sf_policy.specs.Faults.{without_place};
 ghost use Rattle.sf_command_line.specs.Options.{IsUnasked};
 
+use crate::files::{FileRead, FileRole, filter_of};
 use crate::words::is_given;
 use clap::ArgMatches;
-use hints::{Hint, hint_of_filter, hint_of_input, hint_of_names, hint_of_policy, hint_of_read};
-pub(crate) use kinds::bytes_of_text;
-use kinds::{Kind, kind_of};
+use hints::{Hint, INPUT, hint_of_kind, hint_of_read, hint_of_refusal, is_at_front};
+pub(crate) use kinds::{Kind, bytes_of_text, kind_of};
 use meanings::{meaning_of, meaning_of_syntax};
 use places::position_of;
 pub(crate) use places::{Mark, marks_of_questions};
 use policies::Page;
 pub(crate) use refusals::OtherSet;
-pub(crate) use roles::Which;
-use roles::{Role, file_at, is_of_policy, path_at, place_of_filter, which_policy};
 use sf_calls::{read_arguments, read_word};
 use sf_command_line::{text_of, wants_explanation};
 use sf_policy::Refusal;
@@ -36,6 +33,10 @@ use sf_profile::Refused;
 use sf_question::Question;
 use sf_stack::Fault;
 use std::alloc::{AllocError, Global};
+use std::fmt::InlineText;
+
+/// The most bytes of the words that say which policy is refused: `policy` and a number.
+pub(crate) const WHICH: usize = 32;
 
 /// What a run notes for a person beside its result: what was read, what was refused, warnings, and the text that
 /// explains a fault.
@@ -49,15 +50,12 @@ pub struct Notes {
     pub refused: Result<Refused, AllocError>,
     /// The first set of names that is none of the five of `CallSet`; an error where there was no memory for it.
     pub(crate) other: Result<Option<OtherSet>, AllocError>,
-    /// For each file of names how many sets it has, and how many there are with those of the files before it. Where
-    /// there is no memory, the list ends.
-    sets: Vec<(usize, usize)>,
-    /// How many files were read, of whatever kind.
-    pub files: usize,
-    /// What each of these files seems to hold. Where there is no memory, the list ends.
-    kinds: Vec<Kind>,
-    /// Which of the policies is refused. It is `Only` until `explain` is called.
-    pub(crate) which: Which,
+    /// For each file of names how many sets it has, and how many there are with those of the files before it.
+    pub(crate) sets: Vec<(usize, usize)>,
+    /// The file that is read, or that failed; `None` where a run failed for another reason, but for want of memory.
+    pub last: Option<FileRead>,
+    /// Which policy is refused, such as `policy 2` or `control`; empty where it is the only one, and before `explain`.
+    pub(crate) which: InlineText<WHICH>,
     /// The lines that explain the fault, where they are asked for and there is memory for them.
     pub explanation: Option<String>,
     /// The lines of warnings; an error where there was no memory for them.
@@ -72,7 +70,7 @@ impl Notes {
     /// The notes before any file is read.
     pub fn new(alloc: Global) -> Notes
         ensures nothing_read { (result.policy.items ≡ []) × (result.refusal ≡ None)
-            × (result.files ≡ 0) }
+            × (result.last ≡ None) }
         ensures unexplained { result.explanation ≡ None }
     {
         Notes {
@@ -85,29 +83,12 @@ impl Notes {
             }),
             other: Ok(None),
             sets: Vec::new(alloc),
-            files: 0,
-            kinds: Vec::new(alloc),
-            which: Which::Only,
+            last: None,
+            which: InlineText::new(),
             explanation: None,
             warnings: Ok(String::new(alloc)),
             is_set_known: true,
             unknown_call: 0,
-        }
-    }
-
-    /// Counts a file that was read, and keeps what it seems to hold. Where there is no memory for that, nothing is kept
-    /// for later files either: it would stand at the wrong place.
-    pub(crate) fn count_file(&mut self, bytes: &[u8]) {
-        if self.kinds.len() == self.files {
-            let _ = self.kinds.push(kind_of(bytes));
-        }
-        self.files = self.files.saturating_add(1);
-    }
-
-    /// Keeps how many sets the file of names counted last has, and how many there are in `all`.
-    pub(crate) fn count_sets(&mut self, count: usize, all: usize) {
-        if self.sets.len().saturating_add(1) == self.files {
-            let _ = self.sets.push((count, all));
         }
     }
 
@@ -118,10 +99,6 @@ impl Notes {
         Some((file, set.0))
     }
 
-    fn kind_at(&self, place: usize) -> Kind {
-        self.kinds.get(place).copied().unwrap_or(Kind::Empty)
-    }
-
     /// The questions that were read; or the notes keep the refusal, and its fault is the error.
     pub fn take_refusal(
         &mut self,
@@ -129,6 +106,7 @@ impl Notes {
     ) -> Result<Vec<Question>, Fault>
         ensures same { result ≡ without_place read }
         ensures kept { self.new.policy ≡ self.old.policy }
+        ensures file { self.new.last ≡ self.old.last }
     {
         match read {
             Ok(questions) => Ok(questions),
@@ -154,11 +132,11 @@ impl Notes {
         ensures unasked { explains ≡ false → IsUnasked (subcommand_rows_of matches.now)
             → self.old.explanation ≡ None → self.new.explanation ≡ None }
         ensures kept { (self.new.policy ≡ self.old.policy)
-            × (self.new.refusal ≡ self.old.refusal) × (self.new.files ≡ self.old.files) }
+            × (self.new.refusal ≡ self.old.refusal) × (self.new.last ≡ self.old.last) }
     {
         if let Err(fault) = ran {
             if let (crate::Fault::Other(other), Some((_, found))) = (fault, matches.subcommand()) {
-                self.which = which_policy(found, other, self.files);
+                self.which = which_policy(found, other, &self.last);
             }
             self.explanation = explanation(alloc, matches, fault, self, explains, reason);
         }
@@ -201,28 +179,26 @@ fn push_wide(text: &mut String, found: &ArgMatches<'_>) -> Result<(), AllocError
     write!(text, "arch {arch:?}: more than 32 bits\n")
 }
 
-/// The number, from 1, of the filter that is refused for a fault.
-fn filter_of(fault: &Fault) -> Option<usize> {
-    match fault {
-        Fault::Ragged { filter }
-        | Fault::Empty { filter }
-        | Fault::TooLong { filter }
-        | Fault::Code { filter, .. }
-        | Fault::Field { filter, .. }
-        | Fault::Jump { filter, .. }
-        | Fault::Last { filter }
-        | Fault::Scratch { filter, .. } => Some(*filter),
-        _ => None,
+/// Which of the policies is refused for a fault for which this file failed. One that can't be read isn't refused.
+fn which_policy(
+    found: &ArgMatches<'_>,
+    fault: &Fault,
+    file: &Option<FileRead>,
+) -> InlineText<WHICH> {
+    let Some(file) = file else {
+        return InlineText::new();
+    };
+    let paths = found.get_strs("policy").unwrap_or(&[]);
+    match file.role {
+        _ if matches!(fault, Fault::Read | Fault::Memory) => InlineText::new(),
+        FileRole::Policy if paths.len() > 1 => {
+            let place = paths.iter().position(|path| *path == file.path.as_str());
+            let number = place.unwrap_or(0).saturating_add(1);
+            InlineText::of(format_args!("policy {number}"))
+        }
+        FileRole::Control => InlineText::of("control"),
+        _ => InlineText::new(),
     }
-}
-
-/// Whether the file that was read last, no filter and no profile, is refused for this fault.
-fn is_of_last(fault: &Fault) -> bool {
-    is_of_policy(fault)
-        || matches!(
-            fault,
-            Fault::NamesKey | Fault::NamesCount | Fault::NamesRange | Fault::Accepted { .. }
-        )
 }
 
 /// A run that ended with a fault.
@@ -235,24 +211,32 @@ struct Case<'a, 'm> {
     reason: &'a str,
 }
 
-impl<'m> Case<'_, 'm> {
-    /// What the file that was read last was read as, its path, and what it seems to hold; where none was read, this is
-    /// said of the first one.
-    fn last_read(&self) -> (Role, &'m str, Kind) {
-        let place = self.notes.files.saturating_sub(1);
-        let (role, path) = file_at(self.found, place).unwrap_or((Role::Filter, ""));
-        (role, path, self.notes.kind_at(place))
+impl Case<'_, '_> {
+    /// The file that failed, if this fault is that of a file.
+    fn file_of(&self, fault: &Fault) -> Option<&FileRead> {
+        match fault {
+            Fault::Memory => None,
+            _ => self.notes.last.as_ref(),
+        }
     }
 
-    /// Adds the lines of the file that was read last.
-    fn push_last_read(&self, text: &mut String) -> Result<(), AllocError> {
-        let (role, path, _) = self.last_read();
-        match role {
-            Role::Policy | Role::Control => self.push_policy(text, path),
-            Role::Names => write!(text, "names {path:?}\n"),
-            Role::Accept => write!(text, "accept {path:?}\n"),
-            Role::Groups => write!(text, "groups {path:?}\n"),
-            Role::Filter | Role::Profile => Ok(()),
+    /// Adds the lines of a file that failed.
+    fn push_file(
+        &self,
+        text: &mut String,
+        fault: &Fault,
+        file: &FileRead,
+    ) -> Result<(), AllocError> {
+        let (name, path) = (file.role.name(), file.path.as_str());
+        if *fault == Fault::Read {
+            return push_unread(text, path, self.reason);
+        }
+        if let Some(filter) = filter_of(fault) {
+            return write!(text, "filter {filter} {path:?}\n");
+        }
+        match file.role {
+            FileRole::Policy | FileRole::Control => self.push_policy(text, path),
+            _ => write!(text, "{name} {path:?}\n"),
         }
     }
 
@@ -293,9 +277,8 @@ impl<'m> Case<'_, 'm> {
 
     /// Adds the lines that say where a fault lies: in which file, or in which word of the command line.
     fn push_place(&self, text: &mut String, fault: &Fault) -> Result<(), AllocError> {
-        if let Some(filter) = filter_of(fault) {
-            let path = path_at(self.found, place_of_filter(self.found, filter));
-            return write!(text, "filter {filter} {path:?}\n");
+        if let Some(file) = self.file_of(fault) {
+            return self.push_file(text, fault, file);
         }
         match fault {
             Fault::Input => match self.found.get_str("input") {
@@ -303,31 +286,35 @@ impl<'m> Case<'_, 'm> {
                 None => push_wide(text, self.found),
             },
             Fault::UnknownName => self.push_unknown(text),
-            Fault::Read => push_unread(text, path_at(self.found, self.notes.files), self.reason),
-            _ if is_of_last(fault) => self.push_last_read(text),
             _ => Ok(()),
+        }
+    }
+
+    /// The hint at what may have been meant by a file that failed.
+    fn hint_of_file(&self, fault: &Fault, file: &FileRead) -> Result<Option<Hint>, AllocError> {
+        if *fault == Fault::Read {
+            return Ok(hint_of_read(file, self.reason));
+        }
+        match (
+            hint_of_kind(file, is_at_front(fault)),
+            &self.notes.refusal,
+            file.role,
+        ) {
+            (None, Some(refusal), FileRole::Policy | FileRole::Control) => {
+                hint_of_refusal(self.alloc, refusal)
+            }
+            (hint, _, _) => Ok(hint),
         }
     }
 
     /// The hint at what may have been meant by what is refused with this fault.
     fn hint_of(&self, fault: &Fault) -> Result<Option<Hint>, AllocError> {
-        let (alloc, found, notes) = (self.alloc, self.found, self.notes);
-        if let Some(filter) = filter_of(fault) {
-            let kind = notes.kind_at(place_of_filter(found, filter));
-            return Ok(hint_of_filter(kind, fault));
-        }
-        match fault {
-            Fault::Input if is_given(found, "input") => Ok(Some(hint_of_input())),
-            Fault::Read => Ok(hint_of_read(found, notes.files, self.reason)),
-            _ if is_of_last(fault) => {
-                let (role, _, kind) = self.last_read();
-                match role {
-                    Role::Policy | Role::Control => hint_of_policy(alloc, kind, &notes.refusal),
-                    Role::Names => Ok(hint_of_names(kind)),
-                    Role::Accept | Role::Filter | Role::Groups | Role::Profile => Ok(None),
-                }
+        match self.file_of(fault) {
+            Some(file) => self.hint_of_file(fault, file),
+            None if *fault == Fault::Input && is_given(self.found, "input") => {
+                Ok(Some(Hint::Sentence(INPUT)))
             }
-            _ => Ok(None),
+            None => Ok(None),
         }
     }
 
@@ -336,7 +323,7 @@ impl<'m> Case<'_, 'm> {
         let mut text = String::new(self.alloc);
         self.push_place(&mut text, fault)?;
         let meaning = match fault {
-            Fault::Syntax => meaning_of_syntax(self.last_read().0),
+            Fault::Syntax => meaning_of_syntax(&self.notes.last),
             Fault::Input if !is_given(self.found, "input") => {
                 "a number with too many bits for its place"
             }

@@ -4,12 +4,14 @@ mod expecting;
 mod groups;
 mod identity;
 mod naming;
+mod opened;
 mod origins;
 mod questions;
 mod stacks;
 
 ghost use Rattle.std.specs.Prelude.{◌≡◌, ◌⊎◌, ◌≤◌, ℕ, List, None, length, map, IfOk, IfErr};
 ghost use Rattle.serde_json.specs.View.{view};
+ghost use Rattle.sf_evaluate.specs.Failures.{NamesFailed};
 ghost use Rattle.sf_evaluate.specs.Files.{AreKeptFiles, AreKnownBytes, HasUnknown};
 ghost use Rattle.sf_evaluate.specs.Identity.{HasFiles};
 ghost use Rattle.sf_stack.specs.declared.fault.Fault.TheVariants.{Memory, Read};
@@ -20,8 +22,9 @@ pub use expecting::{accepted_in, audit_words_fit, control_in, wants_summary};
 pub use groups::{INSTALLED_GROUPS, groups_in};
 use identity::push_file;
 pub use identity::{FileRole, Identity, identified, join_documents};
-pub(crate) use naming::INSTALLED_NAMES;
 pub use naming::read_needed_names;
+pub use opened::FileRead;
+pub(crate) use opened::{filter_of, read_file};
 pub use questions::{Policies, all_questions_in};
 use sf_check::MOST_PROGRAMS;
 use sf_json::Document;
@@ -60,7 +63,7 @@ pub trait Files {
     fn take_over<T: Drop>(&self, _found: T) {}
 }
 
-/// The bytes of the files at these paths, in order, which the notes count. All files are read, but only the first 65
+/// The bytes of the files at these paths, in order. All files are read, but only the first 65
 /// are kept: one more than a stack may have, so that the stack is refused. Gives the documents of all files too, if
 /// `with_documents`.
 fn read_all<F: Files>(
@@ -77,13 +80,14 @@ fn read_all<F: Files>(
         (map view r.1.items)) }
     ensures refused { IfErr result (λ e. ((e ≡ Read)
         × HasUnknown (F.holds files.old) paths.now) ⊎ (e ≡ Memory)) }
+    ensures failed { IfErr result (NamesFailed role (F.holds files.old) paths.now
+        notes.new.last (λ _ _. ⊥)) }
     ensures same { (p : List ℕ) → F.holds files.new p ≡ F.holds files.old p }
 {
     let mut read = Vec::new(alloc);
     let mut documents = Vec::new(alloc);
     for path in paths {
-        let bytes = files.read(path)?;
-        notes.count_file(bytes.as_slice());
+        let bytes = read_file(alloc, role, path, files, notes)?;
         push_file(alloc, &mut documents, with_documents, role, path, &bytes)?;
         if read.len() <= MOST_PROGRAMS {
             read.push(bytes)?;

@@ -19,13 +19,13 @@ pub use checking::{CheckManner, Evaluation, Manner, check, evaluate, print};
 pub use explaining::Notes;
 pub use fault::Fault;
 pub use files::{
-    FileRole, Files, INSTALLED_GROUPS, Identity, MOST_BYTES, Policies, accepted_in,
+    FileRead, FileRole, Files, INSTALLED_GROUPS, Identity, MOST_BYTES, Policies, accepted_in,
     all_questions_in, audit_words_fit, control_in, groups_in, identified, join_documents,
     read_needed_names, read_stack, read_stacks, wants_summary,
 };
 pub use profiling::profile;
 pub use telling::{tell, tell_fault, warn};
 pub use words::{
-    asked_input, calls_fit, digest_fits, eval_words_fit, known_calls, numbers_fit,
+    asked_input, calls_fit, digest_fits, eval_words_fit, is_given, known_calls, numbers_fit,
     profile_words_fit, rows_fit, tell_wrong_words,
 };

@@ -10,7 +10,7 @@ use crate::calls::calls_of;
 use crate::checking::print;
 use crate::explaining::{Notes, OtherSet};
 use crate::fault::Fault;
-use crate::files::{Files, read_needed_names};
+use crate::files::{FileRole, Files, read_file, read_needed_names};
 use crate::words::{profile_words_fit, settings_of};
 use clap::ArgMatches;
 use sf_command_line::{text_of, wants_notes, wants_quiet};
@@ -74,7 +74,6 @@ fn warnings_of(
     Ok(text)
 }
 
-/// Writes a profile's filter to `out`, or if `wants_notes`, the notes on the profile.
 fn write_of<O: Write>(
     alloc: Global,
     settings: &Settings,
@@ -107,11 +106,8 @@ fn other_set(alloc: Global, names: &[Names]) -> Result<Option<OtherSet>, AllocEr
     Ok(None)
 }
 
-/// The settings for a profile: what the command line says, with the calls of the files of names. The notes count these
-/// files and their sets, and get what `other_set` gives.
-///
-/// Refusals come in this order: those of `read_needed_names`; `Profile(Set)` where one of the sets is none of the five
-/// of `CallSet`.
+/// The settings for a profile: what the command line says, with the calls of the files of names. The notes get what
+/// `other_set` gives.
 fn read_settings<F: Files>(
     alloc: Global,
     found: &ArgMatches<'_>,
@@ -143,7 +139,7 @@ fn keep_warnings(
     }
 }
 
-/// Keeps for which key the profile of these bytes is refused with this fault, and why.
+/// Keeps for which key the profile of these bytes is refused with this fault, and why; or that no file failed.
 fn keep_refused(
     alloc: Global,
     settings: &Settings,
@@ -151,8 +147,9 @@ fn keep_refused(
     fault: &Fault,
     notes: &mut Notes,
 ) {
-    if let Fault::Profile(refusal) = fault {
-        notes.refused = refused(alloc, settings, bytes, *refusal);
+    match fault {
+        Fault::Profile(refusal) => notes.refused = refused(alloc, settings, bytes, *refusal),
+        Fault::Other(_) => notes.last = None,
     }
 }
 
@@ -160,8 +157,7 @@ fn keep_refused(
 /// or with `--notes` notes on the profile. The status is 0; or 4 where a word isn't one that its option takes: then no
 /// file is read, and nothing is written.
 ///
-/// `notes`, which have counted no file before, count the files and their sets, and get the warnings, unless `--quiet`
-/// is given, or for what the profile is refused.
+/// `notes` get the counts of sets, and the warnings, unless `--quiet` is given, or for what the profile is refused.
 ///
 /// Refusals come in this order: those of `read_needed_names`; `Profile(Set)` where one of the sets is none of the five
 /// of `CallSet`; `Read` for the profile; `Profile` with the fault for which `sf_profile` refuses it; `Write`.
@@ -186,10 +182,16 @@ pub fn profile<F: Files, O: Write>(
         return Ok(4);
     }
     let settings = read_settings(alloc, found, files, notes)?;
-    let bytes = files.read(text_of(found, "profile"))?;
-    notes.count_file(bytes.as_slice());
+    let bytes = read_file(
+        alloc,
+        FileRole::Profile,
+        text_of(found, "profile"),
+        files,
+        notes,
+    )?;
     match write_of(alloc, &settings, wants_notes(found), &bytes, out) {
         Ok(()) => {
+            notes.last = None;
             keep_warnings(alloc, found, &settings, &bytes, notes);
             Ok(0)
         }

@@ -6,7 +6,7 @@ ghost use Rattle.sf_command_line.specs.Options.{IsQuiet};
 ghost use Rattle.sf_evaluate.specs.Faults.{fault_number};
 ghost use Rattle.sf_evaluate.specs.Status.{fault_status};
 
-use crate::explaining::{Notes, Which};
+use crate::explaining::Notes;
 use crate::fault::Fault;
 use clap::ArgMatches;
 use sf_command_line::wants_quiet;
@@ -20,9 +20,6 @@ const LINE: usize = 96;
 
 const TOO_LARGE: u16 = 32;
 
-/// The exit status of a fault: 2 for `TooLarge` and `TooManyRows`, where nothing is wrong, but more nodes or rows are
-/// needed than are allowed; 3 where something that was given is refused; 5 where reading, writing or memory fails:
-/// these faults have the numbers from 50.
 fn status_of(fault: &Fault) -> u8
     ensures { result ≡ fault_status (fault_number fault.now) }
 {
@@ -46,26 +43,18 @@ fn line_of(fault: &Fault) -> InlineText<LINE> {
     }
 }
 
-/// The line of a fault in the policy that `policy` says, such as `policy 2` or `control`. This stands before the word
-/// `question`, or at the end of the line.
+/// The line of a fault in the policy that `policy` says, such as `policy 2` or `control`. It stands, if it isn't empty,
+/// before the word `question`, or at the end of the line.
 fn line_in(fault: &Fault, policy: &str) -> InlineText<LINE> {
+    if policy.is_empty() {
+        return line_of(fault);
+    }
     let line: InlineText<LINE> = InlineText::of(format_args!("{fault}"));
     match line.as_str().split_once(" question ") {
         Some((name, question)) => {
             InlineText::of(format_args!("error {name} {policy} question {question}\n"))
         }
         None => InlineText::of(format_args!("error {fault} {policy}\n")),
-    }
-}
-
-fn placed_line(fault: &Fault, which: Which) -> InlineText<LINE> {
-    match which {
-        Which::Only => line_of(fault),
-        Which::Number(number) => {
-            let policy: InlineText<LINE> = InlineText::of(format_args!("policy {number}"));
-            line_in(fault, policy.as_str())
-        }
-        Which::Control => line_in(fault, "control"),
     }
 }
 
@@ -99,7 +88,7 @@ fn with_more(alloc: Global, line: &str, more: &str) -> Result<String, AllocError
 pub fn tell<E: Write>(alloc: Global, fault: &Fault, notes: &Notes, err: &mut E) -> u8
     ensures { result ≡ fault_status (fault_number fault.now) }
 {
-    let line = placed_line(fault, notes.which);
+    let line = line_in(fault, notes.which.as_str());
     if let Some(more) = &notes.explanation {
         if let Ok(text) = with_more(alloc, line.as_str(), more.as_str()) {
             let _ = err.write_all(text.as_bytes());

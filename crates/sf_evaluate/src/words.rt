@@ -6,8 +6,7 @@ mod naming;
 mod settings;
 mod wanted;
 
-pub(crate) use asking::is_given;
-pub use asking::{asked_input, eval_words_fit, numbers_fit};
+pub use asking::{asked_input, eval_words_fit, is_given, numbers_fit};
 pub use misfits::tell_wrong_words;
 pub(crate) use naming::lacks_names;
 pub use settings::profile_words_fit;

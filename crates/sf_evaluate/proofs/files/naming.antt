@@ -1,2 +1,1 @@
-pub mod NamingLemmas
 pub mod SetLemmas

@@ -1,18 +1,9 @@
 -- What `profile` reads, writes and refuses.
-use Rattle.std.proofs.Common.{◌≡◌, ◌⊎◌, ◌∙◌, inl, inr, ap, refl, subst, codes, Bool, List, Option, Bor, false}
-use Rattle.clap.specs.Words.{Row, Text, one_of}
-use Rattle.sf_command_line.specs.Options.{IsSwitch, text_of}
-use Rattle.sf_names.specs.Names.{NamesData}
+use Rattle.sf_evaluate.proofs.Common.{◌≡◌, ◌⊎◌, ◌∙◌, inl, inr, ap, refl, subst, codes, Bool, List, Option, Bor, false, Row, Text, one_of, IsSwitch, text_of, NamesData, Memory, Settings, Other, IsOther, of_profile, AreKnownBytes, AreNamesRead, RefusesNaming, HasOtherSet, IsReadFor, RefusesProfile, RefusesProfileOf, WritesOf, WritesProfile, have_sets}
 use Rattle.sf_profile.specs.declared.fault.Fault.{Fault as ProfileFault}
-use Rattle.sf_profile.specs.declared.fault.Fault.TheVariants.{Memory, Set as UnknownSet}
-use Rattle.sf_profile.specs.declared.settings.Settings.{Settings}
+use Rattle.sf_profile.specs.declared.fault.Fault.TheVariants.{Set as UnknownSet}
 use Rattle.sf_stack.specs.declared.fault.Fault.TheVariants as faults
 use Rattle.sf_evaluate.specs.declared.fault.Fault.{Fault}
-use Rattle.sf_evaluate.specs.declared.fault.Fault.TheVariants.{Other}
-use Rattle.sf_evaluate.specs.Faults.{IsOther, of_profile}
-use Rattle.sf_evaluate.specs.Files.{AreKnownBytes}
-use Rattle.sf_evaluate.specs.Names.{AreNamesRead, RefusesNaming}
-use Rattle.sf_evaluate.specs.Profiles.{HasOtherSet, IsReadFor, RefusesProfile, RefusesProfileOf, WritesOf, WritesProfile, have_sets}
 
 -- a set of names is refused, or memory ran out
 pub calling_why : (holds : Text → Option Text) (paths : List (Bor Text)) (names : List NamesData) (e : ProfileFault)

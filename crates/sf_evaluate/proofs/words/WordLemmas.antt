@@ -1,24 +1,6 @@
 -- What words say, seen as texts and not as borrows of texts.
-use Rattle.std.proofs.Common.{◌≡◌, ◌∙◌, ◌||◌, ◌&&◌, Bool, true, false, List, [], ◌∷◌, map, refl, ap, sym, codes, string_bytes, Bor}
-use Rattle.std.specs.List.{list_all, list_any}
-use Rattle.std.specs.Prelude.{Option, Some, None, is_some, unwrap_or}
-use Rattle.clap.specs.Words.{Row, Text, one_of}
-use Rattle.sf_command_line.specs.Options.{IsSwitch, paths_of, text_of}
-use Rattle.sf_profile.specs.Profiles.{version_of}
-use Rattle.sf_profile.specs.declared.rules.CallSet.TheVariants.{X64}
-use Rattle.sf_profile.specs.declared.rules.Reading.TheVariants.{Strictest}
-use Rattle.sf_profile.specs.declared.settings.Settings.{Settings}
-use Rattle.sf_evaluate.specs.Profiles.{AreSettings, is_capability, is_kernel_or_none, machine_named, reading_named, profile_words_fit}
-
-pub any_now : {X : Type 0} (f : X → Bool) (xs : List (Bor X))
-    → list_any (λ (x : Bor X). f x.now) xs ≡ list_any f (map (λ (x : Bor X). x.now) xs)
-any_now f [] = refl
-any_now f (x ∷ xs) = ap (λ b. f x.now || b) (any_now f xs)
-
-pub all_now : {X : Type 0} (f : X → Bool) (xs : List (Bor X))
-    → list_all (λ (x : Bor X). f x.now) xs ≡ list_all f (map (λ (x : Bor X). x.now) xs)
-all_now f [] = refl
-all_now f (x ∷ xs) = ap (λ b. f x.now && b) (all_now f xs)
+use Rattle.sf_evaluate.proofs.Common.{◌≡◌, ◌∙◌, ◌&&◌, Bool, true, false, List, map, refl, ap, sym, codes, string_bytes, list_all, is_some, unwrap_or, Row, Text, one_of, IsSwitch, paths_of, text_of, version_of, X64, Strictest, Settings, AreSettings, is_capability, is_kernel_or_none, machine_named, reading_named, profile_words_fit}
+use Rattle.std.specs.Prelude.{Option, Some, None}
 
 -- what is there, or another thing
 some_or : {X : Type 0} (o : Option X) (x : X) → is_some o ≡ true → o ≡ Some (unwrap_or o x)

@@ -1,8 +1,7 @@
 //! What may have been meant by something that is refused. No contract speaks of it.
 
 use super::kinds::Kind;
-use super::roles::{Role, file_at};
-use clap::ArgMatches;
+use crate::files::{FileRead, FileRole};
 use sf_policy::{Refusal, WORD_KEYS};
 use sf_stack::Fault;
 use std::alloc::{AllocError, Global};
@@ -22,7 +21,8 @@ const MEANT: [(&str, &str); 7] = [
 /// The numbers of 64 bits that a question has in two halves, each with a key of its own.
 const HALVED: [&str; 7] = ["ip", "arg0", "arg1", "arg2", "arg3", "arg4", "arg5"];
 
-const INPUT: &str =
+/// What is said where a text spells no input.
+pub(crate) const INPUT: &str =
     "128 digits without `0x` are wanted: the 64 bytes of struct seccomp_data, of each number the lowest byte first";
 
 #[derive(Clone, Copy, Debug)]
@@ -47,14 +47,9 @@ impl Hint {
     }
 }
 
-/// The hint for a text that spells no input.
-pub(crate) fn hint_of_input() -> Hint {
-    Hint::Sentence(INPUT)
-}
-
 /// Whether this fault fits a filter file in which the number of the instructions stands before them. It takes at most
 /// 16 bytes, as two instructions do.
-fn is_at_front(fault: &Fault) -> bool {
+pub(crate) fn is_at_front(fault: &Fault) -> bool {
     match fault {
         Fault::Ragged { .. } => true,
         Fault::Code { instruction, .. } | Fault::Field { instruction, .. } => *instruction < 2,
@@ -62,55 +57,50 @@ fn is_at_front(fault: &Fault) -> bool {
     }
 }
 
-/// The hint for a file of this kind that is refused as a filter.
-pub(crate) fn hint_of_filter(kind: Kind, fault: &Fault) -> Option<Hint> {
-    let sentence = match kind {
-        Kind::Json => "this is JSON: a profile becomes a filter by `seccomp_audit profile`",
-        Kind::Text => "this is text, and a filter file holds the instructions' bytes",
-        Kind::Elf =>
-            "this is a program or a library, and a filter file holds only a filter's instructions",
-        Kind::Policy => "this is a policy: `audit --policy` takes it",
-        Kind::Names => "this is a file of names: each file of names wants its own `--names`",
-        Kind::BigEndian =>
-            "these instructions are big-endian, and only little-endian ones are read",
-        Kind::Counted if is_at_front(fault) => {
+/// The hint for a file that is refused in its role, by what it seems to hold. `at_front` is what `is_at_front` says.
+pub(crate) fn hint_of_kind(file: &FileRead, at_front: bool) -> Option<Hint> {
+    let sentence = match (file.role, file.kind) {
+        (FileRole::Accept | FileRole::Groups, _) | (_, Kind::Empty) => return None,
+        (FileRole::Policy | FileRole::Control, Kind::Json) => {
+            "this is JSON, and a policy is TOML, as policies/x86_64.toml is"
+        }
+        (FileRole::Policy | FileRole::Control, Kind::Names) => {
+            "this is a file of names, and a policy has questions"
+        }
+        (FileRole::Policy | FileRole::Control, Kind::Policy | Kind::Text) => return None,
+        (FileRole::Policy | FileRole::Control, _) => {
+            "this is no text: were the policy and a filter exchanged?"
+        }
+        (_, Kind::Policy) => "this is a policy: `audit --policy` takes it",
+        (FileRole::Names, Kind::Json) => {
+            "this is JSON, and a file of names is TOML, as policies/names/x86_64.toml is"
+        }
+        (FileRole::Names, Kind::Names | Kind::Text) => return None,
+        (FileRole::Names, _) => "this is no text: were a file of names and a filter exchanged?",
+        (FileRole::Profile, Kind::Json | Kind::Names) => return None,
+        (FileRole::Profile, Kind::Text) => "this is text, and a profile is JSON",
+        (FileRole::Profile, _) => "this is no text: were the profile and a filter exchanged?",
+        (_, Kind::Json) => "this is JSON: a profile becomes a filter by `seccomp_audit profile`",
+        (_, Kind::Text) => "this is text, and a filter file holds the instructions' bytes",
+        (_, Kind::Elf) => {
+            "this is a program or a library, and a filter file holds only a filter's instructions"
+        }
+        (_, Kind::Names) => "this is a file of names: each file of names wants its own `--names`",
+        (_, Kind::BigEndian) => {
+            "these instructions are big-endian, and only little-endian ones are read"
+        }
+        (_, Kind::Counted) if at_front => {
             "the number of the instructions seems to stand before them, and a filter file holds only the instructions"
         }
-        Kind::Counted | Kind::Bytes | Kind::Empty => return None,
+        (_, Kind::Counted | Kind::Bytes) => return None,
     };
     Some(Hint::Sentence(sentence))
 }
 
-/// The hint for a file of this kind that is refused as a file of names.
-pub(crate) fn hint_of_names(kind: Kind) -> Option<Hint> {
-    let sentence = match kind {
-        Kind::Json => "this is JSON, and a file of names is TOML, as policies/names/x86_64.toml is",
-        Kind::Policy => "this is a policy: `audit --policy` takes it",
-        Kind::Bytes | Kind::BigEndian | Kind::Counted | Kind::Elf => {
-            "this is no text: were a file of names and a filter exchanged?"
-        }
-        Kind::Names | Kind::Text | Kind::Empty => return None,
-    };
-    Some(Hint::Sentence(sentence))
-}
-
-/// The hint for a file of this kind that is refused as a profile.
-pub(crate) fn hint_of_profile(kind: Kind) -> Option<Hint> {
-    let sentence = match kind {
-        Kind::Policy => "this is a policy: `audit --policy` takes it",
-        Kind::Text => "this is text, and a profile is JSON",
-        Kind::Bytes | Kind::BigEndian | Kind::Counted | Kind::Elf => {
-            "this is no text: were the profile and a filter exchanged?"
-        }
-        Kind::Json | Kind::Names | Kind::Empty => return None,
-    };
-    Some(Hint::Sentence(sentence))
-}
-
-/// The hint for the file at a place, from 0, that can't be read: what kind of file is wanted. There is one where a name
+/// The hint for a file that can't be read: what kind of file is wanted. There is one where a name
 /// may have been given in place of a path (it has no `/`), or the path is that of a folder.
-pub(crate) fn hint_of_read(found: &ArgMatches<'_>, place: usize, reason: &str) -> Option<Hint> {
-    let (role, path) = file_at(found, place)?;
+pub(crate) fn hint_of_read(file: &FileRead, reason: &str) -> Option<Hint> {
+    let path = file.path.as_str();
     if path.starts_with('@') {
         return Some(Hint::Sentence(
             "@NAME comes with the program: give another path, or in SECCOMP_AUDIT_SHARE the folder that has policies/NAME.toml",
@@ -119,28 +109,15 @@ pub(crate) fn hint_of_read(found: &ArgMatches<'_>, place: usize, reason: &str) -
     if path.contains('/') && !reason.starts_with("Is a directory") {
         return None;
     }
-    let ready = match role {
-        Role::Names => "a file of names is wanted, as policies/names/x86_64.toml is one",
-        Role::Policy => "a policy file is wanted, as policies/x86_64.toml is one",
-        Role::Control => "a policy file is wanted, whose questions must be allowed",
-        Role::Accept => "a file is wanted with the name of a question on each line",
-        Role::Groups => "a file of groups is wanted, as policies/groups.toml is one",
-        Role::Filter | Role::Profile => return None,
+    let ready = match file.role {
+        FileRole::Names => "a file of names is wanted, as policies/names/x86_64.toml is one",
+        FileRole::Policy => "a policy file is wanted, as policies/x86_64.toml is one",
+        FileRole::Control => "a policy file is wanted, whose questions must be allowed",
+        FileRole::Accept => "a file is wanted with the name of a question on each line",
+        FileRole::Groups => "a file of groups is wanted, as policies/groups.toml is one",
+        FileRole::Filter | FileRole::Old | FileRole::New | FileRole::Profile => return None,
     };
     Some(Hint::Sentence(ready))
-}
-
-/// The hint for a file of this kind that is refused as a policy.
-fn hint_of_policy_file(kind: Kind) -> Option<Hint> {
-    let sentence = match kind {
-        Kind::Json => "this is JSON, and a policy is TOML, as policies/x86_64.toml is",
-        Kind::Names => "this is a file of names, and a policy has questions",
-        Kind::Bytes | Kind::BigEndian | Kind::Counted | Kind::Elf => {
-            "this is no text: were the policy and a filter exchanged?"
-        }
-        Kind::Policy | Kind::Text | Kind::Empty => return None,
-    };
-    Some(Hint::Sentence(sentence))
 }
 
 fn is_key_of_question(key: &str) -> bool {
@@ -246,7 +223,10 @@ fn hint_of_key(refusal: &Refusal, key: &str, value: &Value) -> Option<Hint> {
 }
 
 /// The hint for a policy that is refused, by its fault.
-fn hint_of_refusal(alloc: Global, refusal: &Refusal) -> Result<Option<Hint>, AllocError> {
+pub(crate) fn hint_of_refusal(
+    alloc: Global,
+    refusal: &Refusal,
+) -> Result<Option<Hint>, AllocError> {
     if refusal.fault == Fault::Version {
         return Ok(Some(Hint::Sentence("a policy begins with `version = 2`")));
     }
@@ -260,17 +240,5 @@ fn hint_of_refusal(alloc: Global, refusal: &Refusal) -> Result<Option<Hint>, All
             None => Ok(None),
         },
         None => Ok(None),
-    }
-}
-
-/// The hint for a file that is refused as a policy, by its kind or by the refusal.
-pub(crate) fn hint_of_policy(
-    alloc: Global,
-    kind: Kind,
-    refusal: &Option<Refusal>,
-) -> Result<Option<Hint>, AllocError> {
-    match (hint_of_policy_file(kind), refusal) {
-        (None, Some(refusal)) => hint_of_refusal(alloc, refusal),
-        (hint, _) => Ok(hint),
     }
 }

@@ -28,9 +28,12 @@ pub(crate) fn bytes_of_text(bytes: &[u8]) -> &[u8] {
 }
 
 /// Whether bytes begin like a text, in which a character may be wrong. Those of a filter never do, since the second
-/// byte of each permitted code is 0.
+/// byte of each permitted code is 0. A text doesn't begin with a control character, unless this is a blank.
 fn is_text(bytes: &[u8]) -> bool {
-    bytes.iter().take(FRONT).all(|byte| *byte != 0)
+    match bytes.first() {
+        Some(first) if first.is_ascii_control() && !first.is_ascii_whitespace() => false,
+        _ => bytes.iter().take(FRONT).all(|byte| *byte != 0),
+    }
 }
 
 /// Whether the number of the instructions seems to stand before them, in 2, 4, 8 or 16 bytes, the low byte first.

@@ -1,6 +1,6 @@
 //! What a fault means, in words for a person.
 
-use super::roles::Role;
+use crate::files::{FileRead, FileRole};
 use sf_stack::Fault;
 
 pub(crate) fn meaning_of(fault: &Fault) -> &'static str {
@@ -50,15 +50,15 @@ pub(crate) fn meaning_of(fault: &Fault) -> &'static str {
     }
 }
 
-/// What `Syntax` means for a file that was read in this role. It never comes for a filter or a profile.
-pub(crate) fn meaning_of_syntax(role: Role) -> &'static str {
-    match role {
-        Role::Names => "the file of names is no UTF-8 or no TOML",
-        Role::Accept => "the file of questions that may be allowed is no UTF-8",
-        Role::Groups => {
+/// What `Syntax` means for this file.
+pub(crate) fn meaning_of_syntax(file: &Option<FileRead>) -> &'static str {
+    match file.as_ref().map(|file| file.role) {
+        Some(FileRole::Names) => "the file of names is no UTF-8 or no TOML",
+        Some(FileRole::Accept) => "the file of questions that may be allowed is no UTF-8",
+        Some(FileRole::Groups) => {
             "the file of groups is no UTF-8 or no TOML, or a group hasn't just name, title, why and questions"
         }
-        Role::Policy | Role::Control | Role::Filter | Role::Profile => meaning_of(&Fault::Syntax),
+        _ => meaning_of(&Fault::Syntax),
     }
 }
 

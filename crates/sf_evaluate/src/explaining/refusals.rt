@@ -1,7 +1,7 @@
 //! What is said of a profile that is refused, or of a set of calls for which `profile` is refused.
 
 use super::Case;
-use super::hints::hint_of_profile;
+use super::hints::hint_of_kind;
 use super::meanings::meaning_of_refusal;
 use sf_command_line::text_of;
 use std::alloc::AllocError;
@@ -57,7 +57,10 @@ impl Case<'_, '_> {
             }
             Ok(None) => {
                 self.push_refused_profile(&mut text)?;
-                hint_of_profile(self.last_read().2)
+                match &self.notes.last {
+                    Some(file) => hint_of_kind(file, false),
+                    None => None,
+                }
             }
             Err(_) => return Err(AllocError),
         };

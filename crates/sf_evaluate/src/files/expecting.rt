@@ -3,15 +3,16 @@
 ghost use Rattle.std.specs.Prelude.{◌≡◌, ◌⊎◌, ℕ, List, None, Some, codes, map, option_map, string_bytes, IfOk, IfErr};
 ghost use Rattle.clap.specs.Words.{found_of, rows_of};
 ghost use Rattle.sf_policy.specs.Accepted.{AreAccepted};
-ghost use Rattle.sf_stack.specs.declared.fault.Fault.TheVariants.{Memory as MemoryFault, Read as ReadFault};
+ghost use Rattle.sf_stack.specs.declared.fault.Fault.TheVariants.{Memory as MemoryFault};
 ghost use Rattle.sf_command_line.specs.Options.{paths_of};
-ghost use Rattle.sf_evaluate.specs.Files.{AreKnownBytes};
-ghost use Rattle.sf_evaluate.specs.Expecting.{AreAcceptedIn, IsAcceptFile, IsControl, RefusesAccepted, RefusesControl, RefusesNamed, audit_words_fit, control_fits, summary_fits, wants_no_report, wants_summary};
+ghost use Rattle.sf_evaluate.specs.Failures.{IsGivenFile};
+ghost use Rattle.sf_evaluate.specs.declared.files.identity.FileRole.TheVariants.{Accept, Control};
+ghost use Rattle.sf_evaluate.specs.Expecting.{AreAcceptedIn, IsControl, RefusesAccepted, RefusesControl, RefusesNamed, audit_words_fit, control_fits, summary_fits, wants_no_report, wants_summary};
 ghost use Rattle.sf_evaluate.specs.Wanted.{is_switched_on};
 
 use super::questions::questions_in;
 use crate::explaining::Notes;
-use crate::files::Files;
+use crate::files::{FileRole, Files, read_file};
 use crate::words::{is_among, is_given};
 use clap::ArgMatches;
 use sf_command_line::{given_text, text_of};
@@ -20,8 +21,8 @@ use sf_question::Question;
 use sf_stack::Fault;
 use std::alloc::Global;
 
-/// The questions of the control, whose policy file is at a path; an empty list where no path is given. The notes count
-/// the file, and keep its bytes and its refusal. Refusals are `Read` and those of `read_policy`.
+/// The questions of the control, whose policy file is at a path, if one is given. The notes keep the bytes of the file
+/// and its refusal.
 pub fn control_in<F: Files>(
     alloc: Global,
     path: Option<&str>,
@@ -32,15 +33,16 @@ pub fn control_in<F: Files>(
         (option_map (λ t. t.now) path.entry) v.items) }
     ensures refused { IfErr result (RefusesControl (F.holds files.old)
         (option_map (λ t. t.now) path.entry)) }
+    ensures failed { IfErr result (λ e. (e ≡ MemoryFault) ⊎ IsGivenFile Control
+        (option_map (λ t. t.now) path.entry) notes.new.last) }
     ensures same { (p : List ℕ) → F.holds files.new p ≡ F.holds files.old p }
 {
     match path {
-        Some(path) => questions_in(alloc, path, files, notes),
+        Some(path) => questions_in(alloc, FileRole::Control, path, files, notes),
         None => Ok(Vec::new(alloc)),
     }
 }
 
-/// The names of the questions that may be allowed, by the bytes of their file.
 fn accepted_of(alloc: Global, bytes: &[u8], questions: &[Question]) -> Result<Vec<String>, Fault>
     ensures named { IfOk result (λ v. AreAccepted questions.now bytes.now
         (map string_bytes v.items)) }
@@ -53,28 +55,7 @@ fn accepted_of(alloc: Global, bytes: &[u8], questions: &[Question]) -> Result<Ve
     }
 }
 
-fn accepted_at<F: Files>(
-    alloc: Global,
-    path: &str,
-    questions: &[Question],
-    files: &mut F,
-    notes: &mut Notes,
-) -> Result<Vec<String>, Fault>
-    ensures named { IfOk result (λ v. IsAcceptFile (F.holds files.old path.now) questions.now
-        (map string_bytes v.items)) }
-    ensures refused { IfErr result (λ e. ((e ≡ ReadFault)
-        × (F.holds files.old path.now ≡ None)) ⊎ (e ≡ MemoryFault)
-        ⊎ ((bytes : List ℕ) × AreKnownBytes (F.holds files.old path.now) bytes
-        × RefusesNamed questions.now bytes e)) }
-    ensures same { (p : List ℕ) → F.holds files.new p ≡ F.holds files.old p }
-{
-    let bytes = files.read(path)?;
-    notes.count_file(bytes.as_slice());
-    accepted_of(alloc, &bytes, questions)
-}
-
-/// The names of the questions that may be allowed, by the file at a path; an empty list where no path is given. The
-/// notes count the file. Refusals come in this order: `Read`; `Syntax` where it isn't UTF-8; `Accepted`.
+/// The names of the questions that may be allowed, by the file at a path, if one is given.
 pub fn accepted_in<F: Files>(
     alloc: Global,
     path: Option<&str>,
@@ -86,10 +67,15 @@ pub fn accepted_in<F: Files>(
         (option_map (λ t. t.now) path.entry) questions.now (map string_bytes v.items)) }
     ensures refused { IfErr result (RefusesAccepted (F.holds files.old)
         (option_map (λ t. t.now) path.entry) questions.now) }
+    ensures failed { IfErr result (λ e. (e ≡ MemoryFault) ⊎ IsGivenFile Accept
+        (option_map (λ t. t.now) path.entry) notes.new.last) }
     ensures same { (p : List ℕ) → F.holds files.new p ≡ F.holds files.old p }
 {
     match path {
-        Some(path) => accepted_at(alloc, path, questions, files, notes),
+        Some(path) => {
+            let bytes = read_file(alloc, FileRole::Accept, path, files, notes)?;
+            accepted_of(alloc, &bytes, questions)
+        }
         None => Ok(Vec::new(alloc)),
     }
 }
@@ -136,8 +122,7 @@ fn summary_fits(found: &ArgMatches<'_>) -> bool
     }
 }
 
-/// Whether the control is another policy than those that ask, a summary is asked for without `--json`, `--regions` and
-/// `--why`, and groups only with a summary.
+/// Whether the options of `audit` go together.
 pub fn audit_words_fit(found: &ArgMatches<'_>) -> bool
     ensures { result ≡ audit_words_fit (rows_of (found_of found.now)) }
 {

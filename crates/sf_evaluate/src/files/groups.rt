@@ -2,12 +2,13 @@
 
 ghost use Rattle.std.specs.Prelude.{◌≡◌, ◌⊎◌, ℕ, List, None, option_map, IfOk, IfErr};
 ghost use Rattle.sf_policy.specs.Groups.{AreGroups};
-ghost use Rattle.sf_stack.specs.declared.fault.Fault.TheVariants.{Memory as MemoryFault, Read as ReadFault};
-ghost use Rattle.sf_evaluate.specs.Files.{AreKnownBytes};
-ghost use Rattle.sf_evaluate.specs.Groups.{AreGroupsAt, AreGroupsIn, AreNoGroups, RefusesGroups};
+ghost use Rattle.sf_stack.specs.declared.fault.Fault.TheVariants.{Memory as MemoryFault};
+ghost use Rattle.sf_evaluate.specs.Failures.{IsGivenFile};
+ghost use Rattle.sf_evaluate.specs.declared.files.identity.FileRole.TheVariants.{Groups};
+ghost use Rattle.sf_evaluate.specs.Groups.{AreGroupsIn, AreNoGroups, RefusesGroups};
 
 use crate::explaining::Notes;
-use crate::files::Files;
+use crate::files::{FileRole, Files, read_file};
 use sf_policy::{Group, read_groups};
 use sf_stack::Fault;
 use std::alloc::Global;
@@ -25,48 +26,29 @@ fn groups_of(alloc: Global, bytes: &[u8]) -> Result<Vec<Group>, Fault>
     }
 }
 
-fn groups_at<F: Files>(
-    alloc: Global,
-    path: &str,
-    files: &mut F,
-    notes: &mut Notes,
-) -> Result<Vec<Group>, Fault>
-    ensures meant { IfOk result (λ v. AreGroupsAt (F.holds files.old) path.now v.items) }
-    ensures refused { IfErr result (λ e. ((e ≡ ReadFault)
-        × (F.holds files.old path.now ≡ None)) ⊎ (e ≡ MemoryFault)
-        ⊎ ((bytes : List ℕ) × AreKnownBytes (F.holds files.old path.now) bytes
-        × AreNoGroups bytes e)) }
-    ensures same { (p : List ℕ) → F.holds files.new p ≡ F.holds files.old p }
-{
-    match files.read(path) {
-        Ok(bytes) => {
-            notes.count_file(bytes.as_slice());
-            groups_of(alloc, &bytes)
-        }
-        Err(Fault::Read) if path == INSTALLED_GROUPS => {
-            notes.count_file(&[]);
-            Ok(Vec::new(alloc))
-        }
-        Err(fault) => Err(fault),
-    }
-}
-
-/// The groups of the file at a path; none where no path is given, or where the installed file can't be read. The notes
-/// count the file, this one too. Refusals are `Read` and `Syntax`.
+/// The groups of the file at a path; none where there is no path, or where the file can't be read and wasn't given on
+/// the command line.
 pub fn groups_in<F: Files>(
     alloc: Global,
     path: Option<&str>,
+    is_given: bool,
     files: &mut F,
     notes: &mut Notes,
 ) -> Result<Vec<Group>, Fault>
     ensures meant { IfOk result (λ v. AreGroupsIn (F.holds files.old)
-        (option_map (λ t. t.now) path.entry) v.items) }
+        (option_map (λ t. t.now) path.entry) is_given v.items) }
     ensures refused { IfErr result (RefusesGroups (F.holds files.old)
         (option_map (λ t. t.now) path.entry)) }
+    ensures failed { IfErr result (λ e. (e ≡ MemoryFault) ⊎ IsGivenFile Groups
+        (option_map (λ t. t.now) path.entry) notes.new.last) }
     ensures same { (p : List ℕ) → F.holds files.new p ≡ F.holds files.old p }
 {
     match path {
-        Some(path) => groups_at(alloc, path, files, notes),
+        Some(path) => match read_file(alloc, FileRole::Groups, path, files, notes) {
+            Ok(bytes) => groups_of(alloc, &bytes),
+            Err(Fault::Read) if !is_given => Ok(Vec::new(alloc)),
+            Err(fault) => Err(fault),
+        },
         None => Ok(Vec::new(alloc)),
     }
 }

@@ -8,32 +8,43 @@ use sf_json::{Document, Fields};
 use sha2::{Digest, Sha256};
 use std::alloc::{AllocError, Global};
 
-/// What a file was read as.
+/// What a file is read as.
 #[derive(Clone, Copy, Debug, PartialEq, Eq)]
 pub enum FileRole {
+    Names,
+    /// A policy that asks questions.
     Policy,
+    Control,
+    /// The file of the questions that may be allowed.
+    Accept,
+    /// The file of the groups of a summary.
+    Groups,
     /// A filter of the only stack.
     Filter,
     /// A filter of the first of two stacks, as `New` of the second.
     Old,
     New,
+    Profile,
 }
 
 impl FileRole {
-    fn name(self) -> &'static str
+    pub(crate) fn name(self) -> &'static str
         ensures { result.now ≡ role_name self }
     {
         match self {
+            FileRole::Names => "names",
             FileRole::Policy => "policy",
+            FileRole::Control => "control",
+            FileRole::Accept => "accept",
+            FileRole::Groups => "groups",
             FileRole::Filter => "filter",
             FileRole::Old => "old",
             FileRole::New => "new",
+            FileRole::Profile => "profile",
         }
     }
 }
 
-/// The object of a file: at `role` what it was read as, at `path` its path as given, at `length` how many bytes it has,
-/// and at `sha256` their SHA-256, as 64 hexadecimal digits in lower case.
 fn file_document(
     alloc: Global,
     role: FileRole,
@@ -51,7 +62,6 @@ fn file_document(
     Ok(Document::object(fields))
 }
 
-/// Adds the document of a file, if it is asked for.
 pub(crate) fn push_file(
     alloc: Global,
     documents: &mut Vec<Document>,

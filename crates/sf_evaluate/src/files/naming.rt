@@ -3,11 +3,13 @@
 ghost use Rattle.std.specs.Prelude.{◌≡◌, ◌⊎◌, ℕ, List, None, IfOk, IfErr};
 ghost use Rattle.sf_stack.specs.declared.fault.Fault.TheVariants.{Memory as MemoryFault, Read as ReadFault};
 ghost use Rattle.clap.specs.Words.{found_of, rows_of};
-ghost use Rattle.sf_evaluate.specs.Asking.{AreNamed, RefusesNamed};
-ghost use Rattle.sf_evaluate.specs.Names.{AreNames, AreNamesRead, IsNamesFile, RefusesNames, RefusesNamesFile, RefusesNaming};
+ghost use Rattle.sf_evaluate.specs.Asking.{AreNamed, NamesOfNamed, RefusesNamed};
+ghost use Rattle.sf_evaluate.specs.declared.files.identity.FileRole.TheVariants.{Names as NamesRole};
+ghost use Rattle.sf_evaluate.specs.Failures.{IsFile, NamesFailed};
+ghost use Rattle.sf_evaluate.specs.Names.{AreNames, AreNamesRead, IsNamesFile, RefusesNames, RefusesNamesFile, RefusesSetsAt};
 
 use crate::explaining::Notes;
-use crate::files::Files;
+use crate::files::{FileRole, Files, read_file};
 use crate::words::lacks_names;
 use clap::ArgMatches;
 use sf_names::{Names, join_sets, read_names};
@@ -15,7 +17,7 @@ use sf_stack::Fault;
 use std::alloc::Global;
 
 /// The path of the names that come with the program.
-pub(crate) const INSTALLED_NAMES: &str = "@names";
+const INSTALLED_NAMES: &str = "@names";
 
 fn sets_of(alloc: Global, text: &str) -> Result<Vec<Names>, Fault>
     ensures meant { IfOk result (λ v. AreNames text.now v.items) }
@@ -24,7 +26,7 @@ fn sets_of(alloc: Global, text: &str) -> Result<Vec<Names>, Fault>
     Ok(read_names(alloc, text)?)
 }
 
-/// The sets of the file of names at a path, which the notes count.
+/// The sets of the file of names at a path.
 fn names_in<F: Files>(
     alloc: Global,
     path: &str,
@@ -35,10 +37,12 @@ fn names_in<F: Files>(
     ensures refused { IfErr result (λ e. ((e ≡ ReadFault)
         × (F.holds files.old path.now ≡ None))
         ⊎ (e ≡ MemoryFault) ⊎ RefusesNamesFile (F.holds files.old path.now) e) }
+    ensures failed { IfErr result (λ e. (e ≡ MemoryFault)
+        ⊎ IsFile NamesRole path.now notes.new.last) }
+    ensures opened { IfOk result (λ _. IsFile NamesRole path.now notes.new.last) }
     ensures same { (p : List ℕ) → F.holds files.new p ≡ F.holds files.old p }
 {
-    let bytes = files.read(path)?;
-    notes.count_file(bytes.as_slice());
+    let bytes = read_file(alloc, FileRole::Names, path, files, notes)?;
     match std::str::from_utf8(&bytes) {
         Ok(text) => sets_of(alloc, text),
         Err(_) => Err(Fault::Syntax),
@@ -46,10 +50,7 @@ fn names_in<F: Files>(
 }
 
 /// The sets of the files of names at these paths, joined one file after the other: a file may add calls to a set of an
-/// earlier one. The notes, which have counted no file before, count the files and their sets.
-///
-/// The refusal is that of the first file that is refused: `Read`; `Syntax`; `NamesKey`, `NamesCount` and `NamesRange`
-/// as by `read_names` of `sf_names`; then `NamesKey` and `NamesCount` as by `join_sets`.
+/// earlier one. The notes, which have counted no sets before, count them.
 fn read_all_names<F: Files>(
     alloc: Global,
     paths: &[&str],
@@ -57,7 +58,9 @@ fn read_all_names<F: Files>(
     notes: &mut Notes,
 ) -> Result<Vec<Names>, Fault>
     ensures meant { IfOk result (λ v. AreNamesRead (F.holds files.old) paths.now v.items) }
-    ensures refused { IfErr result (RefusesNaming (F.holds files.old) paths.now) }
+    ensures failed { IfErr result (λ e. NamesFailed NamesRole (F.holds files.old) paths.now
+        notes.new.last (RefusesSetsAt (F.holds files.old) paths.now e) e) }
+    ensures closed { IfOk result (λ _. notes.new.last ≡ None) }
     ensures same { (p : List ℕ) → F.holds files.new p ≡ F.holds files.old p }
 {
     let mut all = Vec::new(alloc);
@@ -65,8 +68,9 @@ fn read_all_names<F: Files>(
         let sets = names_in(alloc, path, files, notes)?;
         let count = sets.len();
         join_sets(&mut all, sets)?;
-        notes.count_sets(count, all.len());
+        notes.sets.push((count, all.len()))?;
     }
+    notes.last = None;
     Ok(all)
 }
 
@@ -82,6 +86,9 @@ pub fn read_needed_names<F: Files>(
         (rows_of (found_of found.now)) v.items) }
     ensures refused { IfErr result (RefusesNamed (F.holds files.old)
         (rows_of (found_of found.now))) }
+    ensures failed { IfErr result (NamesOfNamed (F.holds files.old)
+        (rows_of (found_of found.now)) notes.new.last) }
+    ensures closed { IfOk result (λ _. notes.new.last ≡ None) }
     ensures same { (p : List ℕ) → F.holds files.new p ≡ F.holds files.old p }
 {
     if lacks_names(found) {

@@ -1,6 +1,6 @@
 //! Where the questions of policy files stand, as JSON.
 
-ghost use Rattle.std.specs.Prelude.{◌≡◌, ◌++◌, List, map, IfOk, OnOk};
+ghost use Rattle.std.specs.Prelude.{◌≡◌, ◌++◌, [], List, false, map, true, IfOk, OnOk};
 ghost use Rattle.serde_json.specs.Data.{Data};
 ghost use Rattle.serde_json.specs.View.{view};
 ghost use Rattle.sf_evaluate.specs.Origins.{AreOriginsOf, IsOrigin};
@@ -48,17 +48,22 @@ fn marks_in(alloc: Global, policy: &[u8]) -> Result<Vec<Mark>, AllocError> {
 }
 
 /// Adds an object for each of the `count` questions of the policy with this path and these bytes, as `origin_document`
-/// writes it.
+/// writes it, if this is asked for.
 pub(crate) fn push_origins(
     alloc: Global,
     origins: &mut Vec<Document>,
+    is_asked: bool,
     path: &str,
     policy: &[u8],
     count: usize,
 ) -> Result<(), AllocError>
-    ensures { OnOk result ((more : List Data) × AreOriginsOf path.now count more
+    ensures { OnOk result ((more : List Data) × (is_asked ≡ true → AreOriginsOf path.now count more)
+        × (is_asked ≡ false → more ≡ [])
         × (map view origins.new.items ≡ map view origins.old.items ++ more)) }
 {
+    if !is_asked {
+        return Ok(());
+    }
     let marks = marks_in(alloc, policy)?;
     for place in 0..count {
         origins.push(origin_document(alloc, path, marks.get(place))?)?;

@@ -3,6 +3,7 @@
 ghost use Rattle.std.specs.Prelude.{◌≡◌, ◌⊎◌, ℕ, List, None, map, IfOk, IfErr};
 ghost use Rattle.serde_json.specs.View.{view};
 ghost use Rattle.sf_stack.specs.declared.fault.Fault.TheVariants.{Memory as MemoryFault, Read as ReadFault};
+ghost use Rattle.sf_evaluate.specs.Failures.{IsFile, NamesFailed};
 ghost use Rattle.sf_evaluate.specs.Files.{AreKnownBytes};
 ghost use Rattle.sf_evaluate.specs.Identity.{HasFiles};
 ghost use Rattle.sf_evaluate.specs.Origins.{HasOrigins};
@@ -12,16 +13,17 @@ ghost use Rattle.sf_evaluate.specs.declared.files.identity.FileRole.TheVariants.
 use super::identity::{FileRole, push_file};
 use super::origins::push_origins;
 use crate::explaining::Notes;
-use crate::files::Files;
+use crate::files::{Files, read_file};
 use sf_json::Document;
 use sf_policy::read_policy_at;
 use sf_question::Question;
 use sf_stack::Fault;
 use std::alloc::Global;
 
-/// The questions of the policy file at a path. The notes count it, and keep its bytes and its refusal.
+/// The questions of the policy file at a path. The notes keep its bytes and its refusal.
 pub(crate) fn questions_in<F: Files>(
     alloc: Global,
+    role: FileRole,
     path: &str,
     files: &mut F,
     notes: &mut Notes,
@@ -32,10 +34,11 @@ pub(crate) fn questions_in<F: Files>(
     ensures refused { IfErr result (λ e. ((e ≡ ReadFault)
         × (F.holds files.old path.now ≡ None))
         ⊎ (e ≡ MemoryFault) ⊎ RefusesPolicyFile (F.holds files.old path.now) e) }
+    ensures failed { IfErr result (λ e. (e ≡ MemoryFault)
+        ⊎ IsFile role path.now notes.new.last) }
     ensures same { (p : List ℕ) → F.holds files.new p ≡ F.holds files.old p }
 {
-    let bytes = files.read(path)?;
-    notes.count_file(bytes.as_slice());
+    let bytes = read_file(alloc, role, path, files, notes)?;
     notes.policy = bytes;
     match std::str::from_utf8(&notes.policy) {
         Ok(text) => {
@@ -59,45 +62,46 @@ pub struct Policies {
     pub files: Vec<Document>,
 }
 
-/// What is read of the policy files at these paths, with origins and the documents of files if `with_documents`. The
-/// notes count the files, and keep the bytes of the last one and its refusal.
-///
-/// The refusal is that of the first file that is refused: `Read`, or one of `read_policy`. It numbers the questions of
-/// each file from 1.
+/// What is read of the policy files at these paths, with origins and the documents of files where these are asked for.
+/// The notes keep the bytes of the last one and its refusal, which numbers the questions of each file from 1.
 pub fn all_questions_in<F: Files>(
     alloc: Global,
     paths: &[&str],
+    with_origins: bool,
     with_documents: bool,
     files: &mut F,
     notes: &mut Notes,
 ) -> Result<Policies, Fault>
     ensures asked { IfOk result (λ r. AreAsked (F.holds files.old) paths.now r.questions.items) }
-    ensures placed { IfOk result (λ r. HasOrigins with_documents (F.holds files.old) paths.now
+    ensures placed { IfOk result (λ r. HasOrigins with_origins (F.holds files.old) paths.now
         r.questions.items (map view r.origins.items)) }
     ensures told { IfOk result (λ r. HasFiles with_documents (F.holds files.old) Policy paths.now
         (map view r.files.items)) }
     ensures refused { IfErr result (RefusesAsking (F.holds files.old) paths.now) }
+    ensures failed { IfErr result (λ e. NamesFailed Policy (F.holds files.old) paths.now
+        notes.new.last (λ _ path. RefusesPolicyFile (F.holds files.old path) e) e) }
+    ensures closed { IfOk result (λ _. notes.new.last ≡ None) }
     ensures same { (p : List ℕ) → F.holds files.new p ≡ F.holds files.old p }
 {
     let mut all = Vec::new(alloc);
     let mut origins = Vec::new(alloc);
     let mut documents = Vec::new(alloc);
     for path in paths {
-        let mut questions = questions_in(alloc, path, files, notes)?;
+        let role = FileRole::Policy;
+        let mut questions = questions_in(alloc, role, path, files, notes)?;
         let policy = &notes.policy;
-        push_file(
+        push_file(alloc, &mut documents, with_documents, role, path, policy)?;
+        push_origins(
             alloc,
-            &mut documents,
-            with_documents,
-            FileRole::Policy,
+            &mut origins,
+            with_origins,
             path,
             policy,
+            questions.len(),
         )?;
-        if with_documents {
-            push_origins(alloc, &mut origins, path, policy, questions.len())?;
-        }
         all.append(&mut questions)?;
     }
+    notes.last = None;
     Ok(Policies {
         questions: all,
         origins,

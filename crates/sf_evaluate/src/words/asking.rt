@@ -18,13 +18,12 @@ use sf_names::{Names, find_set, is_call_name};
 use sf_stack::Fault;
 
 /// Whether the option with this name, without dashes, is given. One with a usual value would always seem to be given.
-pub(crate) fn is_given(found: &ArgMatches<'_>, name: &str) -> bool
+pub fn is_given(found: &ArgMatches<'_>, name: &str) -> bool
     ensures { result ≡ is_given name.now (rows_of (found_of found.now)) }
 {
     found.get_str(name).is_some()
 }
 
-/// Whether no option that describes a call is given.
 fn describes_no_call(found: &ArgMatches<'_>) -> bool
     ensures { result ≡ describes_no_call (rows_of (found_of found.now)) }
 {
@@ -32,14 +31,12 @@ fn describes_no_call(found: &ArgMatches<'_>) -> bool
         && !(is_given(found, "arch") || is_given(found, "args"))
 }
 
-/// Whether `--arch` is given, and `--args` has the right form. How many bits the numbers have isn't asked.
 fn has_arch_and_arguments(found: &ArgMatches<'_>) -> bool
     ensures { result ≡ has_arch_and_arguments (rows_of (found_of found.now)) }
 {
     is_given(found, "arch") && (is_given(found, "args") && are_arguments(text_of(found, "args")))
 }
 
-/// Whether the words ask for a call by its name. Whether a file has these names isn't asked.
 fn call_fits(found: &ArgMatches<'_>) -> bool
     ensures { result ≡ call_fits (rows_of (found_of found.now)) }
 {
@@ -53,8 +50,6 @@ fn is_arch(text: &str) -> bool
     is_number(text) || is_call_name(text)
 }
 
-/// Whether the words ask for a call by its number. How many bits the numbers have isn't asked, nor whether `--call` is
-/// given too.
 fn nr_fits(found: &ArgMatches<'_>) -> bool
     ensures { result ≡ nr_fits (rows_of (found_of found.now)) }
 {
@@ -62,8 +57,7 @@ fn nr_fits(found: &ArgMatches<'_>) -> bool
 }
 
 /// Whether the words of `eval` ask for one input: by `--input`, or by a call's name or its number, its architecture and
-/// its arguments. Whether the text of `--input` spells an input, and how many bits numbers have, is asked by
-/// `numbers_fit`.
+/// its arguments. Whether texts spell an input, and numbers fit into their places, is asked by `numbers_fit`.
 pub fn eval_words_fit(found: &ArgMatches<'_>) -> bool
     ensures { result ≡ eval_words_fit (rows_of (found_of found.now)) }
 {
@@ -80,7 +74,6 @@ pub fn eval_words_fit(found: &ArgMatches<'_>) -> bool
     }
 }
 
-/// Whether a text is no number, or a number of at most 32 bits.
 fn is_narrow(text: &str) -> bool
     ensures { result ≡ is_narrow text.now }
 {
@@ -90,7 +83,6 @@ fn is_narrow(text: &str) -> bool
     read_word(text).is_ok()
 }
 
-/// Whether the numbers that are given for a call and its architecture have at most 32 bits.
 fn is_nr_narrow(found: &ArgMatches<'_>) -> bool
     ensures { result ≡ is_nr_narrow (rows_of (found_of found.now)) }
 {
@@ -157,8 +149,6 @@ fn arch_named(names: &[Names], set: &str) -> Result<u32, Fault>
     }
 }
 
-/// The number of the call that is asked for: the one behind `--nr`, or that of the call behind `--call` in the set
-/// behind `--arch`.
 fn asked_nr(found: &ArgMatches<'_>, names: &[Names]) -> Result<u32, Fault>
     ensures asked { IfOk result (λ n. asked_nr (rows_of (found_of found.now))
         names.now ≡ Some n) }
@@ -180,7 +170,6 @@ fn is_arch_number(found: &ArgMatches<'_>) -> bool
     is_given(found, "nr") && is_number(text_of(found, "arch"))
 }
 
-/// The number of the architecture that is asked for: the one behind `--arch`, or that of the set with the name there.
 fn asked_arch(found: &ArgMatches<'_>, names: &[Names]) -> Result<u32, Fault>
     ensures asked { IfOk result (λ n. asked_arch (rows_of (found_of found.now))
         names.now ≡ Some n) }
@@ -210,9 +199,6 @@ fn asked_call(found: &ArgMatches<'_>, names: &[Names]) -> Result<Input, Fault>
 }
 
 /// The input that the words ask for. The notes also keep whether there is a set with the name behind `--arch`.
-///
-/// `Input` where `numbers_fit` is false; `UnknownName` where no set has the name behind `--arch`, or that set has no
-/// call with the name behind `--call`.
 pub fn asked_input(
     found: &ArgMatches<'_>,
     names: &[Names],

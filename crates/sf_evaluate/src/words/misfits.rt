@@ -4,7 +4,7 @@
 
 use super::asking::is_given;
 use super::settings::wrong_word;
-use super::wanted::{calls_fit, digest_fits, is_relation, push_wrong_calls};
+use super::wanted::{calls_fit, digest_fits, is_relation, misfit_of_calls};
 use crate::fault::Fault;
 use crate::files::{control_fits, wants_summary};
 use clap::ArgMatches;
@@ -22,17 +22,22 @@ pub(super) enum Misfit<'a> {
     Missing(&'static str),
     /// The option, its value, and what it takes.
     Value(&'static str, &'a str, &'static str),
+    Sentence(&'static str),
+    /// The control with this path is a policy that asks too.
+    Control(&'a str),
+    /// This name of a call stands twice behind `--calls`.
+    Twice(&'a str),
+    /// A word behind `--calls` that can't be the name of a call: it may be the path of a filter.
+    NoCall(&'a str),
 }
 
-/// The options that ask for an input: the name of each, without dashes, and what messages call it.
-const ASKING: [(&str, &str); 3] = [
-    ("input", "--input <HEX>"),
+/// The options that describe a call: the name of each, without dashes, and what messages call it.
+const OF_CALL: [(&str, &str); 4] = [
     ("call", "--call <NAME>"),
     ("nr", "--nr <N>"),
+    ("arch", "--arch <SET>"),
+    ("args", "--args <A,..>"),
 ];
-
-/// The options that go only with a call.
-const OF_CALL: [(&str, &str); 2] = [("arch", "--arch <SET>"), ("args", "--args <A,..>")];
 
 const NUMBER: &str = "decimal digits, or 0x and hexadecimal digits";
 
@@ -40,8 +45,7 @@ const NUMBER: &str = "decimal digits, or 0x and hexadecimal digits";
 const ONE_INPUT: &str =
     "one input of a call says nothing of its other inputs: `list --calls <NAME>` tells the answers to all of them";
 
-const DIGEST: &str =
-    "error: --digest is that of all rows: give it without --names, --calls and --json\n";
+const DIGEST: &str = "--digest is that of all rows: give it without --names, --calls and --json";
 
 /// The first of these options that is given, or if not `given` the first that is missing, as messages call it.
 fn first_of(
@@ -55,15 +59,6 @@ fn first_of(
         }
     }
     None
-}
-
-/// The misfit of `--input` with an option of a call that is given too.
-fn misfit_of_input<'a>(found: &ArgMatches<'a>) -> Option<Misfit<'a>> {
-    let other = match first_of(found, &ASKING[1..], true) {
-        Some(other) => other,
-        None => first_of(found, &OF_CALL, true)?,
-    };
-    Some(Misfit::Both("--input <HEX>", other))
 }
 
 /// The first thing that doesn't fit where a call is asked for by its name.
@@ -95,15 +90,16 @@ fn misfit_of_nr<'a>(found: &ArgMatches<'a>) -> Option<Misfit<'a>> {
 
 fn first_misfit<'a>(found: &ArgMatches<'a>) -> Option<Misfit<'a>> {
     if is_given(found, "input") {
-        return misfit_of_input(found);
+        return Some(Misfit::Both("--input <HEX>", first_of(found, &OF_CALL, true)?));
     }
-    if is_given(found, "call") && is_given(found, "nr") {
-        return Some(Misfit::Both("--call <NAME>", "--nr <N>"));
+    match (is_given(found, "call"), is_given(found, "nr")) {
+        (true, true) => return Some(Misfit::Both("--call <NAME>", "--nr <N>")),
+        (false, false) => {
+            return Some(Misfit::Missing("--input <HEX>, --call <NAME> or --nr <N>"));
+        }
+        _ => {}
     }
-    if first_of(found, &ASKING, true).is_none() {
-        return Some(Misfit::Missing("--input <HEX>, --call <NAME> or --nr <N>"));
-    }
-    if let Some(missing) = first_of(found, &OF_CALL, false) {
+    if let Some(missing) = first_of(found, &OF_CALL[2..], false) {
         return Some(Misfit::Missing(missing));
     }
     let args = text_of(found, "args");
@@ -119,7 +115,40 @@ fn first_misfit<'a>(found: &ArgMatches<'a>) -> Option<Misfit<'a>> {
     }
 }
 
-/// Adds the lines that say what doesn't fit, in the form in which `clap` says it.
+/// What is wrong with the words of `audit`: the control, which is a policy that asks too, or the summary.
+fn misfit_of_audit<'a>(found: &ArgMatches<'a>) -> Misfit<'a> {
+    if !control_fits(found) {
+        return Misfit::Control(text_of(found, "control"));
+    }
+    Misfit::Sentence(if wants_summary(found) {
+        "a summary takes the place of a report: give it without --json, --regions and --why"
+    } else {
+        "--groups is for a summary: give --summary or --summary-all too"
+    })
+}
+
+/// What is wrong with the options about the rows of a comparison.
+fn misfit_of_rows<'a>(found: &ArgMatches<'a>) -> Misfit<'a> {
+    let only = found.get_str("only").unwrap_or("different");
+    if is_relation(only) {
+        return Misfit::Sentence("--calls and --only tell of rows: give --rows too");
+    }
+    Misfit::Value("--only <RELATION>", only, "looser, tighter, different")
+}
+
+/// The first thing in the words of a subcommand that doesn't fit.
+fn misfit_in<'a>(name: &str, found: &ArgMatches<'a>) -> Option<Misfit<'a>> {
+    match name {
+        "audit" => Some(misfit_of_audit(found)),
+        "eval" => first_misfit(found),
+        "profile" => wrong_word(found),
+        _ if !calls_fit(found) => Some(misfit_of_calls(found)),
+        _ if !digest_fits(found) => Some(Misfit::Sentence(DIGEST)),
+        _ => Some(misfit_of_rows(found)),
+    }
+}
+
+/// Adds the lines that say what doesn't fit, as far as `clap` knows such misfits in its form.
 fn push_misfit(text: &mut String, misfit: &Misfit<'_>) -> Result<(), AllocError> {
     match misfit {
         Misfit::Both(one, other) => write!(
@@ -134,66 +163,32 @@ fn push_misfit(text: &mut String, misfit: &Misfit<'_>) -> Result<(), AllocError>
             text,
             "error: invalid value {value:?} for '{option}'\n  [possible values: {taken}]\n"
         ),
-    }
-}
-
-/// Adds the lines that tell the first thing in the words of `eval` or `profile` that doesn't fit. Where `--call` is
-/// given without `--args`, a line points to `list`.
-fn push_first(
-    text: &mut String,
-    misfit: Option<Misfit<'_>>,
-    found: &ArgMatches<'_>,
-) -> Result<(), AllocError> {
-    if let Some(misfit) = misfit {
-        push_misfit(text, &misfit)?;
-    }
-    if is_given(found, "call") && !is_given(found, "args") {
-        write!(text, "  {ONE_INPUT}\n")?;
-    }
-    Ok(())
-}
-
-/// Adds the lines that say what is wrong with the words of `audit`: the control, which is a policy that asks too, or
-/// the summary.
-fn push_wrong_audit(text: &mut String, found: &ArgMatches<'_>) -> Result<(), AllocError> {
-    if !control_fits(found) {
-        let control = text_of(found, "control");
-        return write!(
+        Misfit::Sentence(sentence) => write!(text, "error: {sentence}\n"),
+        Misfit::Control(control) => write!(
             text,
             "error: {control:?} is given as --control and as --policy\n  A control asks about calls that must get through, a policy about calls that must not.\n"
-        );
+        ),
+        Misfit::Twice(name) => write!(text, "error: --calls names {name:?} twice\n"),
+        Misfit::NoCall(name) => write!(
+            text,
+            "error: {name:?} is no name of a call, for --calls\n  For all calls, let another option follow --calls, or give it behind the filters.\n"
+        ),
     }
-    text.push_str(if wants_summary(found) {
-        "error: a summary takes the place of a report: give it without --json, --regions and --why\n"
-    } else {
-        "error: --groups is for a summary: give --summary or --summary-all too\n"
-    })
 }
 
-/// Adds the lines that say what is wrong with the options about the rows of a comparison.
-fn push_wrong_rows(text: &mut String, found: &ArgMatches<'_>) -> Result<(), AllocError> {
-    let only = found.get_str("only").unwrap_or("different");
-    if is_relation(only) {
-        return text.push_str("error: --calls and --only tell of rows: give --rows too\n");
-    }
-    let taken = "looser, tighter, different";
-    push_misfit(text, &Misfit::Value("--only <RELATION>", only, taken))
-}
-
-/// The lines that say which words of a subcommand don't fit.
+/// The lines that say which words of a subcommand don't fit. Where `--call` is given without `--args`, a line points to
+/// `list`.
 fn wrong_words_text(
     alloc: Global,
     name: &str,
     found: &ArgMatches<'_>,
 ) -> Result<String, AllocError> {
     let mut text = String::new(alloc);
-    match name {
-        "audit" => push_wrong_audit(&mut text, found)?,
-        "eval" => push_first(&mut text, first_misfit(found), found)?,
-        "profile" => push_first(&mut text, wrong_word(found), found)?,
-        _ if !calls_fit(found) => push_wrong_calls(&mut text, found)?,
-        _ if !digest_fits(found) => text.push_str(DIGEST)?,
-        _ => push_wrong_rows(&mut text, found)?,
+    if let Some(misfit) = misfit_in(name, found) {
+        push_misfit(&mut text, &misfit)?;
+    }
+    if is_given(found, "call") && !is_given(found, "args") {
+        write!(text, "  {ONE_INPUT}\n")?;
     }
     text.push_str("\nFor more information, try '--help'.\n")?;
     Ok(text)

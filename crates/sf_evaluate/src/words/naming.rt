@@ -28,7 +28,6 @@ fn needs_names(found: &ArgMatches<'_>) -> bool
         || (is_given(found, "profile") || names_a_set(found))
 }
 
-/// Whether names are needed, and no file of names is given.
 pub(crate) fn lacks_names(found: &ArgMatches<'_>) -> bool
     ensures { result ≡ lacks_names (rows_of (found_of found.now)) }
 {

@@ -58,7 +58,6 @@ const CAPABILITIES: [&str; 41] = [
     "CAP_CHECKPOINT_RESTORE",
 ];
 
-/// The set of calls that programs built for a machine use, by the word behind `--machine`.
 fn machine_named(text: &str) -> Option<CallSet>
     ensures { result ≡ machine_named text.now }
 {
@@ -71,7 +70,6 @@ fn machine_named(text: &str) -> Option<CallSet>
     }
 }
 
-/// Which of several rules of a profile counts for a call, by the word behind `--conflicts`.
 fn reading_named(text: &str) -> Option<Reading>
     ensures { result ≡ reading_named text.now }
 {

@@ -11,6 +11,7 @@ ghost use Rattle.sf_stack.specs.declared.fault.Fault.TheVariants.{Memory as Memo
 ghost use Rattle.sf_evaluate.specs.Wanted.{are_known, calls_asked, calls_fit, digest_fits, has_rows_if_needed, is_known_call, is_wanted_once, is_relation, names_in_text, rows_fit};
 
 use super::asking::is_given;
+use super::misfits::Misfit;
 use super::naming::has_names;
 use crate::explaining::Notes;
 use clap::ArgMatches;
@@ -31,7 +32,6 @@ fn is_name_once(text: &str, name: &str) -> bool
     is_call_name(name) && count_of(text, name) == 1
 }
 
-/// Whether each of the comma-separated names in a text can be that of a call, and stands there only once.
 fn are_names(text: &str) -> bool
     ensures { result ≡ list_all (is_wanted_once (names_in_text text.now))
         (names_in_text text.now) }
@@ -65,8 +65,6 @@ fn only_fits(found: &ArgMatches<'_>) -> bool
     }
 }
 
-/// Whether `--rows` is given, or neither `--calls` nor `--only`, which say how rows are shown. A switch that is given
-/// has the text `true`.
 fn has_rows_if_needed(found: &ArgMatches<'_>) -> bool
     ensures { result ≡ has_rows_if_needed (rows_of (found_of found.now)) }
 {
@@ -98,7 +96,6 @@ fn names_in_text<'a>(alloc: Global, text: &'a str) -> Result<Vec<&'a str>, Alloc
     text.split(',').collect(alloc)
 }
 
-/// The names of calls in the text of `--calls`; an empty list asks for all calls.
 fn calls_asked<'a>(alloc: Global, found: &ArgMatches<'a>) -> Result<Option<Vec<&'a str>>, Fault>
     ensures asked { IfOk result (λ o. option_map (λ v. map (λ t. t.now) v.items) o
         ≡ calls_asked (rows_of (found_of found.now))) }
@@ -122,7 +119,6 @@ fn are_all_known(sets: &[Names], names: &[&str]) -> bool
     names.iter().all(|name| is_known_call(sets, name))
 }
 
-/// Whether each call that is asked for by its name is known. `calls` is as `calls_asked` gives it.
 fn are_known(sets: &[Names], calls: &Option<Vec<&str>>) -> bool
     ensures { result
         ≡ are_known sets.now (option_map (λ v. map (λ t. t.now) v.items) calls.now) }
@@ -163,20 +159,14 @@ pub fn known_calls<'a>(
     Ok(calls)
 }
 
-/// Adds the lines that say what is wrong with `--calls`. A name that can't be that of a call may be the path of a
-/// filter that `--calls` took as its text: so for such a name a further line says how to ask for all calls.
-pub(super) fn push_wrong_calls(
-    text: &mut String,
-    found: &ArgMatches<'_>,
-) -> Result<(), AllocError> {
+/// What is wrong with `--calls`.
+pub(super) fn misfit_of_calls<'a>(found: &ArgMatches<'a>) -> Misfit<'a> {
     let calls = text_of(found, "calls");
     let mut names = calls.split(',');
     let name = names.find(|name| !is_name_once(calls, name)).unwrap_or("");
     if is_call_name(name) {
-        return write!(text, "error: --calls names {name:?} twice\n");
+        Misfit::Twice(name)
+    } else {
+        Misfit::NoCall(name)
     }
-    write!(
-        text,
-        "error: {name:?} is no name of a call, for --calls\n  For all calls, let another option follow --calls, or give it behind the filters.\n"
-    )
 }

@@ -1,4 +1,4 @@
-use Rattle.sf_evaluate.specs.Profiles.{AreCallsOf}
+use Rattle.sf_evaluate.proofs.Common.{AreCallsOf}
 use Rattle.sf_evaluate.proofs.calls.calls_of.Given as goal
 
 abbrev pub invariant-loop-one : goal.invariant-loop-one

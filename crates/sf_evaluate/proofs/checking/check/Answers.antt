@@ -1,19 +1,12 @@
-use Rattle.std.proofs.Common.{map}
-use Rattle.serde_json.specs.View.{view}
-use Rattle.std.proofs.lemmas.Result.{IfErr-weaker, on_ok_weaker}
-use Rattle.sf_evaluate.proofs.KeptLemmas.{memory_refuses}
+use Rattle.sf_evaluate.proofs.Common.{map, sym, view, on_ok_weaker}
 use Rattle.sf_evaluate.proofs.checking.check.Goals as goal
 
 pub returns-clause-written : goal.returns-clause-written
-returns-clause-written g c = on_ok_weaker c.check_stack.result
+returns-clause-written g c = on_ok_weaker c.print.result
     (λ written. (
       c.in_ok-stack.stack,
       map view c.in_ok-stack.documents.items,
       c.in_ok-stack.ensures.held,
       c.in_ok-stack.ensures.told,
-      written,
-    )) c.check_stack.ensures.written
-
-pub returns-clause-refused : goal.returns-clause-refused
-returns-clause-refused g c = IfErr-weaker c.check_stack.result _ _ (λ e why. memory_refuses _ _ e why)
-    c.check_stack.ensures.refused
+      (c.deref.result.now, rw (sym c.deref.ensures) at c.in_ok-text.ensures, written),
+    )) c.print.ensures.written

@@ -1,78 +1,60 @@
 -- The sets of files of names, joined one file after the other.
-use Rattle.std.proofs.Common.{◌≡◌, ◌⊎◌, inl, inr, ℕ, ◌+◌, ◌≤◌, ◌∙◌, List, [], ◌∷◌, ◌++◌, ap, length, Option, Some, None, Bor, slice_get, refl, sym, subst}
-use Rattle.sf_names.specs.Names.{NamesData}
+use Rattle.sf_evaluate.proofs.Common.{arith, common_steps, ◌≡◌, ◌⊎◌, inl, inr, ℕ, ◌+◌, ◌<◌, ◌∙◌, List, [], ◌∷◌, ◌++◌, ap, length, Option, Bor, refl, slice_get-get_or, subst, take, NamesData, AreSetsJoined, AreSetsUnfit, joined_append, unfit_append, Fault, of_names, AreNamesFiles, AreNamesRead, CannotBeJoined, IsFile, IsNamesFile, NamesFailed, RefusesNaming, RefusesSetsAt, all_sets, FileRead}
 use Rattle.sf_names.specs.declared.fault.Fault.{Fault as NamesFault}
 use Rattle.sf_names.specs.declared.fault.Fault.TheVariants as names_faults
-use Rattle.sf_names.specs.Joined.{AreSetsJoined, AreSetsUnfit}
-use Rattle.sf_names.specs.laws.JoinedLaws.{joined_append, unfit_append}
-use Rattle.sf_stack.specs.declared.fault.Fault.{Fault}
+use Rattle.sf_evaluate.specs.declared.files.identity.FileRole.TheVariants.{Names as NamesRole}
 use Rattle.sf_stack.specs.declared.fault.Fault.TheVariants as faults
-use Rattle.sf_stack.specs.Faults.{of_names}
-use Rattle.sf_evaluate.specs.Names.{AreNamesRead, IsNamesFile, RefusesNamesFile, RefusesNaming, all_sets}
-use Rattle.sf_evaluate.proofs.files.naming.NamingLemmas.{ReadSoFar, all_read, one_part_more, one_read}
-use Rattle.sf_evaluate.proofs.Pairing.{first_paired}
+use Rattle.sf_evaluate.proofs.FailureLemmas.{path_at}
+use Rattle.sf_evaluate.proofs.Pairing.{paired_more, parts_more}
 
--- The sets of the files at the first of the paths, joined, are these. What is known of files stays what it was before.
-pub record NamedSoFar (before after : List ℕ → Option (List ℕ)) (paths : List (Bor (List ℕ))) (place : ℕ)
-    (all : List NamesData) : Type 0 where
-  pub files : List (List NamesData)
-  pub read : ReadSoFar IsNamesFile before after paths place files
-  pub joined : AreSetsJoined [] (all_sets files) all
+module _ (holds : List ℕ → Option (List ℕ)) (paths : List (Bor (List ℕ))) (place : ℕ) (all sets : List NamesData)
+    (so_far : AreNamesRead holds (take place paths) all) (inside : place < length paths)
+    (meant : IsNamesFile (holds (path_at paths place).now) sets) where
+  more_read : AreNamesFiles holds (take (place + 1) paths) (so_far.files ++ sets ∷ [])
+  more_read = paired_more _ paths so_far.files place _ sets so_far.read inside meant
 
-module _ (before after next : List ℕ → Option (List ℕ)) (paths : List (Bor (List ℕ))) (place : ℕ)
-    (all sets : List NamesData) (path : Bor (List ℕ)) (so_far : NamedSoFar before after paths place all)
-    (here : slice_get paths place ≡ Some path) (meant : IsNamesFile (after path.now) sets)
-    (same : (p : List ℕ) → next p ≡ after p) where
-  one_more_read : ReadSoFar IsNamesFile before next paths (place + 1) (so_far.files ++ sets ∷ [])
-  one_more_read =
-      one_read IsNamesFile before after next paths place so_far.files _ path sets so_far.read here meant same refl
+  more_sets : all_sets so_far.files ++ sets ≡ all_sets (so_far.files ++ sets ∷ [])
+  more_sets = parts_more (λ (l : List NamesData). l) so_far.files sets _ _ refl refl
 
   -- the sets of one file more were joined
-  pub one_named : (more : List NamesData) → AreSetsJoined all sets more → NamedSoFar before next paths (place + 1) more
+  pub one_named : (more : List NamesData) → AreSetsJoined all sets more
+      → AreNamesRead holds (take (place + 1) paths) more
   one_named more joined = record {
     files = so_far.files ++ sets ∷ [];
-    read = one_more_read;
-    joined = subst (λ l. AreSetsJoined [] l more) (sym (one_part_more (λ (l : List NamesData). l) so_far.files sets))
+    read = more_read;
+    joined = subst (λ l. AreSetsJoined [] l more) more_sets
         (joined_append [] (all_sets so_far.files) sets all more so_far.joined joined);
   }
 
   -- the sets of one file more can't be joined
-  pub named_why : (joined : List NamesData) (why : NamesFault) (e : Fault) → place + 1 ≤ length paths → e ≡ of_names why
-      → (why ≡ names_faults.Memory) ⊎ AreSetsUnfit all sets joined why → RefusesNaming before paths e
-  named_why joined why e inside is (inl memory) = inr (inl (is ∙ ap of_names memory))
-  named_why joined why e inside is (inr unfit) = inr (inr (inr (record {
+  unjoined : (joined : List NamesData) (why : NamesFault) (e : Fault) → e ≡ of_names why
+      → AreSetsUnfit all sets joined why → CannotBeJoined holds paths e
+  unjoined joined why e is unfit = record {
     count = place + 1;
     files = so_far.files ++ sets ∷ [];
-    read = first_paired _ paths (so_far.files ++ sets ∷ []) (place + 1) one_more_read.paired inside;
+    read = more_read;
     joined = joined;
     why = why;
-    unfit = subst (λ l. AreSetsUnfit [] l joined why)
-        (sym (one_part_more (λ (l : List NamesData). l) so_far.files sets))
+    unfit = subst (λ l. AreSetsUnfit [] l joined why) more_sets
         (unfit_append [] (all_sets so_far.files) sets all joined why so_far.joined unfit);
     is = is;
-  })))
+  }
 
--- all files were read
-pub all_named : (before after : List ℕ → Option (List ℕ)) (paths : List (Bor (List ℕ))) (place : ℕ)
-    (all : List NamesData) → NamedSoFar before after paths place all → length paths ≤ place → place ≤ length paths
-    → AreNamesRead before paths all
-all_named before after paths place all so_far over under = record {
-  files = so_far.files;
-  read = all_read IsNamesFile before after paths place so_far.files so_far.read over under;
-  joined = so_far.joined;
-}
+  -- then this file is named
+  pub joining_named : (joined : List NamesData) (why : NamesFault) (e : Fault) → e ≡ of_names why
+      → (why ≡ names_faults.Memory) ⊎ AreSetsUnfit all sets joined why → (named : Option FileRead)
+      → IsFile NamesRole (path_at paths place).now named
+      → NamesFailed NamesRole holds paths named (RefusesSetsAt holds paths e) e
+  unfolding unjoined
+  joining_named joined why e is (inl memory) named file = inl (is ∙ ap of_names memory)
+  joining_named joined why e is (inr unfit) named file = inr (record {
+    place = place;
+    path = path_at paths place;
+    at = slice_get-get_or paths place _ inside;
+    why = (file, inr (inr (unjoined joined why e is unfit, refl)));
+  })
 
--- a file is refused
-pub naming_why : (before after : List ℕ → Option (List ℕ)) (paths : List (Bor (List ℕ))) (n : ℕ)
-    (path : Bor (List ℕ)) (e : Fault) → ((p : List ℕ) → after p ≡ before p) → slice_get paths n ≡ Some path
-    → ((e ≡ faults.Read) × (after path.now ≡ None)) ⊎ (e ≡ faults.Memory) ⊎ RefusesNamesFile (after path.now) e
-    → RefusesNaming before paths e
-naming_why before after paths n path e same at (inl (read, none)) =
-    inl (read, record { place = n; path = path; at = at; unknown = sym (same path.now) ∙ none })
-naming_why before after paths n path e same at (inr (inl memory)) = inr (inl memory)
-naming_why before after paths n path e same at (inr (inr why)) = inr (inr (inl (record {
-  place = n;
-  path = path;
-  at = at;
-  refused = subst (λ known. RefusesNamesFile known e) (same path.now) why;
-})))
+-- what the file that failed is refused for
+pub naming_why : (holds : List ℕ → Option (List ℕ)) (paths : List (Bor (List ℕ))) (named : Option FileRead) (e : Fault)
+    → NamesFailed NamesRole holds paths named (RefusesSetsAt holds paths e) e → RefusesNaming holds paths e
+naming_why holds paths named e why = grind (arith, common_steps)

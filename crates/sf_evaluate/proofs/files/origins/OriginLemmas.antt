@@ -1,11 +1,5 @@
 -- Where the questions of one policy file stand, one after the other.
-use Rattle.std.proofs.Common.{◌≡◌, ℕ, ◌+◌, List, [], ◌∷◌, ◌++◌, append_assoc, ◌∙◌, ap, map}
-use Rattle.std.proofs.lemmas.List.{length_push, map-append}
-use Rattle.std.proofs.lemmas.List.Elements.{All-push}
-use Rattle.serde_json.specs.Data.{Data}
-use Rattle.serde_json.specs.View.{view}
-use Rattle.serde_json.specs.declared.value.Value.{Value}
-use Rattle.sf_evaluate.specs.Origins.{AreOriginsOf, IsOrigin}
+use Rattle.sf_evaluate.proofs.Common.{◌≡◌, ℕ, ◌+◌, List, [], ◌∷◌, ◌++◌, append_assoc, ◌∙◌, ap, map, length_push, map-append, All-push, Data, view, Value, AreOriginsOf, IsOrigin}
 
 -- one more question stands there
 pub one_origin : (path : List ℕ) (place : ℕ) (first more : List Data) (before after : List Value) (v : Value)

@@ -1,9 +1,5 @@
-use Rattle.std.proofs.Common.{inl, inr, refl, subst, sym}
+use Rattle.sf_evaluate.proofs.Common.{inl, inr, refl, subst, sym, Other, of_profile, handed_on, AreCallsOf}
 use Rattle.sf_stack.specs.declared.fault.Fault.TheVariants.{Memory}
-use Rattle.sf_evaluate.specs.declared.fault.Fault.TheVariants.{Other}
-use Rattle.sf_evaluate.specs.Faults.{of_profile}
-use Rattle.sf_evaluate.specs.laws.FilesLaws.{handed_on}
-use Rattle.sf_evaluate.specs.Profiles.{AreCallsOf}
 use Rattle.sf_evaluate.proofs.profiling.ProfilingLemmas.{calling_why}
 use Rattle.sf_evaluate.proofs.profiling.read_settings.Goals as goal
 

@@ -1,15 +1,6 @@
 -- What is given of the options of `eval`, and why an input isn't asked for.
-use Rattle.std.proofs.lemmas.Bool.{and_left, and_right}
-use Rattle.std.proofs.lemmas.List.{length-map}
-use Rattle.std.proofs.Common.{arith, ◌≡◌, ◌⊎◌, false, not, List, Option, Some, None, Bor, ap, inl, inr, length, map}
-use Rattle.std.specs.Prelude.{is_ok, is_some, nat_lt, option_map, ◌==◌, codes}
-use Rattle.clap.specs.Words.{Row, Text}
-use Rattle.sf_command_line.specs.Options.{text_of}
-use Rattle.sf_names.specs.Names.{NamesData}
-use Rattle.sf_calls.specs.Numbers.{read_arguments}
-use Rattle.sf_stack.specs.declared.fault.Fault.{Fault}
-use Rattle.sf_stack.specs.declared.fault.Fault.TheVariants.{Input, UnknownName}
-use Rattle.sf_evaluate.specs.Asking.{LacksName, is_given, is_nr_narrow, numbers_fit}
+use Rattle.sf_evaluate.proofs.Common.{and_left, and_right, length-map, arith, ◌≡◌, ◌⊎◌, false, not, List, Option, Some, None, Bor, ap, inl, inr, length, map, is_ok, is_some, nat_lt, option_map, ◌==◌, Row, Text, text_of, NamesData, read_arguments, Fault, Input, UnknownName, LacksName, is_given, is_nr_narrow, numbers_fit}
+use Rattle.std.specs.Prelude.{codes}
 
 -- a reading is there just where what is read is
 pub read_some : (r : Option (Bor Text)) (t : Option Text) → option_map (λ s. s.now) r ≡ t → is_some r ≡ is_some t

@@ -1,9 +1,6 @@
 -- The names in a text.
-use Rattle.std.proofs.Common.{◌≡◌, false, [], ◌∷◌, refl, true≢false}
-use Rattle.std.specs.Prelude.{length, ◌==◌}
-use Rattle.clap.specs.Words.{Text}
-use Rattle.sf_calls.specs.Numbers.{comma_parts}
-use Rattle.sf_evaluate.specs.Wanted.{names_in_text}
+use Rattle.sf_evaluate.proofs.Common.{◌≡◌, false, [], ◌∷◌, refl, true≢false, ◌==◌, Text, comma_parts, names_in_text}
+use Rattle.std.specs.Prelude.{length}
 
 -- a text that isn't empty has the names between its commas
 pub names_there : (text : Text) → (length text == 0) ≡ false → names_in_text text ≡ comma_parts text

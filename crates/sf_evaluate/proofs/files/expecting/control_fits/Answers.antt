@@ -1,11 +1,5 @@
-use Rattle.std.proofs.Common.{◌≡◌, ◌∙◌, Some, ap, codes, not, refl, sym}
-use Rattle.std.specs.List.{list_any}
-use Rattle.std.specs.Prelude.{option_map}
-use Rattle.std.specs.Str.{bytes_eq}
-use Rattle.clap.specs.Words.{first_of, found_of, rows_of}
-use Rattle.sf_command_line.specs.Options.{ArePaths, paths_of}
-use Rattle.sf_command_line.specs.laws.OptionsLaws.{paths_found}
-use Rattle.sf_evaluate.specs.Expecting.{is_other_policy}
+use Rattle.sf_evaluate.proofs.Common.{◌≡◌, ◌∙◌, Some, ap, codes, not, refl, sym, list_any, option_map, bytes_eq, first_of, found_of, rows_of, paths_of, paths_found, is_other_policy}
+use Rattle.sf_command_line.specs.Options.{ArePaths}
 use Rattle.sf_evaluate.proofs.files.expecting.control_fits.Goals as goal
 
 pub returns-in-Some : goal.returns-in-Some

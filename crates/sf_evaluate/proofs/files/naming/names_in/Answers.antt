@@ -1,4 +1,4 @@
-use Rattle.std.proofs.Common.{inl, inr, refl, sym}
+use Rattle.sf_evaluate.proofs.Common.{inl, inr, refl, sym}
 use Rattle.sf_evaluate.proofs.files.naming.names_in.Goals as goal
 
 pub returns-clause-refused : goal.returns-clause-refused

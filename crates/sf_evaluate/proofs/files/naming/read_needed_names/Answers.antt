@@ -5,6 +5,7 @@ use Rattle.clap.specs.Words.{Row, Text, found_of, rows_of}
 use Rattle.sf_command_line.specs.Options.{ArePaths, paths_of}
 use Rattle.sf_command_line.specs.laws.OptionsLaws.{paths_found}
 use Rattle.sf_evaluate.specs.Asking.{lacks_names, names_paths}
+use Rattle.sf_evaluate.proofs.files.naming.SetLemmas.{naming_why}
 use Rattle.sf_evaluate.proofs.files.naming.read_needed_names.Goals as goal
 
 paths_if : (rows : List Row) (lacks : Bool) → lacks ≡ lacks_names rows
@@ -24,8 +25,18 @@ pub returns-then-lacks_names-clause-refused : goal.returns-then-lacks_names-clau
 returns-then-lacks_names-clause-refused g c =
     let rows = rows_of (found_of c.args.found.now) in
     IfErr-weaker c.read_all_names.result _ _
+    (λ e why. (
+      _,
+      paths_if rows true (sym c.if-lacks_names.true ∙ c.lacks_names.ensures),
+      naming_why _ _ _ e why,
+    )) c.read_all_names.ensures.failed
+
+pub returns-then-lacks_names-clause-failed : goal.returns-then-lacks_names-clause-failed
+returns-then-lacks_names-clause-failed g c =
+    let rows = rows_of (found_of c.args.found.now) in
+    IfErr-weaker c.read_all_names.result _ _
     (λ e why. (_, paths_if rows true (sym c.if-lacks_names.true ∙ c.lacks_names.ensures), why))
-    c.read_all_names.ensures.refused
+    c.read_all_names.ensures.failed
 
 pub returns-else-lacks_names-clause-called : goal.returns-else-lacks_names-clause-called
 returns-else-lacks_names-clause-called g c =
@@ -48,5 +59,17 @@ returns-else-lacks_names-clause-refused g c =
     IfErr-weaker c.read_all_names-else-lacks_names.result _ _ (λ e why. (
       c.unwrap_or-paths.result.now,
       given ∙ paths_if rows false (sym c.if-lacks_names.false ∙ c.lacks_names.ensures),
+      naming_why _ _ _ e why,
+    )) c.read_all_names-else-lacks_names.ensures.failed
+
+pub returns-else-lacks_names-clause-failed : goal.returns-else-lacks_names-clause-failed
+returns-else-lacks_names-clause-failed g c =
+    let rows = rows_of (found_of c.args.found.now) in
+    let given : ArePaths (codes "names") rows c.unwrap_or-paths.result.now =
+    rw c.unwrap_or-paths.ensures (paths_found (found_of c.args.found.now) (codes "names") c.get_strs.result _
+    c.get_strs.ensures refl) in
+    IfErr-weaker c.read_all_names-else-lacks_names.result _ _ (λ e why. (
+      c.unwrap_or-paths.result.now,
+      given ∙ paths_if rows false (sym c.if-lacks_names.false ∙ c.lacks_names.ensures),
       why,
-    )) c.read_all_names-else-lacks_names.ensures.refused
+    )) c.read_all_names-else-lacks_names.ensures.failed

@@ -1,7 +1,4 @@
-use Rattle.std.proofs.Common.{◌≡◌, ◌++◌, List, map}
-use Rattle.serde_json.specs.Data.{Data}
-use Rattle.serde_json.specs.View.{view}
-use Rattle.sf_evaluate.specs.Origins.{AreOriginsOf}
+use Rattle.sf_evaluate.proofs.Common.{◌≡◌, ◌++◌, List, map, Data, view, AreOriginsOf}
 use Rattle.sf_evaluate.proofs.files.origins.push_origins.Given as goal
 
 abbrev pub invariant-loop-place : goal.invariant-loop-place

@@ -1,6 +1,4 @@
-use Rattle.std.proofs.lemmas.Result.{IfErr-weaker}
-use Rattle.std.proofs.Common.{sym, ◌∙◌}
-use Rattle.clap.specs.Words.{found_of, rows_of}
+use Rattle.sf_evaluate.proofs.Common.{IfErr-weaker, sym, ◌∙◌, found_of, rows_of}
 use Rattle.sf_evaluate.proofs.words.asking.AskingLemmas.{misspelled}
 use Rattle.sf_evaluate.proofs.words.asking.asked_input.Goals as goal
 

@@ -1,6 +1,4 @@
-use Rattle.std.proofs.Common.{◌∙◌}
-use Rattle.clap.proofs.WalkLemmas.{first_value-rows}
-use Rattle.clap.specs.Words.{found_of}
+use Rattle.sf_evaluate.proofs.Common.{◌∙◌, first_value-rows, found_of}
 use Rattle.sf_evaluate.proofs.words.asking.AskingLemmas.{read_some}
 use Rattle.sf_evaluate.proofs.words.asking.is_given.Goals as goal
 

@@ -1,7 +1,5 @@
-use Rattle.std.proofs.Common.{◌∙◌, ap, codes, not, refl}
-use Rattle.clap.specs.Words.{found_of, rows_of}
+use Rattle.sf_evaluate.proofs.Common.{◌∙◌, ap, codes, not, refl, found_of, rows_of, paths_found}
 use Rattle.sf_command_line.specs.Options.{ArePaths}
-use Rattle.sf_command_line.specs.laws.OptionsLaws.{paths_found}
 use Rattle.sf_evaluate.proofs.words.asking.AskingLemmas.{some_read}
 use Rattle.sf_evaluate.proofs.words.naming.has_names.Goals as goal
 

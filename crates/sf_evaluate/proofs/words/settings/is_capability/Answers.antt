@@ -1,6 +1,4 @@
-use Rattle.std.proofs.Common.{◌∙◌, ap, map}
-use Rattle.std.specs.List.{list_any}
-use Rattle.std.specs.Str.{bytes_eq}
+use Rattle.sf_evaluate.proofs.Common.{◌∙◌, ap, map, list_any, bytes_eq}
 use Rattle.sf_evaluate.proofs.words.settings.is_capability.Goals as goal
 
 pub returns : goal.returns

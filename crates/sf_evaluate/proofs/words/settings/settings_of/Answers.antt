@@ -1,10 +1,5 @@
-use Rattle.std.proofs.Common.{◌∙◌, ap, codes, refl}
-use Rattle.std.specs.Prelude.{unwrap_or}
-use Rattle.clap.specs.Words.{found_of, rows_of}
+use Rattle.sf_evaluate.proofs.Common.{◌∙◌, ap, codes, refl, unwrap_or, found_of, rows_of, paths_found, X64, Strictest}
 use Rattle.sf_command_line.specs.Options.{ArePaths}
-use Rattle.sf_command_line.specs.laws.OptionsLaws.{paths_found}
-use Rattle.sf_profile.specs.declared.rules.CallSet.TheVariants.{X64}
-use Rattle.sf_profile.specs.declared.rules.Reading.TheVariants.{Strictest}
 use Rattle.sf_evaluate.proofs.words.WordLemmas.{settings_said}
 use Rattle.sf_evaluate.proofs.words.settings.settings_of.Goals as goal
 

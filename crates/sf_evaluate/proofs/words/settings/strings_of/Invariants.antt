@@ -1,4 +1,4 @@
-use Rattle.std.proofs.Common.{◌≡◌, map, string_bytes, take}
+use Rattle.sf_evaluate.proofs.Common.{◌≡◌, map, string_bytes, take}
 use Rattle.sf_evaluate.proofs.words.settings.strings_of.Given as goal
 
 abbrev pub invariant-loop-text : goal.invariant-loop-text

@@ -1,8 +1,4 @@
-use Rattle.std.proofs.Common.{lit<, rules, tests}
-use Rattle.std.proofs.lemmas.Iterator.Search.{all_from_yields_List}
-use Rattle.std.proofs.lemmas.Iterator.Splits.{YieldsList-from_str_split}
-use Rattle.sf_calls.specs.Numbers.{comma_parts}
-use Rattle.sf_evaluate.specs.Wanted.{is_wanted_once}
+use Rattle.sf_evaluate.proofs.Common.{lit<, rules, tests, all_from_yields_List, YieldsList-from_str_split, comma_parts, is_wanted_once}
 use Rattle.sf_evaluate.proofs.words.wanted.WantedLemmas.{names_there}
 use Rattle.sf_evaluate.proofs.words.wanted.are_names.Goals as goal
 

@@ -1,9 +1,4 @@
-use Rattle.std.proofs.Common.{◌∙◌, lit<, rules, tests}
-use Rattle.std.specs.Str.{bytes_eq}
-use Rattle.std.proofs.lemmas.Iterator.Consumers.{YieldsList-at, YieldsList-from_filter, count_from_yields_List}
-use Rattle.std.proofs.lemmas.Iterator.Splits.{YieldsList-from_str_split}
-use Rattle.std.proofs.lemmas.List.Sums.{length-filter}
-use Rattle.sf_calls.specs.Numbers.{comma_parts}
+use Rattle.sf_evaluate.proofs.Common.{◌∙◌, lit<, rules, tests, bytes_eq, YieldsList-at, YieldsList-from_filter, count_from_yields_List, YieldsList-from_str_split, length-filter, comma_parts}
 use Rattle.sf_evaluate.proofs.words.wanted.count_of.Goals as goal
 
 pub returns : goal.returns

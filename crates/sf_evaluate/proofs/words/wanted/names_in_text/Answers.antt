@@ -1,6 +1,4 @@
-use Rattle.std.proofs.Common.{lit<}
-use Rattle.std.proofs.lemmas.Iterator.Consumers.{map_from_collect}
-use Rattle.std.proofs.lemmas.Iterator.Splits.{YieldsList-from_str_split}
+use Rattle.sf_evaluate.proofs.Common.{lit<, map_from_collect, YieldsList-from_str_split}
 use Rattle.sf_evaluate.proofs.words.wanted.WantedLemmas.{names_there}
 use Rattle.sf_evaluate.proofs.words.wanted.names_in_text.Goals as goal
 
