@@ -33,12 +33,13 @@ use Rattle.sf_command.specs.declared.auditing.TextForm.TheVariants.{Report, Summ
 use Rattle.sf_command.specs.Status.{audit_status}
 
 -- the files that an audit is asked by: policies, and where they are given that of a control, that of the questions that
--- may be allowed, that of the groups of a summary, and those of names of calls
+-- may be allowed, that of the groups of a summary, which may be given on the command line, and those of names of calls
 pub record AskedData : Type 0 where
   pub policies : List (Bor (List ℕ))
   pub control : Option (List ℕ)
   pub accept : Option (List ℕ)
   pub groups : Option (List ℕ)
+  pub has_groups : Bool
   pub names : List (Bor (List ℕ))
 
 -- what these files hold: questions, the questions of the control, and the names of questions that may be allowed
@@ -190,11 +191,11 @@ pub record AuditsFiles (version : List ℕ) (holds : List ℕ → Option (List �
   pub origins : List Data
   pub placed : HasOrigins (are_placed json text) holds asked.policies read.questions origins
   pub groups : List GroupData
-  pub grouped : AreGroupsIn holds asked.groups groups
+  pub grouped : AreGroupsIn holds asked.groups asked.has_groups groups
   pub stack : List (List Insn)
   pub held : HoldStack holds paths stack
   pub files : List Data
-  pub told : HasBothFiles (are_placed json text) holds Policy Filter asked.policies paths files
+  pub told : HasBothFiles json holds Policy Filter asked.policies paths files
   pub found : Found
   pub expected : ExpectedData
   pub is_found : IsFoundFor stack read budget found expected

@@ -20,7 +20,7 @@ use Rattle.sf_command.specs.declared.listing.ListingForm.TheVariants as form
 use Rattle.sf_command.specs.declared.auditing.TextForm.{TextForm}
 use Rattle.sf_command.specs.declared.auditing.TextForm.TheVariants.{Report, Summary, SummaryOfAll}
 use Rattle.sf_evaluate.specs.Outputs.{AnswersFiles, ChecksFiles, RefusesCheck}
-use Rattle.sf_evaluate.specs.Asking.{AreNamed, AsksInput, LacksName, RefusesNamed, numbers_fit}
+use Rattle.sf_evaluate.specs.Asking.{AreNamed, AsksInput, LacksName, RefusesNamed, is_given, numbers_fit}
 use Rattle.sf_evaluate.specs.Profiles.{WritesProfile}
 use Rattle.sf_evaluate.specs.Wanted.{are_known, calls_asked, is_switched_on}
 use Rattle.sf_evaluate.specs.Expecting.{wants_summary}
@@ -80,6 +80,7 @@ pub record IsAskedFor (rows : List Row) (asked : AskedData) : Type 0 where
   pub control : asked.control ≡ first_of (codes "control") rows
   pub accept : asked.accept ≡ first_of (codes "accept") rows
   pub groups : asked.groups ≡ groups_path rows
+  pub given : asked.has_groups ≡ is_given (codes "groups") rows
   pub names : ArePaths (codes "names") rows asked.names
 
 module _ (version : Text) (holds : Text → Option Text) (rows : List Row) (status : ℕ) (old new : Option Text) where

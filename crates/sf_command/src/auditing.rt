@@ -85,6 +85,8 @@ pub struct Asked<'m, 'n, 'a> {
     pub accept: Option<&'a str>,
     /// The file of groups by which a summary puts questions in order; none where no summary is asked for.
     pub groups: Option<&'a str>,
+    /// Whether the command line gives this file.
+    pub has_groups: bool,
     /// The files of names that are given.
     pub names: &'n [&'a str],
 }
@@ -100,6 +102,7 @@ impl<'m, 'n, 'a> Model for Asked<'m, 'n, 'a> {
       control = option_map (λ t. t.now) a.control;
       accept = option_map (λ t. t.now) a.accept;
       groups = option_map (λ t. t.now) a.groups;
+      has_groups = a.has_groups;
       names = a.names.now;
     } };
 }
@@ -115,6 +118,12 @@ impl Asked<'_, '_, '_> {
         ensures { option_map (λ t. t.now) result ≡ self.now.groups }
     {
         self.groups
+    }
+
+    fn has_groups(&self) -> bool
+        ensures { result ≡ self.now.has_groups }
+    {
+        self.has_groups
     }
 
     fn sources(&self, alloc: Global) -> Result<String, AllocError>
@@ -147,25 +156,33 @@ struct AskedContents {
     accepted: Vec<String>,
 }
 
-/// Reads the policy files, then that of the control, and then the file of the questions that may be allowed. If
-/// `with_documents`, gives the origins of the questions too, and the documents of the policy files. The notes count the
-/// files. They keep the bytes of the last policy or control that was read, and why it is refused, if it is.
+/// Reads the policy files, then that of the control, and then the file of the questions that may be allowed. Gives the
+/// origins of the questions too, and the documents of the policy files, where these are asked for. The notes keep the
+/// bytes of the last policy or control that was read, and why it is refused, if it is.
 fn read_questions<F: Files>(
     alloc: Global,
     asked: &Asked<'_, '_, '_>,
+    with_origins: bool,
     with_documents: bool,
     files: &mut F,
     notes: &mut Notes,
 ) -> Result<(AskedContents, Vec<Document>, Vec<Document>), Fault>
     ensures read { IfOk result (λ r. IsAskedBy (F.holds files.old) asked.now (read_data r.0)) }
-    ensures placed { IfOk result (λ r. HasOrigins with_documents (F.holds files.old)
+    ensures placed { IfOk result (λ r. HasOrigins with_origins (F.holds files.old)
         asked.now.policies r.0.questions.items (map view r.1.items)) }
     ensures told { IfOk result (λ r. HasFiles with_documents (F.holds files.old) Policy
         asked.now.policies (map view r.2.items)) }
     ensures refused { IfErr result (RefusesAsked (F.holds files.old) asked.now) }
     ensures same { (p : List ℕ) → F.holds files.new p ≡ F.holds files.old p }
 {
-    let policies = all_questions_in(alloc, asked.policies, with_documents, files, notes)?;
+    let policies = all_questions_in(
+        alloc,
+        asked.policies,
+        with_origins,
+        with_documents,
+        files,
+        notes,
+    )?;
     let Policies {
         questions,
         origins,
@@ -384,9 +401,9 @@ fn write_audit<O: Write>(
 
 /// Reads the files that ask and then the stack, audits it, writes the report, and gives the exit status. Where it is
 /// said what is expected, the lines that say what isn't as expected stand behind the report. A summary, where one is
-/// asked for, takes the place of the report, and begins with the files that it is asked by. The notes count the files,
-/// and get the warnings. The gate sees each work before it is committed, and each sheet of verdicts before it is
-/// entered. At the end `files` takes over the outcome.
+/// asked for, takes the place of the report, and begins with the files that it is asked by. The notes get the warnings.
+/// The gate sees each work before it is committed, and each sheet of verdicts before it is entered. At the end `files`
+/// takes over the outcome.
 pub fn audit<R: Threads + Wait + Sync, F: Files, G: Gate, O: Write>(
     means: &Means<'_, '_, R, G>,
     task: &AuditTask<'_, '_, '_, '_, '_>,
@@ -406,9 +423,10 @@ pub fn audit<R: Threads + Wait + Sync, F: Files, G: Gate, O: Write>(
 {
     let (alloc, terms, names) = (means.alloc, task.terms, task.names);
     let placed = are_placed(terms);
-    let (read, origins, policies) = read_questions(alloc, task.asked, placed, files, notes)?;
-    let groups = groups_in(alloc, task.asked.groups_path(), files, notes)?;
-    let (stack, filters) = read_stack(alloc, task.paths, placed, files, notes)?;
+    let asked = task.asked;
+    let (read, origins, policies) = read_questions(alloc, asked, placed, terms.json, files, notes)?;
+    let groups = groups_in(alloc, asked.groups_path(), asked.has_groups(), files, notes)?;
+    let (stack, filters) = read_stack(alloc, task.paths, terms.json, files, notes)?;
     let documents = join_documents(policies, filters)?;
     let (outcome, expected) = audit_filters(means, stack, read, terms)?;
     notes.warnings = warnings_of_stack(alloc, outcome.settled());
@@ -416,7 +434,7 @@ pub fn audit<R: Threads + Wait + Sync, F: Files, G: Gate, O: Write>(
     let remarks = remarks_if_asked(alloc, terms.why, names, &outcome)?;
     let telling = Telling {
         regions: terms.regions,
-        is_expecting: task.asked.is_expecting(),
+        is_expecting: asked.is_expecting(),
         names,
         origins: &origins,
         remarks: &remarks,
@@ -426,7 +444,7 @@ pub fn audit<R: Threads + Wait + Sync, F: Files, G: Gate, O: Write>(
         files: documents,
     };
     let told = Told {
-        asked: task.asked,
+        asked,
         terms,
         groups: &groups,
         telling: &telling,

@@ -121,8 +121,7 @@ fn write_compared<O: Write>(
     write_rows(alloc, comparison, &changes, sets, json, identity, out)
 }
 
-/// Reads two stacks, compares them, writes what is found, and gives the exit status. The notes count the files, and get
-/// the warnings.
+/// Reads two stacks, compares them, writes what is found, and gives the exit status. The notes get the warnings.
 pub fn compare<F: Files, O: Write>(
     alloc: Global,
     task: &ComparisonTask<'_, '_, '_>,

@@ -114,7 +114,7 @@ fn list_stack<O: Write>(
 }
 
 /// Reads a stack, and writes the rows of its answers, or a digest of them, as the task asks. A digest is that of all
-/// rows, each by itself. The notes count the files, and get the warnings.
+/// rows, each by itself. The notes get the warnings.
 pub fn list<F: Files, O: Write>(
     alloc: Global,
     task: &ListingTask<'_, '_, '_>,

@@ -47,7 +47,7 @@ fn write_needs<O: Write>(
     write_document(alloc, &document, out)
 }
 
-/// Finds which filters of a stack are needed, and gives the exit status. The notes count the files.
+/// Finds which filters of a stack are needed, and gives the exit status.
 pub fn needed<F: Files, O: Write>(
     alloc: Global,
     task: &NeededTask<'_, '_, '_>,

@@ -19,7 +19,7 @@ use clap::ArgMatches;
 use sf_command_line::{budget_of, given_text, is_on, nodes_of, text_of, workers_of};
 use sf_evaluate::{
     CheckManner, Evaluation, Files, INSTALLED_GROUPS, Manner, Notes, asked_input, check, evaluate,
-    known_calls, numbers_fit, read_needed_names, wants_summary,
+    is_given, known_calls, numbers_fit, read_needed_names, wants_summary,
 };
 use sf_names::Names;
 use sf_relations::Relation;
@@ -66,7 +66,7 @@ fn groups_path<'a>(found: &ArgMatches<'a>) -> Option<&'a str>
     }
 }
 
-/// Here and below the caller has seen by `words_fit_for` that the words fit, and the notes have counted no file before.
+/// Here and below the caller has seen by `words_fit_for` that the words fit, and the notes are new.
 /// JSON documents show `version`, the line of the program's version.
 fn run_audit<R: Threads + Wait + Sync, F: Files, M: Meter, O: Write>(
     means: &Means<'_, '_, R, M>,
@@ -101,6 +101,7 @@ fn run_audit<R: Threads + Wait + Sync, F: Files, M: Meter, O: Write>(
         control: given_text(found, "control"),
         accept: given_text(found, "accept"),
         groups: groups_path(found),
+        has_groups: is_given(found, "groups"),
         names: found.get_strs("names").unwrap_or(&[]),
     };
     let task = AuditTask {

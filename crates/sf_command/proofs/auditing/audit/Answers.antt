@@ -13,19 +13,16 @@ returns-clause-written g c = record {
   origins = map view c.in_ok-read.origins.items;
   placed = rw c.are_placed-placed.ensures at c.in_ok-read.ensures.placed;
   groups = c.in_ok-groups.groups.items;
-  grouped = rw (c.groups_path.ensures, fun_ext c.in_ok-read.ensures.same) at c.in_ok-groups.ensures.meant;
+  grouped = rw (c.groups_path.ensures, c.has_groups.ensures, fun_ext c.in_ok-read.ensures.same) at
+      c.in_ok-groups.ensures.meant;
   stack = c.in_ok-stack.stack;
   held = rw (fun_ext c.in_ok-groups.ensures.same, fun_ext c.in_ok-read.ensures.same) at c.in_ok-stack.ensures.held;
   files = map view c.in_ok-documents.documents.items;
   told = (
     map view c.in_ok-read.policies.items,
     map view c.in_ok-stack.filters.items,
-    rw c.are_placed-placed.ensures at c.in_ok-read.ensures.told,
-    rw (
-      c.are_placed-placed.ensures,
-      fun_ext c.in_ok-groups.ensures.same,
-      fun_ext c.in_ok-read.ensures.same,
-    ) at c.in_ok-stack.ensures.told,
+    c.in_ok-read.ensures.told,
+    rw (fun_ext c.in_ok-groups.ensures.same, fun_ext c.in_ok-read.ensures.same) at c.in_ok-stack.ensures.told,
     c.in_ok-documents.ensures,
   );
   found = c.in_ok-outcome.outcome;

@@ -27,6 +27,7 @@ returns-clause-done g c = IfOk-weaker c.audit.result _ _ (λ s written. record {
     control = c.given_text.ensures;
     accept = c.given_text-2.ensures;
     groups = c.groups_path.ensures;
+    given = c.is_given.ensures;
     names = rw c.unwrap_or-2.ensures (paths_found (found_of c.args.found.now) (codes "names")
         c.get_strs-3.result _ c.get_strs-3.ensures refl);
   };
@@ -46,6 +47,7 @@ returns-clause-refused g c = IfErr-weaker c.audit.result _ _ (λ e why. inr (
       control = c.given_text.ensures;
       accept = c.given_text-2.ensures;
       groups = c.groups_path.ensures;
+      given = c.is_given.ensures;
       names = rw c.unwrap_or-2.ensures (paths_found (found_of c.args.found.now) (codes "names")
           c.get_strs-3.result _ c.get_strs-3.ensures refl);
     },
