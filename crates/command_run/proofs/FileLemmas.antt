@@ -43,4 +43,4 @@ module _ (holds : List ℕ → Option (List ℕ)) (path bytes : List ℕ) (known
       let same : b ≡ left.path = only_one b left.path left.place left.at in
       let bytes_are : holds left.path.now ≡ Some bytes = ap (λ (p : Bor (List ℕ)). holds p.now) (sym same)
       ∙ ap holds here ∙ known in
-      cc (bytes_are, left.unknown)
+      cc (bytes_are, left.why)
