@@ -180,14 +180,6 @@ impl<R: FileSystem + Input + Env + AllocGlobal> Disk<'_, R> {
         }
     }
 
-    /// The bytes of the file at a path: those that were read ahead, if some were.
-    fn read_or_kept(&mut self, path: &str) -> Result<Vec<u8>, Fault> {
-        match self.ahead_of(path) {
-            Some(bytes) => Ok(bytes),
-            None => self.read_now(path),
-        }
-    }
-
     /// The file with this name that comes with the program.
     fn read_installed(&mut self, name: &str) -> Result<Vec<u8>, Fault> {
         if !is_installed_name(name) {
@@ -203,19 +195,17 @@ impl<R: FileSystem + Input + Env + AllocGlobal> Disk<'_, R> {
 impl<R: FileSystem + Input + Env + AllocGlobal> Files for Disk<'_, R> {
     /// The bytes of the file at a path; `-` is standard input, and `@NAME` a file that comes with the program. `Read`
     /// where it can't be read, is longer than `MOST_BYTES`, or is standard input for a second time; `Memory` where an
-    /// allocation is refused. After an error `reason` says why.
+    /// allocation is refused. After an error `reason` says why. Where the file was read ahead, this is what was read.
     fn read(&mut self, path: &str) -> Result<Vec<u8>, Fault> {
+        let read = match self.ahead_of(path) {
+            Some(bytes) => Ok(bytes),
+            None => self.read_now(path),
+        };
         // For the prover: `taken` has seen that the bytes are few enough, and other faults don't come.
-        match self.read_or_kept(path) {
-            Ok(bytes) => {
-                if bytes.len() <= MOST_BYTES {
-                    Ok(bytes)
-                } else {
-                    Err(Fault::Read)
-                }
-            }
+        match read {
+            Ok(bytes) if bytes.len() <= MOST_BYTES => Ok(bytes),
             Err(Fault::Memory) => Err(Fault::Memory),
-            Err(_) => Err(Fault::Read),
+            _ => Err(Fault::Read),
         }
     }
 
