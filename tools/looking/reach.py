@@ -10,12 +10,21 @@ from looking.tree import CRATES, shown
 Row = namedtuple("Row", "told lines")
 
 
+def direct(text):
+    """A text whose words come from their own files, where they came through a crate's `Common`."""
+    def uses(use):
+        passed = re.findall(r"pub use ([\w.]+)\.\{(.*)\}", (CRATES / use[1] / "specs/Common.antt").read_text())
+        parts = ((path, [word for word in words.split(", ") if word in use[2].split(", ")]) for path, words in passed)
+        return "\n".join(f"use {path}.{{{', '.join(words)}}}" for path, words in parts if words)
+    return re.sub(r"(?m)^use Rattle\.(\w+)\.specs\.Common\.\{(.*)\}$", uses, text)
+
+
 class Definitions:
     """All definitions, and what they reach."""
 
     def __init__(self, crates):
         paths = [path for crate in crates for path in sorted((CRATES / crate / "specs").rglob("*.antt"))]
-        texts = {shown(path): path.read_text() for path in paths if path.name not in ("Lib.antt", "laws.antt")}
+        texts = {shown(path): direct(path.read_text()) for path in paths if path.name not in ("Lib.antt", "laws.antt")}
         self.files = {file: definitions_in(text, file) for file, text in texts.items()}
         self.names = {file: {name: (file, name) for name in self.files[file]} | imported(texts[file]) for file in texts}
         self.declared = {file: types_imported(text) for file, text in texts.items()}
