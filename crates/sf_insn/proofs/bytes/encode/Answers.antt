@@ -1,9 +1,4 @@
-use Rattle.std.proofs.Common.{arith}
-use Rattle.std.proofs.lemmas.Grind.{common_steps}
-use Rattle.std.proofs.lemmas.List.{take_more}
-use Rattle.std.proofs.lemmas.List.Elements.{All-push}
-use Rattle.sf_insn.specs.declared.raw.RawInsn.{RawInsn}
-use Rattle.sf_insn.specs.Spelling.{IsInsn}
+use Rattle.sf_insn.proofs.Common.{arith, common_steps, take_more, All-push, RawInsn, IsInsn}
 use Rattle.sf_insn.proofs.bytes.encode.Goals as goal
 
 no_raw : RawInsn
