@@ -1,5 +1,4 @@
-use Rattle.std.proofs.lemmas.Grind.{common_steps}
-use Rattle.std.proofs.Common.{arith}
+use Rattle.sf_blocks.proofs.Common.{common_steps, arith}
 use Rattle.sf_blocks.proofs.shared.OrderLemmas.{by_lengths}
 use Rattle.sf_blocks.proofs.shared.order_of.Goals as goal
 

@@ -1,5 +1,4 @@
-use Rattle.std.proofs.Common.{◌≡◌, drop}
-use Rattle.std.specs.Cmp.Lexicographic.{slice_cmp}
+use Rattle.sf_blocks.proofs.Common.{◌≡◌, drop, slice_cmp}
 use Rattle.sf_blocks.proofs.shared.order_of.Given as goal
 
 abbrev pub invariant-loop-place : goal.invariant-loop-place

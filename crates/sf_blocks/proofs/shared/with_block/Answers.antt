@@ -1,9 +1,4 @@
-use Rattle.std.proofs.lemmas.Grind.{common_steps}
-use Rattle.std.proofs.Common.{arith}
-use Rattle.std.proofs.Common.{◌≡◌, length, ap, ◌∙◌}
-use Rattle.std.proofs.lemmas.List.Elements.{All-push}
-use Rattle.std.specs.Arc.{arc_slice_items}
-use Rattle.sf_blocks.specs.laws.BlockLaws.{joined-push, joined-same, AreWide-same}
+use Rattle.sf_blocks.proofs.Common.{common_steps, arith, ◌≡◌, length, ap, ◌∙◌, All-push, arc_slice_items, joined-push, joined-same, AreWide-same}
 use Rattle.sf_blocks.proofs.shared.with_block.Goals as goal
 
 pub returns-clause-full : goal.returns-clause-full

@@ -1,10 +1,4 @@
-use Rattle.std.proofs.lemmas.Grind.{common_steps}
-use Rattle.std.proofs.Common.{◌≡◌, ◌+◌, length, map, ◌∙◌, arith}
-use Rattle.std.specs.Arc.{arc_slice_items, arc_value}
-use Rattle.std.specs.Cmp.Lexicographic.{slice_cmp}
-use Rattle.std.specs.Ordering.{ordering_then, nat_cmp}
-use Rattle.sf_blocks.specs.Blocks.{AreWideBy}
-use Rattle.std.proofs.lemmas.List.Elements.{All-map}
+use Rattle.sf_blocks.proofs.Common.{common_steps, ◌≡◌, ◌+◌, length, map, ◌∙◌, arith, arc_slice_items, arc_value, slice_cmp, ordering_then, nat_cmp, AreWideBy, All-map}
 use Rattle.sf_blocks.proofs.shared.MapLemmas.{get_or-map_at, length-map_of}
 use Rattle.sf_blocks.proofs.shared.OrderLemmas.{from, from-first, by_blocks, decided, undecided, at_end}
 use Rattle.sf_blocks.proofs.shared.SharedList.order.Given.{Over}

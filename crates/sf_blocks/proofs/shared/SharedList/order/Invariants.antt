@@ -1,6 +1,4 @@
-use Rattle.std.proofs.Common.{◌≡◌, map}
-use Rattle.std.specs.Arc.{arc_slice_items}
-use Rattle.std.specs.Cmp.Lexicographic.{slice_cmp}
+use Rattle.sf_blocks.proofs.Common.{◌≡◌, map, arc_slice_items, slice_cmp}
 use Rattle.sf_blocks.proofs.shared.OrderLemmas.{from}
 use Rattle.sf_blocks.proofs.shared.SharedList.order.Given as goal
 
