@@ -1,6 +1,5 @@
 -- Where a store has no room for a tree that is asked for.
-use Rattle.std.proofs.lemmas.Grind.{common_steps}
-use Rattle.sf_diagram.proofs.Common.{◌≡◌, ◌≢◌, ◌⊎◌, ℕ, suc, ◌<◌, Bool, true, false, length, refl, sym, ◌∙◌, inl, inr, arith, if◌then◌else◌, cases_eq, Tree, Leaf, Fork, Bits, value, IsOrderedFrom, IsOrderedTree, IsReducedTree, StoreData, tree_at, IsLawfulStore, HasNoRoom, IsSpentFor, Stands, HasValues, AreDivided}
+use Rattle.sf_diagram.proofs.Common.{common_steps, ◌≡◌, ◌≢◌, ◌⊎◌, ℕ, suc, ◌<◌, Bool, true, false, length, refl, sym, ◌∙◌, inl, inr, arith, if◌then◌else◌, cases_eq, Tree, Leaf, Fork, Bits, value, IsOrderedFrom, IsOrderedTree, IsReducedTree, StoreData, tree_at, IsLawfulStore, HasNoRoom, IsSpentFor, Stands, HasValues, AreDivided}
 use Rattle.sf_diagram.proofs.task.TaskLemmas.{made-ordered, joined-values}
 use Rattle.sf_diagram.proofs.TreeLemmas.{with_bit, with_bit-same, with_bit-other, value-above, value-lower, value-higher, ordered-from, one-tree}
 

@@ -1,6 +1,5 @@
 -- The first input to which a tree gives another number than 0.
-use Rattle.std.proofs.lemmas.Grind.{common_steps}
-use Rattle.sf_diagram.proofs.Common.{◌≡◌, ℕ, suc, ◌<◌, ◌≤◌, Bool, true, false, List, [], ◌∷◌, ◌++◌, refl, sym, ap, subst, ◌∙◌, inl, inr, arith, fun_ext, cases_order, cases_eq, eq-eqb, ne_eqb, or_right, list_any-append, Tree, Leaf, Fork, Bits, bits_with, IsOrderedFrom, IsLeastNonzero}
+use Rattle.sf_diagram.proofs.Common.{common_steps, ◌≡◌, ℕ, suc, ◌<◌, ◌≤◌, Bool, true, false, List, [], ◌∷◌, ◌++◌, refl, sym, ap, subst, ◌∙◌, inl, inr, arith, fun_ext, cases_order, cases_eq, eq-eqb, ne_eqb, or_right, list_any-append, Tree, Leaf, Fork, Bits, bits_with, IsOrderedFrom, IsLeastNonzero}
 use Rattle.sf_diagram.proofs.TreeLemmas.{with_bit, with_bit-same, with_bit-other, value-above, value-higher}
 
 -- one more variable is true

@@ -1,6 +1,5 @@
 -- Stores stay right as they grow.
-use Rattle.std.proofs.lemmas.Grind.{common_steps}
-use Rattle.sf_diagram.proofs.Common.{◌≡◌, ◌≢◌, ◌⊎◌, ℕ, ◌<◌, ◌≤◌, Option, List, [], ◌∷◌, ◌++◌, length, get_or, refl, sym, ap, ◌∙◌, inl, inr, arith, cases_lt, get_or_append_left, get_or_push, length_push, All-push, All-from_get_or, Tree, Leaf, IsOrderedTree, IsReducedTree, tree_at, AreCanonical, IsLawfulStore, KeepsTrees, stored_node, OperandsBelow, tree_of, trees_after, trees_of, IsStore, IsSound, Node, Number, Choice, Task}
+use Rattle.sf_diagram.proofs.Common.{common_steps, ◌≡◌, ◌≢◌, ◌⊎◌, ℕ, ◌<◌, ◌≤◌, Option, List, [], ◌∷◌, ◌++◌, length, get_or, refl, sym, ap, ◌∙◌, inl, inr, arith, cases_lt, get_or_append_left, get_or_push, length_push, All-push, All-from_get_or, Tree, Leaf, IsOrderedTree, IsReducedTree, tree_at, AreCanonical, IsLawfulStore, KeepsTrees, stored_node, OperandsBelow, tree_of, trees_after, trees_of, IsStore, IsSound, Node, Number, Choice, Task}
 use Rattle.sf_diagram.proofs.task.TaskLemmas.{remembered-keeps}
 
 trees_after-append : (older : List Tree) (ms ns : List Node)

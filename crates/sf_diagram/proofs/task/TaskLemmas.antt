@@ -1,6 +1,5 @@
 -- Trees that are made of others, and what is wanted of them.
-use Rattle.std.proofs.lemmas.Grind.{common_steps}
-use Rattle.sf_diagram.proofs.Common.{◌≡◌, ℕ, suc, ◌<◌, ◌≤◌, Option, Bool, true, false, List, length, refl, arith, if◌then◌else◌, All, All-weaker, Tree, Bits, value, IsOrderedFrom, IsJoined, StoreData, tree_at, IsLawfulStore, KeepsTrees, IsParted, AreBelow, wanted, HasValues, AreFrom, AreDivided, IsRemembered, Task, Choose, Merge, value_from}
+use Rattle.sf_diagram.proofs.Common.{common_steps, ◌≡◌, ℕ, suc, ◌<◌, ◌≤◌, Option, Bool, true, false, List, length, refl, arith, if◌then◌else◌, All, All-weaker, Tree, Bits, value, IsOrderedFrom, IsJoined, StoreData, tree_at, IsLawfulStore, KeepsTrees, IsParted, AreBelow, wanted, HasValues, AreFrom, AreDivided, IsRemembered, Task, Choose, Merge, value_from}
 use Rattle.sf_diagram.proofs.TreeLemmas.{ordered-from}
 
 -- ---- a task in a store that grows

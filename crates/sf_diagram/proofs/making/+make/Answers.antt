@@ -1,5 +1,4 @@
-use Rattle.std.proofs.lemmas.Grind.{common_steps}
-use Rattle.sf_diagram.proofs.Common.{ℕ, suc, true, false, Err, sym, ap, arith, err_from_is_err_and, Tree, Leaf, IsJoined, tree_at, KeepsTrees, keeps_more, wanted, HasValues}
+use Rattle.sf_diagram.proofs.Common.{common_steps, ℕ, suc, true, false, Err, sym, ap, arith, err_from_is_err_and, Tree, Leaf, IsJoined, tree_at, KeepsTrees, keeps_more, wanted, HasValues}
 use Rattle.sf_diagram.proofs.task.TaskLemmas.{wanted-keeps, made-ordered, joined-values}
 use Rattle.sf_diagram.proofs.SpentLemmas.{side-spent, tree-spent, fork-spent}
 use Rattle.sf_diagram.proofs.making.+make.Goals as goal

@@ -1,5 +1,4 @@
-use Rattle.std.proofs.lemmas.Grind.{common_steps}
-use Rattle.sf_diagram.proofs.Common.{◌++◌, ◌∷◌, [], length, arith, length_push, get_or_push, IsOrderedTree, IsReducedTree, OperandsBelow, tree_of, trees_of, IsSound}
+use Rattle.sf_diagram.proofs.Common.{common_steps, ◌++◌, ◌∷◌, [], length, arith, length_push, get_or_push, IsOrderedTree, IsReducedTree, OperandsBelow, tree_of, trees_of, IsSound}
 use Rattle.sf_diagram.proofs.store.NodeLemmas.{trees_of-push, keeps_push, sound-push, lawful-store}
 use Rattle.sf_diagram.proofs.store.Store.intern.Goals as goal
 use Rattle.sf_diagram.proofs.store.Store.intern.Goals.{In_ok-add}
