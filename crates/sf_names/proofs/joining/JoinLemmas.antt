@@ -1,15 +1,6 @@
 -- A set, and sets, to which further ones are joined.
-use Rattle.std.proofs.lemmas.Grind.{common_steps}
-use Rattle.std.proofs.Common.{arith}
-use Rattle.std.specs.Prelude.{IfErr, OnOk}
-use Rattle.std.proofs.Common.{◌≡◌, ◌⊎◌, inl, inr, ◌∙◌, ℕ, ◌+◌, ◌<◌, nat_lt, Bool, true, false, not, List, [], ◌∷◌, ◌++◌, append_assoc, ap, get_or, length, slice_get, slice_set, if◌then◌else◌, Some, Result, Ok, Err, refl, subst, sym}
-use Rattle.std.proofs.lemmas.List.{set-get_or}
-use Rattle.std.proofs.lemmas.Option.{slice_get-get_or}
-use Rattle.sf_names.specs.declared.fault.Fault.{Fault}
+use Rattle.sf_names.proofs.Common.{common_steps, arith, IfErr, OnOk, ◌≡◌, ◌⊎◌, inl, inr, ◌∙◌, ℕ, ◌+◌, ◌<◌, nat_lt, Bool, true, false, not, List, [], ◌∷◌, ◌++◌, append_assoc, ap, get_or, length, slice_get, slice_set, if◌then◌else◌, Some, Result, Ok, Err, refl, subst, sym, set-get_or, slice_get-get_or, Fault, AreByNumber, CallData, GivesSet, NamesData, AreSetsJoined, IsSetJoined, joined_set, may_add, new_calls, with_calls_of, joined_append}
 use Rattle.sf_names.specs.declared.fault.Fault.TheVariants as faults
-use Rattle.sf_names.specs.Names.{AreByNumber, CallData, GivesSet, NamesData}
-use Rattle.sf_names.specs.Joined.{AreSetsJoined, IsSetJoined, joined_set, may_add, new_calls, with_calls_of}
-use Rattle.sf_names.specs.laws.JoinedLaws.{joined_append}
 
 -- ---- a set and a further one of its name
 

@@ -1,10 +1,6 @@
 -- No tree is refused as `Syntax`.
-use Rattle.std.proofs.Common.{◌≡◌, ℕ, nat_lt, Bool, true, false, List, [], codes, Option, Some, None, Result, Ok, Err, refl, ap, sym, ◌∙◌, if◌then◌else◌}
-use Rattle.std.proofs.lemmas.Bool.{false≢true}
-use Rattle.toml.specs.Data.{Data, integer, table, Members, no_members, member, get_member}
-use Rattle.sf_names.specs.declared.fault.Fault.{Fault}
+use Rattle.sf_names.proofs.Common.{◌≡◌, ℕ, nat_lt, Bool, true, false, List, [], codes, Option, Some, None, Result, Ok, Err, refl, ap, sym, ◌∙◌, if◌then◌else◌, false≢true, Data, integer, table, Members, no_members, member, get_member, Fault, CallData, GivesNames, NamesData, arch_at, arch_where_word, call_cons, call_of_value, call_where_word, calls_at, calls_of, has_names_keys, is_call_name, key_count, sets_of_file, set_cons, set_from, set_of_parts, set_of_value, sets_of_table, with_usual_set, word_in}
 use Rattle.sf_names.specs.declared.fault.Fault.TheVariants as faults
-use Rattle.sf_names.specs.Names.{CallData, GivesNames, NamesData, arch_at, arch_where_word, call_cons, call_of_value, call_where_word, calls_at, calls_of, has_names_keys, is_call_name, key_count, sets_of_file, set_cons, set_from, set_of_parts, set_of_value, sets_of_table, with_usual_set, word_in}
 
 -- the refusal is `Syntax`
 abbrev pub is_syntax : {X : Type 0} → Result X Fault → Bool

@@ -1,11 +1,5 @@
 -- The calls of a set and the sets of a file, one more at a time.
-use Rattle.std.proofs.Common.{arith, ◌≡◌, length, List, [], ◌∷◌, ◌++◌, ◌&&◌, append_assoc, Result, Ok, Err, refl, ap, sym, ◌∙◌, String, Global, string_bytes}
-use Rattle.std.specs.List.{list_all}
-use Rattle.std.specs.Map.{keys_of}
-use Rattle.toml.specs.View.{members_view}
-use Rattle.toml.specs.declared.value.Value.{Value}
-use Rattle.sf_names.specs.declared.fault.Fault.{Fault}
-use Rattle.sf_names.specs.Names.{HaveOrderedCalls, GivesSet, IsOrdered, NamesData, has_names_keys, is_names_key, list_of_one_set, key_count, set_cons}
+use Rattle.sf_names.proofs.Common.{arith, ◌≡◌, length, List, [], ◌∷◌, ◌++◌, ◌&&◌, append_assoc, Result, Ok, Err, refl, ap, sym, ◌∙◌, String, Global, string_bytes, list_all, keys_of, members_view, Value, Fault, HaveOrderedCalls, GivesSet, IsOrdered, NamesData, has_names_keys, is_names_key, list_of_one_set, key_count, set_cons}
 
 -- the keys of a set, at the list that the code goes through
 pub keys_view : (es : List (String Global × Value))

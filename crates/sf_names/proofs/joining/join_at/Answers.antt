@@ -1,6 +1,4 @@
-use Rattle.std.proofs.Common.{get_or, refl}
-use Rattle.std.proofs.lemmas.Option.{slice_get-get_or}
-use Rattle.std.proofs.lemmas.Result.{on_ok_weaker}
+use Rattle.sf_names.proofs.Common.{get_or, refl, slice_get-get_or, on_ok_weaker}
 use Rattle.sf_names.proofs.joining.JoinLemmas.{refused_there}
 use Rattle.sf_names.proofs.joining.join_at.Goals as goal
 

@@ -1,4 +1,4 @@
-use Rattle.std.proofs.Common.{refl}
+use Rattle.sf_names.proofs.Common.{refl}
 use Rattle.sf_names.proofs.joining.JoinLemmas.{added_to, are_few}
 use Rattle.sf_names.proofs.joining.join_set.Goals as goal
 

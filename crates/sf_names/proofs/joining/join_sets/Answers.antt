@@ -1,4 +1,4 @@
-use Rattle.std.proofs.Common.{subst}
+use Rattle.sf_names.proofs.Common.{subst}
 use Rattle.sf_names.proofs.joining.JoinLemmas.{JoinedSoFar, one_joined}
 use Rattle.sf_names.proofs.joining.join_sets.Goals as goal
 

@@ -1,4 +1,4 @@
-use Rattle.std.specs.Vec.Iter.{into_iter_items}
+use Rattle.sf_names.proofs.Common.{into_iter_items}
 use Rattle.sf_names.proofs.joining.JoinLemmas.{JoinedSoFar}
 use Rattle.sf_names.proofs.joining.join_sets.Given as goal
 

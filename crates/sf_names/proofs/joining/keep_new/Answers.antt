@@ -1,7 +1,4 @@
-use Rattle.std.proofs.Common.{not, rules}
-use Rattle.std.proofs.lemmas.Fn.{filter_same}
-use Rattle.sf_names.specs.Names.{CallData}
-use Rattle.sf_names.specs.Joined.{is_there}
+use Rattle.sf_names.proofs.Common.{not, rules, filter_same, CallData, is_there}
 use Rattle.sf_names.proofs.joining.keep_new.Goals as goal
 
 pub returns : goal.returns

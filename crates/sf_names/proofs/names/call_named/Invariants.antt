@@ -1,6 +1,4 @@
-use Rattle.std.proofs.Common.{◌≡◌, drop}
-use Rattle.std.specs.Prelude.{find}
-use Rattle.sf_names.specs.Names.{has_name}
+use Rattle.sf_names.proofs.Common.{◌≡◌, drop, find, has_name}
 use Rattle.sf_names.proofs.names.call_named.Given as goal
 
 abbrev pub invariant-loop-call : goal.invariant-loop-call

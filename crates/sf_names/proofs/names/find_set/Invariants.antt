@@ -1,6 +1,4 @@
-use Rattle.std.proofs.Common.{◌≡◌, drop}
-use Rattle.std.specs.Prelude.{find}
-use Rattle.sf_names.specs.Names.{has_set}
+use Rattle.sf_names.proofs.Common.{◌≡◌, drop, find, has_set}
 use Rattle.sf_names.proofs.names.find_set.Given as goal
 
 abbrev pub invariant-loop-names : goal.invariant-loop-names

@@ -1,6 +1,4 @@
-use Rattle.std.proofs.Common.{◌≡◌}
-use Rattle.toml.specs.View.{members_view, table_view}
-use Rattle.sf_names.specs.Names.{calls_of}
+use Rattle.sf_names.proofs.Common.{◌≡◌, members_view, table_view, calls_of}
 use Rattle.sf_names.proofs.reading.SetLemmas.{with_front}
 use Rattle.sf_names.proofs.reading.calls_of.Given as goal
 

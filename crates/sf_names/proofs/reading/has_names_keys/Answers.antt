@@ -1,4 +1,4 @@
-use Rattle.std.proofs.Common.{◌∙◌, sym}
+use Rattle.sf_names.proofs.Common.{◌∙◌, sym}
 use Rattle.sf_names.proofs.reading.SetLemmas.{keys_view}
 use Rattle.sf_names.proofs.reading.has_names_keys.Goals as goal
 

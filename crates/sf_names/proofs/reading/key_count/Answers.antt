@@ -1,4 +1,4 @@
-use Rattle.std.proofs.Common.{◌∙◌, sym}
+use Rattle.sf_names.proofs.Common.{◌∙◌, sym}
 use Rattle.sf_names.proofs.reading.SetLemmas.{count_view}
 use Rattle.sf_names.proofs.reading.key_count.Goals as goal
 

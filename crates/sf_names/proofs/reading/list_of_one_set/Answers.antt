@@ -1,5 +1,4 @@
-use Rattle.std.proofs.Common.{arith}
-use Rattle.std.proofs.lemmas.Grind.{common_steps}
+use Rattle.sf_names.proofs.Common.{arith, common_steps}
 use Rattle.sf_names.proofs.reading.SetLemmas.{alone}
 use Rattle.sf_names.proofs.reading.list_of_one_set.Goals as goal
 

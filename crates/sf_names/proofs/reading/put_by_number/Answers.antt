@@ -1,8 +1,4 @@
-use Rattle.std.proofs.Common.{arith, rules}
-use Rattle.std.proofs.lemmas.Fn.{always_returns_same}
-use Rattle.std.proofs.lemmas.List.Sorted.{IsNonDecreasingBy-from_sort_by_key}
-use Rattle.std.proofs.lemmas.Result.{on_ok_weaker}
-use Rattle.sf_names.specs.Names.{CallData}
+use Rattle.sf_names.proofs.Common.{arith, rules, always_returns_same, IsNonDecreasingBy-from_sort_by_key, on_ok_weaker, CallData}
 use Rattle.sf_names.proofs.reading.put_by_number.Goals as goal
 
 pub returns : goal.returns

@@ -1,5 +1,4 @@
-use Rattle.std.proofs.Common.{arith}
-use Rattle.std.proofs.lemmas.Grind.{common_steps}
+use Rattle.sf_names.proofs.Common.{arith, common_steps}
 use Rattle.sf_names.proofs.reading.NeverSyntax.{no_syntax}
 use Rattle.sf_names.proofs.reading.read_names.Goals as goal
 

@@ -1,5 +1,4 @@
-use Rattle.toml.specs.View.{members_view, table_view}
-use Rattle.sf_names.specs.Names.{sets_of_table}
+use Rattle.sf_names.proofs.Common.{members_view, table_view, sets_of_table}
 use Rattle.sf_names.proofs.reading.SetLemmas.{SetsSoFar}
 use Rattle.sf_names.proofs.reading.sets_of.Given as goal
 

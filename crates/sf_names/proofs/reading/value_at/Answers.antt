@@ -1,4 +1,4 @@
-use Rattle.toml.proofs.Views.{table_get}
+use Rattle.sf_names.proofs.Common.{table_get}
 use Rattle.sf_names.proofs.reading.value_at.Goals as goal
 
 pub returns : goal.returns

@@ -1,6 +1,4 @@
-use Rattle.std.proofs.Common.{arith, string_bytes}
-use Rattle.sf_names.specs.Names.{name_between}
-use Rattle.sf_names.specs.laws.NamesLaws.{told_more, words_more}
+use Rattle.sf_names.proofs.Common.{arith, string_bytes, name_between, told_more, words_more}
 use Rattle.sf_names.proofs.text.push_calls.Goals as goal
 
 pub loop-call-preserved : goal.loop-call-preserved

@@ -1,6 +1,4 @@
-use Rattle.std.proofs.Common.{◌≡◌, ◌++◌, take, string_bytes}
-use Rattle.std.specs.List.{flat_map}
-use Rattle.sf_names.specs.Names.{count_after, name_between, names_words}
+use Rattle.sf_names.proofs.Common.{◌≡◌, ◌++◌, take, string_bytes, flat_map, count_after, name_between, names_words}
 use Rattle.sf_names.proofs.text.push_calls.Given as goal
 
 abbrev pub invariant-loop-call : goal.invariant-loop-call

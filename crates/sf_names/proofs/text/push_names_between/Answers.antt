@@ -1,6 +1,4 @@
-use Rattle.std.proofs.Common.{arith, string_bytes}
-use Rattle.sf_names.specs.Names.{names_in}
-use Rattle.sf_names.specs.laws.NamesLaws.{told_more, words_more}
+use Rattle.sf_names.proofs.Common.{arith, string_bytes, names_in, told_more, words_more}
 use Rattle.sf_names.proofs.text.push_names_between.Goals as goal
 
 pub loop-one-preserved : goal.loop-one-preserved
