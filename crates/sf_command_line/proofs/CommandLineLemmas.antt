@@ -1,11 +1,5 @@
 -- What is known of the form of the command line, and of the numbers that a parse by it reads.
-use Rattle.std.proofs.Common.{◌≡◌, ◌&&◌, ◌<◌, ◌^◌, ℕ, List, Bool, true, false, refl, arith}
-use Rattle.std.specs.Prelude.{Option, Result, Some, None, Ok, Err, not, unwrap_or}
-use Rattle.std.specs.Str.Parse.{ParsesUnsigned}
-use Rattle.clap.specs.Words.{ReadsOne, Text, one_of, one_text, rows_of}
-use Rattle.clap.specs.declared.parser.matches.Found.{Found}
-use Rattle.clap.proofs.WalkLemmas.{one_text-rows}
-use Rattle.sf_command_line.specs.Options.{IsOptionNumber}
+use Rattle.sf_command_line.proofs.Common.{◌≡◌, ◌&&◌, ◌<◌, ◌^◌, ℕ, List, Bool, true, false, refl, arith, Option, Result, Some, None, Ok, Err, not, unwrap_or, ParsesUnsigned, ReadsOne, Text, one_of, one_text, rows_of, Found, one_text-rows, IsOptionNumber}
 
 -- where a conjunction of this form holds, its third setting is off
 pub third_is_off : (a b c rest : Bool) → (a && (not b && (not c && rest))) ≡ true → c ≡ false

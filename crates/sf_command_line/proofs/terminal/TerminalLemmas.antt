@@ -1,8 +1,5 @@
 -- The characters of a text, one after the other, as they are shown.
-use Rattle.std.proofs.Common.{◌≡◌, ℕ, List, [], ◌++◌, length, ap, ◌∙◌, IsUtf8, chars, encode_utf8, flat_map}
-use Rattle.std.proofs.lemmas.List.{nil_from_length}
-use Rattle.std.proofs.lemmas.Str.{chars-nil, chars_past_char}
-use Rattle.sf_command_line.specs.Terminal.{shown, visible}
+use Rattle.sf_command_line.proofs.Common.{◌≡◌, ℕ, List, [], ◌++◌, length, ap, ◌∙◌, IsUtf8, chars, encode_utf8, flat_map, nil_from_length, chars-nil, chars_past_char, shown, visible}
 
 -- nothing is shown of a text without bytes
 pub visible_nothing : (text : List ℕ) → length text ≡ 0 → visible text ≡ []

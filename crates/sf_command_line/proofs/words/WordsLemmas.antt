@@ -1,9 +1,6 @@
 -- Commands with one argument more.
-use Rattle.std.proofs.Common.{◌≡◌, ◌∙◌, ap, ap₂, false, true, Bor, Option}
-use Rattle.clap.specs.Words.{AddsArg, AddsSubcommand, App, Rule, Text, app_of, rule_of}
-use Rattle.clap.specs.Words.{with_rule, with_subcommand}
-use Rattle.clap.specs.declared.builder.arg.Arg.{Arg}
-use Rattle.clap.specs.declared.builder.command.Command.{Command}
+use Rattle.sf_command_line.proofs.Common.{◌≡◌, ◌∙◌, ap, ap₂, false, true, Bor, AddsArg, AddsSubcommand, App, Rule, Text, app_of, rule_of, with_rule, with_subcommand, Arg, Command}
+use Rattle.std.proofs.Common.{Option}
 use Rattle.sf_command_line.proofs.CommandLineLemmas.{third_is_off}
 
 -- an argument that makes a form longer by its rule

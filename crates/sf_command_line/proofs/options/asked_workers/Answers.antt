@@ -1,6 +1,4 @@
-use Rattle.std.proofs.Common.{codes, arith}
-use Rattle.std.specs.Str.Parse.{ParsesUnsigned, ExplainsUnsignedError, HasUnsignedDigitsIfOk}
-use Rattle.clap.specs.Words.{found_of}
+use Rattle.sf_command_line.proofs.Common.{codes, arith, ParsesUnsigned, ExplainsUnsignedError, HasUnsignedDigitsIfOk, found_of}
 use Rattle.sf_command_line.proofs.CommandLineLemmas.{number_found}
 use Rattle.sf_command_line.proofs.options.asked_workers.Goals as goal
 

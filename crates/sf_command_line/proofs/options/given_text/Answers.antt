@@ -1,6 +1,4 @@
-use Rattle.std.proofs.Common.{◌∙◌}
-use Rattle.clap.proofs.WalkLemmas.{first_value-rows}
-use Rattle.clap.specs.Words.{found_of}
+use Rattle.sf_command_line.proofs.Common.{◌∙◌, first_value-rows, found_of}
 use Rattle.sf_command_line.proofs.options.given_text.Goals as goal
 
 pub returns : goal.returns

@@ -1,5 +1,4 @@
-use Rattle.std.proofs.Common.{◌≡◌, ◌++◌, flat_map, string_bytes, take}
-use Rattle.sf_command_line.specs.Terminal.{numbered}
+use Rattle.sf_command_line.proofs.Common.{◌≡◌, ◌++◌, flat_map, string_bytes, take, numbered}
 use Rattle.sf_command_line.proofs.terminal.push_numbered.Given as goal
 
 abbrev pub invariant-loop-byte : goal.invariant-loop-byte

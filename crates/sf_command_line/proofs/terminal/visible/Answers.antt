@@ -1,5 +1,4 @@
-use Rattle.std.proofs.Common.{◌∙◌, sym, append-nil, append_assoc}
-use Rattle.std.proofs.lemmas.Str.{IsUtf8-past_char}
+use Rattle.sf_command_line.proofs.Common.{◌∙◌, sym, append-nil, append_assoc, IsUtf8-past_char}
 use Rattle.sf_command_line.proofs.terminal.TerminalLemmas.{visible_first, visible_nothing}
 use Rattle.sf_command_line.proofs.terminal.visible.Goals as goal
 

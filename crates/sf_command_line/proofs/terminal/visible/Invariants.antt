@@ -1,6 +1,4 @@
-use Rattle.std.proofs.Common.{◌≡◌, ◌++◌, IsUtf8, string_bytes}
-use Rattle.std.specs.Str.Iter.{chars_rest}
-use Rattle.sf_command_line.specs.Terminal.{visible}
+use Rattle.sf_command_line.proofs.Common.{◌≡◌, ◌++◌, IsUtf8, string_bytes, chars_rest, visible}
 use Rattle.sf_command_line.proofs.terminal.visible.Given as goal
 
 abbrev pub invariant-loop-character : goal.invariant-loop-character

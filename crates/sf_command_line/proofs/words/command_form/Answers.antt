@@ -1,6 +1,4 @@
-use Rattle.std.proofs.Common.{refl}
-use Rattle.std.proofs.lemmas.Result.{IfOk-weaker}
-use Rattle.sf_command_line.specs.CommandLine.{command_line}
+use Rattle.sf_command_line.proofs.Common.{refl, IfOk-weaker, command_line}
 use Rattle.sf_command_line.proofs.words.WordsLemmas.{with_next}
 use Rattle.sf_command_line.proofs.words.command_form.Goals as goal
 

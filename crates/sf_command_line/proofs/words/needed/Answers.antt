@@ -1,7 +1,4 @@
-use Rattle.std.proofs.Common.{◌≡◌, ap, codes, ◌∙◌}
-use Rattle.std.proofs.lemmas.Result.{IfOk-weaker}
-use Rattle.clap.specs.Words.{app_of, new_app}
-use Rattle.clap.specs.Simple.{app_of_fields}
+use Rattle.sf_command_line.proofs.Common.{◌≡◌, ap, codes, ◌∙◌, IfOk-weaker, app_of, new_app, app_of_fields}
 use Rattle.sf_command_line.proofs.words.WordsLemmas.{with_one}
 use Rattle.sf_command_line.proofs.words.needed.Goals as goal
 
