@@ -1,11 +1,7 @@
 -- Tests that ask whether A equals a number, how programs chain them, and the tables that find the test for a number.
 -- Here they are called equal tests.
 use Rattle.std.specs.Prelude.{◌≡◌, ◌≢◌, ℕ, zero, suc, ◌+◌, ◌*◌, ◌<◌, ◌≤◌, List, length, All, Contains, slice_index}
-use Rattle.std.specs.List.Sorted.{IsNonDecreasing}
-use Rattle.sf_insn.specs.declared.ops.Test.TheVariants.{Equal}
-use Rattle.sf_check.specs.declared.insn.Insn.{Insn}
-use Rattle.sf_check.specs.declared.insn.Insn.TheVariants.{Branch}
-use Rattle.sf_check.specs.declared.insn.Operand.TheVariants.{Constant}
+use Rattle.sf_check.specs.Common.{IsNonDecreasing, Equal, Insn, Branch, Constant}
 use Rattle.sf_check.specs.Programs.{IsAt}
 
 -- The instruction asks whether A equals this number. Where A is another number, it skips this many instructions.

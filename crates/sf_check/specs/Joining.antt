@@ -1,6 +1,6 @@
 -- What the functions that make the tables of equal tests, and look numbers up in them, promise each other.
 use Rattle.std.specs.Prelude.{◌≡◌, ℕ, ◌<◌, ◌≤◌, List, length, slice_index}
-use Rattle.sf_check.specs.declared.insn.Insn.{Insn}
+use Rattle.sf_check.specs.Common.{Insn}
 use Rattle.sf_check.specs.EqualTests.{IsEqualTest, AreChains}
 
 -- The tables chain only tests below `place`: no place from there on has a later one in its chain.

@@ -1,3 +1,4 @@
+pub mod Common
 pub mod Codes
 pub mod Insns
 pub mod Programs

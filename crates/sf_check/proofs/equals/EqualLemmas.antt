@@ -1,19 +1,6 @@
 -- The tables of the tests by which a program compares A with one number after the other: how they are made, and what a
 -- look-up in them finds.
-use Rattle.std.proofs.lemmas.Grind.{common_steps}
-use Rattle.std.proofs.Common.{◌≡◌, ◌≢◌, ℕ, zero, suc, ◌+◌, ◌-◌, ◌*◌, ◌<◌, ◌≤◌, ◌⊎◌, List, [], ◌∷◌, ◌++◌, length, set, refl, sym, ap, subst, ◌∙◌, inl, inr, arith, length-set}
-use Rattle.std.specs.Prelude.{All, Contains, slice_index}
-use Rattle.std.specs.List.Sorted.{IsNonDecreasing, IsPermutation, IsPartitionPoint}
-use Rattle.std.proofs.lemmas.Bool.{cases_lt, cases_eq}
-use Rattle.std.proofs.lemmas.Option.{same_Some, slice_get_within}
-use Rattle.std.proofs.lemmas.List.{get_or_default, get_or-set_same, get_or-set_other}
-use Rattle.std.proofs.lemmas.List.Elements.{All-push, Contains-push, Contains-append_left}
-use Rattle.std.proofs.lemmas.List.Sorted.{All-permutation, Contains-permutation}
-use Rattle.sf_check.specs.declared.insn.Insn.{Insn}
-use Rattle.sf_check.specs.Insns.{targets}
-use Rattle.sf_check.specs.Programs.{AllBelow, IsAt}
-use Rattle.sf_check.specs.EqualTests.{AsksFor, IsEqualTest, AreSkipped, LeadsOn, IsInChain, AreChains, test_key, IsTestKey, AreTestKeys, LeadInside}
-use Rattle.sf_check.specs.Joining.{AreJoined, IsReached}
+use Rattle.sf_check.proofs.Common.{common_steps, ◌≡◌, ◌≢◌, ℕ, zero, suc, ◌+◌, ◌-◌, ◌*◌, ◌<◌, ◌≤◌, ◌⊎◌, List, [], ◌∷◌, ◌++◌, length, set, refl, sym, ap, subst, ◌∙◌, inl, inr, arith, length-set, All, Contains, slice_index, IsNonDecreasing, IsPermutation, IsPartitionPoint, cases_lt, cases_eq, same_Some, slice_get_within, get_or_default, get_or-set_same, get_or-set_other, All-push, Contains-push, Contains-append_left, All-permutation, Contains-permutation, Insn, targets, AllBelow, IsAt, AsksFor, IsEqualTest, AreSkipped, LeadsOn, IsInChain, AreChains, test_key, IsTestKey, AreTestKeys, LeadInside, AreJoined, IsReached}
 
 -- an instruction asks for one number at most
 same_number : (i : Insn) (j k r s : ℕ) → AsksFor i j r → AsksFor i k s → j ≡ k
@@ -34,11 +21,6 @@ pub test_here : (code : List Insn) (at number skips : ℕ) (i : Insn) → IsAt c
     → IsEqualTest code at number (at + 1 + skips)
 test_here code at number skips i here asks = grind (arith, common_steps)
 
--- a test for the number itself is for no other one
-pub only_number : (code : List Insn) (at number asked skips : ℕ) (i : Insn) → IsAt code at i → AsksFor i asked skips
-    → asked ≡ number → (k next : ℕ) → IsEqualTest code at k next → k ≡ number
-only_number code at number asked skips i here asks is k next t = search (arith, one_number, test_here)
-
 -- equal tests lead to places of the program where all targets are inside
 pub tests_inside : (code : List Insn) → ((at : ℕ) (i : Insn) → IsAt code at i → AllBelow (length code) (targets at i))
     → LeadInside code
@@ -52,9 +34,7 @@ tests_inside code inside at k next t =
 -- m tests are skipped, and then n more
 pub skipped_more : (code : List Insn) (number m n place middle behind : ℕ) → AreSkipped code number m place middle
     → AreSkipped code number n middle behind → AreSkipped code number (m + n) place behind
-skipped_more code number zero n place middle behind some more =
-    let e : 0 + n ≡ n = omega arith in
-    rw e (subst (λ (p : ℕ). AreSkipped code number n p behind) some more)
+skipped_more code number zero n place middle behind some more = grind (arith, common_steps)
 skipped_more code number (suc m) n place middle behind some more =
     let e : suc m + n ≡ suc (m + n) = omega arith in
     rw e (some.0, some.1, some.2, some.3, skipped_more code number m n some.1 middle behind some.4 more)
@@ -72,9 +52,7 @@ skipped_one_more code number m n all k place at next behind some other test more
 walked : (code : List Insn) (chains steps lasts : List ℕ) (number fuel p t : ℕ) → AreChains code chains steps lasts
     → t ≤ p + fuel → IsReached code chains p number t
     → (n : ℕ) × (slice_index steps t ≡ slice_index steps p + n) × (p + n ≤ t) × AreSkipped code number n p t
-walked code chains steps lasts number zero p t are fuelled reached =
-    let e : t ≡ p = omega (arith, fuelled, reached.from) in
-    (0, rw e (omega arith), omega (arith, reached.from), e)
+walked code chains steps lasts number zero p t are fuelled reached = grind (arith, common_steps)
 walked code chains steps lasts number (suc fuel) p t are fuelled reached = elim (cases_eq t p) [
   | inl e ↦ (0, rw e (omega arith), omega (arith, reached.from), e)
   | inr ne ↦
@@ -117,69 +95,64 @@ skipped_to code chains steps lasts place number at are reached =
 
 -- ---- looking a number up
 
--- Where the chain has a later test for the number, the look-up finds a key, and that is at most the key of this test.
-least_key : (code : List Insn) (chains keys : List ℕ) (found place number at next : ℕ) → AreTestKeys code chains keys
-    → IsPartitionPoint (λ k. k < test_key (slice_index chains place) number place)
-    (λ k. test_key (slice_index chains place) number place ≤ k) keys found → place ≤ at
-    → slice_index chains at ≡ slice_index chains place → IsEqualTest code at number next
-    → (found < length keys) × (slice_index keys found ≤ test_key (slice_index chains place) number at)
-least_key code chains keys found place number at next tables cut from same test =
-    let there = rw same at (tables.of at number next test) in
-    let m = there.0 in
-    let key = test_key (slice_index chains place) number at in
-    let is : slice_index keys m ≡ key = get_or_default keys m 0 key there.1 ∙ there.2 in
-    elim (cases_lt m found) [
-      | inl before ↦ absurd (let less = cut.0 m 0 (omega arith) before in omega (arith, less, is))
-      | inr after ↦
-          let order = tables.ascending found m 0 after there.1 in
-          (omega (arith, there.1), omega (arith, order, is))
-    ]
+module _ (code : List Insn) (chains keys : List ℕ) (found place number : ℕ) (tables : AreTestKeys code chains keys)
+    (cut : IsPartitionPoint (λ k. k < test_key (slice_index chains place) number place)
+    (λ k. test_key (slice_index chains place) number place ≤ k) keys found) where
+  -- Where the chain has a later test for the number, a key is found, and that is at most the key of this test.
+  least_key : (at next : ℕ) → place ≤ at → slice_index chains at ≡ slice_index chains place
+      → IsEqualTest code at number next
+      → (found < length keys) × (slice_index keys found ≤ test_key (slice_index chains place) number at)
+  least_key at next from same test =
+      let there = rw same at (tables.of at number next test) in
+      let m = there.0 in
+      let key = test_key (slice_index chains place) number at in
+      let is : slice_index keys m ≡ key = get_or_default keys m 0 key there.1 ∙ there.2 in
+      elim (cases_lt m found) [
+        | inl before ↦ absurd (let less = cut.0 m 0 (omega arith) before in omega (arith, less, is))
+        | inr after ↦
+            let order = tables.ascending found m 0 after there.1 in
+            (omega (arith, there.1), omega (arith, order, is))
+      ]
 
--- where no key of the chain and the number is found, no test before the last place asks for the number
-pub none_by_key : (code : List Insn) (chains keys : List ℕ) (found place last number : ℕ) → AreTestKeys code chains keys
-    → IsPartitionPoint (λ k. k < test_key (slice_index chains place) number place)
-    (λ k. test_key (slice_index chains place) number place ≤ k) keys found
-    → place ≤ last → last < length code → slice_index chains last ≡ slice_index chains place
-    → (found < length keys → test_key (slice_index chains place) number last ≤ slice_index keys found)
-    → IsReached code chains place number last
-none_by_key code chains keys found place last number keys_are cut from inside same past = record {
-  from = from;
-  inside = inside;
-  same = sym same;
-  others = λ q next from before same test.
-      let least = least_key code chains keys found place number q next keys_are cut from same test in
-      let far = past least.0 in
-      omega (arith, least.1, far);
-}
+  -- where no key of the chain and the number is found, no test before the last place asks for the number
+  pub none_by_key : (last : ℕ) → place ≤ last → last < length code
+      → slice_index chains last ≡ slice_index chains place
+      → (found < length keys → test_key (slice_index chains place) number last ≤ slice_index keys found)
+      → IsReached code chains place number last
+  none_by_key last from inside same past = record {
+    from = from;
+    inside = inside;
+    same = sym same;
+    others = λ q next from before same test.
+        let least = least_key q next from same test in
+        let far = past least.0 in
+        omega (arith, least.1, far);
+  }
 
--- the key that is found is that of the first test of the chain for the number
-pub found_by_key : (code : List Insn) (chains keys : List ℕ) (found place last number : ℕ)
-    → AreTestKeys code chains keys
-    → length code ≤ 4096 → IsPartitionPoint (λ k. k < test_key (slice_index chains place) number place)
-    (λ k. test_key (slice_index chains place) number place ≤ k) keys found
-    → last < length code → number < 4294967296 → found < length keys
-    → slice_index keys found < test_key (slice_index chains place) number last
-    → IsReached code chains place number
-    (place + (slice_index keys found - test_key (slice_index chains place) number place))
-found_by_key code chains keys found place last number keys_are short cut end small within before =
-    let key = keys_are.are found 0 within in
-    let from = cut.1 found 0 (omega arith) within in
-    let inside = slice_get_within code key.at key.test.insn key.test.here in
-    let mark : 4294967296 * slice_index chains key.at + key.number
-    ≡ 4294967296 * slice_index chains place + number =
-    omega (arith, key.is, from, before, inside, short, end) in
-    let chain_is : slice_index chains key.at ≡ slice_index chains place =
-    omega (arith, mark, key.small, small) in
-    let at_is : place + (slice_index keys found - test_key (slice_index chains place) number place) ≡ key.at =
-    omega (arith, key.is, mark, from) in
-    subst (IsReached code chains place number) (sym at_is) (record {
-      from = omega (arith, key.is, mark, from);
-      inside = inside;
-      same = sym chain_is;
-      others = λ q next after less same test.
-          let least = least_key code chains keys found place number q next keys_are cut after same test in
-          omega (arith, least.1, key.is, mark);
-    })
+  -- the key that is found is that of the first test of the chain for the number
+  pub found_by_key : (last : ℕ) → length code ≤ 4096 → last < length code → number < 4294967296 → found < length keys
+      → slice_index keys found < test_key (slice_index chains place) number last
+      → IsReached code chains place number
+      (place + (slice_index keys found - test_key (slice_index chains place) number place))
+  found_by_key last short end small within before =
+      let key = tables.are found 0 within in
+      let from = cut.1 found 0 (omega arith) within in
+      let inside = slice_get_within code key.at key.test.insn key.test.here in
+      let mark : 4294967296 * slice_index chains key.at + key.number
+      ≡ 4294967296 * slice_index chains place + number =
+      omega (arith, key.is, from, before, inside, short, end) in
+      let chain_is : slice_index chains key.at ≡ slice_index chains place =
+      omega (arith, mark, key.small, small) in
+      let at_is : place + (slice_index keys found - test_key (slice_index chains place) number place) ≡ key.at =
+      omega (arith, key.is, mark, from) in
+      subst (IsReached code chains place number) (sym at_is) (record {
+        from = omega (arith, key.is, mark, from);
+        inside = inside;
+        same = sym chain_is;
+        others = λ q next after less same test.
+            let least = least_key q next after same test in
+            omega (arith, least.1, key.is, mark);
+      })
 
 -- ---- making the chains
 
@@ -346,12 +319,10 @@ pub joined_one : (code : List Insn) (chains steps lasts : List ℕ) (place next 
     (set lasts (slice_index chains place) next) (place + 1)
 joined_one code chains steps lasts place next number joined test inside single =
     let are = joined.are in
-    let chain = slice_index chains place in
-    let step = slice_index steps place + 1 in
     let further : place < next = omega (arith, test.leads) in
     let this = are.each_place place (omega (arith, further, inside)) in
-    joined_by code chains steps lasts (set chains next chain) (set steps next step) (set lasts chain next) place next
-    number chain joined test inside single (search (arith, length-set, get_or-set_same, get_or-set_other))
+    joined_by code chains steps lasts _ _ _ place next number (slice_index chains place) joined test inside single
+    (search (arith, length-set, get_or-set_same, get_or-set_other))
 
 -- ---- making the keys
 

@@ -1,17 +1,5 @@
 -- A list of raw instructions has at most one first fault, and none where it spells a lawful program.
-use Rattle.std.proofs.Common.{◌≡◌, ℕ, ◌<◌, List, length, Some, slice_get, Ok, Err, Result, refl, sym, ap, subst, ◌∙◌, ◌⊎◌, inl, inr, arith}
-use Rattle.std.proofs.lemmas.Bool.{cases_lt}
-use Rattle.std.proofs.lemmas.Option.{same_Some, slice_get_within}
-use Rattle.sf_insn.specs.declared.raw.RawInsn.{RawInsn}
-use Rattle.sf_check.specs.declared.insn.Insn.{Insn}
-use Rattle.sf_check.specs.declared.read.Unreadable.{Unreadable}
-use Rattle.sf_check.specs.declared.read.Unreadable.TheVariants.{UnknownCode, BadField}
-use Rattle.sf_check.specs.declared.fault.Fault.{Fault}
-use Rattle.sf_check.specs.declared.fault.Fault.TheVariants.{Empty, TooLong, Code, Field, Jump, Last, Scratch, NoFilter, TooMany, PathLength, Memory}
-use Rattle.sf_check.specs.Codes.{insn_of}
-use Rattle.sf_check.specs.Insns.{targets}
-use Rattle.sf_check.specs.Programs.{AllBelow, EndsInReturn, IsLawfulProgram, IsSetAt, IsUnsetAt, Spells}
-use Rattle.sf_check.specs.Refusals.{IsFine, AreFineBefore, IsFirstFault}
+use Rattle.sf_check.proofs.Common.{common_steps, ◌≡◌, ℕ, ◌<◌, List, length, Some, slice_get, Ok, Err, Result, refl, sym, ap, subst, ◌∙◌, ◌⊎◌, inl, inr, arith, cases_lt, same_Some, slice_get_within, RawInsn, Insn, Unreadable, UnknownCode, BadField, Fault, Empty, TooLong, Code, Field, Jump, Last, Scratch, insn_of, targets, AllBelow, EndsInReturn, IsLawfulProgram, IsSetAt, IsUnsetAt, Spells, IsFine, AreFineBefore, IsFirstFault}
 use Rattle.sf_check.proofs.laws.Spelled.{length-spells, one_spelled, spelled_at}
 
 -- the fault of an instruction that isn't fine, by what it means
@@ -54,22 +42,12 @@ stop_of raws (Jump at) (before, r, i, here, good, out) = bad at r before here (s
 stop_of raws Last (before, code, spells, wrong) = whole code before spells (no_return wrong)
 stop_of raws (Scratch at) (before, code, spells, ends, wrong, first) =
     whole code before spells (unset at ends wrong first)
-stop_of raws NoFilter f = absurd f
-stop_of raws TooMany f = absurd f
-stop_of raws PathLength f = absurd f
-stop_of raws Memory f = absurd f
+stop_of raws _ f = absurd f
 
 -- two places are one where each has a property that no place before the other has
 one_place : (P : ℕ → Type 0) (a b : ℕ) → P a → P b → ((j : ℕ) → j < a → P j → ⊥) → ((j : ℕ) → j < b → P j → ⊥)
     → a ≡ b
-one_place P a b p q before_a before_b = elim (cases_lt a b) [
-  | inl lt ↦ absurd (before_b a lt p)
-  | inr le ↦ elim (cases_lt b a) [ inl lt ↦ absurd (before_a b lt q) | inr le' ↦ omega arith ]
-]
-
--- the instruction at a place isn't fine
-abbrev IsBad : List RawInsn → ℕ → Type 0
-IsBad raws at = (r : RawInsn) × (slice_get raws at ≡ Some r) × (IsFine raws at r → ⊥)
+one_place P a b p q before_a before_b = grind (arith, common_steps, cases_lt)
 
 one_refusal : (code : List Insn) (e f : Fault) → Refused code e → Refused code f → e ≡ f
 one_refusal code e f (no_return wrong) (no_return wrong') = refl
@@ -80,19 +58,12 @@ one_refusal code e f (unset a ends u below) (unset b ends' v below') =
     (λ j lt w. w.4 (below' j lt w.0 w.1 w.2 w.3)))
 
 one_stop : (raws : List RawInsn) (e f : Fault) → Stop raws e → Stop raws f → e ≡ f
-one_stop raws e f (unfit none (inl p)) (unfit none' (inl q)) = p.0 ∙ sym q.0
-one_stop raws e f (unfit none (inr p)) (unfit none' (inr q)) = p.0 ∙ sym q.0
-one_stop raws e f (unfit none (inl p)) (unfit none' (inr q)) = absurd (omega (arith, p.1, q.1))
-one_stop raws e f (unfit none (inr p)) (unfit none' (inl q)) = absurd (omega (arith, p.1, q.1))
+one_stop raws e f (unfit none p) (unfit none' q) = grind (arith, p, q)
 one_stop raws e f (unfit none p) (bad at r before here is wrong) = absurd (none at before)
 one_stop raws e f (unfit none p) (whole code all s refused) = absurd (none (length raws) all)
 one_stop raws e f (bad at r before here is wrong) (unfit none q) = absurd (none at before)
 one_stop raws e f (bad a r before here is wrong) (bad b q before' here' is' wrong') =
-    let same = one_place (IsBad raws) a b (r, here, wrong) (q, here', wrong') (λ j lt w. w.2 (before.each j w.0 lt w.1))
-    (λ j lt w. w.2 (before'.each j w.0 lt w.1)) in
-    let raw : r ≡ q = same_Some r q (sym here ∙ ap (slice_get raws) same ∙ here') in
-    let there : fault_of a (insn_of r) ≡ fault_of b (insn_of q) = rw (same, raw) refl in
-    is ∙ there ∙ sym is'
+    grind (arith, common_steps, slice_get, same_Some, fault_of, one_place)
 one_stop raws e f (bad at r before here is wrong) (whole code all s refused) =
     absurd (wrong (all.each at r (slice_get_within raws at r here) here))
 one_stop raws e f (whole code all s refused) (unfit none q) = absurd (none (length raws) all)
@@ -107,12 +78,7 @@ one_fault raws e f p q = one_stop raws e f (stop_of raws e p) (stop_of raws f q)
 -- raw instructions that spell a lawful program are fine
 all_fine : (raws : List RawInsn) (code : List Insn) → Spells raws code → IsLawfulProgram code
     → AreFineBefore raws (length raws)
-all_fine raws code s l = record {
-  some = omega (arith, length-spells raws code s, l.some);
-  short = omega (arith, length-spells raws code s, l.short);
-  each = λ at r lt here. let found = spelled_at raws code at r s here in
-      (found.0, found.2, rw (length-spells raws code s) (l.inside at found.0 found.1));
-}
+all_fine raws code s l = grind (arith, common_steps, length-spells, spelled_at)
 
 not_refused : (code : List Insn) (e : Fault) → Refused code e → IsLawfulProgram code → ⊥
 not_refused code e (no_return wrong) l = wrong l.ends
@@ -121,11 +87,4 @@ not_refused code e (unset at ends u below) l = u.4 (l.set at u.0 u.1 u.2 u.3)
 -- and so they have no first fault
 pub no_fault : (raws : List RawInsn) (e : Fault) (code : List Insn) → IsFirstFault raws e → Spells raws code
     → IsLawfulProgram code → ⊥
-no_fault raws e code f s l = by (stop_of raws e f)
-  where
-    by : Stop raws e → ⊥
-    by (unfit none p) = none (length raws) (all_fine raws code s l)
-    by (bad at r before here is wrong) =
-        wrong ((all_fine raws code s l).each at r (slice_get_within raws at r here) here)
-    by (whole other all s' refused) =
-        not_refused code e (subst (λ (c : List Insn). Refused c e) (one_spelled raws other code s' s) refused) l
+no_fault raws e code f s l = grind (arith, common_steps, slice_get_within, one_spelled, stop_of, all_fine, not_refused)

@@ -1,18 +1,5 @@
 -- By its masks the checker finds the least load that a path has not set.
-use Rattle.std.proofs.lemmas.Grind.{common_steps}
-use Rattle.std.proofs.Common.{◌≡◌, ℕ, ◌+◌, ◌*◌, ◌%◌, ◌^◌, ◌<◌, min, List, [], ◌∷◌, length, get_or, set, replicate, Some, bit_and, bit_or, refl, sym, ap, subst, ◌∙◌, ◌⊎◌, inl, inr, arith, length-set}
-use Rattle.std.specs.Prelude.{Contains, Any}
-use Rattle.std.specs.Int.{bit_at, w16}
-use Rattle.std.proofs.lemmas.Bool.{cases_eq}
-use Rattle.std.proofs.lemmas.List.{get_or-set_same, get_or-set_other, get_or-replicate, length-replicate}
-use Rattle.std.proofs.lemmas.Nat.Bits.{bit_at-lt, bit_at-zero, bit_at_and, bit_at_ones, bit_at_set_same, bit_at_set_other}
-use Rattle.std.proofs.lemmas.Option.{same_Some}
-use Rattle.sf_check.specs.declared.insn.Insn.{Insn}
-use Rattle.sf_check.specs.Insns.{stored_by, loaded_by, successors}
-use Rattle.sf_check.specs.Programs.{AllBelow, IsAt, Leads, IsPath, Stores, IsSetAt, IsUnsetAt}
-use Rattle.sf_check.specs.Masks.{narrowed_masks}
-use Rattle.sf_check.specs.laws.ProgramLaws.{successor_after}
-use Rattle.sf_check.specs.laws.ContainsLaws.{contains_cons, contains_here, contains_there, contains_nil, any_nil, any_here, any_there, any_cons}
+use Rattle.sf_check.proofs.Common.{common_steps, ◌≡◌, ℕ, ◌+◌, ◌*◌, ◌%◌, ◌^◌, ◌<◌, min, List, [], ◌∷◌, length, get_or, set, replicate, Some, bit_and, bit_or, refl, sym, ap, subst, ◌∙◌, ◌⊎◌, inl, inr, arith, length-set, Contains, Any, bit_at, w16, cases_eq, get_or-set_same, get_or-set_other, get_or-replicate, length-replicate, bit_at-lt, bit_at-zero, bit_at_and, bit_at_ones, bit_at_set_same, bit_at_set_other, same_Some, Insn, stored_by, loaded_by, successors, AllBelow, IsAt, Leads, IsPath, Stores, IsSetAt, IsUnsetAt, narrowed_masks, successor_after, contains_cons, contains_here, contains_there, contains_nil, any_nil, any_here, any_there, any_cons}
 
 -- ---- a bit that is set
 
@@ -49,57 +36,29 @@ length-narrowed_masks [] s ms = refl
 length-narrowed_masks (p ∷ qs) s ms = length-narrowed_masks qs s (set ms p (bit_and (get_or ms p 0) s))
     ∙ length-set ms p (bit_and (get_or ms p 0) s)
 
--- no bit is added
-met_keeps : (n : ℕ) (qs : List ℕ) (s : ℕ) (ms : List ℕ) (q k : ℕ) → length ms ≡ n → AllBelow n qs
-    → bit_at (get_or (narrowed_masks qs s ms) q 0) k ≡ 1 → bit_at (get_or ms q 0) k ≡ 1
-met_keeps n [] s ms q k len below h = h
-met_keeps n (p ∷ qs) s ms q k len below h =
-    let later = met_keeps n qs s (set ms p (bit_and (get_or ms p 0) s)) q k
-    (length-set ms p (bit_and (get_or ms p 0) s) ∙ len) below.1 h in
-    elim (cases_eq q p) [
-      | inl e ↦ keeps_here e later
-      | inr ne ↦ sym (met_other ms p s k q ne) ∙ later
-    ]
-  where
-    keeps_here : q ≡ p → bit_at (get_or (set ms p (bit_and (get_or ms p 0) s)) q 0) k ≡ 1 → bit_at (get_or ms q 0) k ≡ 1
-    keeps_here e later = grind (arith, common_steps, met_same, bit_at-lt)
-
--- a bit that stays at a place that is met is in the set
-met_adds : (n : ℕ) (qs : List ℕ) (s : ℕ) (ms : List ℕ) (q k : ℕ) → length ms ≡ n → AllBelow n qs → Contains qs q
-    → bit_at (get_or (narrowed_masks qs s ms) q 0) k ≡ 1 → bit_at s k ≡ 1
-met_adds n [] s ms q k len below c h = absurd (contains_nil q c)
-met_adds n (p ∷ qs) s ms q k len below c h =
+-- a mask stays where its place is not met, and else its bits are those of the set too
+met : (n : ℕ) (qs : List ℕ) (s : ℕ) (ms : List ℕ) (q k : ℕ) → length ms ≡ n → AllBelow n qs
+    → ((Contains qs q → ⊥) × (bit_at (get_or (narrowed_masks qs s ms) q 0) k ≡ bit_at (get_or ms q 0) k))
+    ⊎ (Contains qs q × (bit_at (get_or (narrowed_masks qs s ms) q 0) k ≡ min (bit_at (get_or ms q 0) k) (bit_at s k)))
+met n [] s ms q k len below = inl (contains_nil q, refl)
+met n (p ∷ qs) s ms q k len below =
     let len' = length-set ms p (bit_and (get_or ms p 0) s) ∙ len in
-    elim (contains_cons p qs q c) [
-      | inl e ↦ adds_here e (met_keeps n qs s (set ms p (bit_and (get_or ms p 0) s)) q k len' below.1 h)
-      | inr later ↦ met_adds n qs s (set ms p (bit_and (get_or ms p 0) s)) q k len' below.1 later h
+    let rest = met n qs s (set ms p (bit_and (get_or ms p 0) s)) q k len' below.1 in
+    elim (cases_eq q p) [
+      | inl e ↦
+          let here : bit_at (get_or (set ms p (bit_and (get_or ms p 0) s)) q 0) k
+          ≡ min (bit_at (get_or ms q 0) k) (bit_at s k) = rw e (met_same ms p s k (omega (arith, below.0))) in
+          inr (contains_here p qs q (sym e), elim rest [ inl h ↦ h.1 ∙ here | inr h ↦ h.1 ∙ omega (arith, here) ])
+      | inr ne ↦
+          let other = met_other ms p s k q ne in
+          elim rest [
+            | inl h ↦ inl (
+              λ c. elim (contains_cons p qs q c) [ inl e ↦ ne (sym e) | inr more ↦ h.0 more ],
+              h.1 ∙ other,
+            )
+            | inr h ↦ inr (contains_there p qs q h.0, h.1 ∙ ap (λ (x : ℕ). min x (bit_at s k)) other)
+          ]
     ]
-  where
-    adds_here : p ≡ q → bit_at (get_or (set ms p (bit_and (get_or ms p 0) s)) q 0) k ≡ 1 → bit_at s k ≡ 1
-    adds_here e later = grind (arith, common_steps, met_same, bit_at-lt)
-
--- a bit that is clear was clear, or is met with a set without it
-met_clear : (n : ℕ) (qs : List ℕ) (s : ℕ) (ms : List ℕ) (q k : ℕ) → length ms ≡ n → AllBelow n qs
-    → bit_at (get_or (narrowed_masks qs s ms) q 0) k ≡ 0 → (bit_at (get_or ms q 0) k ≡ 0)
-    ⊎ (Contains qs q × (bit_at s k ≡ 0))
-met_clear n [] s ms q k len below h = inl h
-met_clear n (p ∷ qs) s ms q k len below h =
-    elim (met_clear n qs s (set ms p (bit_and (get_or ms p 0) s)) q k
-    (length-set ms p (bit_and (get_or ms p 0) s) ∙ len) below.1 h) [
-      | inl z ↦ clear_here z (cases_eq q p)
-      | inr later ↦ inr (contains_there p qs q later.0, later.1)
-    ]
-  where
-    clear_here : bit_at (get_or (set ms p (bit_and (get_or ms p 0) s)) q 0) k ≡ 0 → (q ≡ p) ⊎ (q ≡ p → ⊥)
-        → (bit_at (get_or ms q 0) k ≡ 0) ⊎ (Contains (p ∷ qs) q × (bit_at s k ≡ 0))
-    clear_here z (inl e) =
-        let there = rw e at z in
-        let met = met_same ms p s k (omega (arith, below.0)) in
-        elim (cases_eq (bit_at (get_or ms p 0) k) 0) [
-          | inl a ↦ inl (rw e a)
-          | inr some ↦ inr (contains_here p qs q (sym e), omega arith)
-        ]
-    clear_here z (inr ne) = inl (sym (met_other ms p s k q ne) ∙ z)
 
 -- ---- paths
 
@@ -133,7 +92,15 @@ pub known_start : (code : List Insn) (n : ℕ) → n ≡ length code → 0 < len
 known_start code n n-is some = record {
   size = size;
   sound = sound;
-  complete = λ q k lt small z. complete q k lt small z (cases_eq q 0);
+  complete = λ q k lt small z. elim (cases_eq q 0) [
+    | inl e ↦ ([], e, any_nil (Stores code k))
+    | inr ne ↦
+        let there = rw (
+          get_or-set_other {A = ℕ} (replicate {A = ℕ} n 65535) 0 q 0 0 ne,
+          get_or-replicate {A = ℕ} n q 65535 0 (omega arith),
+        ) at z in
+        absurd (omega (arith, bit_at_ones 16 k small, there))
+  ];
   all_set = λ j lt. absurd (omega arith);
 }
   where
@@ -150,16 +117,6 @@ known_start code n n-is some = record {
         let at_first = rw (path, first_is) at h in
         absurd (omega (arith, bit_at-zero k, at_first))
     sound q k (p ∷ earlier) h below path = absurd (omega (arith, below))
-
-    complete : (q k : ℕ) → q < length code → k < 16 → bit_at (get_or (fresh n) q 0) k ≡ 0 → (q ≡ 0) ⊎ (q ≡ 0 → ⊥)
-        → (earlier : List ℕ) × IsPath code (q ∷ earlier) × (Any (Stores code k) earlier → ⊥)
-    complete q k lt small z (inl e) = ([], e, any_nil (Stores code k))
-    complete q k lt small z (inr ne) =
-        let there = rw (
-          get_or-set_other {A = ℕ} (replicate {A = ℕ} n 65535) 0 q 0 0 ne,
-          get_or-replicate {A = ℕ} n q 65535 0 (omega arith),
-        ) at z in
-        absurd (omega (arith, bit_at_ones 16 k small, there))
 
 -- a load of a word that the mask of its place has
 pub load_is_set : (code : List Insn) (masks : List ℕ) (place : ℕ) (i : Insn) → Known code masks place
@@ -186,9 +143,17 @@ pub known_step : (code : List Insn) (masks : List ℕ) (place : ℕ) (i : Insn) 
 known_step code masks place i after known lt at inside fine more stored only = record {
   size = length-narrowed_masks (successors place i) after masks ∙ known.size;
   sound = sound;
-  complete = λ q k q-lt small z. complete q k q-lt small
-      (met_clear (length code) (successors place i) after masks q k known.size inside z);
-  all_set = λ j j-lt. all_set j (cases_eq j place) j-lt;
+  complete = λ q k q-lt small z. elim (cases_eq (bit_at (get_or masks q 0) k) 0) [
+    | inl clear ↦ known.complete q k q-lt small clear
+    | inr some ↦ elim (met (length code) (successors place i) after masks q k known.size inside) [
+      | inl m ↦ absurd (some (sym m.1 ∙ z))
+      | inr m ↦ extend q k small m.0 (omega (arith, m.1, z))
+    ]
+  ];
+  all_set = λ j j-lt. elim (cases_eq j place) [
+    | inl e ↦ subst (λ (x : ℕ). IsSetAt code x) (sym e) (load_is_set code masks place i known at fine)
+    | inr ne ↦ known.all_set j (omega arith)
+  ];
 }
   where
     bits : (n k : ℕ) → (bit_at n k ≡ 0) ⊎ (bit_at n k ≡ 1)
@@ -199,20 +164,28 @@ known_step code masks place i after known lt at inside fine more stored only = r
     here q leads = subst (λ (j : Insn). Contains (successors place j) q)
         (same_Some leads.0 i (sym leads.1 ∙ at)) leads.2
 
+    -- a bit that stays was there, and is in the set where the place is met
+    kept : (q k : ℕ) → bit_at (get_or (narrowed_masks (successors place i) after masks) q 0) k ≡ 1
+        → (bit_at (get_or masks q 0) k ≡ 1) × (Contains (successors place i) q → bit_at after k ≡ 1)
+    kept q k h = elim (met (length code) (successors place i) after masks q k known.size inside) [
+      | inl m ↦ (sym m.1 ∙ h, λ c. absurd (m.0 c))
+      | inr m ↦ (
+        omega (arith, m.1, h, bit_at-lt (get_or masks q 0) k, bit_at-lt after k),
+        λ c. omega (arith, m.1, h, bit_at-lt (get_or masks q 0) k, bit_at-lt after k),
+      )
+    ]
+
     sound : (q k : ℕ) (earlier : List ℕ) → bit_at (get_or (narrowed_masks (successors place i) after masks) q 0) k ≡ 1
         → ComesFromBelow (place + 1) earlier → IsPath code (q ∷ earlier) → Any (Stores code k) earlier
-    sound q k [] h below path = known.sound q k []
-        (met_keeps (length code) (successors place i) after masks q k known.size inside h) tt path
+    sound q k [] h below path = known.sound q k [] (kept q k h).0 tt path
     sound q k (p ∷ earlier) h below path = from (cases_eq p place)
       where
         from : (p ≡ place) ⊎ (p ≡ place → ⊥) → Any (Stores code k) (p ∷ earlier)
-        from (inr ne) = known.sound q k (p ∷ earlier)
-            (met_keeps (length code) (successors place i) after masks q k known.size inside h)
-            (omega (arith, below)) path
+        from (inr ne) = known.sound q k (p ∷ earlier) (kept q k h).0 (omega (arith, below)) path
         from (inl e) =
             let leads = subst (λ (x : ℕ). Leads code x q) e path.0 in
             let back = subst (λ (x : ℕ). IsPath code (x ∷ earlier)) e path.1 in
-            let bit_after : bit_at after k ≡ 1 = search (arith, met_adds) in
+            let bit_after = (kept q k h).1 (here q leads) in
             let at_place : Any (Stores code k) (place ∷ earlier) = elim (bits (get_or masks place 0) k) [
               | inl z ↦ any_here (Stores code k) place earlier (i, at, only k bit_after z)
               | inr one ↦ any_there (Stores code k) place earlier
@@ -220,26 +193,19 @@ known_step code masks place i after known lt at inside fine more stored only = r
             ] in
             subst (λ (x : ℕ). Any (Stores code k) (x ∷ earlier)) (sym e) at_place
 
-    complete : (q k : ℕ) → q < length code → k < 16 → (bit_at (get_or masks q 0) k ≡ 0)
-        ⊎ (Contains (successors place i) q × (bit_at after k ≡ 0)) → (earlier : List ℕ) × IsPath code (q ∷ earlier)
-        × (Any (Stores code k) earlier → ⊥)
-    complete q k q-lt small (inl z) = known.complete q k q-lt small z
-    complete q k q-lt small (inr z) = extend (bits (get_or masks place 0) k)
-      where
-        no_store : (earlier : List ℕ) → (Any (Stores code k) earlier → ⊥) → Any (Stores code k) (place ∷ earlier) → ⊥
-        no_store earlier none any =
-            elim (any_cons (Stores code k) place earlier any) [
-              | inl s ↦ omega (arith, z.1, stored k (ap stored_by (sym (same_Some s.0 i (sym s.1 ∙ at))) ∙ s.2))
-              | inr later ↦ none later
-            ]
-
-        extend : (bit_at (get_or masks place 0) k ≡ 0) ⊎ (bit_at (get_or masks place 0) k ≡ 1) → (earlier : List ℕ)
-            × IsPath code (q ∷ earlier) × (Any (Stores code k) earlier → ⊥)
-        extend (inr one) = absurd (omega (arith, z.1, more k one))
-        extend (inl zero') =
-            let found = known.complete place k lt small zero' in
-            (place ∷ found.0, ((i, at, z.0), found.1), no_store found.0 found.2)
-
-    all_set : (j : ℕ) → (j ≡ place) ⊎ (j ≡ place → ⊥) → j < place + 1 → IsSetAt code j
-    all_set j (inl e) j-lt = subst (λ (x : ℕ). IsSetAt code x) (sym e) (load_is_set code masks place i known at fine)
-    all_set j (inr ne) j-lt = known.all_set j (omega arith)
+    -- a path to this place that lacks a store leads on
+    extend : (q k : ℕ) → k < 16 → Contains (successors place i) q → bit_at after k ≡ 0
+        → (earlier : List ℕ) × IsPath code (q ∷ earlier) × (Any (Stores code k) earlier → ⊥)
+    extend q k small to z =
+        let clear : bit_at (get_or masks place 0) k ≡ 0 = elim (bits (get_or masks place 0) k) [
+          | inl e ↦ e
+          | inr one ↦ absurd (omega (arith, z, more k one))
+        ] in
+        let found = known.complete place k lt small clear in (
+          place ∷ found.0,
+          ((i, at, to), found.1),
+          λ any. elim (any_cons (Stores code k) place found.0 any) [
+            | inl s ↦ omega (arith, z, stored k (ap stored_by (sym (same_Some s.0 i (sym s.1 ∙ at))) ∙ s.2))
+            | inr later ↦ found.2 later
+          ],
+        )

@@ -1,15 +1,5 @@
-use Rattle.std.proofs.lemmas.Grind.{common_steps}
-use Rattle.std.proofs.Common.{◌≡◌, ◌<◌, ℕ, inr, length, get_or, sym, subst, List, arith, Ok, Err}
-use Rattle.std.proofs.lemmas.Option.{slice_get-get_or}
-use Rattle.std.proofs.lemmas.Bool.Decides.{nat_tests}
-use Rattle.sf_insn.specs.declared.raw.RawInsn.{RawInsn}
-use Rattle.sf_check.specs.declared.insn.Insn.{Insn}
-use Rattle.sf_check.specs.declared.read.Unreadable.TheVariants.{UnknownCode, BadField}
-use Rattle.sf_check.specs.Codes.{insn_of}
-use Rattle.sf_check.specs.Programs.{EndsInReturn, IsSetAt, IsUnsetAt}
-use Rattle.sf_check.specs.laws.ProgramLaws.{successors_inside}
-use Rattle.sf_check.proofs.checker.Reading.{read_more, all_spelled, all_fine, lawful, size_is}
-use Rattle.sf_check.specs.EqualTests.{LeadInside}
+use Rattle.sf_check.proofs.Common.{common_steps, ◌≡◌, ◌<◌, ℕ, inr, length, get_or, sym, subst, List, arith, Ok, Err, slice_get-get_or, nat_tests, RawInsn, Insn, UnknownCode, BadField, insn_of, EndsInReturn, IsSetAt, IsUnsetAt, successors_inside, LeadInside}
+use Rattle.sf_check.proofs.checker.Reading.{read_more, all_spelled, all_fine, read_right, size_is}
 use Rattle.sf_check.proofs.equals.EqualLemmas.{tests_inside}
 use Rattle.sf_check.proofs.checker.check.Goals as goal
 
@@ -109,34 +99,20 @@ returns-in-Some-clause-refused c =
     )
 
 pub invariant_of-result : goal.invariant_of-result
-invariant_of-result c =
-    let raws = c.args.raws.now in
-    let code = c.loop-place.insns.items in
-    let place = c.loop-place.place in
-    let some : 0 < length raws = grind (arith, nat_tests) in
-    let ends : EndsInReturn code = subst EndsInReturn c.deref.ensures.value
-    (c.ends_in_return.ensures.0 c.if-not-ends_in_return.false) in
-    let none : (at : ℕ) → IsSetAt c.deref-2.result.now at = rw c.in_default.is at c.in_ok-place.ensures.none in
-    let set : (at : ℕ) → IsSetAt code at = subst (λ (p : List Insn). (at : ℕ)
-    → IsSetAt p at) c.deref-2.ensures.value none in (
-      lawful raws code place c.loop-place.invariant (omega arith) (omega arith) some (omega arith) ends set,
-      rw c.deref-3.ensures.value at c.in_ok-equals.ensures.tables,
-    )
+invariant_of-result c = (
+  (read_right c.args.raws.now c.loop-place.insns.items c.loop-place.place c.loop-place.invariant (omega arith)
+      (omega arith) _ _ (grind (arith, nat_tests)) (omega arith) c.deref.ensures.value
+      (c.ends_in_return.ensures.0 c.if-not-ends_in_return.false) c.deref-2.ensures.value
+      (rw c.in_default.is at c.in_ok-place.ensures.none)).1,
+  rw c.deref-3.ensures.value at c.in_ok-equals.ensures.tables,
+)
 
 pub returns-clause-accepted : goal.returns-clause-accepted
 returns-clause-accepted c =
-    let raws = c.args.raws.now in
-    let code = c.loop-place.insns.items in
-    let place = c.loop-place.place in
-    let some : 0 < length raws = grind (arith, nat_tests) in
-    let ends : EndsInReturn code = subst EndsInReturn c.deref.ensures.value
-    (c.ends_in_return.ensures.0 c.if-not-ends_in_return.false) in
-    let none : (at : ℕ) → IsSetAt c.deref-2.result.now at = rw c.in_default.is at c.in_ok-place.ensures.none in
-    let set : (at : ℕ) → IsSetAt code at = subst (λ (p : List Insn). (at : ℕ)
-    → IsSetAt p at) c.deref-2.ensures.value none in (
-      all_spelled raws code place c.loop-place.invariant (omega arith) (omega arith),
-      lawful raws code place c.loop-place.invariant (omega arith) (omega arith) some (omega arith) ends set,
-    )
+    read_right c.args.raws.now c.loop-place.insns.items c.loop-place.place c.loop-place.invariant (omega arith)
+    (omega arith) _ _ (grind (arith, nat_tests)) (omega arith) c.deref.ensures.value
+    (c.ends_in_return.ensures.0 c.if-not-ends_in_return.false) c.deref-2.ensures.value
+    (rw c.in_default.is at c.in_ok-place.ensures.none)
 
 pub of-requires-clause-inside : goal.of-requires-clause-inside
 of-requires-clause-inside c =

@@ -1,4 +1,4 @@
-use Rattle.std.proofs.Common.{arith}
+use Rattle.sf_check.proofs.Common.{arith}
 use Rattle.sf_check.proofs.equals.EqualLemmas.{joined_one}
 use Rattle.sf_check.proofs.equals.join.Goals as goal
 

@@ -1,6 +1,4 @@
-use Rattle.std.proofs.Common.{arith}
-use Rattle.std.proofs.lemmas.Grind.{common_steps}
-use Rattle.std.proofs.lemmas.Option.{slice_get-get_or}
+use Rattle.sf_check.proofs.Common.{arith, common_steps, slice_get-get_or}
 use Rattle.sf_check.proofs.equals.EqualLemmas.{test_here}
 use Rattle.sf_check.proofs.equals.join_all.Goals as goal
 

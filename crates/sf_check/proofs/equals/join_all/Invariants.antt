@@ -1,4 +1,4 @@
-use Rattle.sf_check.specs.Joining.{AreJoined}
+use Rattle.sf_check.proofs.Common.{AreJoined}
 use Rattle.sf_check.proofs.equals.join_all.Given as goal
 
 abbrev pub invariant-loop-place : goal.invariant-loop-place

@@ -1,8 +1,4 @@
-use Rattle.std.proofs.Common.{◌≡◌, [], ◌∷◌, ◌++◌, length, refl, subst, arith}
-use Rattle.std.specs.Prelude.{slice_index}
-use Rattle.std.proofs.lemmas.Option.{slice_get-get_or}
-use Rattle.std.proofs.lemmas.List.Sorted.{IsNonDecreasingBy-from_sort}
-use Rattle.sf_check.specs.EqualTests.{test_key}
+use Rattle.sf_check.proofs.Common.{◌≡◌, [], ◌∷◌, ◌++◌, length, refl, subst, arith, slice_index, slice_get-get_or, IsNonDecreasingBy-from_sort, test_key}
 use Rattle.sf_check.proofs.equals.EqualLemmas.{Gathered, gathered_test, gathered_other, gathered_all, test_here}
 use Rattle.sf_check.proofs.equals.keys_of.Goals.{in-Some+in_ok-push, in_default}
 use Rattle.sf_check.proofs.equals.keys_of.Goals as goal

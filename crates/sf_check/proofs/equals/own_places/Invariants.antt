@@ -1,4 +1,4 @@
-use Rattle.sf_check.specs.Joining.{AreOwn}
+use Rattle.sf_check.proofs.Common.{AreOwn}
 use Rattle.sf_check.proofs.equals.own_places.Given as goal
 
 abbrev pub invariant-loop-place : goal.invariant-loop-place

@@ -1,6 +1,4 @@
-use Rattle.std.proofs.lemmas.Grind.{common_steps}
-use Rattle.std.proofs.Common.{arith, refl, length}
-use Rattle.std.proofs.lemmas.Option.{slice_get-get_or, slice_get_within}
+use Rattle.sf_check.proofs.Common.{common_steps, arith, refl, length, slice_get-get_or, slice_get_within}
 use Rattle.sf_check.proofs.scratch.MaskLemmas.{known_start, known_step, load_is_unset}
 use Rattle.sf_check.proofs.scratch.find_unset.Goals as goal
 

@@ -1,4 +1,4 @@
-use Rattle.std.proofs.Common.{◌≡◌, take}
+use Rattle.sf_check.proofs.Common.{◌≡◌, take}
 use Rattle.sf_check.proofs.stack.are_same_programs.Given as goal
 
 abbrev pub invariant-loop-i : goal.invariant-loop-i

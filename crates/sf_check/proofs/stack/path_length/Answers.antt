@@ -1,9 +1,4 @@
-use Rattle.std.proofs.Common.{◌∙◌, length, slice_get, arith, sym, ap, subst, refl, inl, inr}
-use Rattle.std.proofs.lemmas.Grind.{common_steps}
-use Rattle.std.proofs.lemmas.Bool.{cases_eq}
-use Rattle.std.proofs.lemmas.Option.{slice_get_read, slice_get_within, same_Some}
-use Rattle.sf_check.specs.Programs.{IsLawfulProgram}
-use Rattle.sf_check.specs.laws.PathLengthLaws.{path_length-sum}
+use Rattle.sf_check.proofs.Common.{◌∙◌, length, slice_get, arith, sym, ap, subst, refl, inl, inr, common_steps, cases_eq, slice_get_read, slice_get_within, same_Some, IsLawfulProgram, path_length-sum}
 use Rattle.sf_check.proofs.stack.path_length.Goals as goal
 
 pub loop-program-preserved : goal.loop-program-preserved

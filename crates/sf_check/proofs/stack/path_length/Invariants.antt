@@ -1,7 +1,4 @@
-use Rattle.std.proofs.Common.{◌≡◌, ◌+◌, ◌*◌, ◌≤◌, ◌<◌, ℕ, List, length, take, slice_get, Some}
-use Rattle.std.specs.Prelude.{sum_by}
-use Rattle.sf_check.specs.declared.insn.Insn.{Insn}
-use Rattle.sf_check.specs.Programs.{IsLawfulProgram}
+use Rattle.sf_check.proofs.Common.{◌≡◌, ◌+◌, ◌*◌, ◌≤◌, ◌<◌, ℕ, List, length, take, slice_get, Some, sum_by, Insn, IsLawfulProgram}
 use Rattle.sf_check.proofs.stack.path_length.Given as goal
 
 abbrev pub invariant-loop-program : goal.invariant-loop-program

@@ -1,5 +1,4 @@
-use Rattle.std.proofs.Common.{arith}
-use Rattle.std.proofs.lemmas.Grind.{common_steps}
+use Rattle.sf_check.proofs.Common.{arith, common_steps}
 use Rattle.sf_check.proofs.equals.EqualLemmas.{skipped_to}
 use Rattle.sf_check.proofs.equals.EqualTests.skip_in_chain.Goals as goal
 

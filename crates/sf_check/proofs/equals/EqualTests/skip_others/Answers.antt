@@ -1,4 +1,4 @@
-use Rattle.std.proofs.Common.{refl, arith}
+use Rattle.sf_check.proofs.Common.{refl, arith}
 use Rattle.sf_check.proofs.equals.EqualLemmas.{skipped_one_more}
 use Rattle.sf_check.proofs.equals.EqualTests.skip_others.Goals as goal
 

@@ -1,5 +1,4 @@
-use Rattle.std.proofs.Common.{◌≤◌, ◌<◌, ◌-◌, length}
-use Rattle.sf_check.specs.EqualTests.{AreSkipped}
+use Rattle.sf_check.proofs.Common.{◌≤◌, ◌<◌, ◌-◌, length, AreSkipped}
 use Rattle.sf_check.proofs.equals.EqualTests.skip_others.Given as goal
 
 abbrev pub invariant-loop-next : goal.invariant-loop-next
