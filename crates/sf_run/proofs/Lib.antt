@@ -1,3 +1,4 @@
+pub mod Common
 pub mod MeetingLemmas
 pub mod Steps
 pub mod WalkLemmas

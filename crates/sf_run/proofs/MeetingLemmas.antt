@@ -1,16 +1,5 @@
 -- The truth values that the code's steps meet.
-use Rattle.std.proofs.lemmas.Grind.{common_steps}
-use Rattle.std.proofs.Common.{◌≡◌, ℕ, suc, ◌+◌, ◌-◌, ◌/◌, ◌^◌, ◌<◌, Bool, List, [], ◌∷◌, ◌++◌, Option, bit_and, refl, arith, append_assoc}
-use Rattle.std.specs.Prelude.{◌==◌}
-use Rattle.std.proofs.lemmas.Nat.Bits.{shr_and_one}
-use Rattle.sf_insn.specs.declared.input.Input.{Input}
-use Rattle.sf_insn.specs.declared.ops.BinOp.TheVariants.{Div}
-use Rattle.sf_check.specs.declared.insn.Insn.{Insn}
-use Rattle.sf_check.specs.declared.insn.Insn.TheVariants.{LoadScratch, LoadXScratch, Alu, Branch}
-use Rattle.sf_check.specs.declared.insn.Operand.TheVariants.{Constant, X}
-use Rattle.sf_run.specs.Machine.{State, Progress, goes, returns, stuck, bits, insn_progress, with_a, with_x}
-use Rattle.sf_run.specs.Code.{met_at}
-use Rattle.sf_run.specs.laws.RunLaws.{divided, loaded}
+use Rattle.sf_run.proofs.Common.{common_steps, ◌≡◌, ℕ, suc, ◌+◌, ◌-◌, ◌/◌, ◌^◌, ◌<◌, Bool, List, [], ◌∷◌, ◌++◌, Option, bit_and, refl, arith, append_assoc, ◌==◌, shr_and_one, Input, Div, Insn, LoadScratch, LoadXScratch, Alu, Branch, Constant, X, State, Progress, goes, returns, stuck, bits, insn_progress, with_a, with_x, met_at, divided, loaded}
 
 -- one more bit of a word
 pub bits_more : (xs ys whole : List Bool) (i a : ℕ) → i < 32 → ys ≡ xs ++ (bit_and (a / 2 ^ (31 - i)) 1 == 1) ∷ []

@@ -1,20 +1,5 @@
 -- Walks: one step longer, and beside the machine's run.
-use Rattle.std.proofs.Common.{◌≡◌, ℕ, zero, suc, ◌-◌, ◌<◌, List, ◌++◌, length, Bool, Option, Some, None, slice_get, refl, sym, ap, subst, arith, ◌∙◌, append_assoc}
-use Rattle.std.specs.List.{flat_map}
-use Rattle.std.proofs.lemmas.List.{append-nil}
-use Rattle.std.proofs.lemmas.List.Concat.{flat_map-append}
-use Rattle.std.proofs.lemmas.Option.{same_Some}
-use Rattle.sf_insn.specs.declared.input.Input.{Input}
-use Rattle.sf_insn.specs.declared.ops.BinOp.TheVariants.{Div}
-use Rattle.sf_check.specs.declared.insn.Insn.{Insn}
-use Rattle.sf_check.specs.declared.insn.Insn.TheVariants.{Alu, ReturnA}
-use Rattle.sf_check.specs.declared.insn.Operand.TheVariants.{X}
-use Rattle.sf_check.specs.Programs.{IsAt}
-use Rattle.sf_run.specs.Code.{met_at}
-use Rattle.sf_run.specs.Machine.{State, Progress, goes, returns, stuck, bits, start, step, insn_progress, run_for, outcome_of, return_of, met_by}
-use Rattle.sf_run.specs.laws.RunLaws.{option_map_some, run_more, step_is}
-use Rattle.sf_run.specs.Walks.{CourseData, after, course, meeting_at, meeting_in, onward, truths, walk_for, walk_of, word_after, word_behind}
-use Rattle.sf_run.specs.declared.walking.Meeting.{Meeting}
+use Rattle.sf_run.proofs.Common.{◌≡◌, ℕ, zero, suc, ◌-◌, ◌<◌, List, ◌++◌, length, Bool, Option, Some, None, slice_get, refl, sym, ap, subst, arith, ◌∙◌, append_assoc, flat_map, append-nil, flat_map-append, same_Some, Input, Div, Insn, Alu, ReturnA, X, IsAt, met_at, State, Progress, goes, returns, stuck, bits, start, step, insn_progress, run_for, outcome_of, return_of, met_by, option_map_some, run_more, step_is, CourseData, after, course, meeting_at, meeting_in, onward, truths, walk_for, walk_of, word_after, word_behind, Meeting}
 use Rattle.sf_run.proofs.MeetingLemmas.{goes_meets, returns_meets}
 
 -- what has been met, and how the whole walk ends, after a step that goes on

@@ -1,12 +1,6 @@
 -- The feasible traces of a stack: those that some input has.
 use Rattle.std.specs.Prelude.{◌≡◌, ◌↔◌, ℕ, zero, suc, ◌^◌, Bool, List, [], ◌∷◌, map, Contains}
-use Rattle.std.specs.List.{flat_map, range_with_len}
-use Rattle.std.specs.Ordering.{bool_cmp, match_ordering}
-use Rattle.std.specs.Cmp.Lexicographic.{slice_cmp}
-use Rattle.std.specs.List.Sorted.{IsStrictlySortedBy}
-use Rattle.sf_insn.specs.declared.input.Input.{Input}
-use Rattle.sf_insn.specs.Inputs.{IsInput}
-use Rattle.sf_check.specs.declared.insn.Insn.{Insn}
+use Rattle.sf_run.specs.Common.{flat_map, range_with_len, bool_cmp, match_ordering, slice_cmp, IsStrictlySortedBy, Input, IsInput, Insn}
 use Rattle.sf_run.specs.Machine.{trace_of}
 
 -- some input has this trace

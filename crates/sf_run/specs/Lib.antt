@@ -1,3 +1,4 @@
+pub mod Common
 pub mod Machine
 pub mod Answers
 pub mod Code

@@ -1,7 +1,6 @@
 -- The numbers under which faults are reported.
 use Rattle.std.specs.Prelude.{ℕ}
-use Rattle.sf_run.specs.declared.fault.Fault.{Fault}
-use Rattle.sf_run.specs.declared.fault.Fault.TheVariants.{Memory}
+use Rattle.sf_run.specs.Common.{Fault, Memory}
 
 -- the number of the only fault, a lack of memory
 abbrev pub fault_number : Fault → ℕ

@@ -1,8 +1,6 @@
 -- What a step keeps and where it leads, and the states that a run may come to.
 use Rattle.std.specs.Prelude.{◌≡◌, ℕ, ◌<◌, Bool, List, ◌∷◌, ◌++◌, length, Option, Some, slice_get, Contains, Any}
-use Rattle.sf_check.specs.declared.insn.Insn.{Insn}
-use Rattle.sf_check.specs.Insns.{stored_by, successors}
-use Rattle.sf_check.specs.Programs.{IsPath, Stores}
+use Rattle.sf_run.specs.Common.{Insn, stored_by, successors, IsPath, Stores}
 use Rattle.sf_run.specs.Machine.{State}
 
 -- the end of a run, with these truth values put before those that it met

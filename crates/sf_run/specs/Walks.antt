@@ -1,15 +1,7 @@
 -- The run of a program with all that it meets, the numbers that it compares, and where it returns.
 use Rattle.std.specs.Prelude.{◌≡◌, ℕ, zero, suc, Bool, List, [], ◌∷◌, ◌++◌, ◌==◌, length, Option, Some, None, slice_get, slice_index, option_map}
-use Rattle.sf_insn.specs.declared.input.Input.{Input}
-use Rattle.sf_insn.specs.declared.ops.BinOp.TheVariants.{Div}
-use Rattle.sf_insn.specs.Words.{passes}
-use Rattle.sf_check.specs.declared.insn.Insn.{Insn}
-use Rattle.sf_check.specs.declared.insn.Insn.TheVariants.{LoadWord, LoadConstant, LoadScratch, LoadLength, Alu, Negate, Branch, ReturnA, Txa}
-use Rattle.sf_check.specs.declared.insn.Operand.TheVariants.{X}
+use Rattle.sf_run.specs.Common.{Input, Div, passes, Insn, LoadWord, LoadConstant, LoadScratch, LoadLength, Alu, Negate, Branch, ReturnA, Txa, X, Meeting, Met, Tested, Divided, Returned}
 use Rattle.sf_run.specs.Machine.{State, Progress, goes, returns, stuck, bits, operand_of, start, step}
-use Rattle.sf_run.specs.declared.walking.Meeting.{Meeting}
-use Rattle.sf_run.specs.declared.walking.Met.{Met}
-use Rattle.sf_run.specs.declared.walking.Met.TheVariants.{Tested, Divided, Returned}
 
 -- The word of the input that A holds after an instruction, from the one that it held before: A holds the word that was
 -- loaded into it, until another value is put there.

@@ -1,17 +1,5 @@
 -- Walks: where A is said to hold a word of the input, it has the number of this word.
-use Rattle.std.proofs.Common.{◌≡◌, ℕ, zero, suc, List, [], ◌∷◌, length, Option, Some, None, sym, ap, subst, ◌∙◌}
-use Rattle.std.specs.Prelude.{All, slice_index}
-use Rattle.std.proofs.lemmas.List.Elements.{All-append, All-cons, All-nil}
-use Rattle.std.proofs.lemmas.Option.{same_Some}
-use Rattle.sf_insn.specs.declared.input.Input.{Input}
-use Rattle.sf_insn.specs.declared.ops.BinOp.TheVariants.{Div}
-use Rattle.sf_check.specs.declared.insn.Insn.{Insn}
-use Rattle.sf_check.specs.declared.insn.Insn.TheVariants.{LoadWord, LoadConstant, LoadScratch, LoadLength, LoadXScratch, Alu, Negate, Branch, ReturnConstant, ReturnA, Txa}
-use Rattle.sf_check.specs.declared.insn.Operand.TheVariants.{X}
-use Rattle.sf_run.specs.Machine.{State, Progress, goes, returns, stuck, start, step, insn_progress, with_a, with_x}
-use Rattle.sf_run.specs.laws.RunLaws.{divided, loaded}
-use Rattle.sf_run.specs.Walks.{CourseData, HoldsItsWord, after, meeting_at, walk_for, walk_of, word_after}
-use Rattle.sf_run.specs.declared.walking.Meeting.{Meeting}
+use Rattle.sf_run.proofs.Common.{◌≡◌, ℕ, zero, suc, List, [], ◌∷◌, length, Option, Some, None, sym, ap, subst, ◌∙◌, All, slice_index, All-append, All-cons, All-nil, same_Some, Input, Div, Insn, LoadWord, LoadConstant, LoadScratch, LoadLength, LoadXScratch, Alu, Negate, Branch, ReturnConstant, ReturnA, Txa, X, State, Progress, goes, returns, stuck, start, step, insn_progress, with_a, with_x, divided, loaded, CourseData, HoldsItsWord, after, meeting_at, walk_for, walk_of, word_after, Meeting}
 use Rattle.sf_run.proofs.WalkLemmas.{walked, on, out}
 
 -- A holds the word that it is said to hold

@@ -9,9 +9,7 @@ use Rattle.std.proofs.lemmas.Nat.{and_le_r}
 use Rattle.std.proofs.lemmas.List.{map_push}
 use Rattle.std.proofs.lemmas.List.Elements.{All-nil, All-cons, All-push, All-contains, Contains-push, Contains-append_left, Contains-get_or}
 use Rattle.sf_check.specs.laws.ContainsLaws.{contains_cons, contains_here, contains_there}
-use Rattle.sf_run.specs.declared.action.Action.{Action}
-use Rattle.sf_run.specs.declared.action.Action.TheVariants.{Allow}
-use Rattle.sf_run.specs.declared.action.Answer.{Answer}
+use Rattle.sf_run.specs.Common.{Action, Allow, Answer}
 use Rattle.sf_run.specs.laws.InputLaws.{map_contains}
 use Rattle.sf_run.specs.Answers.{action_bits, data_bits, action_number, action_of, rank, IsAnswer, folded_answer}
 

@@ -2,12 +2,7 @@
 use Rattle.std.proofs.Common.{ℕ, zero, suc, ◌+◌, ◌<◌, ◌≤◌, get_or, Bool, true, List, [], ◌∷◌, ◌++◌, length, Some, None, refl, ◌⊎◌, inl, inr, arith}
 use Rattle.std.specs.Prelude.{Contains}
 use Rattle.std.proofs.lemmas.Option.{slice_get-get_or}
-use Rattle.sf_insn.specs.declared.ops.BinOp.TheVariants.{Div}
-use Rattle.sf_check.specs.declared.insn.Insn.{Insn}
-use Rattle.sf_check.specs.declared.insn.Insn.TheVariants.{Alu, Negate, Jump, Branch, ReturnConstant, ReturnA}
-use Rattle.sf_check.specs.declared.insn.Operand.TheVariants.{X}
-use Rattle.sf_check.specs.Insns.{successors}
-use Rattle.sf_check.specs.Programs.{IsAt, IsLawfulProgram}
+use Rattle.sf_run.specs.Common.{Div, Insn, Alu, Negate, Jump, Branch, ReturnConstant, ReturnA, X, successors, IsAt, IsLawfulProgram}
 use Rattle.sf_check.specs.laws.ContainsLaws.{contains_here}
 use Rattle.sf_check.specs.laws.ProgramLaws.{successor_after, successors_inside, below_in}
 use Rattle.sf_run.specs.Machine.{bits}

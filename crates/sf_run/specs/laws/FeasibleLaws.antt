@@ -1,15 +1,9 @@
 -- A stack has exactly one list of feasible traces.
 use Rattle.std.proofs.Common.{◌≡◌, Bool, true, false, List, [], ◌∷◌, map, refl, sym, ◌∙◌, ap, subst, ◌⊎◌, inl, inr}
 use Rattle.std.specs.Prelude.{Contains}
-use Rattle.std.specs.Ordering.{bool_cmp, is_eq, ordering_reverse, match_ordering}
-use Rattle.std.specs.declared.cmp.Ordering.{Ordering}
-use Rattle.std.specs.declared.cmp.Ordering.TheVariants.{Less, Equal, Greater}
-use Rattle.std.specs.Cmp.{IsTotalOrder, bool_cmp_total}
-use Rattle.std.specs.Cmp.Lexicographic.{slice_cmp, lists_total}
-use Rattle.std.specs.List.{AllByRecursion}
-use Rattle.std.specs.List.Sorted.{IsStrictlySortedBy}
+use Rattle.sf_run.specs.Common.{bool_cmp, is_eq, ordering_reverse, match_ordering, Ordering, Less, Greater, IsTotalOrder, bool_cmp_total, slice_cmp, lists_total, AllByRecursion, IsStrictlySortedBy, Insn}
+use Rattle.std.specs.declared.cmp.Ordering.TheVariants.{Equal}
 use Rattle.std.proofs.lemmas.List.Elements.{All-contains, All-from_recursion}
-use Rattle.sf_check.specs.declared.insn.Insn.{Insn}
 use Rattle.sf_check.specs.laws.ContainsLaws.{contains_cons, contains_here, contains_there, contains_nil}
 use Rattle.sf_run.specs.Machine.{trace_of}
 use Rattle.sf_run.specs.Feasible.{IsFeasible, AreFeasibleTraces, AreInNameOrder, all_inputs, put_in, in_name_order, feasible_traces}

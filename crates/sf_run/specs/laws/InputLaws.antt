@@ -1,13 +1,11 @@
 -- The list of all inputs has exactly the inputs.
 use Rattle.std.proofs.Common.{◌≡◌, ℕ, zero, suc, ◌+◌, ◌^◌, ◌<◌, List, [], ◌∷◌, length, get_or, map, refl, sym, ◌∙◌, ap, subst, arith, inl, inr, lit<}
 use Rattle.std.specs.Prelude.{Contains, slice_index, ◌↔◌}
-use Rattle.std.specs.List.{flat_map, range_with_len}
+use Rattle.sf_run.specs.Common.{flat_map, range_with_len, Input, IsInput}
 use Rattle.std.proofs.lemmas.Bool.{cases_lt}
 use Rattle.std.proofs.lemmas.List.{get_or-map, get_or_past, length-map}
 use Rattle.std.proofs.lemmas.List.Elements.{Contains-append_left, Contains-append_right, Contains-append_cases}
 use Rattle.std.proofs.lemmas.List.FromFn.{length-range_with_len, get_or-range_with_len}
-use Rattle.sf_insn.specs.declared.input.Input.{Input}
-use Rattle.sf_insn.specs.Inputs.{IsInput}
 use Rattle.sf_check.specs.laws.ContainsLaws.{contains_cons, contains_here, contains_there, contains_nil}
 use Rattle.sf_run.specs.Feasible.{lists_below, input_of, all_inputs}
 

@@ -6,11 +6,7 @@ use Rattle.std.proofs.lemmas.List.{append_cancel_left, length-append, length-rev
 use Rattle.std.proofs.lemmas.List.Sorted.{IsPermutation-reverse, sum_by-IsPermutation}
 use Rattle.std.proofs.lemmas.List.Sums.{sum_by-cons}
 use Rattle.sf_check.specs.laws.PathLengthLaws.{path_length-sum}
-use Rattle.sf_check.specs.Stacks.{IsLawfulStack}
-use Rattle.sf_insn.specs.declared.ops.BinOp.TheVariants.{Div}
-use Rattle.sf_check.specs.declared.insn.Insn.{Insn}
-use Rattle.sf_check.specs.declared.insn.Insn.TheVariants.{Alu, Jump, Branch, ReturnConstant, ReturnA}
-use Rattle.sf_check.specs.declared.insn.Operand.TheVariants.{X}
+use Rattle.sf_run.specs.Common.{IsLawfulStack, Div, Insn, Alu, Jump, Branch, ReturnConstant, ReturnA, X}
 use Rattle.sf_run.specs.Routes.{MayMeet, IsWay, returns_at, goes_on, AreWays, IsRoute}
 
 -- ---- no whole route begins another

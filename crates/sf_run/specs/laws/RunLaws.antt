@@ -4,14 +4,7 @@ use Rattle.std.proofs.Common.{◌≡◌, ◌≢◌, ℕ, zero, suc, ◌+◌, ◌
 use Rattle.std.specs.Prelude.{Contains, IsSome, option_map, slice_set, if◌then◌else◌, ◌==◌}
 use Rattle.std.proofs.lemmas.Bool.{cases_eq}
 use Rattle.std.proofs.lemmas.Option.{gets, same_Some, slice_get-get_or, slice_get_within}
-use Rattle.sf_insn.specs.declared.input.Input.{Input}
-use Rattle.sf_insn.specs.declared.ops.BinOp.TheVariants.{Div}
-use Rattle.sf_insn.specs.Words.{apply, passes}
-use Rattle.sf_check.specs.declared.insn.Insn.{Insn}
-use Rattle.sf_check.specs.declared.insn.Insn.TheVariants.{LoadScratch, LoadXScratch, StoreA, StoreX, Alu, Negate, Jump, Branch, ReturnConstant, ReturnA}
-use Rattle.sf_check.specs.declared.insn.Operand.TheVariants.{X}
-use Rattle.sf_check.specs.Insns.{stored_by, loaded_by, successors, IsInRange}
-use Rattle.sf_check.specs.Programs.{IsAt, Stores, IsLawfulProgram}
+use Rattle.sf_run.specs.Common.{Input, Div, apply, passes, Insn, LoadScratch, LoadXScratch, StoreA, StoreX, Alu, Negate, Jump, Branch, ReturnConstant, ReturnA, X, stored_by, loaded_by, successors, IsInRange, IsAt, Stores, IsLawfulProgram}
 use Rattle.sf_check.specs.laws.ContainsLaws.{contains_here, contains_there, any_nil, any_cons}
 use Rattle.sf_check.specs.laws.ProgramLaws.{successor_after, successors_inside, below_in}
 use Rattle.sf_run.specs.Reachable.{put, Keeps, Moves, IsReachable}

@@ -1,18 +1,10 @@
 -- Each trace of a lawful stack is a whole route.
 use Rattle.std.proofs.Common.{◌≡◌, ℕ, zero, suc, ◌-◌, get_or, Bool, List, [], ◌∷◌, length, Option, Some, None, slice_get, refl, sym, ap, subst, inl, inr}
 use Rattle.std.specs.Prelude.{reverse, IsSome}
-use Rattle.std.specs.List.{flat_map, AllByRecursion}
+use Rattle.sf_run.specs.Common.{flat_map, AllByRecursion, IsLawfulStack, Input, Div, passes, Insn, LoadScratch, LoadXScratch, Alu, Branch, X, IsAt, IsLawfulProgram}
 use Rattle.std.proofs.lemmas.Option.{same_Some, slice_get-get_or}
 use Rattle.std.proofs.lemmas.List.Sorted.{All-permutation, IsPermutation-reverse}
 use Rattle.std.proofs.lemmas.List.Elements.{recursion_from_All}
-use Rattle.sf_check.specs.Stacks.{IsLawfulStack}
-use Rattle.sf_insn.specs.declared.input.Input.{Input}
-use Rattle.sf_insn.specs.declared.ops.BinOp.TheVariants.{Div}
-use Rattle.sf_insn.specs.Words.{passes}
-use Rattle.sf_check.specs.declared.insn.Insn.{Insn}
-use Rattle.sf_check.specs.declared.insn.Insn.TheVariants.{LoadScratch, LoadXScratch, Alu, Branch}
-use Rattle.sf_check.specs.declared.insn.Operand.TheVariants.{X}
-use Rattle.sf_check.specs.Programs.{IsAt, IsLawfulProgram}
 use Rattle.sf_run.specs.Machine.{State, Progress, goes, returns, stuck, start, operand_of, insn_progress, step, Outcome, outcome_from, run_for, outcome_of, met_by, trace_of, with_a, with_x}
 use Rattle.sf_run.specs.laws.RunLaws.{divided, loaded, step_is, lawful_ends, option_map_some}
 use Rattle.sf_run.specs.Reachable.{put}

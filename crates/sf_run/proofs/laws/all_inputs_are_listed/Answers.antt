@@ -1,4 +1,4 @@
-use Rattle.sf_run.specs.laws.InputLaws.{inputs_are}
+use Rattle.sf_run.proofs.Common.{inputs_are}
 use Rattle.sf_run.proofs.laws.all_inputs_are_listed.Goals as goal
 
 pub returns : goal.returns

@@ -1,4 +1,4 @@
-use Rattle.sf_run.specs.laws.RunLaws.{lawful_ends}
+use Rattle.sf_run.proofs.Common.{lawful_ends}
 use Rattle.sf_run.proofs.laws.lawful_programs_return.Goals as goal
 
 pub returns : goal.returns

@@ -1,4 +1,4 @@
-use Rattle.sf_run.specs.laws.RouteLaws.{route_is_short}
+use Rattle.sf_run.proofs.Common.{route_is_short}
 use Rattle.sf_run.proofs.laws.routes_are_short.Goals as goal
 
 pub returns : goal.returns

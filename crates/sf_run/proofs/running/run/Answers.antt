@@ -1,9 +1,4 @@
-use Rattle.std.proofs.Common.{arith, ◌∙◌, suc, List, ◌++◌, ap}
-use Rattle.std.proofs.lemmas.Option.{slice_get-get_or}
-use Rattle.sf_check.specs.declared.insn.Insn.{Insn}
-use Rattle.sf_run.specs.Machine.{return_of}
-use Rattle.sf_run.specs.Code.{state_of}
-use Rattle.sf_run.specs.laws.RunLaws.{safe_start, value_is}
+use Rattle.sf_run.proofs.Common.{arith, ◌∙◌, suc, List, ◌++◌, ap, slice_get-get_or, Insn, return_of, state_of, safe_start, value_is}
 use Rattle.sf_run.proofs.Steps.{lent_lawful, at_hand, goes_on, goes_out}
 use Rattle.sf_run.proofs.running.run.Goals as goal
 

@@ -1,7 +1,4 @@
-use Rattle.std.proofs.Common.{◌≡◌, List, Some, ℕ, ◌-◌, length, Bool}
-use Rattle.sf_run.specs.Machine.{return_of, run_for}
-use Rattle.sf_run.specs.Code.{state_of}
-use Rattle.sf_run.specs.Reachable.{IsReachable}
+use Rattle.sf_run.proofs.Common.{◌≡◌, List, Some, ℕ, ◌-◌, length, Bool, return_of, run_for, state_of, IsReachable}
 use Rattle.sf_run.proofs.running.run.Given as goal
 
 abbrev pub invariant-loop-next : goal.invariant-loop-next

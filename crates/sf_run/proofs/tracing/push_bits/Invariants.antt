@@ -1,5 +1,4 @@
-use Rattle.std.proofs.Common.{◌≡◌, ◌++◌, ◌-◌}
-use Rattle.sf_run.specs.Machine.{bits}
+use Rattle.sf_run.proofs.Common.{◌≡◌, ◌++◌, ◌-◌, bits}
 use Rattle.sf_run.proofs.tracing.push_bits.Given as goal
 
 abbrev pub invariant-loop-i : goal.invariant-loop-i

@@ -1,6 +1,4 @@
-use Rattle.std.proofs.lemmas.List.{append-nil}
-use Rattle.std.proofs.Common.{None, refl}
-use Rattle.sf_run.specs.Code.{state_of}
+use Rattle.sf_run.proofs.Common.{append-nil, None, refl, state_of}
 use Rattle.sf_run.proofs.WalkLemmas.{met_by_meeting}
 use Rattle.sf_run.proofs.tracing.push_met.Goals as goal
 

@@ -1,9 +1,4 @@
-use Rattle.std.proofs.Common.{arith, ◌∙◌, suc, List, ◌++◌, ap}
-use Rattle.std.proofs.lemmas.Option.{slice_get-get_or}
-use Rattle.sf_check.specs.declared.insn.Insn.{Insn}
-use Rattle.sf_run.specs.Machine.{met_by}
-use Rattle.sf_run.specs.Code.{state_of}
-use Rattle.sf_run.specs.laws.RunLaws.{safe_start, met_is}
+use Rattle.sf_run.proofs.Common.{arith, ◌∙◌, suc, List, ◌++◌, ap, slice_get-get_or, Insn, met_by, state_of, safe_start, met_is}
 use Rattle.sf_run.proofs.Steps.{lent_lawful, at_hand, goes_on, goes_out}
 use Rattle.sf_run.proofs.MeetingLemmas.{met_goes_on, met_ends}
 use Rattle.sf_run.proofs.tracing.push_program.Goals as goal

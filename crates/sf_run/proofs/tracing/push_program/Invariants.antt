@@ -1,7 +1,4 @@
-use Rattle.std.proofs.Common.{◌≡◌, ◌++◌, ◌-◌, ℕ, List, Bool, Some, length}
-use Rattle.sf_run.specs.Machine.{met_by, run_for}
-use Rattle.sf_run.specs.Code.{state_of}
-use Rattle.sf_run.specs.Reachable.{IsReachable}
+use Rattle.sf_run.proofs.Common.{◌≡◌, ◌++◌, ◌-◌, ℕ, List, Bool, Some, length, met_by, run_for, state_of, IsReachable}
 use Rattle.sf_run.proofs.tracing.push_program.Given as goal
 
 abbrev pub invariant-loop-machine : goal.invariant-loop-machine

@@ -1,6 +1,4 @@
-use Rattle.std.proofs.Common.{◌≡◌}
-use Rattle.std.specs.List.{flat_map}
-use Rattle.sf_run.specs.Machine.{met_by}
+use Rattle.sf_run.proofs.Common.{◌≡◌, flat_map, met_by}
 use Rattle.sf_run.proofs.tracing.trace.Given as goal
 
 abbrev pub invariant-loop-program : goal.invariant-loop-program

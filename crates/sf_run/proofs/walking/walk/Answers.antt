@@ -1,9 +1,4 @@
-use Rattle.std.proofs.Common.{◌∙◌, ◌-◌, ◌<◌, List, length, ap, sym, arith}
-use Rattle.std.proofs.lemmas.Option.{slice_get-get_or}
-use Rattle.sf_check.specs.declared.insn.Insn.{Insn}
-use Rattle.sf_run.specs.Code.{state_of}
-use Rattle.sf_run.specs.laws.RunLaws.{safe_start}
-use Rattle.sf_run.specs.Walks.{walk_of}
+use Rattle.sf_run.proofs.Common.{◌∙◌, ◌-◌, ◌<◌, List, length, ap, sym, arith, slice_get-get_or, Insn, state_of, safe_start, walk_of}
 use Rattle.sf_run.proofs.Steps.{lent_lawful, at_hand, goes_on, goes_out}
 use Rattle.sf_run.proofs.WalkLemmas.{walk_comes_to_end, walk_goes_on, walk_tells_run}
 use Rattle.sf_run.proofs.walking.WordLemmas.{walk_tells_words}

@@ -1,7 +1,4 @@
-use Rattle.std.proofs.Common.{◌≡◌, ◌+◌, ◌-◌, ◌≤◌, ℕ, Some, length}
-use Rattle.sf_run.specs.Code.{state_of}
-use Rattle.sf_run.specs.Reachable.{IsReachable}
-use Rattle.sf_run.specs.Walks.{CourseData, after, walk_for, walk_of}
+use Rattle.sf_run.proofs.Common.{◌≡◌, ◌+◌, ◌-◌, ◌≤◌, ℕ, Some, length, state_of, IsReachable, CourseData, after, walk_for, walk_of}
 use Rattle.sf_run.proofs.walking.walk.Given as goal
 
 abbrev pub invariant-steps : goal.invariant-steps
