@@ -1,9 +1,7 @@
 -- How a pool finds the nodes that it has: each node is linked to the last older one of the same hash.
 use Rattle.std.specs.Prelude.{◌≡◌, ◌≢◌, ℕ, suc, ◌+◌, ◌*◌, ◌%◌, ◌<◌, ◌≤◌, List, length, map, slice_index, slice_index_or}
 use Rattle.sf_sym.specs.Pool.{node_at}
-use Rattle.sf_sym.specs.declared.index.Interned.{Interned}
-use Rattle.sf_sym.specs.declared.pool.Node.{Node}
-use Rattle.sf_sym.specs.declared.pool.Node.TheVariants.{Const, Word, Bin, Neg}
+use Rattle.sf_sym.specs.Common.{Interned, Node, Const, Word, Bin, Neg}
 
 -- equal nodes have the same hash, a number below 127
 abbrev pub hash_of : Node → ℕ

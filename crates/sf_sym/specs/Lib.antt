@@ -1,3 +1,4 @@
+pub mod Common
 pub mod Pool
 pub mod Index
 pub mod Operands

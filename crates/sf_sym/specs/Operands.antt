@@ -1,10 +1,7 @@
 -- Operations on a node and a constant.
 use Rattle.std.specs.Prelude.{ℕ, List, Option, Some, None}
-use Rattle.sf_insn.specs.declared.ops.BinOp.{BinOp}
-use Rattle.sf_insn.specs.declared.ops.BinOp.TheVariants.{Or, And, Xor}
+use Rattle.sf_sym.specs.Common.{BinOp, Or, And, Xor, Node, Bin}
 use Rattle.sf_sym.specs.Pool.{node_at, constant_number}
-use Rattle.sf_sym.specs.declared.pool.Node.{Node}
-use Rattle.sf_sym.specs.declared.pool.Node.TheVariants.{Bin}
 
 -- an operation that works bit by bit, whose operands may be swapped
 abbrev pub IsSwappable : BinOp → Type 0

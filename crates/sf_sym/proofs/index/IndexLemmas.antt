@@ -1,12 +1,4 @@
-use Rattle.std.proofs.Common.{◌≡◌, ◌≢◌, ℕ, suc, ◌+◌, ◌<◌, ◌≤◌, List, [], ◌∷◌, ◌++◌, length, get_or, set, replicate, sym, ap, ◌∙◌, arith}
-use Rattle.std.proofs.lemmas.List.{get_or_append_left, get_or_push, get_or-map, length-map, map-append, length_push, get_or-set_same, get_or-set_other, length-set, get_or-replicate, length-replicate}
-use Rattle.std.proofs.Math.Nat.{eq-or-lt_of_le}
-use Rattle.std.proofs.lemmas.Bool.{cases_order}
-use Rattle.sf_sym.specs.Pool.{node_at}
-use Rattle.sf_sym.specs.Index.{hash_of, nodes_of, IsLastWithHash, IsIndexed}
-use Rattle.sf_sym.specs.declared.index.Interned.{Interned}
-use Rattle.sf_sym.specs.declared.pool.Node.{Node}
-use Rattle.sf_sym.specs.declared.pool.Node.TheVariants.{Const}
+use Rattle.sf_sym.proofs.Common.{◌≡◌, ◌≢◌, ℕ, suc, ◌+◌, ◌<◌, ◌≤◌, List, [], ◌∷◌, ◌++◌, length, get_or, set, replicate, sym, ap, ◌∙◌, arith, get_or_append_left, get_or_push, get_or-map, length-map, map-append, length_push, get_or-set_same, get_or-set_other, length-set, get_or-replicate, length-replicate, eq-or-lt_of_le, cases_order, node_at, hash_of, nodes_of, IsLastWithHash, IsIndexed, Interned, Node, Const}
 
 abbrev pub blank : Interned
 blank = record { node = Const 0; link = 0 }

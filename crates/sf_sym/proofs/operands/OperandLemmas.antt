@@ -1,16 +1,5 @@
 -- The value of an operation on a node and a constant.
-use Rattle.std.proofs.Common.{◌≡◌, ℕ, ◌<◌, List, length, arith}
-use Rattle.std.proofs.lemmas.Nat.{or_comm, and_comm, xor_comm}
-use Rattle.sf_insn.specs.Words.{apply}
-use Rattle.sf_insn.specs.declared.input.Input.{Input}
-use Rattle.sf_insn.specs.declared.ops.BinOp.{BinOp}
-use Rattle.sf_insn.specs.declared.ops.BinOp.TheVariants.{Or, And, Xor}
-use Rattle.sf_sym.specs.Pool.{IsPool, node_at, value_of}
-use Rattle.sf_sym.specs.Operands.{IsSwappable}
-use Rattle.sf_sym.specs.laws.ValueLaws.{value-node, value-constant}
-use Rattle.sf_sym.specs.declared.pool.Node.{Node}
-use Rattle.sf_sym.specs.declared.pool.NodeId.{NodeId}
-use Rattle.sf_sym.specs.declared.pool.Node.TheVariants.{Const, Bin}
+use Rattle.sf_sym.proofs.Common.{◌≡◌, ℕ, ◌<◌, List, length, arith, or_comm, and_comm, xor_comm, apply, Input, BinOp, Or, And, Xor, IsPool, node_at, value_of, IsSwappable, value-node, value-constant, Node, NodeId, Const, Bin}
 
 -- operands are swapped
 pub apply-swap : (op : BinOp) (a b : ℕ) → IsSwappable op → apply op a b ≡ apply op b a

@@ -1,14 +1,5 @@
 -- A node as a pool keeps it has the value of the node, and its operands are in the pool.
-use Rattle.std.proofs.Common.{◌≡◌, ◌≢◌, ℕ, ◌<◌, ◌^◌, List, [], ◌∷◌, ◌++◌, length, Option, Some, None, refl, arith}
-use Rattle.sf_insn.specs.declared.input.Input.{Input}
-use Rattle.sf_insn.specs.declared.ops.BinOp.{BinOp}
-use Rattle.sf_insn.specs.Words.{apply, negation_of}
-use Rattle.sf_sym.specs.Pool.{OperandsBelow, IsPool, node_at, node_value, values_of, value_of, constant_number, combined_node, negated_node, folded_node}
-use Rattle.sf_sym.specs.laws.SizeLaws.{apply-small}
-use Rattle.sf_sym.specs.laws.ValueLaws.{constant_number-is, value-constant, OperandsBelow-at, IsPool-push}
-use Rattle.sf_sym.specs.declared.pool.Node.{Node}
-use Rattle.sf_sym.specs.declared.pool.Node.TheVariants.{Bin, Neg}
-use Rattle.sf_sym.specs.declared.pool.NodeId.{NodeId}
+use Rattle.sf_sym.proofs.Common.{◌≡◌, ◌≢◌, ℕ, ◌<◌, ◌^◌, List, [], ◌∷◌, ◌++◌, length, Option, Some, None, refl, arith, Input, BinOp, apply, negation_of, OperandsBelow, IsPool, node_at, node_value, values_of, value_of, constant_number, combined_node, negated_node, folded_node, apply-small, constant_number-is, value-constant, OperandsBelow-at, IsPool-push, Node, Bin, Neg, NodeId}
 
 -- a constant of a pool is a word
 constant-small : (ns : List Node) (i x : ℕ) → IsPool ns → i < length ns

@@ -4,14 +4,8 @@ use Rattle.std.proofs.Common.{ℕ, zero, suc, ◌%◌, ◌<◌, ◌^◌, List, [
 use Rattle.std.specs.Prelude.{slice_index}
 use Rattle.std.proofs.Math.Nat.{div-le_self}
 use Rattle.std.proofs.lemmas.Nat.{or_lt, xor_lt, and_le_r}
-use Rattle.sf_insn.specs.declared.input.Input.{Input}
-use Rattle.sf_insn.specs.Inputs.{IsInput}
-use Rattle.sf_insn.specs.Words.{apply}
-use Rattle.sf_insn.specs.declared.ops.BinOp.{BinOp}
-use Rattle.sf_insn.specs.declared.ops.BinOp.TheVariants.{Add, Sub, Mul, Div, Or, And, Lsh, Rsh, Xor}
+use Rattle.sf_sym.specs.Common.{Input, IsInput, apply, BinOp, Add, Sub, Mul, Div, Or, And, Lsh, Rsh, Xor, Node, Const, Word, Bin, Neg}
 use Rattle.sf_sym.specs.Pool.{OperandsBelow, AreOrdered, IsPool, node_value, values_after, value_of}
-use Rattle.sf_sym.specs.declared.pool.Node.{Node}
-use Rattle.sf_sym.specs.declared.pool.Node.TheVariants.{Const, Word, Bin, Neg}
 
 -- what an operation gives of two words is a word
 pub apply-small : (op : BinOp) (a b : ℕ) → a < 2 ^ 32 → b < 2 ^ 32 → apply op a b < 2 ^ 32

@@ -1,7 +1,4 @@
-use Rattle.std.proofs.Common.{◌≡◌, ◌<◌, ◌+◌, length, get_or, arith, refl, ap, ◌∙◌}
-use Rattle.std.proofs.lemmas.List.{length_push}
-use Rattle.sf_sym.specs.Index.{hash_of}
-use Rattle.sf_sym.specs.declared.index.Interned.{Interned}
+use Rattle.sf_sym.proofs.Common.{◌≡◌, ◌<◌, ◌+◌, length, get_or, arith, refl, ap, ◌∙◌, length_push, hash_of, Interned}
 use Rattle.sf_sym.proofs.index.IndexLemmas.{IsIndexed-push}
 use Rattle.sf_sym.proofs.index.add.Goals as goal
 

@@ -1,5 +1,4 @@
-use Rattle.std.proofs.Common.{◌≡◌, ◌+◌, ◌<◌, ◌-◌, length, arith, ap, sym, ◌∙◌}
-use Rattle.sf_sym.specs.Index.{nodes_of, link_at}
+use Rattle.sf_sym.proofs.Common.{◌≡◌, ◌+◌, ◌<◌, ◌-◌, length, arith, ap, sym, ◌∙◌, nodes_of, link_at}
 use Rattle.sf_sym.proofs.index.IndexLemmas.{IsSearched-step, node-read, length-nodes, blank}
 use Rattle.sf_sym.proofs.index.place_of.Goals as goal
 

@@ -1,4 +1,4 @@
-use Rattle.sf_sym.specs.Index.{nodes_of}
+use Rattle.sf_sym.proofs.Common.{nodes_of}
 use Rattle.sf_sym.proofs.index.IndexLemmas.{IsSearched}
 use Rattle.sf_sym.proofs.index.place_of.Given as goal
 

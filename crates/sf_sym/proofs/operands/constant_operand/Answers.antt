@@ -1,5 +1,4 @@
-use Rattle.std.proofs.Common.{arith}
-use Rattle.sf_sym.specs.laws.ValueLaws.{constant_number-is}
+use Rattle.sf_sym.proofs.Common.{arith, constant_number-is}
 use Rattle.sf_sym.proofs.operands.OperandLemmas.{value-left, value-right}
 use Rattle.sf_sym.proofs.operands.constant_operand.Goals as goal
 

@@ -1,4 +1,4 @@
-use Rattle.std.proofs.Common.{◌≡◌, replicate}
+use Rattle.sf_sym.proofs.Common.{◌≡◌, replicate}
 use Rattle.sf_sym.proofs.index.IndexLemmas.{IsIndexed-none}
 use Rattle.sf_sym.proofs.index.Indexed.new.Goals as goal
 

@@ -1,6 +1,4 @@
-use Rattle.std.proofs.lemmas.Grind.{common_steps}
-use Rattle.std.proofs.Common.{arith}
-use Rattle.sf_sym.specs.laws.ValueLaws.{values_of-more, length-values_of}
+use Rattle.sf_sym.proofs.Common.{common_steps, arith, values_of-more, length-values_of}
 use Rattle.sf_sym.proofs.pool.Pool.first_values.Goals as goal
 
 pub compute-value-requires : goal.compute-value-requires

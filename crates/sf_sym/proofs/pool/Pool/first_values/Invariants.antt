@@ -1,5 +1,4 @@
-use Rattle.std.proofs.Common.{◌≡◌, take}
-use Rattle.sf_sym.specs.Pool.{values_of}
+use Rattle.sf_sym.proofs.Common.{◌≡◌, take, values_of}
 use Rattle.sf_sym.proofs.pool.Pool.first_values.Given as goal
 
 abbrev pub invariant-loop-i : goal.invariant-loop-i

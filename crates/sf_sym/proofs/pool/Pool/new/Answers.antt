@@ -1,8 +1,4 @@
-use Rattle.std.proofs.Common.{◌≡◌, ◌<◌, length, [], ◌∷◌, ◌++◌, arith, below_more, sym, ◌∙◌}
-use Rattle.std.proofs.lemmas.List.{length_push, get_or_append_left, get_or_push}
-use Rattle.sf_sym.specs.laws.ValueLaws.{AreOrdered-push, twins-push}
-use Rattle.sf_sym.specs.Pool.{node_at}
-use Rattle.sf_sym.specs.declared.pool.Node.TheVariants.{Const, Word}
+use Rattle.sf_sym.proofs.Common.{◌≡◌, ◌<◌, length, [], ◌∷◌, ◌++◌, arith, below_more, sym, ◌∙◌, length_push, get_or_append_left, get_or_push, AreOrdered-push, twins-push, node_at, Const, Word}
 use Rattle.sf_sym.proofs.pool.Pool.new.Goals as goal
 
 pub loop-i-preserved : goal.loop-i-preserved

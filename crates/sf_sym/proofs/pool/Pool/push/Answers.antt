@@ -1,9 +1,5 @@
-use Rattle.std.proofs.lemmas.Grind.{common_steps}
-use Rattle.std.proofs.Common.{◌≡◌, length, arith, ap, refl, ◌∙◌}
-use Rattle.std.specs.Arc.{arc_value}
-use Rattle.sf_sym.specs.laws.ValueLaws.{ArePlainNodes-push, value-node, value-older, value-pushed}
+use Rattle.sf_sym.proofs.Common.{common_steps, ◌≡◌, length, arith, ap, refl, ◌∙◌, arc_value, ArePlainNodes-push, value-node, value-older, value-pushed, folded_node}
 use Rattle.sf_sym.proofs.pool.Folds.{folded_node-value, pushed-lawful}
-use Rattle.sf_sym.specs.Pool.{folded_node}
 use Rattle.sf_sym.proofs.pool.Pool.push.Goals as goal
 
 pub returns-in-Some-clause-within : goal.returns-in-Some-clause-within

@@ -1,6 +1,4 @@
-use Rattle.std.proofs.Common.{arith}
-use Rattle.std.proofs.lemmas.Grind.{common_steps}
-use Rattle.sf_sym.specs.laws.ValueLaws.{value-last}
+use Rattle.sf_sym.proofs.Common.{arith, common_steps, value-last}
 use Rattle.sf_sym.proofs.pool.Pool.value.Goals as goal
 
 pub returns : goal.returns

@@ -1,6 +1,4 @@
-use Rattle.std.proofs.lemmas.Grind.{common_steps}
-use Rattle.std.proofs.Common.{arith}
-use Rattle.sf_sym.specs.laws.ValueLaws.{value-last}
+use Rattle.sf_sym.proofs.Common.{common_steps, arith, value-last}
 use Rattle.sf_sym.proofs.pool.Pool.value_without_computing.Goals as goal
 
 pub returns-in-Const-clause-value : goal.returns-in-Const-clause-value
