@@ -1,13 +1,6 @@
 -- Files have at most one first refusal.
-use Rattle.std.proofs.Common.{◌≡◌, inl, inr, ℕ, ◌+◌, ◌*◌, ◌<◌, List, [], ◌∷◌, length, take, zero, suc, slice_get, refl, ap, sym, ◌∙◌, arith}
-use Rattle.std.proofs.lemmas.Bool.{cases_lt}
-use Rattle.std.proofs.lemmas.Option.{same_Some}
-use Rattle.sf_insn.specs.declared.raw.RawInsn.{RawInsn}
+use Rattle.sf_stack.proofs.Common.{◌≡◌, inl, inr, ℕ, ◌+◌, ◌*◌, ◌<◌, List, [], ◌∷◌, length, take, zero, suc, slice_get, refl, ap, sym, ◌∙◌, arith, cases_lt, same_Some, RawInsn, IsFirstFault, Fault, check_fault, IsRefusalOf, IsFileRefusal, IsFirstRefusal}
 use Rattle.sf_check.specs.declared.fault.Fault.{Fault as CheckFault}
-use Rattle.sf_check.specs.Refusals.{IsFirstFault}
-use Rattle.sf_stack.specs.declared.fault.Fault.{Fault}
-use Rattle.sf_stack.specs.FaultPlaces.{check_fault}
-use Rattle.sf_stack.specs.Filters.{IsRefusalOf, IsFileRefusal, IsFirstRefusal}
 use Rattle.sf_stack.proofs.RefusalLemmas.{OneSpelling, FaultsAreNot, Kind, ragged, empty, long, spoken, kind_of, Spoken, StackKind, none, many, path, file, stack_kind, length_spelling, refused_no_program, program_at, file_no_stack}
 
 abbrev pub OneFault : Type 0

@@ -1,21 +1,8 @@
 -- Files that are refused spell no lawful stack.
-use Rattle.std.proofs.lemmas.Grind.{common_steps}
-use Rattle.std.proofs.Common.{◌≡◌, ℕ, ◌+◌, ◌*◌, ◌%◌, ◌<◌, ◌≤◌, ◌≢◌, List, [], ◌∷◌, length, Ok, Some, slice_get, zero, suc, refl, ap, sym, subst, ◌∙◌, arith, length-append}
-use Rattle.std.proofs.lemmas.List.{length-map}
-use Rattle.std.proofs.lemmas.Option.{same_Some}
-use Rattle.sf_insn.specs.declared.raw.RawInsn.{RawInsn}
-use Rattle.sf_insn.specs.Spelling.{spelling, AreInsns}
-use Rattle.sf_check.specs.declared.insn.Insn.{Insn}
+use Rattle.sf_stack.proofs.Common.{common_steps, ◌≡◌, ℕ, ◌+◌, ◌*◌, ◌%◌, ◌<◌, ◌≤◌, ◌≢◌, List, [], ◌∷◌, length, Ok, Some, slice_get, zero, suc, refl, ap, sym, subst, ◌∙◌, arith, length-append, length-map, same_Some, RawInsn, spelling, AreInsns, Insn, insn_of, IsLawfulProgram, Spells, SpellsProgram, IsFirstFault, Fault, check_fault, SpellPrograms, SpellStack, SpellsFault, SpellLongPath, IsRefusalOf, AreFew, IsFileRefusal, IsFirstRefusal, as_many}
 use Rattle.sf_check.specs.declared.fault.Fault.{Fault as CheckFault}
 use Rattle.sf_check.specs.declared.fault.Fault.TheVariants as check
-use Rattle.sf_check.specs.Codes.{insn_of}
-use Rattle.sf_check.specs.Programs.{IsLawfulProgram, Spells, SpellsProgram}
-use Rattle.sf_check.specs.Refusals.{IsFirstFault}
-use Rattle.sf_stack.specs.declared.fault.Fault.{Fault}
 use Rattle.sf_stack.specs.declared.fault.Fault.TheVariants as faults
-use Rattle.sf_stack.specs.FaultPlaces.{check_fault}
-use Rattle.sf_stack.specs.Filters.{SpellPrograms, SpellStack, SpellsFault, SpellLongPath, IsRefusalOf, AreFew, IsFileRefusal, IsFirstRefusal}
-use Rattle.sf_stack.specs.laws.FiltersLaws.{as_many}
 
 abbrev pub OneSpelling : Type 0
 OneSpelling = (a b : List RawInsn) → AreInsns a → AreInsns b → spelling a ≡ spelling b → a ≡ b

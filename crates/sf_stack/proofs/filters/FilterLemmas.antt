@@ -1,23 +1,8 @@
 -- What the bytes of filter files spell, and why they are refused.
-use Rattle.std.proofs.lemmas.Grind.{common_steps}
-use Rattle.std.proofs.Common.{◌≡◌, ◌==◌, false, ◌⊎◌, inl, inr, ℕ, ◌+◌, ◌<◌, ◌≤◌, List, [], ◌∷◌, ◌++◌, length, take, map, Vec, Global, Ok, Err, Result, MatchResult, IfErr, IsErrAnd, get_or, ◌∙◌, refl, ap, sym, subst, arith}
-use Rattle.std.proofs.lemmas.List.{take_more, get_or-map, length-map}
-use Rattle.std.proofs.lemmas.Option.{slice_get_read}
-use Rattle.std.proofs.lemmas.Result.{err_from_is_err_and}
-use Rattle.sf_check.specs.Stacks.{path_length}
-use Rattle.sf_check.specs.declared.stack.Stack.{Stack}
-use Rattle.sf_insn.specs.declared.raw.RawInsn.{RawInsn}
-use Rattle.sf_insn.specs.Spelling.{spelling, AreInsns}
-use Rattle.sf_check.specs.declared.insn.Insn.{Insn}
+use Rattle.sf_stack.proofs.Common.{common_steps, ◌≡◌, ◌==◌, false, ◌⊎◌, inl, inr, ℕ, ◌+◌, ◌<◌, ◌≤◌, List, [], ◌∷◌, ◌++◌, length, take, map, Vec, Global, Ok, Err, Result, MatchResult, IfErr, IsErrAnd, get_or, ◌∙◌, refl, ap, sym, subst, arith, take_more, get_or-map, length-map, slice_get_read, err_from_is_err_and, path_length, Stack, RawInsn, spelling, AreInsns, Insn, SpellsProgram, IsFirstFault, Fault, check_fault, as_many, SpellPrograms, IsRefusalOf, AreFew, IsFileRefusal, IsFirstRefusal}
 use Rattle.sf_check.specs.declared.fault.Fault.{Fault as CheckFault}
 use Rattle.sf_check.specs.declared.fault.Fault.TheVariants as check
-use Rattle.sf_check.specs.Programs.{SpellsProgram}
-use Rattle.sf_check.specs.Refusals.{IsFirstFault}
-use Rattle.sf_stack.specs.declared.fault.Fault.{Fault}
 use Rattle.sf_stack.specs.declared.fault.Fault.TheVariants as faults
-use Rattle.sf_stack.specs.FaultPlaces.{check_fault}
-use Rattle.sf_stack.specs.laws.FiltersLaws.{as_many}
-use Rattle.sf_stack.specs.Filters.{SpellPrograms, IsRefusalOf, AreFew, IsFileRefusal, IsFirstRefusal}
 
 -- what holds of an error after `map_err` made another one of it
 pub mapped_err : {X E D : Type 0} {Post : E → D → Type 0} {P : E → Type 0} {Q : D → Type 0} (r : Result X E)

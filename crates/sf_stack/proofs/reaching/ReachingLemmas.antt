@@ -1,17 +1,5 @@
 -- Which instructions paths come to, through a pass over the program.
-use Rattle.std.proofs.lemmas.Grind.{common_steps}
-use Rattle.std.proofs.Common.{◌≡◌, ◌⊎◌, inl, inr, ℕ, suc, ◌+◌, ◌<◌, Bool, true, false, List, [], ◌∷◌, ◌++◌, length, take, drop, get_or, set, refl, sym, ◌∙◌, arith}
-use Rattle.std.specs.Prelude.{Contains}
-use Rattle.std.proofs.lemmas.Bool.{cases_eq}
-use Rattle.std.proofs.lemmas.List.{append-nil, take_all, get_or-set_same, get_or-set_other, length-set}
-use Rattle.std.proofs.Math.ListN.{drop_of_length-le}
-use Rattle.std.proofs.lemmas.Option.{same_Some, slice_get-get_or, slice_get_within}
-use Rattle.sf_check.specs.declared.insn.Insn.{Insn}
-use Rattle.sf_check.specs.Insns.{successors}
-use Rattle.sf_check.specs.Programs.{AllBelow, IsAt, IsLawfulProgram, IsPath, Leads}
-use Rattle.sf_check.specs.laws.ContainsLaws.{contains_cons, contains_nil}
-use Rattle.sf_check.specs.laws.ProgramLaws.{successor_after, successors_inside}
-use Rattle.sf_stack.specs.Reaching.{AreReached, IsOnSomePath, with_found}
+use Rattle.sf_stack.proofs.Common.{common_steps, ◌≡◌, ◌⊎◌, inl, inr, ℕ, suc, ◌+◌, ◌<◌, Bool, true, false, List, [], ◌∷◌, ◌++◌, length, take, drop, get_or, set, refl, sym, ◌∙◌, arith, Contains, cases_eq, append-nil, take_all, get_or-set_same, get_or-set_other, length-set, drop_of_length-le, same_Some, slice_get-get_or, slice_get_within, Insn, successors, AllBelow, IsAt, IsLawfulProgram, IsPath, Leads, contains_cons, contains_nil, successor_after, successors_inside, AreReached, IsOnSomePath, with_found}
 
 -- the instruction at a place was found
 abbrev pub IsFound : List Bool → ℕ → Type 0

@@ -1,5 +1,4 @@
-use Rattle.std.proofs.Common.{ℕ, ◌<◌}
-use Rattle.sf_stack.specs.Equal.{AreSame}
+use Rattle.sf_stack.proofs.Common.{ℕ, ◌<◌, AreSame}
 use Rattle.sf_stack.proofs.equal.first_same.Given as goal
 
 abbrev pub invariant-loop-later : goal.invariant-loop-later

@@ -1,5 +1,4 @@
-use Rattle.std.proofs.Common.{◌≡◌, rules}
-use Rattle.sf_stack.specs.FaultPlaces.{check_fault}
+use Rattle.sf_stack.proofs.Common.{◌≡◌, rules, check_fault}
 use Rattle.sf_stack.proofs.filters.FilterLemmas.{mapped_err, unlawful_due}
 use Rattle.sf_stack.proofs.filters.program_of.Goals as goal
 

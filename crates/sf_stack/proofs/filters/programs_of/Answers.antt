@@ -1,6 +1,4 @@
-use Rattle.std.proofs.Common.{arith}
-use Rattle.std.proofs.lemmas.Grind.{common_steps}
-use Rattle.std.proofs.lemmas.Result.{err_from_is_err_and}
+use Rattle.sf_stack.proofs.Common.{arith, common_steps, err_from_is_err_and}
 use Rattle.sf_stack.proofs.filters.FilterLemmas.{one_more_file, one_file_refused}
 use Rattle.sf_stack.proofs.filters.programs_of.Goals as goal
 

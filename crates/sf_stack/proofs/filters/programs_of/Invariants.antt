@@ -1,5 +1,4 @@
-use Rattle.std.proofs.Common.{map, take}
-use Rattle.sf_stack.specs.Filters.{SpellPrograms}
+use Rattle.sf_stack.proofs.Common.{map, take, SpellPrograms}
 use Rattle.sf_stack.proofs.filters.programs_of.Given as goal
 
 abbrev pub invariant-loop-i : goal.invariant-loop-i

@@ -1,5 +1,4 @@
-use Rattle.std.proofs.Common.{◌≡◌, length, arith, rules}
-use Rattle.sf_stack.specs.FaultPlaces.{check_fault}
+use Rattle.sf_stack.proofs.Common.{◌≡◌, length, arith, rules, check_fault}
 use Rattle.sf_stack.proofs.filters.FilterLemmas.{mapped_err, stack_refused, few_files}
 use Rattle.sf_stack.proofs.filters.stack_of.Goals as goal
 

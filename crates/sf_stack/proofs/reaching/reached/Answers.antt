@@ -1,5 +1,4 @@
-use Rattle.std.proofs.lemmas.Grind.{common_steps}
-use Rattle.std.proofs.Common.{length, get_or, ◌≡◌, ◌∙◌, false, sym, ap, arith}
+use Rattle.sf_stack.proofs.Common.{common_steps, length, get_or, ◌≡◌, ◌∙◌, false, sym, ap, arith}
 use Rattle.sf_stack.proofs.reaching.ReachingLemmas.{IsFound, Passes, pass_ends, pass_on, pass_over, read_there, written_whole}
 use Rattle.sf_stack.proofs.reaching.reached.Goals.{then-index, else-index}
 use Rattle.sf_stack.proofs.reaching.reached.Goals as goal

@@ -1,5 +1,4 @@
-use Rattle.std.proofs.Common.{◌≡◌, ℕ, List, ◌++◌, length}
-use Rattle.std.specs.Io.KnownBytes.{Appends}
+use Rattle.sf_stack.proofs.Common.{◌≡◌, ℕ, List, ◌++◌, length, Appends}
 use Rattle.sf_stack.proofs.texts.write_bytes.Given as goal
 
 abbrev pub invariant-loop-rest : goal.invariant-loop-rest
