@@ -1,9 +1,5 @@
 -- How many arguments there are up to the last one that isn't 0, one argument more at a time.
-use Rattle.std.proofs.lemmas.Grind.{common_steps}
-use Rattle.std.proofs.lemmas.List.{length-take, take_more}
-use Rattle.std.proofs.Common.{arith, ◌≡◌, ℕ, ◌+◌, ◌<◌, List, [], ◌∷◌, ◌++◌, length, take}
-use Rattle.std.specs.Prelude.{◌==◌, if◌then◌else◌, slice_index}
-use Rattle.sf_calls.specs.Calls.{count_shown}
+use Rattle.sf_calls.proofs.Common.{common_steps, length-take, take_more, arith, ◌≡◌, ℕ, ◌+◌, ◌<◌, List, [], ◌∷◌, ◌++◌, length, take, ◌==◌, if◌then◌else◌, slice_index, count_shown}
 
 count_shown-push : (ns : List ℕ) (n : ℕ)
     → count_shown (ns ++ n ∷ []) ≡ (if n == 0 then count_shown ns else length ns + 1)

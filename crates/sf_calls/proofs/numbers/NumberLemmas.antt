@@ -1,17 +1,5 @@
 -- What `from_str_radix` reads of digits, and the parts of a text.
-use Rattle.std.proofs.lemmas.Grind.{common_steps}
-use Rattle.std.proofs.lemmas.Bool.{and_parts, cases_lt, le-ltb, lt-ltb, ltb-true}
-use Rattle.std.proofs.lemmas.Str.Parse.{without_leading_plus_none}
-use Rattle.std.proofs.Common.{arith, ◌≡◌, ◌≢◌, ◌∙◌, ℕ, ◌<◌, ◌≤◌, ◌^◌, true, List, [], ◌∷◌, Result, Ok, Err, refl, subst, ap, sym, inl, inr, zero, suc}
-use Rattle.std.specs.Prelude.{slice_index, slice_get, Option, Some, option_map, IsErrAnd, MatchResult}
-use Rattle.std.specs.Borrow.{Bor}
-use Rattle.std.specs.Char.{digit_value, is_digit}
-use Rattle.std.specs.List.{list_all}
-use Rattle.std.specs.Result.{OkIff}
-use Rattle.std.specs.Str.Parse.{AllDigits, IsNumeral, ParsesUnsigned, digits_value}
-use Rattle.sf_calls.specs.declared.numbers.Misread.{Misread}
-use Rattle.sf_calls.specs.declared.numbers.Misread.TheVariants.{Width}
-use Rattle.sf_calls.specs.Numbers.{are_digits, in_bits, is_number, number_of_part, read_number}
+use Rattle.sf_calls.proofs.Common.{common_steps, and_parts, cases_lt, le-ltb, lt-ltb, ltb-true, without_leading_plus_none, arith, ◌≡◌, ◌≢◌, ◌∙◌, ℕ, ◌<◌, ◌≤◌, ◌^◌, true, List, [], ◌∷◌, Result, Ok, Err, refl, subst, ap, sym, inl, inr, zero, suc, slice_index, slice_get, Option, Some, option_map, IsErrAnd, MatchResult, Bor, digit_value, is_digit, list_all, OkIff, AllDigits, IsNumeral, ParsesUnsigned, digits_value, Misread, Width, are_digits, in_bits, is_number, number_of_part, read_number}
 
 all_digits : (radix : ℕ) (ds : List ℕ) → list_all (λ c. is_digit c radix) ds ≡ true → AllDigits radix ds
 all_digits radix [] all = tt

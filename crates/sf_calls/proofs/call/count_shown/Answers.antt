@@ -1,5 +1,4 @@
-use Rattle.std.proofs.lemmas.Grind.{common_steps}
-use Rattle.std.proofs.Common.{arith}
+use Rattle.sf_calls.proofs.Common.{common_steps, arith}
 use Rattle.sf_calls.proofs.call.ArgumentLemmas.{count_shown-take}
 use Rattle.sf_calls.proofs.call.count_shown.Goals.{then-argument-ne0, else-argument-ne0}
 use Rattle.sf_calls.proofs.call.count_shown.Goals as goal

@@ -1,5 +1,4 @@
-use Rattle.std.proofs.Common.{◌≡◌, ◌≤◌, take}
-use Rattle.sf_calls.specs.Calls.{count_shown}
+use Rattle.sf_calls.proofs.Common.{◌≡◌, ◌≤◌, take, count_shown}
 use Rattle.sf_calls.proofs.call.count_shown.Given as goal
 
 abbrev pub invariant-loop-place : goal.invariant-loop-place

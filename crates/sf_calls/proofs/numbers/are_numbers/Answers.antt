@@ -1,7 +1,4 @@
-use Rattle.std.proofs.Common.{lit<, rules, tests}
-use Rattle.std.proofs.lemmas.Iterator.Search.{all_from_yields_List}
-use Rattle.std.proofs.lemmas.Iterator.Splits.{YieldsList-from_str_split}
-use Rattle.sf_calls.specs.Numbers.{is_number}
+use Rattle.sf_calls.proofs.Common.{lit<, rules, tests, all_from_yields_List, YieldsList-from_str_split, is_number}
 use Rattle.sf_calls.proofs.numbers.are_numbers.Goals as goal
 
 pub returns : goal.returns

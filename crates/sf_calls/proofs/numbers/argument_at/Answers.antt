@@ -1,6 +1,5 @@
-use Rattle.std.proofs.lemmas.Bool.{and_parts}
+use Rattle.sf_calls.proofs.Common.{and_parts, comma_parts}
 use Rattle.sf_calls.proofs.numbers.NumberLemmas.{part_read}
-use Rattle.sf_calls.specs.Numbers.{comma_parts}
 use Rattle.sf_calls.proofs.numbers.argument_at.Goals as goal
 
 pub returns-in-Some : goal.returns-in-Some

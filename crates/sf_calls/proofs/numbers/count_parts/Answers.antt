@@ -1,6 +1,4 @@
-use Rattle.std.proofs.Common.{lit<}
-use Rattle.std.proofs.lemmas.Iterator.Consumers.{count_from_yields_List}
-use Rattle.std.proofs.lemmas.Iterator.Splits.{YieldsList-from_str_split}
+use Rattle.sf_calls.proofs.Common.{lit<, count_from_yields_List, YieldsList-from_str_split}
 use Rattle.sf_calls.proofs.numbers.count_parts.Goals as goal
 
 pub returns : goal.returns

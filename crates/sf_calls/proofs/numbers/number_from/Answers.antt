@@ -1,4 +1,4 @@
-use Rattle.std.proofs.Common.{rules, tests}
+use Rattle.sf_calls.proofs.Common.{rules, tests}
 use Rattle.sf_calls.proofs.numbers.NumberLemmas.{number_read}
 use Rattle.sf_calls.proofs.numbers.number_from.Goals as goal
 

@@ -1,5 +1,4 @@
-use Rattle.std.proofs.Common.{◌≡◌, ◌++◌, drop, string_bytes}
-use Rattle.sf_calls.specs.Texts.{arguments_words}
+use Rattle.sf_calls.proofs.Common.{◌≡◌, ◌++◌, drop, string_bytes, arguments_words}
 use Rattle.sf_calls.proofs.text.push_arguments.Given as goal
 
 abbrev pub invariant-loop-place : goal.invariant-loop-place
