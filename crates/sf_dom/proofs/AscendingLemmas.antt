@@ -61,11 +61,6 @@ inserted-numbers xs n at m =
 pub sorted-rising : (xs : List ℕ) → IsSorted nat_cmp xs → AreAscending xs
 sorted-rising xs sorted i j le l = IsNonDecreasingBy-from_sort (λ x. x) xs sorted i j 0 le l
 
--- what isn't in the first of two lists is in both together where it is in the second
-pub in-second : (xs ys : List ℕ) (n : ℕ) (b : Bool) → ¬ Contains xs n → (IsTrue b ↔ Contains ys n)
-    → IsTrue b ↔ Contains (xs ++ ys) n
-in-second xs ys n b absent there = grind (arith, common_steps, Contains-append_right, Contains-append_cases, absent)
-
 -- a set with one more number
 pub one-more : (n xs m : ℕ) → Has (bit_or (2 ^ n) xs) m ↔ (Has xs m ⊎ (m ≡ n))
 one-more n xs m = grind (arith, common_steps, cases_eq, bit_at_or, bit_at-lt, bit_at-pow_other, bit_at-pow_same)
@@ -102,10 +97,6 @@ has-more xs ys n more m = (
   (λ h. elim ((more m).0 (in-contains xs m h)) [ inl old ↦ inl (contains-in ys m old) | inr e ↦ inr e ]),
   (λ s. contains-in xs m ((more m).1 (elim s [ inl h ↦ inl (in-contains ys m h) | inr e ↦ inr e ]))),
 )
-
--- what is an element of a list is in its set
-pub as-in : (xs : List ℕ) (n : ℕ) (b : Bool) → (IsTrue b ↔ Contains xs n) → IsTrue b ↔ Has (set_of xs) n
-as-in xs n b h = ((λ t. contains-in xs n (h.0 t)), (λ k. h.1 (in-contains xs n k)))
 
 -- all numbers of two lists are of a kind, where those of the first are
 pub among-second : (xs ys : List ℕ) (kind : ℕ → Type 0) (b : Bool) → ((n : ℕ) → Contains xs n → kind n)

@@ -1,74 +1,46 @@
 -- What facts promise of the inputs that agree, where they learn a condition or take in more of a word.
-use Rattle.sf_dom.proofs.Common.{◌≡◌, ℕ, ◌<◌, ◌^◌, List, length, arith, refl, sym, ap, ◌∙◌, inl, inr, cases_eq, get_or-set_same, get_or-set_other, length-set, slice_index, Some, None, Input, IsCondBelow, node_at, value_of, passes-met, value-constant, Cond, Node, Const, Word, Known, Has, Admits, IsNarrower, IsDecided, known_at, excluded_of, FactsView, AgreesWith, Agrees, Covers, KeepsInputs, KeepsOnly, NoInput, HasIn, ConfinesWord, IsPlainCondition, IsWordOrConst, DecidesTest, narrower-admits, some-such, value-word, decided-admits, closed-consistent, constant-known, assumed_of, AreExcludedBy, ConditionGives, LearnsBy, CantLearn, MoreGives, TakesInBy, CantTakeInBy, IsNarrowed, Meets, Learns, met, common_steps, IsPlainTest, ◌⊎◌, ◌≢◌, Equal, false, set, known_of, with_pair}
-use Rattle.sf_dom.proofs.ConditionSteps.{ComesFrom, condition-lawful, condition-rest, condition-from, more-lawful, more-rest, more-known}
-use Rattle.sf_dom.proofs.Covering.{AreResting, covers-resting, resting-closed, covers-closed}
+use Rattle.sf_dom.proofs.Common.{◌≡◌, ℕ, ◌<◌, ◌^◌, List, length, arith, refl, sym, ap, ◌∙◌, inl, inr, slice_index, Some, None, Input, IsCondBelow, node_at, value_of, passes-met, value-constant, Cond, Node, Const, Word, Known, Has, Admits, IsNarrower, IsDecided, known_at, excluded_of, FactsView, AgreesWith, Agrees, Covers, KeepsInputs, KeepsOnly, NoInput, HasIn, ConfinesWord, IsPlainCondition, IsWordOrConst, DecidesTest, narrower-admits, some-such, value-word, decided-admits, closed-consistent, constant-known, assumed_of, AreExcludedBy, ConditionGives, LearnsBy, CantLearn, MoreGives, TakesInBy, CantTakeInBy, IsNarrowed, Meets, Learns, met, common_steps, IsPlainTest, ◌⊎◌, ◌≢◌, Equal, false}
+use Rattle.sf_dom.proofs.ConditionSteps.{condition-lawful, condition-known, condition-rest, more-lawful, more-rest, more-known}
+use Rattle.sf_dom.proofs.Covering.{covers-closed}
 use Rattle.sf_dom.proofs.Excluding.{excluding-keeps}
 use Rattle.sf_dom.proofs.Lawful.{IsLawful}
-use Rattle.sf_dom.proofs.Passes.{met-left, met-right}
-use Rattle.sf_dom.proofs.Reductions.{IsNarrower-trans, IsNarrower-refl}
 use Rattle.sf_dom.proofs.Sampled.{agrees-back, agrees-with-fewer, admits-word}
 use Rattle.sf_dom.proofs.Steps.{still-fixed}
 use Rattle.sf_dom.proofs.TestLaws.{test-exact}
 
 -- Facts of a pool, and a condition on two of its nodes.
-module _ (f : FactsView) (ns : List Node) (cond : Cond) (h : AreResting f.known f.excluded ns)
-    (below : IsCondBelow (length ns) cond) where
-  -- what was known of the first node, and what its test leaves of it, lose nothing in what is left of it
-  first-left : (new : List Known) (ex : List ℕ) (c : ComesFrom f.known new ex cond)
-      → IsNarrower (known_at f.known cond.node.0) c.pair.node × IsNarrower (assumed_of f.known cond).node c.pair.node
-  first-left new ex c = grind (arith, common_steps, met-left, met-right, IsNarrower-trans)
-
-  -- and that loses nothing in what is known afterwards
-  left-known : (new : List Known) (ex : List ℕ) (c : ComesFrom f.known new ex cond)
-      → IsNarrower c.pair.node (known_at new cond.node.0)
-  left-known new ex c =
-      let none : Known = known_of 0 0 0 0 in let count = h.count in let v = cond.node.0 in let w = cond.other.0 in
-      let first : List Known = set f.known v c.pair.node in
-      let lv : v < length f.known = omega (arith, below.0) in
-      let lw : w < length first = omega (arith, below.1, length-set f.known v c.pair.node) in
-      let own : known_at first v ≡ c.pair.node = get_or-set_same f.known v c.pair.node none lv in
-      let last = c.narrower v (omega (arith, lv, length-set f.known v c.pair.node, length-set first w c.pair.other)) in
-      let other : Known = c.pair.other in
-      let both : List Known = set first w other in
-      let a : Known = (assumed_of f.known cond).other in
-      let was : Known = known_at first w in
-      let mid : IsNarrower c.pair.node (known_at both v) = elim (cases_eq v w) [
-        | inl e ↦
-            let here = ap (known_at both) e ∙ get_or-set_same first w other none lw in
-            let same : was ≡ c.pair.node = ap (known_at first) (sym e) ∙ own in
-            rw here (rw same at (IsNarrower-trans was (met was a) other (met-left was a) c.left.other.narrower))
-        | inr ne ↦ rw (get_or-set_other first w v other none ne, own) (IsNarrower-refl c.pair.node)
-      ] in
-      IsNarrower-trans c.pair.node (known_at (with_pair f.known cond c.pair) v) (known_at new v) mid last
+module _ (f : FactsView) (ns : List Node) (cond : Cond) (h : Covers f ns) (below : IsCondBelow (length ns) cond) where
+  -- what its test says of its first node is known afterwards
+  told-known : (new : List Known) (ex : List ℕ) → ConditionGives f.known ex ns cond (Some new)
+      → IsNarrower (assumed_of f.known cond).node (known_at new cond.node.0)
+  told-known new ex g =
+      condition-known f.known ex ns cond h.pool (covers-closed f ns h) below (Some new) g
 
   -- where both nodes have only one number, these meet the condition
   decides : (new : List Known) (ex : List ℕ) → ConditionGives f.known ex ns cond (Some new) → DecidesTest f cond
   decides new ex g dv dw =
-      let closed = resting-closed f.known f.excluded ns h in
-      let c = condition-from f.known ex ns cond h.pool closed below (Some new) g in
-      let v : Known = known_at f.known cond.node.0 in
-      let n = first-left new ex c in
-      let cv = closed.each cond.node.0 below.0 in
-      let cp = c.left.node.is.known in
-      let low : c.pair.node.low ≡ v.low = omega (arith, n.0.low, n.0.high, cp.ordered, dv) in
-      let high : c.pair.node.high ≡ v.low = omega (arith, n.0.low, n.0.high, cp.ordered, dv) in
+      let closed = covers-closed f ns h in
+      let all = (condition-lawful f.known ex ns cond h.pool closed below).narrowed (Some new) g in
+      let v : Known = known_at f.known cond.node.0 in let left : Known = known_at new cond.node.0 in
+      let n = all.narrower cond.node.0 (omega (arith, h.count, below.0)) in
+      let cv = closed.each cond.node.0 below.0 in let cp = all.closed.each cond.node.0 below.0 in
+      let low : left.low ≡ v.low = omega (arith, n.low, n.high, cp.ordered, dv) in
+      let high : left.high ≡ v.low = omega (arith, n.low, n.high, cp.ordered, dv) in
       test-exact cond.test cond.sense v (known_at f.known cond.other.0) v.low cv (closed.each cond.other.0 below.1) dw
       (inr dv) (decided-admits v v.low (closed-consistent v cv) refl (sym dv))
-      (narrower-admits (assumed_of f.known cond).node c.pair.node v.low n.1
-      (decided-admits c.pair.node v.low (closed-consistent c.pair.node cp) low high))
+      (narrower-admits (assumed_of f.known cond).node left v.low (told-known new ex g)
+      (decided-admits left v.low (closed-consistent left cp) low high))
 
   -- a plain condition is met by each input that agrees afterwards
   plain-holds : (new : List Known) (ex : List ℕ) → ConditionGives f.known ex ns cond (Some new)
       → AreExcludedBy f.known f.excluded ex ns cond → IsPlainCondition ns cond → length new ≡ length ns → (d : Input)
       → AgreesWith f.known f.excluded ns d → AgreesWith new ex ns d → Meets ns cond d
   plain-holds new ex g out plain count d before after =
-      let closed = resting-closed f.known f.excluded ns h in
-      let c = condition-from f.known ex ns cond h.pool closed below (Some new) g in
+      let closed = covers-closed f ns h in
       let v : Known = known_at f.known cond.node.0 in
       let w : Known = known_at f.known cond.other.0 in
-      let n = first-left new ex c in let x : ℕ = value_of ns d cond.node.0 in
-      let lw : cond.other.0 < length f.known = omega (arith, below.1) in
-      let lv : cond.node.0 < length f.known = omega (arith, below.0) in
+      let x : ℕ = value_of ns d cond.node.0 in
+      let lv : cond.node.0 < length f.known = omega (arith, h.count, below.0) in
       let now = after cond.node.0 (omega (arith, below.0)) in
       let number = constant-known f.known f.excluded ns cond.other.0 plain.number
       (h.rest cond.other.0 below.1) plain.other in
@@ -76,8 +48,7 @@ module _ (f : FactsView) (ns : List Node) (cond : Cond) (h : AreResting f.known 
       let value : value_of ns d cond.other.0 ≡ plain.number
       = value-constant ns d cond.other.0 plain.number h.pool below.1 plain.other in
       let a : Known = (assumed_of f.known cond).node in
-      let left : Admits a x = narrower-admits a (known_at new cond.node.0) x
-      (IsNarrower-trans a c.pair.node (known_at new cond.node.0) n.1 (left-known new ex c)) now.admitted in
+      let left : Admits a x = narrower-admits a (known_at new cond.node.0) x (told-known new ex g) now.admitted in
       let own = (before cond.node.0 lv).admitted in
       passes-met ns d cond (rw (value, ← number.0) (test-exact cond.test cond.sense v w x
       (closed.each cond.node.0 below.0) (closed.each cond.other.0 below.1) dw
@@ -99,22 +70,27 @@ module _ (f : FactsView) (ns : List Node) (cond : Cond) (h : AreResting f.known 
       how n e k kept dw is = elim k [ ]
 
   -- what they know once they learn it by the rules
-  pub learns-narrowed : (new : FactsView) → LearnsBy f new ns cond → IsNarrowed f.known new.known new.excluded ns
+  learns-narrowed : (new : FactsView) → LearnsBy f new ns cond → IsNarrowed f.known new.known new.excluded ns
   learns-narrowed new g = (condition-lawful f.known new.excluded ns cond h.pool
-      (resting-closed f.known f.excluded ns h) below).narrowed (Some new.known) g.known
+      (covers-closed f ns h) below).narrowed (Some new.known) g.known
 
-  pub learns-rest : (new : FactsView) → LearnsBy f new ns cond → AreResting new.known new.excluded ns
-  learns-rest new g = record {
-    pool = h.pool;
-    count = (learns-narrowed new g).closed.count;
-    rest = condition-rest f.known new.excluded ns cond (Some new.known) g.known;
-  }
+  pub learns-covers : (new : FactsView) → LearnsBy f new ns cond → Covers new ns
+  learns-covers new by =
+      let n = learns-narrowed new by in
+      record {
+        pool = h.pool;
+        count = n.closed.count;
+        words = by.excluded.words ∙ h.words;
+        rest = condition-rest f.known new.excluded ns cond (Some new.known) by.known;
+        fixed = rw by.variables
+            (still-fixed f.variables f.known new.known new.excluded ns h.pool (covers-closed f ns h) n h.fixed);
+      }
 
   -- an input that agreed and meets the condition agrees then
   pub learns-keeps : (new : FactsView) → LearnsBy f new ns cond → KeepsInputs f new ns (Meets ns cond)
   unfolding Agrees
   learns-keeps new g d i a m =
-      let closed = resting-closed f.known f.excluded ns h in
+      let closed = covers-closed f ns h in
       (condition-lawful f.known new.excluded ns cond h.pool closed below).sound d i m
       (excluding-keeps f.known f.excluded new.excluded ns cond d h.pool h.count below g.excluded m a) (Some new.known)
       g.known
@@ -133,40 +109,19 @@ module _ (f : FactsView) (ns : List Node) (cond : Cond) (h : AreResting f.known 
   pub cant-learn : CantLearn f ns cond → NoInput f ns (Meets ns cond)
   unfolding Agrees
   cant-learn c d i a m =
-      (condition-lawful f.known c.sets ns cond h.pool (resting-closed f.known f.excluded ns h) below).sound d i m
+      (condition-lawful f.known c.sets ns cond h.pool (covers-closed f ns h) below).sound d i m
       (excluding-keeps f.known f.excluded c.sets ns cond d h.pool h.count below c.excluded m a) None c.none
 
--- Facts of a pool that learn a condition by the rules learn it.
-module _ (f : FactsView) (ns : List Node) (cond : Cond) (h : Covers f ns) (below : IsCondBelow (length ns) cond) where
-  pub learns-covers : (new : FactsView) → LearnsBy f new ns cond → Covers new ns
-  learns-covers new by =
-      let resting = covers-resting f ns h in
-      let n = learns-narrowed f ns cond resting below new by in
-      let rest = learns-rest f ns cond resting below new by in
-      record {
-        pool = h.pool;
-        count = rest.count;
-        words = by.excluded.words ∙ h.words;
-        rest = rest.rest;
-        fixed = rw by.variables
-            (still-fixed f.variables f.known new.known new.excluded ns h.pool (covers-closed f ns h) n h.fixed);
-      }
-
+  -- facts that learn it by the rules learn it
   pub learns : (new : FactsView) → Covers new ns → LearnsBy f new ns cond → Learns f new ns cond
-  learns new covers g =
-      let resting = covers-resting f ns h in
-      let only = learns-only f ns cond resting below new g in
-      record {
-        covers = covers;
-        narrower = record {
-          known = (learns-narrowed f ns cond resting below new g).narrower;
-          excluded = g.excluded.kept;
-        };
-        keeps = learns-keeps f ns cond resting below new g;
-        only = only;
-        some = λ plain. some-such f new ns (Meets ns cond) covers (only plain);
-        decided = decides f ns cond resting below new.known new.excluded g.known;
-      }
+  learns new covers g = record {
+    covers = covers;
+    narrower = record { known = (learns-narrowed new g).narrower; excluded = g.excluded.kept };
+    keeps = learns-keeps new g;
+    only = learns-only new g;
+    some = λ plain. some-such f new ns (Meets ns cond) covers (learns-only new g plain);
+    decided = decides new.known new.excluded g.known;
+  }
 
 -- Facts of a pool take in more of a word.
 module _ (f : FactsView) (ns : List Node) (w : ℕ) (more : Known) (h : Covers f ns) (l : w < 16)

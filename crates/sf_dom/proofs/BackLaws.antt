@@ -1,30 +1,27 @@
 -- That known bits go back from a node is a lawful step.
-use Rattle.sf_dom.proofs.Common.{◌≡◌, ℕ, zero, suc, ◌<◌, ◌^◌, ◌-◌, List, length, set, arith, refl, sym, ◌∙◌, ◌⊎◌, inl, inr, or_lt, and_lt, Option, Some, None, bit_and, set-get_or, apply, BinOp, Or, And, Xor, IsPool, node_at, value_of, IsSwappable, constant_operand_of, Node, Known, Admits, HasBits, IsNarrower, known_of, AreBitsOf, known_at, IsClosed, IsClosedAt, AreClosed, with_bits, gained, WritingGives, GoingBackGivesIn, GoingBackGives, IsPropagatedBack, HandsOn, common_steps, Then}
-use Rattle.sf_dom.proofs.RuleLaws.{again, four-same}
+use Rattle.sf_dom.proofs.Common.{◌≡◌, ℕ, zero, suc, ◌<◌, ◌^◌, ◌-◌, List, length, set, arith, refl, ◌⊎◌, inl, inr, or_lt, and_lt, Option, Some, None, bit_and, set-get_or, apply, BinOp, Or, And, Xor, IsPool, node_at, value_of, IsSwappable, constant_operand_of, Node, Known, Admits, HasBits, IsNarrower, known_of, known_at, IsClosed, IsClosedAt, AreClosed, with_bits, gained, WritingGives, GoingBackGivesIn, GoingBackGives, IsPropagatedBack, common_steps, Then}
+use Rattle.sf_dom.proofs.RuleLaws.{again}
 use Rattle.sf_dom.proofs.ConstantOperands.{IsOperand, is-operand}
-use Rattle.sf_dom.proofs.Bits.{join-bits, bits-of-or, backward-and, backward-or, backward-xor, bits-of-or_right, or-same}
+use Rattle.sf_dom.proofs.Bits.{join-bits, bits-of-or, backward-and, backward-or, backward-xor}
 use Rattle.sf_dom.proofs.Lawful.{IsLawful, AnyInput, narrowed-refl, writing-lawful, closed-zeros, closed-ones, then-lawful}
 use Rattle.sf_dom.proofs.Reductions.{IsNarrower-refl}
 
 -- ---- known bits that go back from a node to its operands
 
--- what is propagated back from an operand that has its node's bits is propagated back from the node
+-- where an operand gains nothing, what is propagated back from it is propagated back from its node
 pub back-step : (ks : List Known) (ns : List Node) (at x c : ℕ) (op : BinOp)
-    → constant_operand_of ns (node_at ns at) ≡ Some (op, x, c) → HandsOn op c (known_at ks at) (known_at ks x)
-    → ((n : ℕ) → IsPropagatedBack n ks ns x) → (n : ℕ) → IsPropagatedBack n ks ns at
+    → constant_operand_of ns (node_at ns at) ≡ Some (op, x, c)
+    → gained op c (known_at ks at) (known_at ks x) ≡ known_at ks x → ((n : ℕ) → IsPropagatedBack n ks ns x) → (n : ℕ)
+    → IsPropagatedBack n ks ns at
 back-step ks ns at x c op e h more zero = tt
 back-step ks ns at x c op e h more (suc n) = rw e (λ s. (h, more n))
 
--- the other way round: where bits have gone back from a node, its operand has them, and they have gone back from there
-pub back-hands : (ks : List Known) (ns : List Node) (at x c : ℕ) (op : BinOp)
-    → constant_operand_of ns (node_at ns at) ≡ Some (op, x, c) → IsSwappable op
-    → ((n : ℕ) → IsPropagatedBack n ks ns at) → HandsOn op c (known_at ks at) (known_at ks x)
-back-hands ks ns at x c op e s h = ((rw e at (h 1)) s).0
-
+-- where bits have gone back from a node, its operand gains nothing, and they have gone back from it
 pub back-on : (ks : List Known) (ns : List Node) (at x c : ℕ) (op : BinOp)
     → constant_operand_of ns (node_at ns at) ≡ Some (op, x, c) → IsSwappable op
-    → ((n : ℕ) → IsPropagatedBack n ks ns at) → (n : ℕ) → IsPropagatedBack n ks ns x
-back-on ks ns at x c op e s h n = ((rw e at (h (suc n))) s).1
+    → ((n : ℕ) → IsPropagatedBack n ks ns at) → (n : ℕ)
+    → (gained op c (known_at ks at) (known_at ks x) ≡ known_at ks x) × IsPropagatedBack n ks ns x
+back-on ks ns at x c op e s h n = (rw e at (h (suc n))) s
 
 -- backward propagation ends at a node of which not exactly one operand is a constant
 pub goes_back-end : (ks : List Known) (ns : List Node) (at : ℕ) → constant_operand_of ns (node_at ns at) ≡ None
@@ -38,25 +35,6 @@ pub goes_back-other : (ks : List Known) (ns : List Node) (at x c : ℕ) (op : Bi
     → ¬ IsSwappable op → (n : ℕ) → IsPropagatedBack n ks ns at
 goes_back-other ks ns at x c op e never zero = tt
 goes_back-other ks ns at x c op e never (suc n) = rw e (λ s. absurd (never s))
-
--- where the bits of a node are known of its operand, the operand gains nothing
-bits-same : (k : Known) (z o : ℕ) → AreBitsOf z k.zeros → AreBitsOf o k.ones → with_bits k z o ≡ k
-bits-same k z o a b =
-    four-same k.low k.high _ _ k.low k.high k.zeros k.ones refl refl (or-same k.zeros z a) (or-same k.ones o b)
-
-pub gained-same : (op : BinOp) (c : ℕ) (node x : Known) → HandsOn op c node x → gained op c node x ≡ x
-gained-same Xor c node x h = bits-same x _ _ h.0 h.1
-gained-same op c node x h = grind (arith, common_steps, bits-same)
-
--- and the other way round
-same-bits : (k : Known) (z o : ℕ) → with_bits k z o ≡ k → AreBitsOf z k.zeros × AreBitsOf o k.ones
-same-bits k z o e = grind (arith, common_steps, bits-of-or_right)
-
-pub gained-hands : (op : BinOp) (c : ℕ) (node x : Known) → gained op c node x ≡ x → HandsOn op c node x
-gained-hands Or c node x e = same-bits x _ _ e
-gained-hands And c node x e = same-bits x _ _ e
-gained-hands Xor c node x e = same-bits x _ _ e
-gained-hands op c node x e = tt
 
 more-bits : (k : Known) (z o : ℕ) → IsNarrower k (with_bits k z o)
 more-bits k z o = grind (arith, common_steps, bits-of-or)
@@ -121,8 +99,9 @@ back-in (suc n) ks ex ns at p h l =
         (λ next s. GoingBackGivesIn n next ex ns o.1 s))
     on more o e s =
         let is = is-operand ns at o p l e in let older = is.older in
-        then-lawful AnyInput ks ex ns (WritingGives ks ex o.1 (gained o.0 o.2 (known_at ks at) (known_at ks o.1)))
-        (λ next s. GoingBackGivesIn n next ex ns o.1 s) h (step-lawful ks ex ns at o p h l s is)
+        then-lawful AnyInput AnyInput ks ex ns
+        (WritingGives ks ex o.1 (gained o.0 o.2 (known_at ks at) (known_at ks o.1)))
+        (λ next s. GoingBackGivesIn n next ex ns o.1 s) h (λ d t a. tt) (step-lawful ks ex ns at o p h l s is)
         (λ next k. more next k o.1 (omega arith))
 
 -- that known bits go back from a node is a lawful step
@@ -133,53 +112,44 @@ back-lawful ks ex ns at p h l = record {
   sound = λ d i t a r w. (back-in w.0 ks ex ns at p h l).sound d i t a r w.1;
 }
 
-some-or-none : (o : Option (BinOp × ℕ × ℕ)) → (o ≡ None) ⊎ ((p : BinOp × ℕ × ℕ) × (o ≡ Some p))
-some-or-none None = inl refl
-some-or-none (Some p) = inr (p, refl)
-
 is-swappable : (op : BinOp) → IsSwappable op ⊎ ¬ IsSwappable op
 is-swappable Or = inl tt
 is-swappable And = inl tt
 is-swappable Xor = inl tt
 is-swappable op = inr (λ s. s)
 
--- where the bits of a node are known of its operand, and so on, going back changes nothing
+-- known bits go on, or they end
+goes-or-ends : (o : Option (BinOp × ℕ × ℕ)) → ((p : BinOp × ℕ × ℕ) × (o ≡ Some p) × IsSwappable p.0)
+    ⊎ ((p : BinOp × ℕ × ℕ) → o ≡ Some p → ¬ IsSwappable p.0)
+goes-or-ends None = inr (λ p e s. let clash : None ≡ Some p = e in absurd cc)
+goes-or-ends (Some o) = elim (is-swappable o.0) [
+  | inl swap ↦ inl (o, refl, swap)
+  | inr never ↦ inr (λ p e s. let clash : Some o ≡ Some p = e in let same : o ≡ p = cc in never (rw same s))
+]
+
+-- where its operand gains nothing, and so on, going back from a node changes nothing
 pub back-still : (m : ℕ) (ks : List Known) (ex : List ℕ) (ns : List Node) (at : ℕ) → IsPool ns → at < m
     → at < length ns → ((i : ℕ) → i < length ns → IsClosedAt ex i (known_at ks i))
     → ((n : ℕ) → IsPropagatedBack n ks ns at) → GoingBackGives ks ex ns at (Some ks)
 back-still zero ks ex ns at p l li closed back = absurd (omega arith)
-back-still (suc m) ks ex ns at p l li closed back = elim (some-or-none (constant_operand_of ns (node_at ns at))) [
-  | inl none ↦ (0, ((λ o e s. let clash : None ≡ Some o = sym none ∙ e in absurd cc), refl))
-  | inr q ↦
-      let o = q.0 in let e = q.1 in
-      elim (is-swappable o.0) [
-        | inr never ↦ (
-          0,
+back-still (suc m) ks ex ns at p l li closed back = elim (goes-or-ends (constant_operand_of ns (node_at ns at))) [
+  | inr ends ↦ (0, (ends, refl))
+  | inl q ↦
+      let o = q.0 in let e = q.1 in let swap = q.2 in
+      let older = (is-operand ns at o p li e).older in
+      let on = back-on ks ns at o.1 o.2 o.0 e swap back in
+      let rest = back-still m ks ex ns o.1 p (omega arith) (omega arith) closed (λ n. (on n).1) in
+      let left = again (IsClosedAt ex o.1) (known_at ks o.1) (closed o.1 (omega arith)) in (
+        suc rest.0,
+        (
+          o,
+          e,
+          swap,
           (
-            (λ r f s.
-                let clash : Some o ≡ Some r = sym e ∙ f in
-                let same : o ≡ r = cc in never (rw (← same) at s)),
-            refl,
+            Some (set ks o.1 (known_at ks o.1)),
+            (Some (known_at ks o.1), rw (on 0).0 left, refl),
+            rw (set-get_or ks o.1 (known_of 0 0 0 0)) rest.1,
           ),
-        )
-        | inl swap ↦
-            let older = (is-operand ns at o p li e).older in
-            let hands = back-hands ks ns at o.1 o.2 o.0 e swap back in
-            let same = gained-same o.0 o.2 (known_at ks at) (known_at ks o.1) hands in
-            let rest = back-still m ks ex ns o.1 p (omega arith) (omega arith) closed
-            (back-on ks ns at o.1 o.2 o.0 e swap back) in
-            let left = again (IsClosedAt ex o.1) (known_at ks o.1) (closed o.1 (omega arith)) in (
-              suc rest.0,
-              (
-                o,
-                e,
-                swap,
-                (
-                  Some (set ks o.1 (known_at ks o.1)),
-                  (Some (known_at ks o.1), rw same left, refl),
-                  rw (set-get_or ks o.1 (known_of 0 0 0 0)) rest.1,
-                ),
-              ),
-            )
-      ]
+        ),
+      )
 ]

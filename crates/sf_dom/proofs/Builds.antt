@@ -1,9 +1,7 @@
 -- Facts of conditions, which are learnt one after the other.
-use Rattle.sf_dom.proofs.Common.{ℕ, ◌+◌, ◌<◌, List, [], ◌∷◌, ◌++◌, length, get_or, take, drop, arith, refl, sym, ap, subst, take_more, All-nil, All-cons, All-head, All-tail, All-contains, Contains-append_right, All, IsInput, Input, IsPool, IsCondBelow, Cond, Node, FactsView, Covers, Agrees, IsPlainCondition, some-input, StartsBy, LearnsBy, CantLearn, LearnAll, AreBuiltBy, CantBeBuilt, Meets, AllMet, AreFactsOf, common_steps, ◌∙◌, take-append-drop, drop_more}
-use Rattle.sf_dom.proofs.Assumed.{learns-rest, learns-keeps, learns-only, cant-learn}
-use Rattle.sf_dom.proofs.Covering.{AreResting}
-use Rattle.sf_dom.proofs.NewNodes.{taken-rest}
-use Rattle.sf_dom.proofs.Sampled.{first-sound}
+use Rattle.sf_dom.proofs.Common.{ℕ, ◌+◌, ◌<◌, List, [], ◌∷◌, ◌++◌, length, get_or, take, drop, arith, refl, sym, ap, subst, take_more, All-nil, All-cons, All-head, All-tail, All-contains, Contains-append_right, All, IsInput, Input, IsPool, IsCondBelow, Cond, Node, FactsView, Covers, Agrees, IsPlainCondition, some-input, LearnsBy, CantLearn, LearnAll, AreBuiltBy, CantBeBuilt, Meets, AllMet, AreFactsOf, ◌∙◌, take-append-drop, drop_more}
+use Rattle.sf_dom.proofs.Assumed.{learns-covers, learns-keeps, learns-only, cant-learn}
+use Rattle.sf_dom.proofs.Sampled.{first-covers, first-sound}
 
 -- one more condition is learnt
 learn-more : (a b c : FactsView) (ns : List Node) (conds : List Cond) (cond : Cond) → LearnAll a b ns conds
@@ -30,34 +28,26 @@ none-built xs i d f ns l h none = record {
   none = none;
 }
 
--- nothing more follows for facts at first
-first-rests : (f : FactsView) (ns : List Node) → IsPool ns → StartsBy f ns → AreResting f.known f.excluded ns
-first-rests f ns p h = grind (arith, common_steps, taken-rest)
-
--- and each input agrees with them
-first-agrees : (f : FactsView) (ns : List Node) → IsPool ns → StartsBy f ns → (d : Input) → IsInput d → Agrees f ns d
-first-agrees f ns p h d i = first-sound f.excluded ns p h.excluded f.variables f.known h.known d i
-
--- Facts that have learnt conditions: nothing more follows. An input that agreed and meets them all agrees; where all
+-- Facts of a pool that have learnt conditions. An input that agreed and meets them all agrees; where all
 -- are plain, no other input does.
 record HaveLearnt (f g : FactsView) (ns : List Node) (conds : List Cond) : Type 0 where
-  rest : AreResting g.known g.excluded ns
+  covers : Covers g ns
   keep : (d : Input) → IsInput d → AllMet ns conds d → Agrees f ns d → Agrees g ns d
   only : All (IsPlainCondition ns) conds → (d : Input) → IsInput d → Agrees g ns d → Agrees f ns d × AllMet ns conds d
 
-have-learnt : (f g : FactsView) (ns : List Node) (conds : List Cond) → AreResting f.known f.excluded ns
+have-learnt : (f g : FactsView) (ns : List Node) (conds : List Cond) → Covers f ns
     → All (IsCondBelow (length ns)) conds → LearnAll f g ns conds → HaveLearnt f g ns conds
 have-learnt f g ns [] h below e = subst (λ (k : FactsView). HaveLearnt f k ns []) e (record {
-  rest = h;
+  covers = h;
   keep = λ d i m a. a;
   only = λ plain d i a. (a, All-nil (λ (x : Cond). Meets ns x d));
 })
 have-learnt f g ns (c ∷ cs) h below k =
     let first = All-head (IsCondBelow (length ns)) c cs below in
-    let later = have-learnt k.0 g ns cs (learns-rest f ns c h first k.0 k.1)
+    let later = have-learnt k.0 g ns cs (learns-covers f ns c h first k.0 k.1)
     (All-tail (IsCondBelow (length ns)) c cs below) k.2 in
     record {
-      rest = later.rest;
+      covers = later.covers;
       keep = λ d i m a. later.keep d i (All-tail (λ (x : Cond). Meets ns x d) c cs m)
           (learns-keeps f ns c h first k.0 k.1 d i a (All-head (λ (x : Cond). Meets ns x d) c cs m));
       only = λ plain d i a.
@@ -70,12 +60,12 @@ have-learnt f g ns (c ∷ cs) h below k =
 pub built-facts : (f : FactsView) (ns : List Node) (conds : List Cond) → Covers f ns
     → All (IsCondBelow (length ns)) conds → AreBuiltBy f ns conds → AreFactsOf f ns conds
 built-facts f ns conds covers below h =
-    let learnt = have-learnt h.0 f ns conds (first-rests h.0 ns covers.pool h.1) below h.2 in
+    let learnt = have-learnt h.0 f ns conds (first-covers h.0 ns covers.pool h.1) below h.2 in
     let only : All (IsPlainCondition ns) conds → (d : Input) → IsInput d → Agrees f ns d → AllMet ns conds d
     = λ plain d i a. (learnt.only plain d i a).1 in
     record {
       covers = covers;
-      keeps = λ d i m. learnt.keep d i m (first-agrees h.0 ns covers.pool h.1 d i);
+      keeps = λ d i m. learnt.keep d i m (first-sound h.0 ns covers.pool h.1 d i);
       only = only;
       some = λ plain nodes. let s = some-input f ns covers nodes in (s.0, s.1, only plain s.0 s.1 s.2);
     }
@@ -86,10 +76,10 @@ pub none-meets-all : (ns : List Node) (conds : List Cond) → IsPool ns → All 
 none-meets-all ns conds p below h d i m =
     let met : (x : Cond) → Type 0 = λ x. Meets ns x d in
     let first = h.built.0 in let all = rw h.all at below in let meets = rw h.all at m in
-    let learnt = have-learnt first h.before ns h.earlier (first-rests first ns p h.built.1)
+    let learnt = have-learnt first h.before ns h.earlier (first-covers first ns p h.built.1)
     (before (IsCondBelow (length ns)) h.earlier (h.cond ∷ h.later) all) h.built.2 in
-    cant-learn h.before ns h.cond learnt.rest (here (IsCondBelow (length ns)) all) h.none d i
-    (learnt.keep d i (before met h.earlier (h.cond ∷ h.later) meets) (first-agrees first ns p h.built.1 d i))
+    cant-learn h.before ns h.cond learnt.covers (here (IsCondBelow (length ns)) all) h.none d i
+    (learnt.keep d i (before met h.earlier (h.cond ∷ h.later) meets) (first-sound first ns p h.built.1 d i))
     (here met meets)
   where
     before : (P : Cond → Type 0) (xs ys : List Cond) → All P (xs ++ ys) → All P xs

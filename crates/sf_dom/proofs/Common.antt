@@ -22,17 +22,17 @@ pub use Rattle.std.specs.Ordering.{nat_cmp}
 pub use Rattle.std.specs.Prelude.{All, Contains, Err, IfOk, IfSome, MatchBool, MatchOption, None, Ok, Option, Result, Some, bit_and, bit_or, bit_xor, if◌then◌else◌, replicate, slice_index, ◌&&◌, ◌==◌}
 pub use Rattle.std.specs.Result.{result_ok}
 pub use Rattle.sf_dom.specs.Ascending.{AreAscending, set_of, shared_items}
-pub use Rattle.sf_dom.specs.Backward.{HandsOn, IsPropagatedBack}
+pub use Rattle.sf_dom.specs.Backward.{IsPropagatedBack}
 pub use Rattle.sf_dom.specs.Facts.{AgreesWith, AreFacts, ConfinesWord, Covers, DecidesTest, FactsView, HasIn, HasMasked, IsPlainCondition, IsPlainTest, IsWordOrConst, KeepsInputs, KeepsOnly, LiesIn, NoInput, NoneAgrees, TakesIn, excluded_of, known_at, numbers_at}
 unfoldable pub use Rattle.sf_dom.specs.Facts.{Agrees}
 pub use Rattle.sf_dom.specs.GoingBack.{GoingBackGives, GoingBackGivesIn, WritingGives, gained, with_bits}
 pub use Rattle.sf_dom.specs.Known.{Admits, AreBitsOf, Has, HasBits, IsConsistent, IsDecided, IsNarrower, Leaves, is_decided, known_of}
-pub use Rattle.sf_dom.specs.Learning.{AreBuiltBy, AreExcludedBy, CantBeBuilt, CantGrow, CantLearn, CantTakeInBy, ConditionGives, Excludes, GrowsBy, LearnAll, LearnsBy, MoreGives, PairGives, StartsBy, TakesInBy, assumed_of, with_pair}
+pub use Rattle.sf_dom.specs.Learning.{AreBuiltBy, AreExcludedBy, AreLeft, CantBeBuilt, CantGrow, CantLearn, CantTakeInBy, ConditionGives, Excludes, GrowsBy, LearnAll, LearnsBy, MetGives, MoreGives, SpreadingGives, StartsBy, TakesInBy, assumed_of, with_pair}
 pub use Rattle.sf_dom.specs.Nodes.{AreKept, IsLaidOut, NodesView, known_by, places_of, slot_at, slot_known}
-pub use Rattle.sf_dom.specs.Passes.{AreClosed, AreFixed, AreTakenIn, IsAtRest, IsFixedAt, IsPass, IsPassedAt, IsVariableAt, PassFails, PassGives, TakingInFails, TakingInGives, are_all_decided, variables_after, variables_to}
-pub use Rattle.sf_dom.specs.Propagation.{AddsNumber, AllMet, AllNarrower, AreClosedWords, AreConsistent, AreConsistentOperands, AreExcluded, AreFactsOf, IsNarrowed, KeepsFixed, Learns, Meets, TestGives}
+pub use Rattle.sf_dom.specs.Passes.{AreClosed, AreFixed, AreTakenIn, IsAtRest, IsFixedAt, IsPass, IsPassedAt, IsStill, IsVariableAt, PassFails, PassGives, TakingInFails, TakingInGives, are_all_decided, variables_after, variables_to}
+pub use Rattle.sf_dom.specs.Propagation.{AddsNumber, AllMet, AllNarrower, AreClosedWords, AreConsistent, AreConsistentOperands, AreExcluded, AreFactsOf, IsNarrowed, Learns, Meets, TestGives}
 pub use Rattle.sf_dom.specs.Reduction.{AreApart, IsLeadingMask, freedom}
-pub use Rattle.sf_dom.specs.Rules.{HasNoReduction, HasNone, IsClosed, IsClosedAt, IsClosedWord, IsReduction, IsWidest, ReductionGives, Then, between, forward_node, full, masked, met, moved_left, moved_right, none_of, nothing, number_known, past, some_of, where_decided}
+pub use Rattle.sf_dom.specs.Rules.{HasNone, IsClosed, IsClosedAt, IsClosedWord, IsReduction, IsWidest, ReductionGives, Then, between, forward_node, full, masked, met, moved_left, moved_right, none_of, nothing, number_known, past, some_of, where_decided}
 unfoldable pub use Rattle.sf_dom.specs.Rules.{assumed, forward_known, forward_negated}
 pub use Rattle.sf_dom.specs.SoundRules.{AreCarried, AreDecidedOperands, IsForcedCondition, IsForcedTest, KeepsDecided, condition, grown, learnt, started}
 pub use Rattle.sf_dom.specs.Telling.{IsForcedBy, IsOpen}
@@ -50,7 +50,7 @@ pub use Rattle.sf_insn.specs.declared.input.Input.{Input}
 pub use Rattle.sf_insn.specs.declared.ops.BinOp.{BinOp}
 pub use Rattle.sf_insn.specs.declared.ops.BinOp.TheVariants.{Add, And, Div, Lsh, Mul, Or, Rsh, Sub, Xor}
 pub use Rattle.sf_insn.specs.declared.ops.Test.{Test}
-pub use Rattle.sf_insn.specs.declared.ops.Test.TheVariants.{AnyBit, Equal, Greater, GreaterOrEqual}
+pub use Rattle.sf_insn.specs.declared.ops.Test.TheVariants.{AnyBit, Equal}
 pub use Rattle.sf_sym.specs.Operands.{IsSwappable, constant_operand_of, one_constant}
 pub use Rattle.sf_sym.specs.Pool.{ArePlainNodes, Extends, IsCondBelow, IsPool, OperandsBelow, constant_number, node_at, node_value, value_of, values_of}
 pub use Rattle.sf_sym.specs.declared.pool.Cond.{Cond}

@@ -1,5 +1,5 @@
 -- Facts of which nothing more follows cover their pool: constants are known, and so are operations on decided operands.
-use Rattle.sf_dom.proofs.Common.{◌≡◌, ℕ, ◌<◌, ◌≤◌, ◌^◌, ◌+◌, ◌-◌, List, length, arith, ◌⊎◌, inl, inr, Some, BinOp, Add, Sub, Or, And, Xor, IsPool, OperandsBelow, node_at, Node, Bin, Neg, Known, IsNarrower, IsDecided, known_of, FactsView, known_at, Covers, IsAtRest, AreClosed, forward_known, forward_negated, forward_node, IsClosed, IsPropagatedBack, GoingBackGives, KeepsDecided, AreDecidedOperands, closed-consistent, nat_tests}
+use Rattle.sf_dom.proofs.Common.{ℕ, ◌<◌, ◌≤◌, ◌^◌, ◌+◌, ◌-◌, List, length, arith, ◌⊎◌, inl, inr, Some, BinOp, Add, Sub, Or, And, Xor, OperandsBelow, node_at, Node, Bin, Neg, Known, IsNarrower, IsDecided, known_of, FactsView, known_at, Covers, AreClosed, forward_known, forward_negated, forward_node, IsClosed, IsPropagatedBack, GoingBackGives, KeepsDecided, AreDecidedOperands, closed-consistent, nat_tests}
 use Rattle.sf_dom.proofs.BackLaws.{back-still}
 use Rattle.sf_dom.proofs.Bits.{bits-le}
 use Rattle.sf_dom.proofs.forward.ForwardLemmas.{or-forced, and-forced, xor-forced}
@@ -44,19 +44,6 @@ rest-decided ks ns k (Bin op a b) o h d =
 rest-decided ks ns k (Neg a) o h d = negated-forced (known_at ks a.0) (h a.0 o) d
 rest-decided ks ns k n o h d = elim d [ ]
 
--- something is known of each node of a pool, and nothing more follows for any
-pub record AreResting (ks : List Known) (ex : List ℕ) (ns : List Node) : Type 0 where
-  pub pool : IsPool ns
-  pub count : length ks ≡ length ns
-  pub rest : (i : ℕ) → i < length ns → IsAtRest ks ex ns i
-
-pub covers-resting : (f : FactsView) (ns : List Node) → Covers f ns → AreResting f.known f.excluded ns
-covers-resting f ns h = record { pool = h.pool; count = h.count; rest = h.rest }
-
--- what is known is closed
-pub resting-closed : (ks : List Known) (ex : List ℕ) (ns : List Node) → AreResting ks ex ns → AreClosed ks ns
-resting-closed ks ex ns h = record { count = h.count; each = λ i l. (h.rest i l).closed.known }
-
 -- where nothing more follows for any node, operations on decided operands are decided
 pub results-decided : (f : FactsView) (ns : List Node) (i : ℕ) → Covers f ns → i < length ns
     → AreDecidedOperands f.known (node_at ns i) → IsDecided (known_at f.known i)
@@ -67,7 +54,7 @@ results-decided f ns i h l o =
 
 -- what facts of a pool know is closed
 pub covers-closed : (f : FactsView) (ns : List Node) → Covers f ns → AreClosed f.known ns
-covers-closed f ns h = resting-closed f.known f.excluded ns (covers-resting f ns h)
+covers-closed f ns h = record { count = h.count; each = λ i l. (h.rest i l).closed.known }
 
 -- where the bits of a node are known of its operand, and so on, going back from it changes nothing
 pub known-back : (f : FactsView) (ns : List Node) (i : ℕ) → Covers f ns → i < length ns

@@ -101,12 +101,12 @@ writing-lawful has ks ex ns i known p h l narrower fz admits =
     }
 
 -- one lawful step after another is lawful
-pub then-lawful : (has : Input → Type 0) (ks : List Known) (ex : List ℕ) (ns : List Node)
+pub then-lawful : (has later : Input → Type 0) (ks : List Known) (ex : List ℕ) (ns : List Node)
     (first : Option (List Known) → Type 0) (second : List Known → Option (List Known) → Type 0) → AreClosed ks ns
-    → IsLawful has ks ex ns first
-    → ((next : List Known) → AreClosed next ns → IsLawful AnyInput next ex ns (second next))
+    → ((d : Input) → has d → AgreesWith ks ex ns d → later d) → IsLawful has ks ex ns first
+    → ((next : List Known) → AreClosed next ns → IsLawful later next ex ns (second next))
     → IsLawful has ks ex ns (Then first second)
-then-lawful has ks ex ns first second k h g =
+then-lawful has later ks ex ns first second k to h g =
     let step : (next : List Known) → first (Some next) → IsNarrowed ks next ex ns =
     λ next f. h.narrowed (Some next) f in
     record {
@@ -114,5 +114,5 @@ then-lawful has ks ex ns first second k h g =
           let n = step next f in
           IfSome_then r ((g next n.closed).narrowed r s) (λ c. narrowed-trans ks next c ex ns k n));
       sound = λ d v m a. then-some first second (λ next. AgreesWith next ex ns d) (λ next. AgreesWith next ex ns d)
-          (h.sound d v m a) (λ next f b r s. (g next (step next f).closed).sound d v tt b r s);
+          (h.sound d v m a) (λ next f b r s. (g next (step next f).closed).sound d v (to d m a) b r s);
     }

@@ -1,5 +1,5 @@
 -- A forward pass is a lawful step, and after it nothing more follows for any node.
-use Rattle.sf_dom.proofs.Common.{ℕ, ◌<◌, ◌≤◌, ◌^◌, ◌-◌, ◌*◌, ◌/◌, ◌%◌, List, length, arith, or_lt, pow_pos, pow-lt, div-le_self, and_lt, Option, Some, None, MatchOption, IfSome, bit_and, bit_or, slice_index, IsInput, Input, BinOp, Or, And, Lsh, Rsh, Xor, IsPool, OperandsBelow, node_at, node_value, values_of, value_of, value-node, Node, Const, Word, Bin, Neg, Known, Admits, known_at, AgreesWith, moved_left, moved_right, met, forward_known, forward_negated, forward_node, IsClosed, IsPassedAt, PassGives, IsAtRest, AreClosed, IsNarrowed, constant-admits, common_steps, nat_tests, value-small}
+use Rattle.sf_dom.proofs.Common.{ℕ, ◌<◌, ◌≤◌, ◌^◌, ◌-◌, ◌*◌, ◌/◌, ◌%◌, List, length, arith, or_lt, pow_pos, pow-lt, div-le_self, and_lt, Option, Some, None, MatchOption, IfSome, bit_and, bit_or, slice_index, IsInput, Input, BinOp, Or, And, Lsh, Rsh, Xor, IsPool, OperandsBelow, node_at, node_value, values_of, value_of, value-node, Node, Const, Word, Bin, Neg, Known, Admits, known_at, AgreesWith, moved_left, moved_right, met, forward_known, forward_negated, forward_node, IsClosed, ReductionGives, IsPassedAt, PassGives, IsAtRest, AreClosed, IsNarrowed, constant-admits, common_steps, nat_tests, value-small}
 use Rattle.sf_dom.proofs.Lawful.{IsLawful, AnyInput, met-admits, closed-zeros, closed-ones, kept-at, reduction-holds}
 use Rattle.sf_dom.proofs.Passes.{operands-below, met-left, met-right}
 use Rattle.sf_dom.proofs.Reductions.{IsNarrower-trans}
@@ -51,50 +51,39 @@ follows ks d vs k (Neg a) i o closed h =
     let ca = closed a.0 o in
     (negate-sound (known_at ks a.0) (slice_index vs a.0) ca.fits (h a.0 o), negated-fits (known_at ks a.0))
 
--- what a pass meets of a node admits its value
-met-holds : (old new : List Known) (ex : List ℕ) (ns : List Node) (d : Input) (k : ℕ) → IsPool ns
-    → AreClosed old ns → IsInput d → AgreesWith old ex ns d → k < length ns
-    → ((j : ℕ) → j < k → IsClosed (known_at new j)) → ((j : ℕ) → j < k → Admits (known_at new j) (value_of ns d j))
-    → Admits (met (known_at old k) (forward_node new (node_at ns k))) (value_of ns d k)
-    × ((met (known_at old k) (forward_node new (node_at ns k))).zeros < 2 ^ 32)
-met-holds old new ex ns d k p h i a l closed older =
-    let f = follows new d (values_of ns d) k (node_at ns k) i (operands-below ns k p l) closed older in
-    let own : Known = known_at old k in
-    let rule : Known = forward_node new (node_at ns k) in (
-      met-admits own rule (value_of ns d k) (a k (omega arith)).admitted (rw (value-node ns d k p l) f.0),
-      or_lt 32 own.zeros rule.zeros (closed-zeros own (h.each k l)) f.1,
-    )
+-- A forward pass from what is known of a pool's nodes, where an input agrees.
+module _ (old : List Known) (ex : List ℕ) (ns : List Node) (d : Input) (p : IsPool ns) (h : AreClosed old ns)
+    (i : IsInput d) (a : AgreesWith old ex ns d) where
+  -- what it leaves of a node admits its value
+  leaves-value : (new : List Known) (k : ℕ) → k < length ns → ((j : ℕ) → j < k → IsClosed (known_at new j))
+      → ((j : ℕ) → j < k → Admits (known_at new j) (value_of ns d j)) → (o : Option Known)
+      → ReductionGives ex k (met (known_at old k) (forward_node new (node_at ns k))) o
+      → MatchOption o ⊥ (λ r. Admits r (value_of ns d k))
+  leaves-value new k l closed older o g =
+      let f = follows new d (values_of ns d) k (node_at ns k) i (operands-below ns k p l) closed older in
+      let own : Known = known_at old k in let rule : Known = forward_node new (node_at ns k) in
+      let here : k < length old = omega (arith, h.count, l) in
+      reduction-holds o ex k (value_of ns d k) (met own rule) (value-small ns d k p i)
+      (or_lt 32 own.zeros rule.zeros (closed-zeros own (h.each k l)) f.1) (λ b. kept-at old ex ns d k p here a b)
+      (met-admits own rule (value_of ns d k) (a k here).admitted (rw (value-node ns d k p l) f.0)) g
 
--- what a pass leaves of a node admits its value
-passed-holds : (old new : List Known) (ex : List ℕ) (ns : List Node) (d : Input) → IsPool ns
-    → AreClosed old ns → IsInput d → AgreesWith old ex ns d → (m : ℕ) → m ≤ length ns
-    → ((k : ℕ) → k < m → IsPassedAt old new ex ns k) → (k : ℕ) → k < m → Admits (known_at new k) (value_of ns d k)
-passed-holds old new ex ns d p h i a m lm passed =
-    let count = h.count in
-    by-older (λ k. Admits (known_at new k) (value_of ns d k)) m (λ k lk older.
-    let l : k < length ns = omega arith in
-    let both = met-holds old new ex ns d k p h i a l (λ j s. (passed j (omega arith)).is.known) older in
-    reduction-holds (Some (known_at new k)) ex k (value_of ns d k) (met (known_at old k) (forward_node new
-    (node_at ns k))) (value-small ns d k p i) both.1 (λ b. kept-at old ex ns d k p (omega arith) a b) both.0
-    (passed k lk))
+  passed-holds : (new : List Known) (m : ℕ) → m ≤ length ns → ((k : ℕ) → k < m → IsPassedAt old new ex ns k)
+      → (k : ℕ) → k < m → Admits (known_at new k) (value_of ns d k)
+  passed-holds new m lm passed = by-older (λ k. Admits (known_at new k) (value_of ns d k)) m (λ k lk older.
+      leaves-value new k (omega arith) (λ j s. (passed j (omega arith)).is.known) older (Some (known_at new k))
+      (passed k lk))
 
-pass-sound : (old : List Known) (ex : List ℕ) (ns : List Node) (d : Input) → IsPool ns
-    → AreClosed old ns → IsInput d → AgreesWith old ex ns d → (r : Option (List Known)) → PassGives old ex ns r
-    → MatchOption r ⊥ (λ next. AgreesWith next ex ns d)
-pass-sound old ex ns d p h i a (Some new) w =
-    let count = h.count in let after = w.count in
-    λ k l. record {
-      admitted = passed-holds old new ex ns d p h i a (length ns) (omega arith) w.each k (omega arith);
-      kept = (a k (omega arith)).kept;
-    }
-pass-sound old ex ns d p h i a None w =
-    let count = h.count in let within = w.within in let own : Known = known_at old w.place in
-    let rule : Known = forward_node w.new (node_at ns w.place) in
-    let older = passed-holds old w.new ex ns d p h i a w.place (omega arith) w.before in
-    let both = met-holds old w.new ex ns d w.place p h i a within (λ j s. (w.before j s).is.known) older in
-    reduction-holds None ex w.place (value_of ns d w.place) (met own rule)
-    (value-small ns d w.place p i) both.1 (λ b. kept-at old ex ns d w.place p (omega arith) a b) both.0
-    w.none
+  pass-sound : (r : Option (List Known)) → PassGives old ex ns r → MatchOption r ⊥ (λ next. AgreesWith next ex ns d)
+  pass-sound (Some new) w =
+      let count = h.count in let after = w.count in
+      λ k l. record {
+        admitted = passed-holds new (length ns) (omega arith) w.each k (omega arith);
+        kept = (a k (omega arith)).kept;
+      }
+  pass-sound None w =
+      let within = w.within in
+      leaves-value w.new w.place within (λ j s. (w.before j s).is.known)
+      (passed-holds w.new w.place (omega arith) w.before) None w.none
 
 pass-narrowed : (old : List Known) (ex : List ℕ) (ns : List Node) → IsPool ns → AreClosed old ns
     → (r : Option (List Known)) → PassGives old ex ns r → IfSome r (λ next. IsNarrowed old next ex ns)
@@ -104,7 +93,10 @@ pass-narrowed old ex ns p h (Some new) w = grind (arith, common_steps, met-left,
 -- a forward pass is a lawful step
 pub pass-lawful : (ks : List Known) (ex : List ℕ) (ns : List Node) → IsPool ns → AreClosed ks ns
     → IsLawful AnyInput ks ex ns (PassGives ks ex ns)
-pass-lawful ks ex ns p h = grind (arith, common_steps, pass-sound, pass-narrowed)
+pass-lawful ks ex ns p h = record {
+  narrowed = pass-narrowed ks ex ns p h;
+  sound = λ d i t a. pass-sound ks ex ns d p h i a;
+}
 
 -- what a pass gives is at rest
 pub pass-rest : (ks : List Known) (ex : List ℕ) (ns : List Node) (r : Option (List Known)) → PassGives ks ex ns r

@@ -1,5 +1,5 @@
 -- What stays as it is in a forward pass, and what a pass leaves.
-use Rattle.sf_dom.proofs.Common.{◌≡◌, ℕ, true, ◌+◌, ◌-◌, ◌<◌, ◌≤◌, List, length, arith, refl, sym, ap, ◌∙◌, ◌⊎◌, inl, inr, Option, Some, None, MatchOption, and_parts, eqb-true, ext_get_or, bit_at_or, bit_at-zero, IsPool, OperandsBelow, node_at, Node, Const, Word, Bin, Neg, OperandsBelow-at, Known, Has, IsNarrower, IsConsistent, IsDecided, known_of, known_at, numbers_at, closed-consistent, met, forward_node, IsClosed, IsClosedAt, IsReduction, HasNoReduction, IsWidest, HasNone, IsPassedAt, IsPass, IsAtRest, are_all_decided, IsFixedAt, AreFixed, common_steps}
+use Rattle.sf_dom.proofs.Common.{◌≡◌, ℕ, true, ◌+◌, ◌-◌, ◌<◌, ◌≤◌, List, length, arith, refl, sym, ap, ◌∙◌, ◌⊎◌, Option, Some, None, MatchOption, and_parts, eqb-true, ext_get_or, bit_at_or, bit_at-zero, IsPool, OperandsBelow, node_at, Node, Const, Word, Bin, Neg, OperandsBelow-at, Known, Has, IsNarrower, IsConsistent, IsDecided, known_of, known_at, numbers_at, closed-consistent, met, forward_node, IsClosed, IsClosedAt, IsReduction, IsWidest, HasNone, IsPassedAt, IsPass, PassFails, IsAtRest, are_all_decided, IsFixedAt, common_steps}
 use Rattle.sf_dom.proofs.Reductions.{IsNarrower-trans, IsNarrower-refl}
 use Rattle.sf_dom.proofs.Bits.{bits-of-or, bits-of-or_right}
 use Rattle.sf_dom.proofs.ClosedLemmas.{closed-number}
@@ -80,18 +80,6 @@ pub fixed-same : (ks js : List Known) (ns : List Node) (i : ℕ) → IsPool ns �
     → IsNarrower (known_at ks i) (known_at js i) → IsFixedAt ks ns i → IsFixedAt js ns i
 fixed-same ks js ns i p l same n f = grind (arith, common_steps, IsNarrower-trans, operands-below, decided-same)
 
--- where more becomes known, each node is a variable still, or no more can become known of it
-pub fixed-narrower : (places : List ℕ) (old new : List Known) (ns : List Node) → IsPool ns
-    → ((i : ℕ) → i < length ns → IsConsistent (known_at old i))
-    → ((i : ℕ) → i < length ns → IsConsistent (known_at new i))
-    → ((i : ℕ) → i < length ns → IsNarrower (known_at old i) (known_at new i)) → AreFixed places old ns
-    → AreFixed places new ns
-fixed-narrower places old new ns p co cn narrower fixed i l = elim (fixed i l) [
-  | inl v ↦ inl v
-  | inr f ↦ inr (fixed-same old new ns i p l (λ j b. number-stays (known_at old j) (known_at new j) (co j (omega arith))
-      (cn j (omega arith)) (narrower j (omega arith))) (narrower i l) f)
-]
-
 -- a node of which no more can become known is at rest
 pub fixed-rest : (ks : List Known) (ex : List ℕ) (ns : List Node) (i : ℕ) → IsConsistent (known_at ks i)
     → 16 ≤ i → IsDecided (known_at ks i) → IsFixedAt ks ns i → IsAtRest ks ex ns i
@@ -137,16 +125,15 @@ one-pass old a b ex ns p h g =
     ext_get_or (known_of 0 0 0 0) a b (h.count ∙ sym g.count)
     (λ k l. same-up_to old a b ex ns p (length ns) (omega arith) h.each g.each k (omega (arith, h.count)))
 
--- where a node is left nothing, there is no pass
-pub pass-none : (old new : List Known) (ex : List ℕ) (ns : List Node) (i : ℕ) → IsPool ns → i < length ns
-    → ((k : ℕ) → k < i → IsPassedAt old new ex ns k)
-    → HasNoReduction ex i (met (known_at old i) (forward_node new (node_at ns i)))
-    → (last : List Known) → ¬ IsPass old last ex ns
-pass-none old new ex ns i p l before none = λ last pass.
-    let older = forward-same last new i (node_at ns i) (operands-below ns i p l)
-    (same-up_to old last new ex ns p i (omega arith) (λ k b. pass.each k (omega arith)) before) in
+-- where a pass fails at a node, there is none
+pub pass-none : (old last : List Known) (ex : List ℕ) (ns : List Node) → IsPool ns → PassFails old ex ns
+    → ¬ IsPass old last ex ns
+pass-none old last ex ns p w pass =
+    let i = w.place in let l = w.within in
+    let older = forward-same last w.new i (node_at ns i) (operands-below ns i p l)
+    (same-up_to old last w.new ex ns p i (omega arith) (λ k b. pass.each k (omega arith)) w.before) in
     let r = rw older at (pass.each i l) in
-    none (known_at last i) r.is r.narrower
+    w.none (known_at last i) r.is r.narrower
 
 -- kinds that are the same have the same reductions
 module _ (kind other : Known → Type 0) (to : (k : Known) → kind k → other k) (from : (k : Known) → other k → kind k)

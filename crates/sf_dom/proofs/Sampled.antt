@@ -1,8 +1,8 @@
 -- What facts say of numbers that are left, and what they are once newer nodes are taken in.
-use Rattle.sf_dom.proofs.Common.{◌≡◌, ◌≢◌, ℕ, zero, suc, ◌<◌, ◌≤◌, ◌^◌, List, [], length, get_or, take, arith, refl, sym, ap, ◌∙◌, inl, inr, cases_lt, get_or-take, get_or_append_left, length-take, slice_index, Option, Some, None, MatchOption, replicate, IsInput, Input, IsPool, node_at, value_of, ArePlainNodes, Extends, value-older, Node, Const, Known, Has, Admits, IsDecided, IsNarrower, FactsView, known_at, numbers_at, AgreesWith, AreFacts, Agrees, Covers, TakesIn, NoneAgrees, narrower-admits, sampled, words-agree, value-word, closed-consistent, constant-known, covers-facts, GrowsBy, CantGrow, IsAtRest, AreTakenIn, TakingInGives, AllNarrower, KeepsFixed, common_steps}
+use Rattle.sf_dom.proofs.Common.{◌≡◌, ◌≢◌, ℕ, zero, suc, ◌<◌, ◌≤◌, ◌^◌, List, [], length, get_or, take, arith, refl, sym, ap, ◌∙◌, inl, inr, cases_lt, get_or-take, get_or_append_left, slice_index, Option, Some, None, MatchOption, replicate, IsInput, Input, IsPool, node_at, value_of, ArePlainNodes, Extends, value-older, Node, Const, Known, Has, Admits, IsDecided, IsNarrower, FactsView, known_at, numbers_at, AgreesWith, AreFacts, Agrees, Covers, TakesIn, NoneAgrees, narrower-admits, sampled, words-agree, value-word, constant-known, covers-facts, StartsBy, GrowsBy, CantGrow, IsAtRest, AreTakenIn, TakingInGives, AllNarrower, common_steps}
 use Rattle.sf_dom.proofs.NewNodes.{taking-sound, taken-rest}
 use Rattle.sf_dom.proofs.Passes.{operands-below, forward-same}
-use Rattle.sf_dom.proofs.propagation.Propagations.{taken-older, taken-consistent}
+use Rattle.sf_dom.proofs.propagation.Propagations.{taken-length, taken-older, taken-fixed, taken-consistent}
 
 -- The number of a node where only one is left: where there is one, where there is none, and how the ends say which.
 pub decided-some : (o : Option ℕ) (k : Known) (n : ℕ) → MatchOption o (¬ IsDecided k) (λ m. IsDecided k × (m ≡ k.low))
@@ -61,38 +61,39 @@ agrees-kept : (old new : List Known) (ex : List ℕ) (ns : List Node) (d : Input
     → length old ≤ length new → AgreesWith new ex ns d → AgreesWith old ex ns d
 agrees-kept old new ex ns d kept le a i l = search (arith, get_or-take)
 
-taken-length : (old new : List Known) → take (length old) new ≡ old → length old ≤ length new
-taken-length old new kept = omega (arith, ap length kept, length-take (length old) new)
-
 -- a node at rest is so in a longer pool, where nothing is known of newer nodes before
 older-rest : (old new : List Known) (ex : List ℕ) (before ns : List Node) (i : ℕ) → IsPool before
     → i < length before → ((j : ℕ) → j ≤ i → known_at old j ≡ known_at new j) → node_at ns i ≡ node_at before i
     → IsAtRest old ex before i → IsAtRest new ex ns i
 older-rest old new ex before ns i p l same node h = grind (arith, common_steps, operands-below, forward-same)
 
+-- where nothing more follows for the older nodes, nothing more follows for any once newer nodes are taken in
+pub grown-rest : (old new : List Known) (ex : List ℕ) (before ns : List Node) → IsPool before
+    → length old ≡ length before → Extends before ns → AreTakenIn old new ex ns
+    → ((i : ℕ) → i < length before → IsAtRest old ex before i) → (i : ℕ) → i < length ns → IsAtRest new ex ns i
+grown-rest old new ex before ns p count longer g rest i l = elim (cases_lt i (length old)) [
+  | inl b ↦ older-rest old new ex before ns i p (omega arith) (λ j c. taken-older old new j g.kept (omega arith))
+      (node-older before ns i longer (omega arith)) (rest i (omega arith))
+  | inr a ↦ taken-rest old new ex ns g i a l
+]
+
 -- facts once newer nodes are taken in
-pub grown-covers : (places more : List ℕ) (old new : List Known) (ex : List ℕ) (before ns : List Node) → IsPool ns
-    → Covers (record { known = old; variables = places; excluded = ex }) before → Extends before ns
-    → AreTakenIn old new ex ns
-    → KeepsFixed (record { known = old; variables = places }) (record { known = new; variables = more }) ns
-    → Covers (record { known = new; variables = more; excluded = ex }) ns
-grown-covers places more old new ex before ns p h longer g fixed =
-    let older : (i : ℕ) → i < length old → node_at ns i ≡ node_at before i =
+pub grown-covers : (f g : FactsView) (before ns : List Node) → IsPool ns → Covers f before → Extends before ns
+    → GrowsBy f g ns → Covers g ns
+grown-covers f g before ns p h longer by =
+    let count = h.count in
+    let older : (i : ℕ) → i < length f.known → node_at ns i ≡ node_at before i =
     λ i l. node-older before ns i longer (omega arith) in
     record {
       pool = p;
-      count = g.count;
-      words = h.words;
-      rest = λ i l. elim (cases_lt i (length old)) [
-        | inl b ↦ older-rest old new ex before ns i h.pool (omega arith)
-            (λ j c. taken-older old new j g.kept (omega arith)) (older i b) (h.rest i (omega arith))
-        | inr a ↦ taken-rest old new ex ns g i a l
-      ];
-      fixed = fixed (λ i l. closed-consistent (known_at old i) (h.rest i (omega arith)).closed.known)
-          (λ i l. elim (h.fixed i (omega arith)) [
+      count = by.known.count;
+      words = ap length by.excluded ∙ h.words;
+      rest = rw by.excluded (grown-rest f.known g.known f.excluded before ns h.pool count longer by.known h.rest);
+      fixed = rw by.variables (taken-fixed f.variables f.known g.known f.excluded ns p by.known (λ i l.
+          elim (h.fixed i (omega arith)) [
             | inl v ↦ inl v
-            | inr f ↦ inr (record { operands = rw (older i l) f.operands; still = rw (older i l) f.still })
-          ]);
+            | inr k ↦ inr (record { operands = rw (older i l) k.operands; still = rw (older i l) k.still })
+          ]));
     }
 
 -- Where the newer nodes of a longer pool are taken in, the inputs that agreed on its beginning agree, and no others;
@@ -147,7 +148,7 @@ no-input = (record { words = replicate 16 0 }, record { sixteen = refl; each = �
 
 -- The first facts: what follows for each node of a pool, where no number is excluded.
 module _ (ex : List ℕ) (ns : List Node) (p : IsPool ns) (none : (w : ℕ) → numbers_at ex w ≡ 0) where
-  pub first-goes-on : (d : Input) → IsInput d → (r : Option (List Known)) → TakingInGives [] ex ns r
+  first-goes-on : (d : Input) → IsInput d → (r : Option (List Known)) → TakingInGives [] ex ns r
       → MatchOption r ⊥ (λ new. AgreesWith new ex ns d)
   first-goes-on d i r g = taking-sound [] ex ns d p i (λ j l. absurd (omega arith))
       (λ j l. absurd (omega arith)) (inr none) r g
@@ -155,12 +156,16 @@ module _ (ex : List ℕ) (ns : List Node) (p : IsPool ns) (none : (w : ℕ) → 
   pub first-fails : ¬ TakingInGives [] ex ns None
   first-fails g = first-goes-on no-input.0 no-input.1 None g
 
-  pub first-covers : (places more : List ℕ) (new : List Known) → length ex ≡ 16 → AreTakenIn [] new ex ns
-      → KeepsFixed (record { known = []; variables = places }) (record { known = new; variables = more }) ns
-      → Covers (record { known = new; variables = more; excluded = ex }) ns
-  first-covers places more new lex g fixed = grind (arith, common_steps, taken-rest)
+pub first-covers : (f : FactsView) (ns : List Node) → IsPool ns → StartsBy f ns → Covers f ns
+first-covers f ns p h = record {
+  pool = p;
+  count = h.known.count;
+  words = h.words;
+  rest = λ i l. taken-rest [] f.known f.excluded ns h.known i (omega arith) l;
+  fixed = rw h.variables (taken-fixed [] [] f.known f.excluded ns p h.known (λ k l. absurd (omega arith)));
+}
 
-  pub first-sound : (places : List ℕ) (new : List Known) → AreTakenIn [] new ex ns → (d : Input) → IsInput d
-      → Agrees (record { known = new; variables = places; excluded = ex }) ns d
-  unfolding Agrees
-  first-sound places new g d i = first-goes-on d i (Some new) g
+pub first-sound : (f : FactsView) (ns : List Node) → IsPool ns → StartsBy f ns → (d : Input) → IsInput d
+    → Agrees f ns d
+unfolding Agrees
+first-sound f ns p h d i = first-goes-on f.excluded ns p h.excluded d i (Some f.known) h.known

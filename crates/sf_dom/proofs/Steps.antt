@@ -1,7 +1,7 @@
 -- A forward pass, variable after variable.
 use Rattle.sf_dom.proofs.Common.{◌≡◌, ◌≢◌, ℕ, ◌+◌, ◌<◌, ◌≤◌, List, length, set, arith, refl, sym, ap, ◌∙◌, inl, inr, cases_lt, cases_eq, get_or-set_same, get_or-set_other, slice_index, IsPool, node_at, Node, Known, IsNarrower, known_of, known_at, met, forward_node, IsReduction, IsPassedAt, AreClosed, AreFixed, NodesView, IsLaidOut, AreClosedWords, IsNarrowed, AreConsistentOperands, closed-consistent, common_steps}
 use Rattle.sf_dom.proofs.Lawful.{narrowed-refl, narrowed-trans, narrowed-set}
-use Rattle.sf_dom.proofs.Passes.{operands-below, met-left, forward-same, fixed-narrower, passed-same, rest-passed}
+use Rattle.sf_dom.proofs.Passes.{operands-below, met-left, forward-same, fixed-same, number-stays, passed-same, rest-passed}
 use Rattle.sf_dom.proofs.propagation.Propagations.{unlisted-rest, words-rest, variable-before, consistent-operands}
 use Rattle.sf_dom.proofs.Reductions.{IsNarrower-trans}
 
@@ -19,9 +19,15 @@ pub record PassesThrough (old new : NodesView) (ex : List ℕ) (ns : List Node) 
 -- each node is a variable still, or no more can become known of it
 pub still-fixed : (places : List ℕ) (old new : List Known) (ex : List ℕ) (ns : List Node) → IsPool ns → AreClosed old ns
     → IsNarrowed old new ex ns → AreFixed places old ns → AreFixed places new ns
-still-fixed places old new ex ns p h n fixed =
-    fixed-narrower places old new ns p (λ i l. closed-consistent (known_at old i) (h.each i l))
-    (λ i l. closed-consistent (known_at new i) (n.closed.each i l)) (λ i l. n.narrower i (omega arith)) fixed
+still-fixed places old new ex ns p h n fixed i l = elim (fixed i l) [
+  | inl v ↦ inl v
+  | inr f ↦
+      let count = h.count in
+      inr (fixed-same old new ns i p l (λ j b. number-stays (known_at old j) (known_at new j)
+      (closed-consistent (known_at old j) (h.each j (omega arith)))
+      (closed-consistent (known_at new j) (n.closed.each j (omega arith))) (n.narrower j (omega arith)))
+      (n.narrower i (omega arith)) f)
+]
 
 -- the words need no step
 pub through-words : (n : NodesView) (ex : List ℕ) (ns : List Node) → IsPool ns → AreClosed n.known ns

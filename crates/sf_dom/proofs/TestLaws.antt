@@ -1,6 +1,6 @@
 -- What the rules of tests leave: each number that passes is admitted, and where one side has only one number, which
 -- numbers are left.
-use Rattle.sf_dom.proofs.Common.{◌≡◌, ◌≢◌, ℕ, ◌<◌, ◌^◌, ◌-◌, Bool, true, false, cond, arith, refl, ap, ◌∙◌, ◌⊎◌, inl, inr, eqb-true, nat_tests, Decides-eqb, or_lt, and_lt, w32, trailing_zeros, bit_and, bit_or, ◌==◌, common_steps, IsOneBit, Test, Equal, Greater, GreaterOrEqual, AnyBit, Known, Admits, IsDecided, IsPlainTest, TestGives, assumed, nothing, some_of, none_of, where_decided, IsClosed, closed-consistent, ne_eqb, known_of}
+use Rattle.sf_dom.proofs.Common.{◌≡◌, ◌≢◌, ℕ, ◌<◌, ◌^◌, ◌-◌, Bool, true, false, cond, arith, refl, ap, ◌∙◌, ◌⊎◌, inl, inr, eqb-true, nat_tests, Decides-eqb, or_lt, and_lt, w32, trailing_zeros, bit_and, bit_or, ◌==◌, common_steps, IsOneBit, Test, Equal, AnyBit, Known, Admits, IsDecided, IsPlainTest, TestGives, assumed, nothing, some_of, none_of, where_decided, IsClosed, closed-consistent, ne_eqb, known_of}
 use Rattle.sf_dom.proofs.CommonBits.{no-common, common-open, and-zero, common-bits, common-none, common-some, common-decided, open-one, lowest-place}
 use Rattle.sf_dom.proofs.Lawful.{met-admits, closed-zeros}
 
@@ -59,30 +59,19 @@ test-admits AnyBit false v w x y cv cw h k g =
           (λ d. h),
       k,
     )
-test-admits Equal false v w x y cv cw h k g =
-    let f = cv.fits in let j = cw.fits in grind (arith, nat_tests)
-test-admits Greater true v w x y cv cw h k g =
-    let f = cv.fits in let j = cw.fits in grind (arith, nat_tests)
-test-admits Greater false v w x y cv cw h k g = grind (arith, nat_tests)
-test-admits GreaterOrEqual true v w x y cv cw h k g = grind (arith, nat_tests)
-test-admits GreaterOrEqual false v w x y cv cw h k g =
-    let f = cv.fits in let j = cw.fits in grind (arith, nat_tests)
+test-admits t true v w x y cv cw h k g = let f = cv.fits in let j = cw.fits in grind (arith, nat_tests)
+test-admits t false v w x y cv cw h k g = let f = cv.fits in let j = cw.fits in grind (arith, nat_tests)
 
 pub test-zeros : (t : Test) (s : Bool) (v w : Known) → IsClosed v → IsClosed w
     → ((assumed t s v w).node.zeros < 2 ^ 32) × ((assumed t s v w).other.zeros < 2 ^ 32)
 unfolding assumed
 test-zeros Equal true v w h k =
     let z = or_lt 32 v.zeros w.zeros (closed-zeros v h) (closed-zeros w k) in (z, z)
-test-zeros Equal false v w h k = let z = closed-zeros v h in let y = closed-zeros w k in grind (arith, nat_tests)
-test-zeros Greater true v w h k = let z = closed-zeros v h in let y = closed-zeros w k in grind (arith, nat_tests)
-test-zeros Greater false v w h k = (closed-zeros v h, closed-zeros w k)
-test-zeros GreaterOrEqual true v w h k = (closed-zeros v h, closed-zeros w k)
-test-zeros GreaterOrEqual false v w h k =
-    let z = closed-zeros v h in let y = closed-zeros w k in grind (arith, nat_tests)
-test-zeros AnyBit true v w h k = let z = closed-zeros v h in let y = closed-zeros w k in grind (arith, nat_tests)
 test-zeros AnyBit false v w h k =
     let z = closed-zeros v h in let y = closed-zeros w k in
     let n = or_lt 32 v.zeros w.low z (omega (arith, k.ordered, k.fits)) in grind (arith, nat_tests)
+test-zeros t true v w h k = let z = closed-zeros v h in let y = closed-zeros w k in grind (arith, nat_tests)
+test-zeros t false v w h k = let z = closed-zeros v h in let y = closed-zeros w k in grind (arith, nat_tests)
 
 -- a number that is left has one of some bits, where these are one bit, or the word has only that number
 some-gives : (v : Known) (c x : ℕ) → c < 2 ^ 32 → IsClosed v → IsOneBit c ⊎ IsDecided v → Admits v x
@@ -129,11 +118,7 @@ test-exact AnyBit false v w x cv cw d how own h =
     let none = common-none x w.low v.zeros v.ones left.bits in
     grind (arith, nat_tests)
 test-exact Equal false v w x cv cw d (inl how) own h = ne_eqb x w.low (how.1 refl refl)
-test-exact Equal true v w x cv cw d how own h = let a = h.above in let b = h.below in grind (arith, nat_tests)
 test-exact Equal false v w x cv cw d (inr one) own h =
     let a = h.above in let b = h.below in let c = own.above in let e = own.below in grind (arith, nat_tests)
-test-exact Greater true v w x cv cw d how own h = let a = h.above in let b = h.below in grind (arith, nat_tests)
-test-exact Greater false v w x cv cw d how own h = let b = h.below in grind (arith, nat_tests)
-test-exact GreaterOrEqual true v w x cv cw d how own h = let a = h.above in grind (arith, nat_tests)
-test-exact GreaterOrEqual false v w x cv cw d how own h =
-    let a = h.above in let b = h.below in grind (arith, nat_tests)
+test-exact t true v w x cv cw d how own h = let a = h.above in let b = h.below in grind (arith, nat_tests)
+test-exact t false v w x cv cw d how own h = let a = h.above in let b = h.below in grind (arith, nat_tests)

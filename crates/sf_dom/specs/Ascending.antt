@@ -1,10 +1,6 @@
 -- Numbers in ascending order, sets of numbers, and what is shared.
 use Rattle.std.specs.Prelude.{◌≡◌, ℕ, ◌<◌, ◌≤◌, ◌^◌, bit_or, List, [], ◌∷◌, ◌++◌, length, slice_index, Contains, Option, Some, None}
-use Rattle.std.specs.Arc.{arc_value, arc_slice_items}
-use Rattle.std.specs.declared.sync.Arc.{Arc}
-use Rattle.std.specs.declared.sync.ArcSlice.{ArcSlice}
-use Rattle.sf_dom.specs.declared.numbers.Found.{Found}
-use Rattle.sf_dom.specs.declared.numbers.Found.TheVariants.{Older, Newer, Nowhere}
+use Rattle.sf_dom.specs.Common.{arc_value, arc_slice_items, Arc, ArcSlice, Found, Older, Newer, Nowhere}
 
 -- none is less than one before it
 abbrev pub AreAscending : List ℕ → Type 0

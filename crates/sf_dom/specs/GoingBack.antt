@@ -1,12 +1,7 @@
 -- How known bits go back from a node to its operand, and on to that one's operand, where the other operand is a
 -- constant.
 use Rattle.std.specs.Prelude.{◌≡◌, ℕ, zero, suc, ◌-◌, List, set, Option, Some, bit_and, bit_or}
-use Rattle.sf_insn.specs.declared.ops.BinOp.{BinOp}
-use Rattle.sf_insn.specs.declared.ops.BinOp.TheVariants.{Or, And, Xor}
-use Rattle.sf_sym.specs.Pool.{node_at}
-use Rattle.sf_sym.specs.Operands.{IsSwappable, constant_operand_of}
-use Rattle.sf_sym.specs.declared.pool.Node.{Node}
-use Rattle.sf_dom.specs.declared.known.Known.{Known}
+use Rattle.sf_dom.specs.Common.{BinOp, Or, And, Xor, node_at, IsSwappable, constant_operand_of, Node, Known}
 use Rattle.sf_dom.specs.Known.{known_of}
 use Rattle.sf_dom.specs.Reading.{known_at}
 use Rattle.sf_dom.specs.Rules.{ReductionGives, Then}

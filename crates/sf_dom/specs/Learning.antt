@@ -1,17 +1,11 @@
 -- What facts become by the rules: at first, when they learn a condition, when they take in newer nodes, and when more
 -- is known of a word.
 use Rattle.std.specs.Prelude.{◌≡◌, ℕ, ◌⊎◌, List, [], ◌∷◌, ◌++◌, length, set, false, Option, Some, None}
-use Rattle.sf_insn.specs.declared.ops.Test.TheVariants.{Equal}
-use Rattle.sf_sym.specs.Pool.{node_at}
-use Rattle.sf_sym.specs.declared.pool.Cond.{Cond}
-use Rattle.sf_sym.specs.declared.pool.Node.{Node}
-use Rattle.sf_sym.specs.declared.pool.Node.TheVariants.{Word}
-use Rattle.sf_dom.specs.declared.known.Known.{Known}
-use Rattle.sf_dom.specs.declared.guards.Pair.{Pair}
+use Rattle.sf_dom.specs.Common.{Equal, node_at, Cond, Node, Word, Known, Pair}
 use Rattle.sf_dom.specs.Known.{Has, IsDecided}
 use Rattle.sf_dom.specs.Reading.{known_at, numbers_at}
 use Rattle.sf_dom.specs.Facts.{FactsView}
-use Rattle.sf_dom.specs.Rules.{assumed, met, ReductionGives, Then}
+use Rattle.sf_dom.specs.Rules.{assumed, met, IsReduction, Then}
 use Rattle.sf_dom.specs.Passes.{AreTakenIn, TakingInFails, PassGives, variables_after}
 use Rattle.sf_dom.specs.GoingBack.{WritingGives, GoingBackGives}
 
@@ -34,26 +28,33 @@ pub record AreExcludedBy (ks : List Known) (old new : List ℕ) (ns : List Node)
 abbrev pub assumed_of : List Known → Cond → Pair
 assumed_of ks cond = assumed cond.test cond.sense (known_at ks cond.node.0) (known_at ks cond.other.0)
 
--- What is known of the two nodes of a condition: what was known of each, met with what the test says, and reduced. The
--- first is written before the second is read. Nothing where one of them contradicts itself.
-abbrev pub PairGives : List Known → List ℕ → Cond → Option Pair → Type 0
-PairGives ks ex cond =
-    Then (ReductionGives ex cond.node.0 (met (known_at ks cond.node.0) (assumed_of ks cond).node)) (λ node.
-    Then (ReductionGives ex cond.other.0
-    (met (known_at (set ks cond.node.0 node) cond.other.0) (assumed_of ks cond).other)) (λ other r.
-    r ≡ Some (record { node = node; other = other })))
+-- what it gives to take in more of the node at a place: what was known of it, met with that, is reduced and written
+abbrev pub MetGives : List Known → List ℕ → ℕ → Known → Option (List Known) → Type 0
+MetGives ks ex i more = WritingGives ks ex i (met (known_at ks i) more)
+
+-- this is left of the two nodes of a condition by its test; the first is written before the second is read
+pub record AreLeft (ks : List Known) (ex : List ℕ) (cond : Cond) (pair : Pair) : Type 0 where
+  pub node : IsReduction ex cond.node.0 (met (known_at ks cond.node.0) (assumed_of ks cond).node) pair.node
+  pub other : IsReduction ex cond.other.0
+      (met (known_at (set ks cond.node.0 pair.node) cond.other.0) (assumed_of ks cond).other) pair.other
 
 -- the list, with these written for the two nodes of a condition, the second one last
 abbrev pub with_pair : List Known → Cond → Pair → List Known
 with_pair ks cond pair = set (set ks cond.node.0 pair.node) cond.other.0 pair.other
 
--- What is known of all nodes where a condition is met: its test is assumed of both nodes, then known bits go back from
--- the one and from the other, and then comes a forward pass. Nothing where one of these steps gives nothing.
+-- what follows from the two nodes of a condition: known bits go back from the one and from the other, and then comes a
+-- forward pass
+abbrev pub SpreadingGives : List Known → List ℕ → List Node → Cond → Option (List Known) → Type 0
+SpreadingGives ks ex ns cond =
+    Then (GoingBackGives ks ex ns cond.node.0) (λ one.
+    Then (GoingBackGives one ex ns cond.other.0) (λ two s. PassGives two ex ns s))
+
+-- What is known of all nodes where a condition is met: what its test says is taken in of its first node and of its
+-- second, and then comes what follows from them. Nothing where one of these steps gives nothing.
 abbrev pub ConditionGives : List Known → List ℕ → List Node → Cond → Option (List Known) → Type 0
 ConditionGives ks ex ns cond =
-    Then (PairGives ks ex cond) (λ pair.
-    Then (GoingBackGives (with_pair ks cond pair) ex ns cond.node.0) (λ one.
-    Then (GoingBackGives one ex ns cond.other.0) (λ two s. PassGives two ex ns s)))
+    Then (MetGives ks ex cond.node.0 (assumed_of ks cond).node) (λ mid.
+    Then (MetGives mid ex cond.other.0 (assumed_of ks cond).other) (λ both. SpreadingGives both ex ns cond))
 
 -- facts learn a condition: the numbers that it excludes are added, and its steps give what is known then
 pub record LearnsBy (old new : FactsView) (ns : List Node) (cond : Cond) : Type 0 where
@@ -87,7 +88,7 @@ CantGrow old ns = TakingInFails old.known old.excluded ns
 -- What is known of all nodes where more is known of the one at a place: what was known of it is met with that and
 -- reduced, and then comes a forward pass. Nothing where one of these gives nothing.
 abbrev pub MoreGives : List Known → List ℕ → List Node → ℕ → Known → Option (List Known) → Type 0
-MoreGives ks ex ns i more = Then (WritingGives ks ex i (met (known_at ks i) more)) (λ next s. PassGives next ex ns s)
+MoreGives ks ex ns i more = Then (MetGives ks ex i more) (λ next s. PassGives next ex ns s)
 
 -- facts learn that more is known of a word; no number is excluded by that
 pub record TakesInBy (old new : FactsView) (ns : List Node) (w : ℕ) (more : Known) : Type 0 where

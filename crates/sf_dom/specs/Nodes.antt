@@ -1,9 +1,7 @@
 -- How what is known of the nodes of a pool is kept, and of which nodes more can become known.
 use Rattle.std.specs.Prelude.{◌≡◌, ℕ, ◌-◌, ◌<◌, ◌≤◌, ◌⊎◌, List, length, map, slice_index, slice_index_or}
-use Rattle.sf_dom.specs.declared.known.Known.{Known}
-use Rattle.sf_dom.specs.declared.variables.Variable.{Variable}
-use Rattle.sf_dom.specs.declared.slots.Slot.{Slot}
-use Rattle.sf_dom.specs.declared.slots.Slot.TheVariants.{Number, Variable as VariableAt}
+use Rattle.sf_dom.specs.Common.{Known, Variable, Slot, Number}
+use Rattle.sf_dom.specs.declared.slots.Slot.TheVariants.{Variable as VariableAt}
 use Rattle.sf_dom.specs.Known.{IsDecided, known_of}
 use Rattle.sf_dom.specs.Facts.{known_at}
 use Rattle.sf_dom.specs.Variables.{variable_at}

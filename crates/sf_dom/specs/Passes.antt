@@ -1,9 +1,6 @@
 -- Forward passes, when one changes nothing, and how newer nodes are taken in.
 use Rattle.std.specs.Prelude.{◌≡◌, ℕ, zero, suc, ◌+◌, ◌-◌, ◌<◌, ◌≤◌, ◌⊎◌, Bool, true, false, ◌&&◌, if◌then◌else◌, List, [], ◌∷◌, ◌++◌, length, take, slice_index, Option, MatchOption}
-use Rattle.sf_sym.specs.Pool.{node_at}
-use Rattle.sf_sym.specs.declared.pool.Node.{Node}
-use Rattle.sf_sym.specs.declared.pool.Node.TheVariants.{Const, Word, Bin, Neg}
-use Rattle.sf_dom.specs.declared.known.Known.{Known}
+use Rattle.sf_dom.specs.Common.{node_at, Node, Const, Word, Bin, Neg, Known}
 use Rattle.sf_dom.specs.Known.{IsNarrower, is_decided}
 use Rattle.sf_dom.specs.Reading.{known_at}
 use Rattle.sf_dom.specs.Rules.{met, forward_node, IsClosed, IsClosedAt, IsReduction, HasNoReduction}

@@ -1,19 +1,10 @@
 -- What the calls on facts promise of the inputs that agree, and what holds between the steps of a forward pass. What is
 -- known of the nodes is a list here.
 use Rattle.std.specs.Prelude.{◌≡◌, ◌≢◌, ℕ, ◌<◌, ◌↔◌, ◌⊎◌, List, length, Bool, true, All}
-use Rattle.sf_insn.specs.Inputs.{IsInput}
-use Rattle.sf_insn.specs.Words.{passes}
-use Rattle.sf_insn.specs.declared.input.Input.{Input}
-use Rattle.sf_insn.specs.declared.ops.Test.{Test}
-use Rattle.sf_sym.specs.Pool.{is_met, ArePlainNodes}
-use Rattle.sf_sym.specs.declared.pool.Node.{Node}
-use Rattle.sf_sym.specs.declared.pool.Node.TheVariants.{Word, Bin, Neg}
-use Rattle.sf_sym.specs.declared.pool.Cond.{Cond}
-use Rattle.sf_dom.specs.declared.known.Known.{Known}
+use Rattle.sf_dom.specs.Common.{IsInput, passes, Input, Test, is_met, ArePlainNodes, Node, Word, Bin, Neg, Cond, Known}
 use Rattle.sf_dom.specs.Known.{Has, IsNarrower, IsConsistent, IsDecided}
-use Rattle.sf_dom.specs.Nodes.{NodesView}
 use Rattle.sf_dom.specs.Rules.{IsClosedAt}
-use Rattle.sf_dom.specs.Passes.{AreClosed, IsVariableAt, IsFixedAt, AreFixed}
+use Rattle.sf_dom.specs.Passes.{AreClosed}
 use Rattle.sf_dom.specs.Facts.{known_at, numbers_at, FactsView, Agrees, Covers, AreNarrower, KeepsInputs, KeepsOnly, SomeInput, IsPlainCondition, DecidesTest}
 
 -- what is known of the operands is consistent, where the node has any
@@ -40,13 +31,6 @@ pub record IsNarrowed (old new : List Known) (ex : List ℕ) (ns : List Node) : 
 -- what is known of each node is consistent
 abbrev pub AreConsistent : List Known → Type 0
 AreConsistent ks = (i : ℕ) → i < length ks → IsConsistent (known_at ks i)
-
--- If what is known of the older nodes is consistent, and each of them is a variable or fixed, then each node is a
--- variable or fixed once the newer ones are taken in. Of a fixed node no forward pass makes more known.
-abbrev pub KeepsFixed : NodesView → NodesView → List Node → Type 0
-KeepsFixed old new ns = AreConsistent old.known
-    → ((i : ℕ) → i < length old.known → IsVariableAt old.variables i ⊎ IsFixedAt old.known ns i)
-    → AreFixed new.variables new.known ns
 
 -- the test of two numbers has this result
 abbrev pub TestGives : Test → ℕ → ℕ → Bool → Type 0

@@ -1,8 +1,6 @@
 -- What stands in the lists of facts: what is known of a node, and what is excluded for it.
 use Rattle.std.specs.Prelude.{ℕ, List, slice_index_or}
-use Rattle.sf_sym.specs.declared.pool.Node.{Node}
-use Rattle.sf_sym.specs.declared.pool.Node.TheVariants.{Word}
-use Rattle.sf_dom.specs.declared.known.Known.{Known}
+use Rattle.sf_dom.specs.Common.{Node, Word, Known}
 
 -- what is known of the node at a place
 abbrev pub known_at : List Known → ℕ → Known

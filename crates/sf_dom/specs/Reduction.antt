@@ -1,7 +1,6 @@
 -- Words for the steps that reduce what is known of one node.
 use Rattle.std.specs.Prelude.{◌≡◌, ℕ, ◌+◌, ◌-◌, ◌/◌, ◌<◌, ◌≤◌, ◌^◌}
-use Rattle.std.specs.Int.{bit_at}
-use Rattle.sf_dom.specs.declared.known.Known.{Known}
+use Rattle.sf_dom.specs.Common.{bit_at, Known}
 
 -- no bit is set in both
 abbrev pub AreApart : ℕ → ℕ → Type 0

@@ -1,15 +1,7 @@
 -- The rules of facts: what is known of a node by its operation, what two pieces of knowledge say together, what
 -- reduction makes of them, and what a test with a known result says of its two words.
 use Rattle.std.specs.Prelude.{◌≡◌, ℕ, ◌+◌, ◌-◌, ◌*◌, ◌/◌, ◌%◌, ◌<◌, ◌≤◌, ◌^◌, Bool, true, false, List, if◌then◌else◌, ◌==◌, nat_lt, nat_le, max, min, bit_and, bit_or, Option, None, MatchOption}
-use Rattle.std.specs.Int.{bit_at, w32, trailing_zeros}
-use Rattle.sf_insn.specs.declared.ops.BinOp.{BinOp}
-use Rattle.sf_insn.specs.declared.ops.BinOp.TheVariants.{Add, Sub, Mul, Div, Or, And, Lsh, Rsh, Xor}
-use Rattle.sf_insn.specs.declared.ops.Test.{Test}
-use Rattle.sf_insn.specs.declared.ops.Test.TheVariants.{Equal, Greater, GreaterOrEqual, AnyBit}
-use Rattle.sf_sym.specs.declared.pool.Node.{Node}
-use Rattle.sf_sym.specs.declared.pool.Node.TheVariants.{Const, Word, Bin, Neg}
-use Rattle.sf_dom.specs.declared.known.Known.{Known}
-use Rattle.sf_dom.specs.declared.guards.Pair.{Pair}
+use Rattle.sf_dom.specs.Common.{bit_at, w32, trailing_zeros, BinOp, Add, Sub, Mul, Div, Or, And, Lsh, Rsh, Xor, Test, Equal, Greater, GreaterOrEqual, AnyBit, Node, Const, Word, Bin, Neg, Known, Pair}
 use Rattle.sf_dom.specs.Known.{IsNarrower, IsTight, known_of}
 use Rattle.sf_dom.specs.Reduction.{AreApart}
 use Rattle.sf_dom.specs.Reading.{known_at, numbers_at}

@@ -1,18 +1,7 @@
 -- What the rules of facts promise, said of the rules alone.
 use Rattle.std.specs.Prelude.{◌≡◌, ◌≢◌, ℕ, ◌<◌, ◌≤◌, ◌^◌, bit_and, List, [], ◌∷◌, ◌++◌, length, Bool, not, Some, All}
-use Rattle.sf_insn.specs.Inputs.{IsInput}
-use Rattle.sf_insn.specs.declared.input.Input.{Input}
-use Rattle.sf_insn.specs.declared.ops.BinOp.{BinOp}
-use Rattle.sf_insn.specs.declared.ops.BinOp.TheVariants.{Add, Sub, Or, And, Xor}
-use Rattle.sf_insn.specs.declared.ops.Test.{Test}
-use Rattle.sf_insn.specs.Words.{apply, negation_of}
-use Rattle.sf_dom.specs.declared.known.Known.{Known}
+use Rattle.sf_dom.specs.Common.{IsInput, Input, BinOp, Add, Sub, Or, And, Xor, Test, apply, negation_of, Known, IsPool, IsCondBelow, Extends, node_at, value_of, Cond, Node, Const, Bin, Neg, NodeId}
 use Rattle.sf_dom.specs.Known.{Admits, Leaves, IsDecided}
-use Rattle.sf_sym.specs.Pool.{IsPool, IsCondBelow, Extends, node_at, value_of}
-use Rattle.sf_sym.specs.declared.pool.Cond.{Cond}
-use Rattle.sf_sym.specs.declared.pool.Node.{Node}
-use Rattle.sf_sym.specs.declared.pool.Node.TheVariants.{Const, Bin, Neg}
-use Rattle.sf_sym.specs.declared.pool.NodeId.{NodeId}
 use Rattle.sf_dom.specs.Facts.{FactsView, Agrees, Covers, NoInput, NoneAgrees, HasIn, LiesIn, HasMasked, ConfinesWord, TakesIn, known_at}
 use Rattle.sf_dom.specs.Learning.{StartsBy, LearnsBy, CantLearn, GrowsBy, CantGrow, TakesInBy, CantTakeInBy, AreBuiltBy, CantBeBuilt}
 use Rattle.sf_dom.specs.Passes.{IsPass, IsAtRest}

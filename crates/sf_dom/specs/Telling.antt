@@ -1,10 +1,6 @@
 -- When what is known leaves the result of a test against a number open, and when the rules force it.
 use Rattle.std.specs.Prelude.{◌≡◌, ℕ, ◌≤◌, List, Bool, true, false, not, Option, IfSome, bit_and}
-use Rattle.sf_insn.specs.declared.ops.Test.{Test}
-use Rattle.sf_insn.specs.declared.ops.Test.TheVariants.{Equal, AnyBit}
-use Rattle.sf_sym.specs.Pool.{node_at}
-use Rattle.sf_sym.specs.declared.pool.Node.{Node}
-use Rattle.sf_dom.specs.declared.known.Known.{Known}
+use Rattle.sf_dom.specs.Common.{Test, Equal, AnyBit, node_at, Node, Known}
 use Rattle.sf_dom.specs.Known.{Has, IsNarrower, AreBitsOf}
 use Rattle.sf_dom.specs.Facts.{known_at, excluded_of}
 use Rattle.sf_dom.specs.Propagation.{TestGives}

@@ -1,7 +1,6 @@
 -- Variables: the nodes that aren't kept as a number, each with its place in the pool and with what is known of it.
 use Rattle.std.specs.Prelude.{ℕ, List, set, slice_index_or}
-use Rattle.sf_dom.specs.declared.known.Known.{Known}
-use Rattle.sf_dom.specs.declared.variables.Variable.{Variable}
+use Rattle.sf_dom.specs.Common.{Known, Variable}
 use Rattle.sf_dom.specs.Known.{known_of}
 
 -- the variable at a place of their list

@@ -1,6 +1,6 @@
 -- What facts say of the words of an input.
 use Rattle.std.specs.Prelude.{ℕ, ◌<◌, slice_index}
-use Rattle.sf_insn.specs.declared.input.Input.{Input}
+use Rattle.sf_dom.specs.Common.{Input}
 use Rattle.sf_dom.specs.Known.{Leaves}
 use Rattle.sf_dom.specs.Facts.{FactsView, known_at, numbers_at}
 

@@ -2,11 +2,12 @@
 
 ghost use Rattle.std.specs.Prelude.{◌≡◌, ◌≢◌, ℕ, ◌+◌, ◌-◌, ◌*◌, ◌/◌, ◌%◌, ◌<◌, ◌≤◌, ◌^◌, ◌⊎◌, List, length, MatchOption, MatchBool, IfOk, false, Some, None};
 ghost use Rattle.sf_sym.specs.Pool.{IsCondBelow};
+ghost use Rattle.sf_sym.specs.declared.pool.Node.{Node as ANode};
 ghost use Rattle.sf_sym.specs.Operands.{IsSwappable};
 ghost use Rattle.sf_dom.specs.Propagation.{AreExcluded, AreClosedWords};
 ghost use Rattle.sf_dom.specs.Rules.{assumed, met, ReductionGives};
 ghost use Rattle.sf_dom.specs.Passes.{AreClosed, PassGives, AreFixed};
-ghost use Rattle.sf_dom.specs.Learning.{AreExcludedBy, PairGives, with_pair, ConditionGives};
+ghost use Rattle.sf_dom.specs.Learning.{AreExcludedBy, AreLeft, with_pair, ConditionGives};
 ghost use Rattle.sf_dom.specs.GoingBack.{with_bits as with_bits_of, gained, GoingBackGives};
 ghost use Rattle.sf_dom.specs.Facts.{known_at};
 
@@ -147,30 +148,34 @@ pub(crate) fn known_left(
     reduce_at(nodes.get(at).meet(more), at, excluded)
 }
 
-/// What is known of a condition's second node: what the test says of it, and where it is the first node too, also what
-/// is left of that one.
-fn told_of_other(cond: &Cond, told: Known, node: Known) -> Known
-    ensures apart { cond.now.node.0 ≢ cond.now.other.0 → result ≡ told }
-    ensures one { cond.now.node.0 ≡ cond.now.other.0 → result ≡ met told node }
+/// What is known of a condition's second node, where `node` is left of the first one.
+fn known_of_other(nodes: &Nodes, cond: &Cond, node: Known) -> Known
+    requires { cond.now.other.0 < length nodes.now.known }
+    ensures apart { cond.now.node.0 ≢ cond.now.other.0
+        → result ≡ known_at nodes.now.known cond.now.other.0 }
+    ensures one { cond.now.node.0 ≡ cond.now.other.0 → result ≡ node }
 {
     if cond.node.0 == cond.other.0 {
-        told.meet(node)
+        node
     } else {
-        told
+        nodes.get(cond.other.0 as usize)
     }
 }
 
 /// What a condition leaves of its two nodes, each reduced. `learn_cond` asks this before it copies the nodes.
 pub(crate) fn pair_left(nodes: &Nodes, excluded: &Excluded, cond: &Cond) -> Option<Pair>
     requires { IsCondBelow (length nodes.now.known) cond.now }
-    ensures { PairGives nodes.now.known excluded.now cond.now result }
+    ensures { MatchOption result
+        ((pool : List ANode) → ConditionGives nodes.now.known excluded.now pool cond.now None)
+        (AreLeft nodes.now.known excluded.now cond.now) }
 {
     let v = cond.node.0 as usize;
     let w = cond.other.0 as usize;
     let pair = assume_test(nodes.get(v), nodes.get(w), cond.test, cond.sense);
     let node = known_left(nodes, excluded, v, pair.node)?;
-    let told = told_of_other(cond, pair.other, node);
-    let other = known_left(nodes, excluded, w, told)?;
+    let own = known_of_other(nodes, cond, node);
+    let both = own.meet(pair.other);
+    let other = reduce_at(both, w, excluded)?;
     Some(Pair { node, other })
 }
 
@@ -185,7 +190,7 @@ pub(crate) fn assume_cond(
 ) -> bool
     requires closed { AreClosed nodes.old.known pool.now }
     requires below { IsCondBelow (length pool.now) cond.now }
-    requires left { PairGives nodes.old.known excluded.now cond.now (Some alone) }
+    requires left { AreLeft nodes.old.known excluded.now cond.now alone }
     requires words { AreClosedWords (with_pair nodes.old.known cond.now alone) excluded.now }
     requires fixed { AreFixed nodes.old.variables nodes.old.known pool.now }
     ensures rule { MatchBool result

@@ -83,10 +83,8 @@ impl Exclusions {
     pub(crate) fn has(&self, number: u32) -> bool
         ensures { IsTrue result ↔ Has self.now number }
     {
-        match &self.numbers {
-            Some(numbers) => numbers.has(number),
-            None => false,
-        }
+        let mut numbers = self.lookup();
+        numbers.has(number)
     }
 
     fn copy(&self) -> Result<Exclusions, Fault>

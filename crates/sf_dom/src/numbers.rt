@@ -87,14 +87,6 @@ fn place_in(list: &[u32], number: u32) -> Option<usize>
     list.binary_search(&number).ok()
 }
 
-/// Whether a number stands in a list.
-fn stands_in(list: &[u32], number: u32) -> bool
-    requires { AreAscending list.now }
-    ensures { IsTrue result ↔ Contains list.now number }
-{
-    place_in(list, number).is_some()
-}
-
 /// In which of two lists a number stands. Not inlined, so that `Lookup::has` can be.
 #[inline(never)]
 fn find(older: &[u32], newer: &[u32], number: u32) -> Found
@@ -104,13 +96,10 @@ fn find(older: &[u32], newer: &[u32], number: u32) -> Found
 {
     match place_in(older, number) {
         Some(place) => Found::Older(place),
-        None => {
-            if stands_in(newer, number) {
-                Found::Newer
-            } else {
-                Found::Nowhere
-            }
-        }
+        None => match place_in(newer, number) {
+            Some(_) => Found::Newer,
+            None => Found::Nowhere,
+        },
     }
 }
 
@@ -208,12 +197,6 @@ impl Numbers {
         let mut newer = Vec::new(alloc);
         newer.push(number)?;
         Ok(Numbers { older: None, newer })
-    }
-
-    pub(crate) fn has(&self, number: u32) -> bool
-        ensures { IsTrue result ↔ Has self.now number }
-    {
-        stands_in(items_of(&self.older), number) || stands_in(self.newer.as_slice(), number)
     }
 
     pub(crate) fn lookup(&self) -> Lookup<'_>

@@ -3,7 +3,7 @@
 ghost use Rattle.std.specs.Prelude.{◌≡◌, ℕ, ◌+◌, ◌-◌, ◌*◌, ◌/◌, ◌%◌, ◌<◌, ◌≤◌, ◌↔◌, ◌⊎◌, ◌^◌, List, [], ◌∷◌, ◌++◌, length, slice_index, MatchBool, MatchOption, true, false, IfOk, IsTrue, Some, None};
 ghost use Rattle.sf_sym.specs.Pool.{OperandsBelow, node_at};
 ghost use Rattle.sf_dom.specs.Known.{is_decided};
-ghost use Rattle.sf_dom.specs.Propagation.{AreConsistentOperands, AreClosedWords, KeepsFixed, AreConsistent};
+ghost use Rattle.sf_dom.specs.Propagation.{AreConsistentOperands, AreClosedWords, AreConsistent};
 ghost use Rattle.sf_dom.specs.Passes.{AreClosed, PassGives, are_all_decided, variables_after, AreFixed, AreTakenIn, TakingInFails};
 ghost use Rattle.sf_dom.specs.Facts.{known_at};
 ghost use Rattle.sf_dom.specs.Rules.{forward_node, ReductionGives};
@@ -93,8 +93,6 @@ pub(crate) fn propagate(nodes: &mut Nodes, excluded: &Excluded, pool: &Pool) -> 
 /// fault, some of the new nodes may have been taken in.
 pub(crate) fn append(nodes: &mut Nodes, excluded: &Excluded, pool: &Pool) -> Result<bool, Fault>
     requires covers { length nodes.old.known ≤ length pool.now }
-    ensures fixed { IfOk result (λ b. MatchBool b
-        (KeepsFixed nodes.old nodes.new pool.now) (Unit {0})) }
     ensures variables { IfOk result (λ b. MatchBool b
         (nodes.new.variables ≡ variables_after nodes.old.variables nodes.old.known
         nodes.new.known pool.now) (Unit {0})) }

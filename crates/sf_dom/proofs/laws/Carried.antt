@@ -1,9 +1,9 @@
 -- Facts that a piece carries along are those that are built anew from its conditions.
-use Rattle.sf_dom.proofs.Common.{◌≡◌, ℕ, zero, suc, ◌<◌, ◌≤◌, List, [], ◌∷◌, ◌++◌, length, take, set, arith, refl, sym, ap, ◌∙◌, cases_eq, ext_get_or, get_or-set_same, get_or-set_other, length-set, get_or-take, length-take-le, get_or_append_left, length-append, Option, Some, constant_operand_of, IsPool, IsCondBelow, Extends, OperandsBelow, node_at, Cond, Node, Bin, Known, Pair, Has, IsNarrower, known_of, FactsView, known_at, numbers_at, gained, WritingGives, GoingBackGivesIn, GoingBackGives, AreExcludedBy, assumed_of, PairGives, with_pair, LearnsBy, StartsBy, GrowsBy, LearnAll, AreBuiltBy, IsPass, PassGives, AreClosed, met, forward_node, IsClosedAt, IsReduction, IsWidest, ReductionGives, Then, AreCarried, started, learnt, grown, common_steps}
+use Rattle.sf_dom.proofs.Common.{◌≡◌, ℕ, zero, suc, ◌<◌, ◌≤◌, List, [], ◌∷◌, ◌++◌, length, take, set, arith, refl, sym, ap, ◌∙◌, cases_eq, ext_get_or, get_or-set_same, get_or-set_other, length-set, get_or-take, length-take-le, get_or_append_left, length-append, Option, Some, constant_operand_of, IsPool, IsCondBelow, Extends, OperandsBelow, node_at, Cond, Node, Bin, Known, Pair, IsNarrower, known_of, FactsView, known_at, gained, WritingGives, GoingBackGivesIn, GoingBackGives, AreExcludedBy, assumed_of, MetGives, SpreadingGives, LearnsBy, StartsBy, GrowsBy, LearnAll, AreBuiltBy, IsPass, PassGives, AreClosed, met, forward_node, IsClosedAt, IsReduction, IsWidest, Then, AreCarried, started, learnt, grown, common_steps}
 use Rattle.sf_dom.proofs.ConstantOperands.{is-operand}
 use Rattle.sf_dom.proofs.ConditionSteps.{condition-lawful}
 use Rattle.sf_dom.proofs.laws.Monotone.{forward-narrower}
-use Rattle.sf_dom.proofs.laws.OneResult.{reduction-one, pair-one, same-sets, some-same}
+use Rattle.sf_dom.proofs.laws.OneResult.{exclusions-one, reduction-one, some-same}
 use Rattle.sf_dom.proofs.Passes.{reduction-as, operands-below, met-right, met-below, same-up_to}
 use Rattle.sf_dom.proofs.propagation.Propagations.{same-taken}
 use Rattle.sf_dom.proofs.Reductions.{IsNarrower-trans}
@@ -59,39 +59,7 @@ then-parts : {A B : Type 0} (first : Option A → Type 0) (second : A → Option
     → Then first second (Some r) → HasParts first second r
 then-parts {A} {B} first second r h = grind (arith, common_steps)
 
--- what is left of the second node of a condition, after the first
-abbrev After : List Known → List ℕ → Cond → Known → Option Pair → Type 0
-After ks ex cond node =
-    Then (ReductionGives ex cond.other.0
-    (met (known_at (set ks cond.node.0 node) cond.other.0) (assumed_of ks cond).other))
-    (λ other r. r ≡ Some (record { node = node; other = other }))
-
--- a pair is left of what is known of both pools
-pair-moved : (ks js : List Known) (ex : List ℕ) (ns longer : List Node) (cond : Cond) (node : Known) (p : Pair)
-    → IsCondBelow (length ns) cond → IsLonger ns longer → AreSameBelow ks js ns longer
-    → ReductionGives ex cond.node.0 (met (known_at ks cond.node.0) (assumed_of ks cond).node) (Some node)
-    → After ks ex cond node (Some p) → PairGives js ex cond (Some p)
-pair-moved ks js ex ns longer cond node p below h s g k =
-    let v : ℕ = cond.node.0 in let w : ℕ = cond.other.0 in
-    let sv : known_at ks v ≡ known_at js v = s.same v below.0 in
-    let sw : known_at ks w ≡ known_at js w = s.same w below.1 in
-    let here : known_at (set ks v node) w ≡ known_at (set js v node) w
-    = (write-same ks js ns longer v node h below.0 s).same w below.1 in (
-      Some node,
-      rw (sv, sw) at g,
-      rw (sv, sw, here) at k,
-    )
-
-pair-same : (ks js : List Known) (ex : List ℕ) (ns longer : List Node) (cond : Cond) (p q : Pair)
-    → IsCondBelow (length ns) cond → IsLonger ns longer → AreSameBelow ks js ns longer → PairGives ks ex cond (Some p)
-    → PairGives js ex cond (Some q) → p ≡ q
-pair-same ks js ex ns longer cond p q below h s g k =
-    let first : Known = met (known_at ks cond.node.0) (assumed_of ks cond).node in
-    let parts = then-parts (ReductionGives ex cond.node.0 first) (After ks ex cond) p g in
-    some-same (pair-one js ex cond (Some p) (Some q)
-    (pair-moved ks js ex ns longer cond parts.mid p below h s parts.one parts.two) k)
-
--- known bits go back in the same way
+-- a node is written in the same way, or known bits go back so
 record HaveGoneBack (js next last : List Known) (ns longer : List Node) : Type 0 where
   same : AreSameBelow next last ns longer
   above : AreKeptAbove js last ns
@@ -145,27 +113,23 @@ passes-below ks js new last ex ns longer p h s g k =
     same-up_to ks new last ex ns p (length ns) (omega arith) g.each
     (λ i l. rw (← s.same i l, h.same i l) at (k.each i (omega arith)))
 
--- what follows once its two nodes are written
-abbrev Last : List Known → List ℕ → List Node → Cond → Option (List Known) → Type 0
-Last one ex ns cond = Then (GoingBackGives one ex ns cond.other.0) (λ two s. PassGives two ex ns s)
-
-abbrev Rest : List Known → List ℕ → List Node → Cond → Option (List Known) → Type 0
-Rest mid ex ns cond = Then (GoingBackGives mid ex ns cond.node.0) (λ one. Last one ex ns cond)
-
--- a condition leaves the same of the nodes of both, and the pass goes over the others as they were
+-- what follows from its nodes leaves the same of the nodes of both, and the pass goes over the others as they were
 record AreLearntAlike (js new last : List Known) (ex : List ℕ) (ns longer : List Node) : Type 0 where
   count : length new ≡ length ns
   same : (i : ℕ) → i < length ns → known_at new i ≡ known_at last i
   above : (i : ℕ) → length ns ≤ i → i < length longer
       → IsReduction ex i (met (known_at js i) (forward_node last (node_at longer i))) (known_at last i)
 
-rest-same : (ks js new last : List Known) (ex : List ℕ) (ns longer : List Node) (cond : Cond) → IsPool ns
+spreading-same : (ks js new last : List Known) (ex : List ℕ) (ns longer : List Node) (cond : Cond) → IsPool ns
     → IsCondBelow (length ns) cond → IsLonger ns longer → AreSameBelow ks js ns longer
-    → Rest ks ex ns cond (Some new) → Rest js ex longer cond (Some last) → AreLearntAlike js new last ex ns longer
-rest-same ks js new last ex ns longer cond p below h s g k =
+    → SpreadingGives ks ex ns cond (Some new) → SpreadingGives js ex longer cond (Some last)
+    → AreLearntAlike js new last ex ns longer
+spreading-same ks js new last ex ns longer cond p below h s g k =
     let v : ℕ = cond.node.0 in let w : ℕ = cond.other.0 in
-    let ga = then-parts (GoingBackGives ks ex ns v) (λ one. Last one ex ns cond) new g in
-    let ka = then-parts (GoingBackGives js ex longer v) (λ one. Last one ex longer cond) last k in
+    let ga = then-parts (GoingBackGives ks ex ns v)
+    (λ one. Then (GoingBackGives one ex ns w) (λ two s. PassGives two ex ns s)) new g in
+    let ka = then-parts (GoingBackGives js ex longer v)
+    (λ one. Then (GoingBackGives one ex longer w) (λ two s. PassGives two ex longer s)) last k in
     let one = back-same ga.one.0 ks js ex ns longer v ga.mid ka.mid p below.0 h s ga.one.1 ka.one.0 ka.one.1 in
     let gb = then-parts (GoingBackGives ga.mid ex ns w) (λ two s. PassGives two ex ns s) new ga.two in
     let kb = then-parts (GoingBackGives ka.mid ex longer w) (λ two s. PassGives two ex longer s) last ka.two in
@@ -200,16 +164,11 @@ narrower-again kind rule more old new h n k = record {
 closed-any : (a b : List ℕ) (i : ℕ) → 16 ≤ i → (k : Known) → IsClosedAt a i k → IsClosedAt b i k
 closed-any a b i g k h = record { known = h.known; tight = λ l. absurd (omega arith) }
 
--- the same numbers are excluded
-among : (f g : FactsView) (c e : List ℕ) (ns longer : List Node) (cond : Cond) → IsCondBelow (length ns) cond
-    → IsLonger ns longer → AreGrownFrom f g ns longer → AreExcludedBy f.known f.excluded c ns cond
-    → AreExcludedBy g.known g.excluded e longer cond → (w m : ℕ) → Has (numbers_at c w) m → Has (numbers_at e w) m
-among f g c e ns longer cond below h r x y w m z = grind (arith, common_steps)
-
-among-back : (f g : FactsView) (c e : List ℕ) (ns longer : List Node) (cond : Cond) → IsCondBelow (length ns) cond
-    → IsLonger ns longer → AreGrownFrom f g ns longer → AreExcludedBy f.known f.excluded c ns cond
-    → AreExcludedBy g.known g.excluded e longer cond → (w m : ℕ) → Has (numbers_at e w) m → Has (numbers_at c w) m
-among-back f g c e ns longer cond below h r x y w m z = grind (arith, common_steps)
+-- a condition excludes the same numbers
+excluded-below : (f g : FactsView) (e : List ℕ) (ns longer : List Node) (cond : Cond) → IsCondBelow (length ns) cond
+    → IsLonger ns longer → AreGrownFrom f g ns longer → AreExcludedBy g.known g.excluded e longer cond
+    → AreExcludedBy f.known f.excluded e ns cond
+excluded-below f g e ns longer cond below h r x = grind (arith, common_steps)
 
 -- both learn a condition
 learnt-grown : (f g c e : FactsView) (ns longer : List Node) (cond : Cond) → IsPool ns → IsPool longer
@@ -217,29 +176,33 @@ learnt-grown : (f g c e : FactsView) (ns longer : List Node) (cond : Cond) → I
     → LearnsBy g e longer cond → AreGrownFrom c e ns longer
 learnt-grown f g c e ns longer cond p q below h r x y =
     let ex : List ℕ = e.excluded in
-    let sizes : length c.excluded ≡ length ex = x.excluded.words ∙ ap length r.excluded ∙ sym y.excluded.words in
-    let same = same-sets c.excluded ex sizes (among f g c.excluded ex ns longer cond below h r x.excluded y.excluded)
-    (among-back f g c.excluded ex ns longer cond below h r x.excluded y.excluded) in
+    let same = exclusions-one f.known f.excluded c.excluded ex ns cond x.excluded
+    (excluded-below f g ex ns longer cond below h r y.excluded) in
     let first = rw same at x.known in
-    let a = then-parts (PairGives f.known ex cond) (λ pair. Rest (with_pair f.known cond pair) ex ns cond) c.known
-    first in
-    let b = then-parts (PairGives g.known ex cond) (λ pair. Rest (with_pair g.known cond pair) ex longer cond) e.known
-    y.known in
-    let pairs = pair-same f.known g.known ex ns longer cond a.mid b.mid below h r.below a.one b.one in
-    let written = write-same (set f.known cond.node.0 a.mid.node) (set g.known cond.node.0 a.mid.node) ns longer
-    cond.other.0 a.mid.other h below.1 (write-same f.known g.known ns longer cond.node.0 a.mid.node h
-    below.0 r.below) in
-    let alike = rest-same (with_pair f.known cond a.mid) (with_pair g.known cond a.mid) c.known e.known ex ns longer
-    cond p below h written a.two (rw (← pairs) at b.two) in
+    let v : ℕ = cond.node.0 in let w : ℕ = cond.other.0 in
+    let sv : known_at f.known v ≡ known_at g.known v = r.below.same v below.0 in
+    let sw : known_at f.known w ≡ known_at g.known w = r.below.same w below.1 in
+    let told : Pair = assumed_of f.known cond in let tells : Pair = assumed_of g.known cond in
+    let av = then-parts (MetGives f.known ex v told.node)
+    (λ mid. Then (MetGives mid ex w told.other) (λ both. SpreadingGives both ex ns cond)) c.known first in
+    let bv = then-parts (MetGives g.known ex v tells.node)
+    (λ mid. Then (MetGives mid ex w tells.other) (λ both. SpreadingGives both ex longer cond)) e.known y.known in
+    let one = step-same f.known g.known av.mid bv.mid ex ns longer v (met (known_at f.known v) told.node) below.0 h
+    r.below av.one (rw (sv, sw) bv.one) in
+    let sm : known_at av.mid w ≡ known_at bv.mid w = one.same.same w below.1 in
+    let aw = then-parts (MetGives av.mid ex w told.other) (λ both. SpreadingGives both ex ns cond) c.known av.two in
+    let bw = then-parts (MetGives bv.mid ex w tells.other) (λ both. SpreadingGives both ex longer cond) e.known
+    bv.two in
+    let two = step-same av.mid bv.mid aw.mid bw.mid ex ns longer w (met (known_at av.mid w) told.other) below.1 h
+    one.same aw.one (rw (sm, sv, sw) bw.one) in
+    let alike = spreading-same aw.mid bw.mid c.known e.known ex ns longer cond p below h two.same aw.two bw.two in
     let lower : IsCondBelow (length longer) cond = (omega (arith, below.0), omega (arith, below.1)) in
     let narrowed = (condition-lawful g.known ex longer cond q r.closed lower).narrowed (Some e.known) y.known in
     record {
       below = record { count = alike.count; more = narrowed.closed.count; same = alike.same };
       excluded = same;
       newer = λ i b l.
-          let kept : known_at (with_pair g.known cond a.mid) i ≡ known_at g.known i
-          = write-above (set g.known cond.node.0 a.mid.node) ns cond.other.0 a.mid.other below.1 i b
-          ∙ write-above g.known ns cond.node.0 a.mid.node below.0 i b in
+          let kept : known_at bw.mid i ≡ known_at g.known i = two.above i b ∙ one.above i b in
           let rule : Known = forward_node g.known (node_at longer i) in
           let more : Known = forward_node e.known (node_at longer i) in
           narrower-again (IsClosedAt ex i) rule more (known_at g.known i) (known_at e.known i)

@@ -1,10 +1,10 @@
 -- A result that is forced is the only one that can be learnt.
-use Rattle.sf_dom.proofs.Common.{◌≡◌, ◌≢◌, ℕ, ◌<◌, ◌^◌, List, length, set, Bool, true, false, not, arith, refl, sym, ap, ◌∙◌, ◌⊎◌, inl, inr, cases_eq, nat_tests, set-get_or, Some, None, bit_or, or_lt, Test, Equal, IsPool, IsCondBelow, node_at, value_of, word-place, Cond, Node, Word, Known, IsNarrower, IsDecided, known_of, FactsView, known_at, numbers_at, Agrees, Covers, Pair, Excludes, AreExcludedBy, assumed_of, PairGives, LearnsBy, CantLearn, IsAtRest, AreExcluded, TestGives, assumed, number_known, past, IsClosed, IsClosedAt, met, IsForcedCondition, IsInput, passes, Input, constant-admits, IsForcedBy, common_steps, value-small}
+use Rattle.sf_dom.proofs.Common.{◌≡◌, ◌≢◌, ℕ, ◌<◌, ◌^◌, List, length, set, Bool, true, false, not, arith, refl, sym, ap, ◌∙◌, ◌⊎◌, inl, inr, cases_eq, nat_tests, None, bit_or, or_lt, Test, Equal, IsPool, IsCondBelow, node_at, value_of, word-place, Cond, Node, Word, Known, IsNarrower, IsDecided, FactsView, known_at, numbers_at, Agrees, Covers, Excludes, AreExcludedBy, LearnsBy, CantLearn, IsAtRest, AreExcluded, TestGives, assumed, number_known, past, IsClosed, IsClosedAt, met, IsForcedCondition, IsInput, passes, Input, constant-admits, IsForcedBy, common_steps, value-small}
 use Rattle.sf_dom.proofs.ClosedLemmas.{closed-number}
 use Rattle.sf_dom.proofs.ConditionSteps.{condition-nothing}
 use Rattle.sf_dom.proofs.AscendingLemmas.{one-more}
 use Rattle.sf_dom.proofs.Excluding.{added-at, excluded-word, both-excluded}
-use Rattle.sf_dom.proofs.Passes.{operands-below, closed-kept, still-reduction}
+use Rattle.sf_dom.proofs.Passes.{operands-below, closed-kept}
 use Rattle.sf_dom.proofs.propagation.Propagations.{word-below}
 use Rattle.sf_dom.proofs.TestLaws.{at-decided, test-admits, test-zeros}
 use Rattle.sf_dom.proofs.Covering.{covers-closed}
@@ -85,9 +85,6 @@ that-apart k n f d w =
 module _ (f : FactsView) (ns : List Node) (c : Cond) (number : ℕ)
     (h : IsForcedCondition f ns c number c.sense) (lists : List ℕ)
     (are : AreExcludedBy f.known f.excluded lists ns c) where
-  abbrev own : Known
-  own = known_at f.known c.node.0
-
   fits : number < 2 ^ 32
   fits = let e = ap (λ (k : Known). k.high) h.decided in
       omega (arith, e, (h.rest c.other.0 h.below.1).closed.known.fits)
@@ -109,30 +106,11 @@ module _ (f : FactsView) (ns : List Node) (c : Cond) (number : ℕ)
         still = r.still;
       }
 
-  abbrev pair : Pair
-  pair = record { node = own; other = known_at f.known c.other.0 }
-
-  pair-stays : PairGives f.known lists c (Some pair)
-  pair-stays =
-      let this : IsNarrower (assumed_of f.known c).node own = rw h.decided h.forced.this in
-      let that : IsNarrower (assumed_of f.known c).other (known_at f.known c.other.0) = rw h.decided h.forced.that in (
-        Some own,
-        still-reduction (IsClosedAt lists c.node.0) own (assumed_of f.known c).node
-            (rests c.node.0 h.below.0).closed this,
-        (
-          Some (known_at f.known c.other.0),
-          rw (set-get_or f.known c.node.0 (known_of 0 0 0 0))
-              (still-reduction (IsClosedAt lists c.other.0) (known_at f.known c.other.0) (assumed_of f.known c).other
-              (rests c.other.0 h.below.1).closed that),
-          refl,
-        ),
-      )
-
   learns : LearnsBy f (record { known = f.known; variables = f.variables; excluded = lists }) ns c
   learns = record {
     excluded = are;
-    known = condition-nothing f.known lists ns c pair h.pool h.count h.below pair-stays refl refl rests h.node_back
-        h.other_back;
+    known = condition-nothing f.known lists ns c h.pool h.count h.below rests (rw h.decided h.forced.this)
+        (rw h.decided h.forced.that) h.node_back h.other_back;
     variables = refl;
   }
 

@@ -1,11 +1,11 @@
 -- A test against a number that is forced, as a condition.
-use Rattle.sf_dom.proofs.Common.{◌≡◌, ◌≢◌, ℕ, zero, suc, ◌<◌, ◌^◌, ◌+◌, ◌-◌, List, [], ◌∷◌, ◌++◌, length, Bool, arith, refl, sym, ap, ◌∙◌, inl, inr, cases_lt, eq-eqb, get_or_append_left, get_or_push, length_push, take-append_seam, Option, Some, None, IfSome, BinOp, Test, IsSwappable, constant_operand_of, IsPool, node_at, IsPool-push, Node, Const, NodeId, Known, known_of, HandsOn, IsPropagatedBack, FactsView, known_at, GrowsBy, IsAtRest, number_known, IsClosedAt, IsForcedCondition, IsForcedTest, condition, closed-consistent}
+use Rattle.sf_dom.proofs.Common.{◌≡◌, ◌≢◌, ℕ, zero, suc, ◌<◌, ◌^◌, ◌+◌, ◌-◌, List, [], ◌∷◌, ◌++◌, length, Bool, arith, refl, sym, ap, ◌∙◌, eq-eqb, get_or_append_left, get_or_push, length_push, take-append_seam, Option, Some, None, IfSome, BinOp, Test, IsSwappable, constant_operand_of, IsPool, node_at, IsPool-push, Node, Const, NodeId, Known, known_of, gained, IsPropagatedBack, FactsView, known_at, GrowsBy, AreTakenIn, IsAtRest, number_known, IsClosedAt, IsForcedCondition, IsForcedTest, condition, closed-consistent}
 use Rattle.sf_dom.proofs.ConstantOperands.{is-operand}
 use Rattle.sf_dom.proofs.laws.Carried.{IsLonger, extends-longer, at-same}
 use Rattle.sf_dom.proofs.ClosedLemmas.{closed-number}
-use Rattle.sf_dom.proofs.Passes.{operands-below, forward-same, number-stays}
-use Rattle.sf_dom.proofs.Reductions.{IsNarrower-refl}
+use Rattle.sf_dom.proofs.Passes.{number-stays}
 use Rattle.sf_dom.proofs.RuleLaws.{again}
+use Rattle.sf_dom.proofs.Sampled.{grown-rest}
 
 -- a constant at rest is its number
 constant-known : (ks : List Known) (ex : List ℕ) (ns : List Node) (i c : ℕ) → c < 2 ^ 32 → node_at ns i ≡ Const c
@@ -45,11 +45,11 @@ back-longer (suc n) ks js ns longer at p l h same w =
     (λ i m v. back-longer n ks js ns longer i p m h same v))
   where
     on : (o : Option (BinOp × ℕ × ℕ)) → constant_operand_of ns (node_at ns at) ≡ o
-        → IfSome o (λ o. IsSwappable o.0 → HandsOn o.0 o.2 (known_at ks at) (known_at ks o.1)
+        → IfSome o (λ o. IsSwappable o.0 → (gained o.0 o.2 (known_at ks at) (known_at ks o.1) ≡ known_at ks o.1)
         × IsPropagatedBack n ks ns o.1)
         → ((i : ℕ) → i < length ns → IsPropagatedBack n ks ns i → IsPropagatedBack n js longer i)
         → IfSome o (λ o. IsSwappable o.0
-        → HandsOn o.0 o.2 (known_at js at) (known_at js o.1) × IsPropagatedBack n js longer o.1)
+        → (gained o.0 o.2 (known_at js at) (known_at js o.1) ≡ known_at js o.1) × IsPropagatedBack n js longer o.1)
     on None e x more = tt
     on (Some o) e x more = λ s.
         let older = (is-operand ns at o p l e).older in
@@ -78,46 +78,27 @@ forced-added f ns node other test number sense result h none at =
     let older : (i : ℕ) → i < length ns → known_at ks i ≡ known_at f.known i
     = λ i l. get_or_append_left f.known (new ∷ []) nothing i (omega arith) in
     let newest : known_at ks (length ns) ≡ new = get_or_push f.known new nothing (length ns) count in
-    let rest : (i : ℕ) → i < length more → IsAtRest ks f.excluded more i = λ i l. elim (cases_lt i (length ns)) [
-      | inl b ↦
-          let r = h.rest i b in
-          record {
-            closed = rw (older i b) r.closed;
-            still = rw (
-              longer.same i b,
-              older i b,
-              forward-same ks f.known i (node_at ns i) (operands-below ns i h.pool b) (λ j m. older j (omega arith)),
-            ) r.still;
-          }
-      | inr a ↦
+    let taken : AreTakenIn f.known ks f.excluded more = record {
+      count = length_push f.known new ∙ ap (λ n. n + 1) count ∙ sym size;
+      kept = take-append_seam f.known (new ∷ []);
+      each = λ i a l.
           let e : i ≡ length ns = omega arith in
           let known : known_at ks i ≡ new = ap (known_at ks) e ∙ newest in
           let node : node_at more i ≡ Const number = ap (node_at more) e ∙ last in
-          record {
-            closed = rw known (record { known = closed-number number h.fits; tight = λ b. absurd (omega arith) });
-            still = rw (known, node) (IsNarrower-refl new);
-          }
-    ] in (
+          rw (known, node) (again (IsClosedAt f.excluded i) new
+          (record { known = closed-number number h.fits; tight = λ b. absurd (omega arith) }));
+    } in (
       g,
       record {
-        known = record {
-          count = length_push f.known new ∙ ap (λ n. n + 1) count ∙ sym size;
-          kept = take-append_seam f.known (new ∷ []);
-          each = λ i a l.
-              let e : i ≡ length ns = omega arith in
-              let known : known_at ks i ≡ new = ap (known_at ks) e ∙ newest in
-              let node : node_at more i ≡ Const number = ap (node_at more) e ∙ last in
-              rw (known, node) (again (IsClosedAt f.excluded i) new
-              (record { known = closed-number number h.fits; tight = λ b. absurd (omega arith) }));
-        };
+        known = taken;
         variables = rw (one, at_end, last, newest, eq-eqb number number refl) refl;
         excluded = refl;
       },
       forced-found g more node other test number sense result (record {
         pool = pool;
-        count = length_push f.known new ∙ ap (λ n. n + 1) count ∙ sym size;
+        count = taken.count;
         lists = h.lists;
-        rest = rest;
+        rest = grown-rest f.known ks f.excluded ns more h.pool count (Const number ∷ [], refl) taken h.rest;
         below = omega (arith, h.below);
         fits = h.fits;
         forced = rw (older node.0 h.below) h.forced;

@@ -33,16 +33,9 @@ left-of a c s h i = elim (cases_lt i 32) [
 
 -- ---- operations
 
--- what follows for a node lies within a word
-high-fits : (op : BinOp) (a b : Known) → a.low ≤ a.high → b.low ≤ b.high → a.high < 2 ^ 32 → b.high < 2 ^ 32
-    → (forward_known op a b).high ≤ 4294967295
+left-high : (a b : Known) → (forward_known Lsh a b).high ≤ 4294967295
 unfolding forward_known
-high-fits Div a b oa ob fa fb = let d = div-le_self a.high b.low in grind (arith, nat_tests)
-high-fits Or a b oa ob fa fb = omega arith
-high-fits And a b oa ob fa fb = omega arith
-high-fits Xor a b oa ob fa fb = omega arith
-high-fits Rsh a b oa ob fa fb = let d = div-le_self a.high (2 ^ (b.low % 32)) in grind (arith, nat_tests)
-high-fits op a b oa ob fa fb = grind (arith, nat_tests)
+left-high a b = grind (arith, nat_tests)
 
 left-narrower : (a c : Known) (s : ℕ) → c.high < 2 ^ 32 → IsNarrower a c → IsNarrower (moved_left a s) (moved_left c s)
 left-narrower a c s fc h =
@@ -84,7 +77,7 @@ known-narrower Xor a b c d oc od fc fd h k = record {
 }
 known-narrower Lsh a b c d oc od fc fd h k =
     let low = k.low in let high = k.high in let l = left-narrower a c (b.low % 32) fc h in
-    let top = high-fits Lsh c d oc od fc fd in grind (arith, nat_tests, bit_at-zero)
+    let top = left-high c d in grind (arith, nat_tests, bit_at-zero)
 known-narrower Rsh a b c d oc od fc fd h k =
     let low = k.low in let high = k.high in let r = right-narrower a c (b.low % 32) h in
     let top = right-high c d a.high h.high in grind (arith, nat_tests, bit_at-zero)

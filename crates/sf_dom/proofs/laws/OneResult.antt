@@ -1,5 +1,5 @@
 -- What the rules give is one thing.
-use Rattle.sf_dom.proofs.Common.{◌≡◌, ℕ, zero, suc, List, [], length, set, arith, refl, sym, ap, ◌∙◌, ext_get_or, Option, Some, None, IsPool, node_at, Cond, Node, Known, Pair, Has, known_of, FactsView, known_at, numbers_at, gained, WritingGives, GoingBackGivesIn, GoingBackGives, AreExcludedBy, PairGives, with_pair, ConditionGives, MoreGives, LearnsBy, CantLearn, StartsBy, GrowsBy, CantGrow, TakesInBy, CantTakeInBy, IsPass, PassFails, PassGives, AreTakenIn, TakingInFails, variables_after, then-same, then-one, met, IsClosedAt, ReductionGives, common_steps}
+use Rattle.sf_dom.proofs.Common.{◌≡◌, ℕ, zero, suc, List, [], length, set, arith, refl, sym, ap, ◌∙◌, ext_get_or, Option, Some, None, IsPool, node_at, Cond, Node, Known, Pair, Has, known_of, FactsView, known_at, numbers_at, gained, WritingGives, GoingBackGivesIn, GoingBackGives, AreExcludedBy, assumed_of, MetGives, ConditionGives, MoreGives, LearnsBy, CantLearn, StartsBy, GrowsBy, CantGrow, TakesInBy, CantTakeInBy, PassGives, AreTakenIn, TakingInFails, variables_after, then-same, then-one, met, IsClosedAt, ReductionGives, common_steps}
 use Rattle.sf_dom.proofs.AscendingLemmas.{same-set}
 use Rattle.sf_dom.proofs.Passes.{forward-same, operands-below, one-pass, pass-none}
 use Rattle.sf_dom.proofs.propagation.Propagations.{same-taken}
@@ -13,21 +13,12 @@ reduction-one ex i old None (Some b) h k = absurd (h b k.is k.narrower)
 reduction-one ex i old (Some a) None h k = absurd (k a h.is h.narrower)
 reduction-one ex i old (Some a) (Some b) h k = ap Some (one-reduction (IsClosedAt ex i) old a b h k)
 
--- a pass that fails gives nothing
-fails-none : (old new : List Known) (ex : List ℕ) (ns : List Node) → IsPool ns → PassFails old ex ns
-    → ¬ IsPass old new ex ns
-fails-none old new ex ns p w pass = pass-none old w.new ex ns w.place p w.within w.before w.none new pass
-
 pass-one : (old : List Known) (ex : List ℕ) (ns : List Node) → IsPool ns → (r s : Option (List Known))
     → PassGives old ex ns r → PassGives old ex ns s → r ≡ s
 pass-one old ex ns p None None h k = refl
-pass-one old ex ns p None (Some b) h k = absurd (fails-none old b ex ns p h k)
-pass-one old ex ns p (Some a) None h k = absurd (fails-none old a ex ns p k h)
+pass-one old ex ns p None (Some b) h k = absurd (pass-none old b ex ns p h k)
+pass-one old ex ns p (Some a) None h k = absurd (pass-none old a ex ns p k h)
 pass-one old ex ns p (Some a) (Some b) h k = ap Some (one-pass old a b ex ns p h k)
-
-pub pair-one : (ks : List Known) (ex : List ℕ) (cond : Cond) (r s : Option Pair) → PairGives ks ex cond r
-    → PairGives ks ex cond s → r ≡ s
-pair-one ks ex cond = grind (arith, common_steps, then-one, reduction-one)
 
 -- what is written is one thing
 writing-one : (ks : List Known) (ex : List ℕ) (i : ℕ) (known : Known) (r s : Option (List Known))
@@ -53,12 +44,15 @@ back-one (suc n) ks ex ns at r s w (suc m) v =
 condition-one : (ks : List Known) (ex : List ℕ) (ns : List Node) (cond : Cond) → IsPool ns
     → (r s : Option (List Known)) → ConditionGives ks ex ns cond r → ConditionGives ks ex ns cond s → r ≡ s
 condition-one ks ex ns cond p =
-    then-one (PairGives ks ex cond) _ (pair-one ks ex cond) (λ pair g.
-    let mid : List Known = with_pair ks cond pair in
-    then-one (GoingBackGives mid ex ns cond.node.0) _
-    (λ o q x y. back-one x.0 mid ex ns cond.node.0 o q x.1 y.0 y.1) (λ one f.
+    let told : Pair = assumed_of ks cond in
+    then-one (MetGives ks ex cond.node.0 told.node) _
+    (writing-one ks ex cond.node.0 (met (known_at ks cond.node.0) told.node)) (λ mid g.
+    then-one (MetGives mid ex cond.other.0 told.other) _
+    (writing-one mid ex cond.other.0 (met (known_at mid cond.other.0) told.other)) (λ both b.
+    then-one (GoingBackGives both ex ns cond.node.0) _
+    (λ o q x y. back-one x.0 both ex ns cond.node.0 o q x.1 y.0 y.1) (λ one f.
     then-one (GoingBackGives one ex ns cond.other.0) (λ two s. PassGives two ex ns s)
-    (λ o q x y. back-one x.0 one ex ns cond.other.0 o q x.1 y.0 y.1) (λ two k. pass-one two ex ns p)))
+    (λ o q x y. back-one x.0 one ex ns cond.other.0 o q x.1 y.0 y.1) (λ two k. pass-one two ex ns p))))
 
 -- and so is what more of a node leaves
 more-one : (ks : List Known) (ex : List ℕ) (ns : List Node) (i : ℕ) (more : Known) → IsPool ns
@@ -90,12 +84,12 @@ taken-none old new ex ns p h k =
 -- ---- facts
 
 -- the same numbers are excluded for each word in one way
-pub same-sets : (a b : List ℕ) → length a ≡ length b → ((w m : ℕ) → Has (numbers_at a w) m → Has (numbers_at b w) m)
+same-sets : (a b : List ℕ) → length a ≡ length b → ((w m : ℕ) → Has (numbers_at a w) m → Has (numbers_at b w) m)
     → ((w m : ℕ) → Has (numbers_at b w) m → Has (numbers_at a w) m) → a ≡ b
 same-sets a b e to from = ext_get_or 0 a b e (λ w l. same-set (numbers_at a w) (numbers_at b w) (to w) (from w))
 
 -- a condition excludes numbers in one way
-exclusions-one : (ks : List Known) (ex a b : List ℕ) (ns : List Node) (cond : Cond)
+pub exclusions-one : (ks : List Known) (ex a b : List ℕ) (ns : List Node) (cond : Cond)
     → AreExcludedBy ks ex a ns cond → AreExcludedBy ks ex b ns cond → a ≡ b
 exclusions-one ks ex a b ns cond h k = grind (arith, common_steps, same-sets)
 

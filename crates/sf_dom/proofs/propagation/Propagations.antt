@@ -1,6 +1,6 @@
 -- Nodes that a forward pass need not go through, and newer nodes that are taken in.
-use Rattle.sf_dom.proofs.Common.{◌≡◌, ◌≢◌, ℕ, Bool, true, false, ◌-◌, ◌<◌, ◌≤◌, ◌+◌, List, [], ◌∷◌, ◌++◌, length, set, take, zero, suc, arith, refl, sym, ap, ◌∙◌, ◌⊎◌, inl, inr, cases_lt, cases_eq, get_or-set_same, get_or-set_other, get_or_append_left, get_or_push, length_push, get_or-take, slice_index, ◌&&◌, if◌then◌else◌, IsPool, OperandsBelow, node_at, Node, Word, Bin, Neg, Known, IsNarrower, IsConsistent, is_decided, known_of, NodesView, IsLaidOut, AreConsistentOperands, AreClosedWords, forward_node, IsClosedAt, IsReduction, IsAtRest, AreClosed, AreFixed, are_all_decided, variables_to, IsFixedAt, IsVariableAt, known_at, closed-consistent, common_steps}
-use Rattle.sf_dom.proofs.Passes.{operands-below, forward-same, fixed-rest, word-rest, fixed-same, decided-same, decided-as}
+use Rattle.sf_dom.proofs.Common.{◌≡◌, ◌≢◌, ℕ, Bool, true, false, ◌-◌, ◌<◌, ◌≤◌, ◌+◌, List, [], ◌∷◌, ◌++◌, length, set, take, zero, suc, arith, refl, sym, ap, ◌∙◌, ◌⊎◌, inl, inr, cases_lt, cases_eq, get_or-set_same, get_or-set_other, get_or_append_left, get_or_push, length_push, get_or-take, length-take, and_parts, slice_index, ◌&&◌, if◌then◌else◌, IsPool, OperandsBelow, node_at, Node, Word, Bin, Neg, Known, IsConsistent, is_decided, known_of, NodesView, IsLaidOut, AreConsistentOperands, AreClosedWords, forward_node, IsClosedAt, IsReduction, IsAtRest, AreClosed, AreFixed, AreTakenIn, IsStill, are_all_decided, variables_to, variables_after, IsFixedAt, IsVariableAt, known_at, closed-consistent, common_steps}
+use Rattle.sf_dom.proofs.Passes.{operands-below, forward-same, fixed-rest, word-rest, fixed-same, decided-as}
 use Rattle.sf_dom.proofs.Reductions.{IsNarrower-refl}
 use Rattle.sf_dom.proofs.RuleLaws.{one-reduction}
 use Rattle.sf_dom.proofs.Then.{by-older}
@@ -67,47 +67,7 @@ closed-set ks ex i next l closed w h = elim (cases_eq w i) [
 more-variables : (places : List ℕ) (i k : ℕ) → IsVariableAt places k → IsVariableAt (places ++ i ∷ []) k
 more-variables places i k v = grind (arith, common_steps, get_or_append_left, length_push)
 
--- a node that is added is a variable, or no more can become known of it
-pub fixed-push : (places more : List ℕ) (ks : List Known) (ns : List Node) (i : ℕ) (settled : Bool) (r next : Known)
-    → IsPool ns → length ks ≡ i → i < length ns → ((k : ℕ) → k < i → IsVariableAt places k ⊎ IsFixedAt ks ns k)
-    → r ≡ forward_node ks (node_at ns i) → IsNarrower r next
-    → (settled ≡ true → are_all_decided ks (node_at ns i) ≡ true)
-    → more ≡ (if settled then places else places ++ length ks ∷ []) → (k : ℕ) → k < i + 1
-    → IsVariableAt more k ⊎ IsFixedAt (ks ++ next ∷ []) ns k
-fixed-push places more ks ns i settled r next p len l older is narrower told made k lk =
-    let pushed = by settled refl made in
-    let same : (j : ℕ) → j < i → known_at (ks ++ next ∷ []) j ≡ known_at ks j
-    = λ j b. get_or_append_left ks (next ∷ []) (known_of 0 0 0 0) j (omega arith) in
-    elim (cases_lt k i) [
-      | inl b ↦ elim (older k b) [
-        | inl v ↦ inl (elim pushed [ inl q ↦ rw q.1 v | inr q ↦ rw q (more-variables places (length ks) k v) ])
-        | inr f ↦ inr (fixed-same ks (ks ++ next ∷ []) ns k p (omega arith) (λ j c d. same j (omega arith))
-            (rw (same k b) (IsNarrower-refl (known_at ks k))) f)
-      ]
-      | inr g ↦
-          let e : k ≡ i = omega arith in
-          elim pushed [
-            | inl q ↦
-                let lower = operands-below ns i p l in
-                let t = decided-same ks (ks ++ next ∷ []) i (node_at ns i) lower (λ j c d. same j c) (told q.0) in
-                inr (rw e (record {
-                  operands = t.0;
-                  still = rw (t.1, get_or_push ks next (known_of 0 0 0 0) i len, ← is) narrower;
-                }))
-            | inr q ↦ inl (rw q (
-              length places,
-              omega (arith, length_push places (length ks)),
-              get_or_push places (length ks) 0 (length places) refl ∙ len ∙ sym e,
-            ))
-          ]
-    ]
-  where
-    by : (b : Bool) → settled ≡ b → more ≡ (if b then places else places ++ length ks ∷ [])
-        → ((settled ≡ true) × (more ≡ places)) ⊎ (more ≡ places ++ length ks ∷ [])
-    by true e m = inl (e, m)
-    by false e m = inr m
-
--- so it is in the list of the variables
+-- a node that is added is in the list of the variables, or it and its operands are decided
 pub listed-push : (vs places more : List ℕ) (ks : List Known) (ns : List Node) (from i : ℕ) (settled : Bool)
     (next : Known) → IsPool ns → length ks ≡ i → i < length ns → from ≤ i
     → settled ≡ (are_all_decided ks (node_at ns i) && is_decided next) → places ≡ variables_to vs ks ns from (i - from)
@@ -163,6 +123,52 @@ ruled-push ks ex ns from i r next p len l older is reduction k fk lk =
 pub taken-older : (old xs : List Known) (k : ℕ) → take (length old) xs ≡ old → k < length old
     → known_at old k ≡ known_at xs k
 taken-older old xs k t l = ap (λ ys. known_at ys k) (sym t) ∙ get_or-take (length old) xs k (known_of 0 0 0 0) l
+
+pub taken-length : (old new : List Known) → take (length old) new ≡ old → length old ≤ length new
+taken-length old new kept = omega (arith, ap length kept, length-take (length old) new)
+
+-- each node is a variable, or no forward pass makes more known of it, where so many nodes from a place on are listed
+listed-fixed : (places : List ℕ) (ks : List Known) (ns : List Node) (from n : ℕ)
+    → ((k : ℕ) → k < from → IsVariableAt places k ⊎ IsFixedAt ks ns k)
+    → ((k : ℕ) → from ≤ k → k < from + n → IsStill ks ns k) → (k : ℕ) → k < from + n
+    → IsVariableAt (variables_to places ks ns from n) k ⊎ IsFixedAt ks ns k
+listed-fixed places ks ns from zero older still k l = older k (omega arith)
+listed-fixed places ks ns from (suc n) older still k l =
+    on (are_all_decided ks (node_at ns (from + n)) && is_decided (known_at ks (from + n))) refl (cases_lt k (from + n))
+    (λ b. listed-fixed places ks ns from n older (λ j a c. still j a (omega arith)) k b)
+  where
+    xs : List ℕ
+    xs = variables_to places ks ns from n
+
+    last : from + n ≤ k → k ≡ from + n
+    last g = omega (arith, g, l)
+
+    on : (b : Bool) → (are_all_decided ks (node_at ns (from + n)) && is_decided (known_at ks (from + n))) ≡ b
+        → (k < from + n) ⊎ (from + n ≤ k) → (k < from + n → IsVariableAt xs k ⊎ IsFixedAt ks ns k)
+        → IsVariableAt (if b then xs else xs ++ (from + n) ∷ []) k ⊎ IsFixedAt ks ns k
+    on true e (inl b) before = before b
+    on true e (inr g) before = inr (rw (last g) (record {
+      operands = (and_parts (are_all_decided ks (node_at ns (from + n))) (is_decided (known_at ks (from + n))) e).0;
+      still = still (from + n) (omega arith) (omega arith);
+    }))
+    on false e (inl b) before = elim (before b) [ inl v ↦ inl (more-variables xs (from + n) k v) | inr f ↦ inr f ]
+    on false e (inr g) before = inl (rw (last g) (
+      length xs,
+      omega (arith, length_push xs (from + n)),
+      get_or_push xs (from + n) 0 (length xs) refl,
+    ))
+
+-- and so it is where newer nodes are taken in
+pub taken-fixed : (places : List ℕ) (old new : List Known) (ex : List ℕ) (ns : List Node) → IsPool ns
+    → AreTakenIn old new ex ns → ((k : ℕ) → k < length old → IsVariableAt places k ⊎ IsFixedAt old ns k)
+    → AreFixed (variables_after places old new ns) new ns
+taken-fixed places old new ex ns p g older k l =
+    let count = g.count in let longer = taken-length old new g.kept in
+    listed-fixed places new ns (length old) (length ns - length old) (λ j b. elim (older j b) [
+      | inl v ↦ inl v
+      | inr f ↦ inr (fixed-same old new ns j p (omega arith) (λ i c d. sym (taken-older old new i g.kept (omega arith)))
+          (rw (taken-older old new j g.kept b) (IsNarrower-refl (known_at new j))) f)
+    ]) (λ j a c. (g.each j a (omega arith)).narrower) k (omega arith)
 
 -- what is known is consistent where newer nodes are taken in
 pub taken-consistent : (old ks : List Known) (ex : List ℕ) (ns : List Node) (i : ℕ) → take (length old) ks ≡ old

@@ -4,15 +4,9 @@ use Rattle.std.proofs.Common.{◌≡◌, ℕ, ◌<◌, ◌≤◌, ◌-◌, ◌+�
 use Rattle.std.proofs.lemmas.Bool.{cases_eq, cases_lt}
 use Rattle.std.proofs.lemmas.List.{get_or-set_same, get_or-set_other, length-set, length-map, get_or-map, get_or_past, get_or-take, length-take-le}
 use Rattle.std.proofs.lemmas.Nat.Bits.{bit_at_not, bit_at-lt, bit_at-zero, bit_at_above, same_from_bits_below}
-use Rattle.std.specs.Int.{bit_at, w32}
+use Rattle.sf_dom.specs.Common.{bit_at, w32, IsInput, Input, IsPool, node_at, node_value, values_of, value_of, ArePlainNodes, Node, Const, Known}
 use Rattle.std.specs.Prelude.{slice_index}
-use Rattle.sf_insn.specs.Inputs.{IsInput}
-use Rattle.sf_insn.specs.declared.input.Input.{Input}
-use Rattle.sf_sym.specs.Pool.{IsPool, node_at, node_value, values_of, value_of, ArePlainNodes}
 use Rattle.sf_sym.specs.laws.ValueLaws.{value-node, value-constant}
-use Rattle.sf_sym.specs.declared.pool.Node.{Node}
-use Rattle.sf_sym.specs.declared.pool.Node.TheVariants.{Const}
-use Rattle.sf_dom.specs.declared.known.Known.{Known}
 use Rattle.sf_dom.specs.Known.{Has, Admits, Leaves, IsNarrower, IsConsistent}
 use Rattle.sf_dom.specs.Passes.{IsAtRest}
 use Rattle.sf_dom.specs.Rules.{IsClosed}

@@ -1,10 +1,6 @@
 -- What the answer of a call on facts says of inputs, by the laws of the rules.
 use Rattle.std.specs.Prelude.{◌≡◌, ℕ, ◌<◌, ◌^◌, bit_and, List, length, Bool, true, false, MatchBool, Option, Some, None, IfSome}
-use Rattle.sf_insn.specs.Inputs.{IsInput}
-use Rattle.sf_insn.specs.declared.input.Input.{Input}
-use Rattle.sf_insn.specs.declared.ops.Test.{Test}
-use Rattle.sf_sym.specs.Pool.{value_of}
-use Rattle.sf_sym.specs.declared.pool.Node.{Node}
+use Rattle.sf_dom.specs.Common.{IsInput, Input, Test, value_of, Node}
 use Rattle.sf_dom.specs.Facts.{FactsView, known_at, Agrees, Covers, NoInput, HasIn, LiesIn, HasMasked, ConfinesWord}
 use Rattle.sf_dom.specs.Learning.{TakesInBy, CantTakeInBy}
 use Rattle.sf_dom.specs.Propagation.{TestGives}

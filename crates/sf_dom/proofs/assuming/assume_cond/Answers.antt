@@ -1,6 +1,6 @@
 use Rattle.sf_dom.proofs.Common.{arith, refl, set, length-set, Some, None, known_at, met, assumed_of, with_pair}
 use Rattle.sf_dom.proofs.BackLaws.{back-lawful}
-use Rattle.sf_dom.proofs.ConditionSteps.{pair-left, pair-narrowed, both-back, condition-steps}
+use Rattle.sf_dom.proofs.ConditionSteps.{pair-narrowed, pair-then, both-back, condition-steps}
 use Rattle.sf_dom.proofs.Lawful.{narrowed-left, narrowed-trans}
 use Rattle.sf_dom.proofs.Passes.{met-left, reduced-stays}
 use Rattle.sf_dom.proofs.Steps.{still-fixed}
@@ -9,10 +9,9 @@ use Rattle.sf_dom.proofs.assuming.assume_cond.Goals as goal
 pub set-requires-clause-decided : goal.set-requires-clause-decided
 set-requires-clause-decided c = λ d.
     let ks = c.args.nodes.now.known in let ex = c.args.excluded.now in let cond = c.args.cond.now in
-    let left = pair-left ks ex cond (Some c.args.alone) c.requires.left in
     let v = known_at ks cond.node.0 in let told = (assumed_of ks cond).node in
     reduced-stays ex cond.node.0 v (met v told) c.args.alone.node
-    (c.requires.closed.each cond.node.0 c.requires.below.0) (met-left v told) left.node d
+    (c.requires.closed.each cond.node.0 c.requires.below.0) (met-left v told) c.requires.left.node d
 
 pub set-requires-2-clause-within : goal.set-requires-2-clause-within
 set-requires-2-clause-within c =
@@ -26,8 +25,7 @@ set-requires-2-clause-within c =
 pub set-requires-2-clause-decided : goal.set-requires-2-clause-decided
 set-requires-2-clause-decided c = λ d.
     let ks = c.args.nodes.now.known in let ex = c.args.excluded.now in let cond = c.args.cond.now in
-    let below = c.requires.below in
-    let left = pair-left ks ex cond (Some c.args.alone) c.requires.left in
+    let below = c.requires.below in let left = c.requires.left in
     let v = known_at ks cond.node.0 in let told = assumed_of ks cond in
     let first = narrowed-left ks ex c.args.pool.now cond.node.0 (met v told.node) c.args.alone.node c.requires.closed
     below.0 (met-left v told.node) left.node in
@@ -79,14 +77,16 @@ pub returns-then-not-propagate_back-clause-rule : goal.returns-then-not-propagat
 returns-then-not-propagate_back-clause-rule c =
     let none = rw (c.set-2.ensures.known, c.set.ensures.known, c.if-not-propagate_back.true) at
     c.propagate_back.ensures.back in
-    (Some c.args.alone, c.requires.left, (None, none, refl))
+    pair-then c.args.nodes.now.known c.args.excluded.now c.args.pool.now c.args.cond.now c.args.alone c.requires.left
+    None (None, none, refl)
 
 pub returns-then-not-propagate_back-2-clause-rule : goal.returns-then-not-propagate_back-2-clause-rule
 returns-then-not-propagate_back-2-clause-rule c =
     let one = rw (c.set-2.ensures.known, c.set.ensures.known, c.if-not-propagate_back.false) at
     c.propagate_back.ensures.back in
     let none = rw c.if-not-propagate_back-2.true at c.propagate_back-2.ensures.back in
-    (Some c.args.alone, c.requires.left, (Some c.propagate_back.new.nodes.known, one, (None, none, refl)))
+    pair-then c.args.nodes.now.known c.args.excluded.now c.args.pool.now c.args.cond.now c.args.alone c.requires.left
+    None (Some c.propagate_back.new.nodes.known, one, (None, none, refl))
 
 pub returns-clause-rule : goal.returns-clause-rule
 returns-clause-rule c =

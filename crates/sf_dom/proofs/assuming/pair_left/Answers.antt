@@ -1,31 +1,31 @@
-use Rattle.sf_dom.proofs.Common.{refl, Some, None, known_at, met, assumed_of}
-use Rattle.sf_dom.proofs.Passes.{met-left}
-use Rattle.sf_dom.proofs.Reductions.{IsNarrower-trans}
-use Rattle.sf_dom.proofs.ConditionSteps.{told-left}
+use Rattle.sf_dom.proofs.Common.{refl, set, Some, None}
+use Rattle.sf_dom.proofs.ConditionSteps.{known-other}
 use Rattle.sf_dom.proofs.assuming.pair_left.Goals as goal
 
 pub returns : goal.returns
 returns c =
-    let ks = c.args.nodes.now.known in let cond = c.args.cond.now in let v = known_at ks cond.node.0 in
     let pair = rw (c.get.ensures, c.get-2.ensures) at c.assume_test-pair.ensures in
-    let node = rw pair at c.in_ok-node.ensures in
-    let narrower = IsNarrower-trans v (met v (assumed_of ks cond).node) c.in_ok-node.node
-    (met-left v (assumed_of ks cond).node) node.narrower in
-    let other = told-left (Some c.in_ok-other.other) ks c.args.excluded.now cond c.in_ok-node.node
-    c.told_of_other-told.result (assumed_of ks cond).other c.requires.0 narrower
-    (rw pair at c.told_of_other-told.ensures.apart) (rw pair at c.told_of_other-told.ensures.one)
-    c.in_ok-other.ensures in
-    (Some c.in_ok-node.node, node, (Some c.in_ok-other.other, other, refl))
+    let own = known-other c.args.nodes.now.known c.args.cond.now c.in_ok-node.node c.known_of_other-own.result
+    c.requires.0 c.known_of_other-own.ensures.apart c.known_of_other-own.ensures.one in
+    let both = rw (pair, own) at c.meet-both.ensures in
+    record { node = rw pair at c.in_ok-node.ensures; other = rw both at c.in_ok-other.ensures }
+
+pub returns-in_err-node : goal.returns-in_err-node
+returns-in_err-node c =
+    let pair = rw (c.get.ensures, c.get-2.ensures) at c.assume_test-pair.ensures in
+    let none = rw pair at c.in_err-node.ensures in
+    rw c.from_residual.ensures (λ ns. (None, (None, none, refl), refl))
 
 pub returns-in_err-other : goal.returns-in_err-other
 returns-in_err-other c =
-    let ks = c.args.nodes.now.known in let cond = c.args.cond.now in let v = known_at ks cond.node.0 in
+    let ks = c.args.nodes.now.known in let v = c.args.cond.now.node.0 in let node = c.in_ok-node.node in
     let pair = rw (c.get.ensures, c.get-2.ensures) at c.assume_test-pair.ensures in
-    let node = rw pair at c.in_ok-node.ensures in
-    let narrower = IsNarrower-trans v (met v (assumed_of ks cond).node) c.in_ok-node.node
-    (met-left v (assumed_of ks cond).node) node.narrower in
-    let other = told-left None ks c.args.excluded.now cond c.in_ok-node.node
-    c.told_of_other-told.result (assumed_of ks cond).other c.requires.0 narrower
-    (rw pair at c.told_of_other-told.ensures.apart) (rw pair at c.told_of_other-told.ensures.one)
-    c.in_err-other.ensures in
-    rw c.from_residual-in_err-other.ensures (Some c.in_ok-node.node, node, (None, other, refl))
+    let own = known-other ks c.args.cond.now node c.known_of_other-own.result c.requires.0
+    c.known_of_other-own.ensures.apart c.known_of_other-own.ensures.one in
+    let both = rw (pair, own) at c.meet-both.ensures in
+    let none = rw both at c.in_err-other.ensures in
+    rw c.from_residual-in_err-other.ensures (λ ns. (
+      Some (set ks v node),
+      (Some node, rw pair at c.in_ok-node.ensures, refl),
+      (None, (None, none, refl), refl),
+    ))

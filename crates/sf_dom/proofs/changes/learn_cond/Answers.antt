@@ -1,5 +1,5 @@
-use Rattle.sf_dom.proofs.Common.{arith, Some}
-use Rattle.sf_dom.proofs.ConditionSteps.{pair-left, words-written}
+use Rattle.sf_dom.proofs.Common.{arith}
+use Rattle.sf_dom.proofs.ConditionSteps.{words-written}
 use Rattle.sf_dom.proofs.changes.learn_cond.Goals as goal
 
 pub assume_cond-requires-clause-words : goal.assume_cond-requires-clause-words
@@ -8,7 +8,7 @@ assume_cond-requires-clause-words c =
     let p = c.len-count.ensures.lawful in let words = p.words in
     rw c.in_ok-left.ensures (words-written ks c.args.excluded.now lists c.args.pool.now cond c.in-Some.alone p
     c.requires.count c.requires.below (λ w l. (c.requires.rest w (omega arith)).closed) c.in_ok-lists.ensures
-    (pair-left ks lists cond (Some c.in-Some.alone) c.in-Some.ensures))
+    c.in-Some.ensures)
 
 pub returns-then-not-assume_cond-clause-rule : goal.returns-then-not-assume_cond-clause-rule
 returns-then-not-assume_cond-clause-rule c =

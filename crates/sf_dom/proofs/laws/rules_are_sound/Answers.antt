@@ -1,7 +1,7 @@
 use Rattle.sf_dom.proofs.Assumed.{learns, cant-learn}
 use Rattle.sf_dom.proofs.Builds.{built-facts, none-meets-all}
 use Rattle.sf_dom.proofs.laws.Confined.{confines-range, cant-confine-range, confines-masked, cant-confine-masked}
-use Rattle.sf_dom.proofs.Covering.{covers-resting, known-back, results-decided}
+use Rattle.sf_dom.proofs.Covering.{known-back, results-decided}
 use Rattle.sf_dom.proofs.laws.Forced.{forced-holds}
 use Rattle.sf_dom.proofs.Sampled.{grown-takes-in, none-agreed}
 use Rattle.sf_dom.proofs.RuleLaws.{forward-sound, negate-sound, reduction-sound, reduction-none, word-sound, word-none-sound, one-reduction}
@@ -32,7 +32,7 @@ returns-clause-learning c = record {
   built = built-facts;
   cant_build = none-meets-all;
   learns = λ f new ns cond h below covers x. learns f ns cond h below new covers x;
-  cant_learn = λ f ns cond h below x. cant-learn f ns cond (covers-resting f ns h) below x;
+  cant_learn = λ f ns cond h below x. cant-learn f ns cond h below x;
   confines = confines-range;
   cant_confine = cant-confine-range;
   confines_bits = λ f new ns w mask value h l fits inside covers x.

@@ -1,6 +1,6 @@
 use Rattle.sf_dom.proofs.Common.{◌≡◌, length, arith, ◌∷◌, [], sym, ap, ◌∙◌, inl, inr, and_parts, cases_lt, eqb-true, ◌&&◌, is_decided, length_push, take-append-le, node_at, AreConsistent, forward_node, closed-consistent}
 use Rattle.sf_dom.proofs.Passes.{one-number, operands-below}
-use Rattle.sf_dom.proofs.propagation.Propagations.{fixed-push, listed-push, ruled-push, consistent-operands, taken-consistent}
+use Rattle.sf_dom.proofs.propagation.Propagations.{listed-push, ruled-push, consistent-operands, taken-consistent}
 use Rattle.sf_dom.proofs.propagation.append.Goals.{then-fixed, else-fixed}
 use Rattle.sf_dom.proofs.propagation.append.Goals as goal
 
@@ -24,12 +24,6 @@ loop-i-preserved c =
       count = omega (arith, length_push ks next);
       kept = take-append-le (length old) ks (next ∷ []) longer ∙ inv.kept;
       longer = omega (arith, length_push ks next);
-      fixed = λ consistent first.
-          fixed-push c.loop-i.nodes.variables c.push.new.self.variables ks ns i c.if-fixed.push
-          c.transfer-known.result next lawful count (omega arith) (inv.fixed consistent first) (is consistent)
-          c.in-Some.ensures.narrower (λ t. sym (rw c.node_at-node.ensures.node at c.is_fixed-fixed.ensures)
-          ∙ (and_parts c.is_fixed-fixed.result (is_decided next) (sym both ∙ t)).0)
-          c.in_ok-push-in-Some.ensures.variables;
       listed = listed-push c.args.nodes.now.variables c.loop-i.nodes.variables c.push.new.self.variables ks ns
           (length old) i c.if-fixed.push next lawful count (omega arith) (omega arith)
           (both ∙ rw c.node_at-node.ensures.node at

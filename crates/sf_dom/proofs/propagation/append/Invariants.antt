@@ -1,4 +1,4 @@
-use Rattle.sf_dom.proofs.Common.{◌≡◌, ℕ, ◌-◌, ◌<◌, ◌≤◌, ◌⊎◌, length, take, node_at, forward_node, IsReduction, variables_to, IsVariableAt, IsFixedAt, AreConsistent, known_at}
+use Rattle.sf_dom.proofs.Common.{◌≡◌, ℕ, ◌-◌, ◌<◌, ◌≤◌, length, take, node_at, forward_node, IsReduction, variables_to, AreConsistent, known_at}
 use Rattle.sf_dom.proofs.propagation.append.Given as goal
 
 abbrev pub invariant-loop-i : goal.invariant-loop-i
@@ -8,10 +8,6 @@ invariant-loop-i l = record {
   longer : length l.fn.nodes.known ≤ length l.nodes.known;
   listed : l.nodes.variables ≡ variables_to l.fn.nodes.variables l.nodes.known l.pool (length l.fn.nodes.known)
       (l.i - length l.fn.nodes.known);
-  fixed : AreConsistent l.fn.nodes.known
-      → ((k : ℕ) → k < length l.fn.nodes.known → IsVariableAt l.fn.nodes.variables k
-      ⊎ IsFixedAt l.fn.nodes.known l.pool k)
-      → (k : ℕ) → k < l.i → IsVariableAt l.nodes.variables k ⊎ IsFixedAt l.nodes.known l.pool k;
   ruled : AreConsistent l.fn.nodes.known → (k : ℕ) → length l.fn.nodes.known ≤ k → k < l.i
       → IsReduction l.excluded k (forward_node l.nodes.known (node_at l.pool k)) (known_at l.nodes.known k);
 }

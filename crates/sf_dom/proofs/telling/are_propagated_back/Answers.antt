@@ -1,5 +1,5 @@
-use Rattle.sf_dom.proofs.Common.{arith, refl, sym, ◌∙◌, false≢true, known_at}
-use Rattle.sf_dom.proofs.BackLaws.{back-step, goes_back-end, goes_back-other, back-hands, back-on, gained-same, gained-hands}
+use Rattle.sf_dom.proofs.Common.{arith, refl, sym, ◌∙◌, false≢true}
+use Rattle.sf_dom.proofs.BackLaws.{back-step, goes_back-end, goes_back-other, back-on}
 use Rattle.sf_dom.proofs.telling.are_propagated_back.Goals as goal
 
 pub returns-in-None : goal.returns-in-None
@@ -18,8 +18,7 @@ returns-then-not-is_same c =
       (λ t. absurd (false≢true t)),
       (λ h.
           let at = c.loop-op.invariant.on h in let e = sym o.ensures.operand in
-          let hands = back-hands ks ns c.loop-op.at o.x o.c o.op e gain.0 at in
-          let same = gained-same o.op o.c (known_at ks c.loop-op.at) (known_at ks o.x) hands in
+          let same = (back-on ks ns c.loop-op.at o.x o.c o.op e gain.0 at 0).0 in
           absurd (false≢true (sym c.if-not-is_same.true
           ∙ c.is_same.ensures.1 (gain.1 ∙ same ∙ sym c.get-operand.ensures)))),
     )
@@ -30,11 +29,10 @@ loop-op-preserved c =
     let within = inv.within in let e = sym o.ensures.operand in
     let gain = rw (c.get.ensures, c.get-operand.ensures) at c.in-Some-backward.ensures in
     let same = sym gain.1 ∙ c.is_same.ensures.0 c.if-not-is_same.false ∙ c.get-operand.ensures in
-    let hands = gained-hands o.op o.c (known_at ks c.loop-op.at) (known_at ks o.x) same in
     record {
       within = omega (arith, o.ensures.smaller);
-      back = λ h. inv.back (back-step ks ns c.loop-op.at o.x o.c o.op e hands h);
-      on = λ h. back-on ks ns c.loop-op.at o.x o.c o.op e gain.0 (inv.on h);
+      back = λ h. inv.back (back-step ks ns c.loop-op.at o.x o.c o.op e same h);
+      on = λ h n. (back-on ks ns c.loop-op.at o.x o.c o.op e gain.0 (inv.on h) n).1;
     }
 
 pub returns : goal.returns

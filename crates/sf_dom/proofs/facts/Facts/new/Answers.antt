@@ -8,23 +8,6 @@ unreachable-requires c =
     first-fails c.in_ok-excluded.excluded c.args.pool.now c.len-count.ensures.lawful c.in_ok-excluded.ensures.1
     (none (λ i l. absurd (omega arith)))
 
-pub returns-clause-covers : goal.returns-clause-covers
-returns-clause-covers c =
-    let taken = rw (c.in_ok-nodes.ensures.known, c.if-branch.true) at c.in_ok-append.ensures.rule in
-    let fixed = rw c.if-branch.true at c.in_ok-append.ensures.fixed in
-    rw c.in_ok-new.ensures.ok (first-covers c.in_ok-excluded.excluded c.args.pool.now c.len-count.ensures.lawful
-    c.in_ok-excluded.ensures.1 _ _ _ c.in_ok-excluded.ensures.0 (taken (λ i l. absurd (omega arith)))
-    (rw c.in_ok-nodes.ensures.known at fixed))
-
-pub returns-clause-sound : goal.returns-clause-sound
-returns-clause-sound c =
-    let taken = rw (c.in_ok-nodes.ensures.known, c.if-branch.true) at c.in_ok-append.ensures.rule in
-    rw c.in_ok-new.ensures.ok (first-sound c.in_ok-excluded.excluded c.args.pool.now c.len-count.ensures.lawful
-    c.in_ok-excluded.ensures.1 _ _ (taken (λ i l. absurd (omega arith))))
-
-pub invariant_of-result : goal.invariant_of-result
-invariant_of-result c = covers-facts _ c.args.pool.now (returns-clause-covers c)
-
 pub returns-clause-rule : goal.returns-clause-rule
 returns-clause-rule c =
     let taken = rw (c.in_ok-nodes.ensures.known, c.if-branch.true) at c.in_ok-append.ensures.rule in
@@ -36,3 +19,12 @@ returns-clause-rule c =
       words = c.in_ok-excluded.ensures.0;
       excluded = c.in_ok-excluded.ensures.1;
     })
+
+pub returns-clause-covers : goal.returns-clause-covers
+returns-clause-covers c = first-covers _ c.args.pool.now c.len-count.ensures.lawful (returns-clause-rule c)
+
+pub returns-clause-sound : goal.returns-clause-sound
+returns-clause-sound c = first-sound _ c.args.pool.now c.len-count.ensures.lawful (returns-clause-rule c)
+
+pub invariant_of-result : goal.invariant_of-result
+invariant_of-result c = covers-facts _ c.args.pool.now (returns-clause-covers c)
