@@ -1,17 +1,5 @@
 -- The ways through a word: each number is on one, which tells what comes behind it. So it is with all parts of a word.
-use Rattle.std.proofs.lemmas.Bool.Decides.{nat_tests}
-use Rattle.std.proofs.Common.{◌≡◌, ℕ, suc, ◌+◌, ◌-◌, ◌*◌, ◌/◌, ◌%◌, ◌^◌, ◌<◌, ◌≤◌, ◌==◌, Bool, false, List, [], ◌∷◌, ◌++◌, length, map, refl, sym, ◌∙◌, inl, inr, arith, lit<}
-use Rattle.std.specs.Prelude.{◌⊎◌, All, bit_and, bit_or, nat_le, if◌then◌else◌}
-use Rattle.std.specs.Int.{bit_at}
-use Rattle.std.specs.Int.Bits.{and_zero_r}
-use Rattle.std.proofs.lemmas.Bool.{cond-true, cond_both, eqb-true, eq-eqb}
-use Rattle.std.proofs.lemmas.Nat.{pow_below, and_le_r, or_lt, or_disjoint}
-use Rattle.std.proofs.lemmas.Nat.Bits.{bit_at-lt, bit_at_and, bit_at_or, bit_at-zero, bit_at-pow_same, bit_at-pow_other, and_pow, same_from_bits}
-use Rattle.std.proofs.lemmas.List.Elements.{All-nil, All-cons, All-append}
-use Rattle.sf_diagram.specs.Trees.{Tree, Leaf, Fork, IsOrderedFrom}
-use Rattle.sf_parts.specs.Words.{behind, test_count}
-use Rattle.sf_parts.specs.Runs.{mask_in, runs_in}
-use Rattle.sf_parts.specs.Parts.{PartData, form_has, span_part, joined_parts, with_bit, ways_from, parts_in}
+use Rattle.sf_parts.proofs.Common.{nat_tests, ◌≡◌, ℕ, suc, ◌+◌, ◌-◌, ◌*◌, ◌/◌, ◌%◌, ◌^◌, ◌<◌, ◌≤◌, ◌==◌, Bool, false, List, [], ◌∷◌, ◌++◌, length, map, refl, sym, ◌∙◌, inl, inr, arith, lit<, ◌⊎◌, All, bit_and, bit_or, nat_le, if◌then◌else◌, bit_at, and_zero_r, cond-true, cond_both, eqb-true, eq-eqb, pow_below, and_le_r, or_lt, or_disjoint, bit_at-lt, bit_at_and, bit_at_or, bit_at-zero, bit_at-pow_same, bit_at-pow_other, and_pow, same_from_bits, All-nil, All-cons, All-append, Tree, Leaf, Fork, IsOrderedFrom, behind, test_count, mask_in, runs_in, PartData, form_has, span_part, joined_parts, with_bit, ways_from, parts_in}
 use Rattle.sf_parts.proofs.word.WordLemmas.{behind-outside}
 use Rattle.sf_parts.proofs.parts.PartLemmas.{LeadsTo, HasNumber, counted-append, holders, AreParts, runs-listed-right}
 

@@ -351,16 +351,11 @@ pub(crate) fn parts_of(
     let ways = TESTS - left + 1;
     let found = runs_of(alloc, store, word, mask, ways, id)?;
     let runs = match found {
-        None => {
-            let parts = ways_of(alloc, store, word, id)?;
-            return Ok(parts);
-        }
+        None => return Ok(ways_of(alloc, store, word, id)?),
         Some(runs) => runs,
     };
     if apart {
-        let parts = apart_parts(alloc, store, mask, &runs)?;
-        return Ok(parts);
+        return Ok(apart_parts(alloc, store, mask, &runs)?);
     }
-    let parts = joined_parts(alloc, store, mask, &runs)?;
-    Ok(parts)
+    Ok(joined_parts(alloc, store, mask, &runs)?)
 }

@@ -1,17 +1,7 @@
 -- The parts of a word, listed by its runs: each number is in one, which tells what comes behind it, and each part has a
 -- number.
-use Rattle.std.proofs.lemmas.Bool.Decides.{nat_tests}
-use Rattle.std.proofs.Common.{◌≡◌, ℕ, suc, ◌+◌, ◌<◌, ◌≤◌, Bool, true, false, List, [], ◌∷◌, ◌++◌, length, refl, ◌∙◌, arith, ◌*◌, ◌^◌, map}
-use Rattle.std.specs.Prelude.{◌-◌, ◌||◌, not, All, bit_and, nat_le, if◌then◌else◌}
-use Rattle.std.specs.List.{list_any}
-use Rattle.std.proofs.lemmas.Bool.{cond_both}
-use Rattle.std.proofs.lemmas.List.Elements.{All-nil, All-cons, All-tail, All-push, All-map, All-weaker}
-use Rattle.std.proofs.lemmas.List.Folds.{list_any-append}
-use Rattle.std.proofs.lemmas.Nat.{and_le_r}
-use Rattle.sf_diagram.specs.Trees.{Tree, IsOrderedFrom}
-use Rattle.sf_parts.specs.Words.{behind, is_same_tree}
-use Rattle.sf_parts.specs.Runs.{RunData, mask_in, runs_in}
-use Rattle.sf_parts.specs.Parts.{is_in_span, form_has, spans_of, part_in, longest_of, rest_in, behinds_after, PartData, span_part, joined_parts}
+use Rattle.sf_parts.proofs.Common.{nat_tests, ◌≡◌, ℕ, suc, ◌+◌, ◌<◌, ◌≤◌, Bool, true, false, List, [], ◌∷◌, ◌++◌, length, refl, ◌∙◌, arith, ◌*◌, ◌^◌, map, ◌||◌, not, All, bit_and, nat_le, if◌then◌else◌, list_any, cond_both, All-nil, All-cons, All-tail, All-push, All-map, All-weaker, list_any-append, and_le_r, Tree, IsOrderedFrom, behind, is_same_tree, RunData, mask_in, runs_in, is_in_span, form_has, spans_of, part_in, longest_of, rest_in, behinds_after, PartData, span_part, joined_parts}
+use Rattle.std.specs.Prelude.{◌-◌}
 use Rattle.sf_parts.proofs.word.WordLemmas.{is_same_tree-true, is_same_tree-self}
 use Rattle.sf_parts.proofs.runs.RunLemmas.{AreRuns, runs_in-right, mask-small, runs-length}
 

@@ -1,18 +1,5 @@
 -- The code goes over ids of nodes, the definitions over trees.
-use Rattle.std.proofs.lemmas.Grind.{common_steps}
-use Rattle.std.proofs.Common.{◌≡◌, ℕ, ◌+◌, ◌<◌, ◌==◌, Bool, List, [], ◌∷◌, ◌++◌, length, map, drop, get_or, drop-cons, refl, ap₂, ◌∙◌, arith}
-use Rattle.std.specs.Prelude.{◌||◌, not, All, if◌then◌else◌}
-use Rattle.std.specs.List.{list_any}
-use Rattle.std.proofs.lemmas.Bool.{cond_both}
-use Rattle.std.proofs.lemmas.List.Elements.{All-cons, All-tail, All-push}
-use Rattle.sf_diagram.specs.Trees.{Tree}
-use Rattle.sf_diagram.specs.Stores.{tree_at, AreCanonical}
-use Rattle.sf_parts.specs.Words.{is_same_tree}
-use Rattle.sf_parts.specs.Runs.{RunData}
-use Rattle.sf_parts.specs.Parts.{spans_of, behinds_after}
-use Rattle.sf_parts.specs.Stored.{run_seen}
-use Rattle.sf_parts.specs.declared.form.Span.{Span}
-use Rattle.sf_parts.specs.declared.runs.Run.{Run}
+use Rattle.sf_parts.proofs.Common.{common_steps, ◌≡◌, ℕ, ◌+◌, ◌<◌, ◌==◌, Bool, List, [], ◌∷◌, ◌++◌, length, map, drop, get_or, drop-cons, refl, ap₂, ◌∙◌, arith, ◌||◌, not, All, if◌then◌else◌, list_any, cond_both, All-cons, All-tail, All-push, Tree, tree_at, AreCanonical, is_same_tree, RunData, spans_of, behinds_after, run_seen, Span, Run}
 use Rattle.sf_parts.proofs.word.WordLemmas.{same-ids}
 
 -- ---- nodes and their trees, as the code goes over them

@@ -1,22 +1,5 @@
 -- The rows of a tree: each input is in one, which has its number, unless this is hidden; and each row has an input.
-use Rattle.std.proofs.lemmas.Bool.Decides.{nat_tests}
-use Rattle.std.proofs.Common.{◌≡◌, ◌≢◌, ℕ, zero, suc, ◌+◌, ◌*◌, ◌/◌, ◌%◌, ◌-◌, ◌^◌, ◌<◌, ◌≤◌, ◌==◌, Bool, true, false, List, [], ◌∷◌, ◌++◌, length, map, take, get_or, refl, sym, ap, ap₂, subst, ◌∙◌, inl, inr, arith, lit≤}
-use Rattle.std.specs.Prelude.{◌&&◌, All, not, if◌then◌else◌, ◌⊎◌}
-use Rattle.std.specs.List.{flat_map, list_all}
-use Rattle.std.specs.Int.{bit_at}
-use Rattle.std.proofs.lemmas.Bool.{cases_Bool, cond_both, eq-eqb, ne_eqb, and_left, and_from}
-use Rattle.std.proofs.lemmas.Nat.Bits.{bit_at-lt}
-use Rattle.std.proofs.lemmas.List.{length-map, get_or-map, take_more, flat_map_more, length-append}
-use Rattle.std.proofs.lemmas.List.Elements.{All-nil, All-cons, All-tail, All-append}
-use Rattle.std.proofs.lemmas.List.Folds.{length-flat_map-take}
-use Rattle.std.proofs.Math.Nat.{mod-eq_of_lt, mod-one}
-use Rattle.sf_diagram.specs.Trees.{Tree, Leaf, Fork, Bits, value, IsOrderedFrom}
-use Rattle.sf_diagram.specs.Stores.{tree_at}
-use Rattle.sf_parts.specs.Words.{behind, low_number, word_number, EndsBefore}
-use Rattle.sf_parts.specs.Parts.{PartData, form_has, parts_in}
-use Rattle.sf_parts.specs.Rows.{ConditionData, RowData, meets, is_in_row, rows_under, IsCrowded}
-use Rattle.sf_parts.specs.Stored.{StoredPart, part_seen}
-use Rattle.sf_parts.specs.laws.WordLaws.{low-more, behind-below, behind-ordered, crowded_behind}
+use Rattle.sf_parts.proofs.Common.{nat_tests, ◌≡◌, ◌≢◌, ℕ, zero, suc, ◌+◌, ◌*◌, ◌/◌, ◌%◌, ◌-◌, ◌^◌, ◌<◌, ◌≤◌, ◌==◌, Bool, true, false, List, [], ◌∷◌, ◌++◌, length, map, take, get_or, refl, sym, ap, ap₂, subst, ◌∙◌, inl, inr, arith, lit≤, ◌&&◌, All, not, if◌then◌else◌, ◌⊎◌, flat_map, list_all, bit_at, cases_Bool, cond_both, eq-eqb, ne_eqb, and_from, bit_at-lt, length-map, get_or-map, take_more, flat_map_more, length-append, All-nil, All-cons, All-tail, All-append, length-flat_map-take, mod-eq_of_lt, mod-one, Tree, Leaf, Fork, Bits, value, IsOrderedFrom, tree_at, behind, low_number, word_number, EndsBefore, PartData, form_has, parts_in, ConditionData, RowData, meets, is_in_row, rows_under, IsCrowded, StoredPart, part_seen, low-more, behind-below, behind-ordered, crowded_behind}
 use Rattle.sf_parts.proofs.word.WordLemmas.{value-behind}
 use Rattle.sf_parts.proofs.parts.PartLemmas.{LeadsTo, HasNumber, counted, counted-append, holders, AreParts}
 use Rattle.sf_parts.proofs.WayLemmas.{parts_in-right}
@@ -43,36 +26,14 @@ meets-more : (bits : Bits) (cs : List ConditionData) (c : ConditionData)
 meets-more bits [] c = grind arith
 meets-more bits (d ∷ cs) c = grind (arith, meets-more bits cs c)
 
-each-none : (bits : Bits) (test : ℕ → Bool) (rows : PartData → List RowData)
-    → ((p : PartData) → hits bits test (rows p) ≡ 0)
-    → (ps : List PartData) → hits bits test (flat_map rows ps) ≡ 0
-each-none bits test rows none [] = refl
-each-none bits test rows none (p ∷ ps) =
+each-one : (P : PartData → Type 0) (bits : Bits) (test : ℕ → Bool) (rows : PartData → List RowData) (n : ℕ) (x : Bool)
+    → ((p : PartData) → P p → hits bits test (rows p) ≡ (if form_has p.form n && x then 1 else 0))
+    → (ps : List PartData) → All P ps → hits bits test (flat_map rows ps) ≡ (if x then holders n ps else 0)
+each-one P bits test rows n x one [] all = grind arith
+each-one P bits test rows n x one (p ∷ ps) all =
+    let later = each-one P bits test rows n x one ps (All-tail P p ps all) in
     let sum = counted-append (λ (r : RowData). is_in_row bits r && test r.number) (rows p) (flat_map rows ps) in
-    omega (arith, sum, none p, each-none bits test rows none ps)
-
--- the rows under conditions that an input does not meet don't have it
-none-under : (apart hidden n word : ℕ) (t : Tree) (cs : List ConditionData) (bits : Bits) (test : ℕ → Bool)
-    → list_all (meets bits) cs ≡ false → hits bits test (rows_under apart hidden n word t cs) ≡ 0
-unfolding rows_under
-none-under apart hidden n word (Leaf c) cs bits test e = grind arith
-none-under apart hidden zero word (Fork v p q) cs bits test e = refl
-none-under apart hidden (suc n) word (Fork v p q) cs bits test e =
-    cond_both (v / 32 == word) _ _ (λ rows. hits bits test rows ≡ 0)
-    (λ _. each-none bits test (rows_behind apart hidden n word cs)
-    (λ p. none-under apart hidden n (suc word) p.behind _ bits test
-    (meets-more bits cs _ ∙ and_left (list_all (meets bits) cs) _ e)) _)
-    (λ _. none-under apart hidden n (suc word) (Fork v p q) cs bits test e)
-
-each-one : (bits : Bits) (test : ℕ → Bool) (rows : PartData → List RowData) (b : Tree) (n : ℕ) (x : Bool)
-    → ((p : PartData) → LeadsTo b n p → hits bits test (rows p) ≡ (if form_has p.form n && x then 1 else 0))
-    → (ps : List PartData) → All (LeadsTo b n) ps
-    → hits bits test (flat_map rows ps) ≡ (if x then holders n ps else 0)
-each-one bits test rows b n x one [] lead = grind arith
-each-one bits test rows b n x one (p ∷ ps) lead =
-    let later = each-one bits test rows b n x one ps (All-tail (LeadsTo b n) p ps lead) in
-    let sum = counted-append (λ (r : RowData). is_in_row bits r && test r.number) (rows p) (flat_map rows ps) in
-    grind (arith, sum, one p (lead 0 p (omega arith)), later)
+    grind (arith, sum, one p (all 0 p (omega arith)), later)
 
 -- whether a number is not hidden, and passes a test
 abbrev pub shown : ℕ → (ℕ → Bool) → ℕ → Bool
@@ -93,22 +54,23 @@ rows-right apart hidden (suc n) word (Fork v p q) cs bits test o h =
     let x : Bool = list_all (meets bits) cs && shown hidden test (value t bits) in
     let right : AreParts word t (parts_in word (word == apart) t) = parts_in-right word (word == apart) t o in
     cond_both (v / 32 == word) _ _ (λ rows. hits bits test rows ≡ (if x then 1 else 0))
-    (λ _. each-one bits test (rows_behind apart hidden n word cs) (behind word t i) i x
+    (λ _. each-one (λ p. LeadsTo (behind word t i) i p × ((m : ℕ) × (behind word t m ≡ p.behind))) bits test
+    (rows_behind apart hidden n word cs) i x
     (λ p lead.
     let c : ConditionData = record { word = word; form = p.form } in
     let more = meets-more bits cs c in
+    let m : ℕ = lead.1.0 in
+    let one : behind word t m ≡ p.behind = lead.1.1 in
+    let ordered = rw one at (behind-ordered word t m (32 * word) (omega arith) o) in
+    let ends = rw one at (behind-below word (32 * (suc word + n)) t m below) in
+    let later = rows-right apart hidden n (suc word) p.behind (cs ++ c ∷ []) bits test ordered ends in
     elim (cases_Bool (form_has p.form i)) [
-      | inl has ↦ (
-          let one : behind word t i ≡ p.behind = sym (lead has) in
-          let ordered = rw one at (behind-ordered word t i (32 * word) (omega arith) o) in
-          let ends = rw one at (behind-below word (32 * (suc word + n)) t i below) in
-          let later = rows-right apart hidden n (suc word) p.behind (cs ++ c ∷ []) bits test ordered ends in
-          grind (arith, more, has, value-behind word t bits, later))
-      | inr other ↦ (
-          let none = none-under apart hidden n (suc word) p.behind (cs ++ c ∷ []) bits test in
-          grind (arith, more, other, none))
+      | inl has ↦ (let same = lead.0 has in grind (arith, more, has, same, value-behind word t bits, later))
+      | inr other ↦ grind (arith, more, other, later)
     ])
-    _ (right.lead i)
+    _ (λ k d l.
+    let some = right.some k d l in
+    (right.lead i k d l, (some.0, sym (right.lead some.0 k d l some.2))))
     ∙ ap (λ (m : ℕ). if x then m else 0) (right.once i))
     (λ out. rows-right apart hidden n (suc word) t cs bits test (later-ordered word v p q o out) below)
 

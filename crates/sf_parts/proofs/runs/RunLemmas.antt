@@ -1,22 +1,5 @@
 -- The runs of a word: each number is in the one that tells what comes behind it.
-use Rattle.std.proofs.lemmas.Bool.Decides.{nat_tests}
-use Rattle.std.proofs.lemmas.Grind.{common_steps}
-use Rattle.std.proofs.Common.{◌≡◌, ◌≢◌, ℕ, zero, suc, ◌+◌, ◌-◌, ◌*◌, ◌%◌, ◌^◌, ◌<◌, ◌≤◌, ◌==◌, false, List, [], ◌∷◌, ◌++◌, length, map, refl, ap, subst, ◌∙◌, arith, lit<, lit≤}
-use Rattle.std.specs.Prelude.{bit_and, bit_or, if◌then◌else◌}
-use Rattle.std.specs.Int.Bits.{and_zero_l}
-use Rattle.std.specs.Int.{bit_at}
-use Rattle.std.proofs.lemmas.Bool.{cond_both, eqb-true, eqb-false}
-use Rattle.std.proofs.lemmas.List.{reverse-append, length-map}
-use Rattle.std.proofs.lemmas.Nat.{pow_pos, pow_below, mod_below, and_le_r, and_mod, or_lt, or_disjoint}
-use Rattle.std.proofs.lemmas.Nat.Bits.{bit_at-lt, bit_at_and, bit_at_or, bit_at-pow_same, bit_at-pow_other, bit_at_ones, bit_at_above, and_pow, same_from_bits}
-use Rattle.std.proofs.Math.Pow.{mod-mod-pow}
-use Rattle.std.proofs.Math.Nat.{add-mod_right, zero-mod}
-use Rattle.sf_diagram.specs.Trees.{Tree, Leaf, Fork, IsOrderedFrom}
-use Rattle.sf_parts.specs.laws.WordLaws.{double}
-use Rattle.sf_parts.specs.Words.{is_in, behind, lower_at, higher_at, tested}
-use Rattle.sf_parts.specs.Runs.{RunData, mask_in, with_run, runs_before, runs_in}
-use Rattle.sf_parts.specs.Stored.{run_seen, runs_seen}
-use Rattle.sf_parts.specs.declared.runs.Run.{Run}
+use Rattle.sf_parts.proofs.Common.{nat_tests, common_steps, ◌≡◌, ◌≢◌, ℕ, zero, suc, ◌+◌, ◌-◌, ◌*◌, ◌%◌, ◌^◌, ◌<◌, ◌≤◌, ◌==◌, false, List, [], ◌∷◌, ◌++◌, length, map, refl, ap, subst, ◌∙◌, arith, lit<, lit≤, bit_and, bit_or, if◌then◌else◌, and_zero_l, bit_at, cond_both, eqb-true, eqb-false, reverse-append, length-map, pow_pos, pow_below, mod_below, and_le_r, and_mod, or_lt, or_disjoint, bit_at-lt, bit_at_and, bit_at_or, bit_at-pow_same, bit_at-pow_other, bit_at_ones, bit_at_above, and_pow, same_from_bits, mod-mod-pow, add-mod_right, zero-mod, Tree, Leaf, Fork, IsOrderedFrom, double, is_in, behind, lower_at, higher_at, tested, RunData, mask_in, with_run, runs_before, runs_in, run_seen, runs_seen, Run}
 use Rattle.sf_parts.proofs.word.WordLemmas.{in-block, halves, is_same_tree-true, behind-outside, behind-lower, behind-higher, sides-ordered, IsUnder, sides-under, unmasked-ordered, tested-under}
 
 -- From p on, each number under the mask is in the first run that does not end before it, and the behind of that run is

@@ -1,15 +1,5 @@
 -- Words of trees: their bits, what comes behind them, and where a tree is told from another.
-use Rattle.std.proofs.lemmas.Bool.Decides.{nat_tests}
-use Rattle.std.proofs.Common.{◌≡◌, ◌≢◌, ℕ, zero, suc, ◌+◌, ◌-◌, ◌*◌, ◌/◌, ◌%◌, ◌^◌, ◌<◌, ◌≤◌, ◌==◌, Bool, true, false, List, length, refl, ap, ◌∙◌, arith}
-use Rattle.std.specs.Prelude.{◌⊎◌, bit_or, if◌then◌else◌}
-use Rattle.std.specs.Int.{bit_at}
-use Rattle.std.proofs.lemmas.Bool.{cond-false, eqb-true, eq-eqb}
-use Rattle.std.proofs.lemmas.Nat.{shr_split, mod_low, mod_below, pow_pos}
-use Rattle.std.proofs.lemmas.Nat.Bits.{bit_at-lt, bit_at_or, bit_at-pow_same, bit_at_cat_low, bit_at_cat_high}
-use Rattle.sf_diagram.specs.Trees.{Tree, Leaf, Fork, Bits, value, IsOrderedFrom}
-use Rattle.sf_diagram.specs.Stores.{tree_at, AreCanonical}
-use Rattle.sf_parts.specs.laws.WordLaws.{low-more, low-small, ordered-weaker}
-use Rattle.sf_parts.specs.Words.{low_number, word_number, is_in, behind, lower_at, higher_at, tested, is_same_tree}
+use Rattle.sf_parts.proofs.Common.{nat_tests, ◌≡◌, ◌≢◌, ℕ, zero, suc, ◌+◌, ◌-◌, ◌*◌, ◌/◌, ◌%◌, ◌^◌, ◌<◌, ◌≤◌, ◌==◌, Bool, true, false, List, length, refl, ap, ◌∙◌, arith, ◌⊎◌, bit_or, if◌then◌else◌, bit_at, cond-false, eqb-true, eq-eqb, shr_split, mod_low, mod_below, pow_pos, bit_at-lt, bit_at_or, bit_at-pow_same, bit_at_cat_low, bit_at_cat_high, Tree, Leaf, Fork, Bits, value, IsOrderedFrom, tree_at, AreCanonical, low-more, low-small, ordered-weaker, low_number, word_number, is_in, behind, lower_at, higher_at, tested, is_same_tree}
 
 -- ---- numbers and their bits
 

@@ -1,8 +1,8 @@
 -- Laws of words, of the numbers in them, and of what comes behind them.
-use Rattle.std.proofs.Common.{◌≡◌, ◌≢◌, ℕ, zero, suc, ◌+◌, ◌-◌, ◌*◌, ◌/◌, ◌%◌, ◌^◌, ◌<◌, ◌≤◌, ◌==◌, Bool, true, false, inl, inr, sym, refl, ap, ◌∙◌, arith, lit<}
+use Rattle.std.proofs.lemmas.Bool.Decides.{nat_tests}
+use Rattle.std.proofs.Common.{◌≡◌, ℕ, zero, suc, ◌+◌, ◌-◌, ◌*◌, ◌%◌, ◌^◌, ◌<◌, ◌≤◌, ◌==◌, ap, ◌∙◌, arith, lit<}
 use Rattle.std.specs.Prelude.{if◌then◌else◌}
 use Rattle.std.specs.Int.{bit_at}
-use Rattle.std.proofs.lemmas.Bool.{cond_both, eqb-false}
 use Rattle.std.proofs.lemmas.Nat.{pow-add, mod-pow-add}
 use Rattle.sf_diagram.specs.Trees.{Tree, Leaf, Fork, Bits, IsOrderedFrom}
 use Rattle.sf_parts.specs.Words.{low_number, behind, EndsBefore}
@@ -17,27 +17,17 @@ double k =
 
 -- the lowest bits with one more
 pub low-more : (x k : ℕ) → bit_at x k * 2 ^ k + x % 2 ^ k ≡ x % 2 ^ suc k
-low-more x k =
-    let next : suc k ≡ 1 + k = omega arith in
-    sym (mod-pow-add x 1 k) ∙ ap (λ (m : ℕ). x % 2 ^ m) (sym next)
+low-more x k = grind (arith, mod-pow-add x 1 k)
 
 -- a bit, by whether it is set
 pub bit-if : (b : ℕ) → b < 2 → (if b == 1 then 1 else 0) ≡ b
-bit-if zero l = refl
-bit-if (suc zero) l = refl
-bit-if (suc (suc b)) l = absurd (omega arith)
-
-flag-small : (b : Bool) (w l : ℕ) → l < w → (if b then 1 else 0) * w + l < w + w
-flag-small true w l less = omega arith
-flag-small false w l less = omega arith
+bit-if b l = grind (arith, nat_tests)
 
 -- the lowest bits of a word make no greater number
 pub low-small : (word k : ℕ) (bits : Bits) → low_number word k bits < 2 ^ k
 unfolding low_number
 low-small word zero bits = lit< tt
-low-small word (suc k) bits =
-    let twice : 2 ^ suc k ≡ 2 ^ k + 2 ^ k = double k in
-    omega (arith, flag-small (bits (32 * word + (31 - k))) (2 ^ k) (low_number word k bits) (low-small word k bits))
+low-small word (suc k) bits = grind (arith, double k, low-small word k bits)
 
 -- a tree from a later variable on is one from an earlier one on
 pub ordered-weaker : (t : Tree) (m n : ℕ) → IsOrderedFrom n t → m ≤ n → IsOrderedFrom m t
@@ -49,35 +39,16 @@ pub behind-ordered : (word : ℕ) (t : Tree) (n m : ℕ) → 32 * word ≤ m →
     → IsOrderedFrom (32 * suc word) (behind word t n)
 behind-ordered word (Leaf c) n m le o = tt
 behind-ordered word (Fork v p q) n m le o =
-    let from : 32 * word ≤ v = omega (arith, o.0) in
-    cond_both (v / 32 == word) (if bit_at n (31 - v % 32) == 1 then behind word q n else behind word p n) (Fork v p q)
-    (IsOrderedFrom (32 * suc word))
-    (λ _. cond_both (bit_at n (31 - v % 32) == 1) (behind word q n) (behind word p n) (IsOrderedFrom (32 * suc word))
-    (λ _. behind-ordered word q n (suc v) (omega arith) o.2)
-    (λ _. behind-ordered word p n (suc v) (omega arith) o.1))
-    (λ out.
-    let other : v / 32 ≢ word = eqb-false (v / 32) word out in
-    (omega arith, o.1, o.2))
+    grind (arith, nat_tests, o.0, o.1, o.2, behind-ordered word p n (suc v), behind-ordered word q n (suc v))
 
 -- and no further ones than the tree
 pub behind-below : (word limit : ℕ) (t : Tree) (n : ℕ) → EndsBefore limit t → EndsBefore limit (behind word t n)
 behind-below word limit (Leaf c) n h = tt
 behind-below word limit (Fork v p q) n h =
-    cond_both (v / 32 == word) (if bit_at n (31 - v % 32) == 1 then behind word q n else behind word p n) (Fork v p q)
-    (EndsBefore limit)
-    (λ _. cond_both (bit_at n (31 - v % 32) == 1) (behind word q n) (behind word p n) (EndsBefore limit)
-    (λ _. behind-below word limit q n h.2)
-    (λ _. behind-below word limit p n h.1))
-    (λ _. h)
+    grind (arith, nat_tests, h, behind-below word limit p n h.1, behind-below word limit q n h.2)
 
 -- what is crowded behind a word is crowded
 pub crowded_behind : (limit word : ℕ) (t : Tree) (n : ℕ) → IsCrowded limit (behind word t n) → IsCrowded limit t
 crowded_behind limit word (Leaf c) n h = h
 crowded_behind limit word (Fork v p q) n h =
-    cond_both (v / 32 == word) (if bit_at n (31 - v % 32) == 1 then behind word q n else behind word p n) (Fork v p q)
-    (λ (u : Tree). IsCrowded limit u → IsCrowded limit (Fork v p q))
-    (λ _. cond_both (bit_at n (31 - v % 32) == 1) (behind word q n) (behind word p n)
-    (λ (u : Tree). IsCrowded limit u → IsCrowded limit (Fork v p q))
-    (λ _ g. inr (inr (crowded_behind limit word q n g)))
-    (λ _ g. inr (inl (crowded_behind limit word p n g))))
-    (λ _ g. g) h
+    grind (arith, nat_tests, h, crowded_behind limit word p n, crowded_behind limit word q n)

@@ -1,6 +1,4 @@
-use Rattle.std.proofs.Common.{[], ℕ, true, arith, refl}
-use Rattle.std.proofs.lemmas.List.Recursion.{is_count_by}
-use Rattle.sf_parts.specs.Rows.{is_in_row, rows_under}
+use Rattle.sf_parts.proofs.Common.{[], ℕ, true, arith, refl, is_count_by, is_in_row, rows_under}
 use Rattle.sf_parts.proofs.rows.RowLemmas.{hits, rows-right}
 use Rattle.sf_parts.proofs.laws.each_input_is_in_one_row.Goals as goal
 

@@ -1,6 +1,4 @@
-use Rattle.std.proofs.Common.{arith, refl, sym, ◌∙◌}
-use Rattle.std.proofs.lemmas.List.Recursion.{is_count_by}
-use Rattle.sf_parts.specs.Parts.{PartData, form_has, parts_in}
+use Rattle.sf_parts.proofs.Common.{arith, refl, sym, ◌∙◌, is_count_by, PartData, form_has, parts_in}
 use Rattle.sf_parts.proofs.parts.PartLemmas.{holders}
 use Rattle.sf_parts.proofs.WayLemmas.{parts_in-right}
 use Rattle.sf_parts.proofs.laws.each_number_has_one_part.Goals as goal

@@ -1,4 +1,4 @@
-use Rattle.std.proofs.Common.{[], false, refl}
+use Rattle.sf_parts.proofs.Common.{[], false, refl}
 use Rattle.sf_parts.proofs.rows.RowLemmas.{rows-some}
 use Rattle.sf_parts.proofs.laws.each_row_has_an_input.Goals as goal
 

@@ -1,9 +1,4 @@
-use Rattle.std.proofs.Common.{ℕ, Bool, [], ◌==◌, arith, refl}
-use Rattle.std.specs.Prelude.{◌&&◌, not}
-use Rattle.std.proofs.lemmas.Bool.Decides.{nat_tests}
-use Rattle.std.proofs.lemmas.List.Recursion.{is_count_by}
-use Rattle.sf_diagram.specs.Trees.{value}
-use Rattle.sf_parts.specs.Rows.{RowData, is_in_row, rows_under}
+use Rattle.sf_parts.proofs.Common.{ℕ, Bool, [], ◌==◌, arith, refl, ◌&&◌, not, nat_tests, is_count_by, value, RowData, is_in_row, rows_under}
 use Rattle.sf_parts.proofs.rows.RowLemmas.{hits, rows-right}
 use Rattle.sf_parts.proofs.laws.rows_have_the_number.Goals as goal
 

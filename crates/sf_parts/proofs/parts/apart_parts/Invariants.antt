@@ -1,7 +1,4 @@
-use Rattle.std.proofs.Common.{◌≡◌, ◌<◌, length, map, take}
-use Rattle.std.specs.Prelude.{All}
-use Rattle.sf_parts.specs.Parts.{span_part}
-use Rattle.sf_parts.specs.Stored.{part_seen, run_seen}
+use Rattle.sf_parts.proofs.Common.{◌≡◌, ◌<◌, length, map, take, All, span_part, part_seen, run_seen}
 use Rattle.sf_parts.proofs.parts.apart_parts.Given as goal
 
 abbrev pub invariant-loop-run : goal.invariant-loop-run

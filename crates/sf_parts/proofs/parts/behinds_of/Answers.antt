@@ -1,4 +1,4 @@
-use Rattle.std.proofs.Common.{arith}
+use Rattle.sf_parts.proofs.Common.{arith}
 use Rattle.sf_parts.proofs.parts.StoredLemmas.{known-more}
 use Rattle.sf_parts.proofs.parts.behinds_of.Goals as goal
 

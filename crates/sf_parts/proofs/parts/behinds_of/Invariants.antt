@@ -1,8 +1,4 @@
-use Rattle.std.proofs.Common.{◌≡◌, ◌<◌, ◌++◌, ◌∷◌, [], length, map, drop}
-use Rattle.std.specs.Prelude.{All}
-use Rattle.sf_diagram.specs.Stores.{tree_at}
-use Rattle.sf_parts.specs.Parts.{behinds_after}
-use Rattle.sf_parts.specs.Stored.{run_seen}
+use Rattle.sf_parts.proofs.Common.{◌≡◌, ◌<◌, ◌++◌, ◌∷◌, [], length, map, drop, All, tree_at, behinds_after, run_seen}
 use Rattle.sf_parts.proofs.parts.behinds_of.Given as goal
 
 abbrev pub invariant-loop-run : goal.invariant-loop-run

@@ -1,8 +1,4 @@
-use Rattle.std.proofs.Common.{◌≡◌, ◌<◌, false, length, map, take}
-use Rattle.std.specs.Prelude.{All}
-use Rattle.sf_diagram.specs.Stores.{tree_at}
-use Rattle.sf_parts.specs.Parts.{part_in}
-use Rattle.sf_parts.specs.Stored.{part_seen, run_seen}
+use Rattle.sf_parts.proofs.Common.{◌≡◌, ◌<◌, false, length, map, take, All, tree_at, part_in, part_seen, run_seen}
 use Rattle.sf_parts.proofs.parts.parts_by.Given as goal
 
 abbrev pub invariant-loop-behind : goal.invariant-loop-behind

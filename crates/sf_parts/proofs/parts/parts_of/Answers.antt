@@ -1,6 +1,4 @@
-use Rattle.std.proofs.Common.{◌<◌, List, length, sym, subst}
-use Rattle.sf_diagram.specs.Stores.{tree_at}
-use Rattle.sf_parts.specs.declared.runs.Run.{Run}
+use Rattle.sf_parts.proofs.Common.{◌<◌, List, length, sym, subst, tree_at, Run}
 use Rattle.sf_parts.proofs.runs.RunLemmas.{runs_in-some}
 use Rattle.sf_parts.proofs.parts.parts_of.Goals as goal
 

@@ -1,6 +1,4 @@
-use Rattle.std.proofs.Common.{◌≡◌, ◌<◌, length, map, drop}
-use Rattle.sf_parts.specs.Parts.{longest_of, rest_in}
-use Rattle.sf_parts.specs.Stored.{run_seen}
+use Rattle.sf_parts.proofs.Common.{◌≡◌, ◌<◌, length, map, drop, longest_of, rest_in, run_seen}
 use Rattle.sf_parts.proofs.parts.rest_of.Given as goal
 
 abbrev pub invariant-loop-run : goal.invariant-loop-run

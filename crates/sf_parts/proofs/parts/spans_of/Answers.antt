@@ -1,4 +1,4 @@
-use Rattle.std.proofs.Common.{arith}
+use Rattle.sf_parts.proofs.Common.{arith}
 use Rattle.sf_parts.proofs.parts.StoredLemmas.{spans-more}
 use Rattle.sf_parts.proofs.parts.spans_of.Goals as goal
 

@@ -1,7 +1,4 @@
-use Rattle.std.proofs.Common.{◌≡◌, ◌++◌, map, drop}
-use Rattle.sf_diagram.specs.Stores.{tree_at}
-use Rattle.sf_parts.specs.Parts.{spans_of}
-use Rattle.sf_parts.specs.Stored.{run_seen}
+use Rattle.sf_parts.proofs.Common.{◌≡◌, ◌++◌, map, drop, tree_at, spans_of, run_seen}
 use Rattle.sf_parts.proofs.parts.spans_of.Given as goal
 
 abbrev pub invariant-loop-run : goal.invariant-loop-run

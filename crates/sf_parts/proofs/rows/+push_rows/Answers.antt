@@ -1,13 +1,5 @@
 use Rattle.sf_parts.proofs.rows.RowLemmas.{rows-by, rows-step, step-over}
-use Rattle.sf_parts.specs.Rows.{rows_under}
-use Rattle.std.proofs.lemmas.Bool.Decides.{nat_tests}
-use Rattle.std.proofs.lemmas.Grind.{common_steps}
-use Rattle.std.proofs.Common.{◌≡◌, ◌+◌, ◌-◌, ◌++◌, ◌∷◌, [], length, get_or, map, refl, ap, ◌∙◌, arith}
-use Rattle.std.proofs.lemmas.Result.{err_from_is_err_and}
-use Rattle.sf_diagram.specs.Stores.{tree_at}
-use Rattle.sf_parts.specs.Stored.{StoredPart, part_seen}
-use Rattle.sf_parts.specs.declared.rows.TheConstants.{ROWS}
-use Rattle.sf_parts.specs.declared.word.TheConstants.{TESTS}
+use Rattle.sf_parts.proofs.Common.{rows_under, nat_tests, common_steps, ◌≡◌, ◌+◌, ◌-◌, ◌++◌, ◌∷◌, [], length, get_or, map, refl, ap, ◌∙◌, arith, err_from_is_err_and, tree_at, StoredPart, part_seen, ROWS, TESTS}
 use Rattle.sf_parts.proofs.rows.+push_rows.Goals as goal
 
 pub returns-in-Number-clause-rows : goal.returns-in-Number-clause-rows

@@ -1,7 +1,4 @@
-use Rattle.std.proofs.Common.{◌≡◌, ◌-◌, ◌++◌, ◌==◌, take}
-use Rattle.std.specs.List.{flat_map}
-use Rattle.sf_diagram.specs.Stores.{tree_at}
-use Rattle.sf_parts.specs.Parts.{parts_in}
+use Rattle.sf_parts.proofs.Common.{◌≡◌, ◌-◌, ◌++◌, ◌==◌, take, flat_map, tree_at, parts_in}
 use Rattle.sf_parts.proofs.rows.RowLemmas.{rows_behind}
 use Rattle.sf_parts.proofs.rows.+push_rows.Given as goal
 

@@ -1,4 +1,4 @@
-use Rattle.std.proofs.Common.{◌≡◌, take}
+use Rattle.sf_parts.proofs.Common.{◌≡◌, take}
 use Rattle.sf_parts.proofs.rows.conditions_of.Given as goal
 
 abbrev pub invariant-loop-condition : goal.invariant-loop-condition

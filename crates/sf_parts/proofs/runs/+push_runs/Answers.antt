@@ -1,9 +1,5 @@
 use Rattle.sf_parts.proofs.runs.RunLemmas.{runs-by, runs-length, power}
-use Rattle.std.proofs.lemmas.Bool.Decides.{nat_tests}
-use Rattle.std.proofs.lemmas.Grind.{common_steps}
-use Rattle.std.proofs.Common.{◌-◌, arith}
-use Rattle.std.proofs.lemmas.Result.{err_from_is_err_and}
-use Rattle.std.proofs.lemmas.Nat.{pow_pos}
+use Rattle.sf_parts.proofs.Common.{nat_tests, common_steps, ◌-◌, arith, err_from_is_err_and, pow_pos}
 use Rattle.sf_parts.proofs.runs.+push_runs.Goals as goal
 
 pub returns-then-block-eq0-clause-runs : goal.returns-then-block-eq0-clause-runs

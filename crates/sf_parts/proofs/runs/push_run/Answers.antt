@@ -1,9 +1,6 @@
 use Rattle.sf_parts.proofs.runs.RunLemmas.{runs_seen-push}
 use Rattle.sf_parts.proofs.word.WordLemmas.{is_same_tree-self, same-ids}
-use Rattle.std.proofs.lemmas.Bool.Decides.{nat_tests}
-use Rattle.std.proofs.Common.{arith, Some, ◌<◌, length}
-use Rattle.std.proofs.lemmas.List.Elements.{All-pop}
-use Rattle.sf_parts.specs.declared.runs.Run.{Run}
+use Rattle.sf_parts.proofs.Common.{nat_tests, arith, Some, ◌<◌, length, All-pop, Run}
 use Rattle.sf_parts.proofs.runs.push_run.Goals as goal
 
 pub returns-then-next-run-clause-runs : goal.returns-then-next-run-clause-runs
