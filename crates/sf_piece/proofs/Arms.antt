@@ -1,13 +1,8 @@
 -- The instructions that meet nothing, one by one.
-use Rattle.sf_piece.proofs.Common.{common_steps, arith, ◌≡◌, ℕ, zero, suc, ◌+◌, ◌<◌, List, [], ◌∷◌, length, map, Some, slice_get, refl, sym, ap, ◌∙◌, inl, option_map, slice_set, length-map, same_Some, Input, Insn, LoadScratch, LoadXScratch, StoreA, StoreX, goes, insn_progress, Node, Const, NodeId, value_of, SymbolicMachine, on, PieceData, concrete_state, AreNodesBelow, GoesTo, GoesBy, SetsA, SetsX, IsPushed, HasAtHand, slice_get-map}
+use Rattle.sf_piece.proofs.Common.{common_steps, arith, ◌≡◌, ℕ, zero, suc, ◌+◌, ◌<◌, List, [], ◌∷◌, length, map, Some, slice_get, refl, sym, ap, ◌∙◌, inl, option_map, slice_set, length-map, same_Some, Input, Insn, LoadScratch, LoadXScratch, StoreA, StoreX, goes, insn_progress, Node, NodeId, value_of, SymbolicMachine, on, updated, PieceData, concrete_state, AreNodesBelow, GoesTo, GoesBy, Sets, IsPushed, HasAtHand, slice_get-map, Register, A, Load}
 use Rattle.std.proofs.Common.{Option}
+use Rattle.sf_piece.specs.declared.machine.Register.TheVariants.{X}
 use Rattle.sf_piece.proofs.Kept.{some_input}
-
-abbrev on_a : SymbolicMachine → NodeId → SymbolicMachine
-on_a m id = record m { a = id; place = m.place + 1; taken = 0; value = 0 }
-
-abbrev on_x : SymbolicMachine → NodeId → SymbolicMachine
-on_x m id = record m { x = id; place = m.place + 1; taken = 0; value = 0 }
 
 -- the machine at a place of the same program, with these words
 abbrev moved : SymbolicMachine → ℕ → NodeId → NodeId → List (Option NodeId) → SymbolicMachine
@@ -19,13 +14,10 @@ goes_to : (p : PieceData) (i : Insn) (place : ℕ) (a x : NodeId) (scratch : Lis
     → GoesBy p i (moved p.machine place a x scratch) → GoesTo p i (moved p.machine place a x scratch)
 goes_to p i place a x scratch a_below x_below zero_below scratch_below run = grind (arith, common_steps)
 
-pub set_a_goes : (p : PieceData) (i : Insn) (node : Node) (q : PieceData) (id : NodeId) → IsPushed p node q id
-    → SetsA p i node → GoesTo q i (on_a q.machine id)
-set_a_goes p i node q id h sets = search (arith, goes_to)
-
-pub set_x_goes : (p : PieceData) (i : Insn) (k : ℕ) (q : PieceData) (id : NodeId) → IsPushed p (Const k) q id
-    → SetsX p i k → GoesTo q i (on_x q.machine id)
-set_x_goes p i k q id h sets = search (arith, goes_to)
+pub set_goes : (p : PieceData) (i : Insn) (to : Register) (node : Node) (q : PieceData) (id : NodeId)
+    → IsPushed p node q id → Sets p i to node → GoesTo q i (updated q.machine (Load to id))
+set_goes p i A node q id h sets = search (arith, goes_to)
+set_goes p i X node q id h sets = search (arith, goes_to)
 
 -- ---- moves
 

@@ -1,15 +1,8 @@
 -- The instruction at hand, the end, and the first piece.
-use Rattle.sf_piece.proofs.Common.{common_steps, ◌≡◌, ℕ, zero, suc, ◌+◌, ◌-◌, ◌*◌, ◌<◌, ◌≤◌, ◌^◌, Bool, true, false, List, [], ◌∷◌, ◌++◌, length, drop, map, reverse, get_or, Some, None, slice_get, refl, sym, ap, subst, ◌∙◌, arith, append-nil, length-drop, option_map, get_or-reverse, length-reverse, same_Some, slice_get-get_or, pow-le-pow_right, get_or_default, Input, IsInput, Insn, IsAt, IsLawfulStack, start, IsAnswer, answer_none, IsWholeRoute, load_is_set, newest_first, Node, NodeId, value_of, FactsView, Covers, Agrees, first_machine, PieceData, is_member, IsRightAnswer, concrete_state, number_from, StandsAt, IsPiece, HasAtHand, Const, node_at, started, value-constant, IsFirst, code_at}
+use Rattle.sf_piece.proofs.Common.{common_steps, ◌≡◌, ℕ, zero, suc, ◌+◌, ◌-◌, ◌*◌, ◌<◌, ◌≤◌, ◌^◌, Bool, true, false, List, [], ◌∷◌, ◌++◌, length, map, reverse, get_or, Some, None, slice_get, refl, sym, ap, subst, ◌∙◌, arith, append-nil, length-drop, option_map, get_or-reverse, length-reverse, same_Some, slice_get-get_or, pow-le-pow_right, get_or_default, Input, IsInput, Insn, IsAt, IsLawfulStack, start, IsAnswer, answer_none, IsWholeRoute, load_is_set, newest_first, Node, NodeId, value_of, FactsView, Covers, Agrees, first_machine, PieceData, is_member, IsRightAnswer, concrete_state, number_from, StandsAt, IsPiece, HasAtHand, Const, node_at, started, value-constant, IsFirst, code_at}
 use Rattle.std.proofs.Common.{Option}
-use Rattle.sf_piece.proofs.Moves.{runs_whole, route_whole, starts_in, none_taken}
+use Rattle.sf_piece.proofs.Moves.{drop_cons, runs_whole, route_whole, starts_in, none_taken}
 use Rattle.sf_piece.proofs.Kept.{some_input, none_set, pre_short}
-
-drop_first : (n : ℕ) (xs : List (List Insn)) (x : List Insn) (ys : List (List Insn)) → drop n xs ≡ x ∷ ys
-    → x ≡ get_or xs n []
-drop_first zero [] x ys e = absurd cc
-drop_first zero (z ∷ xs) x ys e = let f : z ∷ xs ≡ x ∷ ys = e in let g : x ≡ z = cc in g
-drop_first (suc n) [] x ys e = absurd cc
-drop_first (suc n) (z ∷ xs) x ys e = drop_first n xs x ys e
 
 unmap : (f : NodeId → ℕ) (ws : List (Option NodeId)) (k n : ℕ) → slice_get (map (option_map f) ws) k ≡ Some (Some n)
     → (w : NodeId) × (slice_get ws k ≡ Some (Some w))
@@ -40,7 +33,8 @@ stands_in : (p : PieceData) (rest : List (List Insn)) (base pre : List Bool) →
     → p.machine.program < length p.stack → (later : List (List Insn)) × StandsAt p (code_at p ∷ later) base pre
 stands_in p [] base pre s running = absurd (let none = left_count p [] base pre s in omega arith)
 stands_in p (code ∷ later) base pre s running =
-    let is : code ≡ code_at p = search (arith, drop_first, get_or-reverse) in
+    let first = (drop_cons p.machine.program (reverse p.stack) code later s.rest_is).0 in
+    let is : code ≡ code_at p = search (arith, first, get_or-reverse) in
     (later, subst (λ (c : List Insn). StandsAt p (c ∷ later) base pre) is s)
 
 pub at_hand : (p : PieceData) (i : Insn) → IsPiece p → p.machine.program < length p.stack
@@ -105,10 +99,10 @@ first_piece stack pool zero_id fs = record {
 }
 
 pub first_is : (stack : List (List Insn)) (pool : List Node) (zero_id : NodeId) (fs : FactsView) → IsLawfulStack stack
-    → IsFirst stack (first_piece stack pool zero_id fs) → ((d : Input) → value_of pool d zero_id.0 ≡ 0) → Covers fs pool
+    → IsFirst stack (first_piece stack pool zero_id fs) → Covers fs pool
     → ((d : Input) → IsInput d → Agrees fs pool d) → IsPiece (first_piece stack pool zero_id fs)
 unfolding is_member
-first_is stack pool zero_id fs lawful first zeros covers known = record {
+first_is stack pool zero_id fs lawful first covers known = record {
   lawful = lawful;
   pool = first.pool;
   bounded = tt;
@@ -131,7 +125,7 @@ first_is stack pool zero_id fs lawful first zeros covers known = record {
     constant = ap (λ (k : ℕ). node_at pool k) first.place ∙ first.zero
 
     at_start : (d : Input) → concrete_state pool (first_machine zero_id) d ≡ start
-    at_start d = rw (zeros d) refl
+    at_start d = rw (value-constant pool d zero_id.0 0 first.pool within constant) refl
 
 -- the program that the code lends
 pub at_program : (stack lent : List (List Insn)) (n : ℕ) (p : List Insn) → lent ≡ stack → n < length lent

@@ -1,10 +1,10 @@
 -- Pieces with one more truth value in their names; names are routes.
-use Rattle.sf_piece.proofs.Common.{common_steps, ◌≡◌, ℕ, zero, suc, ◌+◌, ◌-◌, ◌<◌, ◌&&◌, not, Bool, true, false, List, [], ◌∷◌, ◌++◌, length, refl, sym, ap, subst, ◌∙◌, inl, inr, arith, append_assoc, append-nil, length-append, false≢true, AllByRecursion, Input, IsInput, BinOp, Div, Insn, Alu, Branch, ReturnA, Operand, Constant, X, IsLawfulProgram, successors_inside, bits, trace_of, insn_progress, IsWay, returns_at, goes_on, AreWays, IsWholeRoute, IsRoute, some_way, Node, Cond, is_met, same, FactsView, SymbolicMachine, PieceData, is_member, is_prefix, IsTrulyNamed, HasNoMember, IsPending, StandsAt, IsPiece, concrete_state, HasAtHand, Asks, NextIs, IsQuery, IsForeseen, IsNever, IsImplied, list_all-append}
+use Rattle.sf_piece.proofs.Common.{common_steps, ◌≡◌, ℕ, zero, suc, ◌+◌, ◌-◌, ◌<◌, ◌&&◌, not, Bool, true, false, List, [], ◌∷◌, ◌++◌, length, refl, sym, ap, subst, ◌∙◌, inl, inr, arith, append_assoc, append-nil, length-append, false≢true, AllByRecursion, and_parts, Input, IsInput, Div, Insn, Alu, Branch, ReturnA, X, IsLawfulProgram, successors_inside, bits, trace_of, insn_progress, IsWay, returns_at, goes_on, AreWays, IsWholeRoute, IsRoute, some_way, Node, Cond, is_met, same, FactsView, SymbolicMachine, PieceData, is_member, is_prefix, IsTrulyNamed, HasNoMember, IsPending, StandsAt, IsPiece, concrete_state, HasAtHand, Asks, NextIs, IsQuery, IsForeseen, IsNever, list_all-append}
 use Rattle.sf_piece.specs.Works.{AfterTruthValue, with_sense}
 use Rattle.sf_piece.proofs.Moves.{made}
 use Rattle.sf_piece.proofs.Kept.{Turned, some_input}
 use Rattle.sf_piece.proofs.Queries.{Meets, branch_turned, return_turned, zero_turned, nonzero_turned, entry_trace}
-use Rattle.sf_piece.proofs.Prefixes.{and-nil, prefix_next, same_right, same-true, and-true}
+use Rattle.sf_piece.proofs.Prefixes.{and-nil, prefix_next, same_right, same-true}
 
 -- ---- after any truth value
 
@@ -12,24 +12,10 @@ pub turned : (p : PieceData) (i : Insn) (b : Bool) (cs : List Cond) (fs : FactsV
     → HasAtHand p i → Asks p.machine i → AfterTruthValue p i b m → Meets p i cs b
     → Turned p (made p (p.name ++ b ∷ []) cs m fs)
 turned p (Branch test other t f) b cs fs m h s asks after meets =
-    subst (λ (k : SymbolicMachine). Turned p (made p (p.name ++ b ∷ []) cs k fs)) (sym after)
-    (branch_turned p test other t f b cs fs h s meets)
-turned p ReturnA b cs fs m h s asks after meets =
-    subst (λ (k : SymbolicMachine). Turned p (made p (p.name ++ b ∷ []) cs k fs)) (sym after)
-    (return_turned p b cs fs h s asks meets)
-turned p (Alu op other) b cs fs m h s asks after meets = alu op other b s asks after meets
-  where
-    alu : (op : BinOp) (other : Operand) (b : Bool) → HasAtHand p (Alu op other) → Asks p.machine (Alu op other)
-        → AfterTruthValue p (Alu op other) b m → Meets p (Alu op other) cs b
-        → Turned p (made p (p.name ++ b ∷ []) cs m fs)
-    alu Div X true s asks after meets =
-        subst (λ (k : SymbolicMachine). Turned p (made p (p.name ++ true ∷ []) cs k fs)) (sym after)
-        (zero_turned p cs fs h s asks meets)
-    alu Div X false s asks after meets =
-        subst (λ (k : SymbolicMachine). Turned p (made p (p.name ++ false ∷ []) cs k fs)) (sym after)
-        (nonzero_turned p cs fs h s asks meets)
-    alu Div (Constant k) b s asks after meets = absurd after
-    alu _ other b s asks after meets = absurd after
+    rw after (branch_turned p test other t f b cs fs h s meets)
+turned p ReturnA b cs fs m h s asks after meets = rw after (return_turned p b cs fs h s asks meets)
+turned p (Alu Div X) true cs fs m h s asks after meets = rw after (zero_turned p cs fs h s asks meets)
+turned p (Alu Div X) false cs fs m h s asks after meets = rw after (nonzero_turned p cs fs h s asks meets)
 turned p _ b cs fs m h s asks after meets = absurd after
 
 -- ---- members
@@ -46,17 +32,18 @@ named_next p i x b h s d inp next =
     prefix_next p.name (trace_of p.stack d) b x (is_member p d) (h.members d inp)
     (λ member. entry_trace p i x s d (next member) inp member)
 
--- what the facts tell of a condition is the next truth value on every member
-pub entry_foreseen : (p : PieceData) (i : Insn) (cond : Cond) (b : Bool) → IsQuery p i cond → IsImplied p cond b
-    → IsForeseen p i b
-entry_foreseen p i cond b e imp = search (arith, same-true, sense_is)
-
 other_way : (x b : Bool) → same x (not b) ≡ false → same x b ≡ true
 other_way x b h = grind (arith, common_steps)
 
 -- where no member has the other truth value, every member has this one
-pub never_implies : (p : PieceData) (cond : Cond) (b : Bool) → IsNever p cond (not b) → IsImplied p cond b
+never_implies : (p : PieceData) (cond : Cond) (b : Bool) → IsNever p cond (not b) → (d : Input) → IsInput d
+    → is_member p d ≡ true → is_met p.pool d (with_sense cond b) ≡ true
 never_implies p cond b h d inp member = search (arith, other_way)
+
+-- so this one is the next truth value on every member
+pub entry_foreseen : (p : PieceData) (i : Insn) (cond : Cond) (b : Bool) → IsQuery p i cond → IsNever p cond (not b)
+    → IsForeseen p i b
+entry_foreseen p i cond b e never = let implied = never_implies p cond b never in search (arith, same-true, sense_is)
 
 -- where no member has either truth value, there is no member
 pub never_both : (p : PieceData) (cond : Cond) → IsNever p cond false → IsNever p cond true → HasNoMember p
@@ -86,7 +73,7 @@ child_members p cond b m fs d = list_all-append (is_met p.pool d) p.conditions (
 pub child_both : (p : PieceData) (cond : Cond) (b : Bool) (m : SymbolicMachine) (fs : FactsView) (d : Input)
     → is_member (child_of p cond b m fs) d ≡ true → (is_member p d ≡ true)
     × (is_met p.pool d (with_sense cond b) ≡ true)
-child_both p cond b m fs d member = grind (arith, common_steps, and-true, child_members)
+child_both p cond b m fs d member = grind (arith, common_steps, and_parts, child_members)
 
 pub child_meets : (p : PieceData) (i : Insn) (cond : Cond) (b : Bool) (m : SymbolicMachine) (fs : FactsView)
     → IsQuery p i cond

@@ -1,5 +1,5 @@
 -- Small steps of a piece, as the rules have them.
-use Rattle.sf_piece.proofs.Common.{common_steps, arith, ◌≡◌, ℕ, zero, suc, ◌-◌, ◌^◌, ◌<◌, Bool, false, refl, sym, ap, subst, ◌∙◌, inl, inr, [], ◌∷◌, ◌++◌, Option, Result, IfOk, BinOp, Test, Equal, AnyBit, Insn, Alu, Branch, ReturnA, Operand, Constant, Cond, Const, Bin, NodeId, node_at, IsPropagatedBack, known_at, closed-consistent, constant-known, IsClosedAt, number_known, ForcedIsLearnt, IsForcedBy, Decision, Implied, Neither, SmallStep, On, Settled, Empty, Fault, SymbolicMachine, PieceData, AsksTest, IsAPropagatedBack, IsPiece, GetsOperand, with_machine, LoadsA, Computes, MovesTo, divides_at, query, HasQuery, LeavesOnly, IsNamedOn, IsAtHand, IsForetold, after_return, IsMade, IsDecision, IsCarriedOut, IsExecuted, IfOk-weaker, GoesOn}
+use Rattle.sf_piece.proofs.Common.{common_steps, arith, ◌≡◌, ℕ, zero, suc, ◌-◌, ◌^◌, ◌<◌, Bool, refl, sym, ap, ◌∙◌, inl, inr, Test, Equal, AnyBit, Insn, Branch, ReturnA, Operand, Constant, Cond, Const, NodeId, node_at, IsPropagatedBack, known_at, closed-consistent, constant-known, IsClosedAt, number_known, ForcedIsLearnt, IsForcedBy, Decision, Implied, Neither, SmallStep, On, Empty, SymbolicMachine, PieceData, AsksTest, IsAPropagatedBack, IsPiece, GetsOperand, with_machine, MovesTo, query, HasQuery, LeavesOnly, IsNamedOn, IsAtHand, IsForetold, after_return, IsDecision, IsCarriedOut, IsExecuted, GoesOn}
 use Rattle.std.specs.Prelude.{Some, None}
 use Rattle.sf_piece.specs.declared.deciding.Decision.TheVariants as decided
 use Rattle.sf_piece.specs.declared.deciding.SmallStep.TheVariants.{Split}
@@ -29,20 +29,16 @@ pub asks_none : (p q : PieceData) (i : Insn) (test : Test) (other : Operand) →
     → GetsOperand p other None → IsExecuted p q Empty
 asks_none p q i test other asks at none = grind (arith, common_steps)
 
--- its result is implied, and the piece goes on
-pub test_executed : (p q r : PieceData) (test : Test) (other : Operand) (t f : ℕ) (b : Bool)
-    → IsAtHand p (Branch test other t f) → IsForetold p test other b → IsNamedOn p (Branch test other t f) b q
-    → IsExecuted q r On → IsExecuted p r On
-test_executed p q r test other t f b at told named on =
+-- its result is foretold, and the piece goes on
+pub told_goes : (p q : PieceData) (i : Insn) (test : Test) (other : Operand) (b : Bool) → AsksTest p i test other
+    → IsAtHand p i → IsForetold p test other b → IsNamedOn p i b q → GoesOn p q
+told_goes p q i test other b asks at told named =
     let asked : PieceData × Cond = (told.0.0, query p.machine.a test told.0.1) in
-    let first : GoesOn p q
-    = (Branch test other t f, at, inr (inr (asked, b, (Some told.0, told.1, refl), told.2, named))) in
-    (suc on.0, (q, first, on.1))
+    (i, at, inr (inr (asked, b, asked_for p i test other told.0 asks told.1, told.2, named)))
 
 pub back_behind : (p q : PieceData) (test : Test) (other : Operand) (t f : ℕ) (b : Bool)
     → IsNamedOn p (Branch test other t f) b q → IsAPropagatedBack p → IsAPropagatedBack q
-back_behind p q test other t f b named back = subst IsAPropagatedBack (sym (named.rest ∙ ap (λ (m : SymbolicMachine).
-    let r : PieceData = record p { name = p.name ++ b ∷ []; machine = m } in r) named.machine)) back
+back_behind p q test other t f b named back = grind (arith, common_steps)
 
 -- ---- a return of A
 
@@ -57,9 +53,8 @@ pub bit_executed : (p q : PieceData) (number : ℕ) (b : Bool) → IsAtHand p Re
     → number ≡ 2 ^ (31 - p.machine.taken) → IsForetold p AnyBit (Constant number) b → IsNamedOn p ReturnA b q
     → IsExecuted p q On
 bit_executed p q number b at more e told named =
-    let asked : PieceData × Cond = (told.0.0, query p.machine.a AnyBit told.0.1) in
-    let asks = asked_for p ReturnA AnyBit (Constant number) told.0 (inr (refl, refl, ap Constant e, more)) told.1 in
-    carried_executed p q ReturnA asked (Implied b) On at asks told.2 named
+    let asks : AsksTest p ReturnA AnyBit (Constant number) = inr (refl, refl, ap Constant e, more) in
+    (1, (q, told_goes p q ReturnA AnyBit (Constant number) b asks at told named, refl))
 
 back_constant : (n c : ℕ) (p : PieceData) (i : ℕ) → node_at p.pool i ≡ Const c
     → IsPropagatedBack n p.facts.known p.pool i
@@ -91,27 +86,6 @@ zero_told laws p b h forced back =
     })
 
 -- ---- an instruction
-
--- an instruction that makes a word
-made_executed : (p r : PieceData) (i : Insn) (makes : Option PieceData → Type 0) (step : SmallStep) → IsAtHand p i
-    → ((o : Option PieceData) → makes o → Computes p i o) → IsMade makes r step → IsExecuted p r step
-made_executed p r i makes On at to h = (1, (r, (i, at, inr (inl (to (Some r) h))), refl))
-made_executed p r i makes Empty at to h = (i, at, inl (to None h))
-made_executed p r i makes (Split f t) at to h = absurd h
-made_executed p r i makes Settled at to h = absurd h
-
-pub made_ok : (p r : PieceData) (i : Insn) (makes : Option PieceData → Type 0) (o : Result SmallStep Fault)
-    → IsAtHand p i → ((n : Option PieceData) → makes n → Computes p i n) → IfOk o (IsMade makes r)
-    → IfOk o (IsExecuted p r)
-made_ok p r i makes o at to h = IfOk-weaker o _ _ (λ step k. made_executed p r i makes step at to k) h
-
--- an operation on both words
-pub operation_ok : (p q r : PieceData) (op : BinOp) (other : Operand) (right : NodeId) (o : Result SmallStep Fault)
-    → IsAtHand p (Alu op other) → divides_at op other p.machine.taken ≡ false → GetsOperand p other (Some (q, right))
-    → q.machine.a ≡ p.machine.a → IfOk o (IsMade (LoadsA q (Bin op q.machine.a right)) r) → IfOk o (IsExecuted p r)
-operation_ok p q r op other right o at goes gets same made =
-    made_ok p r (Alu op other) (LoadsA q (Bin op q.machine.a right)) o at
-    (λ n h. (goes, (Some (q, right), gets, subst (λ (w : NodeId). LoadsA q (Bin op w right) n) same h))) made
 
 -- an instruction that moves words about, jumps or returns a constant
 pub moved_executed : (p r : PieceData) (i : Insn) (m : SymbolicMachine) → IsAtHand p i → MovesTo p.machine i m

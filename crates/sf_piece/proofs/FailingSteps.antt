@@ -1,8 +1,9 @@
 -- A piece goes on over tests that fail, and by the rules too.
-use Rattle.sf_piece.proofs.Common.{common_steps, ◌≡◌, ℕ, zero, suc, ◌+◌, ◌<◌, ◌≤◌, Bool, false, List, [], ◌++◌, length, get_or, replicate, Some, refl, sym, ap, subst, ◌∙◌, inr, arith, append_assoc, append-nil, replicate-append-replicate, slice_get-get_or, Equal, Insn, LoadWord, Branch, Constant, IsAt, Cond, Known, known_at, IsClosed, IsForcedBy, SymbolicMachine, PieceData, IsLawfulPiece, IsAtHand, query, GoesOn, GoesOnFor, code_at, HasGoneOn, IsFailing, AreFailing, IsCodeAtHand, IsOver, behind_chain, IsNamedOn, Admits, AreSkipped, assumed, nat_tests, ◌≢◌}
+use Rattle.sf_piece.proofs.Common.{common_steps, ◌≡◌, ℕ, zero, suc, ◌+◌, ◌<◌, ◌≤◌, Bool, false, List, ◌++◌, length, get_or, replicate, refl, sym, ap, subst, ◌∙◌, inl, arith, append_assoc, append-nil, replicate-append-replicate, slice_get-get_or, Equal, Insn, LoadWord, Branch, Constant, IsAt, Known, known_at, IsClosed, IsForcedBy, SymbolicMachine, PieceData, IsLawfulPiece, IsAtHand, GoesOnFor, code_at, HasGoneOn, IsFailing, AreFailing, IsCodeAtHand, IsOver, behind_chain, Admits, AreSkipped, assumed, nat_tests, ◌≢◌}
 use Rattle.std.proofs.Common.{◌==◌}
 use Rattle.sf_piece.proofs.AtHand.{at_hand, place_inside}
 use Rattle.sf_piece.proofs.Foretold.{gets_told, forced_test}
+use Rattle.sf_piece.proofs.Executed.{told_goes}
 use Rattle.sf_piece.proofs.Children.{taken_on}
 use Rattle.sf_piece.proofs.Joined.{on_same, on_trans, branch_foreseen}
 use Rattle.sf_piece.proofs.Lawful.{take_step, told_of_known}
@@ -50,15 +51,14 @@ few_failing code known (suc n) place behind failing =
 
 -- ---- steps over them
 
--- one step more
-pub goes_end : (n : ℕ) (p q r : PieceData) → GoesOnFor n p q → GoesOn q r → GoesOnFor (suc n) p r
-goes_end zero p q r h g = (r, subst (λ (x : PieceData). GoesOn x r) h g, refl)
-goes_end (suc n) p q r h g = (h.0, h.1, goes_end n h.0 q r h.2 g)
-
 pub goes_more : (n m : ℕ) (p q r : PieceData) → GoesOnFor n p q → GoesOnFor m q r → GoesOnFor (n + m) p r
-goes_more n zero p q r h g = grind (arith, common_steps)
-goes_more n (suc m) p q r h g =
-    grind (arith, common_steps, goes_end, goes_more (suc n) m p g.0 r (goes_end n p q g.0 h g.1) g.2)
+goes_more zero m p q r h g =
+    let count : m ≡ 0 + m = omega arith in
+    subst (λ (k : ℕ). GoesOnFor k p r) count (subst (λ (x : PieceData). GoesOnFor m x r) h g)
+goes_more (suc n) m p q r h g =
+    let count : suc (n + m) ≡ suc n + m = omega arith in
+    let all : GoesOnFor (suc (n + m)) p r = (h.0, h.1, goes_more n m h.0 q r h.2 g) in
+    subst (λ (k : ℕ). GoesOnFor k p r) count all
 
 gone_trans : (p q r : PieceData) → HasGoneOn p q → HasGoneOn q r → HasGoneOn p r
 gone_trans p q r a b = search (arith, on_trans)
@@ -96,10 +96,8 @@ over_one p i known f h at is fails =
           let forced = subst (λ (k : Known). IsForcedBy IsClosed k Equal n false) is (fails.forced closed) in
           let given = gets_told laws p Equal n false h.run.covers (forced_test p Equal n false h.run standing.in_range
           (record { other = λ s c g. forced.other s c.known g; this = forced.this; that = forced.that }) back) in
-          let asked : PieceData × Cond = (given.0.0, query p.machine.a Equal given.0.1) in
-          let named : IsNamedOn p test false (taken_on p false m) = record { machine = refl; rest = refl } in
-          let goes : GoesOn p (taken_on p false m)
-          = (test, here, inr (inr (asked, false, (Some given.0, given.1, refl), given.2, named))) in
+          let goes = told_goes p (taken_on p false m) test Equal (Constant n) false (inl (fails.on_true, f, refl)) here
+          given (record { machine = refl; rest = refl }) in
           (taken_on p false m, goes, refl);
     }
 

@@ -1,5 +1,5 @@
 -- What facts tell of a test of A is what the rules leave of it.
-use Rattle.sf_piece.proofs.Common.{common_steps, ◌≡◌, ◌≢◌, ℕ, zero, suc, ◌<◌, ◌^◌, ◌⊎◌, Bool, true, false, not, List, [], ◌∷◌, ◌++◌, length, refl, inl, inr, arith, cases_lt, cases_eq, eqb-true, take_all, Option, IfSome, if◌then◌else◌, ◌==◌, Input, Test, IsInput, passes, Operand, Constant, X, Cond, Node, Const, NodeId, node_at, value_of, Known, IsPropagatedBack, FactsView, Covers, Agrees, known_at, IsConsistent, IsDecided, CantLearn, GrowsBy, IsClosedAt, number_known, IsForcedBy, ForcedIsLearnt, IsForcedCondition, IsForcedTest, PieceData, Gets, query, with_sense, CanLearn, LeavesOnly, IsPiece, IsOperandNumber, PassesAlways, IsTestedNumber, IsForetold}
+use Rattle.sf_piece.proofs.Common.{common_steps, ◌≡◌, ◌≢◌, ℕ, zero, suc, ◌<◌, ◌^◌, ◌⊎◌, Bool, true, false, not, List, [], ◌∷◌, ◌++◌, length, refl, inl, inr, arith, cases_lt, cases_eq, eqb-true, take_all, Option, IfSome, if◌then◌else◌, ◌==◌, Input, Test, IsInput, passes, Operand, Constant, X, Cond, Node, Const, NodeId, node_at, value_of, Known, IsPropagatedBack, FactsView, Covers, Agrees, known_at, IsConsistent, IsDecided, CantLearn, GrowsBy, IsClosedAt, number_known, IsForcedBy, ForcedIsLearnt, IsForcedCondition, IsForcedTest, PieceData, Gets, query, with_sense, LeavesOnly, IsPiece, IsOperandNumber, PassesAlways, IsTestedNumber, IsForetold}
 use Rattle.std.specs.Prelude.{Some, None}
 
 -- a word with one number is known in full
@@ -44,14 +44,11 @@ with_other p cond number s c g = grind (arith, common_steps)
 pub leaves_only : (laws : ForcedIsLearnt) (p : PieceData) (cond : Cond) (number : ℕ) (b : Bool)
     → IsForcedCondition p.facts p.pool cond number b → LeavesOnly (p, cond) b
 leaves_only laws p cond number b h = record {
-  can = can b (with_other p cond number b b h);
+  can = (let new = laws.this p.facts p.pool (with_sense cond b) number (with_other p cond number b b h) in
+      (new.0, new.2));
   cant = cant b h;
 }
   where
-    can : (c : Bool) → IsForcedCondition p.facts p.pool (with_sense cond c) number c
-        → CanLearn p.facts p.pool (with_sense cond c)
-    can c g = let new = laws.this p.facts p.pool (with_sense cond c) number g in (new.0, new.2)
-
     cant : (c : Bool) → IsForcedCondition p.facts p.pool cond number c
         → CantLearn p.facts p.pool (with_sense cond (not c))
     cant true g = laws.other p.facts p.pool (with_sense cond false) number (with_other p cond number false true g)

@@ -1,5 +1,5 @@
 -- Pieces that go on by an instruction.
-use Rattle.sf_piece.proofs.Common.{common_steps, ◌≡◌, ℕ, zero, suc, ◌+◌, ◌*◌, ◌/◌, ◌%◌, ◌^◌, ◌<◌, ◌≤◌, Bool, true, false, List, [], ◌∷◌, ◌++◌, length, take, Some, None, slice_get, refl, sym, ap, subst, ◌∙◌, inl, inr, arith, if◌then◌else◌, ◌==◌, Contains, same_Some, mod-pow-add, Input, apply, Div, Insn, Alu, ReturnConstant, ReturnA, X, successors, stored_by, IsAt, IsLawfulProgram, Stores, contains_here, any_cons, successors_inside, below_in, State, Progress, goes, returns, bits, insn_progress, step, safe_next, step_is, IsReachable, may_go, NodeId, value_of, value-small, SymbolicMachine, after_return, PieceData, is_member, concrete_state, met_of, number_from, IsPending, AreNodesBelow, StandsAt, IsPiece, HasAtHand, GoesTo, GoesBy, ReturnsNow, work_left}
+use Rattle.sf_piece.proofs.Common.{common_steps, ◌≡◌, ℕ, zero, suc, ◌+◌, ◌*◌, ◌/◌, ◌%◌, ◌^◌, ◌<◌, ◌≤◌, Bool, true, false, List, [], ◌∷◌, ◌++◌, length, take, Some, None, slice_get, refl, sym, ap, subst, ◌∙◌, inl, inr, arith, if◌then◌else◌, nat_tests, ◌==◌, Contains, same_Some, mod-pow-add, Input, Div, Insn, Alu, ReturnConstant, ReturnA, X, successors, stored_by, IsAt, IsLawfulProgram, Stores, contains_here, any_cons, successors_inside, below_in, State, Progress, goes, returns, bits, insn_progress, step, safe_next, step_is, IsReachable, may_go, NodeId, value_of, value-small, SymbolicMachine, after_return, PieceData, is_member, concrete_state, met_of, number_from, IsPending, AreNodesBelow, StandsAt, IsPiece, HasAtHand, GoesTo, GoesBy, ReturnsNow, divided, work_left}
 use Rattle.std.proofs.Common.{Option}
 use Rattle.std.specs.Prelude.{replicate}
 use Rattle.sf_piece.proofs.Moves.{made, stands_moved, stands_returned}
@@ -12,8 +12,7 @@ pub some_input : Input
 some_input = record { words = [] }
 
 div_clash : (b : Bool) (u t : State) → (if b then returns (true ∷ []) 0 else goes (false ∷ []) u) ≡ goes [] t → ⊥
-div_clash true u t e = cc
-div_clash false u t e = cc
+div_clash b u t e = grind (arith, common_steps)
 
 -- as many truth values are in the name as are taken
 pub pre_short : (code : List Insn) (place taken : ℕ) (pre : List Bool) → IsPending code place taken pre
@@ -98,13 +97,9 @@ go_stands p i m h s g (inr (is, taken, to)) =
             (s.stands.inside.safe d) at
             (contains_here (p.machine.place + 1) [] m.place (sym place)) refl (ap (λ (t : State). t.scratch) (to d)))
             (λ d inp member.
-            let u = record (concrete_state p.pool p.machine d) {
-              place = p.machine.place + 1;
-              a = apply Div (value_of p.pool d p.machine.a.0) (value_of p.pool d p.machine.x.0);
-            } in
             let f = (s.stands.runs d inp member).taken in (
               member,
-              div_taken (value_of p.pool d p.machine.x.0 == 0) u (concrete_state p.pool m d)
+              div_taken (value_of p.pool d p.machine.x.0 == 0) (divided p d) (concrete_state p.pool m d)
                   (sym pre ∙ f
                   ∙ ap (λ (k : ℕ). take k (met_of (step s.code d (concrete_state p.pool p.machine d)))) taken
                   ∙ ap (λ (q : Progress). take 1 (met_of q))
@@ -122,11 +117,6 @@ pub go_turned : (p : PieceData) (i : Insn) (m : SymbolicMachine) → IsPiece p �
     → Turned p (gone p m)
 go_turned p i m h s g =
     let w = go_stands p i m h s g g.run in
-    let after = w.1 in
-    let program : m.program ≡ p.machine.program = g.program in
-    let taken : m.taken ≡ 0 = g.taken in
-    let few : p.machine.taken ≤ 32 = s.taken in
-    let small : p.machine.place < 4096 = s.small in
     record {
       rest = s.code ∷ s.later;
       base = w.0.0;
@@ -134,15 +124,13 @@ go_turned p i m h s g =
       stands = w.0.1;
       nodes = g.nodes;
       zero_is = g.zero;
-      falls = rw (program, taken) (omega arith);
+      falls = rw (g.program, g.taken) (omega (arith, w.1, s.taken, s.small));
     }
 
 -- ---- returns
 
 bit_is : (t : ℕ) → t < 2 → (if t == 1 then 1 else 0) ≡ t
-bit_is zero h = refl
-bit_is (suc zero) h = refl
-bit_is (suc (suc t)) h = absurd (omega arith)
+bit_is t h = grind (arith, nat_tests)
 
 pub number_bits : (k n a : ℕ) → number_from n (bits k a) ≡ n * 2 ^ k + a % 2 ^ k
 number_bits zero n a = omega arith
@@ -165,8 +153,7 @@ return_stands : (p : PieceData) (i : Insn) (v : ℕ) → IsPiece p → (s : HasA
     → (base : List Bool) × StandsAt (gone p (after_return p.machine v)) s.later base []
 unfolding is_member
 return_stands p i v h s (inl is) =
-    let at : IsAt s.code p.machine.place (ReturnConstant v) =
-    subst (λ (j : Insn). IsAt s.code p.machine.place j) is s.at in
+    let at : IsAt s.code p.machine.place (ReturnConstant v) = rw is at s.at in
     let none = (none_pending s.code p.machine.place p.machine.taken s.pre (ReturnConstant v) s.stands.inside.pending at
     (λ is. cc) (λ is. cc)).1 in (
       s.base ++ [],
@@ -207,7 +194,6 @@ pub left_turned : (p : PieceData) (i : Insn) (v : ℕ) → IsPiece p → HasAtHa
     → Turned p (gone p (after_return p.machine v))
 left_turned p i v h s r =
     let w = return_stands p i v h s r in
-    let running : p.machine.program < length p.stack = s.running in
     record {
       rest = s.later;
       base = w.0;
@@ -215,5 +201,5 @@ left_turned p i v h s r =
       stands = w.1;
       nodes = returned_nodes p v h.nodes;
       zero_is = refl;
-      falls = omega arith;
+      falls = omega (arith, s.running);
     }

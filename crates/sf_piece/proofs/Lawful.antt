@@ -1,5 +1,5 @@
 -- Pieces stay lawful: the symbolic run stands where it should, and on a plain stack nothing is lost.
-use Rattle.sf_piece.proofs.Common.{◌≡◌, ℕ, Bool, List, [], ◌∷◌, ◌++◌, length, refl, arith, Option, IfSome, MatchOption, false_from_ne_true, All-nil, Input, IsInput, passes, Test, Insn, Operand, Constant, IsLawfulStack, IsPlain, Node, NodeId, Cond, IsPool, IsCondBelow, ArePlainNodes, Known, Admits, FactsView, known_at, Covers, Agrees, TakesIn, LearnsBy, CantLearn, IsLearningSound, IsPlainCondition, SymbolicMachine, PieceData, is_member, IsPlainPiece, IsPiece, IsLawfulPiece, HasAtHand, GoesTo, ReturnsNow, IsQuery, IsForeseen, PassesAlways, AreChildFacts, IsNever, after_return, GrowsBy, node_at, AfterTruthValue, AllByRecursion, AreCarried, IsSide, IsSmallStep, On, ap, append-nil, is_met, is_prefix, sym, trace_of, true, with_sense, ◌&&◌, ◌∙◌, learnt, All-from_recursion, All-push, recursion_from_All, some-input, IsFirst, value-constant, Const, ◌<◌}
+use Rattle.sf_piece.proofs.Common.{◌≡◌, ℕ, Bool, List, [], ◌∷◌, ◌++◌, length, refl, arith, Option, IfSome, MatchOption, false_from_ne_true, All-nil, Input, IsInput, passes, Test, Insn, Operand, Constant, IsLawfulStack, IsPlain, Node, NodeId, Cond, IsPool, IsCondBelow, ArePlainNodes, Known, Admits, FactsView, known_at, Covers, Agrees, TakesIn, LearnsBy, CantLearn, IsLearningSound, IsPlainCondition, SymbolicMachine, PieceData, is_member, IsPlainPiece, IsPiece, IsLawfulPiece, HasAtHand, GoesTo, ReturnsNow, IsQuery, IsForeseen, PassesAlways, AreChildFacts, IsNever, after_return, GrowsBy, node_at, AfterTruthValue, AllByRecursion, AreCarried, IsSide, IsSmallStep, On, ap, append-nil, is_met, is_prefix, sym, trace_of, true, with_sense, ◌&&◌, ◌∙◌, learnt, All-from_recursion, All-push, recursion_from_All, some-input, IsFirst}
 use Rattle.std.specs.Prelude.{Some, None}
 use Rattle.sf_piece.proofs.Moves.{made}
 use Rattle.sf_piece.proofs.Kept.{Turned, gone, go_turned, left_turned}
@@ -125,10 +125,7 @@ pub lawful_first : (stack : List (List Insn)) (pool : List Node) (zero_id : Node
     → IsLawfulPiece (first_piece stack pool zero_id fs)
 unfolding is_member
 lawful_first stack pool zero_id fs stacked first covers known nodes =
-    let within : zero_id.0 < length pool = omega (arith, first.place, first.count) in
-    let here : node_at pool zero_id.0 ≡ Const 0 = ap (λ (k : ℕ). node_at pool k) first.place ∙ first.zero in
-    lawful (first_piece stack pool zero_id fs) (first_is stack pool zero_id fs stacked first
-    (λ d. value-constant pool d zero_id.0 0 first.pool within here) covers known)
+    lawful (first_piece stack pool zero_id fs) (first_is stack pool zero_id fs stacked first covers known)
     (λ plain. record {
       nodes = nodes;
       conditions = All-nil (IsPlainCondition pool);

@@ -1,5 +1,5 @@
 -- Where a piece's run stands after a step.
-use Rattle.sf_piece.proofs.Common.{common_steps, ◌≡◌, ℕ, zero, suc, ◌+◌, Bool, true, List, [], ◌∷◌, ◌++◌, length, take, drop, map, reverse, Some, None, refl, sym, ap, subst, ◌∙◌, inl, arith, append_assoc, append-nil, IsSome, flat_map, AllByRecursion, Input, IsInput, Insn, IsAt, IsLawfulProgram, Answer, State, goes, returns, start, insn_progress, step, Outcome, run_for, outcome_of, met_by, return_of, IsAnswer, answer_more, MayMeet, returns_at, goes_on, AreWays, IsWholeRoute, safe_start, run_more, run_ends, run_same, lawful_ends, IsReachable, Cond, Node, value_of, FactsView, SymbolicMachine, after_return, PieceData, is_member, concrete_state, met_of, number_from, IsPending, InProgram, RouteFrom, RunsOn, HasTaken, StandsAt}
+use Rattle.sf_piece.proofs.Common.{common_steps, ◌≡◌, ℕ, zero, suc, ◌+◌, Bool, true, List, [], ◌∷◌, ◌++◌, length, take, drop, map, reverse, get_or, Some, None, refl, sym, ap, subst, ◌∙◌, inl, arith, append_assoc, append-nil, IsSome, flat_map, AllByRecursion, Input, IsInput, Insn, IsAt, IsLawfulProgram, Answer, State, goes, returns, start, insn_progress, step, Outcome, run_for, outcome_of, met_by, return_of, IsAnswer, answer_more, MayMeet, returns_at, goes_on, AreWays, IsWholeRoute, safe_start, run_more, run_ends, run_same, lawful_ends, IsReachable, Cond, Node, value_of, FactsView, SymbolicMachine, after_return, PieceData, is_member, concrete_state, met_of, number_from, IsPending, InProgram, RouteFrom, RunsOn, HasTaken, StandsAt}
 
 -- a piece of the same stack and pool
 abbrev pub made : PieceData → List Bool → List Cond → SymbolicMachine → FactsView → PieceData
@@ -98,13 +98,16 @@ pub route_whole : (later : List (List Insn)) (more : List Bool) → RouteFrom la
 route_whole [] more r = r
 route_whole (code ∷ later) more r = r
 
-drop_tail : (n : ℕ) (xs : List (List Insn)) (x : List Insn) (ys : List (List Insn)) → drop n xs ≡ x ∷ ys
-    → drop (n + 1) xs ≡ ys
-drop_tail zero [] x ys e = absurd cc
-drop_tail zero (z ∷ xs) x ys e = let f : z ∷ xs ≡ x ∷ ys = e in let g : xs ≡ ys = cc in g
-drop_tail (suc n) [] x ys e = absurd cc
-drop_tail (suc n) (z ∷ xs) x ys e = let k : suc n + 1 ≡ suc (n + 1) = omega arith in
-    ap (λ (j : ℕ). drop j (z ∷ xs)) k ∙ drop_tail n xs x ys e
+-- what is left of a list begins with the element at that place
+pub drop_cons : (n : ℕ) (xs : List (List Insn)) (x : List Insn) (ys : List (List Insn)) → drop n xs ≡ x ∷ ys
+    → (x ≡ get_or xs n []) × (drop (n + 1) xs ≡ ys)
+drop_cons zero [] x ys e = absurd cc
+drop_cons zero (z ∷ xs) x ys e =
+    let f : z ∷ xs ≡ x ∷ ys = e in let g : x ≡ z = cc in let h : xs ≡ ys = cc in (g, h)
+drop_cons (suc n) [] x ys e = absurd cc
+drop_cons (suc n) (z ∷ xs) x ys e =
+    let rest = drop_cons n xs x ys e in
+    let k : suc n + 1 ≡ suc (n + 1) = omega arith in (rest.0, ap (λ (j : ℕ). drop j (z ∷ xs)) k ∙ rest.1)
 
 -- where the next program starts, or there is none
 pub starts_in : (rest : List (List Insn)) (pool : List Node) (m : SymbolicMachine)
@@ -130,7 +133,7 @@ pub stands_returned : (p : PieceData) (code : List Insn) (later : List (List Ins
     × (insn_progress d (concrete_state p.pool p.machine d) i ≡ returns met v))
     → StandsAt (made p name cs (after_return p.machine v) fs) later (base ++ met) []
 stands_returned p code later base pre met i v name cs fs s at may named zeros run = record {
-  rest_is = drop_tail p.machine.program (reverse p.stack) code later s.rest_is;
+  rest_is = (drop_cons p.machine.program (reverse p.stack) code later s.rest_is).1;
   laws = s.laws.1;
   name_is = named ∙ sym (append-nil (base ++ met));
   number = refl;

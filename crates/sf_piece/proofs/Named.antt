@@ -1,6 +1,7 @@
 -- Names, stacks, pools and words of what is made of a piece.
-use Rattle.sf_piece.proofs.Common.{common_steps, append_assoc, append-nil, length-append, ◌≡◌, ℕ, zero, suc, ◌+◌, ◌≤◌, Bool, true, false, List, [], ◌∷◌, ◌++◌, length, refl, sym, ap, subst, ◌∙◌, inl, inr, arith, Option, if◌then◌else◌, same_Some, Insn, Alu, Branch, ReturnA, Operand, Constant, X, Cond, Node, Const, NodeId, IsPool, Then, SymbolicMachine, PieceData, Split, IsGiven, GetsOperand, with_machine, LoadsA, LoadsX, Computes, HasQuery, IsSide, MakesOf, GoesOnFor, SplitsInto, HasStep, IsBelow}
+use Rattle.sf_piece.proofs.Common.{common_steps, append_assoc, append-nil, length-append, ◌≡◌, ℕ, zero, suc, ◌+◌, ◌≤◌, Bool, true, false, List, [], ◌∷◌, ◌++◌, length, refl, sym, ap, subst, ◌∙◌, inl, inr, arith, Option, if◌then◌else◌, same_Some, Insn, Alu, Branch, ReturnA, Operand, Constant, X, Cond, Node, Const, NodeId, IsPool, Then, SymbolicMachine, PieceData, Split, IsGiven, GetsOperand, with_machine, Loads, Computes, HasQuery, IsSide, MakesOf, GoesOnFor, SplitsInto, HasStep, IsBelow}
 use Rattle.std.specs.Prelude.{Some}
+use Rattle.sf_piece.specs.declared.machine.Register.TheVariants as register
 
 -- ---- words
 
@@ -49,10 +50,11 @@ word_of : (p mid given q : PieceData) (m : SymbolicMachine) → IsMore p mid →
     → m.program ≡ given.machine.program → m.place ≡ given.machine.place + 1 → m.taken ≡ 0 → HasWord p q
 word_of p mid given q m one two same program place taken = grind (arith, common_steps)
 
-loads_word : (p mid q : PieceData) (node : Node) → IsMore p mid → LoadsA mid node (Some q) → HasWord p q
+loads_word : (p mid q : PieceData) (node : Node) → IsMore p mid
+    → Loads mid register.A node (Some q) → HasWord p q
 loads_word p mid q node more h = grind (arith, common_steps, same_Some, given_more, both_gave, word_of)
 
-loads_x_word : (p q : PieceData) (k : ℕ) → LoadsX p k (Some q) → HasWord p q
+loads_x_word : (p q : PieceData) (k : ℕ) → Loads p register.X (Const k) (Some q) → HasWord p q
 loads_x_word p q k h = grind (arith, common_steps, same_Some, same_more, given_more, both_gave, word_of)
 
 pub computes_word : (p q : PieceData) (i : Insn) → Computes p i (Some q) → HasWord p q
@@ -92,18 +94,21 @@ pub record AreNamedSides (r f t : PieceData) : Type 0 where
 pub sides_named : (r f t : PieceData) (name : List Bool) → HasStep r (Split f t) name → AreNamedSides r f t
 sides_named r f t name h = grind (arith, common_steps, query_more, goes_named, side_of)
 
-group : (xs on x : List Bool) (b : Bool) → (xs ++ on ++ b ∷ []) ++ x ≡ xs ++ ((on ++ b ∷ []) ++ x)
-group xs on x b =
-    ap (λ (l : List Bool). l ++ x) (append_assoc xs on (b ∷ [])) ∙ append_assoc xs (on ++ b ∷ []) x
-
-pub regroup : (xs on x : List Bool) (b : Bool) → (xs ++ on ++ b ∷ []) ++ x ≡ (xs ++ on) ++ b ∷ x
-regroup xs on x b = append_assoc (xs ++ on) (b ∷ []) x
-
 pub below_named : (bs : List Bool) (r p : PieceData) → IsBelow bs r p → (on : List Bool) × (p.name ≡ r.name ++ on)
 below_named [] r p h = ([], ap (λ (c : PieceData). c.name) h ∙ sym (append-nil r.name))
 below_named (b ∷ bs) r p h =
     let sides = sides_named r h.0 h.1 r.name h.2 in
     let rest = below_named bs (if b then h.1 else h.0) p h.3 in (
       (sides.on ++ b ∷ []) ++ rest.0,
-      rest.1 ∙ ap (λ (l : List Bool). l ++ rest.0) (sides.name b) ∙ group r.name sides.on rest.0 b,
+      rest.1 ∙ ap (λ (l : List Bool). l ++ rest.0) (sides.name b ∙ append_assoc r.name sides.on (b ∷ []))
+          ∙ append_assoc r.name (sides.on ++ b ∷ []) rest.0,
+    )
+
+-- a piece below a side of a split is named by the way to that side
+pub side_named : (r f t p : PieceData) (sides : AreNamedSides r f t) (b : Bool) (bs : List Bool)
+    → IsBelow bs (if b then t else f) p → (more : List Bool) × (p.name ≡ r.name ++ sides.on ++ b ∷ more)
+side_named r f t p sides b bs h =
+    let rest = below_named bs (if b then t else f) p h in (
+      rest.0,
+      rest.1 ∙ ap (λ (l : List Bool). l ++ rest.0) (sides.name b) ∙ append_assoc (r.name ++ sides.on) (b ∷ []) rest.0,
     )

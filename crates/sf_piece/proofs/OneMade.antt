@@ -1,6 +1,7 @@
 -- What is made of a piece is one thing, if facts learn and grow in one way at most.
-use Rattle.sf_piece.proofs.Common.{◌≡◌, ℕ, ◌-◌, ◌^◌, Bool, true, false, List, [], ◌∷◌, ◌++◌, refl, sym, ap, subst, ◌∙◌, inl, inr, Option, AnyBit, Insn, LoadWord, LoadConstant, LoadLength, LoadXConstant, LoadXLength, Alu, Negate, Branch, ReturnA, Operand, Constant, X, Cond, Node, Const, Word, Bin, Neg, NodeId, IsPool, FactsView, CantLearn, GrowsBy, HaveOneResult, then-one, SymbolicMachine, PieceData, IsPutIn, IsGiven, Gets, GetsOperand, piece_with_a, piece_with_x, LoadsA, Computes, query, HasQuery, with_sense, AfterTruthValue, CanLearn, LeavesOnly, IsSide, IsNamedOn, Then, common_steps, arith}
-use Rattle.std.specs.Prelude.{Some, None}
+use Rattle.sf_piece.proofs.Common.{◌≡◌, ℕ, ◌-◌, ◌^◌, Bool, true, false, List, [], ◌∷◌, ◌++◌, refl, sym, ap, subst, ◌∙◌, inl, inr, Option, AnyBit, Insn, LoadWord, LoadConstant, LoadLength, LoadXConstant, LoadXLength, Alu, Negate, Branch, ReturnA, Operand, Constant, X, Cond, Node, Const, Word, Bin, Neg, NodeId, IsPool, FactsView, CantLearn, GrowsBy, HaveOneResult, then-one, SymbolicMachine, PieceData, IsPutIn, IsGiven, Gets, GetsOperand, piece_with, Loads, Computes, query, HasQuery, with_sense, AfterTruthValue, CanLearn, LeavesOnly, IsSide, IsNamedOn, Then, common_steps, arith}
+use Rattle.std.specs.Prelude.{Some}
+use Rattle.sf_piece.specs.declared.machine.Register.TheVariants as register
 use Rattle.sf_piece.proofs.Named.{operand_more}
 
 -- ---- pools
@@ -50,15 +51,16 @@ module _ (laws : HaveOneResult) where
 
   pub computes_one : (p : PieceData) (i : Insn) (m n : Option PieceData) → IsPool p.pool → Computes p i m
       → Computes p i n → m ≡ n
-  computes_one p (LoadWord w) m n pool h k = word_one p (Word w) piece_with_a pool m n h k
-  computes_one p (LoadConstant c) m n pool h k = word_one p (Const c) piece_with_a pool m n h k
-  computes_one p LoadLength m n pool h k = word_one p (Const 64) piece_with_a pool m n h k
-  computes_one p (LoadXConstant c) m n pool h k = word_one p (Const c) piece_with_x pool m n h k
-  computes_one p LoadXLength m n pool h k = word_one p (Const 64) piece_with_x pool m n h k
-  computes_one p Negate m n pool h k = word_one p (Neg p.machine.a) piece_with_a pool m n h k
+  computes_one p (LoadWord w) m n pool h k = word_one p (Word w) (piece_with register.A) pool m n h k
+  computes_one p (LoadConstant c) m n pool h k = word_one p (Const c) (piece_with register.A) pool m n h k
+  computes_one p LoadLength m n pool h k = word_one p (Const 64) (piece_with register.A) pool m n h k
+  computes_one p (LoadXConstant c) m n pool h k = word_one p (Const c) (piece_with register.X) pool m n h k
+  computes_one p LoadXLength m n pool h k = word_one p (Const 64) (piece_with register.X) pool m n h k
+  computes_one p Negate m n pool h k = word_one p (Neg p.machine.a) (piece_with register.A) pool m n h k
   computes_one p (Alu op other) m n pool h k =
-      then-one (GetsOperand p other) (λ right. LoadsA right.0 (Bin op p.machine.a right.1)) (operand_one p other pool)
-      (λ right g. word_one right.0 (Bin op p.machine.a right.1) piece_with_a
+      then-one (GetsOperand p other) (λ right. Loads right.0 register.A (Bin op p.machine.a right.1))
+      (operand_one p other pool)
+      (λ right g. word_one right.0 (Bin op p.machine.a right.1) (piece_with register.A)
       ((operand_more p other right g).lawful pool))
       m n h.1 k.1
   computes_one p _ m n pool h k = absurd h

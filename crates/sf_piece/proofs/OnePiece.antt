@@ -1,6 +1,6 @@
 -- The rules reach one piece of a name at most.
 use Rattle.sf_piece.proofs.Common.{length-append, ◌≡◌, ℕ, ◌<◌, Bool, true, false, List, [], ◌∷◌, ◌++◌, length, refl, sym, ap, subst, ◌∙◌, inl, inr, arith, if◌then◌else◌, cases_lt, ext_get_or, Insn, Cond, Node, Const, IsPool, node_at, FactsView, StartsBy, HaveOneResult, SymbolicMachine, PieceData, Split, HasStep, IsFirst, IsBelow, IsInTree, first_machine}
-use Rattle.sf_piece.proofs.Named.{AreNamedSides, below_named, regroup, sides_named}
+use Rattle.sf_piece.proofs.Named.{AreNamedSides, side_named, sides_named}
 use Rattle.sf_piece.proofs.OneMade.{same_id}
 use Rattle.sf_piece.proofs.OneStep.{one_step}
 
@@ -11,66 +11,49 @@ no_fork (a ∷ xs) bs cs e =
     let f : a ∷ (xs ++ false ∷ bs) ≡ a ∷ (xs ++ true ∷ cs) = e in
     let g : xs ++ false ∷ bs ≡ xs ++ true ∷ cs = cc in no_fork xs bs cs g
 
--- a list is no longer than itself
-no_longer : (xs bs : List Bool) (b : Bool) (cs : List Bool) → xs ≡ xs ++ bs ++ b ∷ cs → ⊥
-no_longer xs bs b cs e = omega (
-  arith,
-  ap (λ (l : List Bool). length l) e,
-  length-append (xs ++ bs) (b ∷ cs),
-  length-append xs bs,
-)
-
--- a piece below another one has a longer name
-below_longer : (b : Bool) (bs : List Bool) (r p : PieceData) → IsBelow (b ∷ bs) r p
-    → (on : List Bool) × (more : List Bool) × (p.name ≡ r.name ++ on ++ b ∷ more)
-below_longer b bs r p h =
+-- a piece isn't named as one below it
+longer : (b : Bool) (bs : List Bool) (r p : PieceData) → IsBelow (b ∷ bs) r p → r.name ≡ p.name → ⊥
+longer b bs r p h e =
     let sides = sides_named r h.0 h.1 r.name h.2 in
-    let rest = below_named bs (if b then h.1 else h.0) p h.3 in (
-      sides.on,
-      rest.0,
-      rest.1 ∙ ap (λ (l : List Bool). l ++ rest.0) (sides.name b) ∙ regroup r.name sides.on rest.0 b,
+    let more = side_named r h.0 h.1 p sides b bs h.3 in
+    omega (
+      arith,
+      ap (λ (l : List Bool). length l) (e ∙ more.1),
+      length-append (r.name ++ sides.on) (b ∷ more.0),
+      length-append r.name sides.on,
     )
 
 -- a piece on the false side isn't named as one on the true side
 apart : (r f t p q : PieceData) (bs cs : List Bool) → AreNamedSides r f t → IsBelow bs f p → IsBelow cs t q
     → p.name ≡ q.name → ⊥
 apart r f t p q bs cs sides h k e =
-    let one = below_named bs f p h in
-    let two = below_named cs t q k in
-    let left : p.name ≡ (r.name ++ sides.on) ++ false ∷ one.0
-    = one.1 ∙ ap (λ (l : List Bool). l ++ one.0) (sides.name false) ∙ regroup r.name sides.on one.0 false in
-    let right : q.name ≡ (r.name ++ sides.on) ++ true ∷ two.0
-    = two.1 ∙ ap (λ (l : List Bool). l ++ two.0) (sides.name true) ∙ regroup r.name sides.on two.0 true in
-    no_fork (r.name ++ sides.on) one.0 two.0 (sym left ∙ e ∙ right)
+    let one = side_named r f t p sides false bs h in
+    let two = side_named r f t q sides true cs k in no_fork (r.name ++ sides.on) one.0 two.0 (sym one.1 ∙ e ∙ two.1)
 
 -- pieces of one name, below one piece, are the same
 one_below : (laws : HaveOneResult) (bs cs : List Bool) (r p q : PieceData) → IsPool r.pool → IsBelow bs r p
     → IsBelow cs r q → p.name ≡ q.name → p ≡ q
 one_below laws [] [] r p q pool h k e = h ∙ sym k
-one_below laws [] (c ∷ cs) r p q pool h k e =
-    let more = below_longer c cs r q k in
-    absurd (no_longer r.name more.0 c more.1 (sym (ap (λ (x : PieceData). x.name) h) ∙ e ∙ more.2))
+one_below laws [] (c ∷ cs) r p q pool h k e = absurd (longer c cs r q k (sym (ap (λ (x : PieceData). x.name) h) ∙ e))
 one_below laws (b ∷ bs) [] r p q pool h k e =
-    let more = below_longer b bs r p h in
-    absurd (no_longer r.name more.0 b more.1 (sym (ap (λ (x : PieceData). x.name) k) ∙ sym e ∙ more.2))
+    absurd (longer b bs r p h (sym (ap (λ (x : PieceData). x.name) k) ∙ sym e))
 one_below laws (b ∷ bs) (c ∷ cs) r p q pool h k e =
     let one : Split h.0 h.1 ≡ Split k.0 k.1 =
     (one_step laws r (Split h.0 h.1) (Split k.0 k.1) r.name r.name pool h.2 k.2).0 in
     let left : h.0 ≡ k.0 = cc in
     let right : h.1 ≡ k.1 = cc in
     let sides = sides_named r h.0 h.1 r.name h.2 in
-    by b c sides (λ x y. one_below laws bs cs h.0 p q (sides.pool false pool) x y e)
-    (λ x y. one_below laws bs cs h.1 p q (sides.pool true pool) x y e) h.3
+    by b c sides (λ s x y. one_below laws bs cs (if s then h.1 else h.0) p q (sides.pool s pool) x y e) h.3
     (subst (λ (x : PieceData). IsBelow cs (if c then h.1 else x) q) (sym left)
     (subst (λ (y : PieceData). IsBelow cs (if c then y else k.0) q) (sym right) k.3))
   where
-    by : (u v : Bool) → AreNamedSides r h.0 h.1 → (IsBelow bs h.0 p → IsBelow cs h.0 q → p ≡ q)
-        → (IsBelow bs h.1 p → IsBelow cs h.1 q → p ≡ q) → IsBelow bs (if u then h.1 else h.0) p
+    by : (u v : Bool) → AreNamedSides r h.0 h.1 → ((s : Bool) → IsBelow bs (if s then h.1 else h.0) p
+        → IsBelow cs (if s then h.1 else h.0) q → p ≡ q) → IsBelow bs (if u then h.1 else h.0) p
         → IsBelow cs (if v then h.1 else h.0) q → p ≡ q
-    by false false sides both_false both_true x y = both_false x y
-    by true true sides both_false both_true x y = both_true x y
-    by false true sides both_false both_true x y = absurd (apart r h.0 h.1 p q bs cs sides x y e)
-    by true false sides both_false both_true x y = absurd (apart r h.0 h.1 q p cs bs sides y x (sym e))
+    by false false sides both x y = both false x y
+    by true true sides both x y = both true x y
+    by false true sides both x y = absurd (apart r h.0 h.1 p q bs cs sides x y e)
+    by true false sides both x y = absurd (apart r h.0 h.1 q p cs bs sides y x (sym e))
 
 -- ---- the first piece
 

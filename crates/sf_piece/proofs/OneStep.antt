@@ -1,5 +1,5 @@
 -- A piece has one step at most.
-use Rattle.sf_piece.proofs.Common.{common_steps, ◌≡◌, ℕ, zero, suc, ◌≤◌, ◌⊎◌, Bool, true, false, List, length, refl, sym, ap, subst, ◌∙◌, inl, inr, arith, Option, same_Some, Insn, Cond, NodeId, IsPool, CantLearn, HaveOneResult, SymbolicMachine, PieceData, StepData, Split, with_machine, Computes, MovesTo, HasQuery, with_sense, LeavesOnly, LeavesNeither, IsSide, IsNamedOn, code_at, IsAtHand, MakesOf, GoesOn, SplitsInto, IsEmptied, GoesOnFor, EndsAs, HasStep}
+use Rattle.sf_piece.proofs.Common.{common_steps, ◌≡◌, ℕ, zero, suc, ◌≤◌, ◌⊎◌, Bool, true, false, List, length, refl, sym, ap, subst, ◌∙◌, inl, inr, arith, Option, same_Some, Insn, Cond, NodeId, IsPool, CantLearn, HaveOneResult, SymbolicMachine, PieceData, StepData, Split, Computes, MovesTo, HasQuery, with_sense, LeavesOnly, LeavesNeither, IsSide, IsNamedOn, code_at, IsAtHand, MakesOf, GoesOn, SplitsInto, IsEmptied, GoesOnFor, EndsAs, HasStep}
 use Rattle.std.specs.Prelude.{Some, None, slice_get}
 use Rattle.sf_piece.specs.Pieces.{Settled, Empty}
 use Rattle.sf_piece.proofs.Kept.{at_same}
@@ -53,13 +53,10 @@ module _ (laws : HaveOneResult) (p : PieceData) (pool : IsPool p.pool) where
 
   -- an instruction makes of a piece one piece at most
   made_one : (i : Insn) (a b : PieceData) → MakesOf p i a → MakesOf p i b → a ≡ b
-  made_one i a b (inl h) (inl k) =
-      h.2 ∙ ap (with_machine p) (moves_once p.machine i h.0 k.0 h.1 k.1) ∙ sym k.2
-  made_one i a b (inl h) (inr (inl k)) = absurd (moves_alone p i h.0 (Some b) h.1 k)
-  made_one i a b (inl h) (inr (inr k)) = absurd (asks_alone p i h.0 (Some k.0) h.1 k.2)
-  made_one i a b (inr (inl h)) (inl k) = absurd (moves_alone p i k.0 (Some a) k.1 h)
-  made_one i a b (inr (inl h)) (inr (inl k)) = same_Some a b (computes_one laws p i (Some a) (Some b) pool h k)
-  made_one i a b (inr (inl h)) (inr (inr k)) = absurd (computes_alone p i (Some a) (Some k.0) h k.2)
+  made_one i a b (inl h) k = grind (arith, common_steps, moves_once, moves_alone, asks_alone)
+  made_one i a b (inr (inl h)) k =
+      let one = computes_one laws p i (Some a) (Some b) pool h in
+      grind (arith, common_steps, same_Some, moves_alone, computes_alone, one)
   made_one i a b (inr (inr h)) (inl k) = absurd (asks_alone p i k.0 (Some h.0) k.1 h.2)
   made_one i a b (inr (inr h)) (inr (inl k)) = absurd (computes_alone p i (Some b) (Some h.0) k h.2)
   made_one i a b (inr (inr h)) (inr (inr k)) =
@@ -100,13 +97,9 @@ module _ (laws : HaveOneResult) (p : PieceData) (pool : IsPool p.pool) where
     where
       by : Computes p h.0 None ⊎ HasQuery p h.0 None ⊎ ((asked : PieceData × Cond) × HasQuery p h.0 (Some asked)
           × LeavesNeither asked) → MakesOf p h.0 b → ⊥
-      by (inl e) (inl m) = moves_alone p h.0 m.0 None m.1 e
-      by (inl e) (inr (inl m)) =
-          let clash : None ≡ Some b = computes_one laws p h.0 None (Some b) pool e m in absurd cc
-      by (inl e) (inr (inr m)) = computes_alone p h.0 None (Some m.0) e m.2
-      by (inr (inl e)) (inl m) = asks_alone p h.0 m.0 None m.1 e
-      by (inr (inl e)) (inr (inl m)) = computes_alone p h.0 (Some b) None m e
-      by (inr (inl e)) (inr (inr m)) = no_query h.0 m.0 m.2 e
+      by (inl e) m =
+          grind (arith, common_steps, moves_alone, computes_alone, computes_one laws p h.0 None (Some b) pool e)
+      by (inr (inl e)) m = grind (arith, common_steps, asks_alone, computes_alone, no_query)
       by (inr (inr e)) (inl m) = asks_alone p h.0 m.0 (Some e.0) m.1 e.1
       by (inr (inr e)) (inr (inl m)) = computes_alone p h.0 (Some b) (Some e.0) m e.1
       by (inr (inr e)) (inr (inr m)) =

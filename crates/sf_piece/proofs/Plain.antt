@@ -1,5 +1,5 @@
 -- Pieces of plain stacks.
-use Rattle.sf_piece.proofs.Common.{common_steps, ◌≡◌, ℕ, ◌<◌, Bool, true, false, List, [], ◌∷◌, ◌++◌, length, drop, reverse, Some, slice_get, refl, sym, subst, ◌∙◌, inl, inr, arith, All, AllByRecursion, get_or_append_left, get_or-reverse, length-reverse, cases_lt, All-push, All-head, All-drop, recursion_from_All, Input, IsInput, Test, Equal, Greater, GreaterOrEqual, AnyBit, Insn, Branch, Operand, Constant, X, IsPlain, IsPlainInsn, Node, Const, Word, Bin, Neg, NodeId, Cond, IsPool, ArePlainNodes, OperandsBelow, folded_node, node_at, IsCondBelow, FactsView, Agrees, KeepsOnly, TakesIn, IsWordOrConst, IsPlainTest, Meets, some-input, IsPlainCondition, SymbolicMachine, PieceData, is_member, HasNoMember, IsPiece, HasAtHand, AreChildFacts, IsPlainPiece, and_from, get_or_from_slice_get, slice_get_within}
+use Rattle.sf_piece.proofs.Common.{common_steps, ◌≡◌, ℕ, ◌<◌, Bool, true, false, List, ◌∷◌, ◌++◌, length, drop, reverse, Some, slice_get, refl, sym, subst, ◌∙◌, inl, inr, arith, All, AllByRecursion, get_or_append_left, get_or-reverse, length-reverse, cases_lt, All-push, All-head, All-drop, recursion_from_All, Input, IsInput, Test, Equal, AnyBit, Insn, Branch, Operand, Constant, X, IsPlain, IsPlainInsn, Node, Const, Word, NodeId, Cond, IsPool, ArePlainNodes, OperandsBelow, folded_node, node_at, IsCondBelow, FactsView, Agrees, KeepsOnly, TakesIn, IsWordOrConst, IsPlainTest, Meets, some-input, IsPlainCondition, SymbolicMachine, PieceData, is_member, HasNoMember, IsPiece, HasAtHand, AreChildFacts, IsPlainPiece, and_from, get_or_from_slice_get, slice_get_within}
 use Rattle.sf_piece.specs.Works.{with_sense}
 use Rattle.sf_piece.proofs.Moves.{made}
 use Rattle.sf_piece.proofs.Grown.{grown, members_grown}
@@ -43,8 +43,7 @@ pub pushed_plain : (old new : List Node) (node : Node) → IsPool old → Operan
 pushed_plain old new (Const c) pool below is plain constant again = constant c refl plain
 pushed_plain old new (Word i) pool below is plain constant again =
     subst ArePlainNodes (sym (again i (omega (arith, pool.words)) (pool.word i below))) plain
-pushed_plain old new (Bin op a b) pool below is plain constant again = absurd is
-pushed_plain old new (Neg a) pool below is plain constant again = absurd is
+pushed_plain old new _ pool below is plain constant again = absurd is
 
 cond_grown : (ns added : List Node) (c : Cond) → IsCondBelow (length ns) c → IsPlainCondition ns c
     → IsPlainCondition (ns ++ added) c
@@ -93,16 +92,12 @@ plain_some p h none = let clash : true ≡ false = sym h.some.2 ∙ none.none h.
 -- ---- the condition of a plain test
 
 plain_test : (test : Test) (k t f : ℕ) → IsPlainInsn (Branch test (Constant k) t f) → IsPlainTest test k
-plain_test Equal k t f h = tt
-plain_test Greater k t f h = tt
-plain_test GreaterOrEqual k t f h = tt
 plain_test AnyBit k t f h = h
+plain_test _ k t f h = tt
 
 pub plain_asked : (q : PieceData) (test : Test) (o : Operand) (t f : ℕ) (id : NodeId) → IsPiece q → IsPlainPiece q
     → IsPlainInsn (Branch test o t f) → ((k : ℕ) → o ≡ Constant k → node_at q.pool id.0 ≡ Const k)
     → IsPlainCondition q.pool (record { node = q.machine.a; test = test; other = id; sense = true })
 plain_asked q test (Constant k) t f id h plain insn constant = grind (arith, common_steps, word_or_const, plain_test)
 plain_asked q Equal X t f id h plain insn constant = absurd insn
-plain_asked q Greater X t f id h plain insn constant = absurd insn
-plain_asked q GreaterOrEqual X t f id h plain insn constant = absurd insn
-plain_asked q AnyBit X t f id h plain insn constant = absurd insn
+plain_asked q _ X t f id h plain insn constant = absurd insn

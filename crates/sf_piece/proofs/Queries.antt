@@ -1,5 +1,5 @@
 -- Pieces that take a truth value of the trace into their names.
-use Rattle.sf_piece.proofs.Common.{common_steps, ◌≡◌, ℕ, zero, suc, ◌+◌, ◌-◌, ◌*◌, ◌<◌, Bool, true, false, List, [], ◌∷◌, ◌++◌, length, take, drop, map, Some, None, slice_get, refl, sym, ap, subst, ◌∙◌, inl, inr, arith, append_assoc, append-nil, if◌then◌else◌, ◌==◌, Contains, IsSome, flat_map, list_all, same_Some, length_push, Input, IsInput, apply, passes, Div, Test, Insn, Alu, Branch, ReturnA, Operand, X, IsAt, contains_here, contains_there, State, Progress, goes, returns, stuck, insn_progress, outcome_from, run_for, operand_of, test_progress, met_by, return_of, trace_of, step_is, ends_from, option_map_some, put, Cond, value_of, is_met, FactsView, after_return, PieceData, is_member, concrete_state, met_of, number_from, AreNodesBelow, IsPiece, HasAtHand, NextIs}
+use Rattle.sf_piece.proofs.Common.{common_steps, ◌≡◌, ℕ, zero, suc, ◌+◌, ◌-◌, ◌*◌, ◌<◌, Bool, true, false, List, [], ◌∷◌, ◌++◌, length, take, drop, map, Some, None, slice_get, refl, sym, ap, subst, ◌∙◌, inl, inr, arith, append_assoc, append-nil, if◌then◌else◌, ◌==◌, Contains, IsSome, flat_map, list_all, same_Some, length_push, Input, IsInput, passes, Div, Test, Insn, Alu, Branch, ReturnA, Operand, X, IsAt, contains_here, contains_there, State, Progress, goes, returns, stuck, insn_progress, outcome_from, run_for, operand_of, test_progress, met_by, return_of, trace_of, step_is, ends_from, option_map_some, put, Cond, value_of, is_met, FactsView, after_return, PieceData, is_member, concrete_state, met_of, number_from, AreNodesBelow, IsPiece, HasAtHand, NextIs, divided}
 use Rattle.std.proofs.Common.{Option}
 use Rattle.sf_piece.proofs.Moves.{made, stands_moved, stands_kept, stands_returned}
 use Rattle.sf_piece.proofs.Kept.{Turned, at_same, none_pending, pre_short, returned_nodes, safe_moved}
@@ -98,7 +98,6 @@ pub branch_turned : (p : PieceData) (test : Test) (other : Operand) (t f : ℕ) 
     { place = p.machine.place + 1 + (if b then t else f) }) fs)
 unfolding is_member
 branch_turned p test other t f b cs fs h s narrow =
-    let small : p.machine.place < 4096 = s.small in
     let none = none_pending s.code p.machine.place p.machine.taken s.pre (Branch test other t f)
     s.stands.inside.pending s.at (λ is. cc) (λ is. cc) in
     record {
@@ -122,7 +121,7 @@ branch_turned p test other t f b cs fs h s narrow =
           (g.0, ap (λ (v : Bool). test_progress (concrete_state p.pool p.machine d) v t f) is));
       nodes = same_nodes p (p.machine.place + 1 + (if b then t else f)) p.machine.taken p.machine.value h.nodes;
       zero_is = refl;
-      falls = less (if b then t else f) small;
+      falls = less (if b then t else f) s.small;
     }
   where
     leads : (b : Bool) → Contains ((p.machine.place + 1 + t) ∷ (p.machine.place + 1 + f) ∷ [])
@@ -177,7 +176,6 @@ pub zero_turned : (p : PieceData) (cs : List Cond) (fs : FactsView) → IsPiece 
 unfolding is_member
 zero_turned p cs fs h s none narrow =
     let pre = div_pending p s none in
-    let running : p.machine.program < length p.stack = s.running in
     record {
       rest = s.later;
       base = s.base ++ true ∷ [];
@@ -187,19 +185,15 @@ zero_turned p cs fs h s none narrow =
           (ap (λ (l : List Bool). l ++ true ∷ []) (s.stands.name_is ∙ ap (λ (l : List Bool). s.base ++ l) pre
           ∙ append-nil s.base)) s.zero
           (λ d inp member.
-          let g = narrow d inp member in
-          let u = record (concrete_state p.pool p.machine d) {
-            place = p.machine.place + 1;
-            a = apply Div (value_of p.pool d p.machine.a.0) (value_of p.pool d p.machine.x.0);
-          } in (
+          let g = narrow d inp member in (
             g.0,
-            div_true (value_of p.pool d p.machine.x.0 == 0) true u
+            div_true (value_of p.pool d p.machine.x.0 == 0) true (divided p d)
                 (subst (λ (k : ℕ). NextIs (insn_progress d (concrete_state p.pool p.machine d) (Alu Div X)) k
                 true) none g.1) refl,
           ));
       nodes = returned_nodes p 0 h.nodes;
       zero_is = refl;
-      falls = omega arith;
+      falls = omega (arith, s.running);
     }
 
 pub nonzero_turned : (p : PieceData) (cs : List Cond) (fs : FactsView) → IsPiece p → (s : HasAtHand p (Alu Div X))
@@ -217,13 +211,9 @@ nonzero_turned p cs fs h s none narrow =
           p.machine.value s.stands refl
           (s.stands.number ∙ ap (number_from 0) pre ∙ ap (number_from 0) (sym one)) (inr (inr (s.at, refl, one)))
           (λ d inp member.
-          let g = narrow d inp member in
-          let u = record (concrete_state p.pool p.machine d) {
-            place = p.machine.place + 1;
-            a = apply Div (value_of p.pool d p.machine.a.0) (value_of p.pool d p.machine.x.0);
-          } in (
+          let g = narrow d inp member in (
             g.0,
-            one ∙ div_false (value_of p.pool d p.machine.x.0 == 0) false u
+            one ∙ div_false (value_of p.pool d p.machine.x.0 == 0) false (divided p d)
                 (subst (λ (k : ℕ). NextIs (insn_progress d (concrete_state p.pool p.machine d) (Alu Div X)) k
                 false) none g.1) refl
                 ∙ ap (λ (q : Progress). take 1 (met_of q))

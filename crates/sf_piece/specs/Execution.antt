@@ -5,25 +5,9 @@
 -- facts and pool gain nothing by it. Leaves of the tree are of two kinds. A piece is settled where the last program has
 -- returned. It is emptied where both truth values contradict, or where a new word does.
 use Rattle.std.specs.Prelude.{◌≡◌, ℕ, zero, suc, ◌+◌, ◌-◌, ◌*◌, ◌<◌, ◌≤◌, ◌^◌, ◌⊎◌, not, Bool, true, false, List, [], ◌∷◌, ◌++◌, length, get_or, Option, Some, None, slice_get, slice_set, if◌then◌else◌, ◌==◌}
-use Rattle.sf_insn.specs.declared.ops.BinOp.{BinOp}
-use Rattle.sf_insn.specs.declared.ops.BinOp.TheVariants.{Div}
-use Rattle.sf_insn.specs.declared.ops.Test.{Test}
-use Rattle.sf_insn.specs.declared.ops.Test.TheVariants.{Equal, AnyBit}
-use Rattle.sf_check.specs.declared.insn.Insn.{Insn}
-use Rattle.sf_check.specs.declared.insn.Insn.TheVariants.{LoadWord, LoadConstant, LoadLength, LoadScratch, LoadXConstant, LoadXLength, LoadXScratch, StoreA, StoreX, Alu, Negate, Jump, Branch, ReturnConstant, ReturnA, Tax, Txa}
-use Rattle.sf_check.specs.declared.insn.Operand.{Operand}
-use Rattle.sf_check.specs.declared.insn.Operand.TheVariants.{Constant, X}
-use Rattle.sf_check.specs.Programs.{IsAt}
-use Rattle.sf_sym.specs.declared.pool.Cond.{Cond}
-use Rattle.sf_sym.specs.declared.pool.Node.{Node}
-use Rattle.sf_sym.specs.declared.pool.Node.TheVariants.{Const, Word, Bin, Neg}
-use Rattle.sf_sym.specs.declared.pool.NodeId.{NodeId}
-use Rattle.sf_sym.specs.Pool.{IsPool, node_at, folded_node}
-use Rattle.sf_dom.specs.Facts.{FactsView}
-use Rattle.sf_dom.specs.Learning.{StartsBy, LearnsBy, CantLearn, GrowsBy, CantGrow}
-use Rattle.sf_dom.specs.Rules.{Then}
-use Rattle.sf_piece.specs.declared.machine.SymbolicMachine.{SymbolicMachine}
-use Rattle.sf_piece.specs.Machines.{after_return, first_machine}
+use Rattle.sf_piece.specs.Common.{BinOp, Div, Test, Equal, AnyBit, Insn, LoadWord, LoadConstant, LoadLength, LoadScratch, LoadXConstant, LoadXLength, LoadXScratch, StoreA, StoreX, Alu, Negate, Jump, Branch, ReturnConstant, ReturnA, Tax, Txa, Operand, Constant, X, IsAt, Cond, Node, Const, Word, Bin, Neg, NodeId, IsPool, node_at, folded_node, FactsView, StartsBy, LearnsBy, CantLearn, GrowsBy, CantGrow, Then, SymbolicMachine, Register, Load}
+use Rattle.sf_piece.specs.declared.machine.Register.TheVariants as register
+use Rattle.sf_piece.specs.Machines.{after_return, first_machine, updated}
 pub use Rattle.sf_piece.specs.Machines.{on}
 use Rattle.sf_piece.specs.Pieces.{PieceData, StepData, Split, Settled, Empty}
 
@@ -68,21 +52,13 @@ GetsOperand p X given = given ≡ Some (p, p.machine.x)
 abbrev pub with_machine : PieceData → SymbolicMachine → PieceData
 with_machine p m = record p { machine = m }
 
--- the piece at the next instruction, with the word that it was given in A
-abbrev pub piece_with_a : PieceData × NodeId → PieceData
-piece_with_a given = with_machine given.0 (record (on given.0.machine) { a = given.1 })
+-- the piece at the next instruction, with the word that it was given in this register
+abbrev pub piece_with : Register → PieceData × NodeId → PieceData
+piece_with to given = with_machine given.0 (updated given.0.machine (Load to given.1))
 
--- the piece at the next instruction, with the word that it was given in X
-abbrev pub piece_with_x : PieceData × NodeId → PieceData
-piece_with_x given = with_machine given.0 (record (on given.0.machine) { x = given.1 })
-
--- the piece gets a word and has it in A at the next instruction; none where the word contradicts
-abbrev pub LoadsA : PieceData → Node → Option PieceData → Type 0
-LoadsA p node = Then (Gets p node) (λ given next. next ≡ Some (piece_with_a given))
-
--- the piece gets a constant and has it in X at the next instruction; none where the constant contradicts
-abbrev pub LoadsX : PieceData → ℕ → Option PieceData → Type 0
-LoadsX p k = Then (Gets p (Const k)) (λ given next. next ≡ Some (piece_with_x given))
+-- the piece gets a word and has it in this register at the next instruction; none where the word contradicts
+abbrev pub Loads : PieceData → Register → Node → Option PieceData → Type 0
+Loads p to node = Then (Gets p node) (λ given next. next ≡ Some (piece_with to given))
 
 -- whether an operation asks first whether X is 0
 abbrev pub divides_at : BinOp → Operand → ℕ → Bool
@@ -91,14 +67,14 @@ divides_at _ _ taken = false
 
 -- what becomes of a piece by an instruction that makes a word: none where a word contradicts
 abbrev pub Computes : PieceData → Insn → Option PieceData → Type 0
-Computes p (LoadWord w) next = LoadsA p (Word w) next
-Computes p (LoadConstant k) next = LoadsA p (Const k) next
-Computes p LoadLength next = LoadsA p (Const 64) next
-Computes p (LoadXConstant k) next = LoadsX p k next
-Computes p LoadXLength next = LoadsX p 64 next
-Computes p Negate next = LoadsA p (Neg p.machine.a) next
+Computes p (LoadWord w) next = Loads p register.A (Word w) next
+Computes p (LoadConstant k) next = Loads p register.A (Const k) next
+Computes p LoadLength next = Loads p register.A (Const 64) next
+Computes p (LoadXConstant k) next = Loads p register.X (Const k) next
+Computes p LoadXLength next = Loads p register.X (Const 64) next
+Computes p Negate next = Loads p register.A (Neg p.machine.a) next
 Computes p (Alu op other) next = (divides_at op other p.machine.taken ≡ false)
-    × Then (GetsOperand p other) (λ right. LoadsA right.0 (Bin op p.machine.a right.1)) next
+    × Then (GetsOperand p other) (λ right. Loads right.0 register.A (Bin op p.machine.a right.1)) next
 Computes p _ next = ⊥
 
 -- where the machine stands after an instruction that moves words about, jumps or returns

@@ -1,5 +1,5 @@
 -- Names by the runs of false in them.
-use Rattle.std.specs.declared.cmp.Reverse.{Reverse}
+use Rattle.sf_piece.specs.Common.{Reverse}
 use Rattle.std.specs.Prelude.{ℕ, false, true, Bool, List, [], ◌∷◌, ◌++◌, replicate}
 
 -- the name that these runs spell: for each of them that many falses and then a true, and at the end `rest` falses

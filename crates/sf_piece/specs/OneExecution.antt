@@ -1,6 +1,6 @@
 -- What the rules of symbolic execution promise, said of the rules alone: a stack has one execution tree.
 use Rattle.std.specs.Prelude.{◌≡◌, Bool, List}
-use Rattle.sf_sym.specs.Pool.{IsPool}
+use Rattle.sf_piece.specs.Common.{IsPool}
 use Rattle.sf_piece.specs.Pieces.{PieceData, StepData, Split}
 use Rattle.sf_piece.specs.Execution.{HasStep, IsInTree}
 

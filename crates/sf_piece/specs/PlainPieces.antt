@@ -2,13 +2,7 @@
 -- constants, by tests that intervals, known bits and excluded numbers keep exactly. So nothing is lost: each piece has
 -- a member, and no step is empty.
 use Rattle.std.specs.Prelude.{◌≡◌, Bool, true, List, All}
-use Rattle.sf_insn.specs.declared.input.Input.{Input}
-use Rattle.sf_insn.specs.Inputs.{IsInput}
-use Rattle.sf_check.specs.Stacks.{IsPlain}
-use Rattle.sf_run.specs.Machine.{trace_of}
-use Rattle.sf_sym.specs.Pool.{ArePlainNodes}
-use Rattle.sf_dom.specs.Facts.{Agrees}
-use Rattle.sf_dom.specs.Facts.{IsPlainCondition}
+use Rattle.sf_piece.specs.Common.{Input, IsInput, IsPlain, trace_of, ArePlainNodes, Agrees, IsPlainCondition}
 use Rattle.sf_piece.specs.Execution.{HasStep, IsInTree}
 use Rattle.sf_piece.specs.Pieces.{PieceData, StepData, Split, Settled, Empty, WorkData, is_member, IsRightWork}
 

@@ -1,6 +1,6 @@
 -- How large pieces get.
 use Rattle.std.specs.Prelude.{ℕ, ◌+◌, ◌*◌, ◌^◌, ◌≤◌, length}
-use Rattle.sf_check.specs.Stacks.{IsLawfulStack}
+use Rattle.sf_piece.specs.Common.{IsLawfulStack}
 use Rattle.sf_piece.specs.Pieces.{PieceData, IsTrulyNamed}
 use Rattle.sf_piece.specs.Execution.{GoesOnFor, IsInTree}
 

@@ -4,26 +4,7 @@
 -- come to just that state: its trace is the name, and then what the rest of the run meets from there (`Follows`,
 -- `StandsAt`).
 use Rattle.std.specs.Prelude.{◌≡◌, ℕ, ◌+◌, ◌*◌, ◌<◌, ◌≤◌, ◌⊎◌, Bool, true, false, List, [], ◌∷◌, ◌++◌, length, take, drop, reverse, map, Some, option_map, slice_get, if◌then◌else◌}
-use Rattle.std.specs.List.{flat_map, AllByRecursion}
-use Rattle.sf_insn.specs.declared.input.Input.{Input}
-use Rattle.sf_insn.specs.Inputs.{IsInput}
-use Rattle.sf_insn.specs.declared.ops.BinOp.TheVariants.{Div}
-use Rattle.sf_check.specs.declared.insn.Insn.{Insn}
-use Rattle.sf_check.specs.declared.insn.Insn.TheVariants.{Alu, ReturnA}
-use Rattle.sf_check.specs.declared.insn.Operand.TheVariants.{X}
-use Rattle.sf_check.specs.Programs.{IsAt, IsLawfulProgram}
-use Rattle.sf_check.specs.Stacks.{IsLawfulStack, IsPlain}
-use Rattle.sf_run.specs.Machine.{State, Progress, goes, returns, stuck, step, run_for, met_by, return_of, trace_of, returns_of}
-use Rattle.sf_run.specs.Answers.{IsAnswer}
-use Rattle.sf_run.specs.Routes.{IsWay, AreWays, IsWholeRoute}
-use Rattle.sf_run.specs.Reachable.{IsReachable}
-use Rattle.sf_sym.specs.declared.pool.Node.{Node}
-use Rattle.sf_sym.specs.declared.pool.Node.TheVariants.{Const}
-use Rattle.sf_sym.specs.declared.pool.NodeId.{NodeId}
-use Rattle.sf_sym.specs.Pool.{IsPool, node_at, value_of, IsCondBelow}
-use Rattle.sf_dom.specs.Facts.{Covers, Agrees}
-use Rattle.sf_dom.specs.SoundRules.{AreCarried}
-use Rattle.sf_piece.specs.declared.machine.SymbolicMachine.{SymbolicMachine}
+use Rattle.sf_piece.specs.Common.{flat_map, AllByRecursion, Input, IsInput, Div, Insn, Alu, ReturnA, X, IsAt, IsLawfulProgram, IsLawfulStack, IsPlain, State, Progress, goes, returns, stuck, step, run_for, met_by, return_of, trace_of, returns_of, IsAnswer, IsWay, AreWays, IsWholeRoute, IsReachable, Node, Const, NodeId, IsPool, node_at, value_of, IsCondBelow, Covers, Agrees, AreCarried, SymbolicMachine}
 use Rattle.sf_piece.specs.PlainPieces.{IsPlainPiece}
 use Rattle.sf_piece.specs.Pieces.{PieceData, is_member, is_prefix, IsTrulyNamed}
 use Rattle.sf_piece.specs.Execution.{IsInTree}

@@ -1,40 +1,14 @@
 -- The parts of a step of the symbolic run, for contracts between the functions that work a piece. Nothing above this
 -- crate speaks of these.
-use Rattle.std.specs.Prelude.{◌≡◌, ◌≢◌, ℕ, zero, suc, ◌+◌, ◌-◌, ◌*◌, ◌<◌, ◌≤◌, ◌^◌, ◌⊎◌, Bool, true, false, List, [], ◌∷◌, ◌++◌, length, replicate, Option, Some, None, slice_get}
-use Rattle.sf_insn.specs.declared.input.Input.{Input}
-use Rattle.sf_insn.specs.Inputs.{IsInput}
-use Rattle.sf_insn.specs.declared.ops.BinOp.TheVariants.{Div}
-use Rattle.sf_insn.specs.declared.ops.Test.{Test}
-use Rattle.sf_insn.specs.declared.ops.Test.TheVariants.{Equal, AnyBit}
-use Rattle.sf_check.specs.declared.insn.Insn.{Insn}
-use Rattle.sf_check.specs.declared.insn.Insn.TheVariants.{LoadScratch, LoadXScratch, StoreA, StoreX, Alu, Jump, Branch, ReturnConstant, ReturnA, Tax, Txa}
-use Rattle.sf_check.specs.declared.insn.Operand.{Operand}
-use Rattle.sf_check.specs.Insns.{IsInRange, loaded_by}
-use Rattle.sf_check.specs.declared.insn.Operand.TheVariants.{Constant, X}
-use Rattle.sf_check.specs.Programs.{IsAt}
-use Rattle.sf_check.specs.Stacks.{IsLawfulStack, IsPlain}
-use Rattle.sf_run.specs.Machine.{Progress, goes, operand_of, with_a, with_x, insn_progress}
-use Rattle.sf_sym.specs.declared.pool.Node.{Node}
-use Rattle.sf_sym.specs.declared.pool.NodeId.{NodeId}
-use Rattle.sf_sym.specs.declared.pool.Node.TheVariants.{Const}
-use Rattle.sf_sym.specs.Pool.{node_at, value_of, values_of, node_value, is_met, IsCondBelow}
-use Rattle.sf_sym.specs.declared.pool.Cond.{Cond}
-use Rattle.sf_insn.specs.Words.{apply, passes}
-use Rattle.sf_dom.specs.declared.known.Known.{Known}
-use Rattle.sf_dom.specs.Known.{Admits}
-use Rattle.sf_dom.specs.Facts.{FactsView, Covers, Agrees, IsPlainCondition, KeepsOnly, known_at}
-use Rattle.sf_dom.specs.Propagation.{Meets}
-use Rattle.sf_dom.specs.Learning.{LearnsBy}
-use Rattle.sf_dom.specs.SoundRules.{ForcedIsLearnt}
-use Rattle.sf_dom.specs.Rules.{IsClosed, number_known}
-use Rattle.sf_dom.specs.Telling.{IsForcedBy}
-use Rattle.sf_dom.specs.Backward.{IsPropagatedBack}
+use Rattle.std.specs.Prelude.{◌≡◌, ◌≢◌, ℕ, zero, suc, ◌+◌, ◌-◌, ◌*◌, ◌<◌, ◌≤◌, ◌^◌, ◌⊎◌, Bool, true, false, List, [], ◌∷◌, ◌++◌, length, replicate, Some, slice_get}
+use Rattle.sf_piece.specs.Common.{Input, IsInput, Div, Test, Equal, AnyBit, Insn, LoadScratch, LoadXScratch, StoreA, StoreX, Alu, Jump, Branch, ReturnConstant, ReturnA, Tax, Txa, Operand, IsInRange, loaded_by, Constant, X, IsAt, IsLawfulStack, IsPlain, State, Progress, goes, operand_of, with_a, with_x, insn_progress, Node, NodeId, Const, node_at, value_of, values_of, node_value, is_met, IsCondBelow, Cond, apply, passes, Known, Admits, FactsView, Covers, Agrees, IsPlainCondition, KeepsOnly, known_at, Meets, LearnsBy, ForcedIsLearnt, IsClosed, number_known, IsForcedBy, IsPropagatedBack, Register, SymbolicMachine}
 use Rattle.sf_piece.specs.declared.deciding.Decision.{Decision}
 use Rattle.sf_piece.specs.declared.deciding.Decision.TheVariants.{Implied, Neither}
-use Rattle.sf_piece.specs.declared.deciding.Decision.TheVariants as decided
 use Rattle.sf_piece.specs.declared.deciding.SmallStep.{SmallStep}
-use Rattle.sf_piece.specs.declared.deciding.SmallStep.TheVariants.{On, Split, Settled, Empty}
-use Rattle.sf_piece.specs.declared.machine.SymbolicMachine.{SymbolicMachine}
+use Rattle.sf_piece.specs.declared.deciding.SmallStep.TheVariants.{On}
+use Rattle.sf_piece.specs.declared.deciding.Decision.TheVariants as decided
+use Rattle.sf_piece.specs.declared.deciding.SmallStep.TheVariants.{Split, Settled, Empty}
+use Rattle.sf_piece.specs.declared.machine.Register.TheVariants as register
 use Rattle.sf_piece.specs.Execution.{GetsOperand, GoesOnFor, IsEmptied, IsNamedOn, IsSide, LeavesNeither, LeavesOnly, SplitsInto, query}
 pub use Rattle.sf_piece.specs.Execution.{IsAtHand, code_at, with_sense, AfterTruthValue, divides_at}
 use Rattle.sf_piece.specs.Pieces.{PieceData, HasNoMember, IsRightAnswer, IsRightSplit, is_member}
@@ -142,16 +116,19 @@ pub record IsOperand (p : PieceData) (other : Operand) (q : PieceData) (id : Nod
   pub value : (d : Input) → value_of q.pool d id.0 ≡ operand_of (concrete_state p.pool p.machine d) other
   pub constant : (k : ℕ) → other ≡ Constant k → node_at q.pool id.0 ≡ Const k
 
+-- the state at the next instruction, with A divided by X
+abbrev pub divided : PieceData → Input → State
+divided p d = record (concrete_state p.pool p.machine d) {
+  place = p.machine.place + 1;
+  a = apply Div (value_of p.pool d p.machine.a.0) (value_of p.pool d p.machine.x.0);
+}
+
 -- On every input the instruction meets nothing and goes on to the state of machine m. Or it is a division by X, the
 -- name says already that X is not 0, and on every input the state of m is the next one, with the quotient in A.
 abbrev pub GoesBy : PieceData → Insn → SymbolicMachine → Type 0
 GoesBy p i m =
     ((d : Input) → insn_progress d (concrete_state p.pool p.machine d) i ≡ goes [] (concrete_state p.pool m d))
-    ⊎ ((i ≡ Alu Div X) × (p.machine.taken ≡ 1)
-    × ((d : Input) → concrete_state p.pool m d ≡ record (concrete_state p.pool p.machine d) {
-      place = p.machine.place + 1;
-      a = apply Div (value_of p.pool d p.machine.a.0) (value_of p.pool d p.machine.x.0);
-    }))
+    ⊎ ((i ≡ Alu Div X) × (p.machine.taken ≡ 1) × ((d : Input) → concrete_state p.pool m d ≡ divided p d))
 
 -- The instruction goes to this state on each input, and all truth values that it meets are in the name already.
 pub record GoesTo (p : PieceData) (i : Insn) (m : SymbolicMachine) : Type 0 where
@@ -163,19 +140,17 @@ pub record GoesTo (p : PieceData) (i : Insn) (m : SymbolicMachine) : Type 0 wher
   pub nodes : AreNodesBelow (length p.pool) m
   pub run : GoesBy p i m
 
--- the instruction puts the value of a node in A
-abbrev pub SetsA : PieceData → Insn → Node → Type 0
-SetsA p i node =
+-- the instruction puts the value of a node in a register
+abbrev pub Sets : PieceData → Insn → Register → Node → Type 0
+Sets p i register.A node =
     ((d : Input) → insn_progress d (concrete_state p.pool p.machine d) i ≡ with_a (concrete_state p.pool p.machine d)
     (node_value d (values_of p.pool d) node))
     ⊎ ((i ≡ Alu Div X) × (p.machine.taken ≡ 1)
     × ((d : Input) → node_value d (values_of p.pool d) node ≡ apply Div (value_of p.pool d p.machine.a.0)
     (value_of p.pool d p.machine.x.0)))
-
--- the instruction puts this number in X
-abbrev pub SetsX : PieceData → Insn → ℕ → Type 0
-SetsX p i k = (d : Input) → insn_progress d (concrete_state p.pool p.machine d) i
-    ≡ with_x (concrete_state p.pool p.machine d) k
+Sets p i register.X node =
+    (d : Input) → insn_progress d (concrete_state p.pool p.machine d) i ≡ with_x (concrete_state p.pool p.machine d)
+    (node_value d (values_of p.pool d) node)
 
 -- the instruction returns this value: it is the constant of a return, or the number of A's bits once all 32 of them are
 -- taken
@@ -260,10 +235,6 @@ pub record IsForeseen (p : PieceData) (i : Insn) (b : Bool) : Type 0 where
 abbrev pub IsNever : PieceData → Cond → Bool → Type 0
 IsNever p cond b = (d : Input) → IsInput d → is_member p d ≡ true → is_met p.pool d (with_sense cond b) ≡ false
 
--- the condition has this truth value on every member
-abbrev pub IsImplied : PieceData → Cond → Bool → Type 0
-IsImplied p cond b = (d : Input) → IsInput d → is_member p d ≡ true → is_met p.pool d (with_sense cond b) ≡ true
-
 -- Facts of the members on which the condition has this truth value: the piece's facts learn it, by the rules of facts.
 -- On a plain stack these are exact: an input that agrees with them agreed before, and the condition has this truth
 -- value on it.
@@ -284,14 +255,6 @@ IsSmallStep p q (Split f t) = IsRightSplit p f t × (IsPlain p.stack → IsPlain
     × IsLawfulPiece f × IsLawfulPiece t
 IsSmallStep p q Settled = IsRightAnswer p q.name q.machine.so_far
 IsSmallStep p q Empty = HasNoMember p
-
--- an instruction that makes a word leaves the next piece, or nothing where the word contradicts; it neither splits nor
--- settles
-abbrev pub IsMade : (Option PieceData → Type 0) → PieceData → SmallStep → Type 0
-IsMade makes q On = makes (Some q)
-IsMade makes q Empty = makes None
-IsMade makes q (Split f t) = ⊥
-IsMade makes q Settled = ⊥
 
 -- by the rules the piece goes on as this one, after some number of small steps
 abbrev pub HasGoneFor : PieceData → PieceData → Type 0
@@ -323,8 +286,7 @@ IsDecision asked i Neither = LeavesNeither asked
 -- what is right of a decision: both pieces of a split are right and lawful, every member has the implied truth value,
 -- or the piece has no member
 abbrev pub IsRightDecision : PieceData → Insn → Decision → Type 0
-IsRightDecision p i (decided.Split f t) = IsRightSplit p f t
-    × (IsPlain p.stack → IsPlainPiece f × IsPlainPiece t) × IsLawfulPiece f × IsLawfulPiece t
+IsRightDecision p i (decided.Split f t) = IsSmallStep p p (Split f t)
 IsRightDecision p i (Implied b) = IsForeseen p i b
 IsRightDecision p i Neither = HasNoMember p
 

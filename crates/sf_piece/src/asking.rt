@@ -13,8 +13,9 @@ ghost use Rattle.sf_dom.specs.SoundRules.{ForcedIsLearnt};
 
 use crate::chains::take_failing;
 use crate::deciding::{SmallStep, carry_out, decide, take};
-use crate::executing::{leave_program, set_a};
+use crate::executing::{leave_program, load};
 use crate::fault::Fault;
+use crate::machine::Register;
 use crate::nodes::operand;
 use crate::run::Run;
 use sf_check::{Insn, Operand};
@@ -139,7 +140,7 @@ pub(crate) fn alu(
     match operand(alloc, run, other)? {
         Some(right) => {
             let node = Node::Bin(op, run.machine.a, right);
-            set_a(alloc, run, insn, node)
+            load(alloc, run, insn, Register::A, node)
         }
         None => Ok(SmallStep::Empty),
     }

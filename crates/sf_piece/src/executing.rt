@@ -1,20 +1,21 @@
 //! Symbolic execution: one instruction on symbolic words, or one truth value of it.
 
-ghost use Rattle.std.specs.Prelude.{◌≡◌, IfOk, length, slice_get, Some};
+ghost use Rattle.std.specs.Prelude.{◌≡◌, IfOk, Option, length, slice_get, Some};
 ghost use Rattle.sf_sym.specs.declared.pool.NodeId.{NodeId as ANodeId};
 ghost use Rattle.sf_check.specs.Stacks.{IsPlain};
 ghost use Rattle.sf_sym.specs.Pool.{OperandsBelow};
 ghost use Rattle.sf_dom.specs.Facts.{IsWordOrConst};
 ghost use Rattle.sf_piece.specs.SymbolicRun.{IsLawfulPiece};
 ghost use Rattle.sf_piece.specs.Machines.{after_return, updated, FitsIn};
-ghost use Rattle.sf_piece.specs.Execution.{LoadsA, LoadsX, MovesTo, with_machine};
-ghost use Rattle.sf_piece.specs.Works.{HasAtHand, SetsA, SetsX, GoesTo, ReturnsNow, IsMove, IsSmallStep, IsMade, IsExecuted};
+ghost use Rattle.sf_piece.specs.Execution.{Computes, IsAtHand, Loads, MovesTo, with_machine};
+ghost use Rattle.sf_piece.specs.Pieces.{PieceData};
+ghost use Rattle.sf_piece.specs.Works.{HasAtHand, Sets, GoesTo, ReturnsNow, IsMove, IsSmallStep, IsExecuted};
 ghost use Rattle.sf_dom.specs.SoundRules.{ForcedIsLearnt};
 
 use crate::asking::{alu, branch, return_a};
 use crate::deciding::SmallStep;
 use crate::fault::Fault;
-use crate::machine::{SymbolicMachine, Update};
+use crate::machine::{Register, SymbolicMachine, Update};
 use crate::nodes::push;
 use crate::run::Run;
 use sf_check::Insn;
@@ -32,15 +33,15 @@ pub(crate) fn execute(alloc: Global, run: &mut Run) -> Result<SmallStep, Fault>
         return Ok(SmallStep::Settled);
     };
     match insn {
-        Insn::LoadWord(i) => set_a(alloc, run, insn, Node::Word(i)),
-        Insn::LoadConstant(k) => set_a(alloc, run, insn, Node::Const(k)),
+        Insn::LoadWord(i) => load(alloc, run, insn, Register::A, Node::Word(i)),
+        Insn::LoadConstant(k) => load(alloc, run, insn, Register::A, Node::Const(k)),
         // An input is 64 bytes long.
-        Insn::LoadLength => set_a(alloc, run, insn, Node::Const(64)),
-        Insn::LoadXConstant(k) => set_x(alloc, run, insn, k),
-        Insn::LoadXLength => set_x(alloc, run, insn, 64),
+        Insn::LoadLength => load(alloc, run, insn, Register::A, Node::Const(64)),
+        Insn::LoadXConstant(k) => load(alloc, run, insn, Register::X, Node::Const(k)),
+        Insn::LoadXLength => load(alloc, run, insn, Register::X, Node::Const(64)),
         Insn::Negate => {
             let a = run.machine.a;
-            set_a(alloc, run, insn, Node::Neg(a))
+            load(alloc, run, insn, Register::A, Node::Neg(a))
         }
         Insn::Alu(op, other) => alu(alloc, run, insn, op, other),
         Insn::Branch(test, other, _, _) => branch(alloc, run, insn, test, other),
@@ -62,41 +63,27 @@ pub(crate) fn execute(alloc: Global, run: &mut Run) -> Result<SmallStep, Fault>
     }
 }
 
-/// Puts a node in A, which is what `insn` does, and goes on. `Empty` where the facts can't take in the node.
-pub(crate) fn set_a(
+/// Puts a node in a register, which is what `insn` does, and goes on. `Empty` where the facts can't take in the node.
+pub(crate) fn load(
     alloc: Global,
     run: &mut Run,
     insn: Insn,
+    to: Register,
     node: Node,
 ) -> Result<SmallStep, Fault>
     requires lawful { IsLawfulPiece run.old }
     requires standing { HasAtHand run.old insn }
     requires below { OperandsBelow (length run.old.pool) node }
-    requires sets { SetsA run.old insn node }
+    requires sets { Sets run.old insn to node }
     requires plain { IsPlain run.old.stack → IsWordOrConst node }
     ensures step { IfOk result (IsSmallStep run.old run.new) }
-    ensures rule { IfOk result (IsMade (LoadsA run.old node) run.new) }
+    ensures rule { (p : PieceData) → IsAtHand p insn
+        → ((made : Option PieceData) → Loads run.old to node made → Computes p insn made)
+        → IfOk result (IsExecuted p run.new) }
 {
     match push(alloc, run, node)? {
         Some(id) => {
-            go(run, insn, Update::A(id));
-            Ok(SmallStep::On)
-        }
-        None => Ok(SmallStep::Empty),
-    }
-}
-
-/// Puts the constant `k` in X, as `set_a` puts a node in A.
-fn set_x(alloc: Global, run: &mut Run, insn: Insn, k: u32) -> Result<SmallStep, Fault>
-    requires lawful { IsLawfulPiece run.old }
-    requires standing { HasAtHand run.old insn }
-    requires sets { SetsX run.old insn k }
-    ensures step { IfOk result (IsSmallStep run.old run.new) }
-    ensures rule { IfOk result (IsMade (LoadsX run.old k) run.new) }
-{
-    match push(alloc, run, Node::Const(k))? {
-        Some(id) => {
-            go(run, insn, Update::X(id));
+            go(run, insn, Update::Load(to, id));
             Ok(SmallStep::On)
         }
         None => Ok(SmallStep::Empty),
@@ -117,16 +104,16 @@ fn move_on(run: &mut Run, insn: Insn)
     match insn {
         Insn::LoadScratch(k) => {
             let node = scratch(&run.machine, k);
-            go(run, insn, Update::A(node));
+            go(run, insn, Update::Load(Register::A, node));
         }
         Insn::LoadXScratch(k) => {
             let node = scratch(&run.machine, k);
-            go(run, insn, Update::X(node));
+            go(run, insn, Update::Load(Register::X, node));
         }
         Insn::StoreA(k) => go(run, insn, Update::Scratch(k, a)),
         Insn::StoreX(k) => go(run, insn, Update::Scratch(k, x)),
-        Insn::Tax => go(run, insn, Update::X(a)),
-        Insn::Txa => go(run, insn, Update::A(x)),
+        Insn::Tax => go(run, insn, Update::Load(Register::X, a)),
+        Insn::Txa => go(run, insn, Update::Load(Register::A, x)),
         Insn::Jump(count) => go(run, insn, Update::Skip(count)),
         _ => unreachable!(),
     }

@@ -1,19 +1,17 @@
 use Rattle.sf_piece.proofs.Common.{true, false}
-use Rattle.sf_piece.proofs.Children.{entry_foreseen, never_implies, never_both}
+use Rattle.sf_piece.proofs.Children.{entry_foreseen, never_both}
 use Rattle.sf_piece.proofs.Joined.{split_right}
 use Rattle.sf_piece.proofs.deciding.decide.Goals as goal
 
 pub returns-in_default-clause-right : goal.returns-in_default-clause-right
 returns-in_default-clause-right c =
     let never = rw c.in_default.is at c.in_ok-on_false.ensures.facts in
-    entry_foreseen c.args.asked.now c.args.insn c.args.cond true c.requires.query
-    (never_implies c.args.asked.now c.args.cond true never)
+    entry_foreseen c.args.asked.now c.args.insn c.args.cond true c.requires.query never
 
 pub returns-in_default-3-clause-right : goal.returns-in_default-3-clause-right
 returns-in_default-3-clause-right c =
     let never = rw c.in_default-3.is at c.in_ok-on_true.ensures.facts in
-    entry_foreseen c.args.asked.now c.args.insn c.args.cond false c.requires.query
-    (never_implies c.args.asked.now c.args.cond false never)
+    entry_foreseen c.args.asked.now c.args.insn c.args.cond false c.requires.query never
 
 pub returns-clause-right : goal.returns-clause-right
 returns-clause-right c =
