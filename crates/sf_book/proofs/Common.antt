@@ -4,7 +4,7 @@ pub use Rattle.std.proofs.lemmas.Bool.{cases_eq}
 pub use Rattle.std.proofs.lemmas.Bool.Decides.{nat_tests}
 pub use Rattle.std.proofs.lemmas.Grind.{common_steps}
 pub use Rattle.std.proofs.lemmas.List.{append-nil, get_or_push, length-map, map-append, map-id}
-pub use Rattle.std.proofs.lemmas.List.Elements.{All-append, All-cons, All-filter, All-from_recursion, All-head, All-map, All-nil, All-tail, Contains-append_cases, recursion_from_All}
+pub use Rattle.std.proofs.lemmas.List.Elements.{All-append, All-cons, All-filter, All-from_recursion, All-head, All-map, All-nil, All-tail, Contains-append_cases, filter-append, recursion_from_All}
 pub use Rattle.std.proofs.lemmas.List.Folds.{find_at}
 pub use Rattle.std.proofs.lemmas.List.Sorted.{All-permutation, IsPermutation-cons, IsPermutation-refl, IsPermutation-remove, IsPermutation-sym, IsPermutation-trans, answers_always, length_permutation, ranks_by, sum_by-IsPermutation}
 pub use Rattle.std.proofs.lemmas.List.Sums.{sum_by-append, sum_by-cons}
@@ -41,7 +41,7 @@ pub use Rattle.sf_book.specs.laws.ChangesLaws.{all_at}
 pub use Rattle.sf_book.specs.laws.ExactLaws.{at_place, enough, left_unworked, one_for_each_trace, worked_off}
 pub use Rattle.sf_book.specs.laws.NameOrderLaws.{strictly_in_order}
 pub use Rattle.sf_book.specs.laws.PartitionLaws.{no_second, prefix-refl, some_there, sum_by-map}
-pub use Rattle.sf_book.specs.laws.PlainLaws.{answer_plain, empty_plain, plain_fresh, plain_has_members, plain_marks, plain_permuted, region_plain, split_plain}
+pub use Rattle.sf_book.specs.laws.PlainLaws.{plain_fresh, plain_has_members, plain_marks, plain_permuted, region_plain}
 pub use Rattle.sf_check.specs.Stacks.{IsLawfulStack, IsPlain}
 pub use Rattle.sf_check.specs.declared.insn.Insn.{Insn}
 pub use Rattle.sf_insn.specs.Inputs.{IsInput}
@@ -49,7 +49,7 @@ pub use Rattle.sf_insn.specs.declared.input.Input.{Input}
 pub use Rattle.sf_piece.specs.Execution.{HasStep, IsFirst, IsInTree}
 pub use Rattle.sf_piece.specs.OneExecution.{IsExecutionOne}
 pub use Rattle.sf_piece.specs.Pieces.{Empty, IsRightAnswer, IsRightSplit, IsRightStep, IsRightWork, IsRoot, IsTrulyNamed, PieceData, Settled, Split, StepData, WorkData, is_member, is_prefix}
-pub use Rattle.sf_piece.specs.PlainPieces.{IsPlainPiece, IsPlainWork}
+pub use Rattle.sf_piece.specs.PlainPieces.{IsPlainPiece, IsPlainStep, IsPlainWork}
 pub use Rattle.sf_piece.specs.Steps.{name_after, step_data}
 pub use Rattle.sf_piece.specs.declared.work.Step.{Step}
 pub use Rattle.sf_run.specs.Feasible.{AreInNameOrder}

@@ -1,7 +1,6 @@
 -- Lists of outstanding pieces in the order of their ids.
-use Rattle.sf_book.proofs.Common.{common_steps, ◌≡◌, ℕ, ◌+◌, ◌<◌, ◌≤◌, ◌==◌, not, Bool, true, false, cond, List, [], ◌∷◌, ◌++◌, length, map, Some, refl, sym, ◌∙◌, ap, subst, arith, All, AllByRecursion, filter, All-head, All-tail, recursion_from_All, sum_by-cons, OutstandingData, HasRisingIds, outstanding_at, without}
+use Rattle.sf_book.proofs.Common.{common_steps, ◌≡◌, ℕ, ◌+◌, ◌<◌, ◌≤◌, ◌==◌, not, Bool, true, false, cond, List, [], ◌∷◌, ◌++◌, length, map, Some, refl, sym, ◌∙◌, ap, subst, arith, All, AllByRecursion, filter, All-head, All-tail, recursion_from_All, sum_by-cons, OutstandingData, HasRisingIds, outstanding_at, without, All-filter, All-from_recursion, sum_by-map}
 use Rattle.std.specs.List.{sum_by}
-use Rattle.std.proofs.lemmas.List.Elements.{All-filter, All-from_recursion}
 use Rattle.sf_book.proofs.MapLemmas.{num_no, num_same, some_inj}
 
 pub without-above : (a : ℕ) (es : List OutstandingData) → AllByRecursion (λ f. a < f.id) es → without a es ≡ es
@@ -24,11 +23,7 @@ sum_by-without f (e ∷ es) id x h at = by (e.id == id) refl at (sum_by-without 
         let all = sum_by-cons f e es in
         let one : f e ≡ f x = ap f (some_inj e x k) in
         rw gone (omega arith)
-    by false is k rest =
-        let all = sum_by-cons f e es in
-        let less = sum_by-cons f e (without id es) in
-        let r = rest k in
-        omega arith
+    by false is k rest = omega (arith, sum_by-cons f e es, sum_by-cons f e (without id es), rest k)
 
 pub low_id : (es : List OutstandingData) (id next : ℕ) (x : OutstandingData) → All (λ e. e.id < next) es
     → outstanding_at id es ≡ Some x → id < next
@@ -38,9 +33,7 @@ low_id (e ∷ es) id next x h at = by (e.id == id) refl at
   where
     by : (b : Bool) → (e.id == id) ≡ b → cond b (Some e) (outstanding_at id es) ≡ Some x
         → (outstanding_at id es ≡ Some x → id < next) → id < next
-    by true is k rest =
-        let low : e.id < next = All-head (λ (e : OutstandingData). e.id < next) e es h in
-        let same = num_same e.id id is in omega arith
+    by true is k rest = omega (arith, All-head (λ (e : OutstandingData). e.id < next) e es h, num_same e.id id is)
     by false is k rest = rest k
 
 pub all_filtered : (P : OutstandingData → Type 0) (p : OutstandingData → Bool) (es : List OutstandingData)
@@ -86,9 +79,7 @@ HasRisingIds-map g same (e ∷ es) h = (
 pub sum_by-map_same : (f : OutstandingData → ℕ) (g : OutstandingData → OutstandingData)
     → ((e : OutstandingData) → f (g e) ≡ f e)
     → (es : List OutstandingData) → sum_by f (map g es) ≡ sum_by f es
-sum_by-map_same f g same [] = refl
-sum_by-map_same f g same (e ∷ es) =
-    sum_by-cons f (g e) (map g es) ∙ (rw (same e, sum_by-map_same f g same es) (sym (sum_by-cons f e es)))
+sum_by-map_same f g same es = sum_by-map f g es ∙ (λ i. sum_by (λ e. same e i) es)
 
 pub ones : {A : Type 0} (xs : List A) → sum_by (λ x. 1) xs ≡ length xs
 ones [] = refl

@@ -1,5 +1,5 @@
 -- The outstanding pieces that two maps stand for.
-use Rattle.sf_book.proofs.Common.{common_steps, ◌≡◌, ℕ, ◌==◌, Bool, true, false, cond, List, [], ◌∷◌, map, get_or, Option, None, Some, refl, sym, ◌∙◌, ap, subst, arith, ◌⊎◌, ⊎_elim, All, IsStrictlySortedBy, option_map, option_map_or, unwrap_or, bool_cmp, is_eq, nat_cmp, eq_by_cmp, IsEquivalence, eq_by_cmp_equiv, nat_cmp_total, slice_cmp, is_at, lookup, keys_of, set_value, cases_eq, nat_tests, lookup-set_value, keys-set_value, lookup_from_place, IsDistinct-from_sorted, keys_of-map_values, lookup-map_values, map-id, slice_get-get_or, All-head, All-tail, names_exact, PieceData, OutstandingData, outstanding_at, with_lease, with_lease_at, name_cmp, name_total, piece_at, lease_state_of, outstanding_of, outstanding_list, AreMatchingMaps, LeaseState}
+use Rattle.sf_book.proofs.Common.{common_steps, ◌≡◌, ℕ, ◌==◌, Bool, true, false, cond, List, [], ◌∷◌, map, get_or, Option, None, Some, refl, sym, ◌∙◌, ap, subst, arith, ⊎_elim, All, IsStrictlySortedBy, option_map, option_map_or, unwrap_or, bool_cmp, is_eq, nat_cmp, eq_by_cmp, IsEquivalence, eq_by_cmp_equiv, nat_cmp_total, slice_cmp, is_at, lookup, keys_of, set_value, cases_eq, nat_tests, lookup-set_value, keys-set_value, lookup_from_place, IsDistinct-from_sorted, keys_of-map_values, lookup-map_values, map-id, slice_get-get_or, All-head, All-tail, names_exact, PieceData, OutstandingData, outstanding_at, with_lease, with_lease_at, name_cmp, name_total, piece_at, lease_state_of, outstanding_of, outstanding_list, AreMatchingMaps, LeaseState}
 
 abbrev pub Ids : Type 0
 Ids = List (ℕ × PieceData)
@@ -70,15 +70,11 @@ test_of ids names i j p q h at_i at_j =
 pub id_same : (i j : ℕ) → is_at (nat_cmp i) j ≡ true → i ≡ j
 id_same i j h = grind (arith, nat_tests)
 
-same_test : (i j : ℕ) → (j == i) ≡ is_at (nat_cmp i) j
-same_test i j = same_bool (j == i) (is_at (nat_cmp i) j) (λ t. id_yes i j (sym (num_same j i t)))
-    (λ t. num_yes j i (sym (id_same i j t)))
-
 -- of two outstanding pieces, the names are equal where the ids are
 pub tests_as : (ids : Ids) (names : Names) (i : ℕ) (p : PieceData) → AreMatchingMaps ids names
     → piece_at ids i ≡ Some p → (j : ℕ) (q : PieceData) → piece_at ids j ≡ Some q
     → is_at (name_cmp p) q ≡ is_at (nat_cmp i) j
-tests_as ids names i p h at j q k = test_of ids names i j p q h at k ∙ same_test i j
+tests_as ids names i p h at j q k = test_of ids names i j p q h at k ∙ grind (arith, nat_tests)
 
 -- what stands under one id and one name is put in, put in anew or taken out
 pub changed_maps : (ids : Ids) (names : Names) (i : ℕ) (p : PieceData) (c : Option LeaseState) (ids' : Ids)

@@ -43,11 +43,7 @@ permuted-names (m ∷ ms) ns h =
     let less = remove ns c.0 in
     let out : IsPermutation ns (m ∷ less) = IsPermutation-remove ns c.0 m c.1 (sym c.2) in
     let rest : HaveSameElements ms less = λ f.
-    let all = h f in
-    let here = sum_by-cons f m ms in
-    let there = sum_by-cons f m less in
-    let same = sum_by-IsPermutation f ns (m ∷ less) out in
-    omega arith in
+    omega (arith, h f, sum_by-cons f m ms, sum_by-cons f m less, sum_by-IsPermutation f ns (m ∷ less) out) in
     IsPermutation-trans (m ∷ ms) (m ∷ less) ns (IsPermutation-cons m ms less (permuted-names ms less rest))
     (IsPermutation-sym ns (m ∷ less) out)
 

@@ -1,5 +1,5 @@
 -- An execution tree that is explored to the end is one.
-use Rattle.sf_book.proofs.Common.{◌≡◌, ℕ, ◌+◌, Bool, List, [], ◌∷◌, ◌++◌, refl, sym, ap, ◌∙◌, subst, arith, sum_by, map, zero, suc, ◌≤◌, Some, None, sum_by-cons, same_Some, All, AllByRecursion, slice_get, IsStrictlySortedBy, length-map, All-head, All-tail, bool_cmp, slice_cmp, Less, AreInNameOrder, before_one_way, Insn, Answer, PieceData, StepData, Split, Settled, Empty, HasStep, IsExecutionOne, RegionData, OutstandingData, BookData, IsSettled, strictly_in_order, some_there, sum_by-map, at_place, bit, prefix_bit, Unfolding, Outstanding, Region, Emptied, Fork, IsFringe, IsRegionOf, HaveOneOutcome, top_of, IsPieceOf, IsUnfolding, outstanding_in, emptied_in, regions_in, forks_in}
+use Rattle.sf_book.proofs.Common.{◌≡◌, ℕ, Bool, List, [], ◌∷◌, ◌++◌, refl, sym, ap, ◌∙◌, subst, arith, sum_by, map, zero, suc, ◌≤◌, Some, None, sum_by-cons, same_Some, All, AllByRecursion, slice_get, IsStrictlySortedBy, length-map, All-head, All-tail, bool_cmp, slice_cmp, Less, AreInNameOrder, before_one_way, Insn, PieceData, StepData, Split, Settled, Empty, HasStep, IsExecutionOne, RegionData, OutstandingData, BookData, IsSettled, strictly_in_order, some_there, sum_by-map, at_place, bit, prefix_bit, Unfolding, Outstanding, Region, Emptied, Fork, IsFringe, IsRegionOf, HaveOneOutcome, top_of, IsPieceOf, IsUnfolding, outstanding_in, emptied_in, regions_in, forks_in}
 use Rattle.sf_book.proofs.Lists.{ones}
 use Rattle.sf_book.proofs.NameLists.{HaveSameElements, weighed, permuted, weighs-none, is-name, own-name, the-name}
 
@@ -90,11 +90,7 @@ without-first : (r q : RegionData) (rs qs : List RegionData) → r.piece.name �
     → HaveSameElements (piece-names (r ∷ rs)) (piece-names (q ∷ qs))
     → HaveSameElements (piece-names rs) (piece-names qs)
 without-first r q rs qs e h f =
-    let w = h f in
-    let a = sum_by-cons f r.piece.name (piece-names rs) in
-    let b = sum_by-cons f q.piece.name (piece-names qs) in
-    let same : f r.piece.name ≡ f q.piece.name = ap f e in
-    omega arith
+    omega (arith, h f, sum_by-cons f r.piece.name (piece-names rs), sum_by-cons f q.piece.name (piece-names qs), ap f e)
 
 module _ (one : IsExecutionOne) (stack : List (List Insn)) where
   region-one : (r q : RegionData) → IsRegionOf stack r → IsRegionOf stack q → r.piece.name ≡ q.piece.name → r ≡ q
@@ -103,14 +99,8 @@ module _ (one : IsExecutionOne) (stack : List (List Insn)) where
       in
       let settled : Settled r.answer ≡ Settled q.answer = s.0 in
       let answer : r.answer ≡ q.answer = cc in
-      made-same r.piece q.piece r.name q.name r.answer q.answer (pieces-one one stack r.piece q.piece h.0 k.0 e) s.1
-      answer
-    where
-      made : PieceData → List Bool → Answer → RegionData
-      made p n a = record { piece = p; name = n; answer = a }
-
-      made-same : (p q : PieceData) (m n : List Bool) (a b : Answer) → p ≡ q → m ≡ n → a ≡ b → made p m a ≡ made q n b
-      made-same p q m n a b x y z = cc
+      let piece = pieces-one one stack r.piece q.piece h.0 k.0 e in
+      λ i. record { piece = piece i; name = s.1 i; answer = answer i }
 
   -- the first regions of both lists are of one name
   first-one : (r q : RegionData) (rs qs : List RegionData) → All (IsRegionOf stack) (r ∷ rs)
@@ -195,8 +185,4 @@ results-one one b c s t h k e x y =
         let cs = t.lawful.committed in
         let lb = length-map b.regions (λ (r : RegionData). r.piece.name) in
         let lc = length-map c.regions (λ (r : RegionData). r.piece.name) in
-        let rb = ones (piece-names b.regions) in
-        let rc = ones (piece-names c.regions) in
-        let eb = ones b.emptied in
-        let ec = ones c.emptied in
-        omega arith
+        omega (arith, ones (piece-names b.regions), ones (piece-names c.regions), ones b.emptied, ones c.emptied)

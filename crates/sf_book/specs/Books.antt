@@ -1,19 +1,6 @@
 -- What contracts see of a book, and when it is lawful: a partition of all inputs among outstanding pieces and regions.
 use Rattle.std.specs.Prelude.{◌≡◌, ℕ, ◌+◌, ◌*◌, ◌<◌, ◌≤◌, Bool, true, false, List, [], ◌∷◌, length, All, count_by}
-use Rattle.std.specs.List.{AllByRecursion}
-use Rattle.std.specs.List.Sorted.{IsSortedByKey}
-use Rattle.std.specs.Ordering.{bool_cmp}
-use Rattle.std.specs.Cmp.Lexicographic.{slice_cmp}
-use Rattle.sf_insn.specs.declared.input.Input.{Input}
-use Rattle.sf_insn.specs.Inputs.{IsInput}
-use Rattle.sf_check.specs.declared.insn.Insn.{Insn}
-use Rattle.sf_check.specs.Stacks.{IsLawfulStack}
-use Rattle.sf_run.specs.declared.action.Answer.{Answer}
-use Rattle.sf_run.specs.Machine.{trace_of}
-use Rattle.sf_run.specs.Answers.{Answers}
-use Rattle.sf_run.specs.Routes.{IsWholeRoute}
-use Rattle.sf_piece.specs.Pieces.{PieceData, is_member, is_prefix, IsTrulyNamed}
-use Rattle.sf_run.specs.declared.counts.Counts.{Counts}
+use Rattle.sf_book.specs.Common.{AllByRecursion, IsSortedByKey, bool_cmp, slice_cmp, Input, IsInput, Insn, IsLawfulStack, Answer, trace_of, Answers, IsWholeRoute, PieceData, is_member, is_prefix, IsTrulyNamed, Counts}
 
 -- an outstanding piece, under its id, on lease or not
 pub record OutstandingData : Type 0 where

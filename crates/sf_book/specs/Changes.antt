@@ -1,12 +1,7 @@
 -- What the calls on a book do to it.
 use Rattle.std.specs.Prelude.{◌≡◌, ◌≢◌, ℕ, ◌+◌, ◌<◌, ◌==◌, not, Bool, true, false, List, [], ◌∷◌, ◌++◌, All, filter, find, map, Option, Some, None, if◌then◌else◌, MatchOption, IsPermutation}
-use Rattle.std.specs.Ordering.{bool_cmp}
-use Rattle.std.specs.declared.cmp.Ordering.TheVariants.{Less}
-use Rattle.std.specs.Cmp.Lexicographic.{slice_cmp}
-use Rattle.sf_piece.specs.Pieces.{PieceData, StepData, WorkData, Split, Settled, Empty}
+use Rattle.sf_book.specs.Common.{bool_cmp, Less, slice_cmp, PieceData, StepData, WorkData, Split, Settled, Empty, Fault, Foreign, Stale, Spent, Memory}
 use Rattle.sf_book.specs.Books.{OutstandingData, BookData}
-use Rattle.sf_book.specs.declared.fault.Fault.{Fault}
-use Rattle.sf_book.specs.declared.fault.Fault.TheVariants.{Foreign, Stale, Spent, Memory}
 
 -- the outstanding piece under an id
 abbrev pub outstanding_at : ℕ → List OutstandingData → Option OutstandingData

@@ -1,9 +1,7 @@
 -- Books in which each piece and region has a member, as on a plain stack, and books whose regions are named by a list
 -- of traces.
 use Rattle.std.specs.Prelude.{◌≡◌, ◌+◌, ◌*◌, Bool, true, List, [], All, length, map}
-use Rattle.sf_insn.specs.declared.input.Input.{Input}
-use Rattle.sf_insn.specs.Inputs.{IsInput}
-use Rattle.sf_piece.specs.Pieces.{PieceData, is_member}
+use Rattle.sf_book.specs.Common.{Input, IsInput, PieceData, is_member}
 use Rattle.sf_book.specs.Books.{OutstandingData, RegionData, BookData}
 
 -- some input is a member

@@ -1,7 +1,6 @@
 -- The numbers of faults.
 use Rattle.std.specs.Prelude.{ℕ}
-use Rattle.sf_book.specs.declared.fault.Fault.{Fault}
-use Rattle.sf_book.specs.declared.fault.Fault.TheVariants.{Foreign, Stale, Spent, Memory}
+use Rattle.sf_book.specs.Common.{Fault, Foreign, Stale, Spent, Memory}
 
 -- the number under which the program reports a fault
 abbrev pub fault_number : Fault → ℕ

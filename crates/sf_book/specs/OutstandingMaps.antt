@@ -1,19 +1,10 @@
 -- The two maps of a book: one has each outstanding piece under its id, the other has under its name whether it is on
 -- lease.
 use Rattle.std.specs.Prelude.{◌≡◌, ℕ, true, false, List, map, Option, Some, refl}
-use Rattle.std.specs.Ordering.{bool_cmp, is_eq, nat_cmp, eq_by_cmp}
-use Rattle.std.specs.declared.cmp.Ordering.{Ordering}
-use Rattle.std.specs.Cmp.{IsTotalOrder, on_total}
-use Rattle.std.specs.Cmp.Lexicographic.{slice_cmp}
-use Rattle.std.specs.BTreeMap.{is_at}
-use Rattle.std.specs.Map.{lookup, keys_of}
-use Rattle.std.specs.List.Sorted.{IsStrictlySortedBy}
-use Rattle.std.specs.Option.{option_map_or}
+use Rattle.sf_book.specs.Common.{bool_cmp, is_eq, nat_cmp, eq_by_cmp, Ordering, IsTotalOrder, on_total, slice_cmp, is_at, lookup, keys_of, IsStrictlySortedBy, option_map_or, PieceData, LeaseState}
 use Rattle.sf_run.specs.laws.FeasibleLaws.{names_total}
-use Rattle.sf_piece.specs.Pieces.{PieceData}
 use Rattle.sf_book.specs.Books.{OutstandingData}
 use Rattle.sf_book.specs.Changes.{outstanding_at, with_lease_at, IsFirstFree}
-use Rattle.sf_book.specs.declared.outstanding.LeaseState.{LeaseState}
 
 -- how two pieces compare by their names, in name order
 abbrev pub name_cmp : PieceData → PieceData → Ordering

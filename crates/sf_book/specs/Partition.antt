@@ -1,7 +1,6 @@
 -- What the counts of a lawful book say, piece by piece and name by name.
 use Rattle.std.specs.Prelude.{◌≡◌, ℕ, Bool, true, List, ◌++◌, map, slice_get, Some}
-use Rattle.sf_insn.specs.declared.input.Input.{Input}
-use Rattle.sf_piece.specs.Pieces.{PieceData, is_member, is_prefix}
+use Rattle.sf_book.specs.Common.{Input, PieceData, is_member, is_prefix}
 use Rattle.sf_book.specs.Books.{OutstandingData, RegionData, BookData}
 
 -- the pieces among which a book parts the inputs: those that are outstanding, and those of its regions

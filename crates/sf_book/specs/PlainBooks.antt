@@ -1,8 +1,7 @@
 -- What the types of books and ended explorations keep. Of a plain stack each piece is a plain one, and has a member,
 -- and none was emptied.
 use Rattle.std.specs.Prelude.{◌≡◌, ℕ, [], All}
-use Rattle.sf_check.specs.Stacks.{IsPlain}
-use Rattle.sf_piece.specs.PlainPieces.{IsPlainPiece}
+use Rattle.sf_book.specs.Common.{IsPlain, IsPlainPiece}
 use Rattle.sf_book.specs.Books.{OutstandingData, RegionData, BookData, IsKeptBook, IsSettled}
 use Rattle.sf_book.specs.Unfoldings.{IsFringe}
 

@@ -1,6 +1,6 @@
 -- Whether a list of truth values begins with a name, as a number that can be added up.
 use Rattle.std.proofs.Common.{ℕ, Bool, cond, List}
-use Rattle.sf_piece.specs.Pieces.{is_prefix}
+use Rattle.sf_book.specs.Common.{is_prefix}
 
 -- 1 for true
 abbrev pub bit : Bool → ℕ

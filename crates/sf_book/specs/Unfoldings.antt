@@ -1,10 +1,6 @@
 -- How far the execution tree of a stack is unfolded, and when a book is the fringe of an unfolding.
 use Rattle.std.specs.Prelude.{◌≡◌, ℕ, ◌+◌, Bool, List, [], ◌∷◌, ◌++◌, map, All}
-use Rattle.std.specs.List.Sorted.{IsPermutation}
-use Rattle.sf_check.specs.declared.insn.Insn.{Insn}
-use Rattle.sf_run.specs.declared.action.Answer.{Answer}
-use Rattle.sf_piece.specs.Pieces.{PieceData, Split, Settled, Empty}
-use Rattle.sf_piece.specs.Execution.{HasStep, IsInTree}
+use Rattle.sf_book.specs.Common.{IsPermutation, Insn, Answer, PieceData, Split, Settled, Empty, HasStep, IsInTree}
 use Rattle.sf_book.specs.Books.{OutstandingData, RegionData, BookData, IsSettled}
 
 -- A part of an execution tree. A branch ends in a piece that is outstanding, in one that settled, with its whole name

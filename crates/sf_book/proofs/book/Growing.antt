@@ -23,9 +23,6 @@ top-is stack (Region p n a) h = h.0
 top-is stack (Emptied p) h = h.0
 top-is stack (Fork p f t) h = h.0
 
-weighs-one : (f : List Bool → ℕ) (n : List Bool) → sum_by f (n ∷ []) ≡ f n
-weighs-one f n = let a = sum_by-cons f n [] in omega arith
-
 module _ (one : IsExecutionOne) (stack : List (List Insn)) where
   pub grow : (u w : Unfolding) (n : List Bool) → Contains (outstanding_in u) n → IsUnfolding stack u
       → IsUnfolding stack w
@@ -38,7 +35,7 @@ module _ (one : IsExecutionOne) (stack : List (List Insn)) where
         tree = w;
         unfolds = k;
         same = pieces-one one stack (top_of w) p (top-is stack w k) h (e ∙ sym named);
-        outstanding = λ f. let a = weighs-one f p.name in let b : f p.name ≡ f n = ap f named in omega arith;
+        outstanding = λ f. omega (arith, sum_by-cons f p.name [], ap f named);
         regions = λ f. omega arith;
         emptied = λ f. omega arith;
         forks = omega arith;
@@ -121,11 +118,7 @@ commit_fringe one b next id w u es rs ns splits l m h r =
           let x = sum_by-append z (map whole b.regions) (map whole rs) in
           rw map-append (omega arith));
       emptied = permuted (λ z.
-          let now = g.emptied z in
-          let old = weighed h.emptied z in
-          let new = ap (sum_by z) r.shape.3 in
-          let x = sum_by-append z b.emptied ns in
-          omega arith);
+          omega (arith, g.emptied z, weighed h.emptied z, ap (sum_by z) r.shape.3, sum_by-append z b.emptied ns));
       splits = let old = h.splits in let now = g.forks in let new = r.shape.4 in omega arith;
       reached = All-append (IsReachedIn b.stack) left es (All-filter _ (IsReachedIn b.stack) b.outstanding h.reached)
           (All-from_recursion (IsReachedIn b.stack) es r.reached);

@@ -1,5 +1,5 @@
 -- What a book keeps through its calls.
-use Rattle.sf_book.proofs.Common.{common_steps, ◌≡◌, ℕ, length-append, ◌+◌, ◌*◌, ◌<◌, ◌≤◌, ◌==◌, Bool, true, false, List, [], ◌∷◌, ◌++◌, length, map, get_or, refl, sym, ◌∙◌, ap, subst, arith, append_assoc, Result, Ok, Err, IfErr, All, AllByRecursion, slice_get, IsPermutation, get_or_push, length-map, All-append, All-filter, All-map, All-from_recursion, find_at, sum_by-IsPermutation, All-permutation, length_permutation, sum_by-append, slice_get-get_or, same_Some, Input, IsInput, Insn, IsLawfulStack, PieceData, WorkData, is_member, is_prefix, IsTrulyNamed, IsRightSplit, IsRoot, OutstandingData, RegionData, BookData, IsOutstanding, IsRightRegion, IsNoBeginning, HasRisingIds, IsLawfulBook, IsKeptBook, fresh, members_of, count_beginnings, without, MayCommit, Refuses, bit, prefix_bit, Unfolding, IsUnfolding, IsPieceOf, IsRegionOf, top_of, outstanding_in, regions_in, emptied_in, forks_in, Fault, Memory, all_at, no_second, prefix-refl}
+use Rattle.sf_book.proofs.Common.{common_steps, ◌≡◌, ℕ, length-append, ◌+◌, ◌*◌, ◌<◌, ◌≤◌, ◌==◌, Bool, true, false, List, [], ◌∷◌, ◌++◌, length, map, get_or, refl, sym, ◌∙◌, ap, subst, arith, append_assoc, Result, Ok, Err, IfErr, All, AllByRecursion, slice_get, IsPermutation, get_or_push, length-map, All-append, All-filter, All-map, All-from_recursion, find_at, sum_by-IsPermutation, All-permutation, length_permutation, sum_by-append, slice_get-get_or, same_Some, Input, IsInput, Insn, IsLawfulStack, IsPlain, IsPlainPiece, PieceData, WorkData, is_member, is_prefix, IsTrulyNamed, IsRightSplit, IsRoot, OutstandingData, RegionData, BookData, IsOutstanding, IsRightRegion, IsNoBeginning, HasRisingIds, IsLawfulBook, IsKeptBook, fresh, members_of, count_beginnings, without, MayCommit, Refuses, bit, prefix_bit, Unfolding, IsUnfolding, IsPieceOf, IsRegionOf, top_of, outstanding_in, regions_in, emptied_in, forks_in, Fault, Memory, all_at, no_second, prefix-refl}
 use Rattle.std.specs.List.{sum_by}
 use Rattle.sf_book.proofs.Lists.{sum_by-without, HasRisingIds-filter, HasRisingIds-append, HasRisingIds-map, sum_by-map_same, ones}
 use Rattle.sf_book.proofs.book.Names.{prefix-append, same_members}
@@ -20,6 +20,8 @@ pub record Replaces (stack : List (List Insn)) (p : PieceData) (next : ℕ) (tre
       × (regions_in tree ≡ map (λ (r : RegionData). r.piece.name) rs) × (emptied_in tree ≡ ns)
       × (forks_in tree ≡ splits)
   pub reached : AllByRecursion (λ (e : OutstandingData). IsPieceOf stack e.piece) es
+  pub plain : IsPlain stack → AllByRecursion (λ (e : OutstandingData). IsPlainPiece e.piece) es
+      × AllByRecursion (λ (r : RegionData). IsPlainPiece r.piece) rs × (ns ≡ [])
   pub settled : AllByRecursion (IsRegionOf stack) rs
 
 -- the book once these came in the place of the piece under the id
@@ -46,8 +48,7 @@ commit_kept b next id w u es rs ns splits k m room named r =
     let o = all_at (IsOutstanding b.stack) b.outstanding id m.under_id h.outstanding m.there in
     let low : All (λ e. e.id < next) left = All-filter _ (λ e. e.id < next) b.outstanding k.below in
     let out = λ (f : OutstandingData → ℕ). sum_by-without f b.outstanding id m.under_id h.ids m.there in
-    let less : length left + 1 ≡ length b.outstanding =
-    let l = out (λ e. 1) in let x = ones left in let y = ones b.outstanding in omega arith in
+    let less : length left + 1 ≡ length b.outstanding = omega (arith, out (λ e. 1), ones left, ones b.outstanding) in
     let more_es = length-append left es in
     let more_rs = length-append b.regions rs in
     let more_ns = length-append b.emptied ns in
@@ -67,12 +68,7 @@ commit_kept b next id w u es rs ns splits k m room named r =
             let same : e m.under_id ≡ bit (is_member w.piece d) =
             ap bit (same_members m.under_id.piece w.piece o.named named (o.of ∙ sym m.same_stack) (sym m.same_name) d i)
             in
-            let gone = out e in
-            let a = sum_by-append e left es in
-            let c = sum_by-append g b.regions rs in
-            let before = h.one d i in
-            let now = r.one d i in
-            omega arith;
+            omega (arith, out e, sum_by-append e left es, sum_by-append g b.regions rs, h.one d i, r.one d i);
         emptied = All-append (IsNoBeginning b.stack) b.emptied ns h.emptied
             (All-from_recursion (IsNoBeginning b.stack) ns r.emptied);
         apart = λ l.
@@ -82,11 +78,7 @@ commit_kept b next id w u es rs ns splits k m room named r =
             let same : e m.under_id ≡ prefix_bit w.piece.name l = ap n (sym m.same_name) in
             let gone = out e in
             let a = sum_by-append e left es in
-            let c = sum_by-append g b.regions rs in
-            let f = sum_by-append n b.emptied ns in
-            let before = h.apart l in
-            let now = r.apart l in
-            omega arith;
+            omega (arith, sum_by-append g b.regions rs, sum_by-append n b.emptied ns, h.apart l, r.apart l);
         pieces = omega arith;
         committed = omega arith;
         within = omega arith;
@@ -164,7 +156,7 @@ no_child : (b : BookData) (id : ℕ) (w : WorkData) (n : List Bool) → IsLawful
     → is_prefix w.piece.name n ≡ true → (w.piece.name ≡ n → ⊥) → All (λ e. e.piece.name ≡ n → ⊥) b.outstanding
 no_child b id w n h m begins other = λ j e lj same.
     let few : sum_by (λ (x : OutstandingData). prefix_bit x.piece.name n) b.outstanding ≤ 1 =
-    let before = h.apart n in omega arith in
+    omega (arith, h.apart n) in
     let x = get_or b.outstanding j e in
     let there = sym (find_at (λ (e : OutstandingData). e.id == id) b.outstanding) ∙ m.there in
     let at = slice_get-get_or b.outstanding j e lj in

@@ -1,5 +1,5 @@
 -- What the type of books keeps, through its calls.
-use Rattle.sf_book.proofs.Common.{common_steps, arith, add-zero, refl, sym, ap, subst, ◌∙◌, ◌≡◌, ℕ, ◌+◌, ◌*◌, ◌<◌, Bool, true, List, ◌∷◌, ◌++◌, [], map, Some, append-nil, Insn, IsLawfulStack, IsPlain, Answer, PieceData, WorkData, StepData, Split, Settled, Empty, IsRightStep, IsRightWork, IsRoot, is_member, IsPlainPiece, IsPlainWork, OutstandingData, RegionData, BookData, fresh, without, MayCommit, CommitsAs, IsBook, IsPlainWhereStackIs, bit, plain_fresh, plain_marks, split_plain, answer_plain, empty_plain, HasStep, IsInTree, IsFirst, IsExecutionOne, Unfolding, IsPieceOf, Outstanding, Region, Emptied, Fork}
+use Rattle.sf_book.proofs.Common.{common_steps, arith, add-zero, refl, sym, ap, subst, ◌∙◌, ◌≡◌, ℕ, ◌+◌, ◌*◌, ◌<◌, Bool, true, List, ◌∷◌, ◌++◌, [], map, Some, append-nil, Insn, IsLawfulStack, IsPlain, Answer, PieceData, WorkData, StepData, Split, Settled, Empty, IsRightStep, IsRightWork, IsRoot, is_member, IsPlainPiece, IsPlainStep, IsPlainWork, OutstandingData, RegionData, BookData, fresh, without, MayCommit, CommitsAs, IsBook, IsPlainWhereStackIs, bit, plain_fresh, plain_marks, All-append, All-filter, All-from_recursion, HasStep, IsInTree, IsFirst, IsExecutionOne, Unfolding, IsPieceOf, Outstanding, Region, Emptied, Fork}
 use Rattle.std.proofs.lemmas.List.{append_assoc}
 use Rattle.sf_book.proofs.book.Growing.{fringe-fresh, fringe-marks, commit_fringe}
 use Rattle.sf_book.proofs.book.Kept.{Replaces, committed, commit_kept, kept_fresh, kept_marks}
@@ -54,13 +54,30 @@ module _ (b : BookData) (next id : ℕ) (w : WorkData) (h : IsBook b next) (m : 
   rule_step : (step : StepData) → IsLawfulWork w step → HasStep w.piece step w.name
   rule_step step k = subst (λ (s : StepData). HasStep w.piece s w.name) k.is k.rule
 
+  plain_step : (step : StepData) → IsLawfulWork w step → IsPlain b.stack → IsPlainPiece w.piece
+      × IsPlainStep w.piece step w.name
+  plain_step step k p =
+      let plain = k.plain (subst IsPlain (sym m.same_stack) p) in
+      (plain.piece, subst (λ (s : StepData). IsPlainStep w.piece s w.name) k.is plain.step)
+
+  -- what comes in the place of a plain piece leaves the book plain
+  commit_plain : (u : Unfolding) (es : List OutstandingData) (rs : List RegionData) (ns : List (List Bool))
+      (splits : ℕ) → Replaces b.stack w.piece next u es rs ns splits
+      → IsPlainWhereStackIs (committed b id es rs ns splits)
+  commit_plain u es rs ns splits r = record {
+    book = λ p.
+        let old = h.plain.book p in
+        let new = r.plain p in
+        search (arith, All-append, All-filter, All-from_recursion);
+  }
+
   replaced : (c : BookData) (n : ℕ) (step : StepData) (u : Unfolding) (es : List OutstandingData)
       (rs : List RegionData) (ns : List (List Bool)) (splits : ℕ) → IsLawfulWork w step
-      → c ≡ committed b id es rs ns splits → n ≡ next + 2 * splits → IsPlainWhereStackIs c
+      → c ≡ committed b id es rs ns splits → n ≡ next + 2 * splits
       → Replaces b.stack w.piece next u es rs ns splits → IsBook c n
-  replaced c n step u es rs ns splits k is up plain r = record {
+  replaced c n step u es rs ns splits k is up r = record {
     kept = rw (is, up) (commit_kept b next id w u es rs ns splits h.kept m room k.right.0 r);
-    plain = plain;
+    plain = rw is (commit_plain u es rs ns splits r);
     fringe = rw is (commit_fringe k.one b next id w u es rs ns splits h.kept.lawful m h.fringe r);
   }
 
@@ -76,7 +93,7 @@ module _ (b : BookData) (next id : ℕ) (w : WorkData) (h : IsBook b next) (m : 
       let right : IsPieceOf b.stack t = record { reached = sides.1; of = s.true_stack ∙ m.same_stack } in
       replaced _ _ (Split f t) (Fork w.piece (Outstanding f) (Outstanding t))
       (leased_piece next f ∷ leased_piece (next + 1) t ∷ []) [] [] 1 k (simp (append-nil, append_assoc)) (omega arith)
-      (split_plain b id next (next + 1) w f t h.plain m k.plain k.is) (record {
+      (record {
         outstanding = (
           record { of = left.of; named = s.false_named },
           (record { of = right.of; named = s.true_named }, tt),
@@ -91,6 +108,7 @@ module _ (b : BookData) (next id : ℕ) (w : WorkData) (h : IsBook b next) (m : 
         unfolds = (record { reached = k.reached; of = m.same_stack }, step, left, right);
         shape = (refl, refl, refl, refl, refl);
         reached = (left, (right, tt));
+        plain = λ p. let both = (plain_step (Split f t) k p).1 in ((both.0, (both.1, tt)), tt, refl);
         settled = tt;
       })
 
@@ -105,7 +123,7 @@ module _ (b : BookData) (next id : ℕ) (w : WorkData) (h : IsBook b next) (m : 
       let of : IsPieceOf b.stack w.piece = record { reached = k.reached; of = m.same_stack } in
       let region : RegionData = record { piece = w.piece; name = w.name; answer = a } in
       replaced _ _ (Settled a) (Region w.piece w.name a) [] (region ∷ []) [] 0 k (simp (append-nil, add-zero))
-      (omega arith) (answer_plain b id w a h.plain m k.plain k.is) (record {
+      (omega arith) (record {
         outstanding = tt;
         regions = (
           rw (← m.same_stack) (record {
@@ -118,14 +136,14 @@ module _ (b : BookData) (next id : ℕ) (w : WorkData) (h : IsBook b next) (m : 
         );
         emptied = tt;
         one = λ d i. omega arith;
-        apart = λ l.
-            let less = prefix_bit-le w.piece.name w.name l (answer_begins w.piece w.name a s) in omega arith;
+        apart = λ l. omega (arith, prefix_bit-le w.piece.name w.name l (answer_begins w.piece w.name a s));
         counts = (refl, refl);
         rising = tt;
         new = tt;
         unfolds = (of, rule_step (Settled a) k);
         shape = (refl, refl, refl, refl, refl);
         reached = tt;
+        plain = λ p. (tt, ((plain_step (Settled a) k p).0, tt), refl);
         settled = ((of, rule_step (Settled a) k), tt);
       })
 
@@ -138,7 +156,7 @@ module _ (b : BookData) (next id : ℕ) (w : WorkData) (h : IsBook b next) (m : 
   empty_book k =
       let s = (right_step Empty k).0 in
       replaced _ _ Empty (Emptied w.piece) [] [] (w.piece.name ∷ []) 0 k (simp (append-nil, add-zero)) (omega arith)
-      (empty_plain b id w m k.plain k.is) (record {
+      (record {
         outstanding = tt;
         regions = tt;
         emptied = (rw (← m.same_stack) (record { none = λ d i. sym (k.right.0.members d i) ∙ s.none d i }), tt);
@@ -153,6 +171,7 @@ module _ (b : BookData) (next id : ℕ) (w : WorkData) (h : IsBook b next) (m : 
         );
         shape = (refl, refl, refl, refl, refl);
         reached = tt;
+        plain = λ p. absurd (plain_step Empty k p).1;
         settled = tt;
       })
 

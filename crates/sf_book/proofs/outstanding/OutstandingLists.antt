@@ -1,7 +1,6 @@
 -- One outstanding piece more, and one less.
-use Rattle.sf_book.proofs.Common.{common_steps, ◌≡◌, ◌≢◌, ℕ, ◌<◌, ◌==◌, Bool, true, false, not, cond, List, [], ◌∷◌, ◌++◌, map, get_or, Option, None, Some, refl, sym, ◌∙◌, ap, subst, arith, ◌⊎◌, ⊎_elim, All, AllByRecursion, slice_get, IsStrictlySortedBy, option_map, is_eq, nat_cmp, match_ordering, Ordering, Less, Equal, Greater, is_at, insert_entry, keys_of, remove_entry, cases_eq, nat_tests, sorted_head, sorted_tail, map-map, map-append, All-head, All-tail, All-nil, All-cons, PieceData, OutstandingData, outstanding_at, with_lease_at, without, all_at, name_cmp, piece_at, lease_state_of, outstanding_of, outstanding_list, AreMatchingMaps, LeaseState}
+use Rattle.sf_book.proofs.Common.{common_steps, ◌≡◌, ◌≢◌, ℕ, ◌<◌, ◌==◌, Bool, true, false, not, cond, List, [], ◌∷◌, ◌++◌, map, get_or, Option, None, Some, refl, sym, ◌∙◌, ap, subst, arith, ⊎_elim, All, AllByRecursion, slice_get, IsStrictlySortedBy, option_map, is_eq, nat_cmp, match_ordering, Ordering, Less, Equal, Greater, is_at, insert_entry, keys_of, remove_entry, cases_eq, nat_tests, sorted_head, sorted_tail, map-map, map-append, All-head, All-tail, All-nil, All-cons, PieceData, OutstandingData, outstanding_at, with_lease_at, without, all_at, name_cmp, piece_at, lease_state_of, outstanding_of, outstanding_list, AreMatchingMaps, LeaseState, filter-append}
 use Rattle.std.proofs.Common.{append-nil}
-use Rattle.std.proofs.lemmas.List.Elements.{filter-append}
 use Rattle.sf_book.proofs.Lists.{without-above}
 use Rattle.sf_book.proofs.MapLemmas.{Ids, Names, changed_maps, entry_at_is, id_no, id_same, id_yes, mark_by_name, name_yes, num_no, num_yes, own, same_bool, same_name, same_view, some_inj, tests_as}
 use Rattle.sf_book.proofs.outstanding.OutstandingLeases.{none_some, true_false}
@@ -73,10 +72,6 @@ pick_no : {A : Type 0} (b : Bool) (a : Option A) (o : Option A) → (b ≡ true 
 pick_no true a o f = absurd (f refl)
 pick_no false a o f = refl
 
-pick_yes : {A : Type 0} (b : Bool) (a : Option A) (o : Option A) → b ≡ true → cond b a o ≡ a
-pick_yes true a o h = refl
-pick_yes false a o h = absurd (cc)
-
 added_tests : (ids : Ids) (names : Names) (i : ℕ) (p : PieceData) (on : Bool) (ids' : Ids) (names' : Names)
     → AreMatchingMaps ids names → IsAdded ids names i p on ids' names' → (j : ℕ) (q : PieceData)
     → piece_at ids j ≡ Some q → is_at (name_cmp p) q ≡ is_at (nat_cmp i) j
@@ -100,9 +95,7 @@ added_view ids names i p on ids' names' h a is =
     let n = h.named (get_or ids k d).0 q (own ids h.rising k d l) in
     a.at_name q ∙ pick_no (is_at (name_cmp p) q) (Some w) (lease_state_of names q)
     (λ t. none_some n.0 (lease_state_of names q) (sym (mark_by_name names p q (same_name p q t)) ∙ a.no_name) n.1)) in
-    let new : lease_state_of names' p ≡ Some w =
-    a.at_name p ∙ pick_yes (is_at (name_cmp p) p) (Some w) (lease_state_of names p)
-    (name_yes p p refl) in
+    let new : lease_state_of names' p ≡ Some w = rw (a.at_name p, name_yes p p refl) refl in
     rw (is, map-append, new, old) refl
 
 -- ---- after a removal

@@ -1,23 +1,16 @@
 -- A lawful book without memberless pieces has at most one piece or region for each feasible trace, and with nothing
 -- outstanding its regions are the feasible traces.
-use Rattle.std.proofs.Common.{◌≡◌, ℕ, zero, suc, ◌+◌, ◌*◌, ◌<◌, ◌≤◌, Bool, true, false, List, [], ◌∷◌, ◌++◌, length, map, get_or, Some, refl, sym, ◌∙◌, ap, subst, arith, ◌⊎◌, inl, inr, append-nil}
+use Rattle.std.proofs.Common.{◌≡◌, ℕ, ◌+◌, ◌*◌, ◌<◌, ◌≤◌, Bool, true, false, List, [], ◌∷◌, ◌++◌, length, map, get_or, Some, refl, sym, ◌∙◌, ap, subst, arith, ◌⊎◌, inl, inr, append-nil}
 use Rattle.std.specs.Prelude.{Contains, ◌↔◌}
-use Rattle.std.specs.List.{All, sum_by, slice_get}
+use Rattle.sf_book.specs.Common.{All, sum_by, slice_get, option_map, Input, IsInput, Insn, IsLawfulStack, trace_of, AreFeasibleTraces, feasible_traces, is_member, is_prefix}
 use Rattle.std.proofs.lemmas.List.{length-map}
 use Rattle.std.proofs.lemmas.List.Elements.{All-head, All-tail}
+use Rattle.std.proofs.lemmas.List.Folds.{fold_stays}
 use Rattle.std.proofs.lemmas.List.Sums.{sum_by-cons, sum_by-le, get_or-le-sum_by}
-use Rattle.std.proofs.lemmas.Option.{slice_get_within, get_or_from_slice_get, same_Some}
-use Rattle.sf_insn.specs.declared.input.Input.{Input}
-use Rattle.sf_insn.specs.Inputs.{IsInput}
-use Rattle.sf_check.specs.declared.insn.Insn.{Insn}
-use Rattle.sf_check.specs.Stacks.{IsLawfulStack}
-use Rattle.sf_check.specs.laws.ContainsLaws.{contains_cons, contains_here, contains_there, contains_nil}
-use Rattle.sf_run.specs.Machine.{trace_of}
+use Rattle.std.proofs.lemmas.Option.{slice_get_within, get_or_from_slice_get, slice_get-map, slice_get_cases}
 use Rattle.sf_run.specs.laws.RouteLaws.{one_whole}
 use Rattle.sf_run.specs.laws.TraceLaws.{trace_is_whole_route}
-use Rattle.sf_run.specs.Feasible.{AreFeasibleTraces, feasible_traces}
 use Rattle.sf_run.specs.laws.FeasibleLaws.{one_order, feasible_are}
-use Rattle.sf_piece.specs.Pieces.{is_member, is_prefix}
 use Rattle.sf_book.specs.Books.{OutstandingData, RegionData, BookData, IsOutstanding, IsRightRegion, IsLawfulBook, IsSettled, members_of}
 use Rattle.sf_book.specs.Exact.{HasMember, HasMembers, IsWorkedOff}
 use Rattle.sf_book.specs.laws.PartitionLaws.{some_there}
@@ -27,19 +20,10 @@ use Rattle.sf_book.specs.laws.NameOrderLaws.{strictly_in_order}
 -- ---- sums over rows and columns
 
 module _ {B : Type 0} where
-  sum_of_none : (ys : List B) → sum_by (λ y. 0) ys ≡ 0
-  sum_of_none [] = refl
-  sum_of_none (y ∷ ys) = let rest = sum_of_none ys in let all = sum_by-cons (λ (y : B). 0) y ys in omega arith
-
   sum_of_both : (f g h : B → ℕ) → ((y : B) → h y ≡ f y + g y) → (ys : List B) → sum_by h ys ≡ sum_by f ys + sum_by g ys
   sum_of_both f g h each [] = refl
   sum_of_both f g h each (y ∷ ys) =
-      let rest = sum_of_both f g h each ys in
-      let here = each y in
-      let a = sum_by-cons h y ys in
-      let b = sum_by-cons f y ys in
-      let c = sum_by-cons g y ys in
-      omega arith
+      omega (arith, sum_of_both f g h each ys, each y, sum_by-cons h y ys, sum_by-cons f y ys, sum_by-cons g y ys)
 
   at_least_one_each : (f : B → ℕ) (ys : List B) → All (λ y. 1 ≤ f y) ys → length ys ≤ sum_by f ys
   at_least_one_each f [] each = omega arith
@@ -52,7 +36,7 @@ module _ {B : Type 0} where
 -- the sum over a table is the same by its rows and by its columns
 sum_of_sums : {A B : Type 0} (h : A → B → ℕ) (xs : List A) (ys : List B)
     → sum_by (λ x. sum_by (λ y. h x y) ys) xs ≡ sum_by (λ y. sum_by (λ x. h x y) xs) ys
-sum_of_sums h [] ys = sym (sum_of_none ys)
+sum_of_sums h [] ys = sym (fold_stays (λ s y. s + 0) 0 (λ y. refl) ys)
 sum_of_sums h (x ∷ xs) ys =
     sum_by-cons (λ x. sum_by (λ y. h x y) ys) x xs
     ∙ (ap (λ k. sum_by (λ y. h x y) ys + k) (sum_of_sums h xs ys)
@@ -133,20 +117,18 @@ member_trace stack r d lawful right is m =
 
 contains_map : (f : RegionData → List Bool) (rs : List RegionData) (i : ℕ) (r : RegionData) (n : List Bool)
     → slice_get rs i ≡ Some r → f r ≡ n → Contains (map f rs) n
-contains_map f [] i r n at is = absurd cc
-contains_map f (x ∷ rs) zero r n at is = contains_here (f x) (map f rs) n (ap f (same_Some x r at) ∙ is)
-contains_map f (x ∷ rs) (suc i) r n at is = contains_there (f x) (map f rs) n (contains_map f rs i r n at is)
+contains_map f rs i r n at is =
+    let there : slice_get (map f rs) i ≡ Some n = slice_get-map f rs i ∙ ap (option_map f) at ∙ ap (λ k. Some k) is in
+    (i, slice_get_within (map f rs) i n there, get_or_from_slice_get (map f rs) i n n there)
 
 map_contains : (f : RegionData → List Bool) (rs : List RegionData) (n : List Bool) → Contains (map f rs) n → (i : ℕ)
     × (r : RegionData) × (slice_get rs i ≡ Some r) × (f r ≡ n)
-map_contains f [] n c = absurd (contains_nil n c)
-map_contains f (x ∷ rs) n c = by (contains_cons (f x) (map f rs) n c) (λ k. map_contains f rs n k)
-  where
-    by : (f x ≡ n) ⊎ Contains (map f rs) n → (Contains (map f rs) n → (i : ℕ) × (r : RegionData)
-        × (slice_get rs i ≡ Some r) × (f r ≡ n)) → (i : ℕ) × (r : RegionData)
-        × (slice_get (x ∷ rs) i ≡ Some r) × (f r ≡ n)
-    by (inl e) rest = (zero, x, refl, e)
-    by (inr k) rest = let r = rest k in (suc r.0, r.1, r.2, r.3)
+map_contains f rs n c = elim (slice_get_cases rs c.0).1 [
+  | inl x ↦
+      let there = slice_get-map f rs c.0 ∙ ap (option_map f) x.2 in
+      (c.0, x.0, x.2, sym (get_or_from_slice_get (map f rs) c.0 (f x.0) n there) ∙ c.2)
+  | inr past ↦ absurd (omega (arith, past.0, c.1, length-map rs f))
+]
 
 pub at_place : (P : RegionData → Type 0) (rs : List RegionData) (i : ℕ) (r : RegionData) → All P rs
     → slice_get rs i ≡ Some r → P r
@@ -195,12 +177,7 @@ worked_off b s m none =
 -- while something is outstanding the commits are too few
 pub left_unworked : (b : BookData) → IsLawfulBook b → HasMembers b → 0 < length b.outstanding
     → b.commits + 1 < 2 * length (feasible_traces b.stack)
-left_unworked b h m some =
-    let room = one_for_each_trace b h m in
-    let pieces = h.pieces in
-    let committed = h.committed in
-    let emptied : length b.emptied ≡ 0 = ap length m.emptied in
-    omega arith
+left_unworked b h m some = omega (arith, one_for_each_trace b h m, h.pieces, h.committed, ap length m.emptied)
 
 -- an ended exploration has nothing outstanding exactly where the budget is enough
 pub enough : (b : BookData) → IsSettled b → HasMembers b → (b.outstanding ≡ []) ⊎ (b.commits ≡ b.budget)

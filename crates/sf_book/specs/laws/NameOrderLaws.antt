@@ -1,13 +1,7 @@
 -- Regions in name order, no two of whose names begin one list, are strictly in order.
 use Rattle.std.proofs.Common.{◌≡◌, suc, ◌+◌, ◌≤◌, Bool, false, List, [], ◌∷◌, map, refl, sym, ◌∙◌, ap, arith}
-use Rattle.std.specs.List.{sum_by}
-use Rattle.std.specs.List.Sorted.{IsStrictlySortedBy}
-use Rattle.std.specs.Ordering.{bool_cmp, is_eq, is_lt, ordering_reverse}
-use Rattle.std.specs.declared.cmp.Ordering.{Ordering}
-use Rattle.std.specs.declared.cmp.Ordering.TheVariants.{Less, Equal, Greater}
-use Rattle.std.specs.Cmp.Lexicographic.{slice_cmp}
+use Rattle.sf_book.specs.Common.{sum_by, IsStrictlySortedBy, bool_cmp, is_eq, is_lt, ordering_reverse, Ordering, Less, Equal, Greater, slice_cmp, AreInNameOrder}
 use Rattle.std.proofs.lemmas.List.Sums.{sum_by-cons}
-use Rattle.sf_run.specs.Feasible.{AreInNameOrder}
 use Rattle.sf_run.specs.laws.FeasibleLaws.{names_total, names_exact, before_all}
 use Rattle.sf_book.specs.Books.{RegionData, IsInNameOrder}
 use Rattle.sf_book.specs.laws.PartitionLaws.{prefix-refl}

@@ -1,13 +1,10 @@
 -- A lawful book is a partition, place by place: each input lies in exactly one piece, and no name begins another. This
 -- follows from what a count of one, or of at most one, says of the places of a list.
 use Rattle.std.proofs.Common.{◌≡◌, ℕ, zero, suc, ◌+◌, ◌≤◌, Bool, true, false, List, [], ◌∷◌, ◌++◌, map, Some, refl, ◌∙◌, ap, arith}
-use Rattle.std.specs.List.{slice_get, sum_by}
+use Rattle.sf_book.specs.Common.{slice_get, sum_by, Input, IsInput, PieceData, is_member, is_prefix}
 use Rattle.std.proofs.lemmas.List.Folds.{fold-map}
 use Rattle.std.proofs.lemmas.List.Sums.{sum_by-cons, sum_by-append}
 use Rattle.std.proofs.lemmas.Option.{same_Some}
-use Rattle.sf_insn.specs.declared.input.Input.{Input}
-use Rattle.sf_insn.specs.Inputs.{IsInput}
-use Rattle.sf_piece.specs.Pieces.{PieceData, is_member, is_prefix}
 use Rattle.sf_book.specs.Books.{OutstandingData, RegionData, BookData, IsLawfulBook}
 use Rattle.sf_book.specs.PrefixCounts.{bit}
 use Rattle.sf_book.specs.Partition.{parts_of, names_of, LiesInOne, NoneBeginsAnother}
@@ -18,12 +15,9 @@ module _ {A : Type 0} (p : A → Bool) where
       → p y ≡ true → ⊥
   none_there [] zeros j y at hit = cc
   none_there (x ∷ xs) zeros zero y at hit =
-      let all = sum_by-cons (λ x. bit (p x)) x xs in
-      let one : bit (p x) ≡ 1 = ap (λ k. bit (p k)) (same_Some x y at) ∙ ap bit hit in
-      absurd (omega arith)
+      absurd (omega (arith, sum_by-cons (λ x. bit (p x)) x xs, ap (λ k. bit (p k)) (same_Some x y at) ∙ ap bit hit))
   none_there (x ∷ xs) zeros (suc j) y at hit =
-      let all = sum_by-cons (λ x. bit (p x)) x xs in
-      none_there xs (omega arith) j y at hit
+      none_there xs (omega (arith, sum_by-cons (λ x. bit (p x)) x xs)) j y at hit
 
   -- where the count is at most 1 there is no second one
   pub no_second : (xs : List A) → sum_by (λ x. bit (p x)) xs ≤ 1 → (i j : ℕ) (x y : A) → slice_get xs i ≡ Some x
@@ -39,8 +33,7 @@ module _ {A : Type 0} (p : A → Bool) where
       let one : bit (p z) ≡ 1 = ap (λ k. bit (p k)) (same_Some z y at') ∙ ap bit hit' in
       absurd (none_there xs (omega arith) i x at hit)
   no_second (z ∷ xs) few (suc i) (suc j) x y at at' hit hit' =
-      let all = sum_by-cons (λ x. bit (p x)) z xs in
-      ap suc (no_second xs (omega arith) i j x y at at' hit hit')
+      ap suc (no_second xs (omega (arith, sum_by-cons (λ x. bit (p x)) z xs)) i j x y at at' hit hit')
 
   -- where the count is not 0 there is one
   pub some_there : (xs : List A) → 1 ≤ sum_by (λ x. bit (p x)) xs → (i : ℕ) × (x : A)
@@ -63,15 +56,10 @@ sum_by-map f g xs = fold-map (λ a x. a + f x) g 0 xs
 -- each input lies in exactly one outstanding piece or region of a lawful book
 pub lies_in_one : (b : BookData) → IsLawfulBook b → (d : Input) → IsInput d → LiesInOne (parts_of b) d
 lies_in_one b h d n =
-    let m : PieceData → ℕ = λ p. bit (is_member p d) in
     let es = map (λ (e : OutstandingData). e.piece) b.outstanding in
     let rs = map (λ (r : RegionData). r.piece) b.regions in
-    let both : sum_by m (es ++ rs) ≡ sum_by m es + sum_by m rs = sum_by-append m es rs in
-    let left : sum_by m es ≡ sum_by (λ (e : OutstandingData). m e.piece) b.outstanding =
-    sum_by-map m (λ (e : OutstandingData). e.piece) b.outstanding in
-    let right : sum_by m rs ≡ sum_by (λ (r : RegionData). m r.piece) b.regions =
-    sum_by-map m (λ (r : RegionData). r.piece) b.regions in
-    let one = h.one d n in
+    let one : sum_by (λ (p : PieceData). bit (is_member p d)) (es ++ rs) ≡ 1 =
+    simp (sum_by-append, sum_by-map) (omega (arith, h.one d n)) in
     let r = some_there (λ p. is_member p d) (es ++ rs) (omega arith) in
     record {
       place = r.0;
@@ -91,16 +79,9 @@ prefix-refl (false ∷ bs) = prefix-refl bs
 pub none_begins_another : (b : BookData) → IsLawfulBook b → NoneBeginsAnother (names_of b)
 none_begins_another b h = record {
   one_place = λ i j m n at at' begins.
-      let f : List Bool → ℕ = λ k. bit (is_prefix k n) in
       let es = map (λ (e : OutstandingData). e.piece.name) b.outstanding in
       let rs = map (λ (r : RegionData). r.name) b.regions in
-      let all : sum_by f (es ++ rs ++ b.emptied) ≡ sum_by f (es ++ rs) + sum_by f b.emptied =
-      sum_by-append f (es ++ rs) b.emptied in
-      let both : sum_by f (es ++ rs) ≡ sum_by f es + sum_by f rs = sum_by-append f es rs in
-      let left : sum_by f es ≡ sum_by (λ (e : OutstandingData). f e.piece.name) b.outstanding =
-      sum_by-map f (λ (e : OutstandingData). e.piece.name) b.outstanding in
-      let right : sum_by f rs ≡ sum_by (λ (r : RegionData). f r.name) b.regions =
-      sum_by-map f (λ (r : RegionData). r.name) b.regions in
-      let apart = h.apart n in
-      no_second (λ k. is_prefix k n) (es ++ rs ++ b.emptied) (omega arith) i j m n at at' begins (prefix-refl n);
+      let few : sum_by (λ (k : List Bool). bit (is_prefix k n)) (es ++ rs ++ b.emptied) ≤ 1 =
+      simp (sum_by-append, sum_by-map) (omega (arith, h.apart n)) in
+      no_second (λ k. is_prefix k n) (es ++ rs ++ b.emptied) few i j m n at at' begins (prefix-refl n);
 }

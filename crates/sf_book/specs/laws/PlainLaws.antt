@@ -1,26 +1,15 @@
 -- What the calls on a book keep: where its stack is plain, the book is.
-use Rattle.std.proofs.Common.{◌≡◌, ℕ, ◌+◌, ◌<◌, ◌==◌, true, false, not, List, [], ◌∷◌, ◌++◌, length, get_or, map, refl, sym, subst}
-use Rattle.std.specs.List.{All}
-use Rattle.std.specs.List.Sorted.{IsPermutation}
-use Rattle.std.proofs.lemmas.List.Elements.{All-push, All-filter, All-map, All-cons, All-nil}
+use Rattle.std.proofs.Common.{◌≡◌, ℕ, ◌<◌, false, List, [], length, get_or, map, refl, sym, subst}
+use Rattle.sf_book.specs.Common.{IsPermutation, Insn, PieceData, IsPlainPiece}
+use Rattle.std.proofs.lemmas.List.Elements.{All-map, All-cons, All-nil}
 use Rattle.std.proofs.lemmas.List.Sorted.{All-permutation}
-use Rattle.sf_check.specs.declared.insn.Insn.{Insn}
-use Rattle.sf_check.specs.Stacks.{IsPlain}
-use Rattle.sf_run.specs.declared.action.Answer.{Answer}
-use Rattle.sf_piece.specs.Pieces.{PieceData, WorkData, StepData, Split, Settled, Empty}
-use Rattle.sf_piece.specs.PlainPieces.{IsPlainPiece, IsPlainWork, IsPlainStep}
 use Rattle.sf_book.specs.Books.{OutstandingData, RegionData, BookData, fresh}
-use Rattle.sf_book.specs.Changes.{without, MayCommit}
 use Rattle.sf_book.specs.Exact.{HasMembers}
-use Rattle.sf_book.specs.PlainBooks.{IsPlainBook, IsPlainWhereStackIs}
+use Rattle.sf_book.specs.PlainBooks.{IsPlainBook}
 
 -- the outstanding piece is plain
 abbrev OfPlain : OutstandingData → Type 0
 OfPlain e = IsPlainPiece e.piece
-
--- the piece, outstanding under this id and on lease
-abbrev leased_piece : ℕ → PieceData → OutstandingData
-leased_piece k p = record { id = k; piece = p; leased = true }
 
 -- each piece and each region has a member
 pub plain_has_members : (b : BookData) → IsPlainBook b → HasMembers b
@@ -60,62 +49,3 @@ plain_permuted b rs p h = record {
   regions = All-permutation (λ (r : RegionData). IsPlainPiece r.piece) b.regions rs p h.regions;
   emptied = h.emptied;
 }
-
--- what is known of the step of a work that may be committed
-of_work : (b : BookData) (id : ℕ) (w : WorkData) (step : StepData) → MayCommit b id w
-    → (IsPlain w.piece.stack → IsPlainWork w) → w.step ≡ step → IsPlain b.stack → IsPlainPiece w.piece
-    × IsPlainStep w.piece step w.name
-of_work b id w step m plain is h =
-    let p = plain (subst IsPlain (sym m.same_stack) h) in
-    (p.piece, subst (λ (s : StepData). IsPlainStep w.piece s w.name) is p.step)
-
-left_plain : (b : BookData) (id : ℕ) → IsPlainBook b → All OfPlain (without id b.outstanding)
-left_plain b id h = All-filter (λ e. not (e.id == id)) OfPlain b.outstanding h.outstanding
-
-pub split_plain : (b : BookData) (id i j : ℕ) (w : WorkData) (f t : PieceData) → IsPlainWhereStackIs b
-    → MayCommit b id w → (IsPlain w.piece.stack → IsPlainWork w) → w.step ≡ Split f t
-    → IsPlainWhereStackIs (record b {
-      outstanding = (without id b.outstanding ++ leased_piece i f ∷ []) ++ leased_piece j t ∷ [];
-      splits = b.splits + 1;
-      commits = b.commits + 1;
-    })
-split_plain b id i j w f t keeps m plain is = record {
-  book = λ h.
-      let k = keeps.book h in
-      let both = (of_work b id w (Split f t) m plain is h).1 in
-      record {
-        outstanding = All-push OfPlain (without id b.outstanding ++ leased_piece i f ∷ []) (leased_piece j t)
-            (All-push OfPlain (without id b.outstanding) (leased_piece i f) (left_plain b id k) both.0) both.1;
-        regions = k.regions;
-        emptied = k.emptied;
-      };
-}
-
-pub answer_plain : (b : BookData) (id : ℕ) (w : WorkData) (a : Answer) → IsPlainWhereStackIs b → MayCommit b id w
-    → (IsPlain w.piece.stack → IsPlainWork w) → w.step ≡ Settled a
-    → IsPlainWhereStackIs (record b {
-      outstanding = without id b.outstanding;
-      regions = b.regions ++ record { piece = w.piece; name = w.name; answer = a } ∷ [];
-      commits = b.commits + 1;
-    })
-answer_plain b id w a keeps m plain is = record {
-  book = λ h.
-      let k = keeps.book h in
-      record {
-        outstanding = left_plain b id k;
-        regions = All-push (λ (r : RegionData). IsPlainPiece r.piece) b.regions
-            (record { piece = w.piece; name = w.name; answer = a }) k.regions
-            (of_work b id w (Settled a) m plain is h).0;
-        emptied = k.emptied;
-      };
-}
-
--- no work of a plain stack is empty
-pub empty_plain : (b : BookData) (id : ℕ) (w : WorkData) → MayCommit b id w → (IsPlain w.piece.stack → IsPlainWork w)
-    → w.step ≡ Empty
-    → IsPlainWhereStackIs (record b {
-      outstanding = without id b.outstanding;
-      emptied = b.emptied ++ w.piece.name ∷ [];
-      commits = b.commits + 1;
-    })
-empty_plain b id w m plain is = record { book = λ h. absurd (of_work b id w Empty m plain is h).1 }

@@ -30,15 +30,7 @@ invariant_of-self-in-Split-1 c =
     let is : c.args.work.step ≡ Split c.in-Split.f.value c.in-Split.t.value =
     sym parts.step ∙ ap step_data c.in-Split.is in
     rw c.in_ok-split-in-Split.ensures.ok (split_book _ c.self.inside.next_id c.args.id c.args.work c.self.invariant
-    (rw (← c.self.view_is) at c.requires.may) (rw (← c.self.view_is) at c.requires.room) _ _
-    (record {
-      one = c.execution_has_one_result.ensures;
-      right = parts.right;
-      rule = parts.rule;
-      reached = parts.reached;
-      plain = parts.plain;
-      is = is;
-    }))
+    (rw (← c.self.view_is) at c.requires.may) (rw (← c.self.view_is) at c.requires.room) _ _ (search arith))
 
 pub returns-in_ok-split-in-Split-clause-ok : goal.returns-in_ok-split-in-Split-clause-ok
 returns-in_ok-split-in-Split-clause-ok c = grind (arith, common_steps, split_commits)
@@ -52,14 +44,7 @@ invariant_of-self-in-Settled c =
     rw (c.remove.ensures, c.in_ok-add-in-Settled.ensures.ok, c.of.ensures, parts.piece, name)
     (answer_book _ c.self.inside.next_id c.args.id c.args.work c.self.invariant
     (rw (← c.self.view_is) at c.requires.may) (rw (← c.self.view_is) at c.requires.room) c.in-Settled.answer
-    (record {
-      one = c.execution_has_one_result.ensures;
-      right = parts.right;
-      rule = parts.rule;
-      reached = parts.reached;
-      plain = parts.plain;
-      is = is;
-    }))
+    (search arith))
 
 pub invariant_of-self-in-Empty : goal.invariant_of-self-in-Empty
 invariant_of-self-in-Empty c =
@@ -67,12 +52,4 @@ invariant_of-self-in-Empty c =
     let is : c.args.work.step ≡ Empty = sym parts.step ∙ ap step_data c.in-Empty.is in
     rw (c.remove-in-Empty.ensures, c.in_ok-add-in-Empty.ensures.ok, parts.piece)
     (empty_book _ c.self.inside.next_id c.args.id c.args.work c.self.invariant
-    (rw (← c.self.view_is) at c.requires.may) (rw (← c.self.view_is) at c.requires.room)
-    (record {
-      one = c.execution_has_one_result.ensures;
-      right = parts.right;
-      rule = parts.rule;
-      reached = parts.reached;
-      plain = parts.plain;
-      is = is;
-    }))
+    (rw (← c.self.view_is) at c.requires.may) (rw (← c.self.view_is) at c.requires.room) (search arith))

@@ -8,8 +8,7 @@ invariant_of-self c =
     let at : piece_at c.self.inside.by_id.entries c.args.id ≡ Some c.in-Some.named.now = sym c.in-Some.ensures.value in
     let n = c.self.invariant.named c.args.id c.in-Some.named.now at in
     let e = rw n.1 at c.set_leased.ensures in
-    rw e (leased_maps c.self.inside.by_id.entries c.self.inside.by_name.entries c.args.id c.in-Some.named.now n.0 false
-    c.self.invariant at n.1)
+    rw e (leased_maps _ _ c.args.id c.in-Some.named.now n.0 false c.self.invariant at n.1)
 
 pub returns-in-Some : goal.returns-in-Some
 returns-in-Some c = search (arith, marked_view)
