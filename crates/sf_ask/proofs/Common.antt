@@ -1,5 +1,5 @@
 -- The names from elsewhere that the proofs of this crate cite, passed on from one place. Declares nothing.
-pub use Rattle.std.proofs.Common.{Bool, Err, IfOk, IsErrAnd, List, MatchBool, MatchResult, Ok, Result, Some, [], add-one, ap, arith, bit_and, bit_or, drop, eq-eqb, false, get_or, inl, inr, leb, length, ltb, map, min, not, refl, rules, set, subst, suc, sym, take, true, true≢false, vec_len, w64, zero, ℕ, ◌%◌, ◌*◌, ◌++◌, ◌+◌, ◌-◌, ◌/◌, ◌<◌, ◌^◌, ◌∙◌, ◌∷◌, ◌≡◌, ◌≤◌, ◌⊎◌}
+pub use Rattle.std.proofs.Common.{Bool, Err, IfOk, IsErrAnd, List, MatchBool, MatchResult, Ok, Result, Some, [], add-one, ap, arith, below_more, bit_and, bit_or, drop, eq-eqb, false, get_or, inl, inr, leb, length, ltb, map, min, not, refl, rules, set, subst, suc, sym, take, true, true≢false, vec_len, w64, zero, ℕ, ◌%◌, ◌*◌, ◌++◌, ◌+◌, ◌-◌, ◌/◌, ◌<◌, ◌^◌, ◌∙◌, ◌∷◌, ◌≡◌, ◌≤◌, ◌⊎◌}
 pub use Rattle.std.proofs.lemmas.Bool.{and_parts, cases_eq, cases_lt, eqb-true, leb-false, ltb-true}
 pub use Rattle.std.proofs.lemmas.Bool.Decides.{nat_tests}
 pub use Rattle.std.proofs.lemmas.Grind.{common_steps}
@@ -10,7 +10,7 @@ pub use Rattle.std.proofs.lemmas.List.FromFn.{get_or-map-range_with_len, length-
 pub use Rattle.std.proofs.lemmas.List.Sorted.{All-permutation, Contains-permutation, IsNonDecreasingBy-from_sort_by_key, IsPartitionPoint-from_clause, IsPartitionedBy-leb, IsPartitionedBy-ltb}
 pub use Rattle.std.proofs.lemmas.Nat.Bits.{bit_at-zero, bit_at_and, bit_at_set_other, bit_at_set_same}
 pub use Rattle.std.proofs.lemmas.Option.{get_or_from_slice_get, same_Some, slice_get_read, slice_get_within}
-pub use Rattle.std.proofs.lemmas.Result.{IfOk-at_ok, err_from_is_err_and}
+pub use Rattle.std.proofs.lemmas.Result.{IfOk-at_ok, IfOk-weaker, err_from_is_err_and}
 pub use Rattle.std.specs.Int.{bit_at}
 pub use Rattle.std.specs.Int.Bits.{and_zero_r}
 pub use Rattle.std.specs.List.{list_all, range_with_len}
@@ -23,7 +23,7 @@ pub use Rattle.sf_ask.specs.OneResult.{HaveOneVerdict, IsWholeFringe}
 pub use Rattle.sf_ask.specs.Probing.{AreProbes, HasProbe, IsProbeIn, IsRuledOut, LeaveNone, has_one_call}
 unfoldable pub use Rattle.sf_ask.specs.Probing.{IsRuledOutIfAsked}
 pub use Rattle.sf_ask.specs.QuestionBits.{bit_of, has_bit}
-pub use Rattle.sf_ask.specs.Searches.{CantTakeInMask, CantTakeInRange, CantTakeInWord, HasMaskBits, IsInBefore, IsInWordRange, IsOutside, IsRightSearch}
+pub use Rattle.sf_ask.specs.Searches.{CantTakeInMask, CantTakeInWord, HasMaskBits, IsInBefore, IsInWordRange, IsOutside, IsRightSearch}
 pub use Rattle.sf_ask.specs.Sheets.{IsRightOn, IsRightWhereGiven, clear_if_wanted, first_verdicts, is_clear_or_skipped, is_skipped, verdict_at}
 pub use Rattle.sf_ask.specs.Trying.{IsLeastInput, IsNumberBefore}
 pub use Rattle.sf_ask.specs.Verdicts.{IsBreakAt, IsDecisive, IsLowInput, IsMemberAt, IsRightVerdict, TellsTriedAt}

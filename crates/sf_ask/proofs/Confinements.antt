@@ -2,10 +2,6 @@
 use Rattle.sf_ask.proofs.Common.{common_steps, ◌≡◌, ℕ, zero, suc, ◌+◌, ◌<◌, ◌≤◌, inl, inr, Bool, true, false, List, length, set, refl, sym, ap, subst, ◌∙◌, arith, add-one, MatchBool, ◌==◌, Option, None, MatchOption, cases_eq, cases_lt, eqb-true, get_or-set_same, get_or-set_other, same_Some, Node, IsPool, node_at, Known, FactsView, Covers, known_at, TakesInBy, CantTakeInBy, IsPass, PassGives, IsReduction, ReductionGives, between, masked, met, forward_node, WritingGives, HaveOneResult, QuestionData, range_at, mask_at, is_whole, TakeInRange, TakeInMask, TakeInWord, TakeInBefore, CantTakeInQuestion, CantTakeInMask, CantTakeInWord, IsOutside}
 use Rattle.std.specs.Prelude.{Some}
 
-pub of-false : {B : Type 0} (A : Type 0) (b : Bool) → b ≡ false → MatchBool b A B → B
-of-false A true clash x = absurd cc
-of-false A false is x = x
-
 -- ---- one result
 
 module _ (laws : HaveOneResult) (ns : List Node) (pool : IsPool ns) where
@@ -33,17 +29,13 @@ module _ (laws : HaveOneResult) (ns : List Node) (pool : IsPool ns) where
   not-word : (q : QuestionData) (word : ℕ) (f g : FactsView) → CantTakeInWord q word ns f → TakeInWord q word ns f g
       → ⊥
   not-word q word f g (inl cant) takes =
-      laws.confines_not f takes.ranged ns word _ pool (of-false _ _ cant.0 takes.range) cant.1
+      laws.confines_not f takes.ranged ns word _ pool (rw cant.0 at takes.range) cant.1
   not-word q word f g (inr (ranged, range, cant)) takes =
       let same = subst (λ (x : FactsView). CantTakeInMask q word ns x)
       (same-step _ word _ f ranged takes.ranged range takes.range) cant in
-      laws.confines_not takes.ranged g ns word _ pool (of-false _ _ same.0 takes.mask) same.1
+      laws.confines_not takes.ranged g ns word _ pool (rw same.0 at takes.mask) same.1
 
 -- ---- one word
-
-pub to-false : {B : Type 0} (A : Type 0) (b : Bool) → b ≡ false → B → MatchBool b A B
-to-false A true clash x = absurd cc
-to-false A false is x = x
 
 pub is-other : (a b : ℕ) → (a ≡ b → ⊥) → (a == b) ≡ false
 is-other a b ne = grind (arith, common_steps, eqb-true)
@@ -54,7 +46,7 @@ pub mask-rule : (b : Bool) (q : QuestionData) (word : ℕ) (ns : List Node) (f g
     → MatchBool b (TakesInBy f g ns word (masked (mask_at q word).0 (mask_at q word).1))
     (CantTakeInBy f ns word (masked (mask_at q word).0 (mask_at q word).1))
     → MatchBool b (TakeInMask q word ns f g) (CantTakeInMask q word ns f)
-mask-rule true q word ns f g some h = to-false (g ≡ f) ((mask_at q word).0 == 0) some h
+mask-rule true q word ns f g some h = rw some h
 mask-rule false q word ns f g some h = (some, h)
 
 -- a word is taken in where its range was, and then its mask
@@ -207,14 +199,12 @@ cant-outside q word ns f l covers part out g all =
     let t = at-turn q 16 word ns f g l all in
     let a = before-within q word ns f t.old (omega arith) long covers.count t.before in
     let b = takes-more t.old t.takes.ranged ns word (between (range_at q word).0 (range_at q word).1) l long a.count
-    (of-false _ _ part t.takes.range) in
+    (rw part at t.takes.range) in
     crossed (known_at f.known word) (known_at t.old.known word) (known_at t.takes.ranged.known word) (a.each word l)
     (b.each word l) b.here b.ordered out
   where
     crossed : (x y z : Known) → IsWithin x y → IsWithin y z
         → IsWithin (between (range_at q word).0 (range_at q word).1) z → z.low ≤ z.high
         → IsOutside x (range_at q word).0 (range_at q word).1 → ⊥
-    crossed x y z a b c o (inl below) =
-        let p = a.high in let r = b.high in let s = c.low in omega arith
-    crossed x y z a b c o (inr above) =
-        let p = a.low in let r = b.low in let s = c.high in omega arith
+    crossed x y z a b c o (inl below) = omega (arith, a.high, b.high, c.low)
+    crossed x y z a b c o (inr above) = omega (arith, a.low, b.low, c.high)

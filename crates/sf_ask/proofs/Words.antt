@@ -1,14 +1,10 @@
 -- Facts confined to a question, word by word.
-use Rattle.sf_ask.proofs.Common.{common_steps, ◌≡◌, ℕ, ◌+◌, ◌<◌, ◌^◌, Bool, true, false, List, arith, sym, ap, subst, inl, inr, ◌∙◌, MatchBool, MatchResult, Result, Ok, Err, IfOk, IsErrAnd, slice_index, ◌==◌, cases_eq, and_parts, eqb-true, IfOk-at_ok, err_from_is_err_and, and_zero_r, Input, IsInput, Node, FactsView, Covers, known_at, AreNarrower, AreConfined, ConfinesWord, HasIn, LiesIn, KeepsOnly, NoInput, narrower-admits, agreeing-word, some-input, some-such, QuestionData, range_at, mask_at, is_whole, IsNumberOf, IsInQuestion, IsInWordRange, HasMaskBits, IsInBefore, IsOutside, IsNumberBefore}
+use Rattle.sf_ask.proofs.Common.{common_steps, ◌≡◌, ℕ, ◌+◌, ◌<◌, ◌^◌, Bool, true, false, List, arith, sym, ap, subst, inl, inr, ◌∙◌, MatchBool, MatchResult, Result, Ok, Err, IfOk, IsErrAnd, slice_index, ◌==◌, cases_eq, and_parts, eqb-true, IfOk-at_ok, err_from_is_err_and, and_zero_r, Input, IsInput, Node, FactsView, Covers, known_at, AreNarrower, AreConfined, ConfinesWord, HasIn, LiesIn, KeepsOnly, NoInput, narrower-admits, agreeing-word, some-input, some-such, QuestionData, range_at, mask_at, is_whole, IsNumberOf, IsInQuestion, IsInWordRange, HasMaskBits, IsInBefore, IsOutside, IsNumberBefore, below_more}
 use Rattle.std.specs.Prelude.{bit_and}
 
 pub of-true : {A : Type 0} (B : Type 0) (b : Bool) → b ≡ true → MatchBool b A B → A
 of-true B true e h = h
 of-true B false e h = cc
-
-pub map-ok : {X E : Type 0} (r : Result X E) (P Q : X → Type 0) → ((x : X) → P x → Q x) → IfOk r P → IfOk r Q
-map-ok (Ok x) P Q f h = f x h
-map-ok (Err e) P Q f h = h
 
 -- what holds of a result after `map_err` made another error of its error
 pub mapped-ok : {X E D : Type 0} {P Q : X → Type 0} (Post : E → D → Type 0) (r : Result X E) (s : Result X D)
@@ -47,17 +43,7 @@ again f g h ns one two both first second may_have of a b to_one to_two to_both j
     let only : KeepsOnly f h ns both = search arith in
     record {
       covers = b.covers;
-      narrower = record {
-        known = λ i l. let x = a.narrower.known i l in let y = b.narrower.known i (omega arith) in
-            let xl = x.low in let yl = y.low in let xh = x.high in let yh = y.high in
-            record {
-              low = omega arith;
-              high = omega arith;
-              zeros = λ j. omega (arith, x.zeros j, y.zeros j);
-              ones = λ j. omega (arith, x.ones j, y.ones j);
-            };
-        excluded = λ w m k. b.narrower.excluded w m (a.narrower.excluded w m k);
-      };
+      narrower = (grind (arith, common_steps));
       keeps = λ d i agrees passes. b.keeps d i (a.keeps d i agrees (to_one d passes)) (to_two d passes);
       only = only;
       some = some-such f h ns both b.covers only;
@@ -105,9 +91,7 @@ word-confines true q at f g h ns of a b = again f g h ns (HasIn at (IsInWordRang
     (λ word n. word ≡ at → IsNumberOf q at n) of a b (λ d n. (n.above, n.below)) (λ d n. n.masked)
     (λ d r m. record { above = r.0; below = r.1; masked = m })
     (λ word n w r m same. let l = r same in record { above = l.0; below = l.1; masked = m same })
-word-confines false q at f g h ns of a none = none-again f g ns (HasIn at (IsInWordRange q at))
-    (HasIn at (HasMaskBits q at)) (HasIn at (IsNumberOf q at)) (λ word n. word ≡ at → IsInWordRange q at n) a none
-    (λ d n. (n.above, n.below)) (λ d n. n.masked)
+word-confines false q at f g h ns of a none = grind (arith, common_steps, none-again)
 
 -- where what is known of a word leaves no number of its range, no input is in the question
 pub outside-range : (q : QuestionData) (at : ℕ) (f : FactsView) (ns : List Node) → at < 16
@@ -130,10 +114,7 @@ before-more q at f g h ns of a b = again f g h ns (IsInBefore q at) (HasIn at (I
     (IsInBefore q (at + 1)) (IsNumberBefore q at) (λ word n. word ≡ at → IsNumberOf q at n)
     (IsNumberBefore q (at + 1)) of a b
     (λ d all word l. all word (omega arith)) (λ d all. all at (omega arith))
-    (λ d all here word l. elim (cases_eq word at) [
-      | inl same ↦ subst (λ (i : ℕ). HasIn i (IsNumberOf q i) d) (sym same) here
-      | inr other ↦ all word (omega arith)
-    ])
+    (λ d all here. below_more (λ word. IsNumberOf q word (slice_index d.words word)) at all here)
     (λ word n w early here l. elim (cases_eq word at) [
       | inl same ↦ subst (λ (i : ℕ). IsNumberOf q i n) (sym same) (here same)
       | inr other ↦ early (omega arith)

@@ -3,19 +3,7 @@
 -- be, the verdict is clear. If they can, one input is tried: it has in each word the least number that the confined
 -- facts leave. The verdict is a hit where this input is a member of the region, and a doubt where it isn't.
 use Rattle.std.specs.Prelude.{◌≡◌, ℕ, zero, suc, ◌<◌, ◌==◌, ◌⊎◌, Bool, true, false, List, [], length, Some, slice_get, MatchBool}
-use Rattle.sf_insn.specs.declared.input.Input.{Input}
-use Rattle.sf_sym.specs.declared.pool.Node.{Node}
-use Rattle.sf_dom.specs.Facts.{FactsView}
-use Rattle.sf_dom.specs.Learning.{TakesInBy}
-use Rattle.sf_dom.specs.Rules.{between, masked}
-use Rattle.sf_piece.specs.Pieces.{PieceData, is_member}
-use Rattle.sf_book.specs.Books.{RegionData, BookData}
-use Rattle.sf_ask.specs.declared.verdict.Verdict.{Verdict}
-use Rattle.sf_ask.specs.declared.verdict.Verdict.TheVariants.{Clear, Hit, Doubt}
-use Rattle.sf_ask.specs.declared.verdict.Reply.{Reply}
-use Rattle.sf_ask.specs.declared.verdict.Reply.TheVariants.{Never, Allowed, Unsettled}
-use Rattle.sf_question.specs.Actions.{has_action}
-use Rattle.sf_question.specs.QuestionData.{QuestionData, range_at, mask_at, is_whole}
+use Rattle.sf_ask.specs.Common.{Input, Node, FactsView, TakesInBy, between, masked, PieceData, is_member, RegionData, BookData, Verdict, Clear, Hit, Doubt, Reply, Never, Allowed, Unsettled, has_action, QuestionData, range_at, mask_at, is_whole}
 use Rattle.sf_ask.specs.Trying.{IsLeastInput}
 
 -- facts take in that a word lies in its range; a range that leaves no number out changes nothing

@@ -1,3 +1,4 @@
+pub mod Common
 pub mod QuestionBits
 pub mod Trying
 pub mod Judging

@@ -1,7 +1,6 @@
 -- What a search for a member of a piece finds by the rules, where no question is asked.
 use Rattle.std.specs.Prelude.{◌≡◌, Bool, true, false, Option, Some, None}
-use Rattle.sf_insn.specs.declared.input.Input.{Input}
-use Rattle.sf_piece.specs.Pieces.{PieceData, is_member}
+use Rattle.sf_ask.specs.Common.{Input, PieceData, is_member}
 use Rattle.sf_ask.specs.Trying.{IsLeastInput}
 
 -- the least input that the piece's facts leave is d, and `found` says whether d is a member

@@ -1,11 +1,6 @@
 -- What the rules promise, said of the rules alone: a region has one verdict, and a question one reply.
 use Rattle.std.specs.Prelude.{◌≡◌, []}
-use Rattle.sf_sym.specs.Pool.{IsPool}
-use Rattle.sf_book.specs.Books.{RegionData, BookData, IsSettled}
-use Rattle.sf_book.specs.Unfoldings.{IsFringe}
-use Rattle.sf_ask.specs.declared.verdict.Verdict.{Verdict}
-use Rattle.sf_ask.specs.declared.verdict.Reply.{Reply}
-use Rattle.sf_question.specs.QuestionData.{QuestionData}
+use Rattle.sf_ask.specs.Common.{IsPool, RegionData, BookData, IsSettled, IsFringe, Verdict, Reply, QuestionData}
 use Rattle.sf_ask.specs.Judging.{HasVerdict, HasReply}
 
 -- a region has one verdict on each question

@@ -1,16 +1,8 @@
 -- Probes: which calls questions are about, and which questions the facts of a region rule out at once.
 use Rattle.std.specs.Prelude.{◌≡◌, ◌==◌, ℕ, ◌<◌, ◌⊎◌, Bool, true, false, List, length, Some, slice_get, All, Contains}
-use Rattle.std.specs.List.Sorted.{IsNonDecreasingBy}
-use Rattle.sf_run.specs.declared.action.Action.{Action}
-use Rattle.sf_sym.specs.declared.pool.Node.{Node}
-use Rattle.sf_dom.specs.Facts.{FactsView, Covers, NoInput}
-use Rattle.sf_question.specs.Actions.{has_action}
-use Rattle.sf_question.specs.Breaking.{IsInQuestion}
+use Rattle.sf_ask.specs.Common.{IsNonDecreasingBy, Action, Node, FactsView, Covers, NoInput, has_action, IsInQuestion, QuestionData, range_at, Probe, Probes}
 use Rattle.sf_ask.specs.Judging.{CantTakeInQuestion}
 use Rattle.sf_ask.specs.QuestionBits.{has_bit}
-use Rattle.sf_question.specs.QuestionData.{QuestionData, range_at}
-use Rattle.sf_ask.specs.declared.probe.Probe.{Probe}
-use Rattle.sf_ask.specs.declared.probe.Probes.{Probes}
 
 -- a probe has the place of a question, and this question's range for the first word, the call's number
 pub record IsProbeIn (questions : List QuestionData) (p : Probe) : Type 0 where

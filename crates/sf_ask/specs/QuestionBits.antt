@@ -1,6 +1,6 @@
 -- Questions as bits of four words.
 use Rattle.std.specs.Prelude.{ℕ, ◌/◌, ◌%◌, ◌==◌, Bool, List, slice_index}
-use Rattle.std.specs.Int.{bit_at}
+use Rattle.sf_ask.specs.Common.{bit_at}
 
 -- the bit of question q in four words of 64 bits: bit q % 64 of word q / 64
 abbrev pub bit_of : List ℕ → ℕ → ℕ

@@ -1,17 +1,6 @@
 -- What the search for a member in a question does, step by step, for contracts between functions of this crate.
 use Rattle.std.specs.Prelude.{◌≡◌, ◌==◌, ◌⊎◌, ℕ, ◌<◌, ◌≤◌, true, false, List, slice_index}
-use Rattle.sf_insn.specs.declared.input.Input.{Input}
-use Rattle.sf_insn.specs.Inputs.{IsInput}
-use Rattle.sf_sym.specs.declared.pool.Node.{Node}
-use Rattle.sf_dom.specs.declared.known.Known.{Known}
-use Rattle.sf_dom.specs.Facts.{FactsView, LiesIn, HasMasked}
-use Rattle.sf_dom.specs.Learning.{CantTakeInBy}
-use Rattle.sf_dom.specs.Rules.{between, masked}
-use Rattle.sf_piece.specs.Pieces.{PieceData, is_member}
-use Rattle.sf_ask.specs.declared.verdict.Verdict.{Verdict}
-use Rattle.sf_ask.specs.declared.verdict.Verdict.TheVariants.{Clear, Hit, Doubt}
-use Rattle.sf_question.specs.QuestionData.{QuestionData, range_at, mask_at, is_whole}
-use Rattle.sf_question.specs.Breaking.{IsNumberOf, IsInQuestion}
+use Rattle.sf_ask.specs.Common.{Input, IsInput, Node, Known, FactsView, LiesIn, HasMasked, CantTakeInBy, between, masked, PieceData, is_member, Verdict, Clear, Hit, Doubt, QuestionData, range_at, mask_at, is_whole, IsNumberOf, IsInQuestion}
 use Rattle.sf_ask.specs.Judging.{TakeInRange}
 use Rattle.sf_ask.specs.Trying.{IsTried}
 use Rattle.sf_ask.specs.Verdicts.{IsLowInput}

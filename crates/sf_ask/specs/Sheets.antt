@@ -1,13 +1,7 @@
 -- Sheets of verdicts: what contracts see of one, and when it is right.
 use Rattle.std.specs.Prelude.{◌≡◌, ℕ, if◌then◌else◌, ◌<◌, not, Bool, true, false, List, length, map, Option, Some, None, slice_get, slice_index_or}
-use Rattle.std.specs.List.{range_with_len}
-use Rattle.sf_insn.specs.declared.input.Input.{Input}
-use Rattle.sf_check.specs.Stacks.{IsPlain}
-use Rattle.sf_book.specs.Books.{BookData}
-use Rattle.sf_ask.specs.declared.verdict.Verdict.{Verdict}
-use Rattle.sf_ask.specs.declared.verdict.Verdict.TheVariants.{Clear, Hit, Doubt}
+use Rattle.sf_ask.specs.Common.{range_with_len, Input, IsPlain, BookData, Verdict, Clear, Hit, Doubt, QuestionData}
 use Rattle.sf_ask.specs.QuestionBits.{has_bit}
-use Rattle.sf_question.specs.QuestionData.{QuestionData}
 use Rattle.sf_ask.specs.Judging.{HasVerdictAt}
 use Rattle.sf_ask.specs.Verdicts.{IsRightVerdict, TellsTriedAt, IsDecisive}
 

@@ -1,12 +1,7 @@
 -- Which input is tried of a piece: it has in each word the least number that the piece's facts, confined to the
 -- question, leave.
 use Rattle.std.specs.Prelude.{◌≡◌, ℕ, ◌<◌, slice_index}
-use Rattle.sf_insn.specs.declared.input.Input.{Input}
-use Rattle.sf_insn.specs.Inputs.{IsInput}
-use Rattle.sf_dom.specs.Facts.{FactsView, AreConfined, known_at}
-use Rattle.sf_piece.specs.Pieces.{PieceData}
-use Rattle.sf_question.specs.QuestionData.{QuestionData}
-use Rattle.sf_question.specs.Breaking.{IsNumberOf, IsInQuestion}
+use Rattle.sf_ask.specs.Common.{Input, IsInput, FactsView, AreConfined, known_at, PieceData, QuestionData, IsNumberOf, IsInQuestion}
 
 -- where the word stands before the place `end`, the number is one that the question leaves for it
 abbrev pub IsNumberBefore : QuestionData → ℕ → ℕ → ℕ → Type 0

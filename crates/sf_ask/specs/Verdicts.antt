@@ -1,16 +1,6 @@
 -- When a verdict on a region, and a reply to a question, are right.
 use Rattle.std.specs.Prelude.{◌≡◌, ℕ, ◌<◌, ◌≤◌, true, false, [], Some, slice_get, slice_index}
-use Rattle.sf_insn.specs.declared.input.Input.{Input}
-use Rattle.sf_insn.specs.Inputs.{IsInput}
-use Rattle.sf_piece.specs.Pieces.{is_member}
-use Rattle.sf_book.specs.Books.{RegionData, BookData}
-use Rattle.sf_ask.specs.declared.verdict.Verdict.{Verdict}
-use Rattle.sf_ask.specs.declared.verdict.Verdict.TheVariants.{Clear, Hit, Doubt}
-use Rattle.sf_ask.specs.declared.verdict.Reply.{Reply}
-use Rattle.sf_ask.specs.declared.verdict.Reply.TheVariants.{Never, Allowed, Unsettled}
-use Rattle.sf_question.specs.Actions.{has_action}
-use Rattle.sf_question.specs.QuestionData.{QuestionData}
-use Rattle.sf_question.specs.Breaking.{IsNumberOf, IsInQuestion, Breaks}
+use Rattle.sf_ask.specs.Common.{Input, IsInput, is_member, RegionData, BookData, Verdict, Clear, Hit, Doubt, Reply, Never, Allowed, Unsettled, has_action, QuestionData, IsNumberOf, IsInQuestion, Breaks}
 use Rattle.sf_ask.specs.Trying.{IsTried}
 
 -- the low input of a question: it has in each word the least number that the question leaves for it

@@ -13,9 +13,7 @@ module _ (tree : IsExecutionOne) (verdict : HaveOneVerdict) (s t : BookData) (q 
   hit-or-none place d a (inr b) = let e : Hit d ≡ Doubt = one-at place (Hit d) Doubt a b in absurd cc
 
   within : (place : ℕ) (v : Verdict) → HasVerdictAt s place q v → place < length t.regions
-  within place v a =
-      let l = slice_get_within s.regions place a.region a.there in
-      let count = ap length same in omega arith
+  within place v a = omega (arith, slice_get_within s.regions place a.region a.there, ap length same)
 
   allowed-or-never : (d : Input) → HasReply s q (Allowed d) → HasReply t q Never → ⊥
   allowed-or-never d a b = hit-or-none a.0 d a.1 (inl (b.1 a.0 (within a.0 (Hit d) a.1)))

@@ -1,5 +1,5 @@
 -- Probes of questions, and the questions that ask about an action.
-use Rattle.sf_ask.proofs.Common.{common_steps, ◌≡◌, ℕ, zero, suc, ◌+◌, ◌-◌, ◌<◌, ◌≤◌, ltb, leb, eq-eqb, min, ◌⊎◌, inl, inr, true, false, List, [], ◌∷◌, ◌++◌, length, take, drop, get_or, Some, refl, sym, ap, ◌∙◌, arith, ◌==◌, if◌then◌else◌, All, slice_get, slice_range, Contains, IsPermutation, IsPartitionPoint, ltb-true, leb-false, eqb-true, cases_lt, length-take-le, length-drop, get_or-take, get_or-drop, All-more, All-push, Contains-push, Contains-append_left, All-permutation, Contains-permutation, dite, ℕ_discrete, Action, FactsView, known_at, IsOutside, IsRuledOut, IsRuledOutIfAsked, IsProbeIn, has_one_call, HasProbe, AreProbes, bit_of, has_bit, QuestionData, range_at, is_whole, Probe}
+use Rattle.sf_ask.proofs.Common.{common_steps, ◌≡◌, ℕ, zero, suc, ◌+◌, ◌-◌, ◌<◌, ◌≤◌, ltb, leb, eq-eqb, min, ◌⊎◌, inl, inr, true, false, List, [], ◌∷◌, ◌++◌, length, take, drop, get_or, Some, refl, sym, ◌∙◌, arith, ◌==◌, if◌then◌else◌, All, slice_get, slice_range, Contains, IsPermutation, IsPartitionPoint, ltb-true, leb-false, eqb-true, cases_lt, length-take-le, length-drop, get_or-take, get_or-drop, All-more, All-push, Contains-push, Contains-append_left, All-permutation, Contains-permutation, dite, ℕ_discrete, Action, FactsView, known_at, IsOutside, IsRuledOut, IsRuledOutIfAsked, IsProbeIn, has_one_call, HasProbe, AreProbes, bit_of, has_bit, QuestionData, range_at, is_whole, Probe}
 use Rattle.sf_ask.proofs.Words.{outside-range}
 use Rattle.sf_ask.proofs.Confinements.{cant-outside}
 
@@ -85,12 +85,7 @@ found-between probes low high from to starts ends inside p there above below =
     let i : ℕ = k - m in
     let long : length (slice_range probes m to) ≡ to - m =
     length-take-le (to - m) (drop m probes) (let d = length-drop m probes in omega arith) in
-    let back : m + i ≡ k = omega arith in (
-      i,
-      omega arith,
-      get_or-take (to - m) (drop m probes) i p (omega arith) ∙ get_or-drop m probes i p
-          ∙ ap (λ x. get_or probes x p) back ∙ there.2,
-    )
+    let back : m + i ≡ k = omega arith in (search (arith, get_or-take, get_or-drop))
 
 -- ---- bits that are set
 

@@ -1,11 +1,7 @@
 -- Where nothing is outstanding, each input is a member of some region.
 use Rattle.std.proofs.Common.{◌≡◌, ℕ, zero, suc, ◌<◌, List, [], ◌∷◌, ◌++◌, map, length, Some, slice_get, sym, refl, ap, ◌∙◌}
 use Rattle.std.proofs.lemmas.Option.{slice_get_within}
-use Rattle.sf_insn.specs.declared.input.Input.{Input}
-use Rattle.sf_insn.specs.Inputs.{IsInput}
-use Rattle.sf_piece.specs.Pieces.{PieceData, is_member}
-use Rattle.sf_book.specs.Books.{OutstandingData, RegionData, BookData, IsSettled}
-use Rattle.sf_book.specs.Partition.{parts_of, LiesInOne}
+use Rattle.sf_ask.specs.Common.{Input, IsInput, PieceData, is_member, OutstandingData, RegionData, BookData, IsSettled, parts_of, LiesInOne}
 use Rattle.sf_book.specs.laws.PartitionLaws.{lies_in_one}
 use Rattle.sf_ask.specs.Verdicts.{IsMemberAt}
 

@@ -2,15 +2,9 @@
 use Rattle.std.proofs.Common.{◌≡◌, ℕ, List, [], length, Some, slice_get, sym, ◌∙◌, ap, subst}
 use Rattle.std.proofs.lemmas.List.Sorted.{length_permutation}
 use Rattle.std.proofs.lemmas.Option.{same_Some, slice_get_within, get_or_from_slice_get}
-use Rattle.sf_sym.specs.Pool.{IsPool}
-use Rattle.sf_piece.specs.OneExecution.{IsExecutionOne}
-use Rattle.sf_run.specs.declared.counts.Counts.{Counts}
-use Rattle.sf_book.specs.Books.{RegionData, BookData, counts_of}
-use Rattle.sf_ask.specs.declared.verdict.Verdict.{Verdict}
+use Rattle.sf_ask.specs.Common.{IsPool, IsExecutionOne, Counts, RegionData, BookData, counts_of, Verdict, QuestionData, HaveOneOutcome, IsFringe, IsRegionOf}
 use Rattle.sf_ask.specs.Judging.{HasVerdict, HasVerdictAt}
 use Rattle.sf_ask.specs.OneResult.{HaveOneVerdict}
-use Rattle.sf_question.specs.QuestionData.{QuestionData}
-use Rattle.sf_book.specs.Unfoldings.{HaveOneOutcome, IsFringe, IsRegionOf}
 
 -- the pool of a region's piece is lawful
 pub lawful_pool : IsExecutionOne → (s : BookData) → IsFringe s → (place : ℕ) (r : RegionData)

@@ -1,6 +1,6 @@
 -- What the bits of questions tell.
 use Rattle.std.proofs.Common.{◌≡◌, ℕ, zero, suc, ◌/◌, ◌%◌, ◌<◌, [], ◌∷◌, slice_index, refl, ap, ◌∙◌, arith}
-use Rattle.std.specs.Int.{bit_at}
+use Rattle.sf_ask.specs.Common.{bit_at}
 use Rattle.std.proofs.lemmas.Nat.Bits.{bit_at_ones}
 use Rattle.sf_ask.specs.QuestionBits.{bit_of}
 

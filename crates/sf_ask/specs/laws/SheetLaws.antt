@@ -1,9 +1,6 @@
 -- What the verdicts of a right sheet tell.
 use Rattle.std.proofs.Common.{◌≡◌, ℕ, true, List, Option, Some, None}
-use Rattle.sf_book.specs.Books.{BookData}
-use Rattle.sf_ask.specs.declared.verdict.Verdict.{Verdict}
-use Rattle.sf_ask.specs.declared.verdict.Verdict.TheVariants.{Clear, Hit, Doubt}
-use Rattle.sf_question.specs.QuestionData.{QuestionData}
+use Rattle.sf_ask.specs.Common.{BookData, Verdict, Clear, Hit, Doubt, QuestionData}
 use Rattle.sf_ask.specs.Sheets.{is_hit, HasHit, IsRightWhereGiven}
 
 -- a verdict that is given and is a hit

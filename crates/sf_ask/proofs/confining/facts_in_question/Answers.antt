@@ -1,6 +1,6 @@
 use Rattle.sf_ask.proofs.Common.{◌≡◌, arith}
 use Rattle.sf_ask.proofs.Words.{mapped-at, of-true, before-none, before-more, before-all}
-use Rattle.sf_ask.proofs.Confinements.{none-before, one-more, of-false, cant-at-turn}
+use Rattle.sf_ask.proofs.Confinements.{none-before, one-more, cant-at-turn}
 use Rattle.sf_ask.proofs.confining.facts_in_question.Goals as goal
 
 pub loop-word-init : goal.loop-word-init
@@ -8,10 +8,7 @@ loop-word-init c =
     let same : c.in_ok-confined.confined ≡ c.args.facts.now =
     mapped-at _ _ c.fork.result c.map_err.result c.in_ok-confined.confined c.map_err.ensures.cases c.fork.ensures
     c.in_ok-confined.was in
-    rw same (record {
-      confined = before-none c.args.question.now c.args.facts.now c.args.pool.now c.requires;
-      rule = none-before c.args.question.now c.args.pool.now c.args.facts.now;
-    })
+    rw same ((search (arith, before-none, none-before)))
 
 pub loop-word-preserved : goal.loop-word-preserved
 loop-word-preserved c =
@@ -34,4 +31,4 @@ pub returns-then-not-branch-clause-rule : goal.returns-then-not-branch-clause-ru
 returns-then-not-branch-clause-rule c =
     cant-at-turn c.rules_have_one_result.ensures c.args.pool.now c.requires.pool c.args.question.now c.loop-word.word
     c.args.facts.now c.loop-word.confined c.loop-word-test.true c.loop-word.invariant.rule
-    (of-false _ c.in_ok-confine_word.field-0 c.if-not-branch.true c.in_ok-confine_word.ensures.rule)
+    (rw c.if-not-branch.true at c.in_ok-confine_word.ensures.rule)

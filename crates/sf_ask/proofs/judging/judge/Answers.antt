@@ -1,5 +1,4 @@
-use Rattle.sf_ask.proofs.Common.{common_steps, arith, sym, ◌∙◌}
-use Rattle.sf_ask.proofs.Words.{map-ok}
+use Rattle.sf_ask.proofs.Common.{common_steps, arith, sym, ◌∙◌, IfOk-weaker}
 use Rattle.sf_ask.proofs.Searching.{not-asked, region-right}
 use Rattle.sf_ask.proofs.judging.judge.Goals as goal
 
@@ -11,4 +10,4 @@ returns-then-not-has-clause-right c =
     (rw (c.actions.ensures, c.answer.ensures) at (sym c.has.ensures ∙ c.if-not-has.true))
 
 pub returns-clause-right : goal.returns-clause-right
-returns-clause-right c = grind (arith, common_steps, map-ok, region-right)
+returns-clause-right c = grind (arith, common_steps, IfOk-weaker, region-right)
