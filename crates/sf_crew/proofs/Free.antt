@@ -1,10 +1,6 @@
 -- Pieces on lease through a turn.
-use Rattle.sf_crew.proofs.Common.{common_steps, ◌≡◌, ◌≢◌, ℕ, ◌<◌, ◌==◌, Bool, true, false, true≢false, not, cond, List, [], ◌∷◌, ◌++◌, length, map, Option, Some, None, MatchOption, MatchBool, eq-eqb, refl, ◌∙◌, ap, arith, inl, eqb-true, nat_tests, arc_value, All-head, All-tail, All-append, All-cons, All-nil, All-map, All-weaker, PieceData, StepData, WorkData, Split, Settled, Empty, OutstandingData, BookData, IsLawfulBook, IsOutstanding, Lease, IsExhausted, IsFree, MayWork, TakesTurn}
+use Rattle.sf_crew.proofs.Common.{common_steps, ◌≡◌, ℕ, ◌<◌, ◌==◌, Bool, true, false, true≢false, not, cond, List, [], ◌∷◌, ◌++◌, length, map, Option, Some, None, MatchOption, MatchBool, eq-eqb, refl, ◌∙◌, ap, arith, inl, eqb-true, nat_tests, arc_value, All-head, All-tail, All-append, All-cons, All-nil, All-map, All-weaker, PieceData, StepData, WorkData, Split, Settled, Empty, OutstandingData, BookData, IsLawfulBook, IsOutstanding, Lease, IsExhausted, IsFree, MayWork, TakesTurn, outstanding_at, with_lease_at, with_lease, without, CommitsAs, Leases, MayCommit, Refuses, Fault, Foreign, Stale, Spent, Memory, all_at, leased_at}
 use Rattle.std.specs.List.{All}
-use Rattle.sf_book.specs.Changes.{outstanding_at, with_lease_at, with_lease, without, CommitsAs, Leases, MayCommit, Refuses}
-use Rattle.sf_book.specs.declared.fault.Fault.{Fault}
-use Rattle.sf_book.specs.declared.fault.Fault.TheVariants.{Foreign, Stale, Spent, Memory}
-use Rattle.sf_book.specs.laws.ChangesLaws.{all_at, leased_at}
 
 -- where something is outstanding, a book is exhausted where its commits are spent, and only there
 pub exhausted_by_commits : (s : BookData) → (length s.outstanding ≡ 0 → ⊥)
@@ -63,12 +59,7 @@ pub may_commit : (b : BookData) (x : Lease) (w : WorkData) → IsLawfulBook b �
 may_commit b x w h m is =
     let e : OutstandingData = record { id = x.id; piece = arc_value x.piece; leased = true } in
     let o : IsOutstanding b.stack e = all_at (IsOutstanding b.stack) b.outstanding x.id e h.outstanding m.there in
-    record {
-      same_stack = ap (λ (q : PieceData). q.stack) is ∙ o.of;
-      under_id = e;
-      there = m.there;
-      same_name = ap (λ (q : PieceData). q.name) is;
-    }
+    (search arith)
 
 -- a commit that may be made within the budget is refused nothing but memory
 pub only_memory : (b : BookData) (id : ℕ) (w : WorkData) (f : Fault) → MayCommit b id w → b.commits < b.budget

@@ -1,7 +1,7 @@
 -- Each step of a handle keeps the rule of the bench.
-use Rattle.sf_crew.proofs.Common.{◌≡◌, ◌≢◌, ℕ, zero, suc, ◌+◌, ◌-◌, ◌<◌, ◌≤◌, min, List, [], ◌∷◌, ◌++◌, All, get_or, length, drop, set, slice_get, Option, Some, None, MatchOption, Result, Ok, Err, MatchResult, sym, refl, ap, ◌∙◌, subst, append_assoc, append-nil, length-append, length-drop, length-set, arith, some, some-ne-none, get_elem?, length-map, drop-append-le, All-nil, All-cons, All-push, All-tail, at_lt, Pushes, Takes, Finds, FindsFew, Forks, Learns, MatchSteal, Steal, Event, Put, Got, End, HandleView, handle_view, new_view, handle_of, put_items, getters, got_count, handle_end, IsLawfulFrom, IsLawfulHistory, FitsEnd, HasHistory, own_number, with_own, view_after, AllGot, numbers_of, KeepsHandles, Sits, BenchKept, PutsAll, GetsAll, WereLeft, owner_with_thief, new_thief_view, common_steps}
+use Rattle.sf_crew.proofs.Common.{◌≡◌, ◌≢◌, ℕ, zero, suc, ◌+◌, ◌-◌, ◌<◌, ◌≤◌, min, List, [], ◌∷◌, ◌++◌, All, get_or, length, drop, set, slice_get, Option, Some, None, MatchOption, Result, Ok, Err, MatchResult, sym, refl, ap, ◌∙◌, subst, append_assoc, append-nil, length-append, length-drop, length-set, arith, some, some-ne-none, get_elem?, length-map, drop-append-le, All-nil, All-cons, All-push, All-tail, at_lt, Pushes, Takes, Finds, FindsFew, Forks, Learns, MatchSteal, Steal, Event, Put, Got, End, HandleView, handle_view, new_view, handle_of, put_items, getters, got_count, handle_end, IsLawfulFrom, IsLawfulHistory, FitsEnd, HasHistory, own_number, with_own, view_after, AllGot, numbers_of, KeepsHandles, Sits, BenchKept, PutsAll, GetsAll, WereLeft, owner_with_thief, new_thief_view, common_steps, Success, Retry}
 use Rattle.sf_crew.proofs.Totals.{set_each, snoc_each}
-use Rattle.crossbeam_deque.specs.declared.steal.Steal.TheVariants.{Empty, Success, Retry}
+use Rattle.crossbeam_deque.specs.declared.steal.Steal.TheVariants.{Empty}
 
 module _ {T : Type 0} where
   -- no step of these was made by the handle i
@@ -82,12 +82,7 @@ module _ {T : Type 0} where
   -- the view of a handle that has made no step
   new_sits : (home : ℕ → ℕ) (port : ℕ) (h : List (Event T)) (i n : ℕ) → i ≡ port → home i ≡ port → NotBy i h
       → Sits h home port (new_view i n)
-  new_sits home port h i n own at none = record {
-    fits = All-cons (FitsEnd h) (handle_end i []) [] (h, refl, none) (All-nil (FitsEnd h));
-    at = All-cons (λ (o : End T). home o.number ≡ port) (handle_end i []) [] at
-        (All-nil (λ (o : End T). home o.number ≡ port));
-    own = (own, All-nil (λ (o : End T). o.number ≢ port));
-  }
+  new_sits home port h i n own at none = (search (arith, All-nil, All-cons))
 
   -- one more event, of this handle
   grown : (items rest : List T) (views : List (HandleView T)) (port : ℕ) (v : HandleView T) (e : Event T)

@@ -46,9 +46,8 @@ total_only f g (x ∷ xs) (suc port) v h at e = let fs = sum_by-cons f x xs in l
 pub total_le : (f g : View → ℕ) (views : List View)
     → ((port : ℕ) (v : View) → get_elem? views port ≡ some v → f v ≤ g v) → sum_by f views ≤ sum_by g views
 total_le f g [] h = omega arith
-total_le f g (x ∷ xs) h = let fs = sum_by-cons f x xs in let gs = sum_by-cons g x xs in
-    let here : f x ≤ g x = h 0 x refl in
-    let rest = total_le f g xs (λ j v at. h (suc j) v at) in omega arith
+total_le f g (x ∷ xs) h =
+    omega (arith, sum_by-cons f x xs, sum_by-cons g x xs, h 0 x refl, total_le f g xs (λ j v at. h (suc j) v at))
 
 pub top_set : (f : View → ℕ) (views : List View) (port : ℕ) (v w : View) → get_elem? views port ≡ some v → f v ≤ f w
     → top f (set views port w) ≡ max (top f views) (f w)

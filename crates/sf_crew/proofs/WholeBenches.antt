@@ -1,6 +1,5 @@
 -- Where all handles are joined there is just one history.
-use Rattle.sf_crew.proofs.Common.{◌≡◌, ◌≢◌, ℕ, zero, suc, ◌+◌, ◌<◌, ◌⊎◌, List, [], ◌∷◌, ◌++◌, Any, Contains, length, Option, Some, None, MatchOption, sym, refl, ap, ◌∙◌, subst, inl, inr, ⊎_elim, append_assoc, append-nil, length-append, arith, nil_from_length, same_from_push, All-pop, slice_get_past, Event, End, HandleView, handle_of, put_items, got_count, first_left, FitsEnd, HasHistory, numbers_of, AllGot, IsWhole, IsKnownFirst, GetsAll}
-use Rattle.crossbeam_deque.proofs.Shelves.{last_of_some}
+use Rattle.sf_crew.proofs.Common.{◌≡◌, ◌≢◌, ℕ, zero, suc, ◌+◌, ◌<◌, ◌⊎◌, List, [], ◌∷◌, ◌++◌, Any, Contains, length, Option, Some, None, MatchOption, sym, refl, ap, ◌∙◌, subst, inl, inr, ⊎_elim, append_assoc, append-nil, length-append, arith, nil_from_length, same_from_push, All-pop, slice_get_past, Event, End, HandleView, handle_of, put_items, got_count, first_left, FitsEnd, HasHistory, numbers_of, AllGot, IsWhole, IsKnownFirst, GetsAll, last_of_some}
 
 module _ {T : Type 0} where
   -- a list is empty or has a last element

@@ -1,7 +1,5 @@
 -- What a worker's turn does to the handles of benches.
-use Rattle.sf_crew.proofs.Common.{common_steps, ◌≡◌, ◌⊎◌, ℕ, ◌<◌, List, arith, get_or, set, slice_get, length, Some, ap, ◌∙◌, arc_value, some_pair_parts, slice_get-map, slice_get-get_or, map-set, MatchSteal, Steal, StepData, Split, Settled, Empty, children_of, Lease, HandleView, Thief, GetsFirst, AllGot, thief_view, thief_views, GetsOne, PutsOrNot, PutsChildren}
-use Rattle.std.specs.Option.{option_map}
-use Rattle.std.proofs.Math.Seq.{map-set_same}
+use Rattle.sf_crew.proofs.Common.{common_steps, ◌≡◌, ◌⊎◌, ℕ, ◌<◌, List, arith, get_or, set, slice_get, length, Some, ap, ◌∙◌, arc_value, some_pair_parts, slice_get-map, slice_get-get_or, map-set, MatchSteal, Steal, StepData, Split, Settled, Empty, children_of, Lease, HandleView, Thief, GetsFirst, AllGot, thief_view, thief_views, GetsOne, PutsOrNot, PutsChildren, option_map, map-set_same}
 use Rattle.crossbeam_deque.specs.declared.steal.Steal.TheVariants as steal
 
 -- both pieces of a split were put

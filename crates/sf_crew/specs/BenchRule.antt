@@ -1,10 +1,6 @@
 -- The rule of a bench, which each step of a handle keeps.
 use Rattle.std.specs.Prelude.{◌≡◌, ◌≢◌, ℕ, ◌+◌, ◌<◌, ◌≤◌, List, [], ◌∷◌, All, length, drop}
-use mathlib.Core.Option.{some}
-use lib.ListN.{get_elem?}
-use Rattle.sf_crew.specs.declared.benches.history.Event.{Event}
-use Rattle.sf_crew.specs.declared.benches.history.End.{End}
-use Rattle.sf_crew.specs.declared.benches.history.HandleView.{HandleView}
+use Rattle.sf_crew.specs.Common.{some, get_elem?, Event, End, HandleView}
 use Rattle.sf_crew.specs.History.{handle_view, new_view, handle_of, put_items, got_count, HasHistory, IsLawfulHistory, FitsEnd, Puts, GetsFirst}
 
 module _ {T : Type 0} where

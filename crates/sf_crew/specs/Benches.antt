@@ -1,9 +1,6 @@
 -- The handles of a bench.
 use Rattle.std.specs.Prelude.{◌≡◌, ℕ, ◌+◌, List, [], ◌∷◌}
-use Rattle.crossbeam_deque.specs.Handles.{view, taken, worker_view, worker_deque, stealer_deque}
-use Rattle.sf_crew.specs.declared.benches.handles.Owner.{Owner}
-use Rattle.sf_crew.specs.declared.benches.handles.Thief.{Thief}
-use Rattle.sf_crew.specs.declared.benches.history.HandleView.{HandleView}
+use Rattle.sf_crew.specs.Common.{view, taken, worker_view, worker_deque, stealer_deque, Owner, Thief, HandleView}
 use Rattle.sf_crew.specs.History.{new_view}
 
 module _ {T : Type 0} where

@@ -1,11 +1,6 @@
 -- The rule of the board: what holds of its words, and of what its seats know, before and after each step.
 use Rattle.std.specs.Prelude.{◌≡◌, ℕ, ◌+◌, ◌<◌, ◌≤◌, min, ◌/◌, ◌%◌, ◌==◌, List, [], All, count_by, sum_by, length, Some, None, slice_index}
-use Rattle.std.specs.Int.{bit_at}
-use mathlib.Core.Option.{some}
-use lib.ListN.{get_elem?}
-use Rattle.atomic_table.specs.Table.{State}
-use Rattle.sf_crew.specs.declared.board.view.BoardKey.{BoardKey}
-use Rattle.sf_crew.specs.declared.board.view.View.{View}
+use Rattle.sf_crew.specs.Common.{bit_at, some, get_elem?, State, BoardKey, View}
 use Rattle.sf_crew.specs.Views.{questions_of, count_of_regions, jobs, Noted, Covered, RightPlace, once_below, top, doubt_at}
 
 -- what holds of what one seat knows (its view), by the words of the board, whatever the other seats know

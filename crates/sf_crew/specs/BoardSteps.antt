@@ -1,9 +1,6 @@
 -- What each step of a seat does to its view, which is what the seat knows, and what the step finds.
 use Rattle.std.specs.Prelude.{◌≡◌, ℕ, ◌+◌, ◌-◌, ◌<◌, ◌≤◌, ◌==◌, List, [], ◌∷◌, ◌++◌, count_by, length, Option, Some, None, IfSome}
-use Rattle.sf_crew.specs.declared.board.view.BoardKey.{BoardKey}
-use Rattle.sf_crew.specs.declared.board.view.Note.{Note}
-use Rattle.sf_crew.specs.declared.board.view.EnteredSheet.{EnteredSheet}
-use Rattle.sf_crew.specs.declared.board.view.View.{View}
+use Rattle.sf_crew.specs.Common.{BoardKey, Note, EnteredSheet, View}
 use Rattle.sf_crew.specs.Views.{count_of_regions, jobs, entered_sheet, note, Noted, RightPlace, once_below}
 
 -- a view by its parts, in the order in which a view has them

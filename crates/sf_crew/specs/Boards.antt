@@ -1,11 +1,9 @@
 -- A board and its seats, as contracts see them.
 use Rattle.std.specs.Prelude.{◌≡◌, Some, None, []}
-use Rattle.atomic_table.specs.Seated.{TableId}
-use Rattle.sf_crew.specs.declared.board.view.BoardKey.{BoardKey}
-use Rattle.sf_crew.specs.declared.board.view.View.{View}
-use Rattle.sf_crew.specs.BoardSteps.{view_of}
+use Rattle.sf_crew.specs.Common.{TableId, BoardKey, View}
 use Rattle.sf_crew.specs.declared.board.Board.{Board}
 use Rattle.sf_crew.specs.declared.board.Seat.{Seat}
+use Rattle.sf_crew.specs.BoardSteps.{view_of}
 
 -- the regions and questions that a board is about
 abbrev pub about : Board → BoardKey

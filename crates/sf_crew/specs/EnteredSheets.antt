@@ -1,10 +1,6 @@
 -- What entering a sheet does to a seat.
 use Rattle.std.specs.Prelude.{◌≡◌, true, ℕ, ◌<◌, ◌≤◌, ◌⊎◌, List, [], ◌∷◌, length, Option, Some, None}
-use Rattle.sf_ask.specs.declared.verdict.Verdict.{Verdict}
-use Rattle.sf_ask.specs.Sheets.{SheetData, verdict_at, is_hit, is_doubt, is_skipped}
-use Rattle.sf_crew.specs.declared.board.view.BoardKey.{BoardKey}
-use Rattle.sf_crew.specs.declared.board.view.Note.{Note}
-use Rattle.sf_crew.specs.declared.board.view.View.{View}
+use Rattle.sf_crew.specs.Common.{Verdict, SheetData, verdict_at, is_hit, is_doubt, is_skipped, BoardKey, Note, View}
 use Rattle.sf_crew.specs.Views.{regions_of, questions_of, Noted, has, entered_sheet}
 use Rattle.sf_crew.specs.BoardSteps.{view_of}
 

@@ -1,13 +1,6 @@
 -- Turns of a worker, and where an exploration ends.
 use Rattle.std.specs.Prelude.{◌≡◌, ℕ, ◌+◌, ◌*◌, ◌<◌, ◌≤◌, ◌↔◌, List, [], All, length, true, false, Some, ◌⊎◌}
-use Rattle.std.specs.Arc.{arc_value}
-use Rattle.sf_book.specs.Books.{OutstandingData, BookData, IsSettled}
-use Rattle.sf_check.specs.declared.insn.Insn.{Insn}
-use Rattle.sf_run.specs.Feasible.{feasible_traces}
-use Rattle.sf_book.specs.Changes.{outstanding_at, without}
-use Rattle.sf_book.specs.declared.book.Lease.{Lease}
-use Rattle.sf_book.specs.Unfoldings.{IsFringe}
-use Rattle.sf_book.specs.Exact.{IsWorkedOff}
+use Rattle.sf_crew.specs.Common.{arc_value, OutstandingData, BookData, IsSettled, Insn, feasible_traces, outstanding_at, without, Lease, IsFringe, IsWorkedOff}
 
 -- nothing is outstanding, or all commits are spent
 abbrev pub IsExhausted : BookData → Type 0

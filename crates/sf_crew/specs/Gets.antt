@@ -1,8 +1,6 @@
 -- Which handle of a bench got which item: the item at each place of the list of what was put goes to one handle.
-use Rattle.std.specs.Prelude.{◌≡◌, ℕ, ◌<◌, ◌≤◌, ◌↔◌, List, [], ◌∷◌, ◌++◌, All, Any, length, Option, Some, None, IsSome, slice_get}
-use Rattle.sf_crew.specs.declared.benches.history.Event.{Event}
-use Rattle.sf_crew.specs.declared.benches.history.Event.TheVariants.{Got}
-use Rattle.sf_crew.specs.declared.benches.history.HandleView.{HandleView}
+use Rattle.std.specs.Prelude.{◌≡◌, ℕ, ◌<◌, ◌≤◌, ◌↔◌, List, ◌∷◌, ◌++◌, All, Any, length, Option, Some, None, IsSome, slice_get}
+use Rattle.sf_crew.specs.Common.{Event, Got, HandleView}
 use Rattle.sf_crew.specs.History.{put_items, getters, got_count, first_left, HasHistory, IsKnownFirst}
 
 module _ {T : Type 0} where

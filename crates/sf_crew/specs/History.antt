@@ -1,10 +1,7 @@
 -- The history of a bench: one list of the items that were put, of which each handle has got some, each item at most
 -- once and first in, first out. An item is a lease, or a lease of which more is known.
 use Rattle.std.specs.Prelude.{◌≡◌, ◌≢◌, ℕ, ◌+◌, ◌<◌, List, [], ◌∷◌, ◌++◌, All, Contains, map, length, Option, Some, slice_get}
-use Rattle.sf_crew.specs.declared.benches.history.Event.{Event}
-use Rattle.sf_crew.specs.declared.benches.history.Event.TheVariants.{Put, Got}
-use Rattle.sf_crew.specs.declared.benches.history.End.{End}
-use Rattle.sf_crew.specs.declared.benches.history.HandleView.{HandleView}
+use Rattle.sf_crew.specs.Common.{Event, Put, Got, End, HandleView}
 
 module _ {T : Type 0} where
   -- the handle of number i, which has made no step after the history h

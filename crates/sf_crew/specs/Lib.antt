@@ -1,3 +1,4 @@
+pub mod Common
 pub mod Explorations
 pub mod History
 pub mod Gets

@@ -1,25 +1,10 @@
 -- What a sweep does: the jobs of each worker, the tally of all regions, and the replies.
 use Rattle.std.specs.Prelude.{◌≡◌, ℕ, ◌+◌, ◌*◌, ◌<◌, ◌≤◌, ◌⊎◌, Bool, false, IsTrue, List, length, Some, None, slice_get}
-use Rattle.std.specs.Int.{bit_at}
-use Rattle.sf_book.specs.Books.{BookData}
-use Rattle.sf_question.specs.QuestionData.{QuestionData}
-use Rattle.sf_insn.specs.declared.input.Input.{Input}
-use Rattle.sf_ask.specs.declared.verdict.Reply.{Reply}
-use Rattle.sf_ask.specs.Verdicts.{IsLowInput, IsBreakAt, IsRightReply, IsFirstBreak, IsLeastExample, IsDoubtful}
-use Rattle.sf_ask.specs.declared.verdict.Reply.TheVariants.{Never, Allowed, Unsettled}
-use Rattle.sf_check.specs.Stacks.{IsPlain}
-use Rattle.sf_ask.specs.Sheets.{HasHit, IsRightOn, IsRightWhereGiven}
-use Rattle.sf_ask.specs.Judging.{HasVerdictAt, HasNoHitAt, HasReply}
-use Rattle.sf_ask.specs.declared.verdict.Verdict.TheVariants.{Clear, Doubt}
-use Rattle.sf_crew.specs.Tallies.{IsBelowLeast}
+use Rattle.sf_crew.specs.Common.{bit_at, BookData, QuestionData, Input, Reply, IsLowInput, IsBreakAt, IsRightReply, IsFirstBreak, IsLeastExample, IsDoubtful, Never, Allowed, Unsettled, IsPlain, HasHit, IsRightOn, IsRightWhereGiven, HasVerdictAt, HasNoHitAt, HasReply, Clear, Doubt, Tally, Probes, AreProbesOf, bit_of, View}
 use Rattle.sf_crew.specs.declared.board.Board.{Board}
 use Rattle.sf_crew.specs.declared.board.Seat.{Seat}
-use Rattle.sf_crew.specs.declared.board.Tally.{Tally}
-use Rattle.sf_ask.specs.declared.probe.Probes.{Probes}
-use Rattle.sf_ask.specs.Probing.{AreProbesOf}
-use Rattle.sf_ask.specs.QuestionBits.{bit_of}
+use Rattle.sf_crew.specs.Tallies.{IsBelowLeast}
 use Rattle.sf_crew.specs.Views.{Noted, questions_of, regions_of}
-use Rattle.sf_crew.specs.declared.board.view.View.{View}
 use Rattle.sf_crew.specs.BoardSteps.{with_notes}
 use Rattle.sf_crew.specs.Boards.{about, IsSeatOf, seat_view}
 

@@ -1,12 +1,6 @@
 -- What the tally says with which a seat closes a board.
 use Rattle.std.specs.Prelude.{◌≡◌, ℕ, ◌<◌, ◌≤◌, ◌⊎◌, ◌==◌, All, count_by, length, Some, slice_get}
-use Rattle.sf_ask.specs.declared.verdict.Verdict.TheVariants.{Clear}
-use Rattle.sf_ask.specs.Sheets.{HasHit, IsRightOn}
-use Rattle.sf_crew.specs.declared.board.view.BoardKey.{BoardKey}
-use Rattle.sf_crew.specs.declared.board.view.View.{View}
-use Rattle.sf_crew.specs.declared.board.view.EnteredSheet.{EnteredSheet}
-use Rattle.sf_crew.specs.declared.board.Tally.{Tally}
-use Rattle.sf_ask.specs.QuestionBits.{bit_of}
+use Rattle.sf_crew.specs.Common.{Clear, HasHit, IsRightOn, BoardKey, View, EnteredSheet, Tally, bit_of}
 use Rattle.sf_crew.specs.Views.{regions_of, questions_of, count_of_regions, entered_jobs, has, has_doubt, IsInDoubt, once_below}
 
 -- the region j lies below the question's least place, which may be none

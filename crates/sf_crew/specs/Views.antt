@@ -1,13 +1,6 @@
 -- What a seat of a board knows, and the words in which that is said.
 use Rattle.std.specs.Prelude.{◌≡◌, ℕ, ◌<◌, ◌≤◌, ◌⊎◌, ◌==◌, nat_lt, if◌then◌else◌, max, List, [], ◌∷◌, ◌++◌, map, length, Option, Some, None}
-use Rattle.sf_book.specs.Books.{BookData}
-use Rattle.sf_question.specs.QuestionData.{QuestionData}
-use Rattle.sf_ask.specs.Sheets.{HasHit, IsRightOn, IsRightWhereGiven}
-use Rattle.sf_ask.specs.declared.verdict.Verdict.TheVariants.{Clear, Doubt}
-use Rattle.sf_crew.specs.declared.board.view.BoardKey.{BoardKey}
-use Rattle.sf_crew.specs.declared.board.view.EnteredSheet.{EnteredSheet}
-use Rattle.sf_crew.specs.declared.board.view.Note.{Note}
-use Rattle.sf_crew.specs.declared.board.view.View.{View}
+use Rattle.sf_crew.specs.Common.{BookData, QuestionData, HasHit, IsRightOn, IsRightWhereGiven, Clear, Doubt, BoardKey, EnteredSheet, Note, View}
 
 -- the exploration whose regions a board is about
 abbrev pub regions_of : BoardKey → BookData

@@ -1,16 +1,7 @@
 -- What a worker's calls do to the book, and to the handles that the worker has: the owner of its own bench, and a thief
 -- on each other bench.
 use Rattle.std.specs.Prelude.{◌≡◌, ℕ, ◌⊎◌, ◌<◌, false, List, map, set, Option, Some, None, slice_get}
-use Rattle.std.specs.Option.{option_map}
-use Rattle.std.specs.Arc.{arc_value}
-use Rattle.sf_piece.specs.Pieces.{PieceData, StepData, WorkData, Split, Settled, Empty, IsRightWork, children_of}
-use Rattle.sf_book.specs.declared.book.Lease.{Lease}
-use Rattle.sf_book.specs.Books.{BookData}
-use Rattle.sf_book.specs.Changes.{MayCommit, CommitsAs, with_lease_at}
-use Rattle.sf_crew.specs.declared.benches.history.HandleView.{HandleView}
-use Rattle.sf_crew.specs.declared.benches.handles.Thief.{Thief}
-use Rattle.sf_crew.specs.declared.workers.hands.Made.{Made}
-use Rattle.sf_crew.specs.declared.workers.Worker.{Worker}
+use Rattle.sf_crew.specs.Common.{option_map, arc_value, PieceData, StepData, WorkData, Split, Settled, Empty, IsRightWork, children_of, Lease, BookData, MayCommit, CommitsAs, with_lease_at, HandleView, Thief, Made, Worker}
 use Rattle.sf_crew.specs.History.{Puts, GetsFirst, AllGot}
 use Rattle.sf_crew.specs.Benches.{owner_view, thief_view}
 

@@ -25,9 +25,7 @@ glances k slots id me is s h homes at fits =
       (
         refl,
         (
-          (λ x. let a = jobs_once k n _ _ _ s.views id v at h.1 x in
-              let b = once_at_most x (min n (count_of_regions k)) in
-              omega arith),
+          (λ x. omega (arith, jobs_once k n _ _ _ s.views id v at h.1 x, once_at_most x (min n (count_of_regions k)))),
           all,
         ),
       ),
@@ -92,9 +90,7 @@ top_both f views i j v w b z apart at at' joined none =
     let t = top_change f (set views i b) j w z at' in
     let there : get_elem? (set (set views i b) j z) i ≡ some b =
     set_else (set views i b) j i z (λ e. apart (sym e)) ∙ set_here views i b (at_lt views i v at) in
-    let most = top_at f (set (set views i b) j z) i b there in
-    let mine = top_at f views i v at in let theirs = top_at f views j w was in
-    omega arith
+    omega (arith, top_at f (set (set views i b) j z) i b there, top_at f views i v at, top_at f views j w was)
 
 join_kept : (k : BoardKey) (n e : ℕ) (d least : ℕ → ℕ) (views : List View) (i j : ℕ) (v w : View) → v.owes ≡ None
     → w.owes ≡ None → v.about ≡ Some k → 0 < v.joined_seats → j ≢ i → get_elem? views i ≡ some v

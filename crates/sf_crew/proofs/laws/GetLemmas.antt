@@ -1,7 +1,5 @@
 -- Which handle of a bench got which item.
-use Rattle.std.proofs.lemmas.Option.{gets, slice_get_cases}
-use Rattle.sf_crew.proofs.Common.{◌≡◌, ◌≢◌, ℕ, zero, suc, ◌+◌, ◌<◌, ◌≤◌, List, [], ◌∷◌, ◌++◌, All, Any, length, Some, is_some, inl, inr, IsSome, slice_get, sym, refl, ap, ◌∙◌, subst, append_assoc, arith, get_or, All-nil, All-cons, All-tail, slice_get-get_or, slice_get_within, get_or_from_slice_get, Event, Put, Got, End, HandleView, handle_of, put_items, getters, got_count, IsLawfulFrom, IsLawfulHistory, FitsEnd, HasHistory, IsWhole, common_steps, None, true}
-use Rattle.sf_crew.specs.Gets.{getter, IsSharedOut, IsAllKnown}
+use Rattle.sf_crew.proofs.Common.{gets, slice_get_cases, ◌≡◌, ◌≢◌, ℕ, zero, suc, ◌+◌, ◌<◌, ◌≤◌, List, [], ◌∷◌, ◌++◌, All, Any, length, Some, is_some, inl, inr, IsSome, slice_get, sym, refl, ap, ◌∙◌, subst, append_assoc, arith, get_or, All-nil, All-cons, All-tail, slice_get-get_or, slice_get_within, get_or_from_slice_get, Event, Put, Got, End, HandleView, handle_of, put_items, getters, got_count, IsLawfulFrom, IsLawfulHistory, FitsEnd, HasHistory, IsWhole, common_steps, None, true, getter, IsSharedOut, IsAllKnown}
 use Rattle.sf_crew.proofs.Histories.{NotBy, puts_append, getters_append, lawful_le}
 use Rattle.sf_crew.proofs.WholeBenches.{fits_at, joined_end, pinned}
 
@@ -16,9 +14,7 @@ slice_get_next (y ∷ a) x b = slice_get_next a x b
 
 -- a place with an element is below the length
 some_within : {X : Type 0} (l : List X) (n : ℕ) → is_some (slice_get l n) ≡ true → n < length l
-some_within [] n e = absurd (cc)
-some_within (x ∷ l) zero e = omega arith
-some_within (x ∷ l) (suc n) e = let lt = some_within l n e in omega arith
+some_within l n e = grind (arith, common_steps, gets)
 
 module _ {T : Type 0} where
   -- what holds of the handle of each step holds of each getter
@@ -85,13 +81,7 @@ module _ {T : Type 0} where
   one_got v h whole has k lt =
       let i : ℕ = get_or (getters h) k 0 in let got = slice_get-get_or (getters h) k 0 lt in
       let made : i < v.made = getter_is (λ j. j < v.made) h k i (has.made whole.0) got in
-      let j = joined_end v.ends i (whole.1 i made) in (
-        j.0,
-        j.1,
-        j.2,
-        j.3,
-        own_get h j.1 (fits_at v h (λ (e : End T). e.number ≡ i) j has) k (got ∙ ap (λ (n : ℕ). Some n) (sym j.4)),
-      )
+      let j = joined_end v.ends i (whole.1 i made) in (search (arith, fits_at, own_get))
 
   pub all_known : (v : HandleView T) (h : List (Event T)) → IsWhole v → HasHistory v h → IsAllKnown v h
   all_known v h whole has = record {

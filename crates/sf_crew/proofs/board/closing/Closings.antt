@@ -1,7 +1,5 @@
 -- The tally is right.
-use Rattle.std.proofs.lemmas.Option.{gets}
-use Rattle.std.proofs.lemmas.Grind.{common_steps}
-use Rattle.sf_crew.proofs.Common.{◌≡◌, ◌≢◌, ℕ, zero, suc, ◌+◌, ◌<◌, ◌≤◌, ◌/◌, ◌%◌, min, List, [], ◌∷◌, All, sum_by, length, get_or, set, slice_index, slice_get, Option, Some, None, sym, refl, ap, ◌∙◌, ⊎_elim, length-append, arith, bit_at, nat_tests, length-map, nil_from_length, slice_get_within, some, some-injective, some-ne-none, get_elem?, replicate, State, Doubt, IsRightOn, BoardKey, View, EnteredSheet, Note, Tally, bit_of, entered_jobs, has, has_doubt, IsInDoubt, regions_of, questions_of, count_of_regions, jobs, owed_jobs, Noted, Covered, once_below, top, doubt_at, Kept, BoardKept, least_in, doubts_in, RightTally, IsBelowLeast, IsCleared, LeastIs}
+use Rattle.sf_crew.proofs.Common.{gets, common_steps, ◌≡◌, ◌≢◌, ℕ, zero, suc, ◌+◌, ◌<◌, ◌≤◌, ◌/◌, ◌%◌, min, List, [], ◌∷◌, All, sum_by, length, get_or, set, slice_index, slice_get, Option, Some, None, sym, refl, ap, ◌∙◌, ⊎_elim, length-append, arith, bit_at, nat_tests, length-map, nil_from_length, slice_get_within, some, some-injective, some-ne-none, get_elem?, replicate, State, Doubt, IsRightOn, BoardKey, View, EnteredSheet, Note, Tally, bit_of, entered_jobs, has, has_doubt, IsInDoubt, regions_of, questions_of, count_of_regions, jobs, owed_jobs, Noted, Covered, once_below, top, doubt_at, Kept, BoardKept, least_in, doubts_in, RightTally, IsBelowLeast, IsCleared, LeastIs}
 use Rattle.sf_crew.proofs.Doubts.{bit_most, has_most}
 use Rattle.sf_crew.proofs.Totals.{times, total_at, total_only, top_at, top_only, times_append}
 use Rattle.sf_crew.proofs.Jobs.{jobs_once}

@@ -1,4 +1,4 @@
-use Rattle.std.proofs.Common.{◌≡◌, vec_len, arith}
+use Rattle.sf_crew.proofs.Common.{◌≡◌, vec_len, arith}
 use Rattle.sf_crew.proofs.sweeping.join_all.Goals as goal
 
 pub returns : goal.returns

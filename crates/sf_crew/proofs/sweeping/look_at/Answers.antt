@@ -1,5 +1,4 @@
-use Rattle.sf_crew.proofs.Common.{common_steps, ℕ, ap, ◌∙◌, arith, length-set, View, with_notes, seat_view}
-use Rattle.sf_ask.specs.laws.QuestionBitsLaws.{all-bits}
+use Rattle.sf_crew.proofs.Common.{common_steps, ℕ, ap, ◌∙◌, arith, length-set, View, with_notes, seat_view, all-bits}
 use Rattle.sf_crew.proofs.sweeping.Skips.{words_more}
 use Rattle.sf_crew.proofs.sweeping.look_at.Goals.{then-to_judge-word-ne0, else-to_judge-word-ne0}
 use Rattle.sf_crew.proofs.sweeping.look_at.Goals as goal
@@ -23,11 +22,5 @@ loop-word-preserved c =
             skips = words_more c.loop-word.wanted n c.args.job w.look_at_word.result old.notes new.notes i.long
                 (omega arith) e.wanted.more i.skips e.wanted.skips;
           })
-      | else-to_judge-word-ne0 w ↦ rw (w.seat-is, w.wanted-is) (record {
-        seat = i.seat;
-        long = i.long;
-        same = i.same;
-        more = i.more;
-        skips = i.skips;
-      })
+      | else-to_judge-word-ne0 w ↦ rw (w.seat-is, w.wanted-is) i
     ]

@@ -1,15 +1,5 @@
 -- Why replies are right.
-use Rattle.std.proofs.lemmas.Option.{gets}
-use Rattle.sf_crew.proofs.Common.{◌≡◌, ℕ, zero, suc, ◌<◌, Bool, true, false, true≢false, List, [], ◌∷◌, ◌++◌, length, Option, Some, None, slice_get, get_or, ◌==◌, ◌⊎◌, sym, refl, ap, ◌∙◌, subst, inl, inr, eqb-true, nil_from_length, same_Some, get_or_from_slice_get, Reply, BookData, IsSettled, Verdict, Hit, Doubt, QuestionData, IsPlain, Tally, bit_of, IsBelowLeast, HasDoubt, IsUnbroken, IsReplyTo, IsFullTally, arith, common_steps}
-use Rattle.sf_insn.specs.declared.input.Input.{Input}
-use Rattle.sf_piece.specs.OneExecution.{IsExecutionOne}
-use Rattle.sf_book.specs.Unfoldings.{IsFringe}
-use Rattle.sf_ask.specs.OneResult.{HaveOneVerdict}
-use Rattle.sf_ask.specs.laws.OneResultLaws.{one_verdict_at}
-use Rattle.sf_ask.specs.declared.verdict.Reply.TheVariants.{Never, Allowed, Unsettled}
-use Rattle.sf_ask.specs.Verdicts.{IsRightVerdict, TellsTriedAt}
-use Rattle.sf_ask.specs.laws.MemberLaws.{in_some_region}
-use Rattle.sf_ask.specs.Judging.{HasVerdictAt}
+use Rattle.sf_crew.proofs.Common.{gets, ◌≡◌, ℕ, zero, suc, ◌<◌, Bool, true, false, true≢false, List, [], ◌∷◌, ◌++◌, length, Option, Some, None, slice_get, get_or, ◌==◌, ◌⊎◌, sym, refl, ap, ◌∙◌, subst, inl, inr, eqb-true, nil_from_length, same_Some, get_or_from_slice_get, Reply, BookData, IsSettled, Verdict, Hit, Doubt, QuestionData, IsPlain, Tally, bit_of, IsBelowLeast, HasDoubt, IsUnbroken, IsReplyTo, IsFullTally, arith, common_steps, Input, IsExecutionOne, IsFringe, HaveOneVerdict, one_verdict_at, Never, Allowed, Unsettled, IsRightVerdict, TellsTriedAt, in_some_region, HasVerdictAt}
 
 pub reply_never : (s : BookData) (q : QuestionData) (doubt : Bool) → IsSettled s → length s.outstanding ≡ 0
     → doubt ≡ false → ((r : ℕ) → r < length s.regions → IsUnbroken s q doubt r) → IsReplyTo s q Never
@@ -73,13 +63,7 @@ tally_unbroken s qs t q question doubt h lt asked is r within below = elim (h.cl
       })
   | inr x ↦ let same : x.1.question ≡ question = cc (x.1.asked, asked) in
       let set : true ≡ doubt = sym (is ∙ ap (λ n. n == 1) x.0) in
-      subst (λ (y : QuestionData × Bool). IsUnbroken s y.0 y.1 r) (λ i. (same i, set i)) (record {
-        rule = inr x.1.rule;
-        clear = λ e. absurd (true≢false e);
-        passed = inr x.1.tried;
-        none = λ e. absurd (true≢false e);
-        low = x.1.right;
-      })
+      subst (λ (y : QuestionData × Bool). IsUnbroken s y.0 y.1 r) (λ i. (same i, set i)) (search (arith, true≢false))
 ]
 
 -- where there is no least place, every region lies below it

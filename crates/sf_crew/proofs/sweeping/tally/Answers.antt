@@ -1,5 +1,4 @@
-use Rattle.sf_crew.proofs.Common.{◌≡◌, Some, ◌+◌, vec_len, sym, ap, ◌∙◌, arith, rules, All-pop, View, about, seat_view, IsNewSeat}
-use Rattle.sf_crew.specs.declared.board.Seat.{Seat}
+use Rattle.sf_crew.proofs.Common.{◌≡◌, Some, ◌+◌, vec_len, sym, ap, ◌∙◌, arith, rules, All-pop, View, about, seat_view, IsNewSeat, Seat}
 use Rattle.sf_crew.proofs.sweeping.FullLemmas.{full_tally}
 use Rattle.sf_crew.proofs.sweeping.tally.Goals as goal
 

@@ -1,10 +1,5 @@
 -- Explorations of plain stacks end exactly.
-use Rattle.sf_crew.proofs.Common.{ℕ, List, sym, subst, IsPlain, BookData, IsExplorationOf, IsExactExploration}
-use Rattle.sf_check.specs.declared.insn.Insn.{Insn}
-use Rattle.sf_book.specs.Exact.{HasMembers}
-use Rattle.sf_book.specs.laws.ExactLaws.{worked_off, enough}
-use Rattle.sf_book.specs.PlainBooks.{IsPlainWhereStackIs}
-use Rattle.sf_book.specs.laws.PlainLaws.{plain_has_members}
+use Rattle.sf_crew.proofs.Common.{ℕ, List, sym, subst, IsPlain, BookData, IsExplorationOf, IsExactExploration, Insn, HasMembers, worked_off, enough, IsPlainWhereStackIs, plain_has_members}
 
 pub exact_end : (stack : List (List Insn)) (budget : ℕ) (s : BookData) → IsExplorationOf stack budget s
     → IsPlainWhereStackIs s → IsPlain stack → IsExactExploration stack budget s

@@ -1,4 +1,4 @@
-use Rattle.std.proofs.Common.{◌≡◌, ◌+◌, ◌-◌, ap, arith}
+use Rattle.sf_crew.proofs.Common.{◌≡◌, ◌+◌, ◌-◌, ap, arith}
 use Rattle.sf_crew.proofs.board.Joins.{splits}
 use Rattle.sf_crew.proofs.board.Board.deal.Goals as goal
 

@@ -1,4 +1,4 @@
-use Rattle.sf_crew.proofs.Common.{◌≡◌, ◌<◌, ℕ, ◌+◌, List, ◌∷◌, length, Some, sym, ap, ◌∙◌, refl, arith, QuestionData, View, questions_of, with_marks, view_with_mark, MarksDoubts, about}
+use Rattle.sf_crew.proofs.Common.{◌≡◌, ◌<◌, ℕ, ◌+◌, List, ◌∷◌, length, Some, sym, ap, ◌∙◌, refl, arith, QuestionData, View, questions_of, view_with_mark, MarksDoubts, about}
 use Rattle.sf_crew.proofs.board.Sheets.{marks_same, marks_more}
 use Rattle.sf_crew.proofs.board.Moves.{marks}
 use Rattle.sf_crew.proofs.board.Board.enter_doubts.Goals.{then-is_doubt, else-is_doubt}
@@ -13,20 +13,9 @@ loop-q-preserved c =
           let now : f.new.seat.me.0 ≡ view_with_mark old n = went.0 n (omega arith) refl in
           let marks : MarksDoubts vs (n + 1) c.args.seat.now.me.0.marked (n ∷ old.marked) =
           marks_more vs n _ _ (sym c.is_doubt.ensures ∙ w.if-is_doubt.true) i.marks in
-          rw w.seat-is (record {
-            table = f.ensures.0 ∙ i.table;
-            carried = went.1 ∙ i.carried;
-            view = now ∙ ap (λ (v : View). view_with_mark v n) i.view ∙ ap
-                (λ (qs : List ℕ). with_marks c.args.seat.now.me.0 qs) (sym (ap (λ (v : View). v.marked) now));
-            marks = search (arith, marks);
-          })
+          rw w.seat-is (search (arith, marks))
           )
-      | else-is_doubt w ↦ rw w.seat-is (record {
-        table = i.table;
-        carried = i.carried;
-        view = i.view;
-        marks = search (arith, marks_same, marks);
-      })
+      | else-is_doubt w ↦ rw w.seat-is (search (arith, marks_same, marks))
     ]
 
 pub fetch_or-requires : goal.fetch_or-requires

@@ -1,5 +1,4 @@
-use Rattle.sf_crew.proofs.Common.{◌≡◌, ◌<◌, ℕ, List, length, subst, sym, ap, ◌∙◌, arith, BookData, QuestionData, HasHit, questions_of, count_of_regions, about}
-use Rattle.sf_ask.specs.laws.SheetLaws.{hit-given}
+use Rattle.sf_crew.proofs.Common.{◌≡◌, ◌<◌, ℕ, List, length, subst, sym, ap, ◌∙◌, arith, BookData, QuestionData, HasHit, questions_of, count_of_regions, about, hit-given}
 use Rattle.sf_crew.proofs.board.Moves.{hits}
 use Rattle.sf_crew.proofs.board.Board.enter_hits.Goals as goal
 

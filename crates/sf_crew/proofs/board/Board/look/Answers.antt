@@ -1,4 +1,4 @@
-use Rattle.std.proofs.Common.{arith}
+use Rattle.sf_crew.proofs.Common.{arith}
 use Rattle.sf_crew.proofs.board.Moves.{looks}
 use Rattle.sf_crew.proofs.board.Board.look.Goals as goal
 

@@ -17,8 +17,5 @@ loop-q-preserved c =
             (omega (arith, c.loop-q.invariant.long, c.loop-q-test.true, c.requires.few))
             (sym found) w.if-place-regions.true c.loop-q.invariant.is;
       })
-      | else-place-regions w ↦ rw w.least-is (record {
-        long = c.loop-q.invariant.long;
-        is = search (arith, least_skip);
-      })
+      | else-place-regions w ↦ rw w.least-is ((search (arith, least_skip)))
     ]

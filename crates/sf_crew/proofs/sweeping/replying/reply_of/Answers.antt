@@ -1,5 +1,4 @@
-use Rattle.std.proofs.lemmas.Grind.{common_steps}
-use Rattle.sf_crew.proofs.Common.{ℕ, ◌<◌, ◌==◌, Bool, refl, sym, arith, slice_get_read, bit_of, IsUnbroken, QuestionData}
+use Rattle.sf_crew.proofs.Common.{common_steps, ℕ, ◌<◌, ◌==◌, Bool, refl, sym, arith, slice_get_read, bit_of, IsUnbroken, QuestionData}
 use Rattle.sf_crew.proofs.sweeping.replying.Replies.{below_none, below_place, hit_again, place_there, reply_allowed, tally_doubtful, tally_plain, tally_unbroken}
 use Rattle.sf_crew.proofs.sweeping.replying.reply_of.Goals as goal
 

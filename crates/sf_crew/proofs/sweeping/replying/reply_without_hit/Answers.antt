@@ -1,4 +1,4 @@
-use Rattle.std.proofs.Common.{true≢false, sym, ◌∙◌, inr, arith}
+use Rattle.sf_crew.proofs.Common.{true≢false, sym, ◌∙◌, inr, arith}
 use Rattle.sf_crew.proofs.sweeping.replying.Replies.{reply_never, reply_unsettled}
 use Rattle.sf_crew.proofs.sweeping.replying.reply_without_hit.Goals as goal
 

@@ -1,6 +1,4 @@
-use Rattle.std.proofs.lemmas.Grind.{common_steps}
-use Rattle.std.proofs.Common.{arith}
-use Rattle.std.proofs.lemmas.Result.{err_from_is_err_and}
+use Rattle.sf_crew.proofs.Common.{common_steps, arith, err_from_is_err_and}
 use Rattle.sf_crew.proofs.Free.{may_commit, only_memory, other_turn, split_turn}
 use Rattle.sf_crew.proofs.workers.exploring.turn.Goals.{in-Some, in_default}
 use Rattle.sf_crew.proofs.workers.exploring.turn.Goals as goal

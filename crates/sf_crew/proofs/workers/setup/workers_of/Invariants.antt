@@ -1,4 +1,4 @@
-use Rattle.std.proofs.Common.{◌≡◌, length}
+use Rattle.sf_crew.proofs.Common.{◌≡◌, length}
 use Rattle.sf_crew.proofs.workers.setup.workers_of.Given as goal
 
 abbrev pub invariant-loop-number : goal.invariant-loop-number

@@ -1,5 +1,4 @@
-use Rattle.std.proofs.lemmas.Grind.{common_steps}
-use Rattle.std.proofs.Common.{arith}
+use Rattle.sf_crew.proofs.Common.{common_steps, arith}
 use Rattle.sf_crew.proofs.Free.{exhausted_by_commits}
 use Rattle.sf_crew.proofs.workers.hands.SharedBook.is_exhausted.Goals as goal
 

@@ -1,4 +1,4 @@
-use Rattle.std.proofs.Common.{◌∙◌}
+use Rattle.sf_crew.proofs.Common.{◌∙◌}
 use Rattle.sf_crew.proofs.Free.{leased_of}
 use Rattle.sf_crew.proofs.workers.hands.SharedBook.lease.Goals as goal
 
