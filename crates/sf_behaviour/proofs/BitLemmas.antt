@@ -1,7 +1,6 @@
 -- Operations and tests with one more bit, and what the loops over the bits of words keep. Trees ts are those at first,
 -- us those so far, and vs those with one more bit.
-use Rattle.sf_behaviour.proofs.Common.{◌≡◌, ℕ, zero, suc, ◌+◌, ◌*◌, ◌%◌, ◌<◌, ◌^◌, ◌==◌, refl, sym, ap, ◌∙◌, arith, if◌then◌else◌, bit_at, nat_tests, pow_pos, pow-add, passes, Test, not, bit_and, and_block, and_le_l, mod-pow-add, AnyBit, tested_bits, ◌-◌, ◌/◌, List, length, ap₂, bit_at-lt, Tree, Leaf, Fork, Bits, value, tree_at, KeepsTrees, chosen_of, IsTruthOf, or_lt, xor_lt, and_shr, or_shr, xor_shr, and_mod, or_mod, xor_mod, mod_below, combined, IsBitwise, Bitwise, And, Or, Xor, Choose}
-use Rattle.sf_behaviour.specs.laws.InputLaws.{if-small}
+use Rattle.sf_behaviour.proofs.Common.{◌≡◌, ℕ, zero, suc, ◌+◌, ◌*◌, ◌%◌, ◌<◌, ◌^◌, ◌==◌, refl, sym, ap, ◌∙◌, arith, if◌then◌else◌, bit_at, nat_tests, pow_pos, pow-add, passes, Test, not, bit_and, and_block, and_le_l, mod-pow-add, AnyBit, tested_bits, ◌-◌, ◌/◌, List, length, ap₂, bit_at-lt, Tree, Leaf, Fork, Bits, value, tree_at, KeepsTrees, chosen_of, IsTruthOf, or_lt, xor_lt, and_shr, or_shr, xor_shr, and_mod, or_mod, xor_mod, mod_below, combined, IsBitwise, Bitwise, And, Or, Xor, Choose, if-small}
 use Rattle.sf_behaviour.proofs.words.WordLemmas.{value-kept}
 
 pub more-small : (n v w : ℕ) → v < 2 → w < 2 ^ n → v * 2 ^ n + w < 2 ^ (n + 1)

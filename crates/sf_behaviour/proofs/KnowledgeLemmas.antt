@@ -1,6 +1,5 @@
 -- What registers are known to have, from place to place.
-use Rattle.sf_behaviour.proofs.Common.{◌≡◌, ℕ, ◌<◌, ◌^◌, List, length, length-set, Option, Some, None, refl, sym, ap, ap₂, ◌∙◌, arith, slice_set, get_or-set_same, get_or-set_other, apply, negation_of, Operand, Tree, Bits, KeepsTrees, State, input_by, A, X, IsRegister, with_register, next_with, Known, known_word, held_in, IsInputWord, IsKnowledge, IsLess, source_number, operand_in, source_in, word_value, IsWord, Word, Source, set-get_or, operand_of, Fits, Held, Negation, Result}
-use Rattle.sf_check.specs.declared.insn.Operand.TheVariants.{Constant as Fixed, X as OfX}
+use Rattle.sf_behaviour.proofs.Common.{◌≡◌, ℕ, ◌<◌, ◌^◌, List, length, length-set, Option, Some, None, refl, sym, ◌∙◌, arith, slice_set, get_or-set_same, get_or-set_other, Operand, Tree, Bits, KeepsTrees, State, input_by, A, X, IsRegister, with_register, next_with, Known, known_word, held_in, IsInputWord, IsKnowledge, IsLess, source_number, operand_in, source_in, word_value, IsWord, Word, Source, set-get_or, operand_of, Fits}
 use Rattle.sf_behaviour.proofs.words.WordLemmas.{set-each, word-kept, word-small, number-kept}
 use Rattle.sf_behaviour.proofs.VariableLemmas.{with-register-own, with-register-other, number-after, number-elsewhere}
 
@@ -67,22 +66,18 @@ fits-kept bits s keeps h fits r n e = fits r n e ∙ in-kept bits r keeps h
 
 pub operand-kept : {ts us : List Tree} {k : Known} (bits : Bits) (other : Operand) → KeepsTrees ts us
     → IsKnowledge ts k → operand_in us k bits other ≡ operand_in ts k bits other
-operand-kept bits (Fixed n) keeps h = refl
-operand-kept bits OfX keeps h = in-kept bits X keeps h
+operand-kept bits other keeps h = grind (arith, in-kept bits X keeps h)
 
 pub source-kept : {ts us : List Tree} {k : Known} (bits : Bits) (source : Source) → KeepsTrees ts us
     → IsKnowledge ts k → source_in us k bits source ≡ source_in ts k bits source
-source-kept bits (Held r) keeps h = in-kept bits r keeps h
-source-kept bits Negation keeps h = ap negation_of (in-kept bits A keeps h)
-source-kept bits (Result op other) keeps h = ap₂ (apply op) (in-kept bits A keeps h) (operand-kept bits other keeps h)
-source-kept bits source keeps h = refl
+source-kept bits source keeps h =
+    grind (arith, λ (r : ℕ). in-kept bits r keeps h, λ (other : Operand). operand-kept bits other keeps h)
 
 -- ---- numbers of sources
 
 pub operand-in : (ts : List Tree) (k : Known) (bits : Bits) (s : State) (other : Operand) → Fits ts k bits s
     → operand_of s other ≡ operand_in ts k bits other
-operand-in ts k bits s (Fixed n) fits = refl
-operand-in ts k bits s OfX fits = fits X s.x refl
+operand-in ts k bits s other fits = grind (arith, fits X s.x refl)
 
 -- a source has this number where it has one
 pub source-in : (ts : List Tree) (k : Known) (bits : Bits) (s : State) (source : Source) (n : ℕ) → Fits ts k bits s

@@ -1,6 +1,5 @@
 -- What a diagram tells of the runs from a place, by what the diagrams of the places behind tell.
-use Rattle.sf_behaviour.proofs.Common.{◌≡◌, ℕ, zero, suc, ◌+◌, ◌<◌, ◌==◌, ◌^◌, Bool, List, [], length, Option, Some, None, refl, sym, ap, subst, ◌∙◌, arith, ◌&&◌, slice_set, if◌then◌else◌, same_Some, Input, Test, passes, Insn, Operand, IsLawfulProgram, Tree, Bits, value, tree_at, KeepsTrees, State, start, return_of, input_by, A, X, IsRegister, next_with, with_register, Known, known_word, held_in, IsInputWord, IsKnowledge, IsLess, divides, source_number, operand_in, source_in, set_progress, effect_progress, IsEffectOf, Tells, IsReplaced, word_value, IsDiagramOf, Effect, Tests, Source, Word, IsSome, IsAt, Progress, goes, returns, stuck, insn_progress, IsChosen, IsTruthOf, Outcome, outcome_from, put, option_map_some, step_is, safe_start, ends_from, value_is, Fits, return_progress, unmet, IsSetTo}
-use Rattle.sf_run.specs.Machine.{run_for}
+use Rattle.sf_behaviour.proofs.Common.{◌≡◌, ℕ, zero, suc, ◌+◌, ◌<◌, ◌==◌, ◌^◌, Bool, List, [], length, Option, Some, None, refl, sym, ap, subst, ◌∙◌, arith, ◌&&◌, slice_set, if◌then◌else◌, same_Some, Input, Test, passes, Insn, Operand, IsLawfulProgram, Tree, Bits, value, tree_at, KeepsTrees, State, start, return_of, input_by, A, X, IsRegister, next_with, with_register, Known, known_word, held_in, IsInputWord, IsKnowledge, IsLess, divides, source_number, operand_in, source_in, set_progress, effect_progress, IsEffectOf, Tells, IsReplaced, word_value, IsDiagramOf, Effect, Tests, Source, Word, IsSome, IsAt, Progress, goes, returns, stuck, insn_progress, IsChosen, IsTruthOf, Outcome, outcome_from, put, option_map_some, step_is, safe_start, ends_from, value_is, Fits, return_progress, unmet, IsSetTo, run_for}
 use Rattle.sf_behaviour.proofs.replacing.ReplacingLemmas.{replaced-value}
 use Rattle.sf_behaviour.proofs.VariableLemmas.{with-register-input, start-number, start-there}
 use Rattle.sf_behaviour.proofs.KnowledgeLemmas.{fits-set, fits-less, fits-kept, operand-in, source-in, knowledge-less, set-knowledge}
@@ -61,9 +60,6 @@ tells-kept {id = id} keeps knows t = record {
       rw (keeps.same id t.within) (t.values bits s n o here (fits-kept bits s keeps knows fits) e);
 }
 
-placed : (s : State) (r : ℕ) (n place : ℕ) → s.place ≡ place → (next_with s r n).place ≡ place + 1
-placed s r n place here = grind arith
-
 -- where a register is set
 pub follows-set : (code : List Insn) (place r : ℕ) (source : Source) {ts us : List Tree} {k l : Known} {next id : ℕ}
     → IsRegister r → IsKnowledge ts k → KeepsTrees ts us → IsSetTo ts k r source l
@@ -101,7 +97,7 @@ follows-set code place r source {ts} {us} {k} {l} {next} {id} there knows keeps 
         = subst (λ (j : Known). Fits ts j (with_register r n bits) (next_with s r n)) (sym set.is)
         (fits-set ts k bits s r n set.word knows there low (known bits n is) fits) in
         ap (λ (x : ℕ). value (tree_at ts next) (with_register r x bits)) (sym is)
-        ∙ behind.values (with_register r n bits) (next_with s r n) e.0 e.1 (placed s r n place here) after same ∙ e.3
+        ∙ behind.values (with_register r n bits) (next_with s r n) e.0 e.1 (grind (arith, here)) after same ∙ e.3
 
 -- where 0 is returned if the source divides by 0
 pub follows-guard : (code : List Insn) (place : ℕ) (source : Source) (does : Input → State → Progress)

@@ -1,7 +1,5 @@
 -- The registers of a state, and their bits and those of the input as variables.
-use Rattle.sf_behaviour.proofs.Common.{◌≡◌, ℕ, zero, suc, ◌<◌, List, length, length-set, replicate, Option, Some, None, refl, sym, ap, ◌∙◌, arith, slice_set, get_or-set_same, get_or-set_other, same_Some, State, start, IsRegister, register_number, next_with, slice_index_or, get_or_past, registers_of, ◌+◌, ◌-◌, ◌*◌, ◌/◌, ◌%◌, ◌≤◌, ◌==◌, ◌^◌, bit_at, Tree, Leaf, Fork, Bits, IsOrderedFrom, tree_at, input_by, register_by, with_register, IsTruthOf, IsOrderedTree, register_first, register_bit, nat_tests}
-use Rattle.sf_behaviour.specs.InputBits.{number_by}
-use Rattle.sf_behaviour.specs.laws.InputLaws.{input_by-same, number_by-bit, number_by-is, number_by-same}
+use Rattle.sf_behaviour.proofs.Common.{◌≡◌, ℕ, zero, suc, ◌<◌, List, length, length-set, replicate, Option, Some, None, refl, sym, ◌∙◌, arith, slice_set, get_or-set_same, get_or-set_other, State, start, IsRegister, register_number, next_with, slice_index_or, get_or_past, registers_of, ◌+◌, ◌-◌, ◌*◌, ◌/◌, ◌%◌, ◌≤◌, ◌==◌, ◌^◌, bit_at, Tree, Leaf, Fork, Bits, IsOrderedFrom, tree_at, input_by, register_by, with_register, IsTruthOf, IsOrderedTree, register_first, register_bit, nat_tests, number_by, input_by-same, number_by-bit, number_by-is, number_by-same}
 use Rattle.sf_behaviour.proofs.BitLemmas.{literal-truth}
 
 module _ {B : Type 0} where
@@ -20,28 +18,21 @@ module _ {B : Type 0} where
 registers-set : (s : State) (r n : ℕ) → registers_of (next_with s r n) ≡ slice_set (registers_of s) r (Some n)
 registers-set s r n = grind arith
 
-number-at : (s : State) (r q n : ℕ)
-    → register_number (next_with s r n) q ≡ slice_index_or (slice_set (registers_of s) r (Some n)) q None
-number-at s r q n = ap (λ (xs : List (Option ℕ)). slice_index_or xs q None) (registers-set s r n)
-
 -- what a register has after it was set
 pub number-after : (s : State) (r n m : ℕ) → register_number (next_with s r n) r ≡ Some m → m ≡ n
 number-after s r n m e =
-    let at : slice_index_or (slice_set (registers_of s) r (Some n)) r None ≡ Some m = sym (number-at s r r n) ∙ e in
-    let inside = some-within (slice_set (registers_of s) r (Some n)) r m at in
+    let set = registers-set s r n in
+    let inside = some-within (slice_set (registers_of s) r (Some n)) r m in
     let long = length-set (registers_of s) r (Some n) in
-    same_Some m n (sym at ∙ get_or-set_same (registers_of s) r (Some n) None (omega (arith, inside, long)))
+    grind (arith, inside, long, set, get_or-set_same (registers_of s) r (Some n) None)
 
 -- a register that is not set keeps its number
 pub number-elsewhere : (s : State) (r q n : ℕ) → (q ≡ r → ⊥) → register_number (next_with s r n) q ≡ register_number s q
-number-elsewhere s r q n ne = grind (arith, number-at s r q n, get_or-set_other (registers_of s) r q (Some n) None ne)
-
-abbrev no_word : Option ℕ
-no_word = None
+number-elsewhere s r q n ne = grind (arith, registers-set s r n, get_or-set_other (registers_of s) r q (Some n) None ne)
 
 -- at the start all registers that have a number are 0
 pub start-number : (r n : ℕ) → register_number start r ≡ Some n → n ≡ 0
-start-number r n e = grind (arith, none-there no_word 16)
+start-number r n e = grind (arith, none-there {B = ℕ} None 16)
 
 pub start-there : (r n : ℕ) → register_number start r ≡ Some n → IsRegister r
 start-there r n e = some-within (registers_of start) r n e

@@ -1,11 +1,6 @@
 -- Answers as numbers at the leaves of diagrams.
 use Rattle.std.specs.Prelude.{ℕ, ◌<◌, ◌^◌, List, length}
-use Rattle.sf_check.specs.declared.insn.Insn.{Insn}
-use Rattle.sf_diagram.specs.Trees.{Tree, Bits, value}
-use Rattle.sf_diagram.specs.Stores.{tree_at}
-use Rattle.sf_run.specs.Machine.{returns_of}
-use Rattle.sf_run.specs.Answers.{action_bits, data_bits, action_of, IsAnswer}
-use Rattle.sf_run.specs.declared.action.Answer.{Answer}
+use Rattle.sf_behaviour.specs.Common.{Insn, Tree, Bits, value, tree_at, returns_of, action_bits, data_bits, action_of, IsAnswer, Answer}
 use Rattle.sf_behaviour.specs.InputBits.{input_by}
 
 -- the answer that a return value names

@@ -1,17 +1,7 @@
 -- Operations and tests of words, bit by bit.
 use Rattle.std.specs.Prelude.{ℕ, bit_and, bit_or, bit_xor, List, ◌≡◌, ◌+◌, ◌*◌, ◌<◌, ◌-◌, ◌/◌, ◌%◌, ◌^◌, nat_lt, slice_index, if◌then◌else◌}
-use Rattle.sf_insn.specs.declared.ops.Test.{Test}
-use Rattle.sf_insn.specs.declared.ops.Test.TheVariants.{Equal, Greater, GreaterOrEqual, AnyBit}
-use Rattle.sf_insn.specs.declared.ops.BinOp.{BinOp}
-use Rattle.sf_insn.specs.declared.ops.BinOp.TheVariants.{Lsh, Rsh}
-use Rattle.sf_diagram.specs.Trees.{Tree, Bits, value}
-use Rattle.sf_diagram.specs.Stores.{tree_at}
-use Rattle.sf_diagram.specs.Choices.{chosen_of}
+use Rattle.sf_behaviour.specs.Common.{Test, Equal, Greater, GreaterOrEqual, AnyBit, BinOp, Lsh, Rsh, Tree, Bits, value, tree_at, chosen_of, Bitwise, And, Or, Xor, Choose, Direction, Left, Right}
 use Rattle.sf_behaviour.specs.Words.{IsTruth}
-use Rattle.sf_behaviour.specs.declared.combining.Bitwise.{Bitwise}
-use Rattle.sf_behaviour.specs.declared.combining.Bitwise.TheVariants.{And, Or, Xor, Choose}
-use Rattle.sf_behaviour.specs.declared.shifting.Direction.{Direction}
-use Rattle.sf_behaviour.specs.declared.shifting.Direction.TheVariants.{Left, Right}
 
 -- what an operation makes of two words, or of two bits, on an input
 abbrev pub combined : List Tree → Bits → Bitwise → ℕ → ℕ → ℕ

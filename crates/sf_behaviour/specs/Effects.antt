@@ -1,21 +1,11 @@
 -- What instructions do, by the registers that they set.
 use Rattle.std.specs.Prelude.{◌≡◌, ℕ, ◌+◌, ◌<◌, ◌==◌, ◌&&◌, Bool, true, false, List, [], ◌∷◌, Option, Some, None, slice_index, if◌then◌else◌}
-use Rattle.sf_insn.specs.declared.input.Input.{Input}
-use Rattle.sf_insn.specs.declared.ops.BinOp.TheVariants.{Div}
-use Rattle.sf_insn.specs.Words.{apply, negation_of, passes}
-use Rattle.sf_check.specs.declared.insn.Insn.{Insn}
-use Rattle.sf_check.specs.declared.insn.Operand.{Operand}
+use Rattle.sf_behaviour.specs.Common.{Input, Div, apply, negation_of, passes, Insn, Operand, successors, Tree, Bits, State, Progress, goes, returns, stuck, operand_of, insn_progress, Source, Constant, Held, Negation, Result, Effect, Sets, Skips, Tests, Returns}
 use Rattle.sf_check.specs.declared.insn.Operand.TheVariants.{Constant as Fixed, X as OfX}
-use Rattle.sf_check.specs.Insns.{successors}
-use Rattle.sf_diagram.specs.Trees.{Tree, Bits}
-use Rattle.sf_run.specs.Machine.{State, Progress, goes, returns, stuck, operand_of, insn_progress}
 use Rattle.sf_behaviour.specs.InputBits.{input_by}
 use Rattle.sf_behaviour.specs.Registers.{A, X, IsRegister, register_number, next_with}
 use Rattle.sf_behaviour.specs.Knowledge.{Known, held_in}
-use Rattle.sf_behaviour.specs.declared.effects.Source.{Source}
-use Rattle.sf_behaviour.specs.declared.effects.Source.TheVariants.{Constant, Word, Held, Negation, Result}
-use Rattle.sf_behaviour.specs.declared.effects.Effect.{Effect}
-use Rattle.sf_behaviour.specs.declared.effects.Effect.TheVariants.{Sets, Skips, Tests, Returns}
+use Rattle.sf_behaviour.specs.declared.effects.Source.TheVariants.{Word}
 
 -- a source that there is
 abbrev pub IsSource : Source → Type 0

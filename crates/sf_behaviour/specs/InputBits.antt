@@ -1,9 +1,6 @@
 -- The bits of an input as variables of diagrams.
 use Rattle.std.specs.Prelude.{ℕ, zero, suc, ◌+◌, ◌-◌, ◌*◌, ◌/◌, ◌%◌, ◌^◌, ◌==◌, List, [], ◌∷◌, map, slice_index, if◌then◌else◌}
-use Rattle.std.specs.List.{range_with_len}
-use Rattle.std.specs.Int.{bit_at}
-use Rattle.sf_insn.specs.declared.input.Input.{Input}
-use Rattle.sf_diagram.specs.Trees.{Bits}
+use Rattle.sf_behaviour.specs.Common.{range_with_len, bit_at, Input, Bits}
 
 -- The number that the lowest n bits of a word make where these variables are true. The word's 32 bits are variables at
 -- equal distances, its highest bit the first of them.

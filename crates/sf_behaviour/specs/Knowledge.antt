@@ -1,10 +1,8 @@
 -- The words that registers are known to have at a place.
 use Rattle.std.specs.Prelude.{◌≡◌, ℕ, List, length, Option, Some, None, slice_index_or}
-use Rattle.sf_diagram.specs.Trees.{Tree, Bits}
-use Rattle.sf_run.specs.Machine.{State}
+use Rattle.sf_behaviour.specs.Common.{Tree, Bits, State, Word}
 use Rattle.sf_behaviour.specs.Registers.{IsRegister, register_by, register_number, with_register}
 use Rattle.sf_behaviour.specs.Words.{word_value, IsWord}
-use Rattle.sf_behaviour.specs.declared.words.Word.{Word}
 
 -- the known words of all registers, by their numbers
 abbrev pub Known : Type 0

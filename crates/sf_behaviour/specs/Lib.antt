@@ -1,3 +1,4 @@
+pub mod Common
 pub mod InputBits
 pub mod Words
 pub mod Combining

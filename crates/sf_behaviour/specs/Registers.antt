@@ -1,8 +1,6 @@
 -- The registers of a run, and their bits as variables of diagrams.
 use Rattle.std.specs.Prelude.{ℕ, zero, suc, ◌+◌, ◌-◌, ◌*◌, ◌/◌, ◌%◌, ◌<◌, ◌==◌, ◌&&◌, Bool, List, ◌∷◌, Option, Some, None, slice_index_or, slice_set, if◌then◌else◌}
-use Rattle.std.specs.Int.{bit_at}
-use Rattle.sf_diagram.specs.Trees.{Bits}
-use Rattle.sf_run.specs.Machine.{State}
+use Rattle.sf_behaviour.specs.Common.{bit_at, Bits, State}
 use Rattle.sf_behaviour.specs.InputBits.{number_by}
 
 -- A register is given by its number: A, X, and then M[0] to M[15].

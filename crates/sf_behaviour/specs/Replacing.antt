@@ -1,9 +1,6 @@
 -- Diagrams in which a number stands in the place of a register.
 use Rattle.std.specs.Prelude.{◌≡◌, ℕ, ◌<◌, List, length, Some}
-use Rattle.std.specs.BTreeMap.{BTreeMap, get}
-use Rattle.std.specs.Ordering.{nat_cmp}
-use Rattle.sf_diagram.specs.Trees.{Tree, Bits, value}
-use Rattle.sf_diagram.specs.Stores.{tree_at}
+use Rattle.sf_behaviour.specs.Common.{BTreeMap, get, nat_cmp, Tree, Bits, value, tree_at}
 use Rattle.sf_behaviour.specs.Registers.{with_register}
 
 -- the second diagram has the value of the first where the register has this number

@@ -1,20 +1,11 @@
 -- How places come to be known, and diagrams that tell what runs return from them.
 use Rattle.std.specs.Prelude.{◌≡◌, ℕ, List, Option, Some, None, slice_set, ◌+◌, ◌<◌, ◌≤◌, ◌^◌, Bool, length, map, Contains, slice_get, slice_index, slice_index_or}
-use Rattle.sf_check.specs.declared.insn.Insn.{Insn}
-use Rattle.sf_check.specs.Programs.{IsLawfulProgram}
-use Rattle.sf_run.specs.Machine.{State, run_for}
-use Rattle.sf_diagram.specs.Trees.{Tree, Bits, value}
-use Rattle.sf_diagram.specs.Stores.{tree_at}
+use Rattle.sf_behaviour.specs.Common.{Insn, IsLawfulProgram, State, run_for, Tree, Bits, value, tree_at, Word, Effect, Sets, Source, Step}
 use Rattle.sf_behaviour.specs.Knowledge.{Known, held_in, IsInputWord, IsLess, Fits, IsKnowledge}
 use Rattle.sf_behaviour.specs.Effects.{source_in, places_after, IsEffectOf}
 use Rattle.sf_behaviour.specs.Registers.{IsRegister}
 use Rattle.sf_behaviour.specs.Words.{IsWordOf}
 use Rattle.sf_behaviour.specs.InputBits.{input_by}
-use Rattle.sf_behaviour.specs.declared.words.Word.{Word}
-use Rattle.sf_behaviour.specs.declared.effects.Effect.{Effect}
-use Rattle.sf_behaviour.specs.declared.effects.Effect.TheVariants.{Sets}
-use Rattle.sf_behaviour.specs.declared.effects.Source.{Source}
-use Rattle.sf_behaviour.specs.declared.steps.Step.{Step}
 
 -- as much is known as before, but of one register the word of a source, if that word depends on the input alone
 pub record IsSetTo (ts : List Tree) (k : Known) (r : ℕ) (source : Source) (after : Known) : Type 0 where

@@ -1,9 +1,6 @@
 -- Words that depend on the input, as diagrams of their bits.
 use Rattle.std.specs.Prelude.{◌≡◌, ℕ, ◌+◌, ◌*◌, ◌<◌, List, [], ◌∷◌, length, slice_index, Result, IfErr}
-use Rattle.sf_diagram.specs.Trees.{Tree, Bits, value}
-use Rattle.sf_diagram.specs.Stores.{StoreData, KeepsStore, IsFull, tree_at}
-use Rattle.sf_diagram.specs.declared.fault.Fault.{Fault}
-use Rattle.sf_diagram.specs.declared.fault.Fault.TheVariants.{Spent}
+use Rattle.sf_behaviour.specs.Common.{Tree, Bits, value, StoreData, KeepsStore, IsFull, tree_at, Fault, Spent}
 
 -- what a call does to a store: each node stays, and there is no room for more where it fails with `Spent`
 abbrev pub Grows : {T : Type 0} → Result T Fault → StoreData → StoreData → Type 0

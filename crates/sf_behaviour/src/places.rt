@@ -6,7 +6,6 @@ ghost use Rattle.sf_check.specs.declared.insn.Insn.{Insn as AnInsn};
 ghost use Rattle.sf_diagram.specs.Trees.{Bits, value};
 ghost use Rattle.sf_diagram.specs.Stores.{tree_at};
 ghost use Rattle.sf_behaviour.specs.Registers.{X as TheX, IsRegister};
-ghost use Rattle.sf_behaviour.specs.Replacing.{IsReplaced};
 ghost use Rattle.sf_behaviour.specs.Knowledge.{known_word, held_in, IsKnowledge, IsLess};
 ghost use Rattle.sf_behaviour.specs.Effects.{divides, operand_in, source_in, IsSource};
 ghost use Rattle.sf_behaviour.specs.Telling.{insns_of, IsNext, IsPlace, Tells};
@@ -77,29 +76,6 @@ fn learn(alloc: Global, store: &mut Store, known: &Known, more: &Known, id: Id) 
         learnt = learn_register(alloc, store, &mut so_far, more, register, learnt)?;
     }
     Ok(learnt)
-}
-
-/// What is returned where a register is set before to the word of a source.
-fn set_diagram(
-    alloc: Global,
-    store: &mut Store,
-    known: &Known,
-    register: Register,
-    source: Source,
-    next: Id,
-) -> Result<Id, Fault>
-    requires register { IsRegister register }
-    requires source { IsSource source }
-    requires known { IsKnowledge store.old.trees known.now }
-    requires next { next < length store.old.trees }
-    ensures replaced { IfOk result (λ id. IsReplaced register store.new.trees
-        (λ bits. source_in store.old.trees known.now bits source) next id) }
-    ensures small { IfOk result (λ id. (bits : Bits)
-        → source_in store.old.trees known.now bits source < 2 ^ 32) }
-    ensures store { Grows result store.old store.new }
-{
-    let by = source_word(store, known, source)?;
-    Ok(replace(alloc, store, register, &by, next)?)
 }
 
 /// Whether a test of a register passes: 1 or 0.
@@ -195,7 +171,8 @@ pub(crate) fn diagram_of_place(
     match step.effect {
         Effect::Sets(register, source) => {
             let next = diagram_behind(alloc, store, steps, ids, step, place + 1)?;
-            let set = set_diagram(alloc, store, &step.known, register, source, next)?;
+            let by = source_word(store, &step.known, source)?;
+            let set = replace(alloc, store, register, &by, next)?;
             Ok(guarded_diagram(store, &step.known, source, set)?)
         }
         Effect::Skips(k) => {

@@ -45,10 +45,7 @@ fn bit_for(store: &mut Store, register: Register, by: &Word, variable: u16) -> R
 {
     match bit_of(register, variable) {
         Some(bit) => Ok(by.bits[bit as usize]),
-        None => {
-            let literal = store.literal(variable)?;
-            Ok(literal)
-        }
+        None => Ok(store.literal(variable)?),
     }
 }
 

@@ -1,6 +1,5 @@
 -- Diagrams of numbers, and their fold to an answer.
-use Rattle.sf_behaviour.proofs.Common.{◌≡◌, ℕ, ◌+◌, ◌*◌, ◌/◌, ◌%◌, ◌<◌, ◌^◌, Bool, List, [], ◌∷◌, ◌++◌, length, map, refl, sym, ap, ap₂, ◌∙◌, arith, bit_at, if◌then◌else◌, Input, Insn, return_of, Tree, Bits, value, tree_at, KeepsTrees, input_by, IsDiagramOf, nat_lt, and_mask, shr_le, shr-shr, and_high_mask, map_push, IsInput, action_bits, data_bits, action_number, rank, Answers, folded_answer, number-action_of, answer_more, one, returns_of, Answer, IsMerged, folded_of, Fold, answer_with, HasAnswers, IsBehaviour}
-use Rattle.sf_behaviour.specs.laws.InputLaws.{input-is}
+use Rattle.sf_behaviour.proofs.Common.{◌≡◌, ℕ, ◌+◌, ◌*◌, ◌/◌, ◌%◌, ◌<◌, ◌^◌, Bool, List, [], ◌∷◌, ◌++◌, length, map, refl, sym, ap, ap₂, ◌∙◌, arith, bit_at, if◌then◌else◌, Input, Insn, return_of, Tree, Bits, value, tree_at, KeepsTrees, input_by, IsDiagramOf, nat_lt, and_mask, shr_le, shr-shr, and_high_mask, map_push, IsInput, action_bits, data_bits, action_number, rank, Answers, folded_answer, number-action_of, answer_more, one, returns_of, Answer, IsMerged, folded_of, Fold, answer_with, HasAnswers, IsBehaviour, input-is}
 use Rattle.sf_behaviour.proofs.replacing.ReplacingLemmas.{less-if}
 
 -- ---- a number, from its highest bit on

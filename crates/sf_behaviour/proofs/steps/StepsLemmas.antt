@@ -14,9 +14,6 @@ at-push xs x y i e =
 
 -- ---- places to which steps lead
 
-pub one-place : (p q : ℕ) → Contains (p ∷ []) q → p ≡ q
-one-place p q c = grind (arith, contains_cons p [] q c, contains_nil q)
-
 -- a step leads to later places
 pub leads-later : (at q : ℕ) (e : Effect) → Contains (places_after at e) q → at < q
 leads-later at q e c = grind (arith, contains_cons, contains_nil)
@@ -139,12 +136,7 @@ pub place-step : {ts us : List Tree} {steps : List Step} {ids : List ℕ} {place
 place-step {steps} {place} {step} h is =
     tells-step (step-at steps place step h.at) (effect-is (this-step h) is)
 
--- a place to which the step of a place leads
-pub next-of : {ts : List Tree} {steps : List Step} {ids : List ℕ} {place next : ℕ} {step : Step}
-    → IsPlace ts steps ids place step → Contains (places_after place step.effect) next → IsNext ts steps ids step next
-next-of {place} h to = record { place = place; is = h; leads = to }
-
--- it is there
+-- a place to which the step of a place leads is there
 pub next-inside : {ts : List Tree} {steps : List Step} {ids : List ℕ} {step : Step} {next : ℕ}
     → IsNext ts steps ids step next → next < length steps
 next-inside {steps} {step} {next} h =

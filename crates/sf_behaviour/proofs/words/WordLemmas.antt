@@ -1,6 +1,5 @@
 -- Words by their bits, in stores that grow.
-use Rattle.sf_behaviour.proofs.Common.{◌≡◌, ℕ, zero, suc, ◌+◌, ◌*◌, ◌<◌, ◌^◌, List, [], ◌∷◌, length, refl, sym, ap, ap₂, ◌∙◌, arith, slice_index, slice_set, bit_at, pow-suc, length-set, get_or-set_same, get_or-set_other, bit_at_cat_low, Tree, Bits, value, tree_at, KeepsTrees, chosen_of, word_value, IsTruth, IsTruthOf, IsWord, IsWordOf, ◌≢◌, get_or, bit_at_lowest, bit_at-suc, bit_at-zero, same_from_bits_below}
-use Rattle.sf_behaviour.specs.laws.InputLaws.{top-bit}
+use Rattle.sf_behaviour.proofs.Common.{◌≡◌, ℕ, zero, suc, ◌+◌, ◌*◌, ◌<◌, ◌^◌, List, [], ◌∷◌, length, refl, sym, ap, ap₂, ◌∙◌, arith, slice_index, slice_set, bit_at, pow-suc, length-set, get_or-set_same, get_or-set_other, bit_at_cat_low, Tree, Bits, value, tree_at, KeepsTrees, chosen_of, word_value, IsTruth, IsTruthOf, IsWord, IsWordOf, ◌≢◌, get_or, bit_at_lowest, bit_at-suc, bit_at-zero, same_from_bits_below, top-bit}
 
 -- ---- stores that grow
 

@@ -1,7 +1,6 @@
-use Rattle.sf_behaviour.proofs.Common.{◌≡◌, ◌∙◌, ◌<◌, ℕ, Option, Some, None, ap, length, length-set, subst, arith, get_or_default, get_or-set_same, same_Some, Known, known_of, IsKnowledge, IsMet, slice_set, unwrap_or}
+use Rattle.sf_behaviour.proofs.Common.{◌≡◌, ◌∙◌, ◌<◌, ℕ, Option, Some, None, ap, length, length-set, only_one, subst, arith, get_or_default, get_or-set_same, same_Some, Known, known_of, IsKnowledge, IsMet, slice_set, unwrap_or}
 use Rattle.sf_behaviour.proofs.words.WordLemmas.{set-each}
 use Rattle.sf_behaviour.proofs.KnowledgeLemmas.{knowledge-less}
-use Rattle.sf_behaviour.proofs.steps.StepsLemmas.{one-place}
 use Rattle.sf_behaviour.proofs.forward.ForwardLemmas.{met-less}
 use Rattle.sf_behaviour.proofs.forward.carry_to.Goals as goal
 
@@ -18,7 +17,7 @@ returns-then-place-len c =
     record {
       count = length-set old place now;
       leads = λ q l to. subst (λ (p : ℕ). IsMet (known_of (slice_set old place now) p) after)
-          (one-place place q to) (rw (get_or-set_same old place now None inside) both.second);
+          (only_one place q to) (rw (get_or-set_same old place now None inside) both.second);
       stays = λ q k h. set-each
           (λ (p : ℕ) (o : Option Known). IsMet (known_of old p) k → IsMet o k) None old place now q inside
           (λ m r w e. met-less (known_of old place) after k m r w (rw was at (both.first r w e))) (λ ne same. same) h;

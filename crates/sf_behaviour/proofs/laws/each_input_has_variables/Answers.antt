@@ -1,4 +1,4 @@
-use Rattle.sf_behaviour.specs.laws.InputLaws.{input-back, input-is}
+use Rattle.sf_behaviour.proofs.Common.{input-back, input-is}
 use Rattle.sf_behaviour.proofs.laws.each_input_has_variables.Goals as goal
 
 pub returns-clause-variables : goal.returns-clause-variables

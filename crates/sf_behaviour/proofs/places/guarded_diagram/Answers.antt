@@ -1,5 +1,4 @@
-use Rattle.sf_behaviour.proofs.Common.{◌∙◌, refl, sym, arith, Equal, passes, X, held_in, operand_in}
-use Rattle.sf_check.specs.declared.insn.Operand.TheVariants.{Constant}
+use Rattle.sf_behaviour.proofs.Common.{◌∙◌, refl, sym, arith, Equal, passes, X, held_in, operand_in, Constant}
 use Rattle.sf_behaviour.proofs.TellLemmas.{chosen-diagram}
 use Rattle.sf_behaviour.proofs.KnowledgeLemmas.{in-kept, knowledge-kept}
 use Rattle.sf_behaviour.proofs.places.guarded_diagram.Goals as goal

@@ -1,7 +1,5 @@
-use Rattle.sf_behaviour.proofs.Common.{◌∙◌, ℕ, ap, sym}
-use Rattle.sf_behaviour.specs.InputBits.{number_by}
+use Rattle.sf_behaviour.proofs.Common.{◌∙◌, ℕ, ap, sym, number_by, input-word}
 use Rattle.sf_behaviour.proofs.words.WordLemmas.{word-of-same}
-use Rattle.sf_behaviour.specs.laws.InputLaws.{input-word}
 use Rattle.sf_behaviour.proofs.words.input_word.Goals as goal
 
 pub returns-clause-word : goal.returns-clause-word

@@ -1,6 +1,5 @@
-use Rattle.sf_behaviour.proofs.Common.{arith, keeps_more}
+use Rattle.sf_behaviour.proofs.Common.{arith, keeps_more, number_by-small}
 use Rattle.sf_behaviour.proofs.words.WordLemmas.{begun-more, word-made}
-use Rattle.sf_behaviour.specs.laws.InputLaws.{number_by-small}
 use Rattle.sf_behaviour.proofs.VariableLemmas.{variable-truth}
 use Rattle.sf_behaviour.proofs.words.variable_word.Goals as goal
 

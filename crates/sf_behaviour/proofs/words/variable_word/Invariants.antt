@@ -1,5 +1,4 @@
-use Rattle.sf_behaviour.proofs.Common.{KeepsStore}
-use Rattle.sf_behaviour.specs.InputBits.{number_by}
+use Rattle.sf_behaviour.proofs.Common.{KeepsStore, number_by}
 use Rattle.sf_behaviour.proofs.words.WordLemmas.{IsBegun}
 use Rattle.sf_behaviour.proofs.words.variable_word.Given as goal
 
