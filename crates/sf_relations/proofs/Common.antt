@@ -1,16 +1,18 @@
 -- The names from elsewhere that the proofs of this crate cite, passed on from one place. Declares nothing.
-pub use Rattle.std.proofs.Common.{Bool, List, None, Option, Some, [], ap, arith, drop, false, get_or, inl, inr, length, map, refl, subst, suc, sym, take, true, zero, ℕ, ◌%◌, ◌*◌, ◌++◌, ◌+◌, ◌-◌, ◌/◌, ◌<◌, ◌==◌, ◌^◌, ◌∙◌, ◌∷◌, ◌≡◌, ◌≤◌, ◌⊎◌}
+pub use Rattle.std.proofs.Common.{Bool, List, None, Option, Some, [], ap, arith, below_more, drop, false, get_or, inl, inr, length, map, refl, subst, suc, sym, take, true, zero, ℕ, ◌%◌, ◌*◌, ◌++◌, ◌+◌, ◌-◌, ◌/◌, ◌<◌, ◌==◌, ◌^◌, ◌∙◌, ◌∷◌, ◌≡◌, ◌≤◌, ◌⊎◌}
 pub use Rattle.std.proofs.Math.Nat.{pow-le-pow_right, pow-suc}
-pub use Rattle.std.proofs.lemmas.Bool.{agree_below_at, cases_eq, cases_lt, cond_both, eqb-true, le-ltb, lt-ltb, ltb-true}
+pub use Rattle.std.proofs.lemmas.Bool.{agree_below_at, cases_eq, cases_lt, eqb-true, le-ltb, lt-ltb, ltb-true}
+pub use Rattle.std.proofs.lemmas.Bool.Decides.{nat_tests}
 pub use Rattle.std.proofs.lemmas.Grind.{common_steps}
 pub use Rattle.std.proofs.lemmas.List.{append-nil, append_assoc, drop_all, drop_more, get_or_append_left, get_or_push, length_push, map-append, map_push, reverse-append, take_more}
-pub use Rattle.std.proofs.lemmas.List.Elements.{All-head, All-nil, All-push, All-weaker}
+pub use Rattle.std.proofs.lemmas.List.Elements.{All-head, All-push, All-weaker}
 pub use Rattle.std.proofs.lemmas.List.FromFn.{fill_by_all}
 pub use Rattle.std.specs.List.{range_with_len}
 pub use Rattle.std.specs.Prelude.{All, if◌then◌else◌, nat_lt, remove, slice_index, slice_index_or}
 pub use Rattle.sf_behaviour.specs.Answering.{IsBehaviour, answer_with}
 pub use Rattle.sf_behaviour.specs.InputBits.{input_bits, input_by, input_number, places_of_words, words_in_order}
 unfoldable pub use Rattle.sf_behaviour.specs.InputBits.{number_by}
+pub use Rattle.sf_behaviour.specs.laws.InputLaws.{input-back, input-is, input-word, input_by-same, number_by-bit, number_by-small}
 pub use Rattle.sf_check.specs.declared.insn.Insn.{Insn}
 pub use Rattle.sf_diagram.specs.LeastInputs.{IsEarlierInput, IsLeastNonzero}
 pub use Rattle.sf_diagram.specs.Merges.{IsMerged}
@@ -26,7 +28,6 @@ pub use Rattle.sf_relations.specs.Needs.{AnswerTheSame, AreKeptUpTo, IsKeptOrDro
 pub use Rattle.sf_relations.specs.Numbers.{IsExampleAt, operation_of}
 pub use Rattle.sf_relations.specs.Order.{ComesBefore, bit_in_order}
 pub use Rattle.sf_relations.specs.Parts.{AreParts}
-pub use Rattle.sf_relations.specs.Relations.{AreRelated}
 pub use Rattle.sf_relations.specs.declared.examples.Example.{Example}
 pub use Rattle.sf_relations.specs.declared.relation.Relation.{Relation}
 pub use Rattle.sf_relations.specs.declared.relation.Relation.TheVariants.{Looser}

@@ -1,7 +1,5 @@
 -- Inputs before others, by their bits and by their variables.
-use Rattle.std.proofs.Common.{below_more}
-use Rattle.sf_behaviour.specs.laws.InputLaws.{input-back, input-is, input-word, input_by-same, number_by-bit, number_by-small}
-use Rattle.sf_relations.proofs.Common.{common_steps, ◌≡◌, ◌⊎◌, ℕ, zero, suc, ◌+◌, ◌-◌, ◌*◌, ◌/◌, ◌%◌, ◌^◌, ◌<◌, ◌≤◌, ◌==◌, Bool, true, false, refl, sym, ap, ◌∙◌, inl, inr, arith, nat_lt, slice_index, if◌then◌else◌, agree_below_at, cases_lt, eqb-true, lt-ltb, le-ltb, ltb-true, pow-le-pow_right, pow-suc, Input, IsInput, Bits, IsEarlierInput, number_by, places_of_words, words_in_order, input_by, input_bits, bit_in_order, ComesBefore}
+use Rattle.sf_relations.proofs.Common.{below_more, input-back, input-is, input-word, input_by-same, number_by-bit, number_by-small, common_steps, ◌≡◌, ◌⊎◌, ℕ, zero, suc, ◌+◌, ◌-◌, ◌*◌, ◌/◌, ◌%◌, ◌^◌, ◌<◌, ◌≤◌, ◌==◌, Bool, true, false, refl, sym, ap, ◌∙◌, inl, inr, arith, nat_lt, slice_index, if◌then◌else◌, agree_below_at, cases_lt, eqb-true, lt-ltb, le-ltb, ltb-true, pow-le-pow_right, pow-suc, Input, IsInput, Bits, IsEarlierInput, number_by, places_of_words, words_in_order, input_by, input_bits, bit_in_order, ComesBefore}
 
 -- ---- a word by its variables
 

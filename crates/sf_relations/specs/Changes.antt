@@ -1,12 +1,6 @@
 -- What is found of a relation between the answers of two stacks.
 use Rattle.std.specs.Prelude.{List, Option, Some, None}
-use Rattle.sf_insn.specs.declared.input.Input.{Input}
-use Rattle.sf_insn.specs.Inputs.{IsInput}
-use Rattle.sf_check.specs.declared.insn.Insn.{Insn}
-use Rattle.sf_run.specs.declared.action.Answer.{Answer}
-use Rattle.sf_run.specs.Answers.{Answers}
-use Rattle.sf_relations.specs.declared.relation.Relation.{Relation}
-use Rattle.sf_relations.specs.declared.examples.Example.{Example}
+use Rattle.sf_relations.specs.Common.{Input, IsInput, Insn, Answer, Answers, Relation, Example}
 use Rattle.sf_relations.specs.Relations.{AreRelated}
 use Rattle.sf_relations.specs.Order.{ComesBefore}
 

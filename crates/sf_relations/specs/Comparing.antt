@@ -1,8 +1,6 @@
 -- What a comparison of two stacks finds.
 use Rattle.std.specs.Prelude.{List}
-use Rattle.sf_check.specs.declared.insn.Insn.{Insn}
-use Rattle.sf_relations.specs.declared.relation.Relation.TheVariants.{Looser, Tighter, Different, Pretended}
-use Rattle.sf_relations.specs.declared.findings.Findings.{Findings}
+use Rattle.sf_relations.specs.Common.{Insn, Looser, Tighter, Different, Pretended, Findings}
 use Rattle.sf_relations.specs.Changes.{IsFinding}
 
 -- of each relation between the answers of an old stack and of a new one

@@ -1,3 +1,4 @@
+pub mod Common
 pub mod Relations
 pub mod Numbers
 pub mod Order

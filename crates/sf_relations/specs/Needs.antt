@@ -1,13 +1,6 @@
 -- Which filters of a stack are needed, and which are kept.
 use Rattle.std.specs.Prelude.{◌≡◌, ◌↔◌, ℕ, zero, suc, ◌<◌, List, [], ◌∷◌, ◌++◌, Option, None, drop, length, map, remove, slice_index_or}
-use Rattle.sf_insn.specs.declared.input.Input.{Input}
-use Rattle.sf_insn.specs.Inputs.{IsInput}
-use Rattle.sf_check.specs.declared.insn.Insn.{Insn}
-use Rattle.sf_run.specs.declared.action.Answer.{Answer}
-use Rattle.sf_run.specs.Answers.{Answers}
-use Rattle.sf_relations.specs.declared.relation.Relation.TheVariants.{Looser}
-use Rattle.sf_relations.specs.declared.examples.Example.{Example}
-use Rattle.sf_relations.specs.declared.needs.Needs.{Needs}
+use Rattle.sf_relations.specs.Common.{Input, IsInput, Insn, Answer, Answers, Looser, Example, Needs}
 use Rattle.sf_relations.specs.Changes.{IsFinding}
 
 -- For each filter what is found of inputs that get further without it: none, so it is spare; or the least such input,

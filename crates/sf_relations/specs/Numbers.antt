@@ -1,14 +1,7 @@
 -- Answers by their numbers, for contracts between functions of this crate.
 use Rattle.std.specs.Prelude.{◌≡◌, ℕ, List}
-use Rattle.sf_diagram.specs.Trees.{Tree, Bits, value}
-use Rattle.sf_diagram.specs.Stores.{tree_at}
-use Rattle.sf_diagram.specs.declared.operation.Operation.{Operation}
+use Rattle.sf_relations.specs.Common.{Tree, Bits, value, tree_at, Operation, input_by, answer_with, Example, Relation, Looser, Tighter, Different, Pretended}
 use Rattle.sf_diagram.specs.declared.operation.Operation.TheVariants as operations
-use Rattle.sf_behaviour.specs.InputBits.{input_by}
-use Rattle.sf_behaviour.specs.Answering.{answer_with}
-use Rattle.sf_relations.specs.declared.examples.Example.{Example}
-use Rattle.sf_relations.specs.declared.relation.Relation.{Relation}
-use Rattle.sf_relations.specs.declared.relation.Relation.TheVariants.{Looser, Tighter, Different, Pretended}
 
 -- what makes of the numbers of two answers a number that isn't 0 just where they have the relation
 abbrev pub operation_of : Relation → Operation

@@ -1,7 +1,6 @@
 -- The order of inputs, in which an example is the least.
 use Rattle.std.specs.Prelude.{◌≡◌, ℕ, ◌+◌, ◌<◌, Bool, true, false}
-use Rattle.sf_insn.specs.declared.input.Input.{Input}
-use Rattle.sf_behaviour.specs.InputBits.{input_bits}
+use Rattle.sf_relations.specs.Common.{Input, input_bits}
 
 -- A bit of an input, where its 512 bits are one number: first the bits of the architecture, then those of the number of
 -- the call, of the arguments and of the instruction pointer; of two halves the upper one first, and of each word the

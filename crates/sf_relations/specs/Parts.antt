@@ -1,8 +1,6 @@
 -- The diagrams of the answers of parts of a stack, for contracts between functions of this crate.
 use Rattle.std.specs.Prelude.{◌≡◌, ℕ, ◌+◌, ◌-◌, ◌<◌, List, [], ◌∷◌, drop, length, slice_index, slice_index_or}
-use Rattle.sf_check.specs.declared.insn.Insn.{Insn}
-use Rattle.sf_diagram.specs.Trees.{Tree}
-use Rattle.sf_behaviour.specs.Answering.{IsBehaviour}
+use Rattle.sf_relations.specs.Common.{Insn, Tree, IsBehaviour}
 
 -- Diagrams of the newest filters of a stack, this many. `alone` are those of each filter alone, the newest first;
 -- `last` are those of none of them, of the newest one, of the newest two, and so on.

@@ -1,12 +1,6 @@
 -- How two answers to one input are related.
 use Rattle.std.specs.Prelude.{◌≡◌, ◌≢◌, ℕ, ◌<◌}
-use Rattle.sf_run.specs.declared.action.Action.{Action}
-use Rattle.sf_run.specs.declared.action.Action.TheVariants.{Errno}
-use Rattle.sf_run.specs.declared.action.Answer.{Answer}
-use Rattle.sf_run.specs.Answers.{action_number}
-use Rattle.sf_diagram.specs.Operations.{reach_by}
-use Rattle.sf_relations.specs.declared.relation.Relation.{Relation}
-use Rattle.sf_relations.specs.declared.relation.Relation.TheVariants.{Looser, Tighter, Different, Pretended}
+use Rattle.sf_relations.specs.Common.{Action, Errno, Answer, action_number, reach_by, Relation, Looser, Tighter, Different, Pretended}
 
 -- how far an action lets a call get: 2, it is carried out; 1, another process decides; 0, it is refused
 abbrev pub reach_of : Action → ℕ

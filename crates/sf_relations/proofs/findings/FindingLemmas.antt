@@ -1,6 +1,5 @@
 -- What a diagram says of two stacks: what is changed, or that they answer alike; and which filters are kept.
-use Rattle.sf_behaviour.specs.laws.InputLaws.{input-back, input-is, input_by-same}
-use Rattle.sf_relations.proofs.Common.{common_steps, ◌≡◌, ℕ, ◌<◌, List, length, Option, Some, None, refl, sym, ap, ◌∙◌, inl, inr, arith, zero, suc, ◌+◌, ◌≤◌, [], ◌∷◌, ◌++◌, drop, slice_index_or, append_assoc, append-nil, drop_all, drop_more, map_push, Input, Insn, Answer, Answers, one, returns_of, Tree, Bits, value, tree_at, KeepsTrees, IsMerged, IsLeastNonzero, input_by, input_bits, answer_with, IsBehaviour, Relation, Example, operation_of, IsExampleAt, value_kept, IsChange, IsUnchanged, IsFinding, IsLeastChange, related-not-0, not-0-related, AnswerTheSame, filters_at, IsKeptOrDropped, drops, keeps, AreKeptUpTo}
+use Rattle.sf_relations.proofs.Common.{input-back, input-is, input_by-same, common_steps, ◌≡◌, ℕ, ◌<◌, List, length, Option, Some, None, refl, sym, ap, ◌∙◌, inl, inr, arith, zero, suc, ◌+◌, ◌≤◌, [], ◌∷◌, ◌++◌, drop, slice_index_or, append_assoc, append-nil, drop_all, drop_more, map_push, Input, Insn, Answer, Answers, one, returns_of, Tree, Bits, value, tree_at, KeepsTrees, IsMerged, IsLeastNonzero, input_by, input_bits, answer_with, IsBehaviour, Relation, Example, operation_of, IsExampleAt, value_kept, IsChange, IsUnchanged, IsFinding, IsLeastChange, related-not-0, not-0-related, AnswerTheSame, filters_at, IsKeptOrDropped, drops, keeps, AreKeptUpTo}
 use Rattle.sf_relations.proofs.OrderLemmas.{AreEarlierVariables, earlier-variables, first-difference}
 
 -- an example is the same by the store that was

@@ -1,6 +1,5 @@
 -- The answers of older filters and newer ones, joined; and the diagrams of the answers of parts of a stack.
-use Rattle.std.proofs.lemmas.Bool.Decides.{nat_tests}
-use Rattle.sf_relations.proofs.Common.{common_steps, ◌≡◌, ℕ, ◌<◌, ◌≤◌, Bool, List, [], ◌∷◌, ◌++◌, length, map, refl, sym, ap, subst, ◌∙◌, inl, inr, arith, suc, ◌+◌, ◌-◌, take, drop, nat_lt, if◌then◌else◌, slice_index, slice_index_or, le-ltb, cases_eq, append-nil, append_assoc, map-append, reverse-append, drop_more, get_or_append_left, get_or_push, length_push, All-head, Input, Insn, Allow, Answer, IsAnswer, action_bits, action_number, rank, folded_answer, answer_more, answer_none, number-action_of, one, returns_of, Tree, value, tree_at, KeepsTrees, folded_of, IsMerged, Fold, input_by, answer_with, IsBehaviour, AreParts, behaviour_kept}
+use Rattle.sf_relations.proofs.Common.{nat_tests, common_steps, ◌≡◌, ℕ, ◌<◌, ◌≤◌, Bool, List, [], ◌∷◌, ◌++◌, length, map, refl, sym, ap, subst, ◌∙◌, inl, inr, arith, suc, ◌+◌, ◌-◌, take, drop, nat_lt, if◌then◌else◌, slice_index, slice_index_or, le-ltb, cases_eq, append-nil, append_assoc, map-append, reverse-append, drop_more, get_or_append_left, get_or_push, length_push, All-head, Input, Insn, Allow, Answer, IsAnswer, action_bits, action_number, rank, folded_answer, answer_more, answer_none, number-action_of, one, returns_of, Tree, value, tree_at, KeepsTrees, folded_of, IsMerged, Fold, input_by, answer_with, IsBehaviour, AreParts, behaviour_kept}
 
 -- ---- of two the lower one by f, the first one where neither is
 

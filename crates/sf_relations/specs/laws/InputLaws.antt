@@ -1,8 +1,6 @@
 -- Variables that make the same input.
 use Rattle.std.proofs.Common.{◌≡◌, ℕ, ◌+◌, ◌<◌}
-use Rattle.sf_insn.specs.Inputs.{IsInput}
-use Rattle.sf_diagram.specs.Trees.{Bits}
-use Rattle.sf_behaviour.specs.InputBits.{input_by}
+use Rattle.sf_relations.specs.Common.{IsInput, Bits, input_by}
 use Rattle.sf_behaviour.specs.laws.InputLaws.{input_by-same}
 
 -- variables that agree behind those of registers make one input

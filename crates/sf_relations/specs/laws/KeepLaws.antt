@@ -1,11 +1,6 @@
 -- What is said of the trees of a store holds in the store as it grows.
 use Rattle.std.proofs.Common.{◌≡◌, ℕ, ◌<◌, ◌^◌, List, length, sym, subst, ap, arith}
-use Rattle.sf_check.specs.declared.insn.Insn.{Insn}
-use Rattle.sf_run.specs.Answers.{Answers}
-use Rattle.sf_diagram.specs.Trees.{Tree, Bits, value}
-use Rattle.sf_diagram.specs.Stores.{tree_at, KeepsTrees}
-use Rattle.sf_behaviour.specs.InputBits.{input_by}
-use Rattle.sf_behaviour.specs.Answering.{answer_with, IsBehaviour}
+use Rattle.sf_relations.specs.Common.{Insn, Answers, Tree, Bits, value, tree_at, KeepsTrees, input_by, answer_with, IsBehaviour}
 
 -- a tree's value, by its id
 pub value_kept : (ts us : List Tree) (id : ℕ) (bits : Bits) → KeepsTrees ts us → id < length ts

@@ -4,13 +4,8 @@ use Rattle.std.specs.Prelude.{nat_lt, if◌then◌else◌}
 use Rattle.std.proofs.lemmas.Bool.Decides.{nat_tests}
 use Rattle.std.proofs.lemmas.Nat.{and_mask}
 use Rattle.std.proofs.lemmas.Nat.Bits.{and_high_mask}
-use Rattle.sf_run.specs.declared.action.Answer.{Answer}
-use Rattle.sf_run.specs.Answers.{action_bits, data_bits, action_number, action_of}
+use Rattle.sf_relations.specs.Common.{Answer, action_bits, data_bits, action_number, action_of, reach_by, merged_of, answer_with, Relation, Looser, Tighter, Different, Pretended}
 use Rattle.sf_run.specs.laws.AnswerLaws.{number-action_of}
-use Rattle.sf_diagram.specs.Operations.{reach_by, merged_of}
-use Rattle.sf_behaviour.specs.Answering.{answer_with}
-use Rattle.sf_relations.specs.declared.relation.Relation.{Relation}
-use Rattle.sf_relations.specs.declared.relation.Relation.TheVariants.{Looser, Tighter, Different, Pretended}
 use Rattle.sf_relations.specs.Relations.{reach_of, AreRelated}
 use Rattle.sf_relations.specs.Numbers.{operation_of}
 

@@ -1,6 +1,5 @@
-use Rattle.sf_relations.proofs.Common.{common_steps, arith, bits_with}
+use Rattle.sf_relations.proofs.Common.{common_steps, arith, bits_with, number_by-small}
 use Rattle.sf_relations.proofs.OrderLemmas.{half-small, number-none, number-step}
-use Rattle.sf_behaviour.specs.laws.InputLaws.{number_by-small}
 use Rattle.sf_relations.proofs.inputs.number_of.Goals as goal
 use Rattle.sf_relations.proofs.inputs.number_of.Goals.{then-is_true, else-is_true}
 
