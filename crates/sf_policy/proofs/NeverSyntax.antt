@@ -1,16 +1,6 @@
 -- No tree is refused as `Syntax`.
-use Rattle.std.proofs.lemmas.Grind.{common_steps}
-use Rattle.std.proofs.Common.{arith, ◌≡◌, ℕ, ◌+◌, Bool, true, false, ◌&&◌, List, [], ◌∷◌, codes, length, Option, Some, None, Result, Ok, Err, refl, sym, ap, ◌∙◌, if◌then◌else◌, nat_le}
-use Rattle.std.proofs.lemmas.Bool.{false≢true}
-use Rattle.toml.specs.Data.{Members, get_member}
-use Rattle.sf_question.specs.QuestionData.{QuestionData}
-use Rattle.sf_stack.specs.declared.fault.Fault.{Fault}
+use Rattle.sf_policy.proofs.Common.{common_steps, arith, ◌≡◌, ℕ, ◌+◌, Bool, true, false, ◌&&◌, List, [], ◌∷◌, codes, length, Option, Some, None, Result, Ok, Err, refl, sym, ap, ◌∙◌, if◌then◌else◌, nat_le, false≢true, Members, get_member, QuestionData, Fault, Version, top_keys, has_only, number_at, IsDue, Entry, question_of_entry, question_where_read, entry_of_question, question_cons, questions_from, questions_where_tables, tables_at, version_numbered, policy_where_version, policy_of}
 use Rattle.sf_stack.specs.declared.fault.Fault.TheVariants as faults
-use Rattle.sf_policy.specs.declared.policy.Version.{Version}
-use Rattle.sf_policy.specs.Keys.{top_keys, has_only}
-use Rattle.sf_policy.specs.Trees.{number_at}
-use Rattle.sf_policy.specs.Faults.{IsDue}
-use Rattle.sf_policy.specs.Policies.{Entry, question_of_entry, question_where_read, entry_of_question, question_cons, questions_from, questions_where_tables, tables_at, version_numbered, policy_where_version, policy_of}
 
 abbrev pub is_syntax : {X : Type 0} → Result X Fault → Bool
 is_syntax (Ok x) = false

@@ -1,9 +1,6 @@
 -- The questions that may be allowed, by the file that names them.
 use Rattle.std.specs.Prelude.{◌≡◌, ℕ, Bool, true, false, not, ◌==◌, List, [], ◌∷◌, length, count_by, Some, slice_get, take}
-use Rattle.std.specs.List.{before_first, filter, flat_map, list_all, slice_split}
-use Rattle.std.specs.Str.{bytes_eq}
-use Rattle.std.specs.Str.Lines.{lines}
-use Rattle.sf_question.specs.QuestionData.{QuestionData}
+use Rattle.sf_policy.specs.Common.{before_first, filter, flat_map, list_all, slice_split, bytes_eq, lines, QuestionData}
 
 -- the part begins with `#`
 abbrev pub is_comment : List ℕ → Bool

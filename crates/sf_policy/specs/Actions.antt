@@ -1,9 +1,6 @@
 -- The set of actions that names stand for.
 use Rattle.std.specs.Prelude.{ℕ, Bool, false, List, [], ◌∷◌, codes, Option, Some, None}
-use Rattle.std.specs.List.{list_any, list_all}
-use Rattle.std.specs.Str.{bytes_eq}
-use Rattle.toml.specs.Data.{Data, array}
-use Rattle.sf_question.specs.declared.actions.ActionSet.{ActionSet}
+use Rattle.sf_policy.specs.Common.{list_any, list_all, bytes_eq, Data, array, ActionSet}
 use Rattle.sf_policy.specs.Trees.{texts_of}
 
 -- the names of the actions, and of all the actions that have none

@@ -1,16 +1,10 @@
 -- How an entry is handed to `Question::of_masked`, which refuses it where that is due: an unknown action is handed in
 -- as the empty set. And what is wrong with an entry that has a number outside 32 bits, which can't be handed in.
 use Rattle.std.specs.Prelude.{ℕ, false, Option, Some, None, if◌then◌else◌, List, [], map, unwrap_or, Result, Ok, Err}
-use Rattle.std.specs.List.{list_all}
-use Rattle.toml.specs.Data.{Data, as_str, as_table, Members, no_members}
+use Rattle.sf_policy.specs.Common.{list_all, Data, as_str, as_table, Members, no_members, Fault, ActionSet, QuestionData, is_name, question_of, WordEntry}
 use Rattle.sf_question.specs.declared.fault.Fault.{Fault as AskFault}
 use Rattle.sf_question.specs.declared.fault.Fault.TheVariants as ask
-use Rattle.sf_stack.specs.declared.fault.Fault.{Fault}
 use Rattle.sf_stack.specs.declared.fault.Fault.TheVariants as faults
-use Rattle.sf_question.specs.declared.actions.ActionSet.{ActionSet}
-use Rattle.sf_question.specs.QuestionData.{QuestionData}
-use Rattle.sf_question.specs.Questions.{is_name, question_of}
-use Rattle.sf_policy.specs.declared.policy.words.WordEntry.{WordEntry}
 use Rattle.sf_policy.specs.Actions.{are_actions, actions_of}
 use Rattle.sf_policy.specs.Words.{has_words, range_of, mask_of}
 

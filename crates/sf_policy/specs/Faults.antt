@@ -1,8 +1,7 @@
 -- Results that are the due ones unless memory is refused.
 use Rattle.std.specs.Prelude.{◌≡◌, Result, Ok, Err}
-use Rattle.sf_stack.specs.declared.fault.Fault.{Fault}
+use Rattle.sf_policy.specs.Common.{Fault, Refusal}
 use Rattle.sf_stack.specs.declared.fault.Fault.TheVariants as faults
-use Rattle.sf_policy.specs.declared.policy.refusal.Refusal.{Refusal}
 
 -- a fault other than refused memory is the one that is due
 abbrev pub IsFaultDue : {X : Type 0} → Fault → Result X Fault → Type 0

@@ -1,9 +1,6 @@
 -- What a TOML tree means as a file of groups of questions.
-use Rattle.std.specs.Prelude.{◌≡◌, ◌⊎◌, ℕ, ◌&&◌, nat_le, Bool, if◌then◌else◌, List, [], ◌∷◌, codes, Option, Some, None, option_and_then, Result, Ok, Err}
-use Rattle.std.specs.List.{list_all}
-use Rattle.toml.specs.Data.{Members, get_member}
-use Rattle.toml.specs.Parse.{parse_document}
-use Rattle.sf_stack.specs.declared.fault.Fault.{Fault}
+use Rattle.std.specs.Prelude.{◌≡◌, ◌⊎◌, ℕ, ◌&&◌, nat_le, Bool, if◌then◌else◌, List, codes, Option, Some, None, option_and_then, Result, Ok, Err}
+use Rattle.sf_policy.specs.Common.{list_all, Members, get_member, parse_document, Fault}
 use Rattle.sf_stack.specs.declared.fault.Fault.TheVariants as faults
 use Rattle.sf_policy.specs.Keys.{group_keys, groups_keys, has_only}
 use Rattle.sf_policy.specs.Trees.{each_of, text_at}

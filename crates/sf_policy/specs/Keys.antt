@@ -1,8 +1,6 @@
 -- The keys of a policy file.
 use Rattle.std.specs.Prelude.{ℕ, Bool, true, List, [], ◌∷◌, codes, ◌&&◌}
-use Rattle.std.specs.List.{list_any}
-use Rattle.std.specs.Str.{bytes_eq}
-use Rattle.toml.specs.Data.{Members, no_members, member}
+use Rattle.sf_policy.specs.Common.{list_any, bytes_eq, Members, no_members, member}
 
 -- the keys of the sixteen words, in the order of `struct seccomp_data`
 abbrev pub word_keys : List (List ℕ)

@@ -1,14 +1,7 @@
 -- What a TOML tree means as a policy: its questions, or the first refusal.
 use Rattle.std.specs.Prelude.{ℕ, ℤ, pos, ◌+◌, List, [], ◌∷◌, map, length, codes, ◌&&◌, not, nat_le, nat_eq, if◌then◌else◌, Option, Some, None, Result, Ok, Err}
-use Rattle.std.specs.List.{list_all}
-use Rattle.toml.specs.Data.{Data, array, Members, get_member}
-use Rattle.sf_question.specs.QuestionData.{QuestionData}
-use Rattle.sf_question.specs.Questions.{is_name}
-use Rattle.sf_stack.specs.declared.fault.Fault.{Fault}
+use Rattle.sf_policy.specs.Common.{list_all, Data, array, Members, get_member, QuestionData, is_name, Fault, Version, One, Two, WordEntry}
 use Rattle.sf_stack.specs.declared.fault.Fault.TheVariants as faults
-use Rattle.sf_policy.specs.declared.policy.Version.{Version}
-use Rattle.sf_policy.specs.declared.policy.Version.TheVariants.{One, Two}
-use Rattle.sf_policy.specs.declared.policy.words.WordEntry.{WordEntry}
 use Rattle.sf_policy.specs.Keys.{word_keys, question_keys, top_keys, has_only}
 use Rattle.sf_policy.specs.Trees.{each_of, tables_of, number_at, text_at}
 use Rattle.sf_policy.specs.Words.{entry_at, has_range, has_mask, range_of, mask_of}

@@ -1,6 +1,6 @@
 -- Reading a TOML tree.
 use Rattle.std.specs.Prelude.{ℕ, ℤ, List, [], ◌∷◌, Option, Some, None, option_and_then}
-use Rattle.toml.specs.Data.{Data, Items, no_items, item, Members, get_member, as_str, as_integer, as_table}
+use Rattle.sf_policy.specs.Common.{Data, Items, no_items, item, Members, get_member, as_str, as_integer, as_table}
 
 -- what was read of one value before what was read of the others; nothing where either can't be read
 abbrev pub option_cons : {X : Type 0} → Option X → Option (List X) → Option (List X)

@@ -1,10 +1,6 @@
 -- What the value of a word says: which numbers the word has in a question.
 use Rattle.std.specs.Prelude.{ℕ, ℤ, pos, negsuc, ◌-◌, ◌^◌, Bool, false, ◌&&◌, codes, Option, Some, None, nat_lt, nat_le, if◌then◌else◌}
-use Rattle.toml.specs.Data.{Data, integer, array, table, Items, no_items, item, Members, get_member, as_integer}
-use Rattle.sf_question.specs.Questions.{is_inside_mask}
-use Rattle.sf_policy.specs.declared.policy.Version.{Version}
-use Rattle.sf_policy.specs.declared.policy.Version.TheVariants.{One, Two}
-use Rattle.sf_policy.specs.declared.policy.words.WordEntry.{WordEntry}
+use Rattle.sf_policy.specs.Common.{Data, integer, array, table, Items, no_items, item, Members, get_member, as_integer, is_inside_mask, Version, One, Two, WordEntry}
 use Rattle.sf_policy.specs.Keys.{mask_keys, has_only}
 use Rattle.sf_policy.specs.Trees.{number_at, number_or}
 

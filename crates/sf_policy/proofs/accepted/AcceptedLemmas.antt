@@ -1,12 +1,5 @@
 -- The lines that name questions, one more at a time.
-use Rattle.std.proofs.lemmas.Grind.{common_steps}
-use Rattle.std.proofs.Common.{◌≡◌, List, [], ◌∷◌, ℕ, ◌<◌, ◌≤◌, Bor, false, arith, get_or, length, map, refl, sym, take, true}
-use Rattle.std.specs.Prelude.{Some, slice_get, suc, zero}
-use Rattle.std.specs.List.{flat_map, list_all}
-use Rattle.std.specs.Str.Lines.{lines}
-use Rattle.std.proofs.lemmas.List.{take-map}
-use Rattle.sf_question.specs.QuestionData.{QuestionData}
-use Rattle.sf_policy.specs.Accepted.{IsMisfitAt, is_name_once, line_fits, words_of_line}
+use Rattle.sf_policy.proofs.Common.{common_steps, ◌≡◌, List, [], ◌∷◌, ℕ, ◌<◌, ◌≤◌, Bor, false, arith, get_or, length, map, refl, sym, take, true, slice_get, suc, zero, flat_map, list_all, lines, take-map, QuestionData, IsMisfitAt, is_name_once, line_fits, words_of_line, Some}
 
 -- the lines that were read fit, and these are their names
 pub record ReadSoFar (questions : List QuestionData) (read : List (Bor (List ℕ))) (names : List (List ℕ)) : Type 0 where

@@ -1,6 +1,4 @@
-use Rattle.std.proofs.lemmas.Grind.{common_steps}
-use Rattle.std.proofs.Common.{◌≡◌, ◌∙◌, false, get_or, Bor, List, [], ℕ, ap, arith, inr, map, refl, rules}
-use Rattle.sf_policy.specs.Accepted.{line_fits}
+use Rattle.sf_policy.proofs.Common.{common_steps, ◌≡◌, ◌∙◌, false, get_or, Bor, List, [], ℕ, ap, arith, inr, map, refl, rules, line_fits}
 use Rattle.sf_policy.proofs.accepted.AcceptedLemmas.{first_misfit, other_word, several_words}
 use Rattle.sf_policy.proofs.accepted.read_accepted.Goals.{in_default-via-in-len1+else-is_name_once, in_default-via-else-this-lt2}
 use Rattle.sf_policy.proofs.accepted.read_accepted.Goals as goal

@@ -1,4 +1,4 @@
-use Rattle.std.proofs.Common.{map, string_bytes, take}
+use Rattle.sf_policy.proofs.Common.{map, string_bytes, take}
 use Rattle.sf_policy.proofs.accepted.AcceptedLemmas.{ReadSoFar}
 use Rattle.sf_policy.proofs.accepted.read_accepted.Given as goal
 

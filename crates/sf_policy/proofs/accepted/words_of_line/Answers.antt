@@ -1,9 +1,4 @@
-use Rattle.std.proofs.Common.{lit<, not, rules, tests}
-use Rattle.std.specs.Prelude.{◌==◌, length}
-use Rattle.std.proofs.lemmas.Iterator.Consumers.{YieldsList-at, YieldsList-from_filter, map_from_collect}
-use Rattle.std.proofs.lemmas.Iterator.Search.{YieldsList-from_take_while}
-use Rattle.std.proofs.lemmas.Iterator.Splits.{YieldsList-from_str_split}
-use Rattle.sf_policy.specs.Accepted.{is_comment}
+use Rattle.sf_policy.proofs.Common.{lit<, not, rules, tests, ◌==◌, YieldsList-at, YieldsList-from_filter, map_from_collect, YieldsList-from_take_while, YieldsList-from_str_split, is_comment, length}
 use Rattle.sf_policy.proofs.accepted.words_of_line.Goals as goal
 
 pub returns : goal.returns

@@ -1,13 +1,5 @@
 -- The set of the actions that an array names.
-use Rattle.std.proofs.Common.{◌≡◌, ℕ, List, [], ◌∷◌, ◌||◌, ◌&&◌, not, ◌==◌, length, map, refl, ap}
-use Rattle.std.specs.List.{list_any, list_all}
-use Rattle.std.specs.Str.{bytes_eq}
-use Rattle.toml.specs.View.{view}
-use Rattle.toml.specs.declared.value.Value.{Value}
-use Rattle.std.proofs.Math.Dec.{eqb-suc-zero}
-use Rattle.std.proofs.lemmas.List.Folds.{list_all-map}
-use Rattle.sf_policy.specs.Actions.{is_action, are_actions, is_text_among}
-use Rattle.sf_policy.specs.Encoding.{text_or_empty}
+use Rattle.sf_policy.proofs.Common.{◌≡◌, ℕ, List, [], ◌∷◌, ◌||◌, ◌&&◌, not, length, map, refl, ap, list_any, list_all, bytes_eq, view, Value, eqb-suc-zero, list_all-map, is_action, are_actions, is_text_among, text_or_empty, ◌==◌}
 
 pub is_named_view : (name : List ℕ) (vs : List Value) → is_text_among (map (λ v. text_or_empty (view v)) vs) name
     ≡ list_any (λ v. bytes_eq (text_or_empty (view v)) name) vs

@@ -1,26 +1,8 @@
 -- What `Question::of_masked` gives for the parts of an entry is what is due for the entry.
-use Rattle.std.proofs.lemmas.Grind.{common_steps}
-use Rattle.std.proofs.Common.{arith, ◌≡◌, ℕ, ◌++◌, Bool, true, false, not, ◌&&◌, ◌||◌, List, [], ◌∷◌, map, refl, ap, Option, Some, None, Result, Ok, Err, ◌⊎◌, codes, option_map, if◌then◌else◌, inl, inr}
-use Rattle.std.proofs.lemmas.Bool.{and_parts}
-use Rattle.std.proofs.lemmas.List.Folds.{list_all-map}
-use Rattle.std.specs.List.{list_all}
+use Rattle.sf_policy.proofs.Common.{common_steps, arith, ◌≡◌, ℕ, ◌++◌, Bool, true, false, not, ◌&&◌, ◌||◌, List, [], ◌∷◌, map, refl, ap, Option, Some, None, Result, Ok, Err, ◌⊎◌, codes, option_map, if◌then◌else◌, inl, inr, and_parts, list_all-map, list_all, is_no_action, QuestionData, is_name, is_in_order, is_inside_mask, Fault, WordEntry, has_words, has_range, has_mask, range_of, mask_of, entry_at, Members, get_member, ActionSet, Version, has_only, question_keys, word_keys, each_of, text_at, are_actions, actions_of, names_at, no_actions, ranges_and_masks, encoded_set, numbered_fault, with_number, question_of_parts, Entry, question_entry_of_parts, question_of_entry, question_where_read, question_of_table}
 use Rattle.sf_question.specs.declared.fault.Fault.{Fault as AskFault}
-use Rattle.sf_question.specs.Actions.{is_no_action}
-use Rattle.sf_question.specs.QuestionData.{QuestionData}
-use Rattle.sf_question.specs.Questions.{is_name, is_in_order, is_inside_mask}
 use Rattle.sf_question.specs.declared.fault.Fault.TheVariants as ask
-use Rattle.sf_stack.specs.declared.fault.Fault.{Fault}
 use Rattle.sf_stack.specs.declared.fault.Fault.TheVariants as faults
-use Rattle.sf_policy.specs.declared.policy.words.WordEntry.{WordEntry}
-use Rattle.sf_policy.specs.Words.{has_words, has_range, has_mask, range_of, mask_of, entry_at}
-use Rattle.toml.specs.Data.{Members, get_member}
-use Rattle.sf_question.specs.declared.actions.ActionSet.{ActionSet}
-use Rattle.sf_policy.specs.declared.policy.Version.{Version}
-use Rattle.sf_policy.specs.Keys.{has_only, question_keys, word_keys}
-use Rattle.sf_policy.specs.Trees.{each_of, text_at}
-use Rattle.sf_policy.specs.Actions.{are_actions, actions_of, names_at}
-use Rattle.sf_policy.specs.Encoding.{no_actions, ranges_and_masks, encoded_set, numbered_fault, with_number, question_of_parts}
-use Rattle.sf_policy.specs.Policies.{Entry, question_entry_of_parts, question_of_entry, question_where_read, question_of_table}
 
 and_true : (a b : Bool) → a ≡ true → (a && b) ≡ b
 and_true true b h = refl

@@ -1,17 +1,5 @@
 -- The definitions over trees, at the lists that the code goes through.
-use Rattle.std.proofs.Common.{◌≡◌, ℕ, true, false, List, [], ◌∷◌, ◌&&◌, ◌||◌, Bool, map, refl, ap, ap₂, ◌∙◌, sym, String, string_bytes, Global, is_some, Option, Some, None, length, get_or, take, drop, set, ◌<◌, ◌≤◌, ◌+◌, ◌++◌, append_assoc, arith, Bor, unwrap_or}
-use Rattle.std.proofs.lemmas.List.{get_or-map, drop_more, length-map}
-use Rattle.std.proofs.lemmas.Grind.{take-set_at}
-use Rattle.std.specs.List.{list_any, list_all}
-use Rattle.std.specs.Map.{keys_of}
-use Rattle.std.specs.Str.{bytes_eq}
-use Rattle.toml.specs.Data.{Data, no_members, as_str, as_table}
-use Rattle.toml.specs.View.{view, items_view, members_view}
-use Rattle.toml.specs.declared.value.Value.{Value}
-use Rattle.sf_policy.specs.Keys.{has_only}
-use Rattle.sf_policy.specs.Trees.{option_cons, each_of, item_list, texts_of, tables_of}
-use Rattle.sf_policy.specs.Words.{entry_of_array}
-use Rattle.sf_policy.specs.Encoding.{text_or_empty, table_or_empty}
+use Rattle.sf_policy.proofs.Common.{◌≡◌, ℕ, true, false, List, [], ◌∷◌, ◌&&◌, ◌||◌, Bool, map, refl, ap, ap₂, ◌∙◌, sym, String, string_bytes, Global, is_some, Option, Some, None, length, get_or, take, drop, set, ◌<◌, ◌≤◌, ◌+◌, ◌++◌, append_assoc, arith, Bor, unwrap_or, get_or-map, drop_more, length-map, take-set_at, list_any, list_all, keys_of, bytes_eq, Data, no_members, as_str, as_table, view, items_view, members_view, Value, has_only, option_cons, each_of, item_list, texts_of, tables_of, entry_of_array, text_or_empty, table_or_empty}
 
 any_now : (p : List ℕ → Bool) (ks : List (Bor (List ℕ))) → list_any p (map (λ k. k.now) ks) ≡ list_any (λ k. p k.now) ks
 any_now p [] = refl

@@ -1,8 +1,4 @@
-use Rattle.std.proofs.Common.{◌≡◌, map, drop}
-use Rattle.toml.specs.View.{view}
-use Rattle.sf_policy.specs.Encoding.{table_or_empty}
-use Rattle.sf_policy.specs.Groups.{group_of}
-use Rattle.sf_policy.specs.Trees.{each_of}
+use Rattle.sf_policy.proofs.Common.{◌≡◌, map, drop, view, table_or_empty, group_of, each_of}
 use Rattle.sf_policy.proofs.policy.words.TreeLemmas.{with_front}
 use Rattle.sf_policy.proofs.policy.groups.groups_of.Given as goal
 

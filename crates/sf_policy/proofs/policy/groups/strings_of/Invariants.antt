@@ -1,6 +1,4 @@
-use Rattle.std.proofs.Common.{◌≡◌, map, string_bytes, take}
-use Rattle.toml.specs.View.{view}
-use Rattle.sf_policy.specs.Encoding.{text_or_empty}
+use Rattle.sf_policy.proofs.Common.{◌≡◌, map, string_bytes, take, view, text_or_empty}
 use Rattle.sf_policy.proofs.policy.groups.strings_of.Given as goal
 
 abbrev pub invariant-loop-value : goal.invariant-loop-value

@@ -1,7 +1,4 @@
-use Rattle.std.proofs.Common.{◌≡◌, ◌+◌, drop, map}
-use Rattle.toml.specs.View.{view}
-use Rattle.sf_policy.specs.Encoding.{table_or_empty}
-use Rattle.sf_policy.specs.Policies.{questions_from}
+use Rattle.sf_policy.proofs.Common.{◌≡◌, ◌+◌, drop, map, view, table_or_empty, questions_from}
 use Rattle.sf_policy.proofs.policy.questions.EntryLemmas.{with_questions}
 use Rattle.sf_policy.proofs.policy.questions.questions_in.Given as goal
 

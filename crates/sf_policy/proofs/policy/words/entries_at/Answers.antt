@@ -1,5 +1,4 @@
-use Rattle.std.proofs.lemmas.Grind.{common_steps}
-use Rattle.std.proofs.Common.{arith}
+use Rattle.sf_policy.proofs.Common.{common_steps, arith}
 use Rattle.sf_policy.proofs.policy.words.TreeLemmas.{one_more_read, not_read}
 use Rattle.sf_policy.proofs.policy.words.entries_at.Goals as goal
 

@@ -1,8 +1,4 @@
-use Rattle.std.proofs.Common.{◌≡◌, length, take, drop}
-use Rattle.toml.specs.Data.{get_member}
-use Rattle.toml.specs.View.{table_view}
-use Rattle.sf_policy.specs.Trees.{each_of}
-use Rattle.sf_policy.specs.Words.{entry_at}
+use Rattle.sf_policy.proofs.Common.{◌≡◌, length, take, drop, get_member, table_view, each_of, entry_at}
 use Rattle.sf_policy.proofs.policy.words.TreeLemmas.{with_front, texts_now}
 use Rattle.sf_policy.proofs.policy.words.entries_at.Given as goal
 

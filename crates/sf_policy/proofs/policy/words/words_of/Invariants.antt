@@ -1,6 +1,4 @@
-use Rattle.std.proofs.Common.{◌≡◌, true, length, take, map}
-use Rattle.std.specs.List.{list_all}
-use Rattle.sf_policy.specs.Words.{has_words, range_of, mask_of}
+use Rattle.sf_policy.proofs.Common.{◌≡◌, true, length, take, map, list_all, has_words, range_of, mask_of}
 use Rattle.sf_policy.proofs.policy.words.words_of.Given as goal
 
 abbrev pub invariant-loop-i : goal.invariant-loop-i
