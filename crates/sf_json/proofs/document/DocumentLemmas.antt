@@ -1,14 +1,5 @@
 -- Values without a float.
-use Rattle.std.proofs.Common.{◌≡◌, ℕ, List, [], ◌∷◌, ◌++◌, BTreeMap, Global, String, false, rules}
-use Rattle.std.specs.Ordering.{nat_cmp, match_ordering}
-use Rattle.std.specs.Cmp.Lexicographic.{slice_cmp}
-use Rattle.std.specs.declared.cmp.Ordering.{Ordering}
-use Rattle.std.specs.declared.cmp.Ordering.TheVariants.{Less, Equal, Greater}
-use Rattle.std.proofs.lemmas.Bool.{or_parts}
-use Rattle.serde_json.specs.Data.{Data, Members, no_members, member, object, put}
-use Rattle.serde_json.specs.View.{items_view, members_view, view}
-use Rattle.serde_json.specs.Written.{has_float, items_have_float, members_have_float}
-use Rattle.serde_json.specs.declared.value.Value.{Object, Value, the_lemmas}
+use Rattle.sf_json.proofs.Common.{◌≡◌, ℕ, List, [], ◌∷◌, ◌++◌, BTreeMap, Global, String, false, rules, nat_cmp, match_ordering, slice_cmp, Ordering, Less, Equal, Greater, or_parts, Data, Members, no_members, member, object, put, items_view, members_view, view, has_float, items_have_float, members_have_float, Object, Value, the_lemmas}
 
 -- one more value without a float behind values without one
 pub no_float_behind : (vs : List Value) (v : Value) → items_have_float (items_view vs) ≡ false
