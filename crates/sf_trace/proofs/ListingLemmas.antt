@@ -1,8 +1,5 @@
 -- The lines of the filters that were written, with those of one filter more.
-use Rattle.std.proofs.Common.{◌≡◌, ℕ, ◌+◌, ◌<◌, Bool, List, ◌∷◌, ◌++◌, drop, get_or, length, append_assoc, refl, sym, subst}
-use Rattle.std.proofs.lemmas.List.{drop_more}
-use Rattle.sf_check.specs.declared.insn.Insn.{Insn}
-use Rattle.sf_trace.specs.Texts.{AreFilterLines, StandUnder, filter_line}
+use Rattle.sf_trace.proofs.Common.{◌≡◌, ℕ, ◌+◌, ◌<◌, Bool, List, ◌∷◌, ◌++◌, drop, get_or, length, append_assoc, refl, drop_more, Insn, AreFilterLines, StandUnder, filter_line}
 
 pub one_filter_listed : (listed : Bool) (place : ℕ) (programs : List (List Insn)) (code : List Insn)
     (under rest old named new initial : List ℕ) → code ≡ get_or programs place code → place < length programs
@@ -17,6 +14,6 @@ one_filter_listed listed place programs code under rest old named new initial at
     let dropped : drop place programs ≡ code ∷ drop (place + 1) programs =
     rw at (drop_more programs place code below) in
     let these : AreFilterLines listed (place + 1) (drop place programs) whole =
-    subst (λ ps. AreFilterLines listed (place + 1) ps whole) (sym dropped) (under, rest, stands, rested, refl) in
+    rw dropped (under, rest, stands, rested, refl) in
     let (lines, are, same) = so_far whole these in
     (lines, are, rw (pushed, name, append_assoc (old ++ filter_line (place + 1) (length code)), append_assoc old) same)

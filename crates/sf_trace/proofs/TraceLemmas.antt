@@ -1,13 +1,5 @@
 -- The runs of filters with one more, and the parts of a line.
-use Rattle.std.proofs.lemmas.Grind.{common_steps}
-use Rattle.std.proofs.Common.{arith, ◌≡◌, ℕ, suc, ◌+◌, ◌<◌, Bool, List, [], ◌∷◌, ◌++◌, codes, Some, get_or, length, slice_get, append_assoc, refl}
-use Rattle.std.proofs.lemmas.Option.{slice_get-get_or}
-use Rattle.std.specs.Prelude.{not, ◌&&◌, ◌||◌, ◌==◌}
-use Rattle.sf_insn.specs.declared.input.Input.{Input}
-use Rattle.sf_check.specs.declared.insn.Insn.{Insn}
-use Rattle.sf_run.specs.Answers.{action_bits}
-use Rattle.sf_run.specs.Walks.{CourseData, walk_of}
-use Rattle.sf_trace.specs.Runs.{RunData, first_runs}
+use Rattle.sf_trace.proofs.Common.{common_steps, arith, ◌≡◌, ℕ, suc, ◌+◌, ◌<◌, Bool, List, [], ◌∷◌, ◌++◌, codes, Some, get_or, length, slice_get, append_assoc, refl, slice_get-get_or, not, ◌&&◌, ◌||◌, ◌==◌, Input, Insn, action_bits, CourseData, walk_of, RunData, first_runs}
 
 -- the runs of a stack's filters, with that of one filter more
 pub one_more_run : (n action : ℕ) (stood stands : Bool) (programs : List (List Insn)) (d : Input) (code : List Insn)

@@ -1,9 +1,6 @@
 -- What `check` finds, as JSON. Each field is always there: one that doesn't apply is null.
 use Rattle.std.specs.Prelude.{◌≡◌, ℕ, ◌+◌, Bool, true, false, List, [], ◌∷◌, codes, length, Some, slice_get}
-use Rattle.serde_json.specs.Data.{Data, null, string}
-use Rattle.sf_check.specs.declared.insn.Insn.{Insn}
-use Rattle.sf_check.specs.Stacks.{path_length}
-use Rattle.sf_json.specs.Documents.{count, fields, list_of}
+use Rattle.sf_trace.specs.Common.{Data, null, string, Insn, path_length, count, fields, list_of}
 use Rattle.sf_trace.specs.Instructions.{AreInsnLines}
 
 -- the lines of a filter's instructions as one text, if they are listed

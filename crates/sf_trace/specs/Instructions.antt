@@ -1,16 +1,7 @@
 -- The instructions of a filter, in the form that the kernel's `bpf_asm` reads and its `bpf_dbg` shows. What stands
 -- behind a semicolon is a comment there.
 use Rattle.std.specs.Prelude.{◌≡◌, ℕ, ◌+◌, ◌*◌, Bool, false, if◌then◌else◌, List, [], ◌∷◌, ◌++◌, codes, slice_index_or}
-use Rattle.std.specs.Fmt.{decimal, digits}
-use Rattle.sf_insn.specs.declared.ops.BinOp.{BinOp}
-use Rattle.sf_insn.specs.declared.ops.BinOp.TheVariants.{Add, Sub, Mul, Div, Or, And, Lsh, Rsh, Xor}
-use Rattle.sf_insn.specs.declared.ops.Test.{Test}
-use Rattle.sf_insn.specs.declared.ops.Test.TheVariants.{Equal, Greater, GreaterOrEqual, AnyBit}
-use Rattle.sf_check.specs.declared.insn.Insn.{Insn}
-use Rattle.sf_check.specs.declared.insn.Insn.TheVariants.{LoadWord, LoadConstant, LoadScratch, LoadLength, LoadXConstant, LoadXScratch, LoadXLength, StoreA, StoreX, Alu, Negate, Jump, Branch, ReturnConstant, ReturnA, Tax, Txa}
-use Rattle.sf_check.specs.declared.insn.Operand.{Operand}
-use Rattle.sf_check.specs.declared.insn.Operand.TheVariants.{Constant, X}
-use Rattle.sf_stack.specs.Reaching.{AreReached}
+use Rattle.sf_trace.specs.Common.{decimal, digits, BinOp, Add, Sub, Mul, Div, Or, And, Lsh, Rsh, Xor, Test, Equal, Greater, GreaterOrEqual, AnyBit, Insn, LoadWord, LoadConstant, LoadScratch, LoadLength, LoadXConstant, LoadXScratch, LoadXLength, StoreA, StoreX, Alu, Negate, Jump, Branch, ReturnConstant, ReturnA, Tax, Txa, Operand, Constant, X, AreReached}
 
 -- a constant, in hexadecimal
 abbrev pub constant_text : ℕ → List ℕ

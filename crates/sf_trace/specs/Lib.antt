@@ -1,3 +1,4 @@
+pub mod Common
 pub mod Instructions
 pub mod Runs
 pub mod Texts

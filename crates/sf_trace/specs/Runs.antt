@@ -1,10 +1,6 @@
 -- The runs of a stack's filters on an input.
 use Rattle.std.specs.Prelude.{ℕ, zero, suc, ◌+◌, Bool, false, ◌==◌, ◌&&◌, ◌||◌, not, List, [], ◌∷◌, length, Option, Some, None, slice_get, option_and_then}
-use Rattle.sf_insn.specs.declared.input.Input.{Input}
-use Rattle.sf_check.specs.declared.insn.Insn.{Insn}
-use Rattle.sf_run.specs.declared.action.Answer.{Answer}
-use Rattle.sf_run.specs.Answers.{action_bits, action_number}
-use Rattle.sf_run.specs.Walks.{CourseData, walk_of}
+use Rattle.sf_trace.specs.Common.{Input, Insn, Answer, action_bits, action_number, CourseData, walk_of}
 
 -- the number of a filter, whether its answer stands, and its run
 pub record RunData : Type 0 where

@@ -1,10 +1,6 @@
 -- The texts that `check` and `eval` write.
 use Rattle.std.specs.Prelude.{◌≡◌, ℕ, Bool, true, false, List, [], ◌∷◌, ◌++◌, ◌+◌, codes, length}
-use Rattle.std.specs.Fmt.{decimal}
-use Rattle.sf_check.specs.declared.insn.Insn.{Insn}
-use Rattle.sf_check.specs.Stacks.{path_length}
-use Rattle.sf_run.specs.declared.action.Answer.{Answer}
-use Rattle.sf_stack.specs.Texts.{action_text, line}
+use Rattle.sf_trace.specs.Common.{decimal, Insn, path_length, Answer, action_text, line}
 use Rattle.sf_trace.specs.Instructions.{AreInsnLines}
 
 -- the line of `eval`: an action and its data

@@ -1,17 +1,6 @@
 -- What `eval` finds, as JSON. Each field is always there: one that doesn't apply is null.
 use Rattle.std.specs.Prelude.{ℕ, Bool, ◌&&◌, ◌||◌, if◌then◌else◌, List, [], ◌∷◌, codes, map, Option, Some, None, slice_get, unwrap_or}
-use Rattle.std.specs.List.{flat_map}
-use Rattle.serde_json.specs.Data.{Data, boolean, null, string}
-use Rattle.sf_insn.specs.declared.input.Input.{Input}
-use Rattle.sf_insn.specs.declared.ops.Test.{Test}
-use Rattle.sf_check.specs.declared.insn.Insn.{Insn}
-use Rattle.sf_run.specs.declared.action.Answer.{Answer}
-use Rattle.sf_run.specs.declared.walking.Meeting.{Meeting}
-use Rattle.sf_run.specs.Answers.{action_bits, action_of, data_bits}
-use Rattle.sf_names.specs.Names.{NamesData}
-use Rattle.sf_policy.specs.Keys.{word_keys}
-use Rattle.sf_json.specs.Documents.{action_document, answer_document, count, fields, input_document, list_of, word}
-use Rattle.sf_trace.specs.declared.step.Step.{Step}
+use Rattle.sf_trace.specs.Common.{flat_map, Data, boolean, null, string, Input, Test, Insn, Answer, Meeting, action_bits, action_of, data_bits, NamesData, word_keys, action_document, answer_document, count, fields, input_document, list_of, word, Step}
 use Rattle.sf_trace.specs.Runs.{RunData, runs_of}
 use Rattle.sf_trace.specs.Traces.{is_false, sign_text, step_of}
 

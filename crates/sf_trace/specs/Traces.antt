@@ -1,22 +1,6 @@
 -- The text of `eval --trace`: the input, and how each filter comes to its return value.
 use Rattle.std.specs.Prelude.{◌≡◌, ℕ, ◌-◌, ◌^◌, Bool, true, false, ◌==◌, ◌&&◌, not, if◌then◌else◌, List, [], ◌∷◌, ◌++◌, codes, find, reverse, Option, Some, None, slice_get, slice_index, unwrap_or}
-use Rattle.std.specs.List.{flat_map}
-use Rattle.std.specs.Option.{option_map_or}
-use Rattle.std.specs.Fmt.{decimal, digits, padded_integral, format_spec}
-use Rattle.sf_insn.specs.declared.input.Input.{Input}
-use Rattle.sf_insn.specs.declared.ops.Test.{Test}
-use Rattle.sf_insn.specs.declared.ops.Test.TheVariants.{Equal, Greater, GreaterOrEqual, AnyBit}
-use Rattle.sf_check.specs.declared.insn.Insn.{Insn}
-use Rattle.sf_run.specs.declared.action.Answer.{Answer}
-use Rattle.sf_run.specs.declared.walking.Meeting.{Meeting}
-use Rattle.sf_run.specs.declared.walking.Met.{Met}
-use Rattle.sf_run.specs.declared.walking.Met.TheVariants.{Tested, Divided, Returned}
-use Rattle.sf_run.specs.Answers.{Answers, action_bits, action_of, data_bits}
-use Rattle.sf_policy.specs.Keys.{word_keys}
-use Rattle.sf_names.specs.Names.{NamesData, names_between, names_words}
-use Rattle.sf_stack.specs.Texts.{action_text, line}
-use Rattle.sf_calls.specs.Texts.{call_words, is_named}
-use Rattle.sf_trace.specs.declared.step.Step.{Step}
+use Rattle.sf_trace.specs.Common.{flat_map, option_map_or, decimal, digits, padded_integral, format_spec, Input, Test, Equal, Greater, GreaterOrEqual, AnyBit, Insn, Answer, Meeting, Met, Tested, Divided, Returned, Answers, action_bits, action_of, data_bits, word_keys, NamesData, names_between, names_words, action_text, line, call_words, is_named, Step}
 use Rattle.sf_trace.specs.Runs.{RunData, runs_of}
 use Rattle.sf_trace.specs.Texts.{answer_text}
 

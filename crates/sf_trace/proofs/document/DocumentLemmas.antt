@@ -1,6 +1,5 @@
 -- Documents that are added one after the other.
-use Rattle.std.proofs.Common.{◌≡◌, ℕ, zero, suc, List, [], ◌∷◌, ◌++◌, Some, length, slice_get, subst}
-use Rattle.std.proofs.lemmas.Option.{same_Some}
+use Rattle.sf_trace.proofs.Common.{◌≡◌, ℕ, zero, suc, List, [], ◌∷◌, ◌++◌, Some, length, slice_get, subst, same_Some}
 
 -- what holds of each element of a list at its place, and of one more at the end, holds of the longer list
 pub one_pushed : {X : Type 0} (P : ℕ → X → Type 0) (xs : List X) (x : X)

@@ -1,9 +1,5 @@
 -- A stack has one text of `check`.
-use Rattle.std.proofs.Common.{◌≡◌, ℕ, ◌+◌, Bool, true, false, List, [], ◌∷◌, refl, sym, ◌∙◌}
-use Rattle.std.specs.Prelude.{◌↔◌, slice_index_or}
-use Rattle.sf_check.specs.declared.insn.Insn.{Insn}
-use Rattle.sf_trace.specs.Instructions.{AreInsnLines, insn_lines}
-use Rattle.sf_trace.specs.Texts.{AreFilterLines, IsCheckText, StandUnder}
+use Rattle.sf_trace.proofs.Common.{◌≡◌, ℕ, ◌+◌, Bool, true, false, List, [], ◌∷◌, refl, sym, ◌∙◌, ◌↔◌, slice_index_or, Insn, AreInsnLines, insn_lines, AreFilterLines, IsCheckText, StandUnder}
 
 -- two truth values that tell the same
 pub same_truth : {P : Type 0} (a b : Bool) → (a ≡ true) ↔ P → (b ≡ true) ↔ P → a ≡ b

@@ -1,4 +1,4 @@
-use Rattle.std.proofs.Common.{◌≡◌, ◌||◌, ◌∙◌, suc, ◌-◌, ◌+◌, length, arith}
+use Rattle.sf_trace.proofs.Common.{◌≡◌, ◌∙◌, suc, ◌-◌, ◌+◌, length, arith, ◌||◌}
 use Rattle.sf_trace.proofs.TraceLemmas.{one_more_run, program_at}
 use Rattle.sf_trace.proofs.runs.runs_of.Goals.{then-stood, else-stood}
 use Rattle.sf_trace.proofs.runs.runs_of.Goals as goal

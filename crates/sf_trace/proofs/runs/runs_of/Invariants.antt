@@ -1,6 +1,4 @@
-use Rattle.std.proofs.Common.{◌≡◌, ◌-◌, ◌++◌, length}
-use Rattle.sf_run.specs.Answers.{action_number}
-use Rattle.sf_trace.specs.Runs.{first_runs, runs_of}
+use Rattle.sf_trace.proofs.Common.{◌≡◌, ◌-◌, ◌++◌, length, action_number, first_runs, runs_of}
 use Rattle.sf_trace.proofs.runs.runs_of.Given as goal
 
 abbrev pub invariant-loop-i : goal.invariant-loop-i

@@ -1,6 +1,4 @@
-use Rattle.std.proofs.Common.{◌+◌, [], drop, append-nil, refl, sym, subst}
-use Rattle.std.proofs.lemmas.List.{drop_all}
-use Rattle.sf_trace.specs.Texts.{AreFilterLines}
+use Rattle.sf_trace.proofs.Common.{◌+◌, [], drop, append-nil, refl, drop_all, AreFilterLines}
 use Rattle.sf_trace.proofs.ListingLemmas.{one_filter_listed}
 use Rattle.sf_trace.proofs.texts.push_filters.Goals as goal
 
@@ -14,7 +12,6 @@ loop-i-preserved c rest rested =
 pub returns : goal.returns
 returns c =
     let none : AreFilterLines c.args.listed (c.loop-i.i + 1) (drop c.loop-i.i c.args.programs.now) [] =
-    subst (λ ps. AreFilterLines c.args.listed (c.loop-i.i + 1) ps [])
-    (sym (drop_all c.loop-i.i c.args.programs.now c.loop-i-test.false)) refl in
+    rw (drop_all c.loop-i.i c.args.programs.now c.loop-i-test.false) refl in
     let (lines, are, same) = c.loop-i.invariant [] none in
     (lines, are, rw append-nil at same)

@@ -1,5 +1,4 @@
-use Rattle.std.proofs.Common.{◌≡◌, ◌+◌, ◌++◌, ℕ, List, drop, string_bytes}
-use Rattle.sf_trace.specs.Texts.{AreFilterLines}
+use Rattle.sf_trace.proofs.Common.{◌≡◌, ◌+◌, ◌++◌, ℕ, List, drop, string_bytes, AreFilterLines}
 use Rattle.sf_trace.proofs.texts.push_filters.Given as goal
 
 -- whatever stands under the filters that are left, it completes what was written

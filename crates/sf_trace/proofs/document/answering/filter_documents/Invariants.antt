@@ -1,6 +1,4 @@
-use Rattle.std.proofs.Common.{◌≡◌, map, take}
-use Rattle.serde_json.specs.View.{view}
-use Rattle.sf_trace.specs.TraceDocuments.{filter_document}
+use Rattle.sf_trace.proofs.Common.{◌≡◌, map, take, view, filter_document}
 use Rattle.sf_trace.proofs.document.answering.filter_documents.Given as goal
 
 abbrev pub invariant-loop-run : goal.invariant-loop-run

@@ -1,7 +1,4 @@
-use Rattle.std.proofs.Common.{◌≡◌, ℕ, length, map, slice_get, Some}
-use Rattle.serde_json.specs.Data.{Data}
-use Rattle.serde_json.specs.View.{view}
-use Rattle.sf_trace.specs.CheckDocuments.{IsFilterAt}
+use Rattle.sf_trace.proofs.Common.{◌≡◌, ℕ, length, map, slice_get, Some, Data, view, IsFilterAt}
 use Rattle.sf_trace.proofs.document.listing.filter_documents.Given as goal
 
 abbrev pub invariant-loop-i : goal.invariant-loop-i

@@ -1,7 +1,4 @@
-use Rattle.std.proofs.Common.{◌≡◌, map, take}
-use Rattle.std.specs.List.{flat_map}
-use Rattle.serde_json.specs.View.{view}
-use Rattle.sf_trace.specs.TraceDocuments.{shown_meeting}
+use Rattle.sf_trace.proofs.Common.{◌≡◌, map, take, flat_map, view, shown_meeting}
 use Rattle.sf_trace.proofs.document.steps.met_documents.Given as goal
 
 abbrev pub invariant-loop-meeting : goal.invariant-loop-meeting

@@ -1,5 +1,4 @@
-use Rattle.std.proofs.Common.{◌≡◌, ◌++◌, drop, string_bytes}
-use Rattle.sf_trace.specs.Instructions.{insn_lines}
+use Rattle.sf_trace.proofs.Common.{◌≡◌, ◌++◌, drop, string_bytes, insn_lines}
 use Rattle.sf_trace.proofs.texts.instructions.push_lines.Given as goal
 
 abbrev pub invariant-loop-place : goal.invariant-loop-place

@@ -1,7 +1,4 @@
-use Rattle.std.proofs.Common.{string_bytes}
-use Rattle.std.proofs.lemmas.Result.{on_ok_weaker}
-use Rattle.sf_stack.specs.laws.TextLaws.{added_three}
-use Rattle.sf_trace.specs.Traces.{call_text, first_arguments, last_arguments}
+use Rattle.sf_trace.proofs.Common.{string_bytes, on_ok_weaker, added_three, call_text, first_arguments, last_arguments}
 use Rattle.sf_trace.proofs.texts.tracing.push_fields.Goals as goal
 
 pub returns : goal.returns

@@ -1,6 +1,4 @@
-use Rattle.std.proofs.Common.{◌≡◌, ◌++◌, take, string_bytes}
-use Rattle.std.specs.List.{flat_map}
-use Rattle.sf_trace.specs.Traces.{shown_line}
+use Rattle.sf_trace.proofs.Common.{◌≡◌, ◌++◌, take, string_bytes, flat_map, shown_line}
 use Rattle.sf_trace.proofs.texts.tracing.push_meetings.Given as goal
 
 abbrev pub invariant-loop-meeting : goal.invariant-loop-meeting

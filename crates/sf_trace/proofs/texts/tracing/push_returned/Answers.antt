@@ -1,9 +1,4 @@
-use Rattle.std.proofs.Common.{string_bytes}
-use Rattle.std.specs.Fmt.{decimal}
-use Rattle.std.proofs.lemmas.Result.{on_ok_weaker}
-use Rattle.sf_run.specs.Answers.{action_bits, action_of, data_bits}
-use Rattle.sf_stack.specs.Texts.{action_text}
-use Rattle.sf_trace.specs.Traces.{stands_text}
+use Rattle.sf_trace.proofs.Common.{string_bytes, decimal, on_ok_weaker, action_bits, action_of, data_bits, action_text, stands_text}
 use Rattle.sf_trace.proofs.TraceLemmas.{return_parts}
 use Rattle.sf_trace.proofs.texts.tracing.push_returned.Goals as goal
 

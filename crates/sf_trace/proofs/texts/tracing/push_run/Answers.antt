@@ -1,6 +1,4 @@
-use Rattle.std.proofs.lemmas.Result.{on_ok_weaker}
-use Rattle.sf_stack.specs.laws.TextLaws.{added_two}
-use Rattle.sf_trace.specs.Traces.{walk_text}
+use Rattle.sf_trace.proofs.Common.{on_ok_weaker, added_two, walk_text}
 use Rattle.sf_trace.proofs.texts.tracing.push_run.Goals as goal
 
 pub returns : goal.returns

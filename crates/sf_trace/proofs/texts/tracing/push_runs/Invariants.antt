@@ -1,6 +1,4 @@
-use Rattle.std.proofs.Common.{◌≡◌, ◌++◌, take, string_bytes}
-use Rattle.std.specs.List.{flat_map}
-use Rattle.sf_trace.specs.Traces.{walk_text}
+use Rattle.sf_trace.proofs.Common.{◌≡◌, ◌++◌, take, string_bytes, flat_map, walk_text}
 use Rattle.sf_trace.proofs.texts.tracing.push_runs.Given as goal
 
 abbrev pub invariant-loop-run : goal.invariant-loop-run

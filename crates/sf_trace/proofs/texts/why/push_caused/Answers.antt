@@ -1,7 +1,4 @@
-use Rattle.std.proofs.Common.{codes, string_bytes}
-use Rattle.std.proofs.lemmas.Result.{on_ok_weaker}
-use Rattle.sf_stack.specs.laws.TextLaws.{added_two}
-use Rattle.sf_trace.specs.Traces.{cause_text}
+use Rattle.sf_trace.proofs.Common.{codes, string_bytes, on_ok_weaker, added_two, cause_text}
 use Rattle.sf_trace.proofs.texts.why.push_caused.Goals as goal
 
 pub returns : goal.returns

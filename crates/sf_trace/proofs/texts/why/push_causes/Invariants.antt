@@ -1,6 +1,4 @@
-use Rattle.std.proofs.Common.{◌≡◌, ◌++◌, take, string_bytes}
-use Rattle.std.specs.List.{flat_map}
-use Rattle.sf_trace.specs.Traces.{cause_text}
+use Rattle.sf_trace.proofs.Common.{◌≡◌, ◌++◌, take, string_bytes, flat_map, cause_text}
 use Rattle.sf_trace.proofs.texts.why.push_causes.Given as goal
 
 abbrev pub invariant-loop-run : goal.invariant-loop-run
