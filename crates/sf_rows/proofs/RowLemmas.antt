@@ -1,5 +1,5 @@
 -- Which rows an input lies in, and their numbers; trees of answers and of changes, which test words of inputs only.
-use Rattle.sf_rows.proofs.Common.{◌≡◌, ℕ, zero, suc, ◌+◌, ◌-◌, ◌*◌, ◌/◌, ◌%◌, ◌^◌, ◌<◌, ◌≤◌, ◌==◌, Bool, List, [], ◌∷◌, refl, sym, ap, ap₂, ◌∙◌, arith, true, false, inl, inr, ◌≢◌, Some, None, subst, ◌&&◌, count_by, slice_index, if◌then◌else◌, Contains, not, Option, bit_at, list_all, sum_by-cons, bit_at-lt, cases_Bool, eqb-true, cases_eq, cond-false, cond-true, eq-eqb, ne_eqb, cases_lt, Input, IsInput, contains_cons, Insn, Answer, Answers, one, returns_of, Tree, Bits, value, IsOrderedTree, IsReducedTree, Leaf, Fork, IsOrderedFrom, merged_of, pair_of, input_bits, words_in_order, input_by, answer_with, low_number, word_number, behind, EndsBefore, bit-if, low-more, ordered-weaker, form_has, ConditionData, RowData, is_in_row, meets, NamesData, Relation, same-input, operation_of, not-0-related, one-number, related-differ, related-not-0, lies_in, tree_word, AreAskedFor, IsAnswersTree, IsTreeOf, change_number, IsInputTree, is_named_call, unnamed_number}
+use Rattle.sf_rows.proofs.Common.{◌≡◌, ℕ, zero, suc, ◌+◌, ◌-◌, ◌*◌, ◌/◌, ◌%◌, ◌^◌, ◌<◌, ◌≤◌, ◌==◌, Bool, List, refl, sym, ap, ap₂, ◌∙◌, arith, true, false, inl, inr, ◌≢◌, Some, None, ◌&&◌, count_by, slice_index, if◌then◌else◌, Contains, not, Option, bit_at, list_all, bit_at-lt, eqb-true, cases_eq, cond-false, cond-true, eq-eqb, ne_eqb, cases_lt, Input, IsInput, Insn, Answer, Answers, one, returns_of, Tree, Bits, value, IsOrderedTree, IsReducedTree, Leaf, Fork, IsOrderedFrom, merged_of, pair_of, input_bits, words_in_order, input_by, answer_with, low_number, word_number, behind, EndsBefore, bit-if, low-more, ordered-weaker, form_has, ConditionData, RowData, is_in_row, meets, NamesData, Relation, same-input, operation_of, not-0-related, one-number, related-differ, related-not-0, lies_in, tree_word, AreAskedFor, IsAnswersTree, IsTreeOf, change_number, IsInputTree, unnamed_number, fun_ext, get_or-le-sum_by, not-false, value_from}
 
 -- a variable of an input is a bit of one of its words
 bit-there : (d : Input) (w n : ℕ) → n < 32 → input_bits d (32 * w + (31 - n)) ≡ (bit_at (tree_word d w) n == 1)
@@ -12,11 +12,8 @@ low-is : (d : Input) (w n : ℕ) → n ≤ 32 → low_number w n (input_bits d) 
 unfolding low_number
 low-is d w zero l = omega arith
 low-is d w (suc n) l =
-    ap₂ (λ (x : Bool) (y : ℕ). (if x then 1 else 0) * 2 ^ n + y) (bit-there d w n (omega arith))
-    (low-is d w n (omega arith))
-    ∙ ap (λ (x : ℕ). x * 2 ^ n + tree_word d w % 2 ^ n)
-    (bit-if (bit_at (tree_word d w) n) (bit_at-lt (tree_word d w) n))
-    ∙ low-more (tree_word d w) n
+    rw (bit-there d w n (omega arith), low-is d w n (omega arith), bit-if _ (bit_at-lt (tree_word d w) n))
+    (low-more (tree_word d w) n)
 
 -- the variables of an input make its numbers
 pub word-is : (d : Input) (w : ℕ) → IsInput d → word_number w (input_bits d) ≡ tree_word d w
@@ -24,50 +21,32 @@ word-is d w h =
     let small : tree_word d w % 2 ^ 32 ≡ tree_word d w = omega (arith, h.each (slice_index words_in_order (w - 18))) in
     low-is d w 32 (omega arith) ∙ small
 
-all-is : (d : Input) → IsInput d → (cs : List ConditionData)
-    → list_all (λ (c : ConditionData). form_has c.form (tree_word d c.word)) cs ≡ list_all (meets (input_bits d)) cs
-all-is d h [] = refl
-all-is d h (c ∷ cs) =
-    ap₂ (λ (a b : Bool). a && b) (ap (form_has c.form) (sym (word-is d c.word h))) (all-is d h cs)
-
 -- an input lies in a row where its variables do
 pub in-is : (d : Input) → IsInput d → (r : RowData) → lies_in d r ≡ is_in_row (input_bits d) r
-in-is d h r = all-is d h r.conditions
+in-is d h r =
+    let same : (λ (c : ConditionData). form_has c.form (tree_word d c.word)) ≡ meets (input_bits d)
+    = fun_ext (λ c. ap (form_has c.form) (sym (word-is d c.word h))) in
+    ap (λ (p : ConditionData → Bool). list_all p r.conditions) same
 
 pub count-is : (d : Input) → IsInput d → (rows : List RowData)
     → count_by (lies_in d) rows ≡ count_by (is_in_row (input_bits d)) rows
-count-is d h [] = refl
-count-is d h (r ∷ rows) =
-    sum_by-cons (λ (x : RowData). if lies_in d x then 1 else 0) r rows
-    ∙ ap₂ (λ (b : Bool) (n : ℕ). (if b then 1 else 0) + n) (in-is d h r) (count-is d h rows)
-    ∙ sym (sum_by-cons (λ (x : RowData). if is_in_row (input_bits d) x then 1 else 0) r rows)
+count-is d h rows = ap (λ (p : RowData → Bool). count_by p rows) (fun_ext (in-is d h))
 
-one-here : (b : Bool) (n : ℕ) → (if b then 1 else 0) + n ≡ 0 → b ≡ false
-one-here true n e = absurd (omega arith)
-one-here false n e = refl
+one-here : (b : Bool) → (if b then 1 else 0) ≤ 0 → b ≡ false
+one-here true l = absurd (omega arith)
+one-here false l = refl
 
 -- where none passes a test, an element doesn't
 pub none-counted : {X : Type 0} (p : X → Bool) (xs : List X) (x : X) → count_by p xs ≡ 0 → Contains xs x
     → p x ≡ false
-none-counted {X} p [] x none there = absurd (omega (arith, there.1))
-none-counted {X} p (y ∷ ys) x none there =
-    let more : count_by p (y ∷ ys) ≡ (if p y then 1 else 0) + count_by p ys
-    = sum_by-cons (λ (z : X). if p z then 1 else 0) y ys in
-    elim (contains_cons y ys x there) [
-      | inl e ↦ ap p (sym e) ∙ one-here (p y) (count_by p ys) (sym more ∙ none)
-      | inr later ↦ none-counted p ys x (omega (arith, more, none)) later
-    ]
+none-counted {X} p xs x none there =
+    one-here (p x) (rw (there.2, none) at
+    (get_or-le-sum_by (λ (z : X). if p z then 1 else 0) xs there.0 x there.1))
 
 -- a row that has an input, and that isn't one of those with another number, has the number
 pub number-of : (bits : Bits) (v : ℕ) (r : RowData) → is_in_row bits r ≡ true
     → (is_in_row bits r && not (r.number == v)) ≡ false → r.number ≡ v
-number-of bits v r lies other = elim (cases_Bool (r.number == v)) [
-  | inl e ↦ eqb-true r.number v e
-  | inr e ↦
-      let both : (is_in_row bits r && not (r.number == v)) ≡ true
-      = ap₂ (λ (a b : Bool). a && not b) lies e in
-      absurd (cc)
-]
+number-of bits v r lies other = eqb-true r.number v (not-false (r.number == v) (rw lies at other))
 
 -- a tree has on each input the value of what comes behind the number that the input has in a word
 abbrev pub LeadOn : Type 0
@@ -77,10 +56,7 @@ LeadOn = (word : ℕ) (t : Tree) (bits : Bits) → value t bits ≡ value (behin
 pub value-of-call : (t : Tree) (bits : Bits) (arch number : ℕ) → LeadOn → word_number 18 bits ≡ arch
     → word_number 19 bits ≡ number → value (behind 19 (behind 18 t arch) number) bits ≡ value t bits
 value-of-call t bits arch number lead a n =
-    ap (λ (m : ℕ). value (behind 19 (behind 18 t arch) m) bits) (sym n)
-    ∙ sym (lead 19 (behind 18 t arch) bits)
-    ∙ ap (λ (m : ℕ). value (behind 18 t m) bits) (sym a)
-    ∙ sym (lead 18 t bits)
+    sym (rw (a, n) at (lead 18 t bits ∙ lead 19 (behind 18 t (word_number 18 bits)) bits))
 
 -- ---- trees of answers
 
@@ -101,10 +77,7 @@ AreOneTree = (s t : Tree) → IsOrderedTree s → IsReducedTree s → IsOrderedT
 pub has-answer : (programs : List (List Insn)) (t : Tree) (d : Input) (a : Answer) → HaveVariables
     → IsAnswersTree programs t → IsInput d → Answers programs d a → answer_with (value t (input_bits d)) ≡ a
 has-answer programs t d a have is input answers =
-    one (returns_of programs d) (answer_with (value t (input_bits d))) a
-    (subst (λ (i : Input). Answers programs i (answer_with (value t (input_bits d)))) (have d input)
-    (is.answers (input_bits d)))
-    answers
+    one (returns_of programs d) _ a (rw (have d input) at (is.answers (input_bits d))) answers
 
 -- stacks that answer alike have one tree
 pub one-answers-tree : (p q : List (List Insn)) (s t : Tree) → AreInputs → AreOneTree → IsAnswersTree p s
@@ -170,21 +143,16 @@ with_bit-other bits v b w h = cond-false (w == v) b (bits w) (ne_eqb w v h)
 -- a variable above a tree does not matter to it
 value-above : (t : Tree) (n v : ℕ) (b : Bool) (bits : Bits) → IsOrderedFrom n t → v < n
     → value t (with_bit bits v b) ≡ value t bits
-value-above (Leaf c) n v b bits o l = refl
-value-above (Fork w p q) n v b bits o l =
-    let other : w ≢ v = λ e. absurd (omega (arith, e, o.0)) in
-    ap (λ (x : Bool). if x then value q (with_bit bits v b) else value p (with_bit bits v b))
-    (with_bit-other bits v b w other)
-    ∙ ap₂ (λ (m k : ℕ). if bits w then m else k) (value-above q (suc w) v b bits o.2 (omega (arith, o.0)))
-    (value-above p (suc w) v b bits o.1 (omega (arith, o.0)))
+value-above t n v b bits o l =
+    value_from t n o (with_bit bits v b) bits
+    (λ w from. with_bit-other bits v b w (λ e. absurd (omega (arith, e, from))))
 
 -- with its variable set, a fork has the value of its side
 value-set : (v : ℕ) (p q : Tree) (bits : Bits) (x : Bool) → IsOrderedFrom (suc v) p → IsOrderedFrom (suc v) q
     → value (Fork v p q) (with_bit bits v x) ≡ (if x then value q bits else value p bits)
 value-set v p q bits x op oq =
-    ap (λ (y : Bool). if y then value q (with_bit bits v x) else value p (with_bit bits v x)) (with_bit-same bits v x)
-    ∙ ap₂ (λ (m k : ℕ). if x then m else k) (value-above q (suc v) v x bits oq (omega arith))
-    (value-above p (suc v) v x bits op (omega arith))
+    rw (with_bit-same bits v x) (ap₂ (λ (m k : ℕ). if x then m else k)
+    (value-above q (suc v) v x bits oq (omega arith)) (value-above p (suc v) v x bits op (omega arith)))
 
 agree-set : (a b : Bits) (v : ℕ) (x : Bool) → Agree a b → Agree (with_bit a v x) (with_bit b v x)
 agree-set a b v x agree w from below = ap (λ (y : Bool). if w == v then x else y) (agree w from below)
@@ -253,8 +221,7 @@ low-same : (word n : ℕ) (a b : Bits) → 18 ≤ word → word < 34 → n ≤ 3
 unfolding low_number
 low-same word zero a b from below l agree = refl
 low-same word (suc n) a b from below l agree =
-    ap₂ (λ (x : Bool) (y : ℕ). (if x then 1 else 0) * 2 ^ n + y)
-    (agree (32 * word + (31 - n)) (omega arith) (omega arith)) (low-same word n a b from below (omega arith) agree)
+    rw (agree (32 * word + (31 - n)) (omega arith) (omega arith), low-same word n a b from below (omega arith) agree)
 
 -- the tree of answers is one over inputs
 pub answers-input : (programs : List (List Insn)) (t : Tree) → AreInputs → AreOneTree → IsAnswersTree programs t
@@ -263,8 +230,7 @@ answers-input programs t inputs trees is =
     input-tree t trees is.ordered is.reduced (λ a b agree.
     one-number (value t a) (value t b) (is.small a) (is.small b)
     (one (returns_of programs (input_by b)) (answer_with (value t a)) (answer_with (value t b))
-    (subst (λ (d : Input). Answers programs d (answer_with (value t a)))
-    (same-input a b inputs (λ p l. agree (576 + p) (omega arith) (omega (arith, l)))) (is.answers a))
+    (rw (same-input a b inputs (λ p l. agree (576 + p) (omega arith) (omega (arith, l)))) at (is.answers a))
     (is.answers b)))
 
 -- so is that of what changes
@@ -272,16 +238,15 @@ pub change-input : (only : Option Relation) (s t u : Tree) → AreOneTree → Is
     → IsTreeOf (λ bits. change_number only (value s bits) (value t bits)) u → IsInputTree u
 change-input only s t u trees hs ht is =
     input-tree u trees is.ordered is.reduced (λ a b agree. is.values a
-    ∙ ap₂ (λ (m n : ℕ). change_number only m n) (reads s hs a b agree) (reads t ht a b agree) ∙ sym (is.values b))
+    ∙ rw (reads s hs a b agree, reads t ht a b agree) (sym (is.values b)))
 
 -- and that of calls without a name
 pub unnamed-input : (sets : List NamesData) (hidden : ℕ) (t rest : Tree) → AreOneTree → IsInputTree t
     → IsTreeOf (unnamed_number sets hidden t) rest → IsInputTree rest
 unnamed-input sets hidden t rest trees h is =
     input-tree rest trees is.ordered is.reduced (λ a b agree. is.values a
-    ∙ ap₂ (λ (m n : ℕ). if is_named_call sets m n then hidden else value t a)
-    (low-same 18 32 a b (omega arith) (omega arith) (omega arith) agree)
-    (low-same 19 32 a b (omega arith) (omega arith) (omega arith) agree)
-    ∙ ap (λ (x : ℕ). if is_named_call sets (word_number 18 b) (word_number 19 b) then hidden
-    else x) (reads t h a b agree)
-    ∙ sym (is.values b))
+    ∙ rw (
+      low-same 18 32 a b (omega arith) (omega arith) (omega arith) agree,
+      low-same 19 32 a b (omega arith) (omega arith) (omega arith) agree,
+      reads t h a b agree,
+    ) (sym (is.values b)))

@@ -1,13 +1,6 @@
 -- Rows as JSON.
 use Rattle.std.specs.Prelude.{ℕ, List, [], ◌∷◌, codes, map, Option, Some, None}
-use Rattle.serde_json.specs.Data.{Data, boolean, null, string}
-use Rattle.sf_names.specs.Names.{NamesData}
-use Rattle.sf_json.specs.Documents.{answer_document, count, fields, list_of, with_field}
-use Rattle.sf_behaviour.specs.Answering.{answer_with}
-use Rattle.sf_parts.specs.declared.form.Span.{Span}
-use Rattle.sf_parts.specs.Rows.{ConditionData, RowData}
-use Rattle.sf_rows.specs.declared.subject.Subject.{Subject}
-use Rattle.sf_rows.specs.declared.subject.Subject.TheVariants.{Stack, Change}
+use Rattle.sf_rows.specs.Common.{Data, boolean, null, string, NamesData, answer_document, count, fields, list_of, with_field, answer_with, Span, ConditionData, RowData, Subject, Stack, Change}
 use Rattle.sf_rows.specs.Rows.{before_of, after_of}
 use Rattle.sf_rows.specs.Shown.{CallRowData, ShownData, shown_count}
 use Rattle.sf_rows.specs.Lines.{row_names, word_words}

@@ -6,8 +6,7 @@ use Rattle.sf_parts.specs.declared.fault.Fault.{Fault as PartsFault}
 use Rattle.sf_parts.specs.declared.fault.Fault.TheVariants as parts_faults
 use Rattle.sf_stack.specs.declared.fault.Fault.{Fault as ToldFault}
 use Rattle.sf_stack.specs.declared.fault.Fault.TheVariants as told_faults
-use Rattle.sf_rows.specs.declared.fault.Fault.{Fault}
-use Rattle.sf_rows.specs.declared.fault.Fault.TheVariants.{Nodes, Rows, Memory}
+use Rattle.sf_rows.specs.Common.{Fault, Nodes, Rows, Memory}
 
 -- a store that is spent has too many nodes
 abbrev pub of_store : StoreFault → Fault

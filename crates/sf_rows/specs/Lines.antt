@@ -1,22 +1,6 @@
 -- The lines of rows.
 use Rattle.std.specs.Prelude.{ℕ, ◌-◌, ◌==◌, ◌&&◌, ◌||◌, not, Bool, true, false, List, [], ◌∷◌, ◌++◌, codes, filter, find, length, map, slice_index, slice_index_or, take, Option, Some, None, nat_lt, if◌then◌else◌}
-use Rattle.std.specs.List.{flat_map}
-use Rattle.std.specs.Option.{is_some, option_map_or}
-use Rattle.std.specs.Fmt.{decimal, digits, padded_integral, format_spec}
-use Rattle.hex.specs.Hex.{encode_lower}
-use Rattle.sha2.specs.Sha256.{sha256}
-use Rattle.sf_policy.specs.Keys.{word_keys}
-use Rattle.sf_stack.specs.Texts.{answer_words}
-use Rattle.sf_names.specs.Names.{NamesData, names_between}
-use Rattle.sf_behaviour.specs.InputBits.{words_in_order}
-use Rattle.sf_behaviour.specs.Answering.{answer_with}
-use Rattle.sf_parts.specs.declared.form.Span.{Span}
-use Rattle.sf_parts.specs.Parts.{FormData}
-use Rattle.sf_parts.specs.Rows.{ConditionData, RowData}
-use Rattle.sf_rows.specs.declared.subject.Subject.{Subject}
-use Rattle.sf_rows.specs.declared.subject.Subject.TheVariants.{Stack, Change}
-use Rattle.sf_rows.specs.declared.words.Style.{Style}
-use Rattle.sf_rows.specs.declared.words.Style.TheVariants.{Short, Arch, Call}
+use Rattle.sf_rows.specs.Common.{flat_map, is_some, option_map_or, decimal, digits, padded_integral, format_spec, encode_lower, sha256, word_keys, answer_words, NamesData, names_between, words_in_order, answer_with, Span, FormData, ConditionData, RowData, Subject, Stack, Change, Style, Short, Arch, Call}
 use Rattle.sf_rows.specs.Rows.{before_of, after_of}
 use Rattle.sf_rows.specs.Shown.{CallRowData, ShownData}
 

@@ -1,17 +1,6 @@
 -- The rows of a tree: which inputs lie in each, and what its number says of them.
 use Rattle.std.specs.Prelude.{◌≡◌, ℕ, ◌-◌, ◌/◌, ◌%◌, ◌^◌, Bool, List, [], slice_index}
-use Rattle.std.specs.List.{list_all}
-use Rattle.sf_insn.specs.declared.input.Input.{Input}
-use Rattle.sf_run.specs.declared.action.Answer.{Answer}
-use Rattle.sf_diagram.specs.Trees.{Tree}
-use Rattle.sf_behaviour.specs.InputBits.{words_in_order}
-use Rattle.sf_behaviour.specs.Answering.{answer_with}
-use Rattle.sf_parts.specs.Words.{behind}
-use Rattle.sf_parts.specs.Parts.{form_has}
-use Rattle.sf_parts.specs.Rows.{ConditionData, RowData, rows_under}
-use Rattle.sf_names.specs.Names.{CallData, NamesData}
-use Rattle.sf_rows.specs.declared.subject.Subject.{Subject}
-use Rattle.sf_rows.specs.declared.subject.Subject.TheVariants.{Stack, Change}
+use Rattle.sf_rows.specs.Common.{list_all, Input, Answer, Tree, words_in_order, answer_with, behind, form_has, ConditionData, RowData, rows_under, CallData, NamesData, Subject, Stack, Change}
 
 -- the number that an input has in a word of trees: of these the words 18 to 33 are the input's
 abbrev pub tree_word : Input → ℕ → ℕ

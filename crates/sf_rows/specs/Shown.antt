@@ -1,12 +1,6 @@
 -- What is shown of a tree: rows, each by itself, or call by call.
 use Rattle.std.specs.Prelude.{◌≡◌, ℕ, ◌+◌, Bool, true, List, [], ◌∷◌, length, map, if◌then◌else◌, Option, Some, None}
-use Rattle.std.specs.List.{flat_map, list_any}
-use Rattle.std.specs.Option.{option_map_or}
-use Rattle.std.specs.Str.{bytes_eq}
-use Rattle.sf_diagram.specs.Trees.{Tree}
-use Rattle.sf_parts.specs.Rows.{RowData}
-use Rattle.sf_names.specs.Names.{CallData, NamesData}
-use Rattle.sf_rows.specs.declared.subject.Subject.{Subject}
+use Rattle.sf_rows.specs.Common.{flat_map, list_any, option_map_or, bytes_eq, Tree, RowData, CallData, NamesData, Subject}
 use Rattle.sf_rows.specs.Trees.{IsTreeOf, unnamed_number}
 use Rattle.sf_rows.specs.Rows.{rows_of, rows_of_call, hidden_number}
 

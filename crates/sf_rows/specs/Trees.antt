@@ -1,19 +1,6 @@
 -- The trees of which rows are: of the answers of a stack, and of what changes from one stack to another.
 use Rattle.std.specs.Prelude.{◌≡◌, ◌≢◌, ℕ, ◌<◌, ◌^◌, ◌==◌, ◌&&◌, Bool, List, Option, Some, None, if◌then◌else◌}
-use Rattle.std.specs.List.{list_any}
-use Rattle.sf_check.specs.declared.insn.Insn.{Insn}
-use Rattle.sf_run.specs.declared.action.Answer.{Answer}
-use Rattle.sf_run.specs.Machine.{returns_of}
-use Rattle.sf_run.specs.Answers.{IsAnswer}
-use Rattle.sf_diagram.specs.Trees.{Tree, Bits, value, IsOrderedTree, IsReducedTree, IsOrderedFrom}
-use Rattle.sf_diagram.specs.Operations.{merged_of, pair_of}
-use Rattle.sf_behaviour.specs.InputBits.{input_by}
-use Rattle.sf_behaviour.specs.Answering.{answer_with}
-use Rattle.sf_parts.specs.Words.{EndsBefore, word_number}
-use Rattle.sf_names.specs.Names.{CallData, NamesData}
-use Rattle.sf_relations.specs.Numbers.{operation_of}
-use Rattle.sf_relations.specs.Relations.{AreRelated}
-use Rattle.sf_relations.specs.declared.relation.Relation.{Relation}
+use Rattle.sf_rows.specs.Common.{list_any, Insn, Answer, returns_of, IsAnswer, Tree, Bits, value, IsOrderedTree, IsReducedTree, IsOrderedFrom, merged_of, pair_of, input_by, answer_with, EndsBefore, word_number, CallData, NamesData, operation_of, AreRelated, Relation}
 
 -- each variable of a tree is one of an input's words, which are the words 18 to 33
 pub record IsInputTree (t : Tree) : Type 0 where

@@ -81,14 +81,8 @@ fn meant(condition: Option<&Condition>) -> &[Span]
     ensures { result.now ≡ meant (option_map (λ c. c.now) condition.entry) }
 {
     match condition {
-        Some(condition) => {
-            if condition.form.without {
-                &[]
-            } else {
-                condition.form.spans.as_slice()
-            }
-        }
-        None => &[],
+        Some(condition) if !condition.form.without => condition.form.spans.as_slice(),
+        _ => &[],
     }
 }
 

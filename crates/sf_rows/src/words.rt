@@ -36,14 +36,9 @@ fn push_number(text: &mut String, style: Style, number: u32) -> Result<(), Alloc
         ++ number_words style number) }
 {
     match style {
-        Style::Short => push_short(text, number),
         Style::Arch => write!(text, "0x{number:08X}"),
-        Style::Call => {
-            if number < 65536 {
-                return write!(text, "{number}");
-            }
-            push_short(text, number)
-        }
+        Style::Call if number < 65536 => write!(text, "{number}"),
+        Style::Short | Style::Call => push_short(text, number),
     }
 }
 
@@ -76,13 +71,7 @@ pub(crate) fn number_alone(spans: &[Span]) -> Option<u32>
     ensures { result ≡ number_alone spans.now }
 {
     match spans {
-        [span] => {
-            if span.first == span.last {
-                Some(span.first)
-            } else {
-                None
-            }
-        }
+        [span] if span.first == span.last => Some(span.first),
         _ => None,
     }
 }

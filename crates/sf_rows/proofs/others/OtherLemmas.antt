@@ -1,14 +1,14 @@
 -- Diagrams of the inputs of named calls; the rows beside those of named calls; and that what is shown of a tree is one.
-use Rattle.sf_rows.proofs.Common.{◌≡◌, ℕ, zero, suc, ◌+◌, ◌-◌, ◌*◌, ◌%◌, ◌^◌, ◌<◌, ◌==◌, Bool, true, false, List, [], ◌∷◌, length, map, refl, sym, ap, ap₂, subst, ◌∙◌, inl, inr, arith, lit<, ◌≢◌, Some, None, ◌&&◌, ◌||◌, All, filter, not, if◌then◌else◌, Contains, Option, count_by, bit_at, list_any, Bor, cases_eq, cond-true, cond-false, eq-eqb, eqb-true, ne_eqb, All-head, All-tail, mod_below, pow_pos, bit_at-lt, Input, IsInput, Tree, Leaf, Fork, Bits, value, KeepsTrees, tree_at, IsChosen, chosen_of, IsDiagramOf, input_bits, low_number, low-more, low-small, RowData, CallData, NamesData, is_call_number, IsTreeOf, is_named_call, unnamed_number, Subject, rows_of, hidden_number, tree_word, AreOthers, CallRowData, IsShown, ShownData}
+use Rattle.sf_rows.proofs.Common.{◌≡◌, ℕ, zero, suc, ◌+◌, ◌-◌, ◌*◌, ◌%◌, ◌^◌, ◌<◌, ◌==◌, Bool, true, false, List, [], ◌∷◌, length, map, refl, sym, ap, ap₂, ◌∙◌, arith, lit<, ◌≢◌, Some, None, ◌&&◌, ◌||◌, All, filter, not, if◌then◌else◌, Contains, Option, count_by, bit_at, list_any, Bor, cond-true, cond-false, eq-eqb, eqb-true, ne_eqb, All-head, All-tail, mod_below, pow_pos, bit_at-lt, Input, IsInput, Tree, Bits, value, KeepsTrees, tree_at, IsChosen, chosen_of, IsDiagramOf, input_bits, low_number, low-more, low-small, RowData, CallData, NamesData, is_call_number, IsTreeOf, is_named_call, unnamed_number, Subject, rows_of, hidden_number, tree_word, AreOthers, CallRowData, IsShown, ShownData, fun_ext, or-false, nat_tests, HasValues}
 use Rattle.sf_rows.proofs.RowLemmas.{AreOneTree, none-counted, one-tree-of, word-is}
 
 -- ---- diagrams by their values
 
-pub diagram-kept : (ts us : List Tree) (id : ℕ) (f : Bits → ℕ) → KeepsTrees ts us → IsDiagramOf ts id f
+pub diagram-kept : {ts us : List Tree} {id : ℕ} {f : Bits → ℕ} → KeepsTrees ts us → IsDiagramOf ts id f
     → IsDiagramOf us id f
-diagram-kept ts us id f k h = record {
+diagram-kept {ts} {us} {id} k h = record {
   within = omega (arith, k.longer, h.within);
-  values = λ bits. ap (λ (t : Tree). value t bits) (k.same id h.within) ∙ h.values bits;
+  values = λ bits. rw (k.same id h.within) (h.values bits);
 }
 
 pub diagram-same : (ts : List Tree) (id : ℕ) (f g : Bits → ℕ) → IsDiagramOf ts id f → ((bits : Bits) → f bits ≡ g bits)
@@ -19,30 +19,26 @@ pub tree-diagram : (ts : List Tree) (id : ℕ) (t : Tree) → id < length ts →
     → IsDiagramOf ts id (λ bits. value t bits)
 tree-diagram ts id t l e = record { within = l; values = λ bits. ap (λ (u : Tree). value u bits) e }
 
+pub valued-diagram : {f : Bits → ℕ} (ts : List Tree) (id : ℕ) → id < length ts → HasValues (tree_at ts id) f
+    → IsDiagramOf ts id f
+valued-diagram ts id l h = record { within = l; values = h.values }
+
 -- a diagram that chooses between two others
-pub chosen-diagram : (ts us : List Tree) (test taken other id : ℕ) (f g h : Bits → ℕ) → IsDiagramOf ts test f
-    → IsDiagramOf ts taken g → IsDiagramOf ts other h → id < length us
+pub chosen-diagram : {ts us : List Tree} {test taken other id : ℕ} {f g h k : Bits → ℕ}
+    → IsDiagramOf ts test f → IsDiagramOf ts taken g → IsDiagramOf ts other h → id < length us
     → IsChosen (tree_at ts test) (tree_at ts taken) (tree_at ts other) (tree_at us id)
-    → IsDiagramOf us id (λ bits. chosen_of (f bits) (g bits) (h bits))
-chosen-diagram ts us test taken other id f g h df dg dh l chosen = record {
+    → ((bits : Bits) → chosen_of (f bits) (g bits) (h bits) ≡ k bits) → IsDiagramOf us id k
+chosen-diagram df dg dh l chosen same = record {
   within = l;
-  values = λ bits. chosen.values bits
-      ∙ ap (λ (x : ℕ). chosen_of x (value (tree_at ts taken) bits) (value (tree_at ts other) bits)) (df.values bits)
-      ∙ ap₂ (λ (y z : ℕ). chosen_of (f bits) y z) (dg.values bits) (dh.values bits);
+  values = λ bits. chosen.values bits ∙ rw (df.values bits, dg.values bits, dh.values bits) (same bits);
 }
 
 -- ---- numbers by their bits
 
 digits-same : (x y w r s : ℕ) → x < 2 → y < 2 → r < w → s < w
     → (x * w + r == y * w + s) ≡ ((x == y) && (r == s))
-digits-same zero zero w r s lx ly lr ls = elim (cases_eq r s) [
-  | inl e ↦ eq-eqb (0 * w + r) (0 * w + s) (omega arith) ∙ sym (eq-eqb r s e)
-  | inr ne ↦ ne_eqb (0 * w + r) (0 * w + s) (λ h. ne (omega arith)) ∙ sym (ne_eqb r s ne)
-]
-digits-same (suc zero) (suc zero) w r s lx ly lr ls = elim (cases_eq r s) [
-  | inl e ↦ eq-eqb (1 * w + r) (1 * w + s) (omega arith) ∙ sym (eq-eqb r s e)
-  | inr ne ↦ ne_eqb (1 * w + r) (1 * w + s) (λ h. ne (omega arith)) ∙ sym (ne_eqb r s ne)
-]
+digits-same zero zero w r s lx ly lr ls = grind (arith, nat_tests)
+digits-same (suc zero) (suc zero) w r s lx ly lr ls = grind (arith, nat_tests)
 digits-same zero (suc zero) w r s lx ly lr ls = ne_eqb (0 * w + r) (1 * w + s) (λ h. absurd (omega arith))
 digits-same (suc zero) zero w r s lx ly lr ls = ne_eqb (1 * w + r) (0 * w + s) (λ h. absurd (omega arith))
 digits-same (suc (suc x)) y w r s lx ly lr ls = absurd (omega arith)
@@ -74,10 +70,6 @@ agrees-more word n bits m =
 
 -- ---- some number of a list
 
-any-same : {X : Type 0} (p q : X → Bool) → ((x : X) → p x ≡ q x) → (xs : List X) → list_any p xs ≡ list_any q xs
-any-same p q same [] = refl
-any-same p q same (x ∷ xs) = ap₂ (λ (a b : Bool). a || b) (same x) (any-same p q same xs)
-
 any-filter : (p q : ℕ → Bool) (xs : List ℕ) → list_any (λ x. p x && q x) xs ≡ list_any q (filter p xs)
 any-filter p q [] = refl
 any-filter p q (x ∷ xs) = by (p x) (any-filter p q xs)
@@ -92,26 +84,12 @@ bit-not zero l = refl
 bit-not (suc zero) l = refl
 bit-not (suc (suc b)) l = absurd (omega arith)
 
-abbrev has_bit : ℕ → ℕ → Bool
-has_bit n m = bit_at m n == 1
-
-any-set : (word n : ℕ) (bits : Bits) (xs : List ℕ) → bits (32 * word + (31 - n)) ≡ true
-    → list_any (agrees word (suc n) bits) xs ≡ list_any (agrees word n bits) (filter (has_bit n) xs)
-any-set word n bits xs set =
-    any-same (agrees word (suc n) bits) (λ m. has_bit n m && agrees word n bits m)
-    (λ m. agrees-more word n bits m
-    ∙ ap (λ (x : ℕ). (bit_at m n == x) && agrees word n bits m) (cond-true (bits (32 * word + (31 - n))) 1 0 set)) xs
-    ∙ any-filter (has_bit n) (agrees word n bits) xs
-
-any-unset : (word n : ℕ) (bits : Bits) (xs : List ℕ) → bits (32 * word + (31 - n)) ≡ false
-    → list_any (agrees word (suc n) bits) xs
-    ≡ list_any (agrees word n bits) (filter (λ m. not (has_bit n m)) xs)
-any-unset word n bits xs unset =
-    any-same (agrees word (suc n) bits) (λ m. not (has_bit n m) && agrees word n bits m)
-    (λ m. agrees-more word n bits m
-    ∙ ap (λ (x : ℕ). (bit_at m n == x) && agrees word n bits m) (cond-false (bits (32 * word + (31 - n))) 1 0 unset)
-    ∙ ap (λ (b : Bool). b && agrees word n bits m) (bit-not (bit_at m n) (bit_at-lt m n))) xs
-    ∙ any-filter (λ m. not (has_bit n m)) (agrees word n bits) xs
+-- some number agrees in one more bit where one of those with the word's bit agrees
+any-more : (word n : ℕ) (bits : Bits) (xs : List ℕ) → list_any (agrees word (suc n) bits) xs
+    ≡ list_any (agrees word n bits) (filter (λ m. bit_at m n == flag (bits (32 * word + (31 - n)))) xs)
+any-more word n bits xs =
+    ap (λ (p : ℕ → Bool). list_any p xs) (fun_ext (agrees-more word n bits))
+    ∙ any-filter (λ m. bit_at m n == flag (bits (32 * word + (31 - n)))) (agrees word n bits) xs
 
 -- the numbers with a bit, or those without it, by the bit of the word
 pub one-of-step : (word n k v : ℕ) (bits : Bits) (xs set unset : List ℕ) → set ≡ filter (λ m. bit_at m n == 1) xs
@@ -120,30 +98,25 @@ pub one-of-step : (word n k v : ℕ) (bits : Bits) (xs set unset : List ℕ) →
     (if list_any (agrees word n bits) unset then 1 else 0)
     ≡ (if list_any (agrees word k bits) xs then 1 else 0)
 one-of-step word n k v bits xs set unset s u e f =
-    ap₂ (λ (a b : List ℕ). chosen_of (if bits v then 1 else 0) (if list_any (agrees word n bits) a then 1 else 0)
-    (if list_any (agrees word n bits) b then 1 else 0)) s u
-    ∙ ap (λ (w : ℕ). chosen_of (if bits w then 1 else 0)
-    (if list_any (agrees word n bits) (filter (has_bit n) xs) then 1 else 0)
-    (if list_any (agrees word n bits) (filter (λ m. not (has_bit n m)) xs) then 1 else 0)) e
-    ∙ by (bits (32 * word + (31 - n))) refl
-    ∙ ap (λ (j : ℕ). if list_any (agrees word j bits) xs then 1 else 0) (sym f)
+    rw (s, u, e, f) (by (bits (32 * word + (31 - n))) (any-more word n bits xs))
   where
-    by : (b : Bool) → bits (32 * word + (31 - n)) ≡ b → chosen_of (if b then 1 else 0)
-        (if list_any (agrees word n bits) (filter (has_bit n) xs) then 1 else 0)
-        (if list_any (agrees word n bits) (filter (λ m. not (has_bit n m)) xs) then 1 else 0)
-        ≡ (if list_any (agrees word (suc n) bits) xs then 1 else 0)
-    by true set = ap (λ (x : Bool). if x then 1 else 0) (sym (any-set word n bits xs set))
-    by false unset = ap (λ (x : Bool). if x then 1 else 0) (sym (any-unset word n bits xs unset))
+    by : (b : Bool) → list_any (agrees word (suc n) bits) xs
+        ≡ list_any (agrees word n bits) (filter (λ m. bit_at m n == flag b) xs) → chosen_of (flag b)
+        (flag (list_any (agrees word n bits) (filter (λ m. bit_at m n == 1) xs)))
+        (flag (list_any (agrees word n bits) (filter (λ m. not (bit_at m n == 1)) xs)))
+        ≡ flag (list_any (agrees word (suc n) bits) xs)
+    by true more = ap flag (sym more)
+    by false more =
+        let same : (λ (m : ℕ). bit_at m n == 0) ≡ (λ (m : ℕ). not (bit_at m n == 1))
+        = fun_ext (λ m. bit-not (bit_at m n) (bit_at-lt m n)) in
+        ap flag (sym (more ∙ ap (λ (p : ℕ → Bool). list_any (agrees word n bits) (filter p xs)) same))
 
 -- where no bit is left, each number is one
 pub one-of-all : (word k : ℕ) (bits : Bits) (xs : List ℕ) → k ≡ 0 → (length xs == 0) ≡ false
     → list_any (agrees word k bits) xs ≡ true
 unfolding low_number
 one-of-all word k bits [] e some = absurd (cc)
-one-of-all word k bits (x ∷ xs) e some =
-    let zero_left : x % 2 ^ 0 ≡ 0 = omega arith in
-    ap (λ (j : ℕ). list_any (agrees word j bits) (x ∷ xs)) e
-    ∙ ap (λ (b : Bool). b || list_any (agrees word 0 bits) xs) (eq-eqb (x % 2 ^ 0) 0 zero_left)
+one-of-all word k bits (x ∷ xs) e some = rw (e, eq-eqb (x % 2 ^ 0) 0 (omega arith))
 
 -- of no number, none is one
 pub one-of-none : (word k : ℕ) (bits : Bits) (xs : List ℕ) → (length xs == 0) ≡ true
@@ -164,12 +137,7 @@ any-small word bits (c ∷ calls) small =
     let numbers = map (λ (x : CallData). x.number) calls in
     let fits : c.number % 2 ^ 32 ≡ c.number
     = omega (arith, All-head (λ (n : ℕ). n < 2 ^ 32) c.number numbers small) in
-    ap₂ (λ (m : ℕ) (b : Bool). (m == low_number word 32 bits) || b) fits
-    (any-small word bits calls (All-tail (λ (n : ℕ). n < 2 ^ 32) c.number numbers small))
-
-or-none : (b : Bool) → (b || false) ≡ b
-or-none true = refl
-or-none false = refl
+    rw (fits, any-small word bits calls (All-tail (λ (n : ℕ). n < 2 ^ 32) c.number numbers small))
 
 both-flags : (a b : Bool) → chosen_of (if a then 1 else 0) (if b then 1 else 0) 0 ≡ (if a && b then 1 else 0)
 both-flags true b = refl
@@ -183,11 +151,8 @@ pub calls-step : (given arch : ℕ) (calls : List CallData) (numbers : List ℕ)
     ≡ (if (arch == low_number 18 32 bits) && list_any (is_call_number (low_number 19 32 bits)) calls then 1 else 0)
 calls-step given arch calls numbers bits fits is are small =
     let whole : given % 2 ^ 32 ≡ arch = omega arith in
-    both-flags (list_any (agrees 18 32 bits) (given ∷ [])) (list_any (agrees 19 32 bits) numbers)
-    ∙ ap₂ (λ (a b : Bool). if a && b then 1 else 0)
-    (or-none (agrees 18 32 bits given) ∙ ap (λ (m : ℕ). m == low_number 18 32 bits) whole)
-    (ap (list_any (agrees 19 32 bits)) are
-    ∙ any-small 19 bits calls (subst (λ (ns : List ℕ). All (λ (n : ℕ). n < 2 ^ 32) ns) are small))
+    rw (are, any-small 19 bits calls (rw are at small), whole, or-false (arch == low_number 18 32 bits))
+    (both-flags (arch == low_number 18 32 bits) (list_any (is_call_number (low_number 19 32 bits)) calls))
 
 pub named-step : (a b c : Bool) → c ≡ (b || a)
     → chosen_of (if a then 1 else 0) 1 (if b then 1 else 0) ≡ (if c then 1 else 0)
@@ -206,9 +171,7 @@ flag-chosen false x y = refl
 pub unnamed-on : (sets : List NamesData) (hidden : ℕ) (t : Tree) (d : Input) → IsInput d
     → unnamed_number sets hidden t (input_bits d)
     ≡ (if is_named_call sets (tree_word d 18) (tree_word d 19) then hidden else value t (input_bits d))
-unnamed-on sets hidden t d input =
-    ap₂ (λ (m n : ℕ). if is_named_call sets m n then hidden else value t (input_bits d)) (word-is d 18 input)
-    (word-is d 19 input)
+unnamed-on sets hidden t d input = rw (word-is d 18 input, word-is d 19 input)
 
 abbrev counted : Bool → ℕ
 counted b = if b then 0 else 1

@@ -1,4 +1,4 @@
-use Rattle.sf_rows.proofs.Common.{◌≡◌, ◌∙◌, ap, subst, sym, Answer, value, pair_of, input_bits, answer_with, after_of, before_of, AreAskedFor}
+use Rattle.sf_rows.proofs.Common.{◌≡◌, ◌∙◌, sym, value, pair_of, input_bits}
 use Rattle.sf_rows.proofs.RowLemmas.{asked-number, change-input, has-answer, unasked-number}
 use Rattle.sf_rows.proofs.laws.trees_have_the_changes.Goals as goal
 
@@ -10,8 +10,7 @@ returns-clause-unasked c = λ only old new s t u d a b is also tree input before
     let now = has-answer new t d b have also input after in
     tree.values bits
     ∙ unasked-number only (value s bits) (value t bits) (is.small bits) (also.small bits)
-    (λ asked. unasked (subst (λ (y : Answer). AreAskedFor only a y) now
-    (subst (λ (x : Answer). AreAskedFor only x (answer_with (value t bits))) was asked)))
+    (λ asked. unasked (rw (was, now) at asked))
 
 pub returns-clause-asked : goal.returns-clause-asked
 returns-clause-asked c = λ only old new s t u d a b is also tree input before after asked.
@@ -20,14 +19,13 @@ returns-clause-asked c = λ only old new s t u d a b is also tree input before a
     let was = has-answer old s d a have is input before in
     let now = has-answer new t d b have also input after in
     let found = asked-number only (value s bits) (value t bits) (is.small bits) (also.small bits)
-    (subst (λ (x : Answer). AreAskedFor only x (answer_with (value t bits))) (sym was)
-    (subst (λ (y : Answer). AreAskedFor only a y) (sym now) asked)) in
+    (rw (← was, ← now) at asked) in
     let number : value u bits ≡ pair_of (value s bits) (value t bits) = tree.values bits ∙ found.1 in
     let both = c.pairs_give_both_back.ensures (value s bits) (value t bits) (is.small bits) (also.small bits)
     found.0 in (
       λ e. both.0 (sym number ∙ e),
-      ap before_of number ∙ ap answer_with both.1 ∙ was,
-      ap after_of number ∙ ap answer_with both.2 ∙ now,
+      rw (number, both.1) was,
+      rw (number, both.2) now,
     )
 
 pub returns-clause-input : goal.returns-clause-input

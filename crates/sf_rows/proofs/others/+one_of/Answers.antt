@@ -1,5 +1,5 @@
-use Rattle.sf_rows.proofs.Common.{Leaf, Fork, ◌+◌, ◌-◌, ◌*◌, ◌∙◌, ap, arith, refl, sym, if◌then◌else◌, list_any}
-use Rattle.sf_rows.proofs.others.OtherLemmas.{agrees, chosen-diagram, diagram-kept, diagram-same, flag, one-of-all, one-of-none, one-of-step, tree-diagram}
+use Rattle.sf_rows.proofs.Common.{Leaf, Fork, ◌+◌, ◌-◌, ◌*◌, ◌∙◌, ap, arith, refl, sym}
+use Rattle.sf_rows.proofs.others.OtherLemmas.{chosen-diagram, diagram-kept, diagram-same, flag, one-of-all, one-of-none, one-of-step, tree-diagram}
 use Rattle.sf_rows.proofs.others.+one_of.Goals as goal
 
 pub returns-then-is_empty-clause-values : goal.returns-then-is_empty-clause-values
@@ -18,20 +18,13 @@ pub returns-clause-values : goal.returns-clause-values
 returns-clause-values t c =
     let n = c.args.bits - 1 in
     let v = 32 * c.args.word + (31 - n) in
-    let s1 = c.one_of.new.store in
-    let s2 = c.one_of-2.new.store in
-    let s3 = c.literal.new.self in
     let set = c.deref.result.now in
     let unset = c.deref-2.result.now in
-    diagram-same _ _ _ _
-    (chosen-diagram s3.trees c.choose.new.store.trees _ _ _ _ (λ b. if b v then 1 else 0)
-    (λ b. if list_any (agrees c.args.word n b) set then 1 else 0)
-    (λ b. if list_any (agrees c.args.word n b) unset then 1 else 0)
-    (tree-diagram s3.trees _ (Fork v (Leaf 0) (Leaf 1)) c.in_ok-variable.ensures.within c.in_ok-variable.ensures.tree)
-    (diagram-kept s2.trees s3.trees _ _ c.in_ok-variable.ensures.keeps.trees
-    (diagram-kept s1.trees s2.trees _ _ c.in_ok-lower.ensures.keeps.trees c.in_ok-higher.ensures.values))
-    (diagram-kept s2.trees s3.trees _ _ c.in_ok-variable.ensures.keeps.trees c.in_ok-lower.ensures.values)
-    c.in_ok-id.ensures.within c.in_ok-id.ensures.chosen)
+    let kept = c.in_ok-variable.ensures.keeps.trees in
+    chosen-diagram (tree-diagram c.literal.new.self.trees _ (Fork v (Leaf 0) (Leaf 1)) c.in_ok-variable.ensures.within
+    c.in_ok-variable.ensures.tree)
+    (diagram-kept kept (diagram-kept c.in_ok-lower.ensures.keeps.trees c.in_ok-higher.ensures.values))
+    (diagram-kept kept c.in_ok-lower.ensures.values) c.in_ok-id.ensures.within c.in_ok-id.ensures.chosen
     (λ b. one-of-step c.args.word n c.args.bits v b c.args.numbers.now set unset
     (c.deref.ensures.value ∙ c.in_ok-set.ensures.set) (c.deref-2.ensures.value ∙ c.in_ok-set.ensures.unset) refl
     (omega arith))

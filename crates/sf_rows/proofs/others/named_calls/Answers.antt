@@ -1,6 +1,5 @@
-use Rattle.sf_rows.proofs.Common.{Leaf, ◌+◌, ◌∙◌, Bool, ap, arith, sym, take, ◌&&◌, ◌||◌, if◌then◌else◌, list_any, list_any_more, Bits, keeps_more, NamesData, word_number, is_call_number}
-use Rattle.std.specs.Prelude.{◌==◌}
-use Rattle.sf_rows.proofs.others.OtherLemmas.{chosen-diagram, diagram-kept, diagram-same, named-step, tree-diagram}
+use Rattle.sf_rows.proofs.Common.{Leaf, ◌+◌, ◌∙◌, Bool, ap, arith, sym, take, ◌&&◌, ◌||◌, list_any, list_any_more, Bits, keeps_more, NamesData, word_number, is_call_number, ◌==◌}
+use Rattle.sf_rows.proofs.others.OtherLemmas.{chosen-diagram, diagram-kept, named-step, tree-diagram}
 use Rattle.sf_rows.proofs.others.named_calls.Goals as goal
 
 -- a set has the call of an input
@@ -15,23 +14,18 @@ loop-names-init c = record {
 
 pub loop-names-preserved : goal.loop-names-preserved
 loop-names-preserved c =
-    let s0 = c.loop-names.store in
-    let s1 = c.calls_of.new.store in
-    let s2 = c.leaf-in-loop-names.new.self in
     let n = c.names-item.result in
     let sets = c.args.sets.now in
     let i = c.loop-names.names-index in
     record {
       keeps = keeps_more _ _ _ c.loop-names.invariant.keeps (keeps_more _ _ _ c.in_ok-of_set.ensures.keeps
           (keeps_more _ _ _ c.in_ok-one.ensures.keeps c.in_ok-named-2.ensures.keeps));
-      values = diagram-same _ _ _ _
-          (chosen-diagram s2.trees c.choose.new.store.trees _ _ _ _ (λ b. if has_call b n then 1 else 0) (λ b. 1)
-          (λ b. if list_any (has_call b) (take i sets) then 1 else 0)
-          (diagram-kept s1.trees s2.trees _ _ c.in_ok-one.ensures.keeps.trees c.in_ok-of_set.ensures.values)
-          (tree-diagram s2.trees _ (Leaf 1) c.in_ok-one.ensures.within c.in_ok-one.ensures.tree)
-          (diagram-kept s1.trees s2.trees _ _ c.in_ok-one.ensures.keeps.trees
-          (diagram-kept s0.trees s1.trees _ _ c.in_ok-of_set.ensures.keeps.trees c.loop-names.invariant.values))
-          c.in_ok-named-2.ensures.within c.in_ok-named-2.ensures.chosen)
+      values = chosen-diagram (diagram-kept c.in_ok-one.ensures.keeps.trees c.in_ok-of_set.ensures.values)
+          (tree-diagram c.leaf-in-loop-names.new.self.trees _ (Leaf 1) c.in_ok-one.ensures.within
+          c.in_ok-one.ensures.tree)
+          (diagram-kept c.in_ok-one.ensures.keeps.trees
+          (diagram-kept c.in_ok-of_set.ensures.keeps.trees c.loop-names.invariant.values))
+          c.in_ok-named-2.ensures.within c.in_ok-named-2.ensures.chosen
           (λ b. named-step (has_call b n) (list_any (has_call b) (take i sets))
           (list_any (has_call b) (take (i + 1) sets))
           (list_any_more (has_call b) sets i n (omega arith)

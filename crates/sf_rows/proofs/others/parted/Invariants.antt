@@ -1,5 +1,4 @@
-use Rattle.sf_rows.proofs.Common.{◌≡◌, ◌==◌, take, not, bit_at}
-use Rattle.std.proofs.Common.{filter}
+use Rattle.sf_rows.proofs.Common.{◌≡◌, ◌==◌, take, not, bit_at, filter}
 use Rattle.sf_rows.proofs.others.parted.Given as goal
 
 abbrev pub invariant-loop-number : goal.invariant-loop-number
