@@ -1,107 +1,51 @@
 -- Numbers of calls, added region after region.
-use Rattle.std.proofs.Common.{◌≡◌, ◌≢◌, ◌⊎◌, inl, inr, ℕ, ◌+◌, ◌<◌, Bool, true, false, not, List, [], ◌∷◌, ◌++◌, Some, slice_get, refl, sym, ap, subst, ◌∙◌, arith, rules}
-use Rattle.std.specs.Prelude.{◌↔◌, Contains, IsTrue, MatchBool, slice_index}
-use Rattle.std.specs.Ordering.{nat_cmp}
-use Rattle.std.specs.BTreeSet.{BTreeSet, contains, Updates}
-use Rattle.std.proofs.lemmas.Bool.{cases_eq, cases_lt, false≢true}
-use Rattle.std.proofs.lemmas.Cmp.{nat_cmp_total}
-use Rattle.std.proofs.lemmas.Map.Lookups.{exact_unsigned}
-use Rattle.std.proofs.lemmas.Map.Views.{btree_set_contains_iff}
-use Rattle.std.proofs.lemmas.List.Elements.{All-nil, All-push, All-weaker, AllZip-push, Contains-append_left, Contains-get_or, Contains-push, Contains-push_cases}
-use Rattle.std.proofs.lemmas.List.Quantifiers.{all_pairs_push}
-use Rattle.std.proofs.lemmas.Option.{same_Some}
-use Rattle.sf_insn.specs.declared.input.Input.{Input}
-use Rattle.sf_insn.specs.Inputs.{IsInput}
-use Rattle.sf_check.specs.Stacks.{IsPlain}
-use Rattle.sf_run.specs.declared.action.Answer.{Answer}
-use Rattle.sf_run.specs.Answers.{Answers}
-use Rattle.sf_piece.specs.Pieces.{is_member}
-use Rattle.sf_book.specs.Books.{BookData, RegionData, IsRightRegion}
-use Rattle.sf_stack_warnings.specs.ZeroErrors.{zero_error, IsZeroErrorAt, AreZeroErrors}
-use Rattle.sf_stack_warnings.specs.Adding.{HaveSame, IsAddedOnce, IsOtherwiseAt, AreAddedBefore}
+use Rattle.sf_stack_warnings.proofs.Common.{◌≡◌, ◌≢◌, ◌⊎◌, inl, inr, ℕ, ◌+◌, ◌<◌, Bool, true, false, not, List, [], ◌∷◌, ◌++◌, Some, slice_get, refl, sym, ap, subst, ◌∙◌, arith, rules, ◌↔◌, Contains, IsTrue, MatchBool, slice_index, nat_cmp, BTreeSet, contains, Updates, cases_lt, nat_cmp_total, common_steps, exact_unsigned, btree_set_contains_iff, All-nil, All-push, All-weaker, AllZip-push, Contains-append_left, Contains-get_or, Contains-push, Contains-push_cases, all_pairs_push, same_Some, Input, IsInput, IsPlain, Answer, Answers, is_member, BookData, RegionData, IsRightRegion, zero_error, IsZeroErrorAt, AreZeroErrors, HaveSame, IsAddedOnce, IsOtherwiseAt, AreAddedBefore}
 
 -- ---- a number is put into a set
 
 set_has : (s : BTreeSet ℕ) (n : ℕ) → IsTrue (contains nat_cmp s n) ↔ Contains s.keys n
 set_has s n = btree_set_contains_iff nat_cmp_total exact_unsigned s n
 
-is_new_by : (P : Type 0) (c b : Bool) → b ≡ not c → IsTrue c ↔ P → MatchBool b (¬ P) P
-is_new_by P true b is has = subst (λ (x : Bool). MatchBool x (¬ P) P) (sym is) (has.0 refl)
-is_new_by P false b is has = subst (λ (x : Bool). MatchBool x (¬ P) P) (sym is) (λ p. false≢true (has.1 p))
-
 -- whether a number is new
 pub is_new : (s : BTreeSet ℕ) (n : ℕ) (b : Bool) → b ≡ not (contains nat_cmp s n)
     → MatchBool b (¬ Contains s.keys n) (Contains s.keys n)
-is_new s n b is = is_new_by (Contains s.keys n) (contains nat_cmp s n) b is (set_has s n)
+is_new s n b is = let has = set_has s n in grind (arith, common_steps, has.0, has.1)
 
--- a number that is put into a set is in it
-put_there : (s t : BTreeSet ℕ) (n : ℕ) → Updates nat_cmp s t n true → Contains t.keys n
-put_there s t n updates = (set_has t n).0 (search rules)
-
--- what was in it is still
-put_keeps : (s t : BTreeSet ℕ) (n m : ℕ) → Updates nat_cmp s t n true → Contains s.keys m → Contains t.keys m
-put_keeps s t n m updates there =
-    let old = (set_has s m).1 there in
-    (set_has t m).0 (grind (rules, updates.0 m, old))
-
--- nothing else is
-put_only : (s t : BTreeSet ℕ) (n m : ℕ) → Updates nat_cmp s t n true → Contains t.keys m
-    → Contains s.keys m ⊎ (m ≡ n)
-put_only s t n m updates there = elim (cases_eq m n) [
-  | inl same ↦ inr same
-  | inr other ↦ inl ((set_has s m).0 (let new = (set_has t m).1 there in grind (rules, updates.0 m, new, other)))
-]
-
--- just this number is more
+-- of a set that a number is put into, just this number is more
 pub put_one : (s t : BTreeSet ℕ) (n : ℕ) → Updates nat_cmp s t n true → (m : ℕ) → Contains t.keys m
     ↔ (Contains s.keys m ⊎ (m ≡ n))
-put_one s t n updates m = (
-  put_only s t n m updates,
-  λ side. elim side [
-    | inl old ↦ put_keeps s t n m updates old
-    | inr is ↦ subst (Contains t.keys) (sym is) (put_there s t n updates)
-  ],
-)
+put_one s t n updates m =
+    let new = set_has t m in
+    let old = set_has s m in
+    let at = updates.0 m in
+    (λ there. grind (rules, new.1, old.0, at), λ side. grind (rules, new.0, old.1, at))
 
 -- ---- a number is added once
 
 -- what was in the list is still
 kept_added : (n : ℕ) (old new : List ℕ) (m : ℕ) → IsAddedOnce n old new → Contains old m → Contains new m
-kept_added n old new m added there = elim added [
-  | inl same ↦ subst (λ (xs : List ℕ). Contains xs m) (sym same.0) there
-  | inr more ↦ subst (λ (xs : List ℕ). Contains xs m) (sym more.0) (Contains-append_left old (n ∷ []) m there)
-]
+kept_added n old new m added there = grind (arith, common_steps, Contains-append_left)
 
 -- the number is in it
 added_there : (n : ℕ) (old new : List ℕ) → IsAddedOnce n old new → Contains new n
-added_there n old new added = elim added [
-  | inl same ↦ subst (λ (xs : List ℕ). Contains xs n) (sym same.0) same.1
-  | inr more ↦ subst (λ (xs : List ℕ). Contains xs n) (sym more.0) (Contains-push old n)
-]
+added_there n old new added = let push = Contains-push old n in grind rules
 
 -- nothing else is
 only_added : (n : ℕ) (old new : List ℕ) (m : ℕ) → IsAddedOnce n old new → Contains new m → Contains old m ⊎ (m ≡ n)
-only_added n old new m added there = elim added [
-  | inl same ↦ inl (subst (λ (xs : List ℕ). Contains xs m) same.0 there)
-  | inr more ↦ elim (Contains-push_cases old n m (subst (λ (xs : List ℕ). Contains xs m) more.0 there)) [
-    | inl before ↦ inl before
-    | inr is ↦ inr (sym is)
-  ]
-]
+only_added n old new m (inl (same, absent)) there = inl (rw same at there)
+only_added n old new m (inr (more, absent)) there =
+    let cases = Contains-push_cases old n m (rw more at there) in
+    grind rules
 
 -- a set that gets the same number has the same numbers still
 pub same_after : (n : ℕ) (keys more old new : List ℕ) → HaveSame keys old
     → ((m : ℕ) → Contains more m ↔ (Contains keys m ⊎ (m ≡ n))) → IsAddedOnce n old new → HaveSame more new
-same_after n keys more old new same put added = λ m. (
-  λ there. elim ((put m).0 there) [
-    | inl before ↦ kept_added n old new m added ((same m).0 before)
-    | inr is ↦ subst (Contains new) (sym is) (added_there n old new added)
-  ],
-  λ there. elim (only_added n old new m added there) [
-    | inl before ↦ (put m).1 (inl ((same m).1 before))
-    | inr is ↦ (put m).1 (inr is)
-  ],
-)
+same_after n keys more old new same put added = λ m.
+    let as_put = put m in
+    let as_same = same m in (
+      λ there. grind (rules, kept_added n old new m added, added_there n old new added),
+      λ there. grind (rules, only_added n old new m added),
+    )
 
 -- ---- one region more
 
@@ -143,9 +87,7 @@ none_added s place numbers seen h otherwise = record {
   found = further s place numbers h.found;
   plain = λ plain p region less there is. elim (cases_lt p place) [
     | inl before ↦ h.plain plain p region before there is
-    | inr past ↦ (let here : p ≡ place = omega arith in
-        let other = subst (λ (n : ℕ). slice_get s.regions n ≡ Some region) here there in
-        absurd (otherwise plain region other is))
+    | inr past ↦ (let here : p ≡ place = omega arith in absurd (otherwise plain region (rw here at there) is))
   ];
   same = h.same;
 }

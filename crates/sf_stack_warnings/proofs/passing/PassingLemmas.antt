@@ -1,18 +1,5 @@
 -- Where no region has an answer by which a call may get through, none gets through.
-use Rattle.std.proofs.Common.{◌≡◌, ℕ, ◌+◌, not, ◌&&◌, Bool, true, false, List, length, take, Some, slice_get, sym, ap, ◌∙◌, inl, inr}
-use Rattle.std.specs.Prelude.{Contains}
-use Rattle.std.specs.List.{list_all}
-use Rattle.std.proofs.lemmas.Bool.{cases_Bool, false≢true}
-use Rattle.std.proofs.lemmas.List.{nil_from_length}
-use Rattle.std.proofs.lemmas.List.Elements.{All-contains}
-use Rattle.std.proofs.lemmas.List.Folds.{list_all_at, list_all_more}
-use Rattle.std.proofs.lemmas.Option.{get_or_from_slice_get, slice_get_within}
-use Rattle.sf_run.specs.declared.action.Answer.{Answer}
-use Rattle.sf_run.specs.Machine.{returns_of}
-use Rattle.sf_run.specs.laws.AnswerLaws.{one}
-use Rattle.sf_book.specs.Books.{BookData, RegionData, IsRightRegion, IsSettled}
-use Rattle.sf_ask.specs.laws.MemberLaws.{in_some_region}
-use Rattle.sf_stack_warnings.specs.Passing.{LetsNoneThrough, may_let_through}
+use Rattle.sf_stack_warnings.proofs.Common.{◌≡◌, ℕ, ◌+◌, not, ◌&&◌, Bool, true, false, List, length, take, Some, slice_get, sym, ap, ◌∙◌, inl, inr, Contains, list_all, cases_Bool, false≢true, nil_from_length, All-contains, list_all_at, list_all_more, get_or_from_slice_get, slice_get_within, Answer, returns_of, one, BookData, RegionData, IsRightRegion, IsSettled, in_some_region, LetsNoneThrough, may_let_through}
 
 abbrev refuses : RegionData → Bool
 refuses r = not (may_let_through r.answer.action)

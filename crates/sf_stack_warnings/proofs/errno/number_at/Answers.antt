@@ -1,5 +1,4 @@
-use Rattle.std.proofs.Common.{sym, ◌∙◌}
-use Rattle.std.proofs.lemmas.Bool.{false≢true}
+use Rattle.sf_stack_warnings.proofs.Common.{sym, ◌∙◌, false≢true}
 use Rattle.sf_stack_warnings.proofs.errno.ZeroErrorLemmas.{number_found, otherwise_at}
 use Rattle.sf_stack_warnings.proofs.errno.number_at.Goals as goal
 

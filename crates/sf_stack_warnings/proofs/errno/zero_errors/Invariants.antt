@@ -1,4 +1,4 @@
-use Rattle.sf_stack_warnings.specs.Adding.{AreAddedBefore}
+use Rattle.sf_stack_warnings.proofs.Common.{AreAddedBefore}
 use Rattle.sf_stack_warnings.proofs.errno.zero_errors.Given as goal
 
 abbrev pub invariant-loop-place : goal.invariant-loop-place

@@ -1,6 +1,4 @@
-use Rattle.std.proofs.Common.{◌≡◌, not, take, true}
-use Rattle.std.specs.List.{list_all}
-use Rattle.sf_stack_warnings.specs.Passing.{may_let_through}
+use Rattle.sf_stack_warnings.proofs.Common.{◌≡◌, not, take, true, list_all, may_let_through}
 use Rattle.sf_stack_warnings.proofs.passing.each_refuses.Given as goal
 
 abbrev pub invariant-loop-place : goal.invariant-loop-place

@@ -1,4 +1,4 @@
-use Rattle.std.proofs.Common.{arith}
+use Rattle.sf_stack_warnings.proofs.Common.{arith}
 use Rattle.sf_stack_warnings.proofs.passing.PassingLemmas.{passes_none}
 use Rattle.sf_stack_warnings.proofs.passing.lets_none_through.Goals as goal
 
