@@ -1,15 +1,6 @@
 -- Inputs whose tree has the number that no row shows, or another; listings that show the same.
-use Rattle.std.proofs.Common.{◌≡◌, ◌≢◌, ◌∙◌, ℕ, ◌==◌, List, ◌++◌, ap, ap₂, sym}
-use Rattle.std.specs.Prelude.{if◌then◌else◌, None}
-use Rattle.std.proofs.lemmas.Bool.{cond-false, cond-true, eq-eqb, ne_eqb}
-use Rattle.sf_diagram.specs.Trees.{Tree}
-use Rattle.sf_stack.specs.Texts.{filters_line}
-use Rattle.sf_names.specs.Names.{NamesData}
+use Rattle.sf_list.proofs.Common.{◌≡◌, ◌≢◌, ◌∙◌, ℕ, ◌==◌, List, ◌++◌, ap, ap₂, sym, if◌then◌else◌, None, cond-false, cond-true, eq-eqb, ne_eqb, Tree, filters_line, NamesData, rows_of, ShownData, lines_of_rows, Listed, digest_line, listing_text, listing_title, rows_total_line}
 use Rattle.sf_rows.specs.declared.subject.Subject.TheVariants as subject
-use Rattle.sf_rows.specs.Rows.{rows_of}
-use Rattle.sf_rows.specs.Shown.{ShownData}
-use Rattle.sf_rows.specs.Lines.{lines_of_rows}
-use Rattle.sf_list.specs.Listings.{Listed, digest_line, listing_text, listing_title, rows_total_line}
 
 pub one-where-shown : (v hidden : ℕ) → v ≢ hidden → ◌≡◌ {A = ℕ} (if v == hidden then 0 else 1) 1
 one-where-shown v hidden other = cond-false (v == hidden) 0 1 (ne_eqb v hidden other)

@@ -1,6 +1,4 @@
-use Rattle.sf_diagram.specs.Stores.{tree_at}
-use Rattle.sf_relations.specs.laws.KeepLaws.{behaviour_kept}
-use Rattle.sf_rows.specs.laws.TreeLaws.{answers_tree}
+use Rattle.sf_list.proofs.Common.{tree_at, behaviour_kept, answers_tree}
 use Rattle.sf_list.proofs.changes.shown_of.Goals as goal
 
 pub returns-clause-changes : goal.returns-clause-changes

@@ -1,5 +1,4 @@
-use Rattle.std.proofs.Common.{◌∙◌, ap}
-use Rattle.sf_behaviour.specs.Answering.{answer_with}
+use Rattle.sf_list.proofs.Common.{◌∙◌, ap, answer_with}
 use Rattle.sf_rows.specs.declared.subject.Subject.TheVariants as subject
 use Rattle.sf_list.proofs.listing.ListingLemmas.{one-where-shown}
 use Rattle.sf_list.proofs.laws.each_input_of_a_call_is_listed.Goals as goal

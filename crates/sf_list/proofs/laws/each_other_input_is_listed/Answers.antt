@@ -1,10 +1,5 @@
-use Rattle.std.proofs.Common.{◌∙◌, ℕ, ap, subst}
-use Rattle.std.specs.Prelude.{Contains, List, count_by, if◌then◌else◌}
-use Rattle.sf_behaviour.specs.Answering.{answer_with}
-use Rattle.sf_parts.specs.Rows.{RowData}
+use Rattle.sf_list.proofs.Common.{◌∙◌, ℕ, ap, if◌then◌else◌, answer_with, is_named_call, tree_word}
 use Rattle.sf_rows.specs.declared.subject.Subject.TheVariants as subject
-use Rattle.sf_rows.specs.Trees.{is_named_call}
-use Rattle.sf_rows.specs.Rows.{lies_in, tree_word}
 use Rattle.sf_list.proofs.listing.ListingLemmas.{one-where-shown}
 use Rattle.sf_list.proofs.laws.each_other_input_is_listed.Goals as goal
 
@@ -13,10 +8,9 @@ returns-clause-one c = λ sets l d a h input answers.
     let over = c.trees_have_the_answers.ensures.input l.programs h.tree h.answers in
     let shown = c.trees_have_the_answers.ensures.answer l.programs h.tree d a h.answers input answers in
     let others = h.shown.1 in
-    ap (count_by (lies_in d)) others.2
-    ∙ c.each_other_input_lies_in_its_row.ensures.one subject.Stack h.tree others.0 sets d over others.1 input
+    rw others.2 (c.each_other_input_lies_in_its_row.ensures.one subject.Stack h.tree others.0 sets d over others.1 input
     ∙ ap (λ (n : ℕ). if is_named_call sets (tree_word d 18) (tree_word d 19) then 0 else n)
-    (one-where-shown _ _ shown.1)
+    (one-where-shown _ _ shown.1))
 
 pub returns-clause-answer : goal.returns-clause-answer
 returns-clause-answer c = λ sets l d a r h input answers there yes.
@@ -24,5 +18,5 @@ returns-clause-answer c = λ sets l d a r h input answers there yes.
     let shown = c.trees_have_the_answers.ensures.answer l.programs h.tree d a h.answers input answers in
     let others = h.shown.1 in
     ap answer_with (c.each_other_input_lies_in_its_row.ensures.number subject.Stack h.tree others.0 sets d r over
-    others.1 input (subst (λ (rows : List RowData). Contains rows r) others.2 there) yes)
+    others.1 input (rw others.2 at there) yes)
     ∙ shown.0

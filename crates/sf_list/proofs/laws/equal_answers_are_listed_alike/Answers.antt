@@ -1,7 +1,4 @@
-use Rattle.std.proofs.Common.{subst}
-use Rattle.sf_diagram.specs.Trees.{Tree}
 use Rattle.sf_rows.specs.declared.subject.Subject.TheVariants as subject
-use Rattle.sf_rows.specs.Shown.{IsShown}
 use Rattle.sf_list.proofs.listing.ListingLemmas.{digested-alike, told-alike}
 use Rattle.sf_list.proofs.laws.equal_answers_are_listed_alike.Goals as goal
 
@@ -10,14 +7,14 @@ returns-clause-shown c = λ sets calls k l h i alike.
     let one = c.equal_answers_are_shown_alike.ensures.tree k.programs l.programs h.tree i.tree h.answers
     i.answers alike in
     c.equal_answers_are_shown_alike.ensures.shown calls subject.Stack i.tree sets k.shown l.shown
-    (subst (λ (t : Tree). IsShown calls subject.Stack t sets k.shown) one h.shown) i.shown
+    (rw one at h.shown) i.shown
 
 pub returns-clause-text : goal.returns-clause-text
 returns-clause-text c = λ sets calls k l h i alike size.
     let one = c.equal_answers_are_shown_alike.ensures.tree k.programs l.programs h.tree i.tree h.answers
     i.answers alike in
     told-alike sets k l size (c.equal_answers_are_shown_alike.ensures.shown calls subject.Stack i.tree sets k.shown
-    l.shown (subst (λ (t : Tree). IsShown calls subject.Stack t sets k.shown) one h.shown) i.shown)
+    l.shown (rw one at h.shown) i.shown)
 
 pub returns-clause-digest : goal.returns-clause-digest
 returns-clause-digest c = λ sets more k l h i alike.

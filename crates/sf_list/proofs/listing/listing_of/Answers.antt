@@ -1,5 +1,4 @@
-use Rattle.sf_rows.specs.laws.TreeLaws.{answers_tree}
-use Rattle.sf_diagram.specs.Stores.{tree_at}
+use Rattle.sf_list.proofs.Common.{answers_tree, tree_at}
 use Rattle.sf_list.proofs.listing.listing_of.Goals as goal
 
 pub returns-clause-listed : goal.returns-clause-listed
