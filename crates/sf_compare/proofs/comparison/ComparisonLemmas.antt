@@ -1,14 +1,5 @@
 -- Comparisons of the same stacks.
-use Rattle.std.proofs.Common.{◌≡◌, ℕ, Bool, List, Option, Decides, sym, subst}
-use Rattle.std.proofs.lemmas.Bool.Decides.{same_from_decides}
-use Rattle.sf_check.specs.declared.insn.Insn.{Insn}
-use Rattle.sf_relations.specs.declared.relation.Relation.{Relation}
-use Rattle.sf_relations.specs.declared.relation.Relation.TheVariants.{Looser, Tighter, Different, Pretended}
-use Rattle.sf_relations.specs.declared.examples.Example.{Example}
-use Rattle.sf_relations.specs.declared.findings.Findings.{Findings}
-use Rattle.sf_relations.specs.Changes.{IsFinding}
-use Rattle.sf_relations.specs.Comparing.{AreFindingsBetween}
-use Rattle.sf_compare.specs.Comparisons.{Compared, IsComparison, LetsSomeThrough}
+use Rattle.sf_compare.proofs.Common.{◌≡◌, ℕ, Bool, List, Option, same_from_decides, Insn, Relation, Looser, Tighter, Different, Pretended, Example, Findings, IsFinding, AreFindingsBetween, Compared, IsComparison}
 
 abbrev OneFinding : Type 0
 OneFinding = (old new : List (List Insn)) (r : Relation) (a b : Option Example) → IsFinding old new r a
@@ -45,13 +36,7 @@ same-compared eo en em ef ep eq = cc
 pub one-comparison : OneFinding → (c d : Compared) → IsComparison c → IsComparison d → c.old ≡ d.old → c.new ≡ d.new
     → c.nodes ≡ d.nodes → c ≡ d
 one-comparison finding c d h k first second nodes =
-    let found : AreFindingsBetween c.old c.new d.findings
-    = subst (λ (ps : List (List Insn)). AreFindingsBetween ps c.new d.findings) (sym first)
-    (subst (λ (ps : List (List Insn)). AreFindingsBetween d.old ps d.findings) (sym second) k.findings) in
-    let was : Decides d.through_old (LetsSomeThrough c.old)
-    = subst (λ (ps : List (List Insn)). Decides d.through_old (LetsSomeThrough ps)) (sym first) k.through_old in
-    let is : Decides d.through_new (LetsSomeThrough c.new)
-    = subst (λ (ps : List (List Insn)). Decides d.through_new (LetsSomeThrough ps)) (sym second) k.through_new in
-    same-compared first second nodes (one-findings finding c.old c.new c.findings d.findings h.findings found)
-    (same_from_decides c.through_old d.through_old h.through_old was)
-    (same_from_decides c.through_new d.through_new h.through_new is)
+    same-compared first second nodes
+    (one-findings finding c.old c.new c.findings d.findings h.findings (rw (← first, ← second) at k.findings))
+    (same_from_decides c.through_old d.through_old h.through_old (rw (← first) at k.through_old))
+    (same_from_decides c.through_new d.through_new h.through_new (rw (← second) at k.through_new))

@@ -1,22 +1,5 @@
 -- Whether some call may get through a stack: whether some input gets further than by KILL_THREAD.
-use Rattle.std.proofs.Common.{◌≡◌, ◌↔◌, ℕ, ◌<◌, List, [], ◌∷◌, length, Option, Some, None, refl, subst, sym, ap, arith}
-use Rattle.std.specs.Prelude.{IsTrue, is_some}
-use Rattle.sf_insn.specs.declared.input.Input.{Input}
-use Rattle.sf_check.specs.declared.insn.Insn.{Insn}
-use Rattle.sf_check.specs.declared.insn.Insn.TheVariants.{ReturnConstant}
-use Rattle.sf_run.specs.declared.action.Action.TheVariants.{Allow, KillThread}
-use Rattle.sf_run.specs.declared.action.Answer.{Answer}
-use Rattle.sf_run.specs.Answers.{Answers}
-use Rattle.sf_run.specs.laws.AnswerLaws.{answer_more, answer_none}
-use Rattle.sf_run.specs.Machine.{outcome_of, run_for}
-use Rattle.sf_diagram.specs.Trees.{Tree, Leaf, Bits, value}
-use Rattle.sf_diagram.specs.Stores.{tree_at}
-use Rattle.sf_behaviour.specs.InputBits.{input_by}
-use Rattle.sf_behaviour.specs.Answering.{answer_with, IsBehaviour}
-use Rattle.sf_relations.specs.declared.examples.Example.{Example}
-use Rattle.sf_relations.specs.declared.relation.Relation.TheVariants.{Looser}
-use Rattle.sf_relations.specs.Changes.{IsFinding}
-use Rattle.sf_compare.specs.Comparisons.{LetsSomeThrough}
+use Rattle.sf_compare.proofs.Common.{◌≡◌, ◌↔◌, ℕ, ◌<◌, List, [], ◌∷◌, length, Option, Some, None, refl, ap, arith, IsTrue, is_some, Input, Insn, ReturnConstant, Allow, KillThread, Answer, Answers, answer_more, answer_none, outcome_of, run_for, Tree, Leaf, Bits, value, tree_at, input_by, IsBehaviour, Example, Looser, IsFinding, LetsSomeThrough}
 
 -- a stack that kills each thread that makes a call
 abbrev pub refusing : List (List Insn)
@@ -37,8 +20,7 @@ refusing-behaviour ts id within is =
     record {
       within = within;
       small = λ bits. omega (arith, zero bits);
-      answers = λ bits. subst (λ (n : ℕ). Answers refusing (input_by bits) (answer_with n)) (sym (zero bits))
-          (refuses (input_by bits));
+      answers = λ bits. rw (zero bits) (refuses (input_by bits));
     }
 
 -- what gets further than under that stack may get through

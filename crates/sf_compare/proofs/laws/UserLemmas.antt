@@ -1,34 +1,11 @@
 -- What a comparison tells of questions.
-use Rattle.std.proofs.Common.{◌≡◌, ◌≢◌, ◌⊎◌, ℕ, ◌≤◌, true, false, List, [], ◌∷◌, ◌++◌, None, refl, sym, subst, inl, inr, arith}
-use Rattle.std.specs.Prelude.{◌==◌, codes, if◌then◌else◌}
-use Rattle.std.proofs.lemmas.Bool.{cases_eq, cases_lt, ne_eqb}
-use Rattle.std.proofs.lemmas.Bool.Decides.{nat_tests}
-use Rattle.std.proofs.lemmas.List.{append-nil, append_assoc}
-use Rattle.sf_insn.specs.declared.input.Input.{Input}
-use Rattle.sf_insn.specs.Inputs.{IsInput}
-use Rattle.sf_check.specs.declared.insn.Insn.{Insn}
-use Rattle.sf_run.specs.declared.action.Answer.{Answer}
-use Rattle.sf_run.specs.declared.action.Action.{Action}
-use Rattle.sf_run.specs.declared.action.Action.TheVariants.{KillProcess, KillThread, Trap, Errno, UserNotif, Trace, Log, Allow, Other}
-use Rattle.sf_run.specs.Answers.{Answers, IsAnswer, action_number, action_of, folded_answer}
-use Rattle.sf_run.specs.laws.AnswerLaws.{answer_more, answer_none}
-use Rattle.sf_run.specs.Machine.{returns_of}
-use Rattle.sf_diagram.specs.Operations.{reach_by}
-use Rattle.sf_question.specs.declared.actions.ActionSet.{ActionSet}
-use Rattle.sf_question.specs.Actions.{has_action}
-use Rattle.sf_question.specs.QuestionData.{QuestionData}
-use Rattle.sf_question.specs.Breaking.{Breaks}
-use Rattle.sf_policy.specs.Actions.{actions_of}
-use Rattle.sf_relations.specs.declared.relation.Relation.TheVariants.{Looser}
-use Rattle.sf_relations.specs.Changes.{IsFinding}
-use Rattle.sf_relations.specs.Relations.{reach_of}
-use Rattle.sf_compare.specs.Upward.{IsUpward}
+use Rattle.sf_compare.proofs.Common.{◌≡◌, ◌≢◌, ◌⊎◌, ℕ, ◌≤◌, true, false, List, [], ◌∷◌, ◌++◌, None, refl, sym, subst, inl, inr, arith, ◌==◌, codes, if◌then◌else◌, cases_eq, cases_lt, ne_eqb, nat_tests, append-nil, append_assoc, Input, IsInput, Insn, Answer, Action, KillProcess, KillThread, Trap, Errno, UserNotif, Trace, Log, Allow, Other, Answers, IsAnswer, action_number, action_of, folded_answer, answer_more, answer_none, returns_of, reach_by, ActionSet, has_action, QuestionData, Breaks, actions_of, Looser, IsFinding, reach_of, IsUpward}
 
 -- values make an answer, and so do they with more of them
 answer-more : (vs ns : List ℕ) → (a : Answer) × IsAnswer vs a → (a : Answer) × IsAnswer (vs ++ ns) a
-answer-more vs [] h = subst (λ (ms : List ℕ). (a : Answer) × IsAnswer ms a) (sym (append-nil vs)) h
+answer-more vs [] h = rw (append-nil vs) h
 answer-more vs (n ∷ ns) h =
-    subst (λ (ms : List ℕ). (a : Answer) × IsAnswer ms a) (append_assoc vs (n ∷ []) ns)
+    rw (append_assoc vs (n ∷ []) ns) at
     (answer-more (vs ++ n ∷ []) ns (folded_answer h.0 n, answer_more vs h.0 n h.1))
 
 -- each stack answers each input
@@ -44,9 +21,8 @@ breaks_no_more old new q d never upward is broken =
       inside = broken.inside;
       answer = before.0;
       answers = before.1;
-      asked = subst (λ (a : Action). has_action q.actions a ≡ true) (sym before.1.named)
-          (upward (action_number broken.answer.action) (action_number before.0.action)
-          (subst (λ (a : Action). has_action q.actions a ≡ true) broken.answers.named broken.asked)
+      asked = rw before.1.named (upward (action_number broken.answer.action) (action_number before.0.action)
+          (rw broken.answers.named at broken.asked)
           (elim (cases_lt (reach_of before.0.action) (reach_of broken.answer.action)) [
             | inl further ↦ absurd (never d before.0 broken.answer (record {
               input = is;

@@ -1,14 +1,5 @@
 -- What is found of the same stack.
-use Rattle.std.proofs.Common.{◌≡◌, ◌∙◌, ℕ, List, Option, None, length, sym, subst, arith}
-use Rattle.std.specs.Prelude.{remove, slice_index_or}
-use Rattle.std.proofs.lemmas.List.{ext_get_or}
-use Rattle.sf_check.specs.declared.insn.Insn.{Insn}
-use Rattle.sf_relations.specs.declared.relation.Relation.{Relation}
-use Rattle.sf_relations.specs.declared.relation.Relation.TheVariants.{Looser}
-use Rattle.sf_relations.specs.declared.examples.Example.{Example}
-use Rattle.sf_relations.specs.Changes.{IsFinding}
-use Rattle.sf_relations.specs.Needs.{AreFoundWithout, AreKeptUpTo}
-use Rattle.sf_needed.specs.Needs.{AreNeeds, NeedsData}
+use Rattle.sf_needed.proofs.Common.{◌≡◌, ◌∙◌, ℕ, List, Option, None, length, sym, arith, remove, slice_index_or, ext_get_or, Insn, Relation, Looser, Example, IsFinding, AreFoundWithout, AreKeptUpTo, AreNeeds, NeedsData}
 
 abbrev OneFinding : Type 0
 OneFinding = (old new : List (List Insn)) (r : Relation) (a b : Option Example) → IsFinding old new r a
@@ -34,9 +25,6 @@ same-needs es en ef ek = cc
 pub one-result : OneFinding → OneKept → (m n : NeedsData) → AreNeeds m → AreNeeds n → m.stack ≡ n.stack
     → m.nodes ≡ n.nodes → m ≡ n
 one-result finding kept m n h k same nodes =
-    let found : AreFoundWithout m.stack n.findings
-    = subst (λ (ps : List (List Insn)). AreFoundWithout ps n.findings) (sym same) k.findings in
-    let left : AreKeptUpTo m.stack (length m.stack) n.kept
-    = subst (λ (ps : List (List Insn)). AreKeptUpTo ps (length ps) n.kept) (sym same) k.kept in
-    same-needs same nodes (one-findings finding m.stack m.findings n.findings h.findings found)
-    (kept m.stack m.kept n.kept h.kept left)
+    same-needs same nodes
+    (one-findings finding m.stack m.findings n.findings h.findings (rw (← same) at k.findings))
+    (kept m.stack m.kept n.kept h.kept (rw (← same) at k.kept))

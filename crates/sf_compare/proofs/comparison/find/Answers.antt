@@ -1,7 +1,4 @@
-use Rattle.std.proofs.Common.{ap, arith}
-use Rattle.sf_diagram.specs.laws.KeepLaws.{keeps_more}
-use Rattle.sf_diagram.specs.Stores.{StoreData}
-use Rattle.sf_relations.specs.laws.KeepLaws.{behaviour_kept}
+use Rattle.sf_compare.proofs.Common.{ap, arith, keeps_more, StoreData, behaviour_kept}
 use Rattle.sf_compare.proofs.comparison.find.Goals as goal
 
 pub find_changes-requires-clause-before : goal.find_changes-requires-clause-before

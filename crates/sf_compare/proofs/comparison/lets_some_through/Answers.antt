@@ -1,7 +1,4 @@
-use Rattle.std.proofs.Common.{◌↔◌, Bool, arith, subst, sym}
-use Rattle.std.specs.Prelude.{IsTrue}
-use Rattle.sf_relations.specs.laws.KeepLaws.{behaviour_kept}
-use Rattle.sf_compare.specs.Comparisons.{LetsSomeThrough}
+use Rattle.sf_compare.proofs.Common.{arith, behaviour_kept}
 use Rattle.sf_compare.proofs.comparison.PassingLemmas.{refusing, refusing-behaviour, some_through}
 use Rattle.sf_compare.proofs.comparison.lets_some_through.Goals as goal
 
@@ -17,5 +14,4 @@ returns-clause-through c = λ programs is.
     let found = c.in_ok-found.ensures.found refusing programs
     (refusing-behaviour ts c.in_ok-refused.refused c.in_ok-refused.ensures.within c.in_ok-refused.ensures.tree)
     (behaviour_kept c.args.store.now.trees ts programs c.args.answers c.in_ok-refused.ensures.keeps.trees is) in
-    subst (λ (b : Bool). IsTrue b ↔ LetsSomeThrough programs) (sym c.is_some.ensures)
-    (some_through programs c.in_ok-found.found found)
+    rw c.is_some.ensures (some_through programs c.in_ok-found.found found)

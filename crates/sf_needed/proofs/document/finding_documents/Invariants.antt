@@ -1,6 +1,4 @@
-use Rattle.std.proofs.Common.{◌≡◌, ◌+◌, ◌++◌, drop, map}
-use Rattle.serde_json.specs.View.{view}
-use Rattle.sf_needed.specs.Documents.{finding_documents}
+use Rattle.sf_needed.proofs.Common.{◌≡◌, ◌+◌, ◌++◌, drop, map, view, finding_documents}
 use Rattle.sf_needed.proofs.document.finding_documents.Given as goal
 
 abbrev pub invariant-loop-place : goal.invariant-loop-place

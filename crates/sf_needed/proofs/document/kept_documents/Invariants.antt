@@ -1,6 +1,4 @@
-use Rattle.std.proofs.Common.{◌≡◌, ◌+◌, map, take}
-use Rattle.serde_json.specs.View.{view}
-use Rattle.sf_json.specs.Documents.{count}
+use Rattle.sf_needed.proofs.Common.{◌≡◌, ◌+◌, map, take, view, count}
 use Rattle.sf_needed.proofs.document.kept_documents.Given as goal
 
 abbrev pub invariant-loop-place : goal.invariant-loop-place

@@ -1,5 +1,4 @@
-use Rattle.std.proofs.Common.{ap, arith}
-use Rattle.sf_diagram.specs.Stores.{StoreData}
+use Rattle.sf_needed.proofs.Common.{ap, arith, StoreData}
 use Rattle.sf_needed.proofs.needs.find.Goals as goal
 
 pub returns-clause-below : goal.returns-clause-below

@@ -1,5 +1,4 @@
-use Rattle.std.proofs.Common.{◌≡◌, ◌+◌, ◌++◌, drop, string_bytes}
-use Rattle.sf_needed.specs.Texts.{finding_lines}
+use Rattle.sf_needed.proofs.Common.{◌≡◌, ◌+◌, ◌++◌, drop, string_bytes, finding_lines}
 use Rattle.sf_needed.proofs.text.push_findings.Given as goal
 
 abbrev pub invariant-loop-place : goal.invariant-loop-place

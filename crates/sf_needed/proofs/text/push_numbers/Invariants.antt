@@ -1,6 +1,4 @@
-use Rattle.std.proofs.Common.{◌≡◌, ◌+◌, ◌++◌, ◌∷◌, take, string_bytes}
-use Rattle.std.specs.Prelude.{flat_map}
-use Rattle.std.specs.Fmt.{decimal}
+use Rattle.sf_needed.proofs.Common.{◌≡◌, ◌+◌, ◌++◌, ◌∷◌, take, string_bytes, flat_map, decimal}
 use Rattle.sf_needed.proofs.text.push_numbers.Given as goal
 
 abbrev pub invariant-loop-place : goal.invariant-loop-place
