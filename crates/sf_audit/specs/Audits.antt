@@ -1,13 +1,7 @@
 -- What an audit finds, and why it is refused.
-use Rattle.std.specs.Prelude.{◌≡◌, ℕ, ◌<◌, ◌≤◌, ◌⊎◌, List, length}
-use Rattle.sf_check.specs.declared.insn.Insn.{Insn}
-use Rattle.sf_question.specs.QuestionData.{QuestionData}
-use Rattle.sf_check.specs.Stacks.{IsPlain}
-use Rattle.sf_crew.specs.Explorations.{IsExplorationOf, IsExactExploration}
-use Rattle.sf_crew.specs.Sweeps.{AreRightReplies}
-use Rattle.sf_stack.specs.declared.fault.Fault.{Fault}
+use Rattle.std.specs.Prelude.{◌≡◌, ℕ, ◌<◌, ◌≤◌, ◌⊎◌, List, [], length}
+use Rattle.sf_audit.specs.Common.{Insn, QuestionData, IsPlain, IsExplorationOf, IsExactExploration, AreRightReplies, Fault, SpellStack, IsFirstRefusal}
 use Rattle.sf_stack.specs.declared.fault.Fault.TheVariants as faults
-use Rattle.sf_stack.specs.Filters.{SpellStack, IsFirstRefusal}
 use Rattle.sf_audit.specs.Outcomes.{Found}
 
 -- An exploration of the stack came to its end, with nothing outstanding or all of the budget spent; the questions are
@@ -29,6 +23,14 @@ pub record IsAudit (files : List (List ℕ)) (questions : List QuestionData) (bu
   pub stack : SpellStack files o.settled.stack
   pub counted : (0 < length questions) × (length questions ≤ 256)
   pub found : IsFoundOn o.settled.stack budget questions o
+
+-- this holds of what two audits found, with the same questions, whose files spell one stack, and which left nothing
+-- outstanding
+abbrev pub OfTwoAudits : (Found → Found → Type 0) → Type 0
+OfTwoAudits P =
+    (files others : List (List ℕ)) (questions : List QuestionData) (b c : ℕ) (o p : Found)
+    → IsAudit files questions b o → IsAudit others questions c p → o.settled.stack ≡ p.settled.stack
+    → o.settled.outstanding ≡ [] → p.settled.outstanding ≡ [] → P o p
 
 -- there is no question, or there are too many
 abbrev pub IsWrongCount : List QuestionData → Type 0

@@ -1,14 +1,6 @@
 -- An audit as JSON. Each field is always there: one that doesn't apply is null.
 use Rattle.std.specs.Prelude.{ℕ, ◌+◌, ◌==◌, Bool, List, [], ◌∷◌, codes, count_by, length, map, slice_get, string_bytes, unwrap_or, if◌then◌else◌}
-use Rattle.serde_json.specs.Data.{Data, boolean, null, string}
-use Rattle.serde_json.specs.View.{view}
-use Rattle.sf_names.specs.Names.{NamesData}
-use Rattle.sf_book.specs.Books.{RegionData, counts_of}
-use Rattle.sf_question.specs.QuestionData.{QuestionData}
-use Rattle.sf_ask.specs.declared.verdict.Reply.{Reply}
-use Rattle.sf_ask.specs.declared.verdict.Reply.TheVariants.{Never, Allowed, Unsettled}
-use Rattle.sf_json.specs.Documents.{answer_document, count, counts_document, fields, input_document, list_of, sizes_document}
-use Rattle.sf_audit.specs.declared.document.Telling.{Telling}
+use Rattle.sf_audit.specs.Common.{Data, boolean, null, string, view, NamesData, RegionData, counts_of, QuestionData, Reply, Never, Allowed, Unsettled, answer_document, count, counts_document, fields, input_document, list_of, sizes_document, Telling}
 use Rattle.sf_audit.specs.Outcomes.{Found}
 use Rattle.sf_audit.specs.Reports.{is_allowed, is_never, is_unsettled, letter, remark_at}
 use Rattle.sf_audit.specs.Expectations.{ExpectedData, does_hold, is_accepted, is_unexpected}

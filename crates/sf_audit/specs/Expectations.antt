@@ -1,11 +1,6 @@
 -- What a build expects of an audit, and what is told of that.
 use Rattle.std.specs.Prelude.{◌≡◌, ℕ, Bool, true, false, not, ◌&&◌, List, [], ◌∷◌, ◌++◌, codes, length, if◌then◌else◌}
-use Rattle.std.specs.List.{list_all, list_any}
-use Rattle.std.specs.Str.{bytes_eq}
-use Rattle.sf_question.specs.QuestionData.{QuestionData}
-use Rattle.sf_ask.specs.declared.verdict.Reply.{Reply}
-use Rattle.sf_ask.specs.declared.verdict.Reply.TheVariants.{Never, Allowed, Unsettled}
-use Rattle.sf_stack.specs.Texts.{line}
+use Rattle.sf_audit.specs.Common.{list_all, list_any, bytes_eq, QuestionData, Reply, Never, Allowed, Unsettled, line}
 use Rattle.sf_audit.specs.Outcomes.{Found}
 use Rattle.sf_audit.specs.Reports.{is_allowed}
 

@@ -1,3 +1,4 @@
+pub mod Common
 pub mod Outcomes
 pub mod Reports
 pub mod Audits

@@ -1,8 +1,6 @@
 -- What an audit found.
 use Rattle.std.specs.Prelude.{◌≡◌, List, length}
-use Rattle.sf_book.specs.Books.{BookData}
-use Rattle.sf_question.specs.QuestionData.{QuestionData}
-use Rattle.sf_ask.specs.declared.verdict.Reply.{Reply}
+use Rattle.sf_audit.specs.Common.{BookData, QuestionData, Reply}
 
 -- how the exploration ended, the questions, and a reply to each
 pub record Found : Type 0 where

@@ -1,12 +1,6 @@
 -- The text of a report.
 use Rattle.std.specs.Prelude.{ℕ, ◌+◌, Bool, true, false, List, [], ◌∷◌, ◌++◌, codes, map, length, count_by, slice_get, unwrap_or, ◌==◌, if◌then◌else◌}
-use Rattle.std.specs.Fmt.{decimal}
-use Rattle.sf_check.specs.Stacks.{path_length}
-use Rattle.sf_book.specs.Books.{BookData, RegionData, counts_of}
-use Rattle.sf_question.specs.QuestionData.{QuestionData}
-use Rattle.sf_ask.specs.declared.verdict.Reply.{Reply}
-use Rattle.sf_ask.specs.declared.verdict.Reply.TheVariants.{Never, Allowed, Unsettled}
-use Rattle.sf_stack.specs.Texts.{action_text, counts_line, hex_text, line}
+use Rattle.sf_audit.specs.Common.{decimal, path_length, BookData, RegionData, counts_of, QuestionData, Reply, Never, Allowed, Unsettled, action_text, counts_line, hex_text, line}
 use Rattle.sf_audit.specs.Outcomes.{Found}
 
 -- what each report begins with, and the number of its form

@@ -1,19 +1,6 @@
 -- The summary of an audit, for a person.
 use Rattle.std.specs.Prelude.{ℕ, ◌+◌, ◌-◌, ◌==◌, nat_lt, not, ◌&&◌, Bool, true, false, List, [], ◌∷◌, ◌++◌, codes, count_by, length, map, position, if◌then◌else◌, Option, Some, None, option_and_then, slice_get, unwrap_or}
-use Rattle.std.specs.Fmt.{decimal}
-use Rattle.serde_json.specs.Data.{Data}
-use Rattle.serde_json.specs.View.{view}
-use Rattle.sf_insn.specs.declared.input.Input.{Input}
-use Rattle.sf_calls.specs.Texts.{call_words}
-use Rattle.sf_json.specs.Documents.{text_at}
-use Rattle.sf_names.specs.Names.{NamesData}
-use Rattle.sf_policy.specs.Actions.{is_text_among}
-use Rattle.sf_policy.specs.Groups.{GroupData}
-use Rattle.sf_question.specs.QuestionData.{QuestionData}
-use Rattle.sf_ask.specs.declared.verdict.Reply.{Reply}
-use Rattle.sf_ask.specs.declared.verdict.Reply.TheVariants.{Allowed}
-use Rattle.sf_audit.specs.declared.summary.Summary.{Summary}
-use Rattle.sf_audit.specs.declared.summary.lists.Kind.{Kind}
+use Rattle.sf_audit.specs.Common.{decimal, Data, view, call_words, text_at, NamesData, is_text_among, GroupData, QuestionData, Reply, Allowed, Summary, Kind}
 use Rattle.sf_audit.specs.declared.summary.lists.Kind.TheVariants as kinds
 use Rattle.sf_audit.specs.Outcomes.{Found}
 use Rattle.sf_audit.specs.Reports.{is_never, is_allowed, is_unsettled}

@@ -83,7 +83,7 @@ impl Expected {
     pub(crate) fn is_unexpected(&self, name: &str, reply: Reply) -> bool
         ensures { result ≡ is_unexpected self.now.accepted name.now reply }
     {
-        is_unexpected(&self.accepted, name, &reply)
+        is_allowed(&reply) && !self.is_accepted(name)
     }
 
     /// Whether the control holds: each of its questions is allowed. `true` where it has no questions.
@@ -98,7 +98,7 @@ impl Expected {
         ensures { result ≡ has_unexpected self.now.accepted
             outcome.now.questions outcome.now.replies }
     {
-        has_unexpected(&self.accepted, outcome.questions(), outcome.replies())
+        has_unexpected(self, outcome.questions(), outcome.replies())
     }
 }
 
@@ -186,19 +186,12 @@ pub fn text_of_expected(
     Ok(text)
 }
 
-fn is_unexpected(accepted: &[String], name: &str, reply: &Reply) -> bool
-    ensures { result ≡ is_unexpected (map string_bytes accepted.now) name.now reply.now }
-{
-    is_allowed(reply) && !is_accepted(accepted, name)
-}
-
-fn has_unexpected(accepted: &[String], questions: &[Question], replies: &[Reply]) -> bool
+fn has_unexpected(expected: &Expected, questions: &[Question], replies: &[Reply]) -> bool
     requires { length questions.now ≡ length replies.now }
-    ensures { result
-        ≡ has_unexpected (map string_bytes accepted.now) questions.now replies.now }
+    ensures { result ≡ has_unexpected expected.now.accepted questions.now replies.now }
 {
     for (i, question) in questions.iter().enumerate() {
-        if is_unexpected(accepted, question.name(), &replies[i]) {
+        if expected.is_unexpected(question.name(), replies[i]) {
             return true;
         }
     }

@@ -1,9 +1,9 @@
 //! Laws of the definitions, each the contract of a function that does nothing, or only calls other laws.
 
-ghost use Rattle.std.specs.Prelude.{◌≡◌, ℕ, Bool, List, []};
+ghost use Rattle.std.specs.Prelude.{◌≡◌, ℕ, Bool, List};
 ghost use Rattle.sf_question.specs.QuestionData.{QuestionData};
 ghost use Rattle.sf_stack.specs.declared.fault.Fault.{Fault};
-ghost use Rattle.sf_audit.specs.Audits.{IsAudit, IsAuditRefusal};
+ghost use Rattle.sf_audit.specs.Audits.{IsAudit, IsAuditRefusal, OfTwoAudits};
 ghost use Rattle.sf_audit.specs.Documents.{TellingData, audit_document};
 ghost use Rattle.sf_audit.specs.Expectations.{ExpectedData};
 ghost use Rattle.sf_audit.specs.Outcomes.{Found};
@@ -29,13 +29,8 @@ pub fn an_audit_is_not_refused()
 /// report is the same for any two budgets, and for any workers in any order. It is the same too where the files differ
 /// only in fields that no instruction uses.
 pub fn one_report()
-    ensures { (files others : List (List ℕ)) (questions : List QuestionData)
-        (b c : ℕ) (o p : Found) →
-        IsAudit files questions b o → IsAudit others questions c p →
-        o.settled.stack ≡ p.settled.stack →
-        o.settled.outstanding ≡ [] → p.settled.outstanding ≡ [] →
-        (shown : Bool) (remarks : List (List ℕ)) →
-        report_text o shown remarks ≡ report_text p shown remarks }
+    ensures { OfTwoAudits (λ o p. (shown : Bool) (remarks : List (List ℕ)) →
+        report_text o shown remarks ≡ report_text p shown remarks) }
 {
     explorations_have_one_result();
     replies_have_one_result();
@@ -44,13 +39,8 @@ pub fn one_report()
 /// A law for the prover: two audits as in `one_report` have the same summary too, where the summaries are made with the
 /// same `summary` and the same `expected`.
 pub fn one_summary()
-    ensures { (files others : List (List ℕ)) (questions : List QuestionData)
-        (b c : ℕ) (o p : Found) →
-        IsAudit files questions b o → IsAudit others questions c p →
-        o.settled.stack ≡ p.settled.stack →
-        o.settled.outstanding ≡ [] → p.settled.outstanding ≡ [] →
-        (summary : SummaryData) (expected : ExpectedData) →
-        summary_text summary expected o ≡ summary_text summary expected p }
+    ensures { OfTwoAudits (λ o p. (summary : SummaryData) (expected : ExpectedData) →
+        summary_text summary expected o ≡ summary_text summary expected p) }
 {
     explorations_have_one_result();
     replies_have_one_result();
@@ -59,13 +49,8 @@ pub fn one_summary()
 /// A law for the prover: two audits as in `one_report` have the same JSON document too, where the documents are made
 /// with the same `telling` and the same `expected`.
 pub fn one_document()
-    ensures { (files others : List (List ℕ)) (questions : List QuestionData)
-        (b c : ℕ) (o p : Found) →
-        IsAudit files questions b o → IsAudit others questions c p →
-        o.settled.stack ≡ p.settled.stack →
-        o.settled.outstanding ≡ [] → p.settled.outstanding ≡ [] →
-        (telling : TellingData) (expected : ExpectedData) →
-        audit_document telling expected o ≡ audit_document telling expected p }
+    ensures { OfTwoAudits (λ o p. (telling : TellingData) (expected : ExpectedData) →
+        audit_document telling expected o ≡ audit_document telling expected p) }
 {
     explorations_have_one_result();
     replies_have_one_result();

@@ -1,12 +1,6 @@
 -- Audits of the stack that files spell.
-use Rattle.std.proofs.Common.{◌≡◌, ◌⊎◌, inl, inr, ℕ, List, sym, subst}
-use Rattle.sf_check.specs.declared.insn.Insn.{Insn}
-use Rattle.sf_question.specs.QuestionData.{QuestionData}
-use Rattle.sf_stack.specs.declared.fault.Fault.{Fault}
+use Rattle.sf_audit.proofs.Common.{◌≡◌, ◌⊎◌, inl, inr, ℕ, List, sym, subst, Insn, QuestionData, Fault, SpellStack, Found, IsAudit, IsAuditOf, IsAuditRefusal, IsFoundOn, IsWrongCount}
 use Rattle.sf_stack.specs.declared.fault.Fault.TheVariants as faults
-use Rattle.sf_stack.specs.Filters.{SpellStack}
-use Rattle.sf_audit.specs.Outcomes.{Found}
-use Rattle.sf_audit.specs.Audits.{IsAudit, IsAuditOf, IsAuditRefusal, IsFoundOn, IsWrongCount}
 
 module _ (files : List (List ℕ)) (stack : List (List Insn)) (questions : List QuestionData)
     (spelled : SpellStack files stack) where

@@ -1,6 +1,5 @@
 -- A test of texts, seen as a test of strings.
-use Rattle.std.proofs.Common.{◌≡◌, ◌||◌, Bool, List, [], ◌∷◌, ap, map, refl}
-use Rattle.std.specs.List.{list_any}
+use Rattle.sf_audit.proofs.Common.{◌≡◌, ◌||◌, Bool, List, [], ◌∷◌, ap, map, refl, list_any}
 
 -- some element passes a test of what is seen of it, where some of what is seen passes
 pub any_seen : {X Y : Type 0} (f : Y → Bool) (g : X → Y) (xs : List X)

@@ -1,12 +1,6 @@
 -- An audit and a refusal exclude each other.
-use Rattle.std.proofs.Common.{◌≡◌, ℕ, ◌<◌, ◌≤◌, ◌⊎◌, List, inl, inr, arith}
-use Rattle.sf_check.specs.declared.insn.Insn.{Insn}
-use Rattle.sf_question.specs.QuestionData.{QuestionData}
-use Rattle.sf_stack.specs.declared.fault.Fault.{Fault}
+use Rattle.sf_audit.proofs.Common.{◌≡◌, ℕ, ◌<◌, ◌≤◌, ◌⊎◌, List, inl, inr, arith, Insn, QuestionData, Fault, SpellStack, IsFirstRefusal, Found, IsAudit, IsMiscounted, IsAuditRefusal}
 use Rattle.sf_stack.specs.declared.fault.Fault.TheVariants as faults
-use Rattle.sf_stack.specs.Filters.{SpellStack, IsFirstRefusal}
-use Rattle.sf_audit.specs.Outcomes.{Found}
-use Rattle.sf_audit.specs.Audits.{IsAudit, IsMiscounted, IsAuditRefusal}
 
 -- files with a refusal spell no lawful stack
 abbrev pub NoStack : Type 0

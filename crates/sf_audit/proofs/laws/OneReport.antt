@@ -1,26 +1,5 @@
 -- Audits of one stack that end with nothing outstanding have one report, one summary, and one document.
-use Rattle.std.proofs.Common.{◌≡◌, ℕ, ◌<◌, Bool, List, [], ◌∷◌, ◌++◌, length, get_or, sym, ◌∙◌, subst, arith}
-use Rattle.std.specs.Prelude.{codes, if◌then◌else◌}
-use Rattle.std.proofs.lemmas.List.{same_lists}
-use Rattle.std.proofs.lemmas.Option.{same_Some, slice_get-get_or}
-use Rattle.serde_json.specs.Data.{null, string}
-use Rattle.sf_check.specs.Stacks.{path_length}
-use Rattle.sf_book.specs.Books.{BookData, counts_of}
-use Rattle.sf_book.specs.Unfoldings.{ExplorationsHaveOneResult}
-use Rattle.sf_question.specs.QuestionData.{QuestionData}
-use Rattle.sf_ask.specs.declared.verdict.Reply.{Reply}
-use Rattle.sf_ask.specs.Judging.{HasReply}
-use Rattle.sf_ask.specs.OneResult.{HaveOneReply, IsWholeFringe}
-use Rattle.sf_ask.specs.laws.OneResultLaws.{same_counts}
-use Rattle.sf_crew.specs.Sweeps.{IsRightReplyAt, AreRightReplies}
-use Rattle.sf_audit.specs.Audits.{IsAudit}
-use Rattle.sf_audit.specs.Outcomes.{Found}
-use Rattle.sf_json.specs.Documents.{count, counts_document, fields, list_of, sizes_document}
-use Rattle.sf_stack.specs.Texts.{counts_line}
-use Rattle.sf_audit.specs.Reports.{size_line, region_lines, title_line, question_lines, totals_line, report_text}
-use Rattle.sf_audit.specs.Expectations.{ExpectedData}
-use Rattle.sf_audit.specs.Summaries.{SummaryData, body_text, rows_of, summary_text}
-use Rattle.sf_audit.specs.Documents.{TellingData, region_documents, question_documents, shown_expected, totals_document, audit_document}
+use Rattle.sf_audit.proofs.Common.{◌≡◌, ℕ, ◌<◌, Bool, List, [], ◌∷◌, ◌++◌, length, get_or, sym, ◌∙◌, subst, arith, codes, if◌then◌else◌, same_lists, same_Some, slice_get-get_or, null, string, path_length, BookData, counts_of, ExplorationsHaveOneResult, QuestionData, Reply, HasReply, HaveOneReply, IsWholeFringe, same_counts, IsRightReplyAt, AreRightReplies, IsAudit, Found, count, counts_document, fields, list_of, sizes_document, counts_line, size_line, region_lines, title_line, question_lines, totals_line, report_text, ExpectedData, SummaryData, body_text, rows_of, summary_text, TellingData, region_documents, question_documents, shown_expected, totals_document, audit_document}
 
 -- what an audit that left nothing outstanding explored
 pub whole : (files : List (List ℕ)) (questions : List QuestionData) (n : ℕ) (o : Found) → IsAudit files questions n o

@@ -1,4 +1,4 @@
-use Rattle.std.proofs.lemmas.Result.{IfErr-weaker, IfOk-weaker}
+use Rattle.sf_audit.proofs.Common.{IfErr-weaker, IfOk-weaker}
 use Rattle.sf_audit.proofs.auditing.AuditLemmas.{audit_of_files, refusal_of_files}
 use Rattle.sf_audit.proofs.auditing.audit.Goals as goal
 

@@ -1,4 +1,4 @@
-use Rattle.std.proofs.Common.{refl}
+use Rattle.sf_audit.proofs.Common.{refl}
 use Rattle.sf_audit.proofs.auditing.outcome_of.Goals as goal
 
 pub returns : goal.returns

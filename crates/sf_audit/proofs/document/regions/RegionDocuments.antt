@@ -1,12 +1,5 @@
 -- The documents of regions, added one after the other.
-use Rattle.std.proofs.Common.{◌≡◌, ℕ, ◌+◌, ◌<◌, List, [], ◌∷◌, ◌++◌, append_assoc, ◌∙◌, drop, map, slice_get, Some, length}
-use Rattle.std.proofs.lemmas.List.{drop_more, map-append}
-use Rattle.std.proofs.lemmas.Option.{get_or_from_slice_get, slice_get_within}
-use Rattle.serde_json.specs.Data.{Data}
-use Rattle.serde_json.specs.View.{view}
-use Rattle.serde_json.specs.declared.value.Value.{Value}
-use Rattle.sf_book.specs.Books.{RegionData}
-use Rattle.sf_audit.specs.Documents.{region_document, region_documents}
+use Rattle.sf_audit.proofs.Common.{◌≡◌, ℕ, ◌+◌, ◌<◌, List, [], ◌∷◌, ◌++◌, append_assoc, ◌∙◌, drop, map, slice_get, Some, length, drop_more, map-append, get_or_from_slice_get, slice_get_within, Data, view, Value, RegionData, region_document, region_documents}
 
 -- one more region was added
 pub one_more_region : (whole : List Data) (before after : List Value) (v : Value) (rs : List RegionData) (i : ℕ)

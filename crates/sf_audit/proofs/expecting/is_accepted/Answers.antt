@@ -1,7 +1,4 @@
-use Rattle.std.proofs.Common.{◌∙◌, rules, string_bytes, tests}
-use Rattle.std.proofs.lemmas.Iterator.{YieldsList-from_slice}
-use Rattle.std.proofs.lemmas.Iterator.Search.{any_from_yields_List}
-use Rattle.std.specs.Str.{bytes_eq}
+use Rattle.sf_audit.proofs.Common.{◌∙◌, rules, string_bytes, tests, YieldsList-from_slice, any_from_yields_List, bytes_eq}
 use Rattle.sf_audit.proofs.expecting.ExpectedLemmas.{any_seen}
 use Rattle.sf_audit.proofs.expecting.is_accepted.Goals as goal
 

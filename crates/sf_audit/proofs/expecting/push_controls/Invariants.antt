@@ -1,5 +1,4 @@
-use Rattle.std.proofs.Common.{◌≡◌, ◌++◌, drop, string_bytes}
-use Rattle.sf_audit.specs.Expectations.{control_lines}
+use Rattle.sf_audit.proofs.Common.{◌≡◌, ◌++◌, drop, string_bytes, control_lines}
 use Rattle.sf_audit.proofs.expecting.push_controls.Given as goal
 
 abbrev pub invariant-loop-i : goal.invariant-loop-i

@@ -1,5 +1,4 @@
-use Rattle.std.proofs.Common.{◌≡◌, ◌++◌, drop, map, string_bytes}
-use Rattle.sf_audit.specs.Expectations.{deviation_lines}
+use Rattle.sf_audit.proofs.Common.{◌≡◌, ◌++◌, drop, map, string_bytes, deviation_lines}
 use Rattle.sf_audit.proofs.expecting.push_questions.Given as goal
 
 abbrev pub invariant-loop-i : goal.invariant-loop-i

@@ -1,9 +1,5 @@
 -- The lines of regions, added one after the other.
-use Rattle.std.proofs.Common.{◌≡◌, ℕ, ◌+◌, ◌<◌, List, ◌++◌, append_assoc, ◌∙◌, drop, slice_get, Some, length}
-use Rattle.std.proofs.lemmas.List.{drop_more}
-use Rattle.std.proofs.lemmas.Option.{get_or_from_slice_get, slice_get_within}
-use Rattle.sf_book.specs.Books.{RegionData}
-use Rattle.sf_audit.specs.Reports.{region_line, region_lines}
+use Rattle.sf_audit.proofs.Common.{◌≡◌, ℕ, ◌+◌, ◌<◌, List, ◌++◌, append_assoc, ◌∙◌, drop, slice_get, Some, length, drop_more, get_or_from_slice_get, slice_get_within, RegionData, region_line, region_lines}
 
 -- One more region was added.
 pub one_more_region : (whole before after : List ℕ) (rs : List RegionData) (i : ℕ) (r : RegionData)

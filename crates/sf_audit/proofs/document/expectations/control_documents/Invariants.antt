@@ -1,6 +1,4 @@
-use Rattle.std.proofs.Common.{◌≡◌, ◌++◌, drop, map}
-use Rattle.serde_json.specs.View.{view}
-use Rattle.sf_audit.specs.Documents.{control_documents}
+use Rattle.sf_audit.proofs.Common.{◌≡◌, ◌++◌, drop, map, view, control_documents}
 use Rattle.sf_audit.proofs.document.expectations.control_documents.Given as goal
 
 abbrev pub invariant-loop-i : goal.invariant-loop-i

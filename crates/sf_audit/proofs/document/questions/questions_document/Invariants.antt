@@ -1,6 +1,4 @@
-use Rattle.std.proofs.Common.{◌≡◌, ◌++◌, drop, map}
-use Rattle.serde_json.specs.View.{view}
-use Rattle.sf_audit.specs.Documents.{question_documents, telling_data}
+use Rattle.sf_audit.proofs.Common.{◌≡◌, ◌++◌, drop, map, view, question_documents, telling_data}
 use Rattle.sf_audit.proofs.document.questions.questions_document.Given as goal
 
 abbrev pub invariant-loop-i : goal.invariant-loop-i

@@ -1,6 +1,4 @@
-use Rattle.std.proofs.Common.{◌≡◌, ◌+◌, ◌++◌, drop, map}
-use Rattle.serde_json.specs.View.{view}
-use Rattle.sf_audit.specs.Documents.{region_documents}
+use Rattle.sf_audit.proofs.Common.{◌≡◌, ◌+◌, ◌++◌, drop, map, view, region_documents}
 use Rattle.sf_audit.proofs.document.regions.shown_regions.Given as goal
 
 abbrev pub invariant-loop-i : goal.invariant-loop-i

@@ -1,5 +1,4 @@
-use Rattle.std.proofs.lemmas.Result.{on_ok_weaker}
-use Rattle.sf_stack.specs.laws.TextLaws.{added_three}
+use Rattle.sf_audit.proofs.Common.{on_ok_weaker, added_three}
 use Rattle.sf_audit.proofs.report.text.push_head.Goals as goal
 
 pub returns : goal.returns

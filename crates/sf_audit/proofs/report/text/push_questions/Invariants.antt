@@ -1,5 +1,4 @@
-use Rattle.std.proofs.Common.{◌≡◌, ◌++◌, drop, map, string_bytes}
-use Rattle.sf_audit.specs.Reports.{question_lines}
+use Rattle.sf_audit.proofs.Common.{◌≡◌, ◌++◌, drop, map, string_bytes, question_lines}
 use Rattle.sf_audit.proofs.report.text.push_questions.Given as goal
 
 abbrev pub invariant-loop-i : goal.invariant-loop-i

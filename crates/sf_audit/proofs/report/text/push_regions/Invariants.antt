@@ -1,5 +1,4 @@
-use Rattle.std.proofs.Common.{◌≡◌, ◌+◌, ◌++◌, drop, string_bytes}
-use Rattle.sf_audit.specs.Reports.{region_lines}
+use Rattle.sf_audit.proofs.Common.{◌≡◌, ◌+◌, ◌++◌, drop, string_bytes, region_lines}
 use Rattle.sf_audit.proofs.report.text.push_regions.Given as goal
 
 abbrev pub invariant-loop-i : goal.invariant-loop-i

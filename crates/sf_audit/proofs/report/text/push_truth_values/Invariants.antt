@@ -1,5 +1,4 @@
-use Rattle.std.proofs.Common.{◌≡◌, ◌++◌, map, take, string_bytes}
-use Rattle.sf_audit.specs.Reports.{letter}
+use Rattle.sf_audit.proofs.Common.{◌≡◌, ◌++◌, map, take, string_bytes, letter}
 use Rattle.sf_audit.proofs.report.text.push_truth_values.Given as goal
 
 abbrev pub invariant-loop-value : goal.invariant-loop-value

@@ -1,4 +1,4 @@
-use Rattle.sf_stack.specs.laws.TextLaws.{made_of_four}
+use Rattle.sf_audit.proofs.Common.{made_of_four}
 use Rattle.sf_audit.proofs.report.text.report_of.Goals as goal
 
 pub returns : goal.returns

@@ -1,5 +1,4 @@
-use Rattle.std.proofs.Common.{◌≡◌, ◌++◌, drop, map}
-use Rattle.sf_audit.specs.Summaries.{names_of}
+use Rattle.sf_audit.proofs.Common.{◌≡◌, ◌++◌, drop, map, names_of}
 use Rattle.sf_audit.proofs.summary.lists.names_of.Given as goal
 
 abbrev pub invariant-loop-row : goal.invariant-loop-row

@@ -1,5 +1,4 @@
-use Rattle.std.proofs.Common.{◌≡◌, ◌++◌, drop}
-use Rattle.sf_audit.specs.Summaries.{rows_of, summary_data}
+use Rattle.sf_audit.proofs.Common.{◌≡◌, ◌++◌, drop, rows_of, summary_data}
 use Rattle.sf_audit.proofs.summary.lists.rows_of.Given as goal
 
 abbrev pub invariant-loop-i : goal.invariant-loop-i

@@ -1,5 +1,4 @@
-use Rattle.std.proofs.Common.{◌≡◌, ◌++◌, drop, map}
-use Rattle.sf_audit.specs.Summaries.{closed_titles}
+use Rattle.sf_audit.proofs.Common.{◌≡◌, ◌++◌, drop, map, closed_titles}
 use Rattle.sf_audit.proofs.summary.text.closed_titles.Given as goal
 
 abbrev pub invariant-loop-place : goal.invariant-loop-place

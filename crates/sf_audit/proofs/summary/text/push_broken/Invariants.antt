@@ -1,5 +1,4 @@
-use Rattle.std.proofs.Common.{◌≡◌, drop, string_bytes}
-use Rattle.sf_audit.specs.Summaries.{broken_text}
+use Rattle.sf_audit.proofs.Common.{◌≡◌, drop, string_bytes, broken_text}
 use Rattle.sf_audit.proofs.summary.text.push_broken.Given as goal
 
 abbrev pub invariant-loop-i : goal.invariant-loop-i

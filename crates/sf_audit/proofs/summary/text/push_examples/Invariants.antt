@@ -1,5 +1,4 @@
-use Rattle.std.proofs.Common.{◌≡◌, ◌++◌, drop, string_bytes}
-use Rattle.sf_audit.specs.Summaries.{example_lines}
+use Rattle.sf_audit.proofs.Common.{◌≡◌, ◌++◌, drop, string_bytes, example_lines}
 use Rattle.sf_audit.proofs.summary.text.push_examples.Given as goal
 
 abbrev pub invariant-loop-row : goal.invariant-loop-row

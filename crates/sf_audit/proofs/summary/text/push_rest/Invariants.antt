@@ -1,5 +1,4 @@
-use Rattle.std.proofs.Common.{◌≡◌, ◌++◌, drop, map, string_bytes}
-use Rattle.sf_audit.specs.Summaries.{next_words}
+use Rattle.sf_audit.proofs.Common.{◌≡◌, ◌++◌, drop, map, string_bytes, next_words}
 use Rattle.sf_audit.proofs.summary.text.push_rest.Given as goal
 
 abbrev pub invariant-loop-word : goal.invariant-loop-word

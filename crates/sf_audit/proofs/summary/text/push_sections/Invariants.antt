@@ -1,5 +1,4 @@
-use Rattle.std.proofs.Common.{◌≡◌, ◌++◌, drop, string_bytes}
-use Rattle.sf_audit.specs.Summaries.{section_texts}
+use Rattle.sf_audit.proofs.Common.{◌≡◌, ◌++◌, drop, string_bytes, section_texts}
 use Rattle.sf_audit.proofs.summary.text.push_sections.Given as goal
 
 abbrev pub invariant-loop-place : goal.invariant-loop-place
