@@ -1,12 +1,13 @@
 -- The names from elsewhere that the proofs of this crate cite, passed on from one place. Declares nothing.
-pub use Rattle.std.proofs.Common.{Bool, Bor, Err, Global, List, None, Ok, Option, Result, Some, String, [], ap, append-nil, append_assoc, arith, codes, cond, drop, eq-eqb, eqb, false, fold, get_or, inl, inr, le-ltb, length, length-append, lt-ltb, map, max, option_map, refl, rules, slice_get, string_bytes, subst, suc, sym, take, tests, true, zero, ℕ, ◌%◌, ◌*◌, ◌++◌, ◌+◌, ◌-◌, ◌/◌, ◌<◌, ◌^◌, ◌∙◌, ◌∷◌, ◌≡◌, ◌≤◌, ◌⊎◌}
-pub use Rattle.std.proofs.lemmas.Bool.{cases_eq, cases_lt, ne_eqb}
+pub use Rattle.std.proofs.Common.{Bool, Bor, Err, Global, List, None, Ok, Option, Result, Some, String, [], ap, append-nil, append_assoc, arith, codes, cond, drop, false, fold, get_or, inl, inr, le-ltb, length, length-append, lit<, lt-ltb, map, max, option_map, refl, rules, slice_get, string_bytes, subst, suc, sym, take, tests, true, zero, ℕ, ◌%◌, ◌*◌, ◌++◌, ◌+◌, ◌-◌, ◌/◌, ◌<◌, ◌^◌, ◌∙◌, ◌∷◌, ◌≡◌, ◌≤◌, ◌⊎◌}
+pub use Rattle.std.proofs.lemmas.Bool.{cases_lt}
 pub use Rattle.std.proofs.lemmas.Bool.Decides.{nat_tests}
 pub use Rattle.std.proofs.lemmas.Grind.{common_steps}
 pub use Rattle.std.proofs.lemmas.Iterator.{YieldsList-from_chars, YieldsList-from_slice}
-pub use Rattle.std.proofs.lemmas.Iterator.Consumers.{YieldsList-end, YieldsList-turn}
-pub use Rattle.std.proofs.lemmas.Iterator.Search.{all_from_yields_List, any_from_yields_List}
-pub use Rattle.std.proofs.lemmas.List.{drop_all, drop_more, length-map, length_push, map_push}
+pub use Rattle.std.proofs.lemmas.Iterator.Consumers.{count_from_yields_List, nth_from_yields_List}
+pub use Rattle.std.proofs.lemmas.Iterator.Search.{all_from_yields_List}
+pub use Rattle.std.proofs.lemmas.Iterator.Splits.{YieldsList-from_str_split}
+pub use Rattle.std.proofs.lemmas.List.{drop_more, length-map, map_push}
 pub use Rattle.std.proofs.lemmas.List.Elements.{All-append, All-cons, All-head, All-map, All-nil, All-push, All-tail}
 pub use Rattle.std.proofs.lemmas.List.Folds.{list_all-map}
 pub use Rattle.std.proofs.lemmas.Nat.{and_block, and_le_r, and_mask}
@@ -14,13 +15,13 @@ pub use Rattle.std.proofs.lemmas.Option.{same_Some, slice_get-map}
 pub use Rattle.std.proofs.lemmas.Result.{err_from_is_err_and}
 pub use Rattle.std.specs.Bool.{MatchBool}
 pub use Rattle.std.specs.Char.{to_ascii_lowercase}
-pub use Rattle.std.specs.List.{flat_map, list_all, list_any}
+pub use Rattle.std.specs.List.{flat_map, list_all, list_any, zip}
 pub use Rattle.std.specs.Map.{keys_of}
 pub use Rattle.std.specs.Prelude.{All, IfErr, IfOk, IfSome, IsSomeAnd, bit_and, filter, find, if◌then◌else◌, nat_le, nat_lt, not, option_and_then, replicate, slice_index, ◌&&◌, ◌==◌, ◌||◌}
-pub use Rattle.std.specs.Str.{IsUtf8, bytes_eq, chars}
+pub use Rattle.std.specs.Str.{IsUtf8, bytes_eq}
 pub use Rattle.indexmap.specs.IndexSet.{insert_key}
-pub use Rattle.json.specs.Find.{get, get_member, is_null, later_or}
-pub use Rattle.json.specs.Json.{Items, Json, Members, array, boolean, document, item, member, no_members, null, number, object, string}
+pub use Rattle.json.specs.Find.{get, get_member, later_or}
+pub use Rattle.json.specs.Json.{Items, Json, Members, document, item, member, no_members}
 pub use Rattle.json.specs.Strict.{HasUniqueKeys}
 pub use Rattle.json.specs.Tree.{HasNumbers, MembersHaveNumbers, depth, members_depth}
 pub use Rattle.json.specs.Value.{items_view, value_view}
@@ -43,15 +44,16 @@ pub use Rattle.sf_insn.specs.declared.ops.BinOp.TheVariants.{And}
 pub use Rattle.sf_insn.specs.declared.ops.Test.{Test}
 pub use Rattle.sf_insn.specs.declared.raw.RawInsn.{RawInsn}
 pub use Rattle.sf_names.specs.Names.{is_call_name}
-pub use Rattle.sf_profile.specs.Cautions.{AnswerZero, has_loose_mask, loose_from, number_if}
-pub use Rattle.sf_profile.specs.Configs.{folded, is_clear, is_oci_rule, is_taken_for}
+pub use Rattle.sf_profile.specs.Cautions.{AnswerZero}
+pub use Rattle.sf_profile.specs.Configs.{folded, is_clear, is_taken_for}
 pub use Rattle.sf_profile.specs.Data.{PlanData, ProfileData, ProfileRuleData, RuleData, SetRulesData}
+pub use Rattle.sf_profile.specs.Errors.{is_name, name_from}
 unfoldable pub use Rattle.sf_profile.specs.Errors.{error_names}
 pub use Rattle.sf_profile.specs.Filters.{HasNoMask, HasNoTree, IsFilterOf, IsInText, IsRefusedText, IsTooLong, IsTree, IsUnmasked, read_file}
 pub use Rattle.sf_profile.specs.Form.{above_calls, above_rules, body_code, call_code, comparing_code, comparison_code, comparisons_code, direct_code, equal_code, fits, form, form_bytes, high, is_short, low, masked_code, newer_code, newer_where, operation_code, order_code, part_code, places, raw_of, return_code, returned_value_of, round_code, rule_at, rule_code, set_code, through_code}
 pub use Rattle.sf_profile.specs.Known.{is_nowhere, is_somewhere}
 pub use Rattle.sf_profile.specs.Limits.{calls_left, size_of_rule}
-pub use Rattle.sf_profile.specs.Meaning.{answer_of_response, arch_in, arch_of, argument_in, compares, comparing_last, cut, holds, is_call, is_newer, is_of_set, is_operation, is_wide, is_x64_number, meaning, number_in, order, pick, preferred, refuses_newer, response_in, response_of, response_of_part, says, strictness, word_of}
+pub use Rattle.sf_profile.specs.Meaning.{answer_of_response, argument_in, compares, cut, holds, is_call, is_newer, is_of_set, is_operation, is_wide, meaning, number_in, order, pick, preferred, refuses_newer, response_in, response_of, response_of_part, says, strictness, word_of}
 pub use Rattle.sf_profile.specs.Notes.{name_word, names_where, notes_text, set_words, unknown_line}
 unfoldable pub use Rattle.sf_profile.specs.Notes.{with_name}
 pub use Rattle.sf_profile.specs.Plans.{alternatives, calls_named, compares_twice, place_from, plan_of, rule_with, rules_of, rules_of_set}
@@ -59,23 +61,21 @@ pub use Rattle.sf_profile.specs.Profiles.{version_step}
 pub use Rattle.sf_profile.specs.Reads.{and_then, is_excluded, is_included, is_map_item, item_sets, read_comparison, read_rule, read_rules, read_sets, with_flaw, with_named}
 unfoldable pub use Rattle.sf_profile.specs.Reads.{read_of}
 pub use Rattle.sf_profile.specs.Repeats.{AreReadBack, IsFaultOfRepeat, IsReadBack, items_where, last_at, last_rules, profile_below, unless_null}
-pub use Rattle.sf_profile.specs.Settings.{has_calls, has_cap, is_unknown}
-pub use Rattle.sf_profile.specs.Trees.{all_keys, at, is_object_of, is_object_with, is_text, items_in, listed, text_in}
+pub use Rattle.sf_profile.specs.Settings.{has_calls, is_unknown}
+pub use Rattle.sf_profile.specs.Trees.{all_keys, at, is_object_of, is_object_with, items_in, listed, text_in}
 pub use Rattle.sf_profile.specs.declared.fault.Fault.{Fault}
 pub use Rattle.sf_profile.specs.declared.instruction.Instruction.{Instruction}
 pub use Rattle.sf_profile.specs.declared.instruction.Instruction.TheVariants.{Branch, Load, Mask, Return, Skip}
 pub use Rattle.sf_profile.specs.declared.rules.Argument.{Argument}
-pub use Rattle.sf_profile.specs.declared.rules.Argument.TheVariants.{Arg0, Arg1, Arg2, Arg3, Arg4, Arg5}
 pub use Rattle.sf_profile.specs.declared.rules.Call.{Call}
 pub use Rattle.sf_profile.specs.declared.rules.CallSet.{CallSet}
-pub use Rattle.sf_profile.specs.declared.rules.CallSet.TheVariants.{Aarch64, Arm, I386, X32, X64}
 pub use Rattle.sf_profile.specs.declared.rules.Comparing.{Comparing}
 pub use Rattle.sf_profile.specs.declared.rules.Comparing.TheVariants.{Equal, Greater, GreaterOrEqual, Less, LessOrEqual, MaskedEqual, NotEqual}
 pub use Rattle.sf_profile.specs.declared.rules.Comparison.{Comparison}
 pub use Rattle.sf_profile.specs.declared.rules.Reading.{Reading}
-pub use Rattle.sf_profile.specs.declared.rules.Reading.TheVariants.{First, Mildest, Strictest}
+pub use Rattle.sf_profile.specs.declared.rules.Reading.TheVariants.{Mildest, Strictest}
 pub use Rattle.sf_profile.specs.declared.rules.Response.{Response}
-pub use Rattle.sf_profile.specs.declared.rules.Response.TheVariants.{Allow, Errno, KillProcess, KillThread, Log, Notify, Tracer, Trap}
+pub use Rattle.sf_profile.specs.declared.rules.Response.TheVariants.{Allow, Errno}
 pub use Rattle.sf_profile.specs.declared.settings.Settings.{Settings}
 pub use Rattle.sf_run.specs.Answers.{Answers, IsAnswer, action_number, folded_answer, rank}
 pub use Rattle.sf_run.specs.Machine.{State, goes, insn_progress, return_of, run_for}

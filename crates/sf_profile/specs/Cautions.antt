@@ -1,16 +1,7 @@
 -- What a profile says, and its writer may not mean.
-use Rattle.std.specs.Prelude.{◌≡◌, ℕ, ◌+◌, Bool, true, false, not, ◌&&◌, ◌==◌, bit_and, All, List, [], ◌∷◌, ◌++◌}
-use Rattle.std.specs.List.{list_any}
-use Rattle.sf_insn.specs.declared.input.Input.{Input}
-use Rattle.sf_insn.specs.Inputs.{IsInput}
-use Rattle.sf_check.specs.declared.insn.Insn.{Insn}
-use Rattle.sf_check.specs.Programs.{SpellsProgram}
+use Rattle.std.specs.Prelude.{◌≡◌, ℕ, Bool, true, false, not, ◌&&◌, ◌==◌, bit_and, All, List, [], ◌∷◌, length, map, filter}
+use Rattle.sf_profile.specs.Common.{list_any, range_with_len, zip, Input, IsInput, Insn, SpellsProgram, Answers, Comparing, MaskedEqual, Comparison, Settings}
 use Rattle.sf_run.specs.declared.action.Action.TheVariants as actions
-use Rattle.sf_run.specs.Answers.{Answers}
-use Rattle.sf_profile.specs.declared.rules.Comparing.{Comparing}
-use Rattle.sf_profile.specs.declared.rules.Comparing.TheVariants.{MaskedEqual}
-use Rattle.sf_profile.specs.declared.rules.Comparison.{Comparison}
-use Rattle.sf_profile.specs.declared.settings.Settings.{Settings}
 use Rattle.sf_profile.specs.Data.{ProfileData, ProfileRuleData}
 use Rattle.sf_profile.specs.Meaning.{number_in}
 use Rattle.sf_profile.specs.Filters.{IsFilterFor}
@@ -29,18 +20,13 @@ is_loose c = is_masked c.comparing && not (bit_and c.value_two c.value == c.valu
 abbrev pub has_loose_mask : ProfileRuleData → Bool
 has_loose_mask rule = rule.applies && list_any is_loose rule.comparisons
 
-abbrev pub number_if : Bool → ℕ → List ℕ
-number_if true n = n ∷ []
-number_if false n = []
+-- the numbers of the rules that do, from 1
+abbrev pub loose_rules : List ProfileRuleData → List ℕ
+loose_rules rules = map (λ p. p.0) (filter (λ p. has_loose_mask p.1) (zip (range_with_len 1 (length rules)) rules))
 
--- the numbers of these rules that do, where the first of them has this number
-abbrev pub loose_from : ℕ → List ProfileRuleData → List ℕ
-loose_from n [] = []
-loose_from n (rule ∷ rules) = number_if (has_loose_mask rule) n ++ loose_from (n + 1) rules
-
--- the numbers of a profile's rules that do, from 1
+-- the same of a profile
 abbrev pub AreLooseFor : List ℕ → ProfileData → Type 0
-AreLooseFor numbers profile = numbers ≡ loose_from 1 profile.rules
+AreLooseFor numbers profile = numbers ≡ loose_rules profile.rules
 
 -- ---- ERRNO 0
 

@@ -1,10 +1,7 @@
 -- Where the profile stands in a file. A whole config.json has it at `seccomp` of `linux`, and then no other key may be
 -- one that some runtime takes for a key of the way there, or of a profile.
 use Rattle.std.specs.Prelude.{ℕ, ◌==◌, Bool, not, ◌&&◌, ◌||◌, if◌then◌else◌, List, [], map, codes, Option, Some, None}
-use Rattle.std.specs.List.{list_any, list_all}
-use Rattle.std.specs.Char.{to_ascii_lowercase}
-use Rattle.std.specs.Str.{bytes_eq, chars}
-use Rattle.serde_json.specs.Data.{Data}
+use Rattle.sf_profile.specs.Common.{list_any, list_all, to_ascii_lowercase, bytes_eq, chars, Data}
 use Rattle.sf_profile.specs.Trees.{absent_or, at, is_absent, is_object_with, listed}
 use Rattle.sf_profile.specs.Profiles.{profile_keys}
 

@@ -1,11 +1,6 @@
 -- A profile as it is read, and with the numbers of its calls.
 use Rattle.std.specs.Prelude.{ℕ, Bool, List, Option}
-use Rattle.sf_profile.specs.declared.rules.CallSet.{CallSet}
-use Rattle.sf_profile.specs.declared.rules.Call.{Call}
-use Rattle.sf_profile.specs.declared.rules.Comparison.{Comparison}
-use Rattle.sf_profile.specs.declared.rules.Response.{Response}
-use Rattle.sf_profile.specs.declared.rules.Reading.{Reading}
-use Rattle.sf_profile.specs.declared.fault.Flaw.{Flaw}
+use Rattle.sf_profile.specs.Common.{CallSet, Call, Comparison, Response, Reading, Flaw}
 
 -- ---- as it is read
 

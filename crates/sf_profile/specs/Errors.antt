@@ -1,47 +1,49 @@
 -- The names of Linux's error numbers, as include/uapi/asm-generic/errno-base.h and errno.h have them. ENOTSUP is the C
 -- library's.
-use Rattle.std.specs.Prelude.{ℕ, ◌&&◌, ◌==◌, Bool, false, List, [], ◌∷◌, codes, Option, Some, None}
-use Rattle.std.specs.List.{list_any}
-use Rattle.std.specs.Str.{bytes_eq}
+use Rattle.std.specs.Prelude.{ℕ, ◌-◌, ◌==◌, Bool, false, nat_lt, if◌then◌else◌, List, [], ◌∷◌, codes, Option, Some, None, slice_get}
+use Rattle.sf_profile.specs.Common.{list_any, slice_split, bytes_eq}
 
--- each name and its number
-unfoldable pub error_names : List (List ℕ × ℕ)
+-- numbers that follow one another: the first one, and the names of all, with a blank between two
+unfoldable pub error_names : List (ℕ × List ℕ)
 error_names =
-    (codes "EPERM", 1) ∷ (codes "ENOENT", 2) ∷ (codes "ESRCH", 3) ∷ (codes "EINTR", 4) ∷ (codes "EIO", 5)
-    ∷ (codes "ENXIO", 6) ∷ (codes "E2BIG", 7) ∷ (codes "ENOEXEC", 8) ∷ (codes "EBADF", 9) ∷ (codes "ECHILD", 10)
-    ∷ (codes "EAGAIN", 11) ∷ (codes "EWOULDBLOCK", 11) ∷ (codes "ENOMEM", 12) ∷ (codes "EACCES", 13)
-    ∷ (codes "EFAULT", 14) ∷ (codes "ENOTBLK", 15) ∷ (codes "EBUSY", 16) ∷ (codes "EEXIST", 17) ∷ (codes "EXDEV", 18)
-    ∷ (codes "ENODEV", 19) ∷ (codes "ENOTDIR", 20) ∷ (codes "EISDIR", 21) ∷ (codes "EINVAL", 22)
-    ∷ (codes "ENFILE", 23) ∷ (codes "EMFILE", 24) ∷ (codes "ENOTTY", 25) ∷ (codes "ETXTBSY", 26)
-    ∷ (codes "EFBIG", 27) ∷ (codes "ENOSPC", 28) ∷ (codes "ESPIPE", 29) ∷ (codes "EROFS", 30) ∷ (codes "EMLINK", 31)
-    ∷ (codes "EPIPE", 32) ∷ (codes "EDOM", 33) ∷ (codes "ERANGE", 34) ∷ (codes "EDEADLK", 35)
-    ∷ (codes "EDEADLOCK", 35) ∷ (codes "ENAMETOOLONG", 36) ∷ (codes "ENOLCK", 37) ∷ (codes "ENOSYS", 38)
-    ∷ (codes "ENOTEMPTY", 39) ∷ (codes "ELOOP", 40) ∷ (codes "ENOMSG", 42) ∷ (codes "EIDRM", 43)
-    ∷ (codes "ECHRNG", 44) ∷ (codes "EL2NSYNC", 45) ∷ (codes "EL3HLT", 46) ∷ (codes "EL3RST", 47)
-    ∷ (codes "ELNRNG", 48) ∷ (codes "EUNATCH", 49) ∷ (codes "ENOCSI", 50) ∷ (codes "EL2HLT", 51)
-    ∷ (codes "EBADE", 52) ∷ (codes "EBADR", 53) ∷ (codes "EXFULL", 54) ∷ (codes "ENOANO", 55) ∷ (codes "EBADRQC", 56)
-    ∷ (codes "EBADSLT", 57) ∷ (codes "EBFONT", 59) ∷ (codes "ENOSTR", 60) ∷ (codes "ENODATA", 61)
-    ∷ (codes "ETIME", 62) ∷ (codes "ENOSR", 63) ∷ (codes "ENONET", 64) ∷ (codes "ENOPKG", 65) ∷ (codes "EREMOTE", 66)
-    ∷ (codes "ENOLINK", 67) ∷ (codes "EADV", 68) ∷ (codes "ESRMNT", 69) ∷ (codes "ECOMM", 70) ∷ (codes "EPROTO", 71)
-    ∷ (codes "EMULTIHOP", 72) ∷ (codes "EDOTDOT", 73) ∷ (codes "EBADMSG", 74) ∷ (codes "EOVERFLOW", 75)
-    ∷ (codes "ENOTUNIQ", 76) ∷ (codes "EBADFD", 77) ∷ (codes "EREMCHG", 78) ∷ (codes "ELIBACC", 79)
-    ∷ (codes "ELIBBAD", 80) ∷ (codes "ELIBSCN", 81) ∷ (codes "ELIBMAX", 82) ∷ (codes "ELIBEXEC", 83)
-    ∷ (codes "EILSEQ", 84) ∷ (codes "ERESTART", 85) ∷ (codes "ESTRPIPE", 86) ∷ (codes "EUSERS", 87)
-    ∷ (codes "ENOTSOCK", 88) ∷ (codes "EDESTADDRREQ", 89) ∷ (codes "EMSGSIZE", 90) ∷ (codes "EPROTOTYPE", 91)
-    ∷ (codes "ENOPROTOOPT", 92) ∷ (codes "EPROTONOSUPPORT", 93) ∷ (codes "ESOCKTNOSUPPORT", 94)
-    ∷ (codes "EOPNOTSUPP", 95) ∷ (codes "ENOTSUP", 95) ∷ (codes "EPFNOSUPPORT", 96) ∷ (codes "EAFNOSUPPORT", 97)
-    ∷ (codes "EADDRINUSE", 98) ∷ (codes "EADDRNOTAVAIL", 99) ∷ (codes "ENETDOWN", 100) ∷ (codes "ENETUNREACH", 101)
-    ∷ (codes "ENETRESET", 102) ∷ (codes "ECONNABORTED", 103) ∷ (codes "ECONNRESET", 104) ∷ (codes "ENOBUFS", 105)
-    ∷ (codes "EISCONN", 106) ∷ (codes "ENOTCONN", 107) ∷ (codes "ESHUTDOWN", 108) ∷ (codes "ETOOMANYREFS", 109)
-    ∷ (codes "ETIMEDOUT", 110) ∷ (codes "ECONNREFUSED", 111) ∷ (codes "EHOSTDOWN", 112) ∷ (codes "EHOSTUNREACH", 113)
-    ∷ (codes "EALREADY", 114) ∷ (codes "EINPROGRESS", 115) ∷ (codes "ESTALE", 116) ∷ (codes "EUCLEAN", 117)
-    ∷ (codes "ENOTNAM", 118) ∷ (codes "ENAVAIL", 119) ∷ (codes "EISNAM", 120) ∷ (codes "EREMOTEIO", 121)
-    ∷ (codes "EDQUOT", 122) ∷ (codes "ENOMEDIUM", 123) ∷ (codes "EMEDIUMTYPE", 124) ∷ (codes "ECANCELED", 125)
-    ∷ (codes "ENOKEY", 126) ∷ (codes "EKEYEXPIRED", 127) ∷ (codes "EKEYREVOKED", 128) ∷ (codes "EKEYREJECTED", 129)
-    ∷ (codes "EOWNERDEAD", 130) ∷ (codes "ENOTRECOVERABLE", 131) ∷ (codes "ERFKILL", 132) ∷ (codes "EHWPOISON", 133)
+    (1, codes "EPERM ENOENT ESRCH EINTR EIO ENXIO E2BIG ENOEXEC")
+    ∷ (9, codes "EBADF ECHILD EAGAIN ENOMEM EACCES EFAULT ENOTBLK")
+    ∷ (16, codes "EBUSY EEXIST EXDEV ENODEV ENOTDIR EISDIR EINVAL")
+    ∷ (23, codes "ENFILE EMFILE ENOTTY ETXTBSY EFBIG ENOSPC ESPIPE")
+    ∷ (30, codes "EROFS EMLINK EPIPE EDOM ERANGE EDEADLK ENAMETOOLONG")
+    ∷ (37, codes "ENOLCK ENOSYS ENOTEMPTY ELOOP")
+    ∷ (42, codes "ENOMSG EIDRM ECHRNG EL2NSYNC EL3HLT EL3RST ELNRNG")
+    ∷ (49, codes "EUNATCH ENOCSI EL2HLT EBADE EBADR EXFULL ENOANO")
+    ∷ (56, codes "EBADRQC EBADSLT")
+    ∷ (59, codes "EBFONT ENOSTR ENODATA ETIME ENOSR ENONET ENOPKG")
+    ∷ (66, codes "EREMOTE ENOLINK EADV ESRMNT ECOMM EPROTO EMULTIHOP")
+    ∷ (73, codes "EDOTDOT EBADMSG EOVERFLOW ENOTUNIQ EBADFD EREMCHG")
+    ∷ (79, codes "ELIBACC ELIBBAD ELIBSCN ELIBMAX ELIBEXEC EILSEQ")
+    ∷ (85, codes "ERESTART ESTRPIPE EUSERS ENOTSOCK EDESTADDRREQ")
+    ∷ (90, codes "EMSGSIZE EPROTOTYPE ENOPROTOOPT EPROTONOSUPPORT")
+    ∷ (94, codes "ESOCKTNOSUPPORT EOPNOTSUPP EPFNOSUPPORT EAFNOSUPPORT")
+    ∷ (98, codes "EADDRINUSE EADDRNOTAVAIL ENETDOWN ENETUNREACH")
+    ∷ (102, codes "ENETRESET ECONNABORTED ECONNRESET ENOBUFS EISCONN")
+    ∷ (107, codes "ENOTCONN ESHUTDOWN ETOOMANYREFS ETIMEDOUT")
+    ∷ (111, codes "ECONNREFUSED EHOSTDOWN EHOSTUNREACH EALREADY")
+    ∷ (115, codes "EINPROGRESS ESTALE EUCLEAN ENOTNAM ENAVAIL EISNAM")
+    ∷ (121, codes "EREMOTEIO EDQUOT ENOMEDIUM EMEDIUMTYPE ECANCELED")
+    ∷ (126, codes "ENOKEY EKEYEXPIRED EKEYREVOKED EKEYREJECTED")
+    ∷ (130, codes "EOWNERDEAD ENOTRECOVERABLE ERFKILL EHWPOISON")
+    ∷ (11, codes "EWOULDBLOCK")
+    ∷ (35, codes "EDEADLOCK")
+    ∷ (95, codes "ENOTSUP")
     ∷ []
+
+-- the name of a number, among these of numbers that follow one another
+abbrev pub name_from : ℕ → List ℕ → ℕ → Option (List ℕ)
+name_from first names n = if nat_lt n first then None else slice_get (slice_split (λ b. b == 32) names) (n - first)
+
+abbrev pub is_name : List ℕ → Option (List ℕ) → Bool
+is_name text None = false
+is_name text (Some name) = bytes_eq name text
 
 -- a number is given, and the text is the name of its error
 abbrev pub is_error_name : List ℕ → Option ℕ → Bool
 is_error_name text None = false
-is_error_name text (Some n) = list_any (λ (e : List ℕ × ℕ). bytes_eq e.0 text && (e.1 == n)) error_names
+is_error_name text (Some n) = list_any (λ (run : ℕ × List ℕ). is_name text (name_from run.0 run.1 n)) error_names

@@ -1,6 +1,6 @@
 -- The numbers under which refusals of profiles are reported.
 use Rattle.std.specs.Prelude.{ℕ}
-use Rattle.sf_profile.specs.declared.fault.Fault.{Fault}
+use Rattle.sf_profile.specs.Common.{Fault}
 use Rattle.sf_profile.specs.declared.fault.Fault.TheVariants as faults
 
 -- the number of each refusal, and of refused memory

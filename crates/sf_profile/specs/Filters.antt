@@ -1,24 +1,10 @@
 -- What it is to be the filter of a profile, and why there is none.
 use Rattle.std.specs.Prelude.{◌≡◌, ◌≢◌, ◌⊎◌, ◌<◌, ◌≤◌, All, ℕ, length, List, [], ◌∷◌, Option, Some, None, Result, Err, IsOkAnd, IsSomeAnd}
-use Rattle.std.specs.Str.{IsUtf8}
-use Rattle.json.specs.Json.{document}
-use Rattle.json.specs.Strict.{HasUniqueKeys}
-use Rattle.serde_json.specs.Data.{Data}
-use Rattle.serde_json.specs.Read.{read}
-use Rattle.sf_insn.specs.declared.input.Input.{Input}
-use Rattle.sf_insn.specs.Inputs.{IsInput}
-use Rattle.sf_check.specs.declared.insn.Insn.{Insn}
-use Rattle.sf_check.specs.Programs.{SpellsProgram}
-use Rattle.sf_check.specs.Stacks.{IsPlain}
-use Rattle.sf_run.specs.Answers.{Answers}
-use Rattle.sf_profile.specs.declared.fault.Fault.{Fault}
+use Rattle.sf_profile.specs.Common.{IsUtf8, document, HasUniqueKeys, Data, read, Input, IsInput, Insn, SpellsProgram, IsPlain, Answers, Fault, MaskedEqual, Comparison, Settings}
 use Rattle.sf_profile.specs.declared.fault.Fault.TheVariants as faults
-use Rattle.sf_profile.specs.declared.rules.Comparing.TheVariants.{MaskedEqual}
-use Rattle.sf_profile.specs.declared.rules.Comparison.{Comparison}
 use Rattle.sf_profile.specs.Data.{ProfileData, SetRulesData, PlanData, RuleData}
 use Rattle.sf_profile.specs.Meaning.{meaning}
 use Rattle.sf_profile.specs.Form.{form, form_bytes}
-use Rattle.sf_profile.specs.declared.settings.Settings.{Settings}
 use Rattle.sf_profile.specs.Repeats.{last_rules, IsFaultOfRepeat}
 use Rattle.sf_profile.specs.Configs.{profile_in}
 use Rattle.sf_profile.specs.Reads.{read_profile}

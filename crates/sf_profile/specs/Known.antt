@@ -1,7 +1,6 @@
 -- Which names of a profile's rules are those of calls.
 use Rattle.std.specs.Prelude.{ℕ, Bool, not, ◌&&◌, ◌||◌, List, is_some}
-use Rattle.std.specs.List.{list_all}
-use Rattle.sf_profile.specs.declared.settings.Settings.{Settings}
+use Rattle.sf_profile.specs.Common.{list_all, Settings}
 use Rattle.sf_profile.specs.Settings.{is_unknown}
 use Rattle.sf_profile.specs.Plans.{place_from, socket_calls, ipc_calls}
 use Rattle.sf_profile.specs.Others.{other_names}

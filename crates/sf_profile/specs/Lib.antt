@@ -1,3 +1,4 @@
+pub mod Common
 pub mod Faults
 pub mod Trees
 pub mod Profiles

@@ -1,6 +1,6 @@
 -- How large a profile may be.
 use Rattle.std.specs.Prelude.{ℕ, ◌+◌, ◌-◌, Bool, ◌&&◌, nat_le, nat_lt, if◌then◌else◌, List, [], ◌∷◌, length, codes, Option, Some, None}
-use Rattle.serde_json.specs.Data.{Data}
+use Rattle.sf_profile.specs.Common.{Data}
 use Rattle.sf_profile.specs.Data.{RuleData}
 use Rattle.sf_profile.specs.Trees.{at, listed}
 

@@ -1,21 +1,7 @@
 -- What a profile means: its answer to each input.
 use Rattle.std.specs.Prelude.{ℕ, ◌+◌, ◌-◌, ◌*◌, ◌%◌, ◌^◌, Bool, true, false, ◌==◌, ◌&&◌, ◌||◌, not, nat_lt, nat_le, bit_and, if◌then◌else◌, List, [], ◌∷◌, find, filter, Option, Some, None, slice_index}
-use Rattle.std.specs.List.{list_any, list_all}
-use Rattle.sf_insn.specs.declared.input.Input.{Input}
+use Rattle.sf_profile.specs.Common.{list_any, list_all, Input, Answer, CallSet, X64, X32, I386, Aarch64, Arm, Argument, Arg0, Arg1, Arg2, Arg3, Arg4, Arg5, Comparing, NotEqual, Less, LessOrEqual, Equal, GreaterOrEqual, Greater, MaskedEqual, Comparison, Response, KillProcess, KillThread, Trap, Errno, Notify, Tracer, Log, Allow, Call, Reading, Strictest, Mildest, First}
 use Rattle.sf_run.specs.declared.action.Action.TheVariants as actions
-use Rattle.sf_run.specs.declared.action.Answer.{Answer}
-use Rattle.sf_profile.specs.declared.rules.CallSet.{CallSet}
-use Rattle.sf_profile.specs.declared.rules.CallSet.TheVariants.{X64, X32, I386, Aarch64, Arm}
-use Rattle.sf_profile.specs.declared.rules.Argument.{Argument}
-use Rattle.sf_profile.specs.declared.rules.Argument.TheVariants.{Arg0, Arg1, Arg2, Arg3, Arg4, Arg5}
-use Rattle.sf_profile.specs.declared.rules.Comparing.{Comparing}
-use Rattle.sf_profile.specs.declared.rules.Comparing.TheVariants.{NotEqual, Less, LessOrEqual, Equal, GreaterOrEqual, Greater, MaskedEqual}
-use Rattle.sf_profile.specs.declared.rules.Comparison.{Comparison}
-use Rattle.sf_profile.specs.declared.rules.Response.{Response}
-use Rattle.sf_profile.specs.declared.rules.Response.TheVariants.{KillProcess, KillThread, Trap, Errno, Notify, Tracer, Log, Allow}
-use Rattle.sf_profile.specs.declared.rules.Call.{Call}
-use Rattle.sf_profile.specs.declared.rules.Reading.{Reading}
-use Rattle.sf_profile.specs.declared.rules.Reading.TheVariants.{Strictest, Mildest, First}
 use Rattle.sf_profile.specs.Data.{RuleData, SetRulesData, PlanData}
 
 -- ---- answers

@@ -1,13 +1,6 @@
 -- What is told of a profile.
 use Rattle.std.specs.Prelude.{◌≡◌, ◌≤◌, ℕ, List, [], ◌∷◌, ◌++◌, codes, length, count_by, filter, fold, if◌then◌else◌}
-use Rattle.std.specs.List.{list_any, flat_map}
-use Rattle.std.specs.Str.{bytes_eq}
-use Rattle.std.specs.Fmt.{decimal}
-use Rattle.sf_profile.specs.declared.rules.CallSet.{CallSet}
-use Rattle.sf_profile.specs.declared.rules.CallSet.TheVariants.{X64, X32, I386, Aarch64, Arm}
-use Rattle.sf_profile.specs.declared.rules.Response.{Response}
-use Rattle.sf_profile.specs.declared.rules.Response.TheVariants.{KillProcess, KillThread, Trap, Errno, Notify, Tracer, Log, Allow}
-use Rattle.sf_profile.specs.declared.settings.Settings.{Settings}
+use Rattle.sf_profile.specs.Common.{list_any, flat_map, bytes_eq, decimal, CallSet, X64, X32, I386, Aarch64, Arm, Response, KillProcess, KillThread, Trap, Errno, Notify, Tracer, Log, Allow, Settings}
 use Rattle.sf_profile.specs.Settings.{is_unknown}
 use Rattle.sf_profile.specs.Known.{is_nowhere}
 use Rattle.sf_profile.specs.Data.{ProfileData, ProfileRuleData}

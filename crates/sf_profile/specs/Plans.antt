@@ -1,15 +1,8 @@
 -- What the rules of a profile are, in each of its sets of calls.
 use Rattle.std.specs.Prelude.{ℕ, ◌+◌, ◌*◌, ◌/◌, ◌%◌, Bool, true, false, ◌&&◌, ◌||◌, ◌==◌, nat_lt, if◌then◌else◌, List, [], ◌∷◌, ◌++◌, length, map, codes, Option, Some, None}
-use Rattle.std.specs.List.{list_any, flat_map}
-use Rattle.std.specs.Str.{bytes_eq}
-use Rattle.sf_profile.specs.declared.rules.CallSet.{CallSet}
-use Rattle.sf_profile.specs.declared.rules.CallSet.TheVariants.{I386}
-use Rattle.sf_profile.specs.declared.rules.Comparison.{Comparison}
-use Rattle.sf_profile.specs.declared.rules.Response.{Response}
-use Rattle.sf_profile.specs.declared.rules.Call.{Call}
+use Rattle.sf_profile.specs.Common.{list_any, flat_map, bytes_eq, CallSet, I386, Comparison, Response, Call, Settings}
 use Rattle.sf_profile.specs.Data.{ProfileRuleData, ProfileData, RuleData, SetRulesData, PlanData}
 use Rattle.sf_profile.specs.Meaning.{word_of}
-use Rattle.sf_profile.specs.declared.settings.Settings.{Settings}
 use Rattle.sf_profile.specs.Settings.{is_same_set, number_of}
 
 -- ---- what a rule asks

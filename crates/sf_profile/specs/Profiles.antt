@@ -1,16 +1,6 @@
 -- What a JSON profile says: the keys that it may have, the texts that it knows, and what its parts stand for.
 use Rattle.std.specs.Prelude.{ℕ, ◌+◌, ◌-◌, ◌*◌, ℤ, pos, negsuc, Bool, true, false, ◌&&◌, ◌==◌, nat_lt, nat_le, if◌then◌else◌, List, [], ◌∷◌, fold, codes, Option, Some, None, unwrap_or}
-use Rattle.std.specs.Str.{bytes_eq}
-use Rattle.sf_profile.specs.declared.rules.CallSet.{CallSet}
-use Rattle.sf_profile.specs.declared.rules.CallSet.TheVariants.{X64, X32, I386, Aarch64, Arm}
-use Rattle.sf_profile.specs.declared.rules.Argument.{Argument}
-use Rattle.sf_profile.specs.declared.rules.Argument.TheVariants.{Arg0, Arg1, Arg2, Arg3, Arg4, Arg5}
-use Rattle.sf_profile.specs.declared.rules.Comparing.{Comparing}
-use Rattle.sf_profile.specs.declared.rules.Comparing.TheVariants.{NotEqual, Less, LessOrEqual, Equal, GreaterOrEqual, Greater, MaskedEqual}
-use Rattle.sf_profile.specs.declared.rules.Response.{Response}
-use Rattle.sf_profile.specs.declared.rules.Response.TheVariants.{KillProcess, KillThread, Trap, Errno, Notify, Tracer, Log, Allow}
-use Rattle.sf_profile.specs.declared.names.Version.{Version}
-use Rattle.sf_profile.specs.declared.names.VersionRead.{VersionRead}
+use Rattle.sf_profile.specs.Common.{bytes_eq, CallSet, X64, X32, I386, Aarch64, Arm, Argument, Arg0, Arg1, Arg2, Arg3, Arg4, Arg5, Comparing, NotEqual, Less, LessOrEqual, Equal, GreaterOrEqual, Greater, MaskedEqual, Response, KillProcess, KillThread, Trap, Errno, Notify, Tracer, Log, Allow, Version, VersionRead}
 
 -- ---- keys
 

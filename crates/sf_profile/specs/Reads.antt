@@ -1,24 +1,12 @@
 -- What a JSON tree says as a profile, or its first refusal: in the profile's head, and then rule after rule.
 use Rattle.std.specs.Prelude.{ℕ, ℤ, pos, ◌+◌, ◌-◌, ◌^◌, Bool, true, false, not, ◌&&◌, ◌||◌, nat_lt, if◌then◌else◌, List, [], ◌∷◌, ◌++◌, map, fold, codes, Option, Some, None, is_some, ok_or, option_and_then, option_map, unwrap_or, Result, Ok, Err}
-use Rattle.std.specs.List.{list_any, list_all, flat_map}
-use Rattle.std.specs.Str.{bytes_eq}
-use Rattle.serde_json.specs.Data.{Data, array}
-use Rattle.serde_json.specs.Find.{as_array}
-use Rattle.sf_names.specs.Names.{is_call_name}
-use Rattle.sf_profile.specs.declared.fault.Fault.{Fault}
+use Rattle.sf_profile.specs.Common.{list_any, list_all, flat_map, bytes_eq, Data, array, as_array, is_call_name, Fault, Flaw, Version, CallSet, Comparing, Comparison, Response, Settings}
 use Rattle.sf_profile.specs.declared.fault.Fault.TheVariants as faults
-use Rattle.sf_profile.specs.declared.fault.Flaw.{Flaw}
 use Rattle.sf_profile.specs.declared.fault.Flaw.TheVariants as flaws
-use Rattle.sf_profile.specs.declared.names.Version.{Version}
-use Rattle.sf_profile.specs.declared.rules.CallSet.{CallSet}
-use Rattle.sf_profile.specs.declared.rules.Comparing.{Comparing}
-use Rattle.sf_profile.specs.declared.rules.Comparison.{Comparison}
-use Rattle.sf_profile.specs.declared.rules.Response.{Response}
 use Rattle.sf_profile.specs.Data.{ComparisonsData, ConditionData, ProfileData, ProfileRuleData}
 use Rattle.sf_profile.specs.Trees.{at, items_in, listed, absent_or, is_text, is_list_of, text_in, text_at, texts_of, texts_or_none, whole_where, whole_or, maybe_whole, is_object_of}
 use Rattle.sf_profile.specs.Profiles.{profile_keys, map_keys, rule_keys, argument_keys, condition_keys, set_named, name_of_set, arch_name_of_set, response_named, has_data, comparing_named, up_to, up_to_or, argument_numbered, version_of, is_at_least}
 use Rattle.sf_profile.specs.Errors.{is_error_name}
-use Rattle.sf_profile.specs.declared.settings.Settings.{Settings}
 use Rattle.sf_profile.specs.Settings.{has_calls, has_cap, is_same_set}
 use Rattle.sf_profile.specs.Limits.{has_few_parts, size_of_rule}
 use Rattle.sf_profile.specs.Known.{may_have_names}

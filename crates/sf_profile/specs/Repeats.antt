@@ -1,10 +1,7 @@
 -- Where a key comes twice in a text: which fault that is.
 use Rattle.std.specs.Prelude.{◌≡◌, ◌⊎◌, ℕ, ◌+◌, ◌≤◌, List, codes, if◌then◌else◌, Option, Some, None, option_and_then}
-use Rattle.json.specs.Json.{Json, array, Items, no_items, item, max_depth}
-use Rattle.json.specs.Find.{get, is_null}
-use Rattle.json.specs.Strict.{HasUniqueKeys}
-use Rattle.json.specs.Tree.{depth, items_depth, HasNumbers, ItemsHaveNumbers}
-use Rattle.sf_profile.specs.declared.fault.Fault.{Fault}
+use Rattle.sf_profile.specs.Common.{Json, Items, no_items, item, max_depth, get, is_null, HasUniqueKeys, depth, items_depth, HasNumbers, ItemsHaveNumbers, Fault}
+use Rattle.json.specs.Json.{array}
 use Rattle.sf_profile.specs.declared.fault.Fault.TheVariants as faults
 
 -- a value, where it isn't null, which is as if the key were absent

@@ -1,12 +1,6 @@
 -- What a profile is read for: a machine, a container and a kernel, with the numbers of calls.
 use Rattle.std.specs.Prelude.{ℕ, Bool, ◌==◌, not, if◌then◌else◌, List, find, count_by, Option, Some, None, is_some, option_map, string_bytes}
-use Rattle.std.specs.List.{list_any}
-use Rattle.std.specs.Str.{bytes_eq}
-use Rattle.sf_names.specs.Names.{NamesData, is_low_call, number_of_call}
-use Rattle.sf_profile.specs.declared.rules.CallSet.{CallSet}
-use Rattle.sf_profile.specs.declared.rules.CallSet.TheVariants.{X64, X32, I386, Aarch64, Arm}
-use Rattle.sf_profile.specs.declared.settings.Calls.{Calls}
-use Rattle.sf_profile.specs.declared.settings.Settings.{Settings}
+use Rattle.sf_profile.specs.Common.{list_any, bytes_eq, NamesData, is_low_call, number_of_call, CallSet, X64, X32, I386, Aarch64, Arm, Calls, Settings}
 
 -- sets by number, to compare them
 abbrev pub set_place : CallSet → ℕ

@@ -1,9 +1,8 @@
 -- Reading a JSON tree.
 use Rattle.std.specs.Prelude.{ℕ, ℤ, Bool, true, false, not, ◌&&◌, if◌then◌else◌, List, [], ◌∷◌, map, Option, Some, None, is_some, option_and_then, option_map, unwrap_or}
-use Rattle.std.specs.List.{list_any, list_all}
-use Rattle.std.specs.Str.{bytes_eq}
-use Rattle.serde_json.specs.Data.{Data, array, object, Items, no_items, item, Members, no_members, member}
-use Rattle.serde_json.specs.Find.{get, as_null, as_str, as_number, as_integer}
+use Rattle.sf_profile.specs.Common.{list_any, list_all, bytes_eq, Data, array, object, Members, no_members, member, as_null, as_str, as_number, as_integer}
+use Rattle.serde_json.specs.Data.{Items, no_items, item}
+use Rattle.serde_json.specs.Find.{get}
 
 -- a value, where it isn't null, which is as if the key were absent
 abbrev pub given : Option Data → Option Data

@@ -72,7 +72,7 @@ fn read_condition<'a>(settings: &Settings, value: &'a Value) -> Option<Condition
 
 /// Whether one of the values is this text. A value that is no text counts as the empty one.
 fn has_text(items: &[Value], text: &str) -> bool
-    ensures { result ≡ list_any (bytes_eq text.now) (map text_in (map view items.now)) }
+    ensures { result ≡ list_any (λ v. bytes_eq text.now (text_in (view v))) items.now }
 {
     items.iter().any(|value| text == text_of(value))
 }
@@ -83,6 +83,7 @@ fn is_none(items: &[Value]) -> bool
     items.is_empty()
 }
 
+#[tactic(auto, using(crate::proofs::tree::TreeLemmas::any_text))]
 fn names_machine(settings: &Settings, condition: &Condition<'_>) -> bool
     ensures { result ≡ names_machine settings.now condition.now }
 {
@@ -91,7 +92,7 @@ fn names_machine(settings: &Settings, condition: &Condition<'_>) -> bool
 
 /// Whether the container has all capabilities that the values name. A value that is no text counts as the empty name.
 fn has_caps(settings: &Settings, items: &[Value]) -> bool
-    ensures { result ≡ list_all (has_cap settings.now) (map text_in (map view items.now)) }
+    ensures { result ≡ list_all (λ v. has_cap settings.now (text_in (view v))) items.now }
 {
     items.iter().all(|value| settings.has_cap(text_of(value)))
 }
@@ -99,13 +100,14 @@ fn has_caps(settings: &Settings, items: &[Value]) -> bool
 /// Whether the container has one of the capabilities that the values name. A value that is no text counts as the empty
 /// name.
 fn has_a_cap(settings: &Settings, items: &[Value]) -> bool
-    ensures { result ≡ list_any (has_cap settings.now) (map text_in (map view items.now)) }
+    ensures { result ≡ list_any (λ v. has_cap settings.now (text_in (view v))) items.now }
 {
     items.iter().any(|value| settings.has_cap(text_of(value)))
 }
 
 /// Whether the `includes` of a rule holds: it names the machine, or no machine; the container has all its capabilities;
 /// and the kernel's version is its `minKernel` or newer.
+#[tactic(auto, using(crate::proofs::tree::TreeLemmas::all_text))]
 fn includes(settings: &Settings, condition: &Condition<'_>) -> bool
     ensures { result ≡ includes settings.now condition.now }
 {
@@ -116,6 +118,7 @@ fn includes(settings: &Settings, condition: &Condition<'_>) -> bool
 
 /// Whether the `excludes` of a rule holds: it names the machine, or the container has one of its capabilities, or the
 /// kernel's version is its `minKernel` or newer.
+#[tactic(auto, using(crate::proofs::tree::TreeLemmas::any_text))]
 fn excludes(settings: &Settings, condition: &Condition<'_>) -> bool
     ensures { result ≡ excludes settings.now condition.now }
 {

@@ -2,7 +2,7 @@
 
 ghost use Rattle.std.specs.Prelude.{◌≡◌, Err, IfOk, Some, codes, map};
 ghost use Rattle.serde_json.specs.View.{view};
-ghost use Rattle.sf_profile.specs.Reads.{has_wrong_key, read_arguments, read_array, read_comparison, read_comparisons, with_flaw};
+ghost use Rattle.sf_profile.specs.Reads.{has_wrong_key, read_arguments, read_comparison, read_comparisons, with_flaw};
 ghost use Rattle.sf_profile.specs.Trees.{at};
 
 use crate::fault::Flaw;
@@ -72,24 +72,16 @@ fn read_comparisons(alloc: Global, items: &[Value]) -> Result<Comparisons, Alloc
     Ok(Comparisons { list, flaw })
 }
 
-fn read_array(alloc: Global, value: &Value) -> Result<Comparisons, AllocError>
-    ensures { IfOk result (λ c. c ≡ read_array (view value.now)) }
-{
-    match value {
-        Value::Array(items) => read_comparisons(alloc, array_items(items)),
-        _ => Ok(Comparisons {
-            list: Vec::new(alloc),
-            flaw: Some(Flaw::Key),
-        }),
-    }
-}
-
 /// The comparisons at the key `args` of a rule.
 pub(crate) fn read_arguments(alloc: Global, value: &Value) -> Result<Comparisons, AllocError>
     ensures { IfOk result (λ c. c ≡ read_arguments (at (codes "args") (view value.now))) }
 {
     match at(value, "args") {
-        Some(found) => read_array(alloc, found),
+        Some(Value::Array(items)) => read_comparisons(alloc, array_items(items)),
+        Some(_) => Ok(Comparisons {
+            list: Vec::new(alloc),
+            flaw: Some(Flaw::Key),
+        }),
         None => Ok(Comparisons {
             list: Vec::new(alloc),
             flaw: None,

@@ -1,8 +1,8 @@
 //! What a profile says, and its writer may not mean: comparisons under a mask with a bit outside it, and ERRNO 0.
 
-ghost use Rattle.std.specs.Prelude.{◌≡◌, ◌++◌, IfErr, IfOk, OnOk};
+ghost use Rattle.std.specs.Prelude.{◌≡◌, IfErr, IfOk};
 ghost use Rattle.std.specs.List.{list_any};
-ghost use Rattle.sf_profile.specs.Cautions.{AreLooseFor, HaveZeroErrors, has_loose_mask, is_loose, is_masked, loose_from, number_if};
+ghost use Rattle.sf_profile.specs.Cautions.{AreLooseFor, HaveZeroErrors, has_loose_mask, is_loose, is_masked, loose_rules};
 ghost use Rattle.sf_profile.specs.Filters.{IsInText, IsRefusedText};
 
 use crate::fault::Fault;
@@ -39,24 +39,14 @@ fn has_loose_mask(rule: &ProfileRule<'_>) -> bool
     rule.applies && has_loose(&rule.comparisons)
 }
 
-fn push_if(numbers: &mut Vec<usize>, wanted: bool, number: usize) -> Result<(), AllocError>
-    ensures { OnOk result (numbers.new.items ≡ numbers.old.items ++ number_if wanted number) }
-{
-    if wanted {
-        numbers.push(number)?;
-    }
-    Ok(())
-}
-
-#[tactic(auto, using(crate::proofs::cautions::CautionLemmas::more_loose))]
 fn loose_rules(alloc: Global, rules: &[ProfileRule<'_>]) -> Result<Vec<usize>, AllocError>
-    ensures { IfOk result (λ v. v.items ≡ loose_from 1 rules.now) }
+    ensures { IfOk result (λ v. v.items ≡ loose_rules rules.now) }
 {
-    let mut numbers = Vec::new(alloc);
-    for (i, rule) in rules.iter().enumerate() {
-        push_if(&mut numbers, has_loose_mask(rule), i + 1)?;
-    }
-    Ok(numbers)
+    (1..rules.len() + 1)
+        .zip(rules)
+        .filter(|(_, rule)| has_loose_mask(rule))
+        .map(|(number, _)| number)
+        .collect(alloc)
 }
 
 /// The numbers, from 1, of the rules that apply and have an `SCMP_CMP_MASKED_EQ` whose `valueTwo` has a bit outside its

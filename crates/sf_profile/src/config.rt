@@ -1,9 +1,9 @@
 //! Where the profile stands in a file.
 
-ghost use Rattle.std.specs.Prelude.{◌≡◌, ◌==◌, IfErr, IfOk, None, Some, codes, map, string_bytes};
+ghost use Rattle.std.specs.Prelude.{◌≡◌, ◌==◌, IfErr, IfOk, None, Some, chars, codes, length, map, string_bytes};
 ghost use Rattle.std.specs.BTreeMap.{keys};
 ghost use Rattle.std.specs.Char.{to_ascii_lowercase};
-ghost use Rattle.std.specs.List.{list_any, list_all};
+ghost use Rattle.std.specs.List.{list_any, list_all, zip};
 ghost use Rattle.serde_json.specs.View.{members_view, view};
 ghost use Rattle.sf_profile.specs.Configs.{are_clear_annotations, folded, has_zero, is_clear, is_clear_config, is_oci_profile, is_oci_rule, is_taken_for, profile_in};
 ghost use Rattle.sf_profile.specs.Profiles.{profile_keys};
@@ -38,20 +38,26 @@ fn is_letter(letter: char, byte: u8) -> bool
     folded(letter) == char::from(byte.to_ascii_lowercase())
 }
 
+fn count_letters(key: &str) -> usize
+    ensures { result ≡ length (chars key.now) }
+{
+    key.chars().count()
+}
+
+fn are_letters(key: &str, letters: &[u8]) -> bool
+    ensures { result ≡ list_all (λ p. folded p.0 == to_ascii_lowercase p.1)
+        (zip (chars key.now) letters.now) }
+{
+    key.chars()
+        .zip(letters)
+        .all(|(letter, byte)| is_letter(letter, *byte))
+}
+
+#[tactic(auto, using(crate::proofs::config::ConfigLemmas::letter_by_letter))]
 fn has_letters(key: &str, letters: &[u8]) -> bool
     ensures { result ≡ is_taken_for key.now letters.now }
 {
-    let mut place = 0usize;
-    for letter in key.chars() {
-        if place >= letters.len() {
-            return false;
-        }
-        if !is_letter(letter, letters[place]) {
-            return false;
-        }
-        place += 1;
-    }
-    place == letters.len()
+    count_letters(key) == letters.len() && are_letters(key, letters)
 }
 
 /// Whether Go takes a key for the known one, which is ASCII: they are equal, or differ only in case.
@@ -62,7 +68,7 @@ fn is_taken_for(key: &str, known: &str) -> bool
 }
 
 fn is_taken_for_any(key: &str, known: &[&str]) -> bool
-    ensures { result ≡ list_any (is_taken_for key.now) (map (λ k. k.now) known.now) }
+    ensures { result ≡ list_any (λ k. is_taken_for key.now k.now) known.now }
 {
     known.iter().any(|k| is_taken_for(key, *k))
 }
@@ -75,6 +81,7 @@ fn has_zero(key: &str) -> bool
 }
 
 /// Whether a key is `own`, or has no byte 0, and Go takes it neither for `own` nor for one of the others.
+#[tactic(auto, using(crate::proofs::config::ConfigLemmas::any_known))]
 fn is_clear(key: &str, own: &str, others: &[&str]) -> bool
     ensures { result ≡ is_clear own.now (map (λ k. k.now) others.now) key.now }
 {
@@ -125,10 +132,7 @@ fn has_clear_annotations(value: &Value) -> bool
     ensures { result ≡ absent_or are_clear_annotations
         (at (codes "annotations") (view value.now)) }
 {
-    match at(value, "annotations") {
-        Some(annotations) => are_clear_annotations(annotations),
-        None => true,
-    }
+    at(value, "annotations").is_none_or(|annotations| are_clear_annotations(annotations))
 }
 
 /// Whether a rule is in OCI's form: none of its keys is one that only docker and podman know.
@@ -139,11 +143,12 @@ fn is_oci_rule(value: &Value) -> bool
 }
 
 fn are_oci_rules(items: &[Value]) -> bool
-    ensures { result ≡ list_all is_oci_rule (map view items.now) }
+    ensures { result ≡ list_all (λ v. is_oci_rule (view v)) items.now }
 {
     items.iter().all(|value| is_oci_rule(value))
 }
 
+#[tactic(auto, using(crate::proofs::tree::TreeLemmas::all_items))]
 fn is_oci_profile(value: &Value) -> bool
     ensures { result ≡ is_oci_profile (view value.now) }
 {
@@ -153,10 +158,7 @@ fn is_oci_profile(value: &Value) -> bool
 fn has_oci_profile(linux: &Value) -> bool
     ensures { result ≡ absent_or is_oci_profile (at (codes "seccomp") (view linux.now)) }
 {
-    match at(linux, "seccomp") {
-        Some(profile) => is_oci_profile(profile),
-        None => true,
-    }
+    at(linux, "seccomp").is_none_or(|profile| is_oci_profile(profile))
 }
 
 /// Whether all runtimes find the same profile in a whole config.json, know each key of it, and find no key of a profile
@@ -176,12 +178,8 @@ type Unclear<'a> = (&'a str, Option<Why>);
 
 /// The known key for which Go takes another one.
 pub(crate) fn case_of(key: &str, known: &[&'static str]) -> Option<Why> {
-    for one in known {
-        if is_taken_for(key, *one) {
-            return Some(Why::Case { known: *one });
-        }
-    }
-    None
+    let known = known.iter().find(|one| is_taken_for(key, **one))?;
+    Some(Why::Case { known: *known })
 }
 
 /// Why a key isn't clear, if it isn't. What is among the others stands beside `linux`.
@@ -240,12 +238,8 @@ fn unclear_annotation(value: &Value) -> Option<Unclear<'_>> {
 
 /// The first of these keys, which only docker and podman know, that a value has.
 fn docker_key(value: &Value, keys: &[&'static str]) -> Option<Unclear<'static>> {
-    for key in keys {
-        if !is_absent(value, *key) {
-            return Some((*key, Some(Why::OnlyDocker)));
-        }
-    }
-    None
+    let key = keys.iter().find(|key| !is_absent(value, **key))?;
+    Some((*key, Some(Why::OnlyDocker)))
 }
 
 fn first_docker_key(profile: &Value) -> Option<Unclear<'static>> {

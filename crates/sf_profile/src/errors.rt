@@ -1,158 +1,71 @@
 //! The names of Linux's error numbers.
 
-ghost use Rattle.std.specs.Prelude.{◌≡◌, ◌&&◌, ◌==◌, Some};
-ghost use Rattle.std.specs.List.{list_any};
-ghost use Rattle.std.specs.Str.{bytes_eq};
-ghost use Rattle.sf_profile.specs.Errors.{is_error_name};
+ghost use Rattle.std.specs.Prelude.{◌≡◌, ◌==◌, Some, option_map, slice_get};
+ghost use Rattle.std.specs.List.{list_any, slice_split};
+ghost use Rattle.sf_profile.specs.Errors.{is_error_name, is_name, name_from};
 
-/// Each name and its number, of `include/uapi/asm-generic/errno-base.h` and `errno.h`. `ENOTSUP` is the C library's.
-const ERROR_NAMES: [(&str, u64); 134] = [
-    ("EPERM", 1),
-    ("ENOENT", 2),
-    ("ESRCH", 3),
-    ("EINTR", 4),
-    ("EIO", 5),
-    ("ENXIO", 6),
-    ("E2BIG", 7),
-    ("ENOEXEC", 8),
-    ("EBADF", 9),
-    ("ECHILD", 10),
-    ("EAGAIN", 11),
-    ("EWOULDBLOCK", 11),
-    ("ENOMEM", 12),
-    ("EACCES", 13),
-    ("EFAULT", 14),
-    ("ENOTBLK", 15),
-    ("EBUSY", 16),
-    ("EEXIST", 17),
-    ("EXDEV", 18),
-    ("ENODEV", 19),
-    ("ENOTDIR", 20),
-    ("EISDIR", 21),
-    ("EINVAL", 22),
-    ("ENFILE", 23),
-    ("EMFILE", 24),
-    ("ENOTTY", 25),
-    ("ETXTBSY", 26),
-    ("EFBIG", 27),
-    ("ENOSPC", 28),
-    ("ESPIPE", 29),
-    ("EROFS", 30),
-    ("EMLINK", 31),
-    ("EPIPE", 32),
-    ("EDOM", 33),
-    ("ERANGE", 34),
-    ("EDEADLK", 35),
-    ("EDEADLOCK", 35),
-    ("ENAMETOOLONG", 36),
-    ("ENOLCK", 37),
-    ("ENOSYS", 38),
-    ("ENOTEMPTY", 39),
-    ("ELOOP", 40),
-    ("ENOMSG", 42),
-    ("EIDRM", 43),
-    ("ECHRNG", 44),
-    ("EL2NSYNC", 45),
-    ("EL3HLT", 46),
-    ("EL3RST", 47),
-    ("ELNRNG", 48),
-    ("EUNATCH", 49),
-    ("ENOCSI", 50),
-    ("EL2HLT", 51),
-    ("EBADE", 52),
-    ("EBADR", 53),
-    ("EXFULL", 54),
-    ("ENOANO", 55),
-    ("EBADRQC", 56),
-    ("EBADSLT", 57),
-    ("EBFONT", 59),
-    ("ENOSTR", 60),
-    ("ENODATA", 61),
-    ("ETIME", 62),
-    ("ENOSR", 63),
-    ("ENONET", 64),
-    ("ENOPKG", 65),
-    ("EREMOTE", 66),
-    ("ENOLINK", 67),
-    ("EADV", 68),
-    ("ESRMNT", 69),
-    ("ECOMM", 70),
-    ("EPROTO", 71),
-    ("EMULTIHOP", 72),
-    ("EDOTDOT", 73),
-    ("EBADMSG", 74),
-    ("EOVERFLOW", 75),
-    ("ENOTUNIQ", 76),
-    ("EBADFD", 77),
-    ("EREMCHG", 78),
-    ("ELIBACC", 79),
-    ("ELIBBAD", 80),
-    ("ELIBSCN", 81),
-    ("ELIBMAX", 82),
-    ("ELIBEXEC", 83),
-    ("EILSEQ", 84),
-    ("ERESTART", 85),
-    ("ESTRPIPE", 86),
-    ("EUSERS", 87),
-    ("ENOTSOCK", 88),
-    ("EDESTADDRREQ", 89),
-    ("EMSGSIZE", 90),
-    ("EPROTOTYPE", 91),
-    ("ENOPROTOOPT", 92),
-    ("EPROTONOSUPPORT", 93),
-    ("ESOCKTNOSUPPORT", 94),
-    ("EOPNOTSUPP", 95),
-    ("ENOTSUP", 95),
-    ("EPFNOSUPPORT", 96),
-    ("EAFNOSUPPORT", 97),
-    ("EADDRINUSE", 98),
-    ("EADDRNOTAVAIL", 99),
-    ("ENETDOWN", 100),
-    ("ENETUNREACH", 101),
-    ("ENETRESET", 102),
-    ("ECONNABORTED", 103),
-    ("ECONNRESET", 104),
-    ("ENOBUFS", 105),
-    ("EISCONN", 106),
-    ("ENOTCONN", 107),
-    ("ESHUTDOWN", 108),
-    ("ETOOMANYREFS", 109),
-    ("ETIMEDOUT", 110),
-    ("ECONNREFUSED", 111),
-    ("EHOSTDOWN", 112),
-    ("EHOSTUNREACH", 113),
-    ("EALREADY", 114),
-    ("EINPROGRESS", 115),
-    ("ESTALE", 116),
-    ("EUCLEAN", 117),
-    ("ENOTNAM", 118),
-    ("ENAVAIL", 119),
-    ("EISNAM", 120),
-    ("EREMOTEIO", 121),
-    ("EDQUOT", 122),
-    ("ENOMEDIUM", 123),
-    ("EMEDIUMTYPE", 124),
-    ("ECANCELED", 125),
-    ("ENOKEY", 126),
-    ("EKEYEXPIRED", 127),
-    ("EKEYREVOKED", 128),
-    ("EKEYREJECTED", 129),
-    ("EOWNERDEAD", 130),
-    ("ENOTRECOVERABLE", 131),
-    ("ERFKILL", 132),
-    ("EHWPOISON", 133),
+/// Numbers that follow one another: the first one, and the names of all. They are of Linux's
+/// include/uapi/asm-generic/errno-base.h and errno.h; ENOTSUP is the C library's.
+const ERROR_NAMES: [(u64, &str); 27] = [
+    (1, "EPERM ENOENT ESRCH EINTR EIO ENXIO E2BIG ENOEXEC"),
+    (9, "EBADF ECHILD EAGAIN ENOMEM EACCES EFAULT ENOTBLK"),
+    (16, "EBUSY EEXIST EXDEV ENODEV ENOTDIR EISDIR EINVAL"),
+    (23, "ENFILE EMFILE ENOTTY ETXTBSY EFBIG ENOSPC ESPIPE"),
+    (30, "EROFS EMLINK EPIPE EDOM ERANGE EDEADLK ENAMETOOLONG"),
+    (37, "ENOLCK ENOSYS ENOTEMPTY ELOOP"),
+    (42, "ENOMSG EIDRM ECHRNG EL2NSYNC EL3HLT EL3RST ELNRNG"),
+    (49, "EUNATCH ENOCSI EL2HLT EBADE EBADR EXFULL ENOANO"),
+    (56, "EBADRQC EBADSLT"),
+    (59, "EBFONT ENOSTR ENODATA ETIME ENOSR ENONET ENOPKG"),
+    (66, "EREMOTE ENOLINK EADV ESRMNT ECOMM EPROTO EMULTIHOP"),
+    (73, "EDOTDOT EBADMSG EOVERFLOW ENOTUNIQ EBADFD EREMCHG"),
+    (79, "ELIBACC ELIBBAD ELIBSCN ELIBMAX ELIBEXEC EILSEQ"),
+    (85, "ERESTART ESTRPIPE EUSERS ENOTSOCK EDESTADDRREQ"),
+    (90, "EMSGSIZE EPROTOTYPE ENOPROTOOPT EPROTONOSUPPORT"),
+    (94, "ESOCKTNOSUPPORT EOPNOTSUPP EPFNOSUPPORT EAFNOSUPPORT"),
+    (98, "EADDRINUSE EADDRNOTAVAIL ENETDOWN ENETUNREACH"),
+    (102, "ENETRESET ECONNABORTED ECONNRESET ENOBUFS EISCONN"),
+    (107, "ENOTCONN ESHUTDOWN ETOOMANYREFS ETIMEDOUT"),
+    (111, "ECONNREFUSED EHOSTDOWN EHOSTUNREACH EALREADY"),
+    (115, "EINPROGRESS ESTALE EUCLEAN ENOTNAM ENAVAIL EISNAM"),
+    (121, "EREMOTEIO EDQUOT ENOMEDIUM EMEDIUMTYPE ECANCELED"),
+    (126, "ENOKEY EKEYEXPIRED EKEYREVOKED EKEYREJECTED"),
+    (130, "EOWNERDEAD ENOTRECOVERABLE ERFKILL EHWPOISON"),
+    (11, "EWOULDBLOCK"),
+    (35, "EDEADLOCK"),
+    (95, "ENOTSUP"),
 ];
 
-fn is_error(error: &(&str, u64), text: &str, number: u64) -> bool
-    ensures { result ≡ (bytes_eq error.now.0.now text.now && (error.now.1 == number)) }
+fn word_at(words: &str, place: usize) -> Option<&str>
+    ensures { option_map (λ w. w.now) result
+        ≡ slice_get (slice_split (λ b. b == 32) words.now) place }
 {
-    error.0 == text && error.1 == number
+    words.split(' ').nth(place)
 }
 
-fn has_error(errors: &[(&str, u64)], text: &str, number: u64) -> bool
-    ensures { result ≡ list_any (λ e. bytes_eq e.0.now text.now && (e.1 == number)) errors.now }
+/// The name of a number, among these of numbers that follow one another.
+fn name_from(first: u64, names: &str, number: u64) -> Option<&str>
+    ensures { option_map (λ n. n.now) result ≡ name_from first names.now number }
 {
-    errors.iter().any(|error| is_error(error, text, number))
+    if number < first {
+        return None;
+    }
+    word_at(names, (number - first) as usize)
+}
+
+fn has_in(run: &(u64, &str), text: &str, number: u64) -> bool
+    ensures { result ≡ is_name text.now (name_from run.now.0 run.now.1.now number) }
+{
+    match name_from(run.0, run.1, number) {
+        Some(name) => name == text,
+        None => false,
+    }
+}
+
+fn has_error(runs: &[(u64, &str)], text: &str, number: u64) -> bool
+    ensures { result ≡ list_any (λ r. is_name text.now (name_from r.0 r.1.now number)) runs.now }
+{
+    runs.iter().any(|run| has_in(run, text, number))
 }
 
 fn names_error(text: &str, number: u64) -> bool
@@ -170,6 +83,10 @@ pub(crate) fn is_error_name(text: &str, number: Option<u64>) -> bool
     }
 }
 
+fn has_word(words: &str, text: &str) -> bool {
+    words.split(' ').any(|word| word == text)
+}
+
 pub(crate) fn is_any_error_name(text: &str) -> bool {
-    ERROR_NAMES.iter().any(|error| error.0 == text)
+    ERROR_NAMES.iter().any(|run| has_word(run.1, text))
 }

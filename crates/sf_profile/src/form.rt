@@ -167,21 +167,17 @@ fn push_rounds(
 fn above_calls(least: u64, calls: &[Call]) -> u64
     ensures { result ≡ above_calls least calls.now }
 {
-    let mut above = least;
-    for call in calls {
-        above = above.max(u64::from(call.number) + 1);
-    }
-    above
+    calls
+        .iter()
+        .fold(least, |above, call| above.max(u64::from(call.number) + 1))
 }
 
 fn above_rules(rules: &[Rule]) -> u64
     ensures { result ≡ above_rules rules.now }
 {
-    let mut above = 0;
-    for rule in rules {
-        above = above_calls(above, &rule.calls);
-    }
-    above
+    rules
+        .iter()
+        .fold(0, |above, rule| above_calls(above, &rule.calls))
 }
 
 /// Whether `Plan::newer` is heeded: not where the default lets calls through, or leaves them to a tracer.

@@ -108,14 +108,10 @@ fn response_of(name: &str, number: Option<i128>) -> Result<Response, Flaw>
 /// The first key of a value that isn't among the known ones, in the order of their bytes.
 fn first_unknown<'a>(value: &'a Value, known: &[&'static str]) -> Option<&'a str> {
     match value {
-        Value::Object(object) => {
-            for key in object.keys() {
-                if !is_among(key.as_str(), known) {
-                    return Some(key.as_str());
-                }
-            }
-            None
-        }
+        Value::Object(object) => object
+            .keys()
+            .map(|key| key.as_str())
+            .find(|key| !is_among(key, known)),
         _ => None,
     }
 }

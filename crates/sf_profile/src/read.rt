@@ -272,10 +272,7 @@ fn has_map(value: &Value) -> bool
     ensures { result ≡ absent_or (is_list_of is_map_item)
         (at (codes "archMap") (view value.now)) }
 {
-    match at(value, "archMap") {
-        Some(map) => is_map(map),
-        None => true,
-    }
+    at(value, "archMap").is_none_or(|map| is_map(map))
 }
 
 /// Whether at most one of `archMap` and `architectures` is there, and the latter's value is of the right kind.
@@ -289,10 +286,7 @@ fn has_sets(value: &Value) -> bool
 fn has_rules(value: &Value) -> bool
     ensures { result ≡ absent_or is_array (at (codes "syscalls") (view value.now)) }
 {
-    match at(value, "syscalls") {
-        Some(rules) => rules.is_array(),
-        None => true,
-    }
+    at(value, "syscalls").is_none_or(|rules| rules.is_array())
 }
 
 /// Refuses a profile unless its rules, its map and its sets are of their kinds. What is in the array of rules isn't

@@ -1,6 +1,6 @@
 //! Reading a JSON tree.
 
-ghost use Rattle.std.specs.Prelude.{◌≡◌, map, option_map, Some, string_bytes};
+ghost use Rattle.std.specs.Prelude.{◌≡◌, map, option_map, string_bytes};
 ghost use Rattle.std.specs.BTreeMap.{keys};
 ghost use Rattle.std.specs.List.{list_any, list_all};
 ghost use Rattle.std.specs.Str.{bytes_eq};
@@ -25,22 +25,13 @@ pub(crate) fn array_items(items: &[Value]) -> &[Value]
     items
 }
 
-/// The items of a value that is an array; an empty slice where it is no array.
-fn items_of(value: &Value) -> &[Value]
-    ensures { map view result.now ≡ listed (Some (view value.now)) }
-{
-    match value {
-        Value::Array(items) => array_items(items),
-        _ => &[],
-    }
-}
-
+/// The items at a key; an empty slice where there is no array.
 pub(crate) fn items_at<'a>(value: &'a Value, key: &str) -> &'a [Value]
     ensures { map view result.now ≡ listed (at key.now (view value.now)) }
 {
     match at(value, key) {
-        Some(found) => items_of(found),
-        None => &[],
+        Some(Value::Array(items)) => array_items(items),
+        _ => &[],
     }
 }
 
@@ -121,11 +112,12 @@ pub(crate) fn has_only(value: &Value, known: &[&str]) -> bool
 }
 
 fn are_texts(items: &[Value]) -> bool
-    ensures { result ≡ list_all is_text (items_in (items_view items.now)) }
+    ensures { result ≡ list_all (λ v. is_text (view v)) items.now }
 {
     items.iter().all(|value| value.is_string())
 }
 
+#[tactic(auto, using(crate::proofs::tree::TreeLemmas::all_entries))]
 fn texts_among(items: &[Value]) -> Option<&[Value]>
     ensures { option_map (λ vs. map text_in (map view vs.now)) result
         ≡ texts_among (items_view items.now) }

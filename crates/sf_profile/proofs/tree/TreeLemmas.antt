@@ -1,5 +1,5 @@
 -- The definitions over trees, at the lists that the code goes through.
-use Rattle.sf_profile.proofs.Common.{◌≡◌, ℕ, ◌+◌, ◌<◌, Bool, List, [], ◌∷◌, length, get_or, drop, map, refl, sym, ap, ◌∙◌, String, string_bytes, Global, Bor, list_any, list_all, drop_more, list_all-map, keys_of, bytes_eq, Data, view, members_view, Value, items_in, all_keys, text_in}
+use Rattle.sf_profile.proofs.Common.{◌≡◌, ℕ, ◌+◌, ◌<◌, Bool, List, [], ◌∷◌, length, get_or, drop, map, refl, ap, ◌∙◌, String, string_bytes, Global, Bor, list_any, list_all, drop_more, list_all-map, keys_of, bytes_eq, Data, view, members_view, Value, items_in, all_keys, text_in}
 use Rattle.std.proofs.Common.{◌&&◌, ◌||◌}
 use Rattle.serde_json.specs.View.{items_view}
 
@@ -35,22 +35,17 @@ all_more test vs i v h = rw (drop_more vs i v h) refl
 
 -- ---- what holds of items, said of what they are seen as
 
-pub all_items : (test : Data → Bool) (vs : List Value) (b : Bool) → b ≡ list_all (λ v. test (view v)) vs
-    → b ≡ list_all test (map view vs)
-all_items test vs b e = e ∙ sym (list_all-map test view vs)
+pub all_items : (test : Data → Bool) (vs : List Value) → list_all test (map view vs) ≡ list_all (λ v. test (view v)) vs
+all_items test vs = list_all-map test view vs
 
-pub all_entries : (test : Data → Bool) (vs : List Value) (b : Bool) → b ≡ list_all (λ v. test (view v)) vs
-    → b ≡ list_all test (items_in (items_view vs))
-all_entries test vs b e = all_items test vs b e ∙ ap (list_all test) (sym (listed_view vs))
+pub all_entries : (test : Data → Bool) (vs : List Value)
+    → list_all test (items_in (items_view vs)) ≡ list_all (λ v. test (view v)) vs
+all_entries test vs = ap (list_all test) (listed_view vs) ∙ all_items test vs
 
-pub all_text : (test : List ℕ → Bool) (vs : List Value) (b : Bool) → b ≡ list_all (λ v. test (text_in (view v))) vs
-    → b ≡ list_all test (map text_in (map view vs))
-all_text test vs b e = all_items (λ d. test (text_in d)) vs b e ∙ sym (list_all-map test text_in (map view vs))
+pub all_text : (test : List ℕ → Bool) (vs : List Value)
+    → list_all test (map text_in (map view vs)) ≡ list_all (λ v. test (text_in (view v))) vs
+all_text test vs = list_all-map test text_in (map view vs) ∙ all_items (λ d. test (text_in d)) vs
 
-pub any_item : (test : Data → Bool) (vs : List Value) (b : Bool) → b ≡ list_any (λ v. test (view v)) vs
-    → b ≡ list_any test (map view vs)
-any_item test vs b e = e ∙ sym (any_map view test vs)
-
-pub any_text : (test : List ℕ → Bool) (vs : List Value) (b : Bool) → b ≡ list_any (λ v. test (text_in (view v))) vs
-    → b ≡ list_any test (map text_in (map view vs))
-any_text test vs b e = any_item (λ d. test (text_in d)) vs b e ∙ sym (any_map text_in test (map view vs))
+pub any_text : (test : List ℕ → Bool) (vs : List Value)
+    → list_any test (map text_in (map view vs)) ≡ list_any (λ v. test (text_in (view v))) vs
+any_text test vs = any_map text_in test (map view vs) ∙ any_map view (λ d. test (text_in d)) vs
