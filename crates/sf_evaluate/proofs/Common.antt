@@ -22,7 +22,7 @@ pub use Rattle.serde_json.specs.View.{view}
 pub use Rattle.serde_json.specs.declared.value.Value.{Value}
 pub use Rattle.sf_calls.specs.Numbers.{comma_parts, read_arguments}
 pub use Rattle.sf_check.specs.declared.insn.Insn.{Insn}
-pub use Rattle.sf_command_line.specs.Options.{IsSwitch, paths_of, text_of}
+pub use Rattle.sf_command_line.specs.Options.{ArePaths, IsSwitch, paths_of, text_of}
 pub use Rattle.sf_command_line.specs.laws.OptionsLaws.{paths_found}
 pub use Rattle.sf_evaluate.specs.Asking.{LacksName, is_given, is_nr_narrow, lacks_names, names_paths, numbers_fit}
 pub use Rattle.sf_evaluate.specs.Expecting.{is_other_policy}
@@ -34,7 +34,7 @@ pub use Rattle.sf_evaluate.specs.Names.{AreNamesFiles, AreNamesRead, CannotBeJoi
 pub use Rattle.sf_evaluate.specs.Origins.{AreOriginsOf, HasOrigins, IsOrigin, PolicyData}
 pub use Rattle.sf_evaluate.specs.Pairs.{Pairwise}
 pub use Rattle.sf_evaluate.specs.Policies.{AreAsked, IsPolicyFile, RefusesAsking, RefusesPolicyFile}
-pub use Rattle.sf_evaluate.specs.Profiles.{AreCallsOf, AreSettings, HasOtherSet, IsReadFor, RefusesProfile, RefusesProfileOf, WritesOf, WritesProfile, have_sets, is_capability, is_kernel_or_none, machine_named, profile_words_fit, reading_named}
+pub use Rattle.sf_evaluate.specs.Profiles.{AreCallsOf, AreSettings, HasOtherSet, IsReadFor, RefusesProfile, RefusesProfileOf, WritesOf, WritesProfile, have_sets, is_capability, machine_named, profile_words_fit, reading_named}
 pub use Rattle.sf_evaluate.specs.Wanted.{is_known_call, is_wanted_once, names_in_text}
 pub use Rattle.sf_evaluate.specs.declared.fault.Fault.TheVariants.{Other}
 pub use Rattle.sf_evaluate.specs.declared.files.identity.FileRole.{FileRole}

@@ -29,19 +29,11 @@ module _ (holds : List ℕ → Option (List ℕ)) (paths : List (Bor (List ℕ))
   -- where the one more is kept too
   pub one_kept : (more : List (List ℕ)) → more ≡ kept ++ file ∷ [] → length kept ≤ 64
       → AreKeptFiles holds (take (place + 1) paths) more
-  one_kept more pushed few = record {
-    files = so_far.files ++ file ∷ [];
-    read = one_more_read;
-    first = pushed ∙ kept_more kept so_far.files file so_far.first few;
-  }
+  one_kept more pushed few = grind (arith, common_steps, one_more_read, kept_more)
 
   -- where it isn't kept, since there were enough
   pub none_more_kept : 64 < length kept → AreKeptFiles holds (take (place + 1) paths) kept
-  none_more_kept many = record {
-    files = so_far.files ++ file ∷ [];
-    read = one_more_read;
-    first = kept_no_more kept so_far.files file so_far.first many;
-  }
+  none_more_kept many = grind (arith, common_steps, one_more_read, kept_no_more)
 
 -- a file can't be read, or memory ran out
 pub unread : (holds : List ℕ → Option (List ℕ)) (role : FileRole) (paths : List (Bor (List ℕ)))

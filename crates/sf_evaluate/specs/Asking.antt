@@ -1,20 +1,9 @@
 -- The input that `eval` is asked for, by the words of the command line.
 use Rattle.std.specs.Prelude.{◌≡◌, ◌⊎◌, ℕ, Bool, true, false, not, ◌&&◌, ◌||◌, nat_lt, if◌then◌else◌, List, [], ◌∷◌, Option, Some, None, Ok, codes, find, is_ok, is_some, length, map, option_and_then, option_map}
-use Rattle.std.specs.Borrow.{Bor}
-use Rattle.std.specs.Result.{result_ok}
-use Rattle.hex.specs.Hex.{decode_sized}
-use Rattle.clap.specs.Words.{Row, Text, first_of}
-use Rattle.sf_insn.specs.declared.input.Input.{Input}
-use Rattle.sf_insn.specs.Inputs.{input_bytes}
-use Rattle.sf_names.specs.Names.{NamesData, has_set, is_call_name, number_of_call}
-use Rattle.sf_calls.specs.Calls.{call_input}
-use Rattle.sf_calls.specs.Numbers.{are_arguments, is_number, read_arguments, read_number}
-use Rattle.sf_stack.specs.declared.fault.Fault.{Fault}
-use Rattle.sf_command_line.specs.Options.{paths_of, text_of}
+use Rattle.sf_evaluate.specs.Common.{Bor, result_ok, decode_sized, Row, Text, first_of, Input, input_bytes, NamesData, has_set, is_call_name, number_of_call, call_input, are_arguments, is_number, read_arguments, read_number, Fault, paths_of, text_of, FileRead}
 use Rattle.sf_evaluate.specs.Failures.{NamesFailed}
 use Rattle.sf_evaluate.specs.Names.{AreNamesRead, RefusesNaming, RefusesSetsAt}
 use Rattle.sf_evaluate.specs.declared.files.identity.FileRole.TheVariants.{Names as NamesRole}
-use Rattle.sf_evaluate.specs.declared.files.opened.FileRead.{FileRead}
 
 -- ---- the words fit together
 
@@ -22,37 +11,27 @@ use Rattle.sf_evaluate.specs.declared.files.opened.FileRead.{FileRead}
 abbrev pub is_given : Text → List Row → Bool
 is_given name rows = is_some (first_of name rows)
 
--- nothing of a call is given beside the input
-abbrev pub describes_no_call : List Row → Bool
-describes_no_call rows =
-    not (is_given (codes "call") rows || is_given (codes "nr") rows)
-    && not (is_given (codes "arch") rows || is_given (codes "args") rows)
-
--- the architecture of a call is given, and its arguments
-abbrev pub has_arch_and_arguments : List Row → Bool
-has_arch_and_arguments rows =
-    is_given (codes "arch") rows && (is_given (codes "args") rows && are_arguments (text_of (codes "args") rows))
-
 -- a call is asked for by its name, in a set with a name
 abbrev pub call_fits : List Row → Bool
 call_fits rows =
     not (is_given (codes "nr") rows)
     && (is_call_name (text_of (codes "call") rows) && is_call_name (text_of (codes "arch") rows))
 
--- the number of an architecture, or the name of a set
-abbrev pub is_arch : Text → Bool
-is_arch text = is_number text || is_call_name text
-
--- a call is asked for by its number, on an architecture
+-- a call is asked for by its number, on an architecture, which is given by its number or the name of a set
 abbrev pub nr_fits : List Row → Bool
 nr_fits rows =
-    is_given (codes "nr") rows && (is_number (text_of (codes "nr") rows) && is_arch (text_of (codes "arch") rows))
+    is_given (codes "nr") rows && (is_number (text_of (codes "nr") rows)
+    && (is_number (text_of (codes "arch") rows) || is_call_name (text_of (codes "arch") rows)))
 
--- The words ask for one input: by its bytes, or by a call's name or number, with its architecture and its arguments.
+-- The words ask for one input: by its bytes, with nothing of a call beside them; or by a call's name or number, with
+-- its architecture and its arguments.
 abbrev pub eval_words_fit : List Row → Bool
 eval_words_fit rows =
-    if is_given (codes "input") rows then describes_no_call rows
-    else has_arch_and_arguments rows && (if is_given (codes "call") rows then call_fits rows else nr_fits rows)
+    if is_given (codes "input") rows
+    then not (is_given (codes "call") rows || is_given (codes "nr") rows)
+    && not (is_given (codes "arch") rows || is_given (codes "args") rows)
+    else (is_given (codes "arch") rows && (is_given (codes "args") rows && are_arguments (text_of (codes "args") rows)))
+    && (if is_given (codes "call") rows then call_fits rows else nr_fits rows)
 
 -- ---- the files of names
 
@@ -60,19 +39,14 @@ eval_words_fit rows =
 abbrev pub has_file_of_names : List Row → Bool
 has_file_of_names rows = nat_lt 0 (length (paths_of (codes "names") rows))
 
--- the architecture is given, and not by its number
-abbrev pub names_a_set : List Row → Bool
-names_a_set rows = is_given (codes "arch") rows && not (is_number (text_of (codes "arch") rows))
-
--- names are needed: a call is asked for by its name, calls are told one by one, a profile is read, or a set is named
-abbrev pub needs_names : List Row → Bool
-needs_names rows =
-    (is_given (codes "call") rows || is_given (codes "calls") rows)
-    || (is_given (codes "profile") rows || names_a_set rows)
-
--- no file of names is given, and names are needed
+-- No file of names is given, and names are needed: a call is asked for by its name, calls are told one by one, a
+-- profile is read, or the architecture is given, and not by its number.
 abbrev pub lacks_names : List Row → Bool
-lacks_names rows = not (has_file_of_names rows) && needs_names rows
+lacks_names rows =
+    not (has_file_of_names rows)
+    && ((is_given (codes "call") rows || is_given (codes "calls") rows)
+    || (is_given (codes "profile") rows
+    || (is_given (codes "arch") rows && not (is_number (text_of (codes "arch") rows)))))
 
 -- the paths of the files of names: those that are given; or that of the file that comes with the program
 abbrev pub names_paths : List Row → List Text
@@ -120,29 +94,21 @@ numbers_fit rows =
 
 -- ---- the input
 
--- the number of the call with this name in the set with this name; none where there is no such set or call
-abbrev pub nr_named : List NamesData → Text → Text → Option ℕ
-nr_named names set call = option_and_then (λ n. number_of_call n call) (find (has_set set) names)
-
--- the number of the architecture of the set with this name; none where there is no such set
-abbrev pub arch_named : List NamesData → Text → Option ℕ
-arch_named names set = option_map (λ (n : NamesData). n.arch) (find (has_set set) names)
-
--- the number of the call: the one that is given, or that of the call that is named, in the set that is named
+-- The number of the call: the one that is given, or that of the call that is named, in the set that is named; none
+-- where there is no such set or call.
 abbrev pub asked_nr : List Row → List NamesData → Option ℕ
 asked_nr rows names =
     if is_given (codes "nr") rows then result_ok (read_number 32 (text_of (codes "nr") rows))
-    else nr_named names (text_of (codes "arch") rows) (text_of (codes "call") rows)
+    else option_and_then (λ n. number_of_call n (text_of (codes "call") rows))
+    (find (has_set (text_of (codes "arch") rows)) names)
 
--- the architecture is given by its number, which goes only with the number of a call
-abbrev pub is_arch_number : List Row → Bool
-is_arch_number rows = is_given (codes "nr") rows && is_number (text_of (codes "arch") rows)
-
--- the number of the architecture: the one that is given, or that of the set that is named
+-- The number of the architecture: the one that is given, which goes only with the number of a call, or that of the set
+-- that is named; none where there is no such set.
 abbrev pub asked_arch : List Row → List NamesData → Option ℕ
 asked_arch rows names =
-    if is_arch_number rows then result_ok (read_number 32 (text_of (codes "arch") rows))
-    else arch_named names (text_of (codes "arch") rows)
+    if is_given (codes "nr") rows && is_number (text_of (codes "arch") rows)
+    then result_ok (read_number 32 (text_of (codes "arch") rows))
+    else option_map (λ (n : NamesData). n.arch) (find (has_set (text_of (codes "arch") rows)) names)
 
 -- the input is that of the call that is asked for
 pub record IsCallInput (rows : List Row) (names : List NamesData) (input : Input) : Type 0 where

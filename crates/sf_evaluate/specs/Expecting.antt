@@ -1,13 +1,6 @@
 -- The files that say what a build expects of an audit: a control, and the questions that may be allowed.
 use Rattle.std.specs.Prelude.{◌≡◌, ◌⊎◌, ◌+◌, ◌&&◌, ◌||◌, ℕ, Bool, true, not, if◌then◌else◌, List, [], Option, Some, None, codes}
-use Rattle.std.specs.List.{list_any}
-use Rattle.std.specs.Str.{IsUtf8, bytes_eq}
-use Rattle.clap.specs.Words.{Row, first_of}
-use Rattle.sf_question.specs.QuestionData.{QuestionData}
-use Rattle.sf_stack.specs.declared.fault.Fault.{Fault}
-use Rattle.sf_stack.specs.declared.fault.Fault.TheVariants.{Accepted, Memory, Read, Syntax}
-use Rattle.sf_policy.specs.Accepted.{AreAccepted, IsMisfitAt}
-use Rattle.sf_command_line.specs.Options.{paths_of}
+use Rattle.sf_evaluate.specs.Common.{list_any, IsUtf8, bytes_eq, Row, first_of, QuestionData, Fault, Accepted, Memory, Read, Syntax, AreAccepted, IsMisfitAt, paths_of}
 use Rattle.sf_evaluate.specs.Files.{AreKnownBytes}
 use Rattle.sf_evaluate.specs.Policies.{IsPolicyFile, RefusesPolicyFile}
 use Rattle.sf_evaluate.specs.Asking.{is_given}
@@ -18,14 +11,11 @@ abbrev pub IsControl : (List ℕ → Option (List ℕ)) → Option (List ℕ) �
 IsControl holds None control = control ≡ []
 IsControl holds (Some path) control = IsPolicyFile (holds path) control
 
--- the file, whose bytes may be known, names some of the questions
-abbrev pub IsAcceptFile : Option (List ℕ) → List QuestionData → List (List ℕ) → Type 0
-IsAcceptFile known questions names = (bytes : List ℕ) × AreKnownBytes known bytes × AreAccepted questions bytes names
-
 -- the names of the questions that may be allowed, if a file is named for them; else there are none
 abbrev pub AreAcceptedIn : (List ℕ → Option (List ℕ)) → Option (List ℕ) → List QuestionData → List (List ℕ) → Type 0
 AreAcceptedIn holds None questions names = names ≡ []
-AreAcceptedIn holds (Some path) questions names = IsAcceptFile (holds path) questions names
+AreAcceptedIn holds (Some path) questions names =
+    (bytes : List ℕ) × AreKnownBytes (holds path) bytes × AreAccepted questions bytes names
 
 -- Why a control is refused: its file, whose bytes aren't known, can't be read; memory ran out; or it is no policy.
 abbrev pub RefusesControl : (List ℕ → Option (List ℕ)) → Option (List ℕ) → Fault → Type 0
@@ -62,15 +52,13 @@ control_fits rows = is_other_policy (first_of (codes "control") rows) (paths_of 
 abbrev pub wants_summary : List Row → Bool
 wants_summary rows = is_switched_on (codes "summary") rows || is_switched_on (codes "summary-all") rows
 
--- what is written in the place of a summary, or belongs to a report, isn't asked for
-abbrev pub wants_no_report : List Row → Bool
-wants_no_report rows =
-    not (is_switched_on (codes "json") rows)
-    && (not (is_switched_on (codes "regions") rows) && not (is_switched_on (codes "why") rows))
-
 -- a summary goes without JSON, regions and remarks, and groups go only with a summary
 abbrev pub summary_fits : List Row → Bool
-summary_fits rows = if wants_summary rows then wants_no_report rows else not (is_given (codes "groups") rows)
+summary_fits rows =
+    if wants_summary rows
+    then not (is_switched_on (codes "json") rows)
+    && (not (is_switched_on (codes "regions") rows) && not (is_switched_on (codes "why") rows))
+    else not (is_given (codes "groups") rows)
 
 -- the words of `audit` fit together
 abbrev pub audit_words_fit : List Row → Bool

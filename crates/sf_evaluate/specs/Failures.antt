@@ -1,12 +1,7 @@
 -- Which file failed, as the notes of a run name it.
 use Rattle.std.specs.Prelude.{◌≡◌, ◌⊎◌, ◌+◌, ◌-◌, ◌<◌, ◌≤◌, ℕ, List, Option, Some, None, length, slice_get, string_bytes}
-use Rattle.std.specs.Borrow.{Bor}
-use Rattle.sf_stack.specs.declared.fault.Fault.{Fault}
-use Rattle.sf_stack.specs.declared.fault.Fault.TheVariants.{Memory, Read}
+use Rattle.sf_evaluate.specs.Common.{Bor, Fault, Memory, Read, FileRole, Old, New, FileRead}
 use Rattle.sf_evaluate.specs.Files.{HasPath}
-use Rattle.sf_evaluate.specs.declared.files.identity.FileRole.{FileRole}
-use Rattle.sf_evaluate.specs.declared.files.identity.FileRole.TheVariants.{Old, New}
-use Rattle.sf_evaluate.specs.declared.files.opened.FileRead.{FileRead}
 
 -- the file that is named was read in this role, from this path
 abbrev pub IsFile : FileRole → (path : List ℕ) → Option FileRead → Type 0

@@ -2,12 +2,11 @@
 use Rattle.std.specs.Prelude.{◌≡◌, ℕ}
 use Rattle.sf_stack.specs.Faults.{fault_number as other_number}
 use Rattle.sf_stack.specs.declared.fault.Fault.{Fault as OtherFault}
-use Rattle.sf_stack.specs.declared.fault.Fault.TheVariants.{Memory}
+use Rattle.sf_evaluate.specs.Common.{Memory, Profile, Other}
 use Rattle.sf_profile.specs.Faults.{fault_number as profile_number}
 use Rattle.sf_profile.specs.declared.fault.Fault.{Fault as ProfileFault}
 use Rattle.sf_profile.specs.declared.fault.Fault.TheVariants as profile_faults
 use Rattle.sf_evaluate.specs.declared.fault.Fault.{Fault}
-use Rattle.sf_evaluate.specs.declared.fault.Fault.TheVariants.{Profile, Other}
 
 -- why the program refuses a profile: for its refusal, or because memory was refused
 abbrev pub of_profile : ProfileFault → Fault

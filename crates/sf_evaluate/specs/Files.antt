@@ -1,11 +1,6 @@
 -- Files by their paths, and the stacks that filter files spell.
 use Rattle.std.specs.Prelude.{◌≡◌, ◌⊎◌, ℕ, List, Option, Some, None, slice_get, take}
-use Rattle.std.specs.Borrow.{Bor}
-use Rattle.sf_check.specs.declared.insn.Insn.{Insn}
-use Rattle.sf_stack.specs.declared.fault.Fault.{Fault}
-use Rattle.sf_stack.specs.declared.fault.Fault.TheVariants.{Memory, Read}
-use Rattle.sf_stack.specs.Filters.{IsFirstRefusal, SpellStack}
-use Rattle.sf_stack.specs.TwoStacks.{IsRefusalOfBoth}
+use Rattle.sf_evaluate.specs.Common.{Bor, Insn, Fault, Memory, Read, IsFirstRefusal, SpellStack, IsRefusalOfBoth}
 use Rattle.sf_evaluate.specs.Pairs.{Pairwise}
 
 -- the bytes that were read are the known ones, where any are known

@@ -1,15 +1,9 @@
 -- What each JSON document says of where it comes from: the program, and the files that were read.
 use Rattle.std.specs.Prelude.{◌≡◌, ◌++◌, ℕ, Bool, true, false, List, [], ◌∷◌, Option, codes, length}
-use Rattle.std.specs.Borrow.{Bor}
-use Rattle.std.specs.Str.{trim_end}
-use Rattle.hex.specs.Hex.{encode_lower}
-use Rattle.sha2.specs.Sha256.{sha256}
-use Rattle.serde_json.specs.Data.{Data, string}
-use Rattle.sf_json.specs.Documents.{count, fields, list_of, with_field}
+use Rattle.sf_evaluate.specs.Common.{Bor, trim_end, encode_lower, sha256, Data, string, count, fields, list_of, with_field, FileRole, Names, Policy, Control, Accept, Groups, Filter, Old, New}
 use Rattle.sf_evaluate.specs.Files.{AreKnownBytes}
 use Rattle.sf_evaluate.specs.Pairs.{Pairwise}
-use Rattle.sf_evaluate.specs.declared.files.identity.FileRole.{FileRole}
-use Rattle.sf_evaluate.specs.declared.files.identity.FileRole.TheVariants.{Names, Policy, Control, Accept, Groups, Filter, Old, New, Profile}
+use Rattle.sf_evaluate.specs.declared.files.identity.FileRole.TheVariants.{Profile}
 
 -- what a file is called by what it was read as
 abbrev pub role_name : FileRole → List ℕ
@@ -31,15 +25,11 @@ file_document role path bytes = fields (
     ∷ (codes "role", string (role_name role))
     ∷ (codes "sha256", string (encode_lower (sha256 bytes))) ∷ [])
 
--- the document of the file at a path, whose bytes may be known
-abbrev pub IsFileDocument : (List ℕ → Option (List ℕ)) → FileRole → Bor (List ℕ) → Data → Type 0
-IsFileDocument holds role path d =
-    (bytes : List ℕ) × AreKnownBytes (holds path.now) bytes × (d ≡ file_document role path.now bytes)
-
--- the documents of the files at the paths, path by path, if they are asked for; else none
+-- the documents of the files at the paths, whose bytes may be known, path by path, if they are asked for; else none
 abbrev pub HasFiles : (asked : Bool) → (List ℕ → Option (List ℕ)) → FileRole → List (Bor (List ℕ)) → List Data
     → Type 0
-HasFiles true holds role paths documents = Pairwise (IsFileDocument holds role) paths documents
+HasFiles true holds role paths documents = Pairwise (λ path d.
+    (bytes : List ℕ) × AreKnownBytes (holds path.now) bytes × (d ≡ file_document role path.now bytes)) paths documents
 HasFiles false holds role paths documents = documents ≡ []
 
 -- the documents of two kinds of files, kind by kind, if they are asked for; else none

@@ -1,3 +1,4 @@
+pub mod Common
 pub mod Pairs
 pub mod Files
 pub mod Failures

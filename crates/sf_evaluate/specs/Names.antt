@@ -1,16 +1,7 @@
 -- Files of names of calls.
 use Rattle.std.specs.Prelude.{◌≡◌, ◌⊎◌, ◌+◌, ℕ, List, [], take, Option, Some, None, Ok, Err}
-use Rattle.std.specs.Borrow.{Bor}
-use Rattle.std.specs.List.{flat_map}
-use Rattle.std.specs.Str.{IsUtf8}
-use Rattle.toml.specs.Data.{Members}
-use Rattle.toml.specs.Parse.{parse_document}
+use Rattle.sf_evaluate.specs.Common.{Bor, flat_map, IsUtf8, Members, parse_document, HaveOrderedCalls, NamesData, sets_of_file, AreSetsJoined, AreSetsUnfit, Fault, Memory, Read, Syntax, of_names}
 use Rattle.sf_names.specs.declared.fault.Fault.{Fault as NamesFault}
-use Rattle.sf_names.specs.Names.{HaveOrderedCalls, NamesData, sets_of_file}
-use Rattle.sf_names.specs.Joined.{AreSetsJoined, AreSetsUnfit}
-use Rattle.sf_stack.specs.declared.fault.Fault.{Fault}
-use Rattle.sf_stack.specs.declared.fault.Fault.TheVariants.{Memory, Read, Syntax}
-use Rattle.sf_stack.specs.Faults.{of_names}
 use Rattle.sf_evaluate.specs.Files.{AreKnownBytes, HasPath, HasUnknown}
 use Rattle.sf_evaluate.specs.Pairs.{Pairwise}
 

@@ -1,10 +1,6 @@
 -- Where the questions of policy files stand, as JSON.
 use Rattle.std.specs.Prelude.{◌≡◌, ℕ, Bool, true, false, List, [], ◌∷◌, Option, All, codes, length}
-use Rattle.std.specs.Borrow.{Bor}
-use Rattle.std.specs.List.{flat_map}
-use Rattle.serde_json.specs.Data.{Data, string}
-use Rattle.sf_question.specs.QuestionData.{QuestionData}
-use Rattle.sf_json.specs.Documents.{fields}
+use Rattle.sf_evaluate.specs.Common.{Bor, flat_map, Data, string, QuestionData, fields}
 use Rattle.sf_evaluate.specs.Pairs.{Pairwise}
 use Rattle.sf_evaluate.specs.Policies.{IsPolicyFile}
 

@@ -1,24 +1,8 @@
 -- What `check` and `eval` write of a stack.
 use Rattle.std.specs.Prelude.{◌≡◌, ◌⊎◌, ℕ, Bool, true, false, List, Option}
-use Rattle.std.specs.Borrow.{Bor}
-use Rattle.std.specs.Io.KnownBytes.{Appends}
-use Rattle.serde_json.specs.Data.{Data}
-use Rattle.sf_insn.specs.declared.input.Input.{Input}
-use Rattle.sf_check.specs.declared.insn.Insn.{Insn}
-use Rattle.sf_run.specs.declared.action.Answer.{Answer}
-use Rattle.sf_run.specs.Answers.{Answers}
-use Rattle.sf_stack.specs.declared.fault.Fault.{Fault}
-use Rattle.sf_stack.specs.declared.fault.Fault.TheVariants.{Write}
-use Rattle.sf_names.specs.Names.{NamesData}
-use Rattle.sf_json.specs.Documents.{document_line}
-use Rattle.sf_trace.specs.CheckDocuments.{IsCheckDocument}
-use Rattle.sf_trace.specs.Texts.{IsCheckText}
-use Rattle.sf_trace.specs.TraceDocuments.{eval_document}
-use Rattle.sf_trace.specs.Traces.{eval_text}
+use Rattle.sf_evaluate.specs.Common.{Bor, Appends, Data, Input, Insn, Answer, Answers, Fault, Write, NamesData, document_line, IsCheckDocument, IsCheckText, eval_document, eval_text, Manner, Filter}
 use Rattle.sf_evaluate.specs.Files.{HoldStack, RefusesFiles}
 use Rattle.sf_evaluate.specs.Identity.{HasFiles, identified}
-use Rattle.sf_evaluate.specs.declared.checking.Manner.{Manner}
-use Rattle.sf_evaluate.specs.declared.files.identity.FileRole.TheVariants.{Filter}
 
 -- what is told of a stack: a text; or one JSON document, with the line of this version and these documents of files
 abbrev pub IsCheckOutput : (listed json : Bool) → (version : List ℕ) → (files : List Data) → List (List Insn) → List ℕ
@@ -26,12 +10,6 @@ abbrev pub IsCheckOutput : (listed json : Bool) → (version : List ℕ) → (fi
 IsCheckOutput listed false version files programs text = IsCheckText listed programs text
 IsCheckOutput listed true version files programs text =
     (d : Data) × IsCheckDocument listed programs d × (text ≡ document_line (identified version files d))
-
--- what is told of a stack is added to what was written, where that is known
-abbrev pub WritesCheck : (listed json : Bool) → (version : List ℕ) → (files : List Data) → List (List Insn)
-    → Option (List ℕ) → Option (List ℕ) → Type 0
-WritesCheck listed json version files programs old new =
-    (text : List ℕ) × IsCheckOutput listed json version files programs text × Appends old new text
 
 -- what is told of the answer of a stack to an input, with these names of calls: a text; or one JSON document, with the
 -- line of this version and these documents of files
@@ -42,27 +20,22 @@ eval_output traced brief false version files names programs input answer =
 eval_output traced brief true version files names programs input answer =
     document_line (identified version files (eval_document traced brief names programs input answer))
 
--- what is told of a stack's answer to the input is added to what was written, where that is known, with these names of
--- calls
-abbrev pub WritesAnswer : (version : List ℕ) → (files : List Data) → List (List Insn) → Input → Manner
-    → List NamesData → Option (List ℕ) → Option (List ℕ) → Type 0
-WritesAnswer version files programs input how names old new =
-    (answer : Answer) × Answers programs input answer
-    × Appends old new (eval_output how.traced how.brief how.json version files names programs input answer)
-
 -- `check`: the files at the paths are read, and what is told of their stack is written
 abbrev pub ChecksFiles : (listed json : Bool) → (version : List ℕ) → (List ℕ → Option (List ℕ))
     → List (Bor (List ℕ)) → Option (List ℕ) → Option (List ℕ) → Type 0
 ChecksFiles listed json version holds paths old new =
     (stack : List (List Insn)) × (files : List Data) × HoldStack holds paths stack
-    × HasFiles json holds Filter paths files × WritesCheck listed json version files stack old new
+    × HasFiles json holds Filter paths files
+    × ((text : List ℕ) × IsCheckOutput listed json version files stack text × Appends old new text)
 
 -- `eval`: the files at the paths are read, and what their stack answers to the input is written
 abbrev pub AnswersFiles : Input → Manner → (version : List ℕ) → (List ℕ → Option (List ℕ)) → List (Bor (List ℕ))
     → List NamesData → Option (List ℕ) → Option (List ℕ) → Type 0
 AnswersFiles input how version holds paths names old new =
     (stack : List (List Insn)) × (files : List Data) × HoldStack holds paths stack
-    × HasFiles how.json holds Filter paths files × WritesAnswer version files stack input how names old new
+    × HasFiles how.json holds Filter paths files
+    × ((answer : Answer) × Answers stack input answer
+    × Appends old new (eval_output how.traced how.brief how.json version files names stack input answer))
 
 -- why `check` is refused
 abbrev pub RefusesCheck : (List ℕ → Option (List ℕ)) → List (Bor (List ℕ)) → Fault → Type 0

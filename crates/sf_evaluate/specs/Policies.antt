@@ -1,14 +1,6 @@
 -- The policy files of an audit.
 use Rattle.std.specs.Prelude.{◌≡◌, ◌⊎◌, ℕ, List, Option, Some, None, Ok, Err}
-use Rattle.std.specs.Borrow.{Bor}
-use Rattle.std.specs.List.{flat_map}
-use Rattle.std.specs.Str.{IsUtf8}
-use Rattle.toml.specs.Data.{Members}
-use Rattle.toml.specs.Parse.{parse_document}
-use Rattle.sf_question.specs.QuestionData.{QuestionData}
-use Rattle.sf_stack.specs.declared.fault.Fault.{Fault}
-use Rattle.sf_stack.specs.declared.fault.Fault.TheVariants.{Memory, Read, Syntax}
-use Rattle.sf_policy.specs.Policies.{policy_of}
+use Rattle.sf_evaluate.specs.Common.{Bor, flat_map, IsUtf8, Members, parse_document, QuestionData, Fault, Memory, Read, Syntax, policy_of}
 use Rattle.sf_evaluate.specs.Files.{AreKnownBytes, HasPath, HasUnknown}
 use Rattle.sf_evaluate.specs.Pairs.{Pairwise}
 
@@ -30,10 +22,6 @@ RefusesPolicy bytes fault =
 abbrev pub RefusesPolicyFile : Option (List ℕ) → Fault → Type 0
 RefusesPolicyFile known fault = (bytes : List ℕ) × AreKnownBytes known bytes × RefusesPolicy bytes fault
 
--- the files at the paths are policies with these questions, path by path
-abbrev pub ArePolicyFiles : (List ℕ → Option (List ℕ)) → List (Bor (List ℕ)) → List (List QuestionData) → Type 0
-ArePolicyFiles holds paths files = Pairwise (λ path asked. IsPolicyFile (holds path.now) asked) paths files
-
 -- the questions of policies, one policy after the other
 abbrev pub all_questions : List (List QuestionData) → List QuestionData
 all_questions files = flat_map (λ (asked : List QuestionData). asked) files
@@ -42,7 +30,7 @@ all_questions files = flat_map (λ (asked : List QuestionData). asked) files
 pub record AreAsked (holds : List ℕ → Option (List ℕ)) (paths : List (Bor (List ℕ)))
     (questions : List QuestionData) : Type 0 where
   pub files : List (List QuestionData)
-  pub read : ArePolicyFiles holds paths files
+  pub read : Pairwise (λ path asked. IsPolicyFile (holds path.now) asked) paths files
   pub all : questions ≡ all_questions files
 
 -- Why policy files are refused: one whose bytes aren't known can't be read; memory ran out; or one is no policy.

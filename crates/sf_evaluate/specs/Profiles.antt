@@ -1,27 +1,10 @@
 -- What `profile` reads and writes.
 use Rattle.std.specs.Prelude.{◌≡◌, ◌⊎◌, Bool, true, false, ◌&&◌, if◌then◌else◌, List, [], ◌∷◌, Option, Some, None, codes, is_some, map, string_bytes}
-use Rattle.std.specs.Borrow.{Bor}
-use Rattle.std.specs.Io.KnownBytes.{Appends}
-use Rattle.std.specs.List.{list_all, list_any}
-use Rattle.std.specs.Str.{bytes_eq}
-use Rattle.clap.specs.Words.{Row, Text, one_of}
-use Rattle.sf_command_line.specs.Options.{IsSwitch, paths_of, text_of}
-use Rattle.sf_profile.specs.Filters.{IsRefusedText, MakesFilterOf}
-use Rattle.sf_profile.specs.Notes.{AreNotesOfText}
-use Rattle.sf_profile.specs.Profiles.{version_of}
-use Rattle.sf_profile.specs.Settings.{calls_of_names, set_of_names}
+use Rattle.sf_evaluate.specs.Common.{Bor, Appends, list_all, list_any, bytes_eq, Row, Text, one_of, IsSwitch, paths_of, text_of, IsRefusedText, MakesFilterOf, AreNotesOfText, version_of, calls_of_names, set_of_names, CallSet, X64, I386, Aarch64, Arm, Reading, Strictest, Mildest, First, Calls, Settings, NamesData, Profile, Other}
 use Rattle.sf_profile.specs.declared.fault.Fault.{Fault as ProfileFault}
 use Rattle.sf_profile.specs.declared.fault.Fault.TheVariants.{Set as UnknownSet}
-use Rattle.sf_profile.specs.declared.rules.CallSet.{CallSet}
-use Rattle.sf_profile.specs.declared.rules.CallSet.TheVariants.{X64, I386, Aarch64, Arm}
-use Rattle.sf_profile.specs.declared.rules.Reading.{Reading}
-use Rattle.sf_profile.specs.declared.rules.Reading.TheVariants.{Strictest, Mildest, First}
-use Rattle.sf_profile.specs.declared.settings.Calls.{Calls}
-use Rattle.sf_profile.specs.declared.settings.Settings.{Settings}
-use Rattle.sf_names.specs.Names.{NamesData}
 use Rattle.sf_stack.specs.declared.fault.Fault.TheVariants as faults
 use Rattle.sf_evaluate.specs.declared.fault.Fault.{Fault}
-use Rattle.sf_evaluate.specs.declared.fault.Fault.TheVariants.{Profile, Other}
 use Rattle.sf_evaluate.specs.Asking.{AreNamesPaths}
 use Rattle.sf_evaluate.specs.Faults.{IsOther, of_profile}
 use Rattle.sf_evaluate.specs.Files.{AreKnownBytes}

@@ -1,13 +1,7 @@
 -- The calls that `list` and `compare` are asked to tell one by one, which rows of a comparison, and the digest of rows.
 use Rattle.std.specs.Prelude.{Bool, true, ◌&&◌, ◌||◌, ◌==◌, not, List, [], codes, count_by, is_some, Option, option_map}
-use Rattle.std.specs.List.{list_all, list_any}
-use Rattle.std.specs.Option.{option_map_or}
-use Rattle.std.specs.Str.{bytes_eq}
-use Rattle.clap.specs.Words.{Row, Text, first_of}
-use Rattle.sf_calls.specs.Numbers.{comma_parts}
-use Rattle.sf_command_line.specs.Options.{text_of}
+use Rattle.sf_evaluate.specs.Common.{list_all, list_any, option_map_or, bytes_eq, Row, Text, first_of, comma_parts, text_of, NamesData, is_call_name, number_of_call}
 use Rattle.sf_evaluate.specs.Asking.{has_file_of_names, is_given}
-use Rattle.sf_names.specs.Names.{NamesData, is_call_name, number_of_call}
 
 -- the names in a text, with commas between them; none where it is empty
 abbrev pub names_in_text : Text → List Text
@@ -36,14 +30,11 @@ is_relation text = bytes_eq text (codes "looser") ||
 abbrev pub is_switched_on : Text → List Row → Bool
 is_switched_on name rows = bytes_eq (text_of name rows) (codes "true")
 
--- what is said of the rows of a comparison needs rows
-abbrev pub has_rows_if_needed : List Row → Bool
-has_rows_if_needed rows =
-    is_switched_on (codes "rows") rows || not (is_given (codes "calls") rows || is_given (codes "only") rows)
-
 -- what is said of the rows of a comparison needs rows, and names a relation
 abbrev pub rows_fit : List Row → Bool
-rows_fit rows = has_rows_if_needed rows && option_map_or is_relation (first_of (codes "only") rows) true
+rows_fit rows =
+    (is_switched_on (codes "rows") rows || not (is_given (codes "calls") rows || is_given (codes "only") rows))
+    && option_map_or is_relation (first_of (codes "only") rows) true
 
 -- a digest is that of all rows, each by itself: it goes without names, calls and JSON
 abbrev pub digest_fits : List Row → Bool

@@ -5,20 +5,16 @@ use sf_names::Names;
 use sf_question::Question;
 use std::alloc::AllocError;
 
-/// Whether a question asks about a single architecture, and no set is of it. A wider range is taken to be meant.
-fn is_strange(question: &Question, sets: &[Names]) -> bool {
-    let (low, high) = question.range(1);
-    low == high && !sets.iter().any(|names| names.arch() == low)
-}
-
-/// Adds a warning about the first strange question, with its number, from 1, and its name.
+/// Adds a warning about the first question that asks about a single architecture of which no set is, with its number,
+/// from 1, and its name. A wider range is taken to be meant.
 fn push_warning(
     text: &mut String,
     questions: &[Question],
     sets: &[Names],
 ) -> Result<(), AllocError> {
     for (place, question) in questions.iter().enumerate() {
-        if is_strange(question, sets) {
+        let (low, high) = question.range(1);
+        if low == high && !sets.iter().any(|names| names.arch() == low) {
             let (number, name) = (place.saturating_add(1), question.name());
             return write!(
                 text,

@@ -1,7 +1,5 @@
 //! What `--explain-errors` shows of a fault under its line. It is for a person: contracts say only when it may be
 //! shown.
-//!
-//! Functions that add lines are called only where they apply, and fail only where an allocation is or was refused.
 
 mod comments;
 mod hints;
@@ -21,7 +19,7 @@ use crate::words::is_given;
 use clap::ArgMatches;
 use hints::{Hint, INPUT, hint_of_kind, hint_of_read, hint_of_refusal, is_at_front};
 pub(crate) use kinds::{Kind, bytes_of_text, kind_of};
-use meanings::{meaning_of, meaning_of_syntax};
+use meanings::meaning_of;
 use places::position_of;
 pub(crate) use places::{Mark, marks_of_questions};
 use policies::Page;
@@ -92,13 +90,6 @@ impl Notes {
         }
     }
 
-    /// The file of names that has the set at `place` first, and how many sets it has. Both places count from 0.
-    pub(crate) fn file_of_set(&self, place: usize) -> Option<(usize, usize)> {
-        let file = self.sets.iter().position(|set| place < set.1)?;
-        let set = self.sets.get(file)?;
-        Some((file, set.0))
-    }
-
     /// The questions that were read; or the notes keep the refusal, and its fault is the error.
     pub fn take_refusal(
         &mut self,
@@ -143,31 +134,22 @@ impl Notes {
     }
 }
 
-/// Adds the line of a file that can't be read, and the reason, unless it is empty.
-fn push_unread(text: &mut String, path: &str, reason: &str) -> Result<(), AllocError> {
-    if reason.is_empty() {
-        return write!(text, "file {path:?}\n");
+/// Adds the line that says why no input is spelled: by the first character of the text of `--input`, counted from 1,
+/// that is no hexadecimal digit, or by the number of its digits; or without this option by the number of a call that is
+/// too wide, behind `--args`, else `--nr`, else `--arch`.
+fn push_misspelled(text: &mut String, found: &ArgMatches<'_>) -> Result<(), AllocError> {
+    if let Some(input) = found.get_str("input") {
+        return match input.chars().position(|digit| !digit.is_ascii_hexdigit()) {
+            Some(place) => {
+                let number = place.saturating_add(1);
+                write!(text, "character {number} is no hexadecimal digit\n")
+            }
+            None => {
+                let digits = input.len();
+                write!(text, "digits {digits}, where 128 are wanted\n")
+            }
+        };
     }
-    write!(text, "file {path:?}: {reason}\n")
-}
-
-/// Adds the line that says why a text spells no input: by its first character, counted from 1, that is no hexadecimal
-/// digit, or by the number of its digits.
-fn push_input(text: &mut String, input: &str) -> Result<(), AllocError> {
-    match input.chars().position(|digit| !digit.is_ascii_hexdigit()) {
-        Some(place) => {
-            let number = place.saturating_add(1);
-            write!(text, "character {number} is no hexadecimal digit\n")
-        }
-        None => {
-            let digits = input.len();
-            write!(text, "digits {digits}, where 128 are wanted\n")
-        }
-    }
-}
-
-/// Adds the line that says which number of a call is too wide: behind `--args`, else `--nr`, else `--arch`.
-fn push_wide(text: &mut String, found: &ArgMatches<'_>) -> Result<(), AllocError> {
     let (args, nr) = (text_of(found, "args"), text_of(found, "nr"));
     if read_arguments(args).is_err() {
         return write!(text, "args {args:?}: more than 64 bits\n");
@@ -220,7 +202,6 @@ impl Case<'_, '_> {
         }
     }
 
-    /// Adds the lines of a file that failed.
     fn push_file(
         &self,
         text: &mut String,
@@ -229,7 +210,12 @@ impl Case<'_, '_> {
     ) -> Result<(), AllocError> {
         let (name, path) = (file.role.name(), file.path.as_str());
         if *fault == Fault::Read {
-            return push_unread(text, path, self.reason);
+            let reason = self.reason;
+            write!(text, "file {path:?}")?;
+            if !reason.is_empty() {
+                write!(text, ": {reason}")?;
+            }
+            return text.push_str("\n");
         }
         if let Some(filter) = filter_of(fault) {
             return write!(text, "filter {filter} {path:?}\n");
@@ -281,17 +267,21 @@ impl Case<'_, '_> {
             return self.push_file(text, fault, file);
         }
         match fault {
-            Fault::Input => match self.found.get_str("input") {
-                Some(input) => push_input(text, input),
-                None => push_wide(text, self.found),
-            },
+            Fault::Input => push_misspelled(text, self.found),
             Fault::UnknownName => self.push_unknown(text),
             _ => Ok(()),
         }
     }
 
-    /// The hint at what may have been meant by a file that failed.
-    fn hint_of_file(&self, fault: &Fault, file: &FileRead) -> Result<Option<Hint>, AllocError> {
+    /// The hint at what may have been meant by what is refused with this fault.
+    fn hint_of(&self, fault: &Fault) -> Result<Option<Hint>, AllocError> {
+        let file = match self.file_of(fault) {
+            Some(file) => file,
+            None if *fault == Fault::Input && is_given(self.found, "input") => {
+                return Ok(Some(Hint::Sentence(INPUT)));
+            }
+            None => return Ok(None),
+        };
         if *fault == Fault::Read {
             return Ok(hint_of_read(file, self.reason));
         }
@@ -307,27 +297,16 @@ impl Case<'_, '_> {
         }
     }
 
-    /// The hint at what may have been meant by what is refused with this fault.
-    fn hint_of(&self, fault: &Fault) -> Result<Option<Hint>, AllocError> {
-        match self.file_of(fault) {
-            Some(file) => self.hint_of_file(fault, file),
-            None if *fault == Fault::Input && is_given(self.found, "input") => {
-                Ok(Some(Hint::Sentence(INPUT)))
-            }
-            None => Ok(None),
-        }
-    }
-
     /// The lines that explain a fault: where it lies, what it means, and a hint where there is one.
     fn fault_text(&self, fault: &Fault) -> Result<String, AllocError> {
         let mut text = String::new(self.alloc);
         self.push_place(&mut text, fault)?;
+        let role = self.notes.last.as_ref().map(|file| file.role);
         let meaning = match fault {
-            Fault::Syntax => meaning_of_syntax(&self.notes.last),
             Fault::Input if !is_given(self.found, "input") => {
                 "a number with too many bits for its place"
             }
-            _ => meaning_of(fault),
+            _ => meaning_of(fault, role),
         };
         write!(text, "{meaning}\n")?;
         if let Some(hint) = self.hint_of(fault)? {

@@ -20,8 +20,8 @@ pub use explaining::Notes;
 pub use fault::Fault;
 pub use files::{
     FileRead, FileRole, Files, INSTALLED_GROUPS, Identity, MOST_BYTES, Policies, accepted_in,
-    all_questions_in, audit_words_fit, control_in, groups_in, identified, join_documents,
-    read_needed_names, read_stack, read_stacks, wants_summary,
+    all_questions_in, audit_words_fit, control_in, groups_in, identified, is_switched_on,
+    join_documents, read_needed_names, read_stack, read_stacks, wants_summary,
 };
 pub use profiling::profile;
 pub use telling::{tell, tell_fault, warn};

@@ -25,38 +25,9 @@ use std::io::Write;
 
 const MOST_RULES: usize = 3;
 
-/// Adds the line that warns of names in a profile that are passed over, if there are any.
-fn push_unknown_names(
-    alloc: Global,
-    text: &mut String,
-    settings: &Settings,
-    bytes: &[u8],
-) -> Result<(), AllocError> {
-    let names = unknown_names(alloc, settings, bytes).map_err(|_| AllocError)?;
-    if names.is_empty() {
-        return Ok(());
-    }
-    write!(text, "warning: no file of names has{names}\n")
-}
-
-/// Adds a line for each of these rules, whose comparison asks for a bit outside its mask; of more than `MOST_RULES`,
-/// the last line tells how many more there are.
-fn push_loose(text: &mut String, rules: &[usize]) -> Result<(), AllocError> {
-    for rule in rules.iter().take(MOST_RULES) {
-        write!(
-            text,
-            "warning: rule {rule}: SCMP_CMP_MASKED_EQ has a bit of valueTwo outside its mask: it counts only on the mask\n"
-        )?;
-    }
-    match rules.len().saturating_sub(MOST_RULES) {
-        0 => Ok(()),
-        1 => text.push_str("warning: .. and 1 rule more\n"),
-        more => write!(text, "warning: .. and {more} rules more\n"),
-    }
-}
-
 /// The lines that warn of a profile: of names that are passed over, unless notes, which have them, are written; of
-/// calls that fail with the error number 0; and of comparisons under a mask.
+/// calls that fail with the error number 0; and of rules whose comparison asks for a bit outside its mask. Of more than
+/// `MOST_RULES` of these, the last line tells how many more there are.
 fn warnings_of(
     alloc: Global,
     settings: &Settings,
@@ -65,12 +36,25 @@ fn warnings_of(
 ) -> Result<String, AllocError> {
     let mut text = String::new(alloc);
     if !wants_notes {
-        push_unknown_names(alloc, &mut text, settings, bytes)?;
+        let names = unknown_names(alloc, settings, bytes).map_err(|_| AllocError)?;
+        if !names.is_empty() {
+            write!(text, "warning: no file of names has{names}\n")?;
+        }
     }
     let calls = zero_errors(alloc, settings, bytes).map_err(|_| AllocError)?;
     push_zero_errors(&mut text, &calls)?;
     let rules = loose_masks(alloc, settings, bytes).map_err(|_| AllocError)?;
-    push_loose(&mut text, &rules)?;
+    for rule in rules.iter().take(MOST_RULES) {
+        write!(
+            text,
+            "warning: rule {rule}: SCMP_CMP_MASKED_EQ has a bit of valueTwo outside its mask: it counts only on the mask\n"
+        )?;
+    }
+    match rules.len().saturating_sub(MOST_RULES) {
+        0 => {}
+        1 => text.push_str("warning: .. and 1 rule more\n")?,
+        more => write!(text, "warning: .. and {more} rules more\n")?,
+    }
     Ok(text)
 }
 
@@ -126,19 +110,6 @@ fn read_settings<F: Files>(
     Ok(settings_of(alloc, found, calls)?)
 }
 
-/// Keeps what `warnings_of` gives, unless `--quiet` is given.
-fn keep_warnings(
-    alloc: Global,
-    found: &ArgMatches<'_>,
-    settings: &Settings,
-    bytes: &[u8],
-    notes: &mut Notes,
-) {
-    if !wants_quiet(found) {
-        notes.warnings = warnings_of(alloc, settings, wants_notes(found), bytes);
-    }
-}
-
 /// Keeps for which key the profile of these bytes is refused with this fault, and why; or that no file failed.
 fn keep_refused(
     alloc: Global,
@@ -189,10 +160,13 @@ pub fn profile<F: Files, O: Write>(
         files,
         notes,
     )?;
-    match write_of(alloc, &settings, wants_notes(found), &bytes, out) {
+    let with_notes = wants_notes(found);
+    match write_of(alloc, &settings, with_notes, &bytes, out) {
         Ok(()) => {
             notes.last = None;
-            keep_warnings(alloc, found, &settings, &bytes, notes);
+            if !wants_quiet(found) {
+                notes.warnings = warnings_of(alloc, &settings, with_notes, &bytes);
+            }
             Ok(0)
         }
         Err(fault) => {

@@ -34,23 +34,15 @@ fn status_of(fault: &Fault) -> u8
 }
 
 /// The line of a fault: `error`, its number, its name and its place. That of `TooLarge` and `TooManyRows` is a
-/// sentence.
-fn line_of(fault: &Fault) -> InlineText<LINE> {
-    if fault.number() == TOO_LARGE {
-        InlineText::of(format_args!("{fault}\n"))
-    } else {
-        InlineText::of(format_args!("error {fault}\n"))
-    }
-}
-
-/// The line of a fault in the policy that `policy` says, such as `policy 2` or `control`. It stands, if it isn't empty,
-/// before the word `question`, or at the end of the line.
-fn line_in(fault: &Fault, policy: &str) -> InlineText<LINE> {
-    if policy.is_empty() {
-        return line_of(fault);
-    }
+/// sentence. `policy` says in which policy, such as `policy 2` or `control`: this stands, if it isn't empty, before the
+/// word `question`, or at the end of the line.
+fn line_of(fault: &Fault, policy: &str) -> InlineText<LINE> {
     let line: InlineText<LINE> = InlineText::of(format_args!("{fault}"));
     match line.as_str().split_once(" question ") {
+        _ if policy.is_empty() && fault.number() == TOO_LARGE => {
+            InlineText::of(format_args!("{fault}\n"))
+        }
+        _ if policy.is_empty() => InlineText::of(format_args!("error {fault}\n")),
         Some((name, question)) => {
             InlineText::of(format_args!("error {name} {policy} question {question}\n"))
         }
@@ -58,21 +50,14 @@ fn line_in(fault: &Fault, policy: &str) -> InlineText<LINE> {
     }
 }
 
-/// Writes a fault's line to standard error, and gives its exit status. One `write_all` takes the whole line, so that it
-/// stays whole beside the lines of other programs.
-fn tell_line<E: Write>(line: &InlineText<LINE>, fault: &Fault, err: &mut E) -> u8
-    ensures { result ≡ fault_status (fault_number fault.now) }
-{
-    let _ = err.write_all(line.as_str().as_bytes());
-    status_of(fault)
-}
-
 /// Writes the line of a fault to standard error, and gives its exit status. Nothing is allocated, since memory may have
-/// run out.
+/// run out. One `write_all` takes the whole line, so that it stays whole beside the lines of other programs.
 pub fn tell_fault<E: Write>(fault: &Fault, err: &mut E) -> u8
     ensures { result ≡ fault_status (fault_number fault.now) }
 {
-    tell_line(&line_of(fault), fault, err)
+    let line = line_of(fault, "");
+    let _ = err.write_all(line.as_str().as_bytes());
+    status_of(fault)
 }
 
 fn with_more(alloc: Global, line: &str, more: &str) -> Result<String, AllocError>
@@ -88,14 +73,15 @@ fn with_more(alloc: Global, line: &str, more: &str) -> Result<String, AllocError
 pub fn tell<E: Write>(alloc: Global, fault: &Fault, notes: &Notes, err: &mut E) -> u8
     ensures { result ≡ fault_status (fault_number fault.now) }
 {
-    let line = line_in(fault, notes.which.as_str());
+    let line = line_of(fault, notes.which.as_str());
     if let Some(more) = &notes.explanation {
         if let Ok(text) = with_more(alloc, line.as_str(), more.as_str()) {
             let _ = err.write_all(text.as_bytes());
             return status_of(fault);
         }
     }
-    tell_line(&line, fault, err)
+    let _ = err.write_all(line.as_str().as_bytes());
+    status_of(fault)
 }
 
 fn is_quiet(matches: &ArgMatches<'_>) -> bool

@@ -1,5 +1,5 @@
 -- What words say, seen as texts and not as borrows of texts.
-use Rattle.sf_evaluate.proofs.Common.{◌≡◌, ◌∙◌, ◌&&◌, Bool, true, false, List, map, refl, ap, sym, codes, string_bytes, list_all, is_some, unwrap_or, Row, Text, one_of, IsSwitch, paths_of, text_of, version_of, X64, Strictest, Settings, AreSettings, is_capability, is_kernel_or_none, machine_named, reading_named, profile_words_fit}
+use Rattle.sf_evaluate.proofs.Common.{◌≡◌, ◌&&◌, Bool, true, false, List, map, refl, codes, string_bytes, is_some, unwrap_or, Row, Text, one_of, IsSwitch, paths_of, text_of, version_of, X64, Strictest, Settings, AreSettings, machine_named, reading_named, profile_words_fit, arith, common_steps}
 use Rattle.std.specs.Prelude.{Option, Some, None}
 
 -- what is there, or another thing
@@ -21,17 +21,4 @@ pub settings_said : (rows : List Row) (s : Settings) (machine conflicts kernel :
     → map string_bytes s.caps.items ≡ paths_of (codes "cap") rows → IsSwitch (one_of (codes "newer") rows) s.newer
     → IsSwitch (one_of (codes "skip-unknown") rows) s.skip_unknown → AreSettings rows s
 settings_said rows s machine conflicts kernel fits m m_is r r_is k k_is caps newer skip =
-    let hold = first_hold (is_some (machine_named (text_of (codes "machine") rows)))
-    (is_some (reading_named (text_of (codes "conflicts") rows))) (is_kernel_or_none (text_of (codes "kernel") rows))
-    (list_all is_capability (paths_of (codes "cap") rows)) fits in
-    record {
-      machine = some_or (machine_named (text_of (codes "machine") rows)) X64 hold.0
-          ∙ ap Some (sym (m_is ∙ ap (λ w. unwrap_or (machine_named w) X64) m));
-      caps = caps;
-      kernel = k_is ∙ ap version_of k;
-      conflicts = some_or (reading_named (text_of (codes "conflicts") rows)) Strictest hold.1
-          ∙ ap Some (sym (r_is ∙ ap (λ w. unwrap_or (reading_named w) Strictest) r));
-      newer = newer;
-      skip_unknown = skip;
-      fits = fits;
-    }
+    grind (arith, common_steps, some_or, first_hold)

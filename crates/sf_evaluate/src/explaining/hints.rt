@@ -124,25 +124,21 @@ fn is_key_of_question(key: &str) -> bool {
     key == "name" || key == "actions" || WORD_KEYS.iter().any(|known| *known == key)
 }
 
-/// The key of a question that is meant by `key`. Capitals count as small letters.
-fn key_meant_by(key: &str) -> Option<&'static str> {
-    for (written, meant) in MEANT {
-        if key.eq_ignore_ascii_case(written) {
-            return Some(meant);
-        }
-    }
-    WORD_KEYS
-        .into_iter()
-        .find(|known| key.eq_ignore_ascii_case(*known))
-}
-
+/// The hint at the key of a question that is meant by `key`. Capitals count as small letters.
 fn meant_by(key: &str) -> Option<Hint> {
     for halved in HALVED {
         if key.eq_ignore_ascii_case(halved) {
             return Some(Hint::Halved(halved));
         }
     }
-    key_meant_by(key).map(|meant| Hint::Meant(meant))
+    for (written, meant) in MEANT {
+        if key.eq_ignore_ascii_case(written) {
+            return Some(Hint::Meant(meant));
+        }
+    }
+    let mut keys = WORD_KEYS.into_iter();
+    let known = keys.find(|known| key.eq_ignore_ascii_case(*known))?;
+    Some(Hint::Meant(known))
 }
 
 /// The hint for a key that is refused at the top of a policy. `key` is `question` where the questions are missing or
@@ -160,25 +156,22 @@ fn hint_of_top_key(key: &str) -> Hint {
 
 /// The sentence of the hint for a value of a word that is refused with the fault `Key`.
 fn sentence_of_word(refusal: &Refusal, key: &str, value: &Value) -> &'static str {
-    match value {
-        Value::Table(_) if has_version_1(refusal) => {
+    let version = match &refusal.read {
+        Ok(tree) => tree.get("version"),
+        Err(_) => None,
+    };
+    match (value, version) {
+        (Value::Table(_), Some(Value::Integer(1))) => {
             "version 2 has masks: begin the policy with `version = 2`"
         }
-        Value::Table(_) => {
+        (Value::Table(_), _) => {
             "a table has `mask` and `value`, and if you want `low` and `high`, all of them whole numbers"
         }
-        Value::Array(_) => "an array has two whole numbers, the lowest and the highest",
-        Value::String(_) if key == "nr" => {
+        (Value::Array(_), _) => "an array has two whole numbers, the lowest and the highest",
+        (Value::String(_), _) if key == "nr" => {
             "the number of the call is wanted: the names and their numbers stand in policies/names"
         }
         _ => "a whole number is wanted: leave a word out that may have any value",
-    }
-}
-
-fn has_version_1(refusal: &Refusal) -> bool {
-    match &refusal.read {
-        Ok(tree) => matches!(tree.get("version"), Some(Value::Integer(1))),
-        Err(_) => false,
     }
 }
 
@@ -195,31 +188,24 @@ fn hint_of_question_key(refusal: &Refusal, key: &str, value: &Value) -> Hint {
     }
 }
 
-/// The hint for the value of a word that is refused with the fault `Range`. A single number is negative then, or has
-/// more than 32 bits. `nr` and `arch` are no halves of a longer number.
-fn hint_of_range(key: &str, value: &Value) -> Option<Hint> {
-    match value {
-        Value::Integer(number) if *number < 0 => Some(Hint::Sentence(
-            "a negative number is written by its 32 bits, as 0xffffffff for -1",
-        )),
-        Value::Integer(_) if key != "nr" && key != "arch" => Some(Hint::Sentence(
-            "a number of 64 bits is asked for by its two halves, at the keys with `_lo` and `_hi`",
-        )),
-        _ => None,
-    }
-}
-
-/// The hint for a policy that is refused at this key with this value.
+/// The hint for a policy that is refused at this key with this value. A single number that is refused with the fault
+/// `Range` is negative, or has more than 32 bits. `nr` and `arch` are no halves of a longer number.
 fn hint_of_key(refusal: &Refusal, key: &str, value: &Value) -> Option<Hint> {
-    match refusal.fault {
-        Fault::TopKey => Some(hint_of_top_key(key)),
-        Fault::Key { .. } => Some(hint_of_question_key(refusal, key, value)),
-        Fault::Range { .. } => hint_of_range(key, value),
-        Fault::Actions { .. } => Some(Hint::Sentence(
-            "the actions are KILL_PROCESS, KILL_THREAD, TRAP, ERRNO, USER_NOTIF, TRACE, LOG, ALLOW and OTHER",
-        )),
-        _ => None,
-    }
+    let sentence = match (refusal.fault, value) {
+        (Fault::TopKey, _) => return Some(hint_of_top_key(key)),
+        (Fault::Key { .. }, _) => return Some(hint_of_question_key(refusal, key, value)),
+        (Fault::Range { .. }, Value::Integer(number)) if *number < 0 => {
+            "a negative number is written by its 32 bits, as 0xffffffff for -1"
+        }
+        (Fault::Range { .. }, Value::Integer(_)) if key != "nr" && key != "arch" => {
+            "a number of 64 bits is asked for by its two halves, at the keys with `_lo` and `_hi`"
+        }
+        (Fault::Actions { .. }, _) => {
+            "the actions are KILL_PROCESS, KILL_THREAD, TRAP, ERRNO, USER_NOTIF, TRACE, LOG, ALLOW and OTHER"
+        }
+        _ => return None,
+    };
+    Some(Hint::Sentence(sentence))
 }
 
 /// The hint for a policy that is refused, by its fault.
@@ -234,11 +220,6 @@ pub(crate) fn hint_of_refusal(
         return Ok(Some(hint_of_top_key("question")));
     }
     let key = refusal.key(alloc)?;
-    match refusal.table() {
-        Some(table) => match table.get(key) {
-            Some(value) => Ok(hint_of_key(refusal, key, value)),
-            None => Ok(None),
-        },
-        None => Ok(None),
-    }
+    let value = refusal.table().and_then(|table| table.get(key));
+    Ok(value.and_then(|value| hint_of_key(refusal, key, value)))
 }

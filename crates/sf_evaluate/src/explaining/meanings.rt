@@ -1,9 +1,10 @@
 //! What a fault means, in words for a person.
 
-use crate::files::{FileRead, FileRole};
+use crate::files::FileRole;
 use sf_stack::Fault;
 
-pub(crate) fn meaning_of(fault: &Fault) -> &'static str {
+/// `role` is that of the file that failed, if one did.
+pub(crate) fn meaning_of(fault: &Fault, role: Option<FileRole>) -> &'static str {
     match fault {
         Fault::Ragged { .. } => "the length of the file is no multiple of 8",
         Fault::Empty { .. } => "the file is empty",
@@ -30,7 +31,14 @@ pub(crate) fn meaning_of(fault: &Fault) -> &'static str {
         Fault::Actions { .. } => "no action, or an unknown one",
         Fault::Name { .. } => "a name that isn't 1 to 64 printable bytes without spaces",
         Fault::Count => "no question, or more than 256",
-        Fault::Syntax => "the policy is no UTF-8 or no TOML",
+        Fault::Syntax => match role {
+            Some(FileRole::Names) => "the file of names is no UTF-8 or no TOML",
+            Some(FileRole::Accept) => "the file of questions that may be allowed is no UTF-8",
+            Some(FileRole::Groups) => {
+                "the file of groups is no UTF-8 or no TOML, or a group hasn't just name, title, why and questions"
+            }
+            _ => "the policy is no UTF-8 or no TOML",
+        },
         Fault::Input => "the input isn't 128 hexadecimal digits",
         Fault::Mask { .. } => "a value with a bit outside its mask",
         Fault::NamesKey => {
@@ -47,18 +55,6 @@ pub(crate) fn meaning_of(fault: &Fault) -> &'static str {
         Fault::Read => "a file can't be read, or has more than 1 MiB",
         Fault::Write => "standard output can't be written, or a signal interrupted that",
         Fault::Memory => "memory ran out",
-    }
-}
-
-/// What `Syntax` means for this file.
-pub(crate) fn meaning_of_syntax(file: &Option<FileRead>) -> &'static str {
-    match file.as_ref().map(|file| file.role) {
-        Some(FileRole::Names) => "the file of names is no UTF-8 or no TOML",
-        Some(FileRole::Accept) => "the file of questions that may be allowed is no UTF-8",
-        Some(FileRole::Groups) => {
-            "the file of groups is no UTF-8 or no TOML, or a group hasn't just name, title, why and questions"
-        }
-        _ => meaning_of(&Fault::Syntax),
     }
 }
 

@@ -58,13 +58,9 @@ fn reading_for<'a>(question: Option<usize>, key: Option<&'a str>) -> Reading<'a>
 }
 
 impl Reading<'_> {
-    /// Whether this key of the question that began last, or without a key that question itself, is looked for.
-    fn is_of_question(&self, key: Option<&str>) -> bool {
-        self.question == Some(self.questions) && self.key == key
-    }
-
-    fn is_at_top(&self, key: &str) -> bool {
-        self.question.is_none() && self.key == Some(key)
+    /// Whether this key of the question with this number, or without a number this key at the top, is looked for.
+    fn is_wanted(&self, question: Option<usize>, key: Option<&str>) -> bool {
+        self.question == question && self.key == key
     }
 
     /// Reads a key that stands before a value, and says whether it is looked for. Of a dotted key only the first part
@@ -72,9 +68,10 @@ impl Reading<'_> {
     fn take_key(&mut self, key: &Key) -> bool {
         if self.is_top && self.depth == 0 {
             self.depth_of_questions = if is_question(key) { Some(2) } else { None };
-            return self.is_at_top(part_of(key, 0));
+            return self.is_wanted(None, Some(part_of(key, 0)));
         }
-        self.depth_of_questions == Some(self.depth) && self.is_of_question(Some(part_of(key, 0)))
+        self.depth_of_questions == Some(self.depth)
+            && self.is_wanted(Some(self.questions), Some(part_of(key, 0)))
     }
 
     /// Reads the key of a header, `[key]`, or where `is_array` `[[key]]`, and says whether what is looked for stands
@@ -86,13 +83,14 @@ impl Reading<'_> {
             self.depth_of_questions = Some(0);
             return self.begin_question();
         }
-        self.is_at_top(part_of(key, 0))
-            || part_of(key, 0) == "question" && self.is_of_question(Some(part_of(key, 1)))
+        let (front, behind) = (part_of(key, 0), part_of(key, 1));
+        self.is_wanted(None, Some(front))
+            || front == "question" && self.is_wanted(Some(self.questions), Some(behind))
     }
 
     fn begin_question(&mut self) -> bool {
         self.questions = self.questions.saturating_add(1);
-        self.is_of_question(None)
+        self.is_wanted(Some(self.questions), None)
     }
 
     /// Reads an opening bracket, and says whether a question that is looked for begins there, as at each `{` in

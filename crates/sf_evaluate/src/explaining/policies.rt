@@ -5,7 +5,6 @@ use super::places::{line_of, position_of};
 use sf_policy::{MOST_QUESTIONS, Refusal};
 use sf_stack::Fault;
 use std::alloc::{AllocError, Global};
-use toml::de::Error;
 
 /// The most characters of a line, a name or a key that are shown.
 const MOST_CHARACTERS: usize = 160;
@@ -18,20 +17,6 @@ fn front_of(alloc: Global, text: &str) -> Result<(String, &'static str), AllocEr
     }
     let mark = if front.len() < text.len() { " .." } else { "" };
     Ok((front, mark))
-}
-
-/// Adds a character of a line: a blank for a control character, and as `\u{200b}` one that can't be seen by itself.
-fn push_character(text: &mut String, character: char) -> Result<(), AllocError> {
-    if character.is_control() {
-        return text.push(' ');
-    }
-    if character.is_ascii() {
-        return text.push(character);
-    }
-    for shown in character.escape_debug() {
-        text.push(shown)?;
-    }
-    Ok(())
 }
 
 /// A policy that is refused, and the text that gets what is shown of it.
@@ -50,14 +35,23 @@ impl Page<'_> {
         write!(self.text, "{front:?}{mark}\n")
     }
 
-    /// Adds `: ` and the text of the policy's line with this number, from 1, cut as by `front_of`.
+    /// Adds `: ` and the text of the policy's line with this number, from 1, cut as by `front_of`: with a blank for a
+    /// control character, and as `\u{200b}` one that can't be seen by itself.
     fn push_line(&mut self, number: usize) -> Result<(), AllocError> {
         let lines = &mut self.policy.lines();
         let line = lines.nth(number.saturating_sub(1)).unwrap_or("");
         let (front, mark) = front_of(self.alloc, line)?;
         self.text.push_str(": ")?;
         for character in front.chars() {
-            push_character(self.text, character)?;
+            if character.is_control() {
+                self.text.push(' ')?;
+            } else if character.is_ascii() {
+                self.text.push(character)?;
+            } else {
+                for shown in character.escape_debug() {
+                    self.text.push(shown)?;
+                }
+            }
         }
         write!(self.text, "{mark}\n")
     }
@@ -71,39 +65,32 @@ impl Page<'_> {
         self.push_line(number)
     }
 
-    /// Adds why the policy is no TOML, the line and the column of the error, and the text of this line. `hidden` is the
-    /// length in bytes of the byte order mark, which the place of `error` counts too.
-    fn push_syntax(&mut self, error: &Error, hidden: usize) -> Result<(), AllocError> {
-        let Some(span) = error.span() else {
-            return Err(AllocError);
-        };
-        let message = error.message();
-        let (line, column) = position_of(self.policy.as_bytes(), span.start.saturating_sub(hidden));
-        write!(self.text, "{message}\nline {line} column {column}")?;
-        self.push_line(line)
-    }
-
     /// Adds the key that is refused, and the line on which it stands, or that it is missing, and the line on which its
     /// question begins.
     fn push_key(&mut self, refusal: &Refusal) -> Result<(), AllocError> {
         let key = refusal.key(self.alloc)?;
-        let question = refusal.question();
-        if refusal.table().is_some_and(|table| table.contains_key(key)) {
-            self.text.push_str("key ")?;
-            self.push_quoted(key)?;
-            return self.push_place(question, Some(key));
-        }
-        self.text.push_str("no key ")?;
+        let is_there = refusal.table().is_some_and(|table| table.contains_key(key));
+        self.text
+            .push_str(if is_there { "key " } else { "no key " })?;
         self.push_quoted(key)?;
-        self.push_place(question, None)
+        let place = if is_there { Some(key) } else { None };
+        self.push_place(refusal.question(), place)
     }
 
-    /// Adds where the policy is refused, as far as that is known: where it is no TOML, by `push_syntax`; where it has
-    /// too many questions, by the first that is too many; else by the question that is refused, if one is, and by
-    /// `push_key`. `hidden` is as there.
+    /// Adds where the policy is refused, as far as that is known: where it is no TOML, by the reason, the line and the
+    /// column of the error, and the text of this line; where it has too many questions, by the first that is too many;
+    /// else by the question that is refused, if one is, and by `push_key`. `hidden` is the length in bytes of the byte
+    /// order mark, which the place of an error counts too.
     pub fn push_refusal(&mut self, refusal: &Refusal, hidden: usize) -> Result<(), AllocError> {
         if let Err(error) = &refusal.read {
-            return self.push_syntax(error, hidden);
+            let Some(span) = error.span() else {
+                return Err(AllocError);
+            };
+            let message = error.message();
+            let before = span.start.saturating_sub(hidden);
+            let (line, column) = position_of(self.policy.as_bytes(), before);
+            write!(self.text, "{message}\nline {line} column {column}")?;
+            return self.push_line(line);
         }
         let count = refusal.items().len();
         if refusal.fault == Fault::Count && MOST_QUESTIONS < count {

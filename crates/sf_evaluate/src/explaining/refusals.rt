@@ -16,13 +16,14 @@ impl Case<'_, '_> {
     /// Adds the line of the file of names that has the set `other`, and the line of this set where the file has
     /// several.
     fn push_unknown_set(&self, text: &mut String, other: &OtherSet) -> Result<(), AllocError> {
-        let Some((file, count)) = self.notes.file_of_set(other.place) else {
+        let sets = &self.notes.sets;
+        let Some(file) = sets.iter().position(|set| other.place < set.1) else {
             return Err(AllocError);
         };
         let paths = self.found.get_strs("names").unwrap_or(&[]);
         let path = paths.get(file).copied().unwrap_or("");
         write!(text, "names {path:?}\n")?;
-        if count > 1 {
+        if sets.get(file).is_some_and(|set| set.0 > 1) {
             let set = &other.name;
             write!(text, "set {set:?}\n")?;
         }
@@ -57,10 +58,8 @@ impl Case<'_, '_> {
             }
             Ok(None) => {
                 self.push_refused_profile(&mut text)?;
-                match &self.notes.last {
-                    Some(file) => hint_of_kind(file, false),
-                    None => None,
-                }
+                let file = self.notes.last.as_ref();
+                file.and_then(|file| hint_of_kind(file, false))
             }
             Err(_) => return Err(AllocError),
         };

@@ -1,13 +1,12 @@
 //! The files that say what a build expects of an audit.
 
-ghost use Rattle.std.specs.Prelude.{◌≡◌, ◌⊎◌, ℕ, List, None, Some, codes, map, option_map, string_bytes, IfOk, IfErr};
+ghost use Rattle.std.specs.Prelude.{◌≡◌, ◌⊎◌, ℕ, List, None, Some, map, option_map, string_bytes, IfOk, IfErr};
 ghost use Rattle.clap.specs.Words.{found_of, rows_of};
 ghost use Rattle.sf_policy.specs.Accepted.{AreAccepted};
 ghost use Rattle.sf_stack.specs.declared.fault.Fault.TheVariants.{Memory as MemoryFault};
-ghost use Rattle.sf_command_line.specs.Options.{paths_of};
 ghost use Rattle.sf_evaluate.specs.Failures.{IsGivenFile};
 ghost use Rattle.sf_evaluate.specs.declared.files.identity.FileRole.TheVariants.{Accept, Control};
-ghost use Rattle.sf_evaluate.specs.Expecting.{AreAcceptedIn, IsControl, RefusesAccepted, RefusesControl, RefusesNamed, audit_words_fit, control_fits, summary_fits, wants_no_report, wants_summary};
+ghost use Rattle.sf_evaluate.specs.Expecting.{AreAcceptedIn, IsControl, RefusesAccepted, RefusesControl, RefusesNamed, audit_words_fit, control_fits, wants_summary};
 ghost use Rattle.sf_evaluate.specs.Wanted.{is_switched_on};
 
 use super::questions::questions_in;
@@ -92,7 +91,7 @@ pub(crate) fn control_fits(found: &ArgMatches<'_>) -> bool
 }
 
 /// Whether the switch with this name, without dashes, is given.
-fn is_switched_on(found: &ArgMatches<'_>, name: &str) -> bool
+pub fn is_switched_on(found: &ArgMatches<'_>, name: &str) -> bool
     ensures { result ≡ is_switched_on name.now (rows_of (found_of found.now)) }
 {
     text_of(found, name) == "true"
@@ -105,26 +104,16 @@ pub fn wants_summary(found: &ArgMatches<'_>) -> bool
     is_switched_on(found, "summary") || is_switched_on(found, "summary-all")
 }
 
-fn wants_no_report(found: &ArgMatches<'_>) -> bool
-    ensures { result ≡ wants_no_report (rows_of (found_of found.now)) }
-{
-    !is_switched_on(found, "json")
-        && (!is_switched_on(found, "regions") && !is_switched_on(found, "why"))
-}
-
-fn summary_fits(found: &ArgMatches<'_>) -> bool
-    ensures { result ≡ summary_fits (rows_of (found_of found.now)) }
-{
-    if wants_summary(found) {
-        wants_no_report(found)
-    } else {
-        !is_given(found, "groups")
-    }
-}
-
 /// Whether the options of `audit` go together.
 pub fn audit_words_fit(found: &ArgMatches<'_>) -> bool
     ensures { result ≡ audit_words_fit (rows_of (found_of found.now)) }
 {
-    control_fits(found) && summary_fits(found)
+    if !control_fits(found) {
+        return false;
+    }
+    if wants_summary(found) {
+        return !is_switched_on(found, "json")
+            && (!is_switched_on(found, "regions") && !is_switched_on(found, "why"));
+    }
+    !is_given(found, "groups")
 }

@@ -1,6 +1,4 @@
 //! Words of the command line that don't fit together, in words for a person. No contract speaks of them.
-//!
-//! The functions that add lines are called only where something doesn't fit.
 
 use super::asking::is_given;
 use super::settings::wrong_word;
@@ -61,31 +59,29 @@ fn first_of(
     None
 }
 
-/// The first thing that doesn't fit where a call is asked for by its name.
-fn misfit_of_call<'a>(found: &ArgMatches<'a>) -> Option<Misfit<'a>> {
-    let (call, arch) = (text_of(found, "call"), text_of(found, "arch"));
-    if !is_call_name(call) {
+/// The first thing that doesn't fit where a call is asked for, by its name or else by its number.
+fn misfit_of_call<'a>(found: &ArgMatches<'a>, by_name: bool) -> Option<Misfit<'a>> {
+    let (call, nr, arch) = (
+        text_of(found, "call"),
+        text_of(found, "nr"),
+        text_of(found, "arch"),
+    );
+    if by_name && !is_call_name(call) {
         let taken = "1 to 64 letters, digits and _: --nr takes a number";
         return Some(Misfit::Value("--call <NAME>", call, taken));
     }
-    if !is_call_name(arch) {
-        let taken = "the name of a set of calls, such as x86_64";
-        return Some(Misfit::Value("--arch <SET>", arch, taken));
-    }
-    None
-}
-
-/// The first thing that doesn't fit where a call is asked for by its number.
-fn misfit_of_nr<'a>(found: &ArgMatches<'a>) -> Option<Misfit<'a>> {
-    let (nr, arch) = (text_of(found, "nr"), text_of(found, "arch"));
-    if !is_number(nr) {
+    if !by_name && !is_number(nr) {
         return Some(Misfit::Value("--nr <N>", nr, NUMBER));
     }
-    if !is_number(arch) && !is_call_name(arch) {
-        let taken = "the name of a set of calls, such as x86_64, or the number of an architecture";
-        return Some(Misfit::Value("--arch <SET>", arch, taken));
+    if is_call_name(arch) || (!by_name && is_number(arch)) {
+        return None;
     }
-    None
+    let taken = if by_name {
+        "the name of a set of calls, such as x86_64"
+    } else {
+        "the name of a set of calls, such as x86_64, or the number of an architecture"
+    };
+    Some(Misfit::Value("--arch <SET>", arch, taken))
 }
 
 fn first_misfit<'a>(found: &ArgMatches<'a>) -> Option<Misfit<'a>> {
@@ -108,43 +104,28 @@ fn first_misfit<'a>(found: &ArgMatches<'a>) -> Option<Misfit<'a>> {
             "one to six numbers with commas between them: decimal digits, or 0x and hexadecimal digits";
         return Some(Misfit::Value("--args <A,..>", args, taken));
     }
-    if is_given(found, "call") {
-        misfit_of_call(found)
-    } else {
-        misfit_of_nr(found)
-    }
-}
-
-/// What is wrong with the words of `audit`: the control, which is a policy that asks too, or the summary.
-fn misfit_of_audit<'a>(found: &ArgMatches<'a>) -> Misfit<'a> {
-    if !control_fits(found) {
-        return Misfit::Control(text_of(found, "control"));
-    }
-    Misfit::Sentence(if wants_summary(found) {
-        "a summary takes the place of a report: give it without --json, --regions and --why"
-    } else {
-        "--groups is for a summary: give --summary or --summary-all too"
-    })
-}
-
-/// What is wrong with the options about the rows of a comparison.
-fn misfit_of_rows<'a>(found: &ArgMatches<'a>) -> Misfit<'a> {
-    let only = found.get_str("only").unwrap_or("different");
-    if is_relation(only) {
-        return Misfit::Sentence("--calls and --only tell of rows: give --rows too");
-    }
-    Misfit::Value("--only <RELATION>", only, "looser, tighter, different")
+    misfit_of_call(found, is_given(found, "call"))
 }
 
 /// The first thing in the words of a subcommand that doesn't fit.
 fn misfit_in<'a>(name: &str, found: &ArgMatches<'a>) -> Option<Misfit<'a>> {
     match name {
-        "audit" => Some(misfit_of_audit(found)),
+        "audit" if !control_fits(found) => Some(Misfit::Control(text_of(found, "control"))),
+        "audit" => Some(Misfit::Sentence(if wants_summary(found) {
+            "a summary takes the place of a report: give it without --json, --regions and --why"
+        } else {
+            "--groups is for a summary: give --summary or --summary-all too"
+        })),
         "eval" => first_misfit(found),
         "profile" => wrong_word(found),
         _ if !calls_fit(found) => Some(misfit_of_calls(found)),
         _ if !digest_fits(found) => Some(Misfit::Sentence(DIGEST)),
-        _ => Some(misfit_of_rows(found)),
+        _ => Some(match found.get_str("only") {
+            Some(only) if !is_relation(only) => {
+                Misfit::Value("--only <RELATION>", only, "looser, tighter, different")
+            }
+            _ => Misfit::Sentence("--calls and --only tell of rows: give --rows too"),
+        }),
     }
 }
 

@@ -2,7 +2,7 @@
 
 ghost use Rattle.std.specs.Prelude.{◌≡◌};
 ghost use Rattle.clap.specs.Words.{found_of, rows_of};
-ghost use Rattle.sf_evaluate.specs.Asking.{has_file_of_names, lacks_names, names_a_set, needs_names};
+ghost use Rattle.sf_evaluate.specs.Asking.{has_file_of_names, lacks_names};
 
 use super::asking::is_given;
 use clap::ArgMatches;
@@ -15,21 +15,11 @@ pub(crate) fn has_names(found: &ArgMatches<'_>) -> bool
     !found.get_strs("names").unwrap_or(&[]).is_empty()
 }
 
-fn names_a_set(found: &ArgMatches<'_>) -> bool
-    ensures { result ≡ names_a_set (rows_of (found_of found.now)) }
-{
-    is_given(found, "arch") && !is_number(text_of(found, "arch"))
-}
-
-fn needs_names(found: &ArgMatches<'_>) -> bool
-    ensures { result ≡ needs_names (rows_of (found_of found.now)) }
-{
-    (is_given(found, "call") || is_given(found, "calls"))
-        || (is_given(found, "profile") || names_a_set(found))
-}
-
 pub(crate) fn lacks_names(found: &ArgMatches<'_>) -> bool
     ensures { result ≡ lacks_names (rows_of (found_of found.now)) }
 {
-    !has_names(found) && needs_names(found)
+    !has_names(found)
+        && ((is_given(found, "call") || is_given(found, "calls"))
+            || (is_given(found, "profile")
+                || (is_given(found, "arch") && !is_number(text_of(found, "arch")))))
 }

@@ -1,14 +1,13 @@
 //! The calls that `list` and `compare` are asked to show one by one, which rows `compare` is asked to show, and the
 //! digest of the rows of `list`.
 
-ghost use Rattle.std.specs.Prelude.{◌≡◌, ◌==◌, ◌&&◌, ◌⊎◌, IfErr, IfOk, None, codes, false, true, count_by, length, map, option_map, slice_get};
+ghost use Rattle.std.specs.Prelude.{◌≡◌, ◌==◌, ◌&&◌, ◌⊎◌, IfErr, IfOk, None, false, true, count_by, map, option_map};
 ghost use Rattle.std.specs.List.{list_all};
 ghost use Rattle.std.specs.Str.{bytes_eq};
-ghost use Rattle.std.specs.Option.{option_map_or};
-ghost use Rattle.clap.specs.Words.{first_of, found_of, rows_of};
+ghost use Rattle.clap.specs.Words.{found_of, rows_of};
 ghost use Rattle.sf_calls.specs.Numbers.{comma_parts};
 ghost use Rattle.sf_stack.specs.declared.fault.Fault.TheVariants.{Memory as MemoryFault, UnknownName as UnknownNameFault};
-ghost use Rattle.sf_evaluate.specs.Wanted.{are_known, calls_asked, calls_fit, digest_fits, has_rows_if_needed, is_known_call, is_wanted_once, is_relation, names_in_text, rows_fit};
+ghost use Rattle.sf_evaluate.specs.Wanted.{are_known, calls_asked, calls_fit, digest_fits, is_known_call, is_wanted_once, is_relation, names_in_text, rows_fit};
 
 use super::asking::is_given;
 use super::misfits::Misfit;
@@ -43,10 +42,7 @@ fn are_names(text: &str) -> bool
 pub fn calls_fit(found: &ArgMatches<'_>) -> bool
     ensures { result ≡ calls_fit (rows_of (found_of found.now)) }
 {
-    match given_text(found, "calls") {
-        Some(text) => are_names(text),
-        None => true,
-    }
+    given_text(found, "calls").is_none_or(|text| are_names(text))
 }
 
 pub(super) fn is_relation(word: &str) -> bool
@@ -55,28 +51,13 @@ pub(super) fn is_relation(word: &str) -> bool
     word == "looser" || word == "tighter" || word == "different"
 }
 
-fn only_fits(found: &ArgMatches<'_>) -> bool
-    ensures { result ≡ option_map_or is_relation
-        (first_of (codes "only") (rows_of (found_of found.now))) true }
-{
-    match given_text(found, "only") {
-        Some(word) => is_relation(word),
-        None => true,
-    }
-}
-
-fn has_rows_if_needed(found: &ArgMatches<'_>) -> bool
-    ensures { result ≡ has_rows_if_needed (rows_of (found_of found.now)) }
-{
-    text_of(found, "rows") == "true" || !(is_given(found, "calls") || is_given(found, "only"))
-}
-
 /// Whether the options of `compare` about rows fit: `--calls` and `--only` come only with `--rows`, and `--only` names
 /// a relation.
 pub fn rows_fit(found: &ArgMatches<'_>) -> bool
     ensures { result ≡ rows_fit (rows_of (found_of found.now)) }
 {
-    has_rows_if_needed(found) && only_fits(found)
+    (text_of(found, "rows") == "true" || !(is_given(found, "calls") || is_given(found, "only")))
+        && given_text(found, "only").is_none_or(|word| is_relation(word))
 }
 
 /// Whether `--digest`, if it is given, stands without `--names`, `--calls` and `--json`.
@@ -94,17 +75,6 @@ fn names_in_text<'a>(alloc: Global, text: &'a str) -> Result<Vec<&'a str>, Alloc
         return Ok(Vec::new(alloc));
     }
     text.split(',').collect(alloc)
-}
-
-fn calls_asked<'a>(alloc: Global, found: &ArgMatches<'a>) -> Result<Option<Vec<&'a str>>, Fault>
-    ensures asked { IfOk result (λ o. option_map (λ v. map (λ t. t.now) v.items) o
-        ≡ calls_asked (rows_of (found_of found.now))) }
-    ensures refused { IfErr result (λ e. e ≡ MemoryFault) }
-{
-    match given_text(found, "calls") {
-        Some(text) => Ok(Some(names_in_text(alloc, text)?)),
-        None => Ok(None),
-    }
 }
 
 fn is_known_call(sets: &[Names], name: &str) -> bool
@@ -129,13 +99,6 @@ fn are_known(sets: &[Names], calls: &Option<Vec<&str>>) -> bool
     }
 }
 
-/// The place, from 0, of the first of the comma-separated names in a text for which no set has a call.
-fn unknown_place(sets: &[Names], text: &str) -> usize {
-    text.split(',')
-        .position(|name| !is_known_call(sets, name))
-        .unwrap_or(0)
-}
-
 /// The names of calls in the text of `--calls`, for each of which a set has a call; an empty list asks for all calls.
 /// Where one is unknown, the notes get the place of the first such name.
 pub fn known_calls<'a>(
@@ -151,9 +114,14 @@ pub fn known_calls<'a>(
     ensures refused { IfErr result (λ e. (e ≡ MemoryFault) ⊎ ((e ≡ UnknownNameFault)
         × (are_known sets.now (calls_asked (rows_of (found_of found.now))) ≡ false))) }
 {
-    let calls = calls_asked(alloc, found)?;
+    let calls = match given_text(found, "calls") {
+        Some(text) => Some(names_in_text(alloc, text)?),
+        None => None,
+    };
     if !are_known(sets, &calls) {
-        notes.unknown_call = unknown_place(sets, text_of(found, "calls"));
+        let mut names = text_of(found, "calls").split(',');
+        let place = names.position(|name| !is_known_call(sets, name));
+        notes.unknown_call = place.unwrap_or(0);
         return Err(Fault::UnknownName);
     }
     Ok(calls)

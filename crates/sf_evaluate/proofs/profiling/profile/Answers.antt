@@ -4,7 +4,7 @@ use Rattle.sf_evaluate.proofs.profiling.profile.Goals as goal
 pub returns-in-Ok-clause-done : goal.returns-in-Ok-clause-done
 returns-in-Ok-clause-done g c = λ zero.
     profile_written _ _ _ _ _ _ _ _ _ _ c.in_ok-settings.ensures.same c.text_of.ensures c.in_ok-bytes.ensures.bytes
-    c.deref.ensures.value c.in_ok-settings.ensures.read c.wants_notes.ensures c.in-Ok.ensures.written
+    c.deref.ensures.value c.in_ok-settings.ensures.read c.wants_notes-with_notes.ensures c.in-Ok.ensures.written
 
 pub returns-clause-refused : goal.returns-clause-refused
 returns-clause-refused g c =

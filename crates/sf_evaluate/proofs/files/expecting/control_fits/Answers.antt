@@ -1,5 +1,4 @@
-use Rattle.sf_evaluate.proofs.Common.{◌≡◌, ◌∙◌, Some, ap, codes, not, refl, sym, list_any, option_map, bytes_eq, first_of, found_of, rows_of, paths_of, paths_found, is_other_policy}
-use Rattle.sf_command_line.specs.Options.{ArePaths}
+use Rattle.sf_evaluate.proofs.Common.{◌≡◌, ◌∙◌, Some, ap, codes, not, refl, sym, list_any, option_map, bytes_eq, first_of, found_of, rows_of, paths_of, paths_found, is_other_policy, ArePaths}
 use Rattle.sf_evaluate.proofs.files.expecting.control_fits.Goals as goal
 
 pub returns-in-Some : goal.returns-in-Some

@@ -1,5 +1,4 @@
-use Rattle.sf_evaluate.proofs.Common.{◌∙◌, ap, codes, not, refl, found_of, rows_of, paths_found}
-use Rattle.sf_command_line.specs.Options.{ArePaths}
+use Rattle.sf_evaluate.proofs.Common.{◌∙◌, ap, codes, not, refl, found_of, rows_of, paths_found, ArePaths}
 use Rattle.sf_evaluate.proofs.words.asking.AskingLemmas.{some_read}
 use Rattle.sf_evaluate.proofs.words.naming.has_names.Goals as goal
 

@@ -1,5 +1,4 @@
-use Rattle.sf_evaluate.proofs.Common.{◌∙◌, ap, codes, refl, list_all, found_of, rows_of, paths_found, is_capability, list_all-map, Bor, Text, sym}
-use Rattle.sf_command_line.specs.Options.{ArePaths}
+use Rattle.sf_evaluate.proofs.Common.{◌∙◌, ap, codes, refl, list_all, found_of, rows_of, paths_found, is_capability, list_all-map, Bor, Text, sym, ArePaths}
 use Rattle.sf_evaluate.proofs.words.settings.caps_fit.Goals as goal
 
 pub returns : goal.returns

@@ -1,5 +1,4 @@
-use Rattle.sf_evaluate.proofs.Common.{◌∙◌, ap, codes, refl, unwrap_or, found_of, rows_of, paths_found, X64, Strictest}
-use Rattle.sf_command_line.specs.Options.{ArePaths}
+use Rattle.sf_evaluate.proofs.Common.{◌∙◌, ap, codes, refl, unwrap_or, found_of, rows_of, paths_found, X64, Strictest, ArePaths}
 use Rattle.sf_evaluate.proofs.words.WordLemmas.{settings_said}
 use Rattle.sf_evaluate.proofs.words.settings.settings_of.Goals as goal
 
